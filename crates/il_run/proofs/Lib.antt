@@ -1,0 +1,4 @@
+pub mod Trees
+mod Rows
+mod PathRows
+mod MoreRows

@@ -1,0 +1,4 @@
+pub mod ElementaryTypes
+pub mod Text
+pub mod Words
+pub mod Grammar

@@ -1,0 +1,292 @@
+// The tree that a text spells. Its parts carry their places.
+
+use crate::list::Items;
+use crate::name::Name;
+
+/// Where a part begins: how many bytes stand before it, and its line, counted from 1.
+#[derive(Clone, Copy, Debug, PartialEq, Eq)]
+pub struct Place {
+    pub offset: u32,
+    pub line: u32,
+}
+
+/// The elementary types of the profile (IEC 61131-3:2003, 2.3.1).
+#[derive(Clone, Copy, Debug, PartialEq, Eq)]
+pub enum Elementary {
+    Bool,
+    Sint,
+    Int,
+    Dint,
+    Usint,
+    Uint,
+    Udint,
+    Time,
+}
+
+/// A literal (2.2). TIME is in whole milliseconds.
+#[derive(Clone, Copy, Debug, PartialEq, Eq)]
+pub enum Literal {
+    Truth(bool),
+    /// A whole number without a type.
+    Bare(i64),
+    /// A whole number of the type written before it.
+    Whole(Elementary, i64),
+    Time(i64),
+}
+
+/// The limits of a subrange, both within it.
+#[derive(Clone, Copy, Debug, PartialEq, Eq)]
+pub struct Subrange {
+    pub lower: i64,
+    pub upper: i64,
+}
+
+/// A scalar type (2.3.3).
+#[derive(Clone, Copy, Debug, PartialEq, Eq)]
+pub struct Scalar {
+    pub elementary: Elementary,
+    pub subrange: Option<Subrange>,
+}
+
+/// What a type is.
+#[derive(Drop)]
+pub enum Form {
+    Scalar(Scalar),
+    Array { bounds: Subrange, element: Scalar },
+    /// A function block, own or standard, by its name.
+    Block(Name),
+}
+
+/// A type where it is written.
+#[derive(Drop)]
+pub struct WrittenType {
+    pub place: Place,
+    pub form: Form,
+}
+
+/// A name where it is written.
+#[derive(Drop)]
+pub struct Named {
+    pub place: Place,
+    pub name: Name,
+}
+
+/// A literal where it is written.
+#[derive(Clone, Copy, Debug, PartialEq, Eq)]
+pub struct Initial {
+    pub place: Place,
+    pub literal: Literal,
+}
+
+/// A declaration of variables (2.4.3).
+#[derive(Drop)]
+pub struct Declaration {
+    pub names: Items<Named>,
+    pub declared: WrittenType,
+    pub initial: Option<Initial>,
+}
+
+/// An index of an array.
+#[derive(Drop)]
+pub enum Index {
+    Number(i64),
+    Variable(Name),
+}
+
+/// What an operand names.
+#[derive(Drop)]
+pub enum Reference {
+    Literal(Literal),
+    Variable(Name),
+    Element(Name, Index),
+    /// An input or output of an instance.
+    Member(Name, Name),
+}
+
+/// An operand where it is written.
+#[derive(Drop)]
+pub struct Operand {
+    pub place: Place,
+    pub reference: Reference,
+}
+
+/// AND, OR and XOR.
+#[derive(Clone, Copy, Debug, PartialEq, Eq)]
+pub enum Logic {
+    Conjunction,
+    Disjunction,
+    Exclusive,
+}
+
+/// ADD, SUB, MUL, DIV and MOD.
+#[derive(Clone, Copy, Debug, PartialEq, Eq)]
+pub enum Arithmetic {
+    Add,
+    Sub,
+    Mul,
+    Div,
+    Mod,
+}
+
+/// GT, GE, EQ, NE, LE and LT.
+#[derive(Clone, Copy, Debug, PartialEq, Eq)]
+pub enum Comparison {
+    Greater,
+    GreaterOrEqual,
+    Equal,
+    NotEqual,
+    LessOrEqual,
+    Less,
+}
+
+/// An operator that takes the current result and an operand (3.2.2).
+#[derive(Clone, Copy, Debug, PartialEq, Eq)]
+pub enum Operator {
+    Logic { logic: Logic, negated: bool },
+    Arithmetic(Arithmetic),
+    Comparison(Comparison),
+}
+
+/// ST, STN, S and R.
+#[derive(Clone, Copy, Debug, PartialEq, Eq)]
+pub enum Store {
+    Plain,
+    Negated,
+    Set,
+    Reset,
+}
+
+/// When a jump, a call or a return acts: always, with C, or with CN.
+#[derive(Clone, Copy, Debug, PartialEq, Eq)]
+pub enum Condition {
+    Always,
+    WhenTrue,
+    WhenFalse,
+}
+
+/// An argument of a CAL.
+#[derive(Drop)]
+pub enum Argument {
+    Input { word: Named, operand: Operand },
+    Output { word: Named, target: Named },
+}
+
+/// An instruction (3.2.1). A parenthesis that opens and one that closes are instructions of their own.
+#[derive(Drop)]
+pub enum Instruction {
+    Load {
+        negated: bool,
+        operand: Operand,
+    },
+    Store {
+        store: Store,
+        target: Operand,
+    },
+    Not,
+    Operate {
+        operator: Operator,
+        operand: Operand,
+    },
+    /// `OP(`, with the operand of the short form.
+    Defer {
+        operator: Operator,
+        first: Option<Operand>,
+    },
+    /// `)`
+    Evaluate,
+    Jump {
+        condition: Condition,
+        label: Named,
+    },
+    Return {
+        condition: Condition,
+    },
+    Call {
+        condition: Condition,
+        instance: Named,
+        arguments: Items<Argument>,
+    },
+    /// A function by its name, with the arguments after the first.
+    Invoke {
+        function: Named,
+        operands: Items<Operand>,
+    },
+}
+
+/// An instruction at the place of its operator, with the labels that name it.
+#[derive(Drop)]
+pub struct Step {
+    pub labels: Items<Named>,
+    pub place: Place,
+    pub instruction: Instruction,
+}
+
+/// The body of a unit. The labels at its end name the implicit RET, at the place of the END word.
+#[derive(Drop)]
+pub struct Body {
+    pub steps: Items<Step>,
+    pub last_labels: Items<Named>,
+    pub end: Place,
+}
+
+/// The kinds of program organization units (2.5).
+#[derive(Clone, Copy, Debug, PartialEq, Eq)]
+pub enum UnitKind {
+    /// A function, with the type of its result, and where that is written.
+    Function(Scalar, Place),
+    FunctionBlock,
+    Program,
+}
+
+/// A program organization unit.
+#[derive(Drop)]
+pub struct Unit {
+    pub place: Place,
+    pub kind: UnitKind,
+    pub name: Named,
+    pub inputs: Items<Declaration>,
+    pub outputs: Items<Declaration>,
+    pub variables: Items<Declaration>,
+    pub externals: Items<Declaration>,
+    pub body: Body,
+}
+
+/// CARS, FLOORS or SLOTS, at the place of its number.
+#[derive(Clone, Copy, Debug, PartialEq, Eq)]
+pub struct Size {
+    pub place: Place,
+    pub value: i64,
+}
+
+/// A TASK line (2.7.2). The interval is in milliseconds.
+#[derive(Drop)]
+pub struct Task {
+    pub place: Place,
+    pub name: Named,
+    pub interval: i64,
+    pub priority: i64,
+}
+
+/// A PROGRAM line: an instance of a program type, and its task.
+#[derive(Drop)]
+pub struct ProgramLine {
+    pub place: Place,
+    pub name: Named,
+    pub task: Named,
+    pub program: Named,
+}
+
+/// A configuration (2.7.1).
+#[derive(Drop)]
+pub struct Config {
+    pub units: Items<Unit>,
+    pub cars: Size,
+    pub floors: Size,
+    pub slots: Size,
+    /// Where the second VAR_GLOBAL stands, if there is one.
+    pub globals_place: Option<Place>,
+    pub globals: Items<Declaration>,
+    pub tasks: Items<Task>,
+    pub programs: Items<ProgramLine>,
+    pub end_resource: Place,
+}

@@ -1,0 +1,5 @@
+mod Rows
+mod WorldRows
+pub mod Interlock
+pub mod Refreshed
+pub mod Laws
