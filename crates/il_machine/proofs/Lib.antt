@@ -1,0 +1,6 @@
+pub mod ByText
+pub mod Copies
+pub mod Over
+pub mod Steps
+pub mod Starts
+pub mod Openings

@@ -1,0 +1,3 @@
+pub mod ByText
+pub mod Boolean
+pub mod Opening

@@ -1,0 +1,14 @@
+//! The machine: it runs the tasks' programs, on an ordered map from paths to values.
+#![tactic(auto)]
+
+pub mod cells;
+pub mod instruction;
+mod opening;
+pub mod store;
+pub mod values;
+pub mod verified;
+
+pub use il_run::value::Value;
+pub use store::{Begin, Stepped, Store, step};
+pub use values::Values;
+pub use verified::{TaskInfo, UnitCost, UnitInfo, Verified};

@@ -1,0 +1,90 @@
+// The values with which a task's scans begin in the opening world.
+
+ghost use Rattle.std.specs.Prelude.{◌≡◌, IfOk, OnOk};
+ghost use Rattle.il_run.specs.NameMap as map;
+ghost use Rattle.il_machine.specs.Boolean.{HasImage};
+ghost use Rattle.il_machine.specs.Opening.{with_car, with_group, with_names, with_variables, KeepsOthers, BeginsWithC};
+
+use crate::values::Values;
+use il_run::value::Value;
+use il_spec::tree::{Config, Named, Unit};
+use std::alloc::{AllocError, Global};
+
+/// The variables of a program, FALSE.
+pub fn opening_variables(alloc: Global, unit: &Unit) -> Result<Values, AllocError>
+    ensures { IfOk result (λ v. v ≡ with_variables map.empty unit.now.variables) }
+{
+    let mut values = Values::new(alloc);
+    'lists: for declaration in unit.variables.as_slice() {
+        put_names(alloc, &mut values, declaration.names.as_slice())?;
+    }
+    Ok(values)
+}
+
+// FALSE for each name.
+fn put_names(alloc: Global, values: &mut Values, names: &[Named]) -> Result<(), AllocError>
+    ensures { OnOk result (values.new ≡ with_names values.old names.now) }
+{
+    'names: for named in names {
+        values.put(alloc, named.name.as_str(), Value::Boolean(false))?;
+    }
+    Ok(())
+}
+
+/// The image as CAR1 sees it in the opening world (own rule).
+pub fn opening_image(alloc: Global, config: &Config) -> Result<Values, AllocError>
+    ensures { IfOk result (λ v. HasImage v) }
+{
+    let mut values = Values::new(alloc);
+    let slots = config.slots.value;
+    put_car(alloc, &mut values)?;
+    put_row(alloc, &mut values, "CALLCAR", slots, Value::Integer(0))?;
+    put_row(alloc, &mut values, "CALLTO", slots, Value::Integer(0))?;
+    put_row(alloc, &mut values, "CALLFROM", slots, Value::Integer(0))?;
+    put_row(alloc, &mut values, "CALLWAITS", slots, Value::Boolean(false))?;
+    put_group(alloc, &mut values, config)?;
+    Ok(values)
+}
+
+// What a car's program sees of its car, the last name first.
+fn put_car(alloc: Global, values: &mut Values) -> Result<(), AllocError>
+    ensures { OnOk result (values.new ≡ with_car values.old) }
+{
+    values.put(alloc, "SERVE", Value::Integer(0))?;
+    values.put(alloc, "OPEN", Value::Boolean(false))?;
+    values.put(alloc, "MOTOR", Value::Integer(0))?;
+    values.put(alloc, "OPENED", Value::Boolean(false))?;
+    values.put(alloc, "LOCKED", Value::Boolean(true))?;
+    values.put(alloc, "BOTTOM", Value::Boolean(true))?;
+    values.put(alloc, "TOP", Value::Boolean(false))?;
+    values.put(alloc, "LEVEL", Value::Boolean(true))?;
+    values.put(alloc, "POS", Value::Integer(1))?;
+    values.put(alloc, "CARNO", Value::Integer(1))?;
+    Ok(())
+}
+
+// What every program sees of the group, the last name first.
+fn put_group(alloc: Global, values: &mut Values, config: &Config) -> Result<(), AllocError>
+    ensures { OnOk result (values.new ≡ with_group config.now values.old) }
+{
+    values.put(alloc, "RUNLIMIT", Value::Integer(config.cars.value))?;
+    values.put(alloc, "NOW", Value::Integer(0))?;
+    values.put(alloc, "SLOTS", Value::Integer(config.slots.value))?;
+    values.put(alloc, "FLOORS", Value::Integer(config.floors.value))?;
+    values.put(alloc, "CARS", Value::Integer(config.cars.value))?;
+    Ok(())
+}
+
+// An element for each call slot, the last one first.
+fn put_row(alloc: Global, values: &mut Values, name: &str, slots: i64, value: Value) -> Result<(), AllocError>
+    requires { BeginsWithC name.now }
+    ensures { OnOk result (KeepsOthers values.old values.new) }
+{
+    let mut slot = slots;
+    while slot > 0 {
+        let path = format!(in alloc; "{name}[{slot}]")?;
+        values.put(alloc, path.as_str(), value)?;
+        slot -= 1;
+    }
+    Ok(())
+}
