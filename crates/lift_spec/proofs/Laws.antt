@@ -1,6 +1,6 @@
 -- Laws of the definitions: the test of fields, the opening image, and what an Instruction leaves.
-use Rattle.std.specs.Prelude.{◌≡◌, ℕ, zero, suc, ◌+◌, ◌≤◌, Bool, true, false, ◌&&◌, List, [], ◌∷◌, ◌++◌, length, All, nat_le, ◌==◌, Ok, Err, Option, Some, None, unwrap_or, replicate, slice_get, slice_set, refl}
-use Rattle.std.proofs.Common.{sym, ap, subst, arith, eqb-true}
+use Rattle.std.specs.Prelude.{◌≡◌, ℕ, zero, suc, ◌+◌, ◌≤◌, Bool, true, false, ◌&&◌, List, [], ◌∷◌, ◌++◌, length, All, nat_le, ◌==◌, Ok, Err, Option, Some, None, unwrap_or, replicate, slice_get, slice_set, refl, IsTrue, ◌↔◌}
+use Rattle.std.proofs.Common.{sym, ap, subst, arith, eqb-true, eq-eqb}
 use Rattle.std.proofs.lemmas.Bool.Decides.{leb_tells}
 use Rattle.lift_spec.specs.declared.image.Sizes.{Sizes}
 use Rattle.lift_spec.specs.declared.image.CarFields.{CarFields}
@@ -112,3 +112,26 @@ unfolding happens
 instruction_leaves p w t v r h =
     let P : Next → Type 0 = λ n. Leaves t w n in
     subst P h (instructs_leaves p w t (task_at w.group t))
+
+-- where the fields lie in their ranges, the test passes
+both : (a b : Bool) → a ≡ true → b ≡ true → (a && b) ≡ true
+both true b h k = k
+both false b h k = false_true h
+
+test_le : (m n : ℕ) → m ≤ n → nat_le m n ≡ true
+test_le m n h = grind (arith, leb_tells, h)
+
+positions_pass : (sizes : Sizes) (cars : List CarFields) → All (λ car. IsFloor sizes car.pos) cars → positions_in_range sizes cars ≡ true
+positions_pass sizes [] h = refl
+positions_pass sizes (car ∷ cars) h =
+    let here : IsFloor sizes car.pos = h 0 car (omega arith) in
+    both (is_floor sizes car.pos) (positions_in_range sizes cars) (both (nat_le 1 car.pos) (nat_le car.pos sizes.floors) (test_le 1 car.pos here.0) (test_le car.pos sizes.floors here.1))
+    (positions_pass sizes cars (λ k d l. h (suc k) d (omega (arith, l))))
+
+pub range_test : (sizes : Sizes) (fields : Fields) → IsTrue (fields_in_range sizes fields) ↔ FieldsInRange sizes fields
+range_test sizes fields = (
+  λ yes. fields_in_range_means sizes fields yes,
+  λ h.
+      both (length fields.cars == sizes.cars) _ (eq-eqb (length fields.cars) sizes.cars h.cars)
+      (both (positions_in_range sizes fields.cars) _ (positions_pass sizes fields.cars h.positions) (both (nat_le fields.time 2147483647) _ (test_le fields.time 2147483647 h.time) (test_le fields.run_limit sizes.cars h.run_limit))),
+)

@@ -1,0 +1,9 @@
+pub mod Combinators
+pub mod Leads
+pub mod Types
+pub mod Operands
+pub mod Arguments
+pub mod Instructions
+pub mod Bodies
+pub mod Units
+pub mod Configurations

@@ -1,0 +1,13 @@
+mod Results
+mod Grouped
+mod Capped
+mod Numbers
+mod Durations
+mod Literals
+pub mod Places
+mod Signs
+pub mod Lexemes
+pub mod Blanks
+pub mod Cut
+pub mod Names
+pub mod Steps

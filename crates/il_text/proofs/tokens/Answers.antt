@@ -1,0 +1,36 @@
+use Rattle.std.proofs.Common.{◌+◌, arith, sym, ap, subst, ◌∙◌}
+use Rattle.il_spec.specs.declared.token.Token.{Token}
+use Rattle.il_spec.specs.Text.{line_at}
+use Rattle.il_text.specs.Pieces.{IsPiece}
+use Rattle.il_text.proofs.Places.{line_on}
+use Rattle.il_text.proofs.Cut.{cut}
+use Rattle.il_text.proofs.Steps.{Read, read_blank, read_token, read_all, stuck}
+use Rattle.il_text.proofs.tokens.Goals as goal
+use Rattle.il_text.proofs.tokens.Goals.{in-Token+in_ok-push, in_default}
+
+pub returns-in-Err-clause-refused : goal.returns-in-Err-clause-refused
+returns-in-Err-clause-refused c = λ _ _. stuck c.args.text.now c.pieces.at c.pieces.found.items c.pieces-test.true c.in-Err.ensures.none c.pieces.invariant.read
+
+pub pieces-preserved : goal.pieces-preserved
+pieces-preserved c = record {
+  within = c.in-Ok.ensures.within.1;
+  line =
+      ap (λ n. n + c.line_feeds.result) c.pieces.invariant.line ∙ ap (λ n. line_at c.args.text.now c.pieces.at + n) c.line_feeds.ensures.count
+      ∙ sym (line_on c.args.text.now c.pieces.at c.in-Ok.read.1 (omega (arith, c.in-Ok.ensures.within.0)));
+  read = elim c.match-piece.branch [
+    | in-Token+in_ok-push w ↦
+        let t : Token = record { kind = w.in-Token.kind; start = c.pieces.at; end = c.in-Ok.read.1; line = c.pieces.line } in
+        let lexeme = subst (λ p. IsPiece c.args.text.now p c.pieces.at c.in-Ok.read.1) w.in-Token.is c.in-Ok.ensures.found in
+        subst (λ items. Read c.args.text.now c.in-Ok.read.1 items) (sym (ap (λ v. v.items) w.found-is ∙ w.in_ok-push.ensures.items)) (read_token c.args.text.now t c.pieces.found.items lexeme c.pieces.invariant.line c.pieces.invariant.read)
+    | in_default w ↦
+        let blank = subst (λ p. IsPiece c.args.text.now p c.pieces.at c.in-Ok.read.1) w.in_default.is c.in-Ok.ensures.found in
+        rw w.found-is (read_blank c.args.text.now c.pieces.at c.in-Ok.read.1 c.pieces.found.items blank c.pieces.invariant.read)
+  ];
+}
+
+pub returns-clause-found : goal.returns-clause-found
+returns-clause-found c = read_all c.args.text.now c.pieces.at c.pieces.found.items (omega (arith, c.pieces.invariant.within, c.pieces-test.false)) c.pieces.invariant.read
+
+pub returns-clause-only : goal.returns-clause-only
+returns-clause-only c = λ ts h.
+    cut c.args.text.now ts c.pieces.found.items h (read_all c.args.text.now c.pieces.at c.pieces.found.items (omega (arith, c.pieces.invariant.within, c.pieces-test.false)) c.pieces.invariant.read)

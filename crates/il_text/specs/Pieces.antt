@@ -1,0 +1,34 @@
+-- The parts of a text that the lexer reads one by one.
+use Rattle.std.specs.Prelude.{◌≡◌, ℕ, ◌==◌, IsFalse, if◌then◌else◌, List, [], ◌∷◌, length, Option, None}
+use Rattle.il_spec.specs.declared.token.Kind.{Kind}
+use Rattle.il_spec.specs.declared.token.Sign.{Sign}
+use Rattle.il_text.specs.declared.piece.Piece.{Piece}
+use Rattle.il_text.specs.declared.piece.Piece.TheVariants.{Blank, Token}
+use Rattle.il_spec.specs.Text.{IsBlank, IsLexeme, duration_units, parts_value, sign_bytes, goes_on}
+
+-- a piece stands from i up to j
+abbrev pub IsPiece : List ℕ → Piece → ℕ → ℕ → Type 0
+IsPiece text Blank i j = IsBlank text i j
+IsPiece text (Token kind) i j = IsLexeme text kind i j
+
+-- no token begins at i
+abbrev pub HasNoLexeme : List ℕ → ℕ → Type 0
+HasNoLexeme text i = (kind : Kind) (j : ℕ) → IsLexeme text kind i j → ⊥
+
+-- no piece begins at i
+abbrev pub HasNoPiece : List ℕ → ℕ → Type 0
+HasNoPiece text i = (piece : Piece) (j : ℕ) → IsPiece text piece i j → ⊥
+
+-- the milliseconds of a duration whose letters are all in upper case
+unfoldable pub upper_duration_value : List ℕ → Option ℕ
+upper_duration_value bytes = if length bytes == 0 then None else parts_value duration_units bytes
+
+-- whether bytes begin with these two, where one of a sign's one byte is followed by one that makes it no other
+abbrev pub AreSignBytes : List ℕ → ℕ → ℕ → Sign → Type 0
+AreSignBytes [] first second sign = ⊥
+AreSignBytes (a ∷ []) first second sign = (first ≡ a) × IsFalse (goes_on sign second)
+AreSignBytes (a ∷ b ∷ rest) first second sign = (first ≡ a) × (second ≡ b)
+
+-- a sign stands where these two bytes do
+abbrev pub StandsAt : ℕ → ℕ → Sign → Type 0
+StandsAt first second sign = AreSignBytes (sign_bytes sign) first second sign

@@ -1,0 +1,84 @@
+// Bytes, and the runs that they make.
+
+ghost use Rattle.std.specs.Prelude.{◌≡◌, ◌≤◌, ◌==◌, length, count_by};
+ghost use Rattle.il_spec.specs.Text.{byte_at, begins_word, is_word_byte, is_literal_byte, run_end, after_minus, line_feed};
+
+/// The byte at a place, and 0 behind the text.
+pub(crate) fn byte_at(text: &[u8], at: usize) -> u8
+    ensures { result ≡ byte_at text.now at }
+{
+    if at < text.len() { text[at] } else { 0 }
+}
+
+/// Whether a word or a typed literal begins with this byte.
+pub(crate) fn begins_word(byte: u8) -> bool
+    ensures { result ≡ begins_word byte }
+{
+    byte.is_ascii_alphabetic() || byte == b'_'
+}
+
+// Whether this byte goes on with a word.
+fn is_word_byte(byte: u8) -> bool
+    ensures { result ≡ is_word_byte byte }
+{
+    byte.is_ascii_alphanumeric() || byte == b'_'
+}
+
+// Whether this byte goes on with a number or a typed literal.
+fn is_literal_byte(byte: u8) -> bool
+    ensures { result ≡ is_literal_byte byte }
+{
+    is_word_byte(byte) || byte == b'#'
+}
+
+/// Where the run of word bytes from `at` on ends.
+#[tactic(auto, unfolding(il_spec::specs::Text::run_end))]
+pub(crate) fn word_end(text: &[u8], at: usize) -> usize
+    requires { at ≤ length text.now }
+    ensures from { at ≤ result }
+    ensures within { result ≤ length text.now }
+    ensures longest { result ≡ run_end is_word_byte text.now at }
+{
+    let mut end = at;
+    'run: while end < text.len() && is_word_byte(text[end]) {
+        end += 1;
+    }
+    end
+}
+
+/// Where the run of literal bytes from `at` on ends.
+#[tactic(auto, unfolding(il_spec::specs::Text::run_end))]
+pub(crate) fn literal_end(text: &[u8], at: usize) -> usize
+    requires { at ≤ length text.now }
+    ensures from { at ≤ result }
+    ensures within { result ≤ length text.now }
+    ensures longest { result ≡ run_end is_literal_byte text.now at }
+{
+    let mut end = at;
+    'run: while end < text.len() && is_literal_byte(text[end]) {
+        end += 1;
+    }
+    end
+}
+
+/// The place behind a minus, if one stands at `at`.
+pub(crate) fn after_minus(text: &[u8], at: usize) -> usize
+    requires { at ≤ length text.now }
+    ensures from { at ≤ result }
+    ensures within { result ≤ length text.now }
+    ensures place { result ≡ after_minus text.now at }
+{
+    if at < text.len() && text[at] == b'-' {
+        at + 1
+    } else {
+        at
+    }
+}
+
+/// How many line feeds there are among these bytes.
+pub(crate) fn line_feeds(bytes: &[u8]) -> usize
+    ensures within { result ≤ length bytes.now }
+    ensures count { result ≡ count_by (λ b. b == line_feed) bytes.now }
+{
+    bytes.iter().filter(|b| **b == b'\n').count()
+}

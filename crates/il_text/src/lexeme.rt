@@ -1,0 +1,128 @@
+// Tokens, each by itself (IEC 61131-3:2003, 2.1 and 2.2).
+
+ghost use Rattle.std.specs.Prelude.{◌≡◌, ℕ, ℤ, ◌<◌, ◌≤◌, length, IsTrue, IsFalse, IfOk, IfErr, IfSome, IfNone};
+ghost use Rattle.std.specs.Char.{is_ascii_digit, is_ascii_alphanumeric};
+ghost use Rattle.il_spec.specs.declared.token.Sign.{Sign};
+ghost use Rattle.il_spec.specs.declared.token.Kind.TheVariants.{Word, Number, Typed, Sign as Signed, LineEnd};
+ghost use Rattle.il_spec.specs.declared.tree.Literal.{Literal};
+ghost use Rattle.il_spec.specs.Text.{byte_at, begins_word, after_minus, is_grouped, is_identifier, upper_case, IsLexeme};
+ghost use Rattle.il_text.specs.Pieces.{HasNoLexeme};
+
+use crate::bytes::{after_minus, begins_word, byte_at, literal_end, word_end};
+use crate::flaw::Flaw;
+use crate::literal::typed_literal;
+use crate::number::number_of;
+use crate::sign::sign_of;
+use il_spec::token::Kind;
+
+// The length of the longest word (own rule).
+const LONGEST_WORD: usize = 32;
+
+// Whether these are letters and digits, with single underscores between them.
+fn is_grouped(bytes: &[u8]) -> bool
+    ensures { result ≡ is_grouped is_ascii_alphanumeric bytes.now }
+{
+    let mut inside = false;
+    for byte in bytes {
+        if *byte == b'_' {
+            if !inside {
+                return false;
+            }
+            inside = false;
+        } else {
+            if !byte.is_ascii_alphanumeric() {
+                return false;
+            }
+            inside = true;
+        }
+    }
+    inside
+}
+
+// Whether these are letters and digits with single underscores between them, and at most one before them.
+#[tactic(auto, unfolding(il_spec::specs::Text::is_identifier))]
+fn is_identifier(word: &[u8]) -> bool
+    ensures { result ≡ is_identifier word.now }
+{
+    if byte_at(word, 0) == b'_' {
+        is_grouped(&word[1..])
+    } else {
+        is_grouped(word)
+    }
+}
+
+// The word or the typed literal at `at`, and where it ends.
+fn word_at(text: &[u8], upper: &[u8], at: usize) -> Result<(Kind, usize), Flaw>
+    requires inside { at < length text.now }
+    requires begins { IsTrue (begins_word (byte_at text.now at)) }
+    requires upper { upper.now ≡ upper_case text.now }
+    ensures found { IfOk result (λ r. IsLexeme text.now r.0 at r.1) }
+    ensures no_word { IfErr result (λ _. (j : ℕ) → IsLexeme text.now Word at j → ⊥) }
+    ensures no_literal { IfErr result (λ _. (l : Literal) (j : ℕ) → IsLexeme text.now (Typed l) at j → ⊥) }
+{
+    let end = word_end(text, at);
+    if byte_at(text, end) == b'#' {
+        let behind = end + 1;
+        let literal_end = literal_end(text, after_minus(text, behind));
+        let literal = typed_literal(
+            &upper[at..end],
+            &text[behind..literal_end],
+            &upper[behind..literal_end],
+        )?;
+        return Ok((Kind::Typed(literal), literal_end));
+    }
+    if end - at > LONGEST_WORD || !is_identifier(&text[at..end]) {
+        return Err(Flaw::BadIdentifier);
+    }
+    Ok((Kind::Word, end))
+}
+
+// The number at `at`, and where it ends.
+fn number_at(text: &[u8], at: usize) -> Result<(Kind, usize), Flaw>
+    requires inside { at < length text.now }
+    requires begins { IsTrue (is_ascii_digit (byte_at text.now (after_minus text.now at))) }
+    ensures found { IfOk result (λ r. IsLexeme text.now r.0 at r.1) }
+    ensures none { IfErr result (λ _. (v : ℤ) (j : ℕ) → IsLexeme text.now (Number v) at j → ⊥) }
+{
+    let end = literal_end(text, after_minus(text, at));
+    let value = number_of(&text[at..end])?;
+    Ok((Kind::Number(value), end))
+}
+
+// The sign or the line end at `at`, and where it ends.
+fn sign_at(text: &[u8], at: usize) -> Option<(Kind, usize)>
+    requires { at < length text.now }
+    ensures found { IfSome result (λ r. IsLexeme text.now r.0 at r.1) }
+    ensures no_sign { IfNone result ((s : Sign) (j : ℕ) → IsLexeme text.now (Signed s) at j → ⊥) }
+    ensures no_line_end { IfNone result ((j : ℕ) → IsLexeme text.now LineEnd at j → ⊥) }
+{
+    let first = byte_at(text, at);
+    let second = byte_at(text, at + 1);
+    match (first, second) {
+        (b'\n', _) => Some((Kind::LineEnd, at + 1)),
+        (b'\r', b'\n') => Some((Kind::LineEnd, at + 2)),
+        _ => {
+            let (sign, length) = sign_of(first, second)?;
+            Some((Kind::Sign(sign), at + length))
+        }
+    }
+}
+
+/// The token at `at`, and where it ends.
+pub(crate) fn lexeme_at(text: &[u8], upper: &[u8], at: usize) -> Result<(Kind, usize), Flaw>
+    requires inside { at < length text.now }
+    requires upper { upper.now ≡ upper_case text.now }
+    ensures found { IfOk result (λ r. IsLexeme text.now r.0 at r.1) }
+    ensures none { IfErr result (λ _. HasNoLexeme text.now at) }
+{
+    if begins_word(byte_at(text, at)) {
+        return word_at(text, upper, at);
+    }
+    if byte_at(text, after_minus(text, at)).is_ascii_digit() {
+        return number_at(text, at);
+    }
+    match sign_at(text, at) {
+        Some(found) => Ok(found),
+        None => Err(Flaw::BadByte),
+    }
+}
