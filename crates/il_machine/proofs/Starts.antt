@@ -74,30 +74,73 @@ same_name a b h = same_text a b (is_eq-slice_cmp a b ∙ h)
 
 goods : (c : Config) (m : Values) (name : Text) → HasImage m → AllGood m name (image_of c.cars.value c.floors.value c.slots.value)
 goods c m name image =
-    let P : Text → Type 0 = λ n. HasBoolean m n in
-    (λ e _. no_int m name _ refl e,
-    (λ e _. no_int m name _ refl e,
-    (λ e _. no_int m name _ refl e,
-    (λ e _. absurd (time_not_bool (ap elementary_of e)),
-    (λ e _. no_int m name _ refl e,
-    (λ e _. no_int m name _ refl e,
-    (λ e _. no_int m name _ refl e,
-    (λ _ is. subst P (same_name _ name is) image.level,
-    (λ _ is. subst P (same_name _ name is) image.top,
-    (λ _ is. subst P (same_name _ name is) image.bottom,
-    (λ _ is. subst P (same_name _ name is) image.locked,
-    (λ _ is. subst P (same_name _ name is) image.opened,
-    (λ e _. no_array _ _ e,
-    (λ e _. no_array _ _ e,
-    (λ e _. no_array _ _ e,
-    (λ e _. no_array _ _ e,
-    (λ e _. no_array _ _ e,
-    (λ e _. no_array _ _ e,
-    (λ e _. no_int m name _ refl e,
-    (λ _ is. subst P (same_name _ name is) image.opens,
-    (λ e _. no_int m name _ refl e,
-    (λ e _. no_array _ _ e,
-    tt))))))))))))))))))))))
+    let P : Text → Type 0 = λ n. HasBoolean m n in (
+      λ e _. no_int m name _ refl e,
+      (
+        λ e _. no_int m name _ refl e,
+        (
+          λ e _. no_int m name _ refl e,
+          (
+            λ e _. absurd (time_not_bool (ap elementary_of e)),
+            (
+              λ e _. no_int m name _ refl e,
+              (
+                λ e _. no_int m name _ refl e,
+                (
+                  λ e _. no_int m name _ refl e,
+                  (
+                    λ _ is. subst P (same_name _ name is) image.level,
+                    (
+                      λ _ is. subst P (same_name _ name is) image.top,
+                      (
+                        λ _ is. subst P (same_name _ name is) image.bottom,
+                        (
+                          λ _ is. subst P (same_name _ name is) image.locked,
+                          (
+                            λ _ is. subst P (same_name _ name is) image.opened,
+                            (
+                              λ e _. no_array _ _ e,
+                              (
+                                λ e _. no_array _ _ e,
+                                (
+                                  λ e _. no_array _ _ e,
+                                  (
+                                    λ e _. no_array _ _ e,
+                                    (
+                                      λ e _. no_array _ _ e,
+                                      (
+                                        λ e _. no_array _ _ e,
+                                        (
+                                          λ e _. no_int m name _ refl e,
+                                          (
+                                            λ _ is. subst P (same_name _ name is) image.opens,
+                                            (
+                                              λ e _. no_int m name _ refl e,
+                                              (
+                                                λ e _. no_array _ _ e,
+                                                tt,
+                                              ),
+                                            ),
+                                          ),
+                                        ),
+                                      ),
+                                    ),
+                                  ),
+                                ),
+                              ),
+                            ),
+                          ),
+                        ),
+                      ),
+                    ),
+                  ),
+                ),
+              ),
+            ),
+          ),
+        ),
+      ),
+    )
 
 no_variable : (o : Option Organized) (b : Bool) → meant_variable (or_else (option_map MeansUnit o) (if b then Some MeansStandard else None)) ≡ None
 no_variable (Some u) b = refl

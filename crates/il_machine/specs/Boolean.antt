@@ -1,5 +1,5 @@
 -- The states of a scan of one program of Boolean instructions on a straight line, and what an instruction of it leaves (own rules).
-use Rattle.std.specs.Prelude.{◌≡◌, ℕ, ◌<◌, ◌≤◌, Bool, true, false, List, [], ◌∷◌, length, Option, Some, None, option_map, slice_get, nat_lt, is_some, IsSome, refl, codes}
+use Rattle.std.specs.Prelude.{◌≡◌, ℕ, ◌<◌, ◌≤◌, Bool, true, false, List, [], ◌∷◌, length, ℤ, pos, Option, Some, None, option_map, slice_get, nat_lt, is_some, IsSome, refl, codes}
 use Rattle.std.specs.Coded.{Coded, code_by, coded×, coded_list, coded_ℕ, coded_bool, coded_option}
 use Rattle.il_spec.specs.contracts.tree.Config as config
 use Rattle.il_machine.specs.contracts.verified.UnitCost as unit_cost
@@ -36,10 +36,24 @@ pub record Program : Type 0 where
 abbrev pub program_code : Coded Program
 program_code = code_by (Config × List UnitCost) (coded× config.the_row.coded (coded_list unit_cost.the_row.coded)) (λ p. (p.config, p.costs)) (λ c. record { config = c.0; costs = c.1 }) (λ _. refl)
 
--- a configuration that the machine runs: it is carried, and its program finds what it needs
+-- a whole number in a range
+pub record IsWithin (lo hi : ℕ) (z : ℤ) : Type 0 where
+  pub number : ℕ
+  pub is : z ≡ pos number
+  pub least : lo ≤ number
+  pub most : number ≤ hi
+
+-- a group of one car, with floors and call slots within the limits (own rules)
+pub record HasSizes (c : Config) : Type 0 where
+  pub cars : c.cars.value ≡ pos 1
+  pub floors : IsWithin 2 16 c.floors.value
+  pub slots : IsWithin 1 64 c.slots.value
+
+-- a configuration that the machine runs: it is carried, its program finds what it needs, and its group has one car
 pub record IsRunnable (c : Config) : Type 0 where
   pub carried : IsCarried c
   pub ready : HasReadyProgram c
+  pub sizes : HasSizes c
 
 -- the frames of a scan of the unit: one at a place, none once the scan has ended
 abbrev pub frames_at : Text → Option ℕ → List Frame

@@ -22,13 +22,7 @@ fn connected(kind: Logic, left: bool, right: bool) -> bool
     match kind {
         Logic::Conjunction => left && right,
         Logic::Disjunction => left || right,
-        Logic::Exclusive => {
-            if left {
-                !right
-            } else {
-                right
-            }
-        }
+        Logic::Exclusive => { if left { !right } else { right } }
     }
 }
 
@@ -69,14 +63,40 @@ pub fn exec(cells: &mut Cells, result_before: Option<bool>, instruction: &Instru
     ensures paths { KeepsPaths cells.old cells.new }
 {
     match (instruction, result_before) {
-        (Instruction::Load { negated, operand: from }, _) => {
-            negated_if(*negated, operand(cells, &from.reference))
-        }
-        (Instruction::Store { store: Store::Plain, target }, Some(r)) => store(cells, &target.reference, r, r),
-        (Instruction::Store { store: Store::Negated, target }, Some(r)) => store(cells, &target.reference, !r, r),
+        (
+            Instruction::Load {
+                negated,
+                operand: from,
+            },
+            _,
+        ) => { negated_if(*negated, operand(cells, &from.reference)) }
+        (
+            Instruction::Store {
+                store: Store::Plain,
+                target,
+            },
+            Some(r),
+        ) => store(cells, &target.reference, r, r),
+        (
+            Instruction::Store {
+                store: Store::Negated,
+                target,
+            },
+            Some(r),
+        ) => store(cells, &target.reference, !r, r),
         (Instruction::Not, Some(r)) => !r,
-        (Instruction::Operate { operator: Operator::Logic { logic, negated }, operand: with }, Some(r)) => {
-            connected(*logic, r, negated_if(*negated, operand(cells, &with.reference)))
+        (
+            Instruction::Operate {
+                operator: Operator::Logic { logic, negated },
+                operand: with,
+            },
+            Some(r),
+        ) => {
+            connected(
+                *logic,
+                r,
+                negated_if(*negated, operand(cells, &with.reference)),
+            )
         }
         _ => unreachable!(),
     }

@@ -5,6 +5,8 @@ pub mod cells;
 pub mod instruction;
 mod opening;
 pub mod store;
+#[cfg(test)]
+mod tests;
 pub mod values;
 pub mod verified;
 

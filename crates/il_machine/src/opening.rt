@@ -41,7 +41,13 @@ pub fn opening_image(alloc: Global, config: &Config) -> Result<Values, AllocErro
     put_row(alloc, &mut values, "CALLCAR", slots, Value::Integer(0))?;
     put_row(alloc, &mut values, "CALLTO", slots, Value::Integer(0))?;
     put_row(alloc, &mut values, "CALLFROM", slots, Value::Integer(0))?;
-    put_row(alloc, &mut values, "CALLWAITS", slots, Value::Boolean(false))?;
+    put_row(
+        alloc,
+        &mut values,
+        "CALLWAITS",
+        slots,
+        Value::Boolean(false),
+    )?;
     put_group(alloc, &mut values, config)?;
     Ok(values)
 }
@@ -76,7 +82,13 @@ fn put_group(alloc: Global, values: &mut Values, config: &Config) -> Result<(), 
 }
 
 // An element for each call slot, the last one first.
-fn put_row(alloc: Global, values: &mut Values, name: &str, slots: i64, value: Value) -> Result<(), AllocError>
+fn put_row(
+    alloc: Global,
+    values: &mut Values,
+    name: &str,
+    slots: i64,
+    value: Value,
+) -> Result<(), AllocError>
     requires { BeginsWithC name.now }
     ensures { OnOk result (KeepsOthers values.old values.new) }
 {

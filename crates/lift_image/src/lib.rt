@@ -8,6 +8,7 @@ ghost use Rattle.lift_spec.specs.Image.{is_floor, positions_in_range, fields_in_
 
 pub use lift_spec::image::{CarFields, CarOutputs, Fields, Image, Motor, Sizes};
 pub use lift_spec::row::Row;
+
 #[cfg(test)]
 mod tests;
 

@@ -30,7 +30,10 @@ fn one_car_and_two_floors(rt: HostRuntime) {
     assert!(rt; in_range(&fields(2, 0, 2_147_483_647), sizes));
     assert!(rt; !in_range(&fields(3, 1, 0), sizes), "no such floor");
     assert!(rt; !in_range(&fields(0, 1, 0), sizes), "no floor 0");
-    assert!(rt; !in_range(&fields(1, 2, 0), sizes), "RUNLIMIT over the cars");
+    assert!(rt;
+        !in_range(&fields(1, 2, 0), sizes),
+        "RUNLIMIT over the cars"
+    );
     assert!(rt; !in_range(&fields(1, 1, 2_147_483_648), sizes), "no TIME");
     let two = Sizes {
         cars: 2,

@@ -19,9 +19,11 @@ returns-then-at-steps-clause-step c =
 pub returns-then-at-steps-clause-scan : goal.returns-then-at-steps-clause-scan
 returns-then-at-steps-clause-scan c =
     let stands = step_read c.program-unit.result.now _ c.in-Some.at _ c.as_slice-steps.ensures c.if-at-steps.true c.index-steps-at.is in
-    let state = in_scan c.args.verified.now.config c.program-unit.result.now _ _ c.program-unit.ensures.ready c.store.view_is c.requires.scan in
-    (c.program-unit.result.now, c.program-unit.ensures.ready,
-    next_state c.args.verified.now.config c.program-unit.result.now _ c.in-Some.at c.index-steps-at.result _ _ c.exec-result.result c.program-unit.ensures.ready state c.in-Some.is stands (rw (← c.as_slice-steps.ensures) c.if-at-steps.true) (rw (← c.index-steps-at.is) at c.exec-result.ensures.effect))
+    let state = in_scan c.args.verified.now.config c.program-unit.result.now _ _ c.program-unit.ensures.ready c.store.view_is c.requires.scan in (
+      c.program-unit.result.now,
+      c.program-unit.ensures.ready,
+      next_state c.args.verified.now.config c.program-unit.result.now _ c.in-Some.at c.index-steps-at.result _ _ c.exec-result.result c.program-unit.ensures.ready state c.in-Some.is stands (rw (← c.as_slice-steps.ensures) c.if-at-steps.true) (rw (← c.index-steps-at.is) at c.exec-result.ensures.effect),
+    )
 
 pub returns-then-at-steps-clause-own : goal.returns-then-at-steps-clause-own
 returns-then-at-steps-clause-own c = λ own v ready.

@@ -5,9 +5,12 @@ use Rattle.il_machine.proofs.store.Store.new.Goals as goal
 
 pub returns-clause-scan : goal.returns-clause-scan
 returns-clause-scan c =
-    let u = c.program-unit.result.now in
-    (u, c.program-unit.ensures.ready, rw (c.of-2.ensures.variables, c.of-2.ensures.written, c.in_ok-variables.ensures)
-    (starts c.args.verified.now.config u _ _ _ (c.in_ok-of.ensures ∙ c.as_str.ensures) (opening_own u c.program-unit.ensures.carried) c.in_ok-written.ensures))
+    let u = c.program-unit.result.now in (
+      u,
+      c.program-unit.ensures.ready,
+      rw (c.of-2.ensures.variables, c.of-2.ensures.written, c.in_ok-variables.ensures)
+          (starts c.args.verified.now.config u _ _ _ (c.in_ok-of.ensures ∙ c.as_str.ensures) (opening_own u c.program-unit.ensures.carried) c.in_ok-written.ensures),
+    )
 
 pub returns-clause-own : goal.returns-clause-own
 returns-clause-own c = λ v ready.

@@ -1,0 +1,15 @@
+pub mod Bytes
+pub mod Names
+pub mod Loop
+pub mod Steps
+pub mod Lists
+pub mod Leaves
+pub mod Keys
+pub mod Sound
+pub mod BodySound
+pub mod ConfigSound
+pub mod Found
+pub mod Again
+pub mod BodyAgain
+pub mod ConfigAgain
+pub mod Ascii

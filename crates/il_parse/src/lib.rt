@@ -1,0 +1,63 @@
+//! Parser: the tree that the tokens of a text spell, for a subset of the language.
+#![tactic(auto)]
+
+ghost use Rattle.std.specs.Prelude.{◌≡◌, ◌≤◌, length, IfOk, []};
+ghost use Rattle.il_spec.specs.Text.{AreTokens};
+ghost use Rattle.il_spec.specs.Grammar.{AfterLines, SpellsConfig, Spells, IsWithinLimits};
+ghost use Rattle.il_spec.specs.declared.tree.Config.{Config};
+ghost use Rattle.il_parse.specs.Carried.{IsCarried};
+ghost use Rattle.il_parse.specs.Refused.{IsFault, IsSmall, HasFewInstructions};
+
+mod body;
+mod configuration;
+mod front;
+mod stop;
+#[cfg(test)]
+mod tests;
+mod unit;
+
+use configuration::configuration;
+pub use il_spec::fault::Refusal;
+pub use il_spec::token::Token;
+pub use il_spec::tree::Config;
+use std::alloc::Global;
+use stop::Stop;
+
+/// The configuration that the tokens of a text spell.
+///
+/// Read is one PROGRAM with at most one VAR list of BOOL variables, the instructions LD, LDN, ST, STN, NOT, AND and OR over
+/// TRUE, FALSE and names, and a configuration with one TASK and one PROGRAM line. Any other token is fault 10 at its line, the
+/// first with which no such text goes on; at the end of the text the line is one more than its line feeds. Fault 12 stands at
+/// the operator of the 4097th instruction.
+pub fn parse(alloc: Global, text: &[u8], tokens: &[Token]) -> Result<Config, Refusal>
+    requires { AreTokens text.now 0 tokens.now }
+    // What is read is spelled so.
+    ensures found { IfOk result (λ c. AfterLines (SpellsConfig text.now c) tokens.now []) }
+    ensures spelled { IfOk result (λ c. Spells text.now c) }
+    ensures carried { IfOk result (λ c. IsCarried c) }
+
+    // It is small enough.
+    ensures small { IfOk result (λ c. IsSmall c) }
+    ensures limits { IfOk result (λ c. length text.now ≤ 262144 → IsWithinLimits text.now c) }
+
+    // What is spelled within the subset and the limits is read, unless memory runs out.
+    ensures refused { IsFault result → (c : Config) → AfterLines (SpellsConfig text.now c) tokens.now [] → IsCarried c → HasFewInstructions c → ⊥ }
+
+    // And nothing else is spelled within them.
+    ensures only { IfOk result (λ c. (d : Config) → AfterLines (SpellsConfig text.now d) tokens.now [] → IsCarried d → HasFewInstructions d → d ≡ c) }
+{
+    match configuration(alloc, text, tokens) {
+        Ok(config) => Ok(config),
+        Err(Stop::Memory) => Err(Refusal::Memory),
+        Err(Stop::Fault { number, line }) => Err(Refusal::Fault {
+            number,
+            line: line.unwrap_or(last_line(text)),
+        }),
+    }
+}
+
+// The line of the end of the text.
+fn last_line(text: &[u8]) -> u32 {
+    let feeds = text.iter().filter(|byte| **byte == b'\n').count();
+    u32::try_from(feeds).unwrap_or(u32::MAX).saturating_add(1)
+}

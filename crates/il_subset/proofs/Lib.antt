@@ -1,0 +1,15 @@
+pub mod Cases
+pub mod Declared
+pub mod Digits
+pub mod Grown
+pub mod Instructions
+pub mod Judged
+pub mod Known
+pub mod Least
+pub mod Predeclared
+pub mod Lists
+pub mod Results
+pub mod Straight
+pub mod Taken
+pub mod Tasks
+pub mod Typed

@@ -1,0 +1,2 @@
+pub mod Cars
+pub mod Plants

@@ -1,0 +1,19 @@
+-- A plant as the definitions see it.
+use Rattle.std.specs.Prelude.{◌≤◌, All, map, length}
+use Rattle.lift_spec.specs.Plant.{PlantState}
+use Rattle.lift_plant.specs.Cars.{placed, IsPlaced}
+use Rattle.lift_plant.specs.declared.plant.Plant.TheInside.{Inside}
+
+-- the plant in the words of the definitions
+abbrev pub plant_of : Inside → PlantState
+plant_of p = record { floors = p.floors; time = p.time; run_limit = p.run_limit; cars = map placed p.cars }
+
+-- what every plant keeps
+pub record IsPlant (p : Inside) : Type 0 where
+  pub some_cars : 1 ≤ length p.cars
+  pub cars : length p.cars ≤ 8
+  pub two_floors : 2 ≤ p.floors
+  pub floors : p.floors ≤ 16
+  pub time : p.time ≤ 2147483647
+  pub run_limit : p.run_limit ≤ length p.cars
+  pub each : All (IsPlaced p.floors) p.cars

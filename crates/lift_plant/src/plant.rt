@@ -1,0 +1,117 @@
+// The plant of a group.
+
+ghost use Rattle.std.specs.Prelude.{◌≡◌, ◌≤◌, ℕ, All, map, length};
+ghost use Rattle.lift_spec.specs.Plant.{PlantState, opening_plant, plant_after, fields_of_plant, moved_all, fields_of_cars};
+ghost use Rattle.lift_plant.specs.Cars.{placed, IsPlaced};
+
+use crate::car::{Car, car_fields, moved_car};
+use lift_image::{CarFields, CarOutputs, Fields, Row};
+use std::marker::Model;
+
+/// The latest NOW in milliseconds, the largest TIME.
+const LAST_TIME: u32 = 2_147_483_647;
+
+/// Where the cars of a group and their doors are, and NOW in milliseconds.
+#[derive(Drop)]
+pub struct Plant {
+    floors: u8,
+    time: u32,
+    run_limit: u8,
+    cars: Row<Car, 8>,
+}
+
+impl Model for Plant {
+    ghost use Rattle.lift_spec.specs.Plant.{PlantState};
+    ghost use Rattle.lift_spec.specs.Codes.{plant_code};
+
+    ghost Value = { PlantState };
+
+    ghost coded = { plant_code };
+
+    ghost use Rattle.lift_plant.specs.Plants.{plant_of, IsPlant};
+
+    ghost view = { plant_of };
+
+    ghost invariant = { IsPlant };
+}
+
+impl Plant {
+    /// Every car at floor 1 with its door shut, at NOW 0, with as many cars allowed to run as
+    /// there are.
+    pub fn new(cars: u8, floors: u8) -> Plant
+        requires cars { (1 ≤ cars) × (cars ≤ 8) }
+        requires floors { (2 ≤ floors) × (floors ≤ 16) }
+        ensures { result ≡ opening_plant cars floors }
+    {
+        let mut placed = Row::new();
+        for _ in 0..cars {
+            placed.push(Car { place: 0, door: 0 });
+        }
+        Plant {
+            floors,
+            time: 0,
+            run_limit: cars,
+            cars: placed,
+        }
+    }
+
+    /// How many cars there are.
+    pub fn cars(&self) -> usize
+        ensures { result ≡ length self.now.cars }
+    {
+        self.cars.as_slice().len()
+    }
+}
+
+/// The cars after one step, each under its outputs.
+fn moved_cars(floors: u8, cars: &[Car], outputs: &[CarOutputs]) -> Row<Car, 8>
+    requires floors { floors ≤ 16 }
+    requires cars { All (IsPlaced floors) cars.now }
+    requires room { length cars.now ≤ 8 }
+    requires outputs { length outputs.now ≡ length cars.now }
+    ensures value { map placed result ≡ moved_all floors (map placed cars.now) outputs.now }
+    ensures stays { All (IsPlaced floors) result }
+    ensures length { length result ≡ length cars.now }
+{
+    let mut moved = Row::new();
+    for i in 0..cars.len() {
+        moved.push(moved_car(floors, cars[i], outputs[i]));
+    }
+    moved
+}
+
+/// What the plant tells of its cars.
+fn all_fields(floors: u8, cars: &[Car]) -> Row<CarFields, 8>
+    requires floors { (2 ≤ floors) × (floors ≤ 16) }
+    requires cars { All (IsPlaced floors) cars.now }
+    requires room { length cars.now ≤ 8 }
+    ensures { result ≡ fields_of_cars floors (map placed cars.now) }
+{
+    let mut fields = Row::new();
+    for i in 0..cars.len() {
+        fields.push(car_fields(floors, cars[i]));
+    }
+    fields
+}
+
+/// The plant 100 ms later, under the outputs of all its cars, and what it then tells.
+pub fn plant_step(plant: Plant, outputs: &Row<CarOutputs, 8>) -> (Plant, Fields)
+    requires { length outputs.now ≡ length plant.cars }
+    ensures plant { result.0 ≡ plant_after plant outputs.now }
+    ensures fields { result.1 ≡ fields_of_plant result.0 }
+{
+    let cars = moved_cars(plant.floors, plant.cars.as_slice(), outputs.as_slice());
+    let time = u32::min(LAST_TIME, plant.time + 100);
+    let fields = Fields {
+        time,
+        run_limit: plant.run_limit,
+        cars: all_fields(plant.floors, cars.as_slice()),
+    };
+    let moved = Plant {
+        floors: plant.floors,
+        time,
+        run_limit: plant.run_limit,
+        cars,
+    };
+    (moved, fields)
+}

@@ -1,0 +1,138 @@
+-- Which texts are accepted.
+use Rattle.std.proofs.Common.{◌≡◌, ◌≢◌, refl, sym, ap, ◌∙◌, subst, ℕ, ◌≤◌, ◌<◌, ◌⊎◌, inl, inr, ℤ, pos, negsuc, ◌≤ℤ◌, Bool, true, false, ◌&&◌, IsTrue, IsFalse, List, [], ◌∷◌, length, Some, None, Option, arith, zero, suc}
+use Rattle.std.specs.Prelude.{Contains, slice_index_or, Ok, Err, Result, int_le, IsErrAnd}
+use lib.Signed.{le_z_yes}
+use lib.Dec.{T}
+use Rattle.std.proofs.lemmas.Int.{ints}
+use Rattle.il_spec.specs.declared.tree.Config.{Config}
+use Rattle.il_spec.specs.declared.tree.Size.{Size}
+use Rattle.il_spec.specs.declared.tree.Subrange.{Subrange}
+use Rattle.il_spec.specs.declared.tree.Task.{Task}
+use Rattle.il_spec.specs.declared.tree.Place.{Place}
+use Rattle.il_spec.specs.declared.token.Token.{Token}
+use Rattle.il_spec.specs.declared.fault.Refusal.{Refusal}
+use Rattle.il_spec.specs.declared.fault.Refusal.TheVariants.{Fault, Memory}
+use Rattle.il_spec.specs.Text.{AreTokens}
+use Rattle.il_spec.specs.Grammar.{AfterLines, SpellsConfig, Spells, IsWithinLimits}
+use Rattle.il_rules.specs.Names.{car_number}
+use Rattle.il_rules.specs.Declarations.{sizes_of, is_within, IsInitialOutside, IsBadTask, size_outside, missing_task}
+use Rattle.il_rules.specs.Carried.{IsCarried, HasReadyProgram}
+use Rattle.il_rules.specs.Faults.{IsUnbroken, Declaring, Typing, BreaksDeclarations, initial_outside, bad_task}
+use Rattle.il_subset.specs.Subset.{NamesNotCarried, BreaksYet, broken, not_carried, IsDeclaredYet, IsNamed, IsRefusedYet}
+use Rattle.il_machine.specs.Boolean.{IsRunnable, IsWithin, HasSizes}
+use Rattle.il_parse.specs.Carried as parsed
+use Rattle.il_parse.specs.Refused.{HasFewInstructions, IsFault}
+use Rattle.lift_world.specs.Loading.{IsAccepted}
+use Rattle.lift_world.proofs.Carrying.{carried_to, carried_from}
+
+-- SIZES
+
+both_true : (a b : Bool) → (a && b) ≡ true → (a ≡ true) × (b ≡ true)
+both_true true true h = (refl, refl)
+both_true true false h = cc
+both_true false b h = cc
+
+le_from : (x y : ℤ) → int_le x y ≡ true → x ≤ℤ y
+le_from x y h = le_z_yes (subst T (sym h) tt)
+
+as_number : (lo hi : ℕ) (z : ℤ) → pos lo ≤ℤ z → z ≤ℤ pos hi → IsWithin lo hi z
+as_number lo hi (pos n) least most = record { number = n; is = refl; least = omega (arith, ints, least); most = omega (arith, ints, most) }
+as_number lo hi (negsuc n) least most = absurd (omega (arith, ints, least))
+
+within : (lo hi : ℕ) (z : ℤ) → is_within (record { lower = pos lo; upper = pos hi }) z ≡ true → IsWithin lo hi z
+within lo hi z h = let parts = both_true (int_le (pos lo) z) (int_le z (pos hi)) h in as_number lo hi z (le_from (pos lo) z parts.0) (le_from z (pos hi) parts.1)
+
+size_within : (c : Config) → IsUnbroken Declaring c → (s : Size) (lo hi : ℕ) → Contains (sizes_of c) (s, record { lower = pos lo; upper = pos hi }) → (b : Bool) → is_within (record { lower = pos lo; upper = pos hi }) s.value ≡ b → IsWithin lo hi s.value
+size_within c unbroken s lo hi there true is = within lo hi s.value is
+size_within c unbroken s lo hi there false is = absurd (unbroken 23 s.place (initial_outside refl (size_outside (s, record { lower = pos lo; upper = pos hi }) there is refl)))
+
+other_number : (o : Option ℕ) (k : ℕ) → o ≡ Some 1 → 2 ≤ k → o ≡ Some k → ⊥
+other_number o k one two is = let same : Some 1 ≡ Some k = sym one ∙ is in let e : 1 ≡ k = cc in omega (arith, e, two)
+
+is_one : (o : Option ℕ) → (o ≡ Some 1) ⊎ (o ≢ Some 1)
+is_one None = inr (λ e. cc)
+is_one (Some zero) = inr (λ e. cc)
+is_one (Some (suc zero)) = inl refl
+is_one (Some (suc (suc n))) = inr (λ e. cc)
+
+only_task : (c : Config) (task other : Task) → c.tasks ≡ task ∷ [] → Contains c.tasks other → other ≡ task
+only_task c task other is among = pick task other (subst (λ l. Contains l other) is among)
+  where
+    pick : (task other : Task) → Contains (task ∷ []) other → other ≡ task
+    pick task other (zero, below, at) = sym at
+    pick task other (suc k, below, at) = absurd (omega (arith, below))
+
+no_second : (c : Config) (task : Task) → c.tasks ≡ task ∷ [] → IsUnbroken Declaring c → (n : ℕ) → c.cars.value ≡ pos n → 1 ≤ n → n ≤ 1
+no_second c task is unbroken zero cars least = omega arith
+no_second c task is unbroken (suc zero) cars least = omega arith
+no_second c task is unbroken (suc (suc n)) cars least = absurd (by_number (is_one (car_number task.name.name)))
+  where
+    below : (k : ℕ) → k ≤ suc (suc n) → pos k ≤ℤ c.cars.value
+    below k h = rw cars (omega (arith, ints, h))
+
+    missing : (k : ℕ) → 1 ≤ k → k ≤ suc (suc n) → (car_number task.name.name ≢ Some k) → ⊥
+    missing k one most differs =
+        unbroken 24 c.end_resource (bad_task refl (missing_task k one (below k most) (λ other among e. differs (ap (λ (t : Task). car_number t.name.name) (sym (only_task c task other is among)) ∙ e)) refl))
+
+    by_number : (car_number task.name.name ≡ Some 1) ⊎ (car_number task.name.name ≢ Some 1) → ⊥
+    by_number (inl one) = missing 2 (omega arith) (omega arith) (λ e. other_number (car_number task.name.name) 2 one (omega arith) e)
+    by_number (inr differs) = missing 1 (omega arith) (omega arith) differs
+
+-- a group of one task in which nothing is broken has one car
+pub has_sizes : (c : Config) → IsCarried c → IsUnbroken Declaring c → HasSizes c
+has_sizes c carried unbroken =
+    let cars = size_within c unbroken c.cars 1 8 (0, omega arith, refl) _ refl in
+    let most = no_second c carried.task carried.tasks unbroken cars.number cars.is cars.least in
+    let one : cars.number ≡ 1 = omega (arith, most, cars.least) in
+    record { cars = cars.is ∙ ap pos one; floors = size_within c unbroken c.floors 2 16 (1, omega arith, refl) _ refl; slots = size_within c unbroken c.slots 1 64 (2, omega arith, refl) _ refl }
+
+-- REFUSALS
+
+-- what a judgement names is broken
+pub names_broken : (c : Config) (number line : ℕ) → IsRefusedYet c (Fault number line) → IsDeclaredYet c → IsUnbroken Typing c → ⊥
+names_broken c number line (place, inl first, at) declared typed = declared number place first.broken
+names_broken c number line (place, inr (unbroken, first), at) declared typed = typed number place first.broken
+
+-- nothing is broken so far where no declaration is, and no name that is not carried stands
+pub declared_yet : (c : Config) → IsUnbroken Declaring c → ((place : Place) → ¬ NamesNotCarried c place) → IsDeclaredYet c
+declared_yet c unbroken none number place (broken b) = unbroken number place b
+declared_yet c unbroken none number place (not_carried is names) = none place names
+
+-- a fault that is handed on is a fault
+pub handed_on : {X : Type 0} (Y : Type 0) (e : Refusal) (r : Result X Refusal) → IsErrAnd r (λ d. d ≡ e) → IsFault r → IsFault {A = Y} (Err e)
+handed_on {X} Y e (Ok x) same h = absurd h
+handed_on {X} Y e (Err d) same h = subst (λ d. IsFault {A = Y} (Err d)) same h
+
+number_of : (Y : Type 0) (e : Refusal) → IsFault {A = Y} (Err e) → (number : ℕ) × (line : ℕ) × (e ≡ Fault number line)
+number_of Y (Fault number line) h = (number, line, refl)
+number_of Y Memory h = absurd h
+
+-- a text that the parser refuses spells no configuration that is accepted
+pub none_parsed : (text : List ℕ) (tokens : List Token) → ((ts : List Token) → AreTokens text 0 ts → ts ≡ tokens)
+    → ((c : Config) → AfterLines (SpellsConfig text c) tokens [] → parsed.IsCarried c → HasFewInstructions c → ⊥) → (c : Config) → IsAccepted text c → ⊥
+none_parsed text tokens only refused c a =
+    refused c (subst (λ ts. AfterLines (SpellsConfig text c) ts []) (only a.spelled.0 a.spelled.1) a.spelled.2) (carried_from c a.carried) a.limits.instructions
+
+-- what the parser gives is the only such configuration
+pub same_parsed : (text : List ℕ) (tokens : List Token) (found : Config) → ((ts : List Token) → AreTokens text 0 ts → ts ≡ tokens)
+    → ((d : Config) → AfterLines (SpellsConfig text d) tokens [] → parsed.IsCarried d → HasFewInstructions d → d ≡ found) → (c : Config) → IsAccepted text c → c ≡ found
+same_parsed text tokens found only unique c a =
+    unique c (subst (λ ts. AfterLines (SpellsConfig text c) ts []) (only a.spelled.0 a.spelled.1) a.spelled.2) (carried_from c a.carried) a.limits.instructions
+
+-- a text whose configuration is refused spells none that is accepted
+pub none_judged : (text : List ℕ) (found : Config) (e : Refusal) → ((c : Config) → IsAccepted text c → c ≡ found) → IsRefusedYet found e → IsFault {A = Config} (Err e) → (c : Config) → IsAccepted text c → ⊥
+none_judged text found e same refused fault c a =
+    let named = number_of Config e fault in
+    let declared : IsDeclaredYet found = subst IsDeclaredYet (same c a) a.declared in
+    let typed : IsUnbroken Typing found = subst (IsUnbroken Typing) (same c a) a.typed in
+    names_broken found named.0 named.1 (subst (IsRefusedYet found) named.2 refused) declared typed
+
+-- what was parsed and judged is accepted
+pub accepted_is : (text : List ℕ) (c : Config) → length text ≤ 262144 → Spells text c → (length text ≤ 262144 → IsWithinLimits text c) → parsed.IsCarried c → IsUnbroken Declaring c → IsUnbroken Typing c
+    → ((place : Place) → ¬ NamesNotCarried c place) → IsAccepted text c
+accepted_is text c short spelled limits carried declared typed none =
+    record { spelled = spelled; limits = limits short; carried = carried_to c carried; declared = declared_yet c declared none; typed = typed }
+
+-- and runs
+pub runnable_is : (c : Config) → parsed.IsCarried c → IsUnbroken Declaring c → HasReadyProgram c → IsRunnable c
+runnable_is c carried declared ready = record { carried = carried_to c carried; ready = ready; sizes = has_sizes c (carried_to c carried) declared }

@@ -1,0 +1,4 @@
+pub mod Showing
+pub mod Settling
+pub mod Carrying
+pub mod Accepting

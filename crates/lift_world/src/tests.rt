@@ -1,0 +1,148 @@
+// From a text to a run.
+
+use crate::event::Event;
+use crate::loader::load;
+use crate::replies::Replies;
+use crate::world::World;
+use il_machine::{Value, Verified};
+use il_spec::fault::Refusal;
+use lift_image::{CarFields, Fields, Motor, Row};
+use lift_spec::event::Reply;
+use lift_spec::report::{Report, Rule};
+use std::alloc::Global;
+use std::test::Fail;
+
+const FRAME: &str = "CONFIGURATION K
+VAR_GLOBAL CONSTANT CARS : INT := 1; FLOORS : INT := 2; SLOTS : INT := 1; END_VAR
+RESOURCE M ON PLC
+TASK CAR1 (INTERVAL := T#100ms, PRIORITY := 1);
+PROGRAM P1 WITH CAR1 : C;
+END_RESOURCE
+END_CONFIGURATION
+";
+
+/// The configuration whose program has this body, which `FRAME` follows.
+fn loaded(alloc: Global, body: &str) -> Result<Verified, Refusal> {
+    let mut text = String::from_str(alloc, body)?;
+    text.push_str(FRAME)?;
+    load(alloc, text.as_bytes())
+}
+
+/// The fields of one car at this floor.
+fn fields(pos: u8, level: bool) -> Fields {
+    let mut cars = Row::new();
+    cars.push(CarFields {
+        pos,
+        level,
+        top: false,
+        bottom: true,
+        locked: true,
+        opened: false,
+    });
+    Fields {
+        time: 100,
+        run_limit: 1,
+        cars,
+    }
+}
+
+/// Whether an event is refused with this number.
+fn is_refused(world: &mut World, event: Event, number: u8) -> bool {
+    match world.apply(event) {
+        Reply::Refused(found) => found == number,
+        _ => false,
+    }
+}
+
+/// Whether a report opens the door, with rule 4 the only denial where there is one.
+fn tells(report: &Report, opens: bool, denied: bool) -> bool {
+    let outputs = report.outputs.as_slice();
+    let denials = report.denials.as_slice();
+    outputs.len() == 1
+        && outputs[0].motor == Motor::Still
+        && outputs[0].opens == opens
+        && denials.len() == denied as usize
+        && denials
+            .iter()
+            .all(|denial| denial.car == 1 && denial.rule == Rule::NotLevel)
+}
+
+#[test]
+fn opens_the_door(rt: HostRuntime) -> Result<(), Fail> {
+    let alloc = rt.alloc();
+    let verified = loaded(
+        alloc,
+        "PROGRAM C\nVAR A : BOOL; END_VAR\nLD TRUE\nST A\nST OPEN\nEND_PROGRAM\n",
+    )?;
+    let mut world = World::new(alloc, verified)?;
+    let sizes = world.sizes();
+    assert_eq!(rt; (sizes.cars, sizes.floors, sizes.slots), (1, 2, 1));
+    assert!(rt;
+        world
+            .verified()
+            .tasks()
+            .all(|task| task.name == "CAR1" && task.budget == 4)
+    );
+    assert!(rt; matches!(world.apply(Event::Start(1)), Reply::Started));
+    for _ in 0..3 {
+        assert!(rt; matches!(world.apply(Event::Instruction(1)), Reply::More));
+    }
+    assert!(rt; matches!(world.apply(Event::Instruction(1)), Reply::End));
+    assert!(rt; !world.image().outputs.as_slice().iter().any(|car| car.opens));
+    assert_eq!(rt; world.variable(1, "A"), Some(Value::Boolean(false)));
+    assert!(rt;
+        matches!(world.apply(Event::Commit(1)), Reply::Committed(report) if tells(&report, true, false))
+    );
+    assert_eq!(rt; world.variable(1, "A"), Some(Value::Boolean(true)));
+    assert_eq!(rt; world.variable(1, "OPEN"), None);
+    assert_eq!(rt; world.variable(2, "A"), None);
+    assert!(rt;
+        matches!(world.apply(Event::Refresh(fields(1, true))), Reply::Refreshed(report) if tells(&report, true, false))
+    );
+    assert!(rt;
+        matches!(world.apply(Event::Refresh(fields(1, false))), Reply::Refreshed(report) if tells(&report, false, true))
+    );
+    assert!(rt; matches!(world.apply(Event::Start(1)), Reply::Started));
+    for _ in 0..4 {
+        let _reply = world.apply(Event::Instruction(1));
+    }
+    assert!(rt;
+        matches!(world.apply(Event::Commit(1)), Reply::Committed(report) if tells(&report, false, true))
+    );
+    assert!(rt; !world.image().outputs.as_slice().iter().any(|car| car.opens));
+    Ok(())
+}
+
+#[test]
+fn refuses_events(rt: HostRuntime) -> Result<(), Fail> {
+    let alloc = rt.alloc();
+    let verified = loaded(alloc, "PROGRAM C\nEND_PROGRAM\n")?;
+    let mut world = World::new(alloc, verified)?;
+    for task in [0, 2, 9] {
+        assert!(rt; is_refused(&mut world, Event::Start(task), 64));
+        assert!(rt; is_refused(&mut world, Event::Instruction(task), 64));
+        assert!(rt; is_refused(&mut world, Event::Commit(task), 64));
+    }
+    assert!(rt; is_refused(&mut world, Event::Instruction(1), 61));
+    assert!(rt; is_refused(&mut world, Event::Commit(1), 61));
+    assert!(rt; matches!(world.apply(Event::Start(1)), Reply::Started));
+    assert!(rt; is_refused(&mut world, Event::Start(1), 62));
+    assert!(rt; is_refused(&mut world, Event::Commit(1), 63));
+    assert!(rt; matches!(world.apply(Event::Instruction(1)), Reply::End));
+    assert!(rt; is_refused(&mut world, Event::Instruction(1), 61));
+    assert!(rt; is_refused(&mut world, Event::Refresh(fields(3, true)), 60));
+    assert!(rt; is_refused(&mut world, Event::Refresh(fields(0, true)), 60));
+    assert!(rt;
+        matches!(world.apply(Event::Commit(1)), Reply::Committed(report) if tells(&report, false, false))
+    );
+    Ok(())
+}
+
+#[test]
+fn keeps_replies(rt: HostRuntime) -> Result<(), Fail> {
+    let mut replies = Replies::with_room(rt.alloc(), 1)?;
+    assert!(rt; replies.as_slice().is_empty());
+    replies.push(Reply::Started);
+    assert!(rt; matches!(replies.as_slice(), [Reply::Started]));
+    Ok(())
+}

@@ -1,0 +1,295 @@
+// The world.
+
+ghost use Rattle.std.specs.Prelude.{◌≡◌, ◌≢◌, ℕ, ◌+◌, ◌≤◌, length, IfOk, true, false, None, ◌∷◌, []};
+ghost use Rattle.lift_spec.specs.Image.{sizes_of, fields_in_range};
+ghost use Rattle.lift_spec.specs.declared.image.Fields.{Fields};
+ghost use Rattle.il_run.specs.NameMap as values;
+ghost use Rattle.lift_spec.specs.Snapshot.{truth_of};
+ghost use Rattle.lift_world.specs.declared.event.Event.{Event};
+ghost use Rattle.lift_world.specs.Running.{outputs_at, report_of, commit_report, after_commit, refresh_report, refreshed, RefusesUnchanged, IsStart, IsInstruction, IsCommit, IsRefresh};
+
+use crate::event::Event;
+use crate::replies::Replies;
+use crate::shown::show;
+use il_machine::{Begin, Stepped, Store, Value, Verified, step};
+use il_spec::fault::Refusal;
+use lift_image::{CarFields, CarOutputs, Fields, Image, Motor, Row, Sizes, in_range};
+use lift_spec::event::Reply;
+use lift_spec::report::{Denial, Report, Rule};
+use std::alloc::Global;
+use std::marker::Model;
+
+/// The number of the only task so far, CAR1.
+const CAR: u8 = 1;
+
+/// How a car stands in the opening world: at floor 1, locked and still (own rule).
+const OPENING: CarFields = CarFields {
+    pos: 1,
+    level: true,
+    top: false,
+    bottom: true,
+    locked: true,
+    opened: false,
+};
+
+/// A lift group of one car.
+#[derive(Drop)]
+pub struct World {
+    verified: Verified,
+    image: Image,
+    begin: Begin,
+    store: Store,
+    busy: bool,
+}
+
+impl Model for World {
+    ghost use Rattle.lift_world.specs.Running.{Running, running_code, IsWorldOf};
+
+    ghost Value = { Running };
+
+    ghost coded = { running_code };
+
+    ghost view = { λ w. record { program = w.verified; image = w.image; variables = w.begin.variables; shown = w.begin.snapshot; scan = w.store; busy = w.busy } };
+
+    ghost invariant = { λ w. IsWorldOf (record { program = w.verified; image = w.image; variables = w.begin.variables; shown = w.begin.snapshot; scan = w.store; busy = w.busy }) };
+}
+
+// Whether a value is TRUE.
+fn is_true(value: Option<Value>) -> bool
+    ensures { result ≡ truth_of value }
+{
+    match value {
+        Some(Value::Boolean(truth)) => truth,
+        _ => false,
+    }
+}
+
+// The car's outputs, where its door is asked to be open: it is so only at a level.
+#[tactic(auto, unfolding(crate::specs::Running::outputs_at))]
+fn outputs_at(asked: bool, level: bool) -> CarOutputs
+    ensures { result ≡ outputs_at asked level }
+{
+    CarOutputs {
+        motor: Motor::Still,
+        opens: asked && level,
+    }
+}
+
+// What a commit and a refresh report: the outputs, and a denial of rule 4 where the door was asked for away from a level.
+#[tactic(auto, unfolding(crate::specs::Running::report_of))]
+fn report(asked: bool, level: bool) -> Report
+    ensures { result ≡ report_of asked level }
+{
+    let mut outputs = Row::new();
+    outputs.push(outputs_at(asked, level));
+    let mut denials = Row::new();
+    if asked && !level {
+        denials.push(Denial {
+            car: CAR,
+            rule: Rule::NotLevel,
+        });
+    }
+    Report {
+        outputs,
+        denials,
+        answers: Row::new(),
+        entered: Row::new(),
+    }
+}
+
+impl World {
+    /// The opening world of a configuration.
+    pub fn new(alloc: Global, verified: Verified) -> Result<World, Refusal>
+        ensures same { IfOk result (λ w. w.program ≡ verified) }
+        ensures idle { IfOk result (λ w. w.busy ≡ false) }
+    {
+        let store = Store::new(alloc, &verified, CAR)?;
+        let begin = Begin {
+            variables: store.variables().try_copy(alloc)?,
+            snapshot: store.written().try_copy(alloc)?,
+        };
+        let mut cars = Row::new();
+        cars.push(OPENING);
+        let mut outputs = Row::new();
+        outputs.push(CarOutputs {
+            motor: Motor::Still,
+            opens: false,
+        });
+        let image = Image {
+            fields: Fields {
+                time: 0,
+                run_limit: CAR,
+                cars,
+            },
+            outputs,
+        };
+        Ok(World {
+            verified,
+            image,
+            begin,
+            store,
+            busy: false,
+        })
+    }
+
+    fn start(&mut self, task: u8) -> Reply
+        ensures start { IsStart self.old self.new result task }
+        ensures same { self.new.program ≡ self.old.program }
+        ensures refused { RefusesUnchanged self.old self.new result }
+    {
+        if task != CAR {
+            return Reply::Refused(64);
+        }
+        if self.busy {
+            return Reply::Refused(62);
+        }
+        self.store.restart(&self.verified, task, &self.begin);
+        self.busy = true;
+        Reply::Started
+    }
+
+    fn instruction(&mut self, task: u8) -> Reply
+        ensures instruction { IsInstruction self.old self.new result task }
+        ensures same { self.new.program ≡ self.old.program }
+        ensures refused { RefusesUnchanged self.old self.new result }
+    {
+        if task != CAR {
+            return Reply::Refused(64);
+        }
+        if !self.busy {
+            return Reply::Refused(61);
+        }
+        if self.store.has_ended() {
+            return Reply::Refused(61);
+        }
+        match step(&self.verified, task, &mut self.store) {
+            Stepped::More => Reply::More,
+            Stepped::End => Reply::End,
+        }
+    }
+
+    #[tactic(auto, unfolding(crate::specs::Running::after_commit))]
+    fn commit(&mut self, task: u8) -> Reply
+        ensures commit { IsCommit self.old self.new result task }
+        ensures same { self.new.program ≡ self.old.program }
+        ensures refused { RefusesUnchanged self.old self.new result }
+    {
+        if task != CAR {
+            return Reply::Refused(64);
+        }
+        if !self.busy {
+            return Reply::Refused(61);
+        }
+        if !self.store.has_ended() {
+            return Reply::Refused(63);
+        }
+        Reply::Committed(self.commit_scan())
+    }
+
+    // The scan hands over what it left.
+    fn commit_scan(&mut self) -> Report
+        requires ended { self.old.scan.place ≡ None }
+        ensures report { result ≡ commit_report self.old }
+        ensures world { self.new ≡ after_commit self.old }
+    {
+        let asked = is_true(self.store.value("OPEN"));
+        let level = self.image.fields.cars.as_slice()[0].level;
+        let outputs = outputs_at(asked, level);
+        self.begin.variables.copy_from(self.store.variables());
+        self.begin
+            .snapshot
+            .set("OPEN", Value::Boolean(outputs.opens));
+        self.image.outputs.set(0, outputs);
+        self.busy = false;
+        report(asked, level)
+    }
+
+    fn refresh(&mut self, fields: Fields) -> Reply
+        ensures refresh { IsRefresh self.old self.new result fields }
+        ensures same { self.new.program ≡ self.old.program }
+        ensures refused { RefusesUnchanged self.old self.new result }
+    {
+        if in_range(&fields, self.sizes()) {
+            Reply::Refreshed(self.take(fields))
+        } else {
+            Reply::Refused(60)
+        }
+    }
+
+    // Takes fields that are in range.
+    fn take(&mut self, fields: Fields) -> Report
+        requires { fields_in_range (sizes_of self.old.program.config) fields ≡ true }
+        ensures report { result ≡ refresh_report self.old.image fields }
+        ensures image { self.new.image ≡ refreshed self.old.image fields }
+        ensures others { self.new ≡ record self.old { image = self.new.image; shown = self.new.shown } }
+    {
+        let asked = self.image.outputs.as_slice()[0].opens;
+        let car = fields.cars.as_slice()[0];
+        let outputs = outputs_at(asked, car.level);
+        show(
+            &mut self.begin.snapshot,
+            fields.time,
+            fields.run_limit,
+            car,
+            outputs.opens,
+        );
+        self.image.fields = fields;
+        self.image.outputs.set(0, outputs);
+        report(asked, car.level)
+    }
+
+    /// One event.
+    pub fn apply(&mut self, event: Event) -> Reply
+        ensures start { (task : ℕ) → event ≡ Event.Start task → IsStart self.old self.new result task }
+        ensures instruction { (task : ℕ) → event ≡ Event.Instruction task → IsInstruction self.old self.new result task }
+        ensures commit { (task : ℕ) → event ≡ Event.Commit task → IsCommit self.old self.new result task }
+        ensures refresh { (fields : Fields) → event ≡ Event.Refresh fields → IsRefresh self.old self.new result fields }
+        ensures same { self.new.program ≡ self.old.program }
+        ensures refused { RefusesUnchanged self.old self.new result }
+    {
+        match event {
+            Event::Start(task) => self.start(task),
+            Event::Instruction(task) => self.instruction(task),
+            Event::Commit(task) => self.commit(task),
+            Event::Refresh(fields) => self.refresh(fields),
+        }
+    }
+
+    /// The image.
+    pub fn image(&self) -> &Image
+        ensures { result.now ≡ self.now.image }
+    {
+        &self.image
+    }
+
+    /// The program.
+    pub fn verified(&self) -> &Verified
+        ensures { result.now ≡ self.now.program }
+    {
+        &self.verified
+    }
+
+    /// How many cars, floors and slots the group has.
+    pub fn sizes(&self) -> Sizes
+        ensures { result ≡ sizes_of self.now.program.config }
+    {
+        let config = self.verified.config();
+        Sizes {
+            cars: config.cars.value as u8,
+            floors: config.floors.value as u8,
+            slots: config.slots.value as u8,
+        }
+    }
+
+    /// The value of a variable of a task, as its last commit left it.
+    pub fn variable(&self, task: u8, path: &str) -> Option<Value>
+        ensures car { task ≡ 1 → result ≡ values.get self.now.variables path.now }
+        ensures other { task ≢ 1 → result ≡ None }
+    {
+        if task == CAR {
+            self.begin.variables.get(path)
+        } else {
+            None
+        }
+    }
+}

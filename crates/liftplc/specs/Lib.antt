@@ -1,0 +1,3 @@
+pub mod Messages
+pub mod Rounds
+pub mod Writes
