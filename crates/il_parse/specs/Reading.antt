@@ -149,6 +149,7 @@ abbrev pub comma_first : List Token → Bool
 comma_first [] = false
 comma_first (t ∷ ts) = is_sign Comma t.kind
 
+-- whether a comma is the first token that is no line end
 unfoldable pub comma_comes : List Token → Bool
 comma_comes ts = comma_first (skip_line_ends ts)
 

@@ -56,10 +56,12 @@ abbrev pub opening_task : Config → Option Organized → Option TaskState
 opening_task p None = None
 opening_task p (Some u) = Some (record { variables = opening_variables p u; tickets = None })
 
+-- so many tasks as they open, from this number on (own rule)
 abbrev pub opening_tasks_from : Config → ℕ → ℕ → List (Option TaskState)
 opening_tasks_from p t zero = []
 opening_tasks_from p t (suc count) = opening_task p (program_of p t) ∷ opening_tasks_from p (t + 1) count
 
+-- how the group opens (own rule)
 abbrev pub opening_group : Config → Group
 opening_group p =
     record {
@@ -69,20 +71,25 @@ opening_group p =
       tasks = opening_tasks_from p 0 (suc (sizes_of p).cars);
     }
 
+-- the opening world: no scan is open, and no call waits (own rule)
 unfoldable pub opening : Config → World
 opening p = record { group = opening_group p; scans = replicate (suc (sizes_of p).cars) None; desk = []; hand = [] }
 
+-- an option in an option, as one
 abbrev pub flat : {A : Type 0} → Option (Option A) → Option A
 flat None = None
 flat (Some None) = None
 flat (Some (Some x)) = Some x
 
+-- the task of a number, if the configuration has it (own rule)
 abbrev pub task_at : Group → ℕ → Option TaskState
 task_at g t = flat (slice_get g.tasks t)
 
+-- the open scan of a task, if it has one (own rule)
 abbrev pub scan_at : World → ℕ → Option State
 scan_at w t = flat (slice_get w.scans t)
 
+-- an event that is refused changes nothing (own rule)
 abbrev pub refuses : World → ℕ → Next
 refuses w n = Ok (w, Refused n)
 
@@ -90,18 +97,22 @@ refuses w n = Ok (w, Refused n)
 abbrev pub snapshot_of : Group → Snapshot
 snapshot_of g = record { image = g.image; slots = g.calls.slots; globals = g.globals }
 
+-- what the next scan of a task begins with (own rule)
 abbrev pub beginning_of : Group → TaskState → Beginning
 beginning_of g task = record { variables = task.variables; snapshot = snapshot_of g }
 
+-- the group once a task has started: the task holds the tickets that it saw (own rule)
 abbrev pub started_group : Group → ℕ → TaskState → Group
 started_group g t task =
     record g { tasks = slice_set g.tasks t (Some (record { variables = task.variables; tickets = Some (map ticket_of g.calls.slots) })) }
 
+-- Start where no scan is open, and 62 where one is (own rule)
 abbrev pub starts_from : Config → World → ℕ → TaskState → Option State → Next
 starts_from p w t task (Some s) = refuses w 62
 starts_from p w t task None =
     Ok (record w { group = started_group w.group t task; scans = slice_set w.scans t (Some (scan_begins p t (beginning_of w.group task))) }, Started)
 
+-- Start, and 64 where there is no such task (own rule)
 abbrev pub starts : Config → World → ℕ → Option TaskState → Next
 starts p w t None = refuses w 64
 starts p w t (Some task) = starts_from p w t task (scan_at w t)
@@ -110,19 +121,23 @@ starts p w t (Some task) = starts_from p w t task (scan_at w t)
 abbrev pub reply_to : State → Reply
 reply_to s = if has_ended s then End else More
 
+-- what a step of a scan leaves of the world, or why the run halts (own rule)
 abbrev pub stepped : World → ℕ → Outcome → Next
 stepped w t (Trapped trap) = Err (Traps trap)
 stepped w t Stuck = Err Sticks
 stepped w t (Goes s) = Ok (record w { scans = slice_set w.scans t (Some s) }, reply_to s)
 
+-- Instruction behind the end of the scan, 61, or before it (own rule)
 abbrev pub instructs_scan : Config → World → ℕ → State → Bool → Next
 instructs_scan p w t scan true = refuses w 61
 instructs_scan p w t scan false = stepped w t (scan_step p scan)
 
+-- Instruction without an open scan, 61, or within one (own rule)
 abbrev pub instructs_in : Config → World → ℕ → Option State → Next
 instructs_in p w t None = refuses w 61
 instructs_in p w t (Some scan) = instructs_scan p w t scan (has_ended scan)
 
+-- Instruction, and 64 where there is no such task (own rule)
 abbrev pub instructs : Config → World → ℕ → Option TaskState → Next
 instructs p w t None = refuses w 64
 instructs p w t (Some task) = instructs_in p w t (scan_at w t)
@@ -132,6 +147,7 @@ abbrev pub tell_with : Calls → ℕ → ℕ → Option ℕ → Calls × Answer
 tell_with calls slot car None = (calls, Stale)
 tell_with calls slot car (Some ticket) = tell calls slot ticket car
 
+-- what a car serves: the slot of its wish, under the ticket that its scan saw (own rule)
 abbrev pub serve_with : Calls → ℕ → ℕ → Option (Option ℕ) → Calls × Answer
 serve_with calls slot car None = (calls, Stale)
 serve_with calls slot car (Some None) = (calls, Stale)
@@ -157,6 +173,7 @@ serve_wish calls car tickets (suc slot) =
 abbrev pub closed_tasks : Group → ℕ → TaskState → Values → List (Option TaskState)
 closed_tasks g t task values = slice_set g.tasks t (Some (record { variables = restricted task.variables values; tickets = None }))
 
+-- a commit of the group: its assignments are told, and its variables and globals are kept (own rule)
 abbrev pub group_commits : Config → Group → TaskState → List (Option ℕ) → Values → Group × Report
 group_commits p g task tickets values =
     let told = tell_all g.calls [] 1 tickets (assigned (length tickets) values) in (
@@ -169,6 +186,7 @@ group_commits p g task tickets values =
       record { outputs = g.image.outputs; denials = []; answers = told.1; entered = [] },
     )
 
+-- a commit of a car: its outputs are settled, its serve is done, and its variables and globals are kept (own rule)
 abbrev pub car_commits : Config → Group → ℕ → TaskState → List (Option ℕ) → Values → Wishes → Group × Report
 car_commits p g car task tickets values wishes =
     let settled = settled_car g.image car wishes.motor wishes.opens in
@@ -183,24 +201,29 @@ car_commits p g car task tickets values wishes =
       record { outputs = outputs; denials = denials_of car settled.denials; answers = served.1; entered = [] },
     )
 
+-- a commit of a task, by its role (own rule)
 unfoldable pub committed_group : Config → Group → ℕ → TaskState → List (Option ℕ) → Values → Group × Report
 committed_group p g zero task tickets values = group_commits p g task tickets values
 committed_group p g (suc k) task tickets values = car_commits p g (suc k) task tickets values (wishes_of values)
 
+-- the tickets that a scan saw; none without a scan (own rule)
 abbrev pub tickets_or_none : Option (List (Option ℕ)) → List (Option ℕ)
 tickets_or_none None = []
 tickets_or_none (Some tickets) = tickets
 
+-- Commit before the end of the scan, 63, or behind it (own rule)
 abbrev pub commits_ended : Config → World → ℕ → TaskState → State → Bool → Next
 commits_ended p w t task scan false = refuses w 63
 commits_ended p w t task scan true =
     let committed = committed_group p w.group t task (tickets_or_none task.tickets) scan.values in
     Ok (record w { group = committed.0; scans = slice_set w.scans t None }, Committed committed.1)
 
+-- Commit without an open scan, 61, or with one (own rule)
 abbrev pub commits_scan : Config → World → ℕ → TaskState → Option State → Next
 commits_scan p w t task None = refuses w 61
 commits_scan p w t task (Some scan) = commits_ended p w t task scan (has_ended scan)
 
+-- Commit, and 64 where there is no such task (own rule)
 abbrev pub commits : Config → World → ℕ → Option TaskState → Next
 commits p w t None = refuses w 64
 commits p w t (Some task) = commits_scan p w t task (scan_at w t)
@@ -212,12 +235,15 @@ refreshed_as g fields settled entered = (
   record { outputs = settled.outputs; denials = settled.denials; answers = []; entered = entered.done },
 )
 
+-- the calls of the hand enter the slots of the group (own rule)
 abbrev pub entered_from : Group → List Call → Entered
 entered_from g hand = enter_all g.calls [] hand
 
+-- a refresh of the group (own rule)
 unfoldable pub refreshed_group : Group → Fields → List Call → Group × Report
 refreshed_group g fields hand = refreshed_as g fields (settled_all g.image.outputs fields) (entered_from g hand)
 
+-- Refresh, and 60 where the fields are out of range (own rule)
 abbrev pub refreshes : World → Fields → Bool → Next
 refreshes w fields false = refuses w 60
 refreshes w fields true =
@@ -229,10 +255,12 @@ abbrev pub presses_new : World → Call → Bool → Next
 presses_new w call true = Ok (w, Already)
 presses_new w call false = Ok (record w { desk = with_call w.desk call }, New)
 
+-- Press from a floor to itself, 65, or to another (own rule)
 abbrev pub presses_floors : World → Call → Bool → Next
 presses_floors w call true = refuses w 65
 presses_floors w call false = presses_new w call (has_call w.desk call)
 
+-- Press, and 64 where there is no such floor (own rule)
 abbrev pub presses : World → Call → Bool → Next
 presses w call false = refuses w 64
 presses w call true = presses_floors w call (call.from == call.to)
@@ -244,6 +272,7 @@ gathers_from w floor false =
     let moved = calls_from floor w.desk in
     Ok (record w { desk = calls_not_from floor w.desk; hand = with_calls w.hand moved }, Gathered (mask_of moved))
 
+-- Gather, and 64 where there is no such floor (own rule)
 abbrev pub gathers : World → ℕ → Bool → Next
 gathers w floor false = refuses w 64
 gathers w floor true = gathers_from w floor (has_from w.hand floor)
@@ -257,6 +286,7 @@ happens p w (Refresh fields) = refreshes w fields (fields_in_range (sizes_of p) 
 happens p w (Press call) = presses w call (is_floor (sizes_of p) call.from && is_floor (sizes_of p) call.to)
 happens p w (Gather floor) = gathers w floor (is_floor (sizes_of p) floor)
 
+-- going on where there is a result
 abbrev pub and_then : {A B : Type 0} → Result A Halt → (A → Result B Halt) → Result B Halt
 and_then (Err halt) go = Err halt
 and_then (Ok x) go = go x
@@ -289,6 +319,7 @@ counted t count (Instruction u) More = if t == u then count + 1 else count
 counted t count (Instruction u) End = if t == u then count + 1 else count
 counted t count event reply = count
 
+-- the same over a whole run
 abbrev pub answered : ℕ → ℕ → List Event → List Reply → ℕ
 answered t count [] replies = count
 answered t count (e ∷ events) [] = count

@@ -15,6 +15,7 @@ code_of NotRead = 3
 code_of NotWritten = 3
 code_of OutOfMemory = 4
 
+-- the status of a fault
 abbrev pub status_of : Fault → Status
 status_of (Misuse text) = IsRefused
 status_of (Refused number line) = IsRefused
@@ -32,6 +33,7 @@ message_of CannotRead = codes "cannot read\n"
 message_of CannotWrite = codes "cannot write\n"
 message_of NoMemory = codes "no memory\n"
 
+-- the fault of a refusal of a text
 abbrev pub fault_of : Refusal → Fault
 fault_of (FaultOfText number line) = Refused number line
 fault_of Memory = NoMemory
