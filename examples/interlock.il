@@ -1,7 +1,7 @@
 (* One door cycle at a landing, in Boolean instructions.
 
    The door is asked to open where the car is at LEVEL and its doors are
-   LOCKED. The request is remembered in ASKED, because LOCKED falls as soon as
+   LOCKED. The wish is remembered in ASKED, because LOCKED falls as soon as
    the door leaves its closed end. Once the door has been fully open (OPENED),
    the cycle is over: DONE stays TRUE and the door is left to close.
    A scan has eighteen instructions and the return: its budget is 19, one for each
@@ -9,9 +9,9 @@
 
 PROGRAM DOORCYCLE
 VAR
-  ASKED : BOOL;   (* a request to open is standing *)
+  ASKED : BOOL;   (* a wish to open is standing *)
   DONE : BOOL;    (* the door has been fully open once *)
-  MAYGO : BOOL;   (* no door request stands: the inverse of ASKED *)
+  MAYGO : BOOL;   (* no wish to open stands: the inverse of ASKED *)
 END_VAR
 
 (* the cycle is over once the door has been seen fully open *)
@@ -19,13 +19,13 @@ LD OPENED
 OR DONE
 ST DONE
 
-(* a new request needs a landing and locked doors; a standing one is kept *)
+(* a new wish needs a landing and locked doors; a standing one is kept *)
 LD LEVEL
 AND LOCKED
 OR ASKED
 ST ASKED
 
-(* no request stands once the cycle is over *)
+(* no wish stands once the cycle is over *)
 LDN DONE
 AND ASKED
 ST ASKED
@@ -37,7 +37,7 @@ STN MAYGO
 AND LEVEL
 ST OPEN
 
-(* NOT negates the result: no open command, doors locked, no request *)
+(* NOT negates the result: no open command, doors locked, no wish *)
 LD OPEN
 NOT
 AND LOCKED
