@@ -1,5 +1,5 @@
 -- The configurations that are carried so far: one program of Boolean instructions on a straight line, and one task (own rule).
--- Later requests widen this until nothing is left of it.
+-- It widens until nothing is left of it.
 use Rattle.std.specs.Prelude.{◌≡◌, ℕ, ◌<◌, Bool, true, false, List, [], ◌∷◌, Option, Some, None, slice_get, nat_lt, codes}
 use Rattle.il_spec.specs.declared.tree.Config.{Config}
 use Rattle.il_spec.specs.declared.tree.Unit.{Unit as Organized}

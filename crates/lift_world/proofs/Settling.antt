@@ -132,3 +132,19 @@ refresh_keeps w inv fields car asked level told shown cars told_is level_is has 
       shown_there = λ q. inv.shown_there q ∙ paths q;
       scan = inv.scan;
     }
+
+-- the first of one car's fields
+pub car_of : (cars : List CarFields) (car none : CarFields) → cars ≡ car ∷ [] → slice_index_or cars 0 none ≡ car
+car_of cars car none is = ap (λ l. slice_index_or l 0 none) is
+
+-- one car's fields, replaced
+pub cars_are : (before after : List CarFields) (one car new : CarFields) → after ≡ slice_set before 0 new → before ≡ one ∷ [] → new ≡ car → after ≡ car ∷ []
+cars_are before after one car new is was same = is ∙ ap (λ l. slice_set l 0 new) was ∙ ap (λ c. c ∷ []) same
+
+-- the image that a refresh leaves, by its parts
+pub taken_is : (i : Image) (one : IsOneCar i) (fields : Fields) (car : CarFields) (opens level : Bool) (told : List CarOutputs) (cars : List CarFields) → told ≡ outputs_at opens level ∷ [] → cars ≡ car ∷ [] → opens ≡ one.outputs.opens → fields.cars ≡ car ∷ [] → level ≡ car.level
+    → record { fields = record { time = fields.time; run_limit = fields.run_limit; cars = cars }; outputs = told } ≡ refreshed i fields
+taken_is i one fields car opens level told cars is_told is_cars is_opens are level_is =
+    ap (λ t. record { fields = record { time = fields.time; run_limit = fields.run_limit; cars = cars }; outputs = t }) is_told
+    ∙ ap (λ l. record { fields = record { time = fields.time; run_limit = fields.run_limit; cars = l }; outputs = outputs_at opens level ∷ [] }) (is_cars ∙ sym are)
+    ∙ refreshed_is i one fields car opens level is_opens are level_is

@@ -1,5 +1,5 @@
 -- What a world of one car keeps (own rules).
-use Rattle.std.specs.Prelude.{◌≡◌, ◌≢◌, ℕ, Bool, true, false, ◌&&◌, not, List, [], ◌∷◌, length, pos, codes, refl, if◌then◌else◌, Some, None}
+use Rattle.std.specs.Prelude.{◌≡◌, ◌≢◌, ℕ, Bool, true, false, ◌&&◌, not, List, [], ◌∷◌, ◌++◌, length, pos, codes, refl, if◌then◌else◌, Some, None}
 use Rattle.std.specs.Coded.{Coded, code_by, coded×, coded_bool}
 use Rattle.il_spec.specs.declared.tree.Config.{Config}
 use Rattle.il_run.specs.declared.value.Value.TheVariants.{Boolean, Integer}
@@ -17,6 +17,8 @@ use Rattle.lift_spec.specs.Settle.{Settled, settled_car, settled_all, denials_of
 use Rattle.lift_spec.specs.Snapshot.{truth_of}
 use Rattle.lift_spec.specs.Image.{sizes_of, fields_in_range}
 use Rattle.il_run.specs.Step.{step, Next}
+use Rattle.lift_world.specs.declared.event.Event.{Event}
+use Rattle.lift_world.specs.declared.event.Event.TheVariants.{Start, Instruction, Commit, Refresh}
 use Rattle.lift_spec.specs.declared.event.Reply.{Reply}
 use Rattle.lift_spec.specs.declared.event.Reply.TheVariants.{Started, More, End, Committed, Refreshed, Refused}
 use Rattle.lift_spec.specs.declared.report.Report.{Report}
@@ -149,3 +151,21 @@ pub record IsRefresh (before after : Running) (reply : Reply) (fields : Fields) 
   pub refreshes : fields_in_range (sizes_of before.program.config) fields ≡ true → (reply ≡ Refreshed (refresh_report before.image fields)) × (after.image ≡ refreshed before.image fields)
   pub scan : (after.scan ≡ before.scan) × (after.busy ≡ before.busy)
   pub variables : after.variables ≡ before.variables
+
+-- what an event does, by its kind (own rules)
+abbrev pub Happens : Event → Running → Running → Reply → Type 0
+Happens (Start task) before after reply = IsStart before after reply task
+Happens (Instruction task) before after reply = IsInstruction before after reply task
+Happens (Commit task) before after reply = IsCommit before after reply task
+Happens (Refresh fields) before after reply = IsRefresh before after reply fields
+
+-- one event: what its kind does; the program stays, and an event that is refused changes nothing
+pub record IsEvent (event : Event) (before after : Running) (reply : Reply) : Type 0 where
+  pub happens : Happens event before after reply
+  pub same : after.program ≡ before.program
+  pub refused : RefusesUnchanged before after reply
+
+-- a run over a list of events: one after the other, each with its reply behind the replies so far
+abbrev pub IsRun : List Event → Running → List Reply → Running → List Reply → Type 0
+IsRun [] before so_far after all = (after ≡ before) × (all ≡ so_far)
+IsRun (e ∷ es) before so_far after all = (next : Running) × (reply : Reply) × IsEvent e before next reply × IsRun es next (so_far ++ reply ∷ []) after all

@@ -118,7 +118,7 @@ fn refuses_events(rt: HostRuntime) -> Result<(), Fail> {
     let alloc = rt.alloc();
     let verified = loaded(alloc, "PROGRAM C\nEND_PROGRAM\n")?;
     let mut world = World::new(alloc, verified)?;
-    for task in [0, 2, 9] {
+    for task in [0, 2, 5, 9] {
         assert!(rt; is_refused(&mut world, Event::Start(task), 64));
         assert!(rt; is_refused(&mut world, Event::Instruction(task), 64));
         assert!(rt; is_refused(&mut world, Event::Commit(task), 64));
@@ -139,10 +139,42 @@ fn refuses_events(rt: HostRuntime) -> Result<(), Fail> {
 }
 
 #[test]
-fn keeps_replies(rt: HostRuntime) -> Result<(), Fail> {
-    let mut replies = Replies::with_room(rt.alloc(), 1)?;
+fn runs_events(rt: HostRuntime) -> Result<(), Fail> {
+    let alloc = rt.alloc();
+    let verified = loaded(alloc, "PROGRAM C\nLDN OPEN\nST OPEN\nEND_PROGRAM\n")?;
+    let mut world = World::new(alloc, verified)?;
+    let mut replies = Replies::with_room(alloc, 6)?;
     assert!(rt; replies.as_slice().is_empty());
-    replies.push(Reply::Started);
-    assert!(rt; matches!(replies.as_slice(), [Reply::Started]));
+    let events = [
+        Event::Start(1),
+        Event::Instruction(1),
+        Event::Instruction(1),
+        Event::Instruction(1),
+        Event::Commit(1),
+        Event::Refresh(fields(2, false)),
+    ];
+    world.run(&events, &mut replies);
+    let [
+        Reply::Started,
+        Reply::More,
+        Reply::More,
+        Reply::End,
+        Reply::Committed(committed),
+        Reply::Refreshed(refreshed),
+    ] = replies.as_slice()
+    else {
+        return Err(Fail::from("other replies"));
+    };
+    assert!(rt; tells(committed, true, false));
+    assert!(rt; tells(refreshed, false, true));
+    assert!(rt;
+        world
+            .image()
+            .fields
+            .cars
+            .as_slice()
+            .iter()
+            .all(|car| car.pos == 2)
+    );
     Ok(())
 }

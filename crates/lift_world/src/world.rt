@@ -2,11 +2,9 @@
 
 ghost use Rattle.std.specs.Prelude.{◌≡◌, ◌≢◌, ℕ, ◌+◌, ◌≤◌, length, IfOk, true, false, None, ◌∷◌, []};
 ghost use Rattle.lift_spec.specs.Image.{sizes_of, fields_in_range};
-ghost use Rattle.lift_spec.specs.declared.image.Fields.{Fields};
 ghost use Rattle.il_run.specs.NameMap as values;
 ghost use Rattle.lift_spec.specs.Snapshot.{truth_of};
-ghost use Rattle.lift_world.specs.declared.event.Event.{Event};
-ghost use Rattle.lift_world.specs.Running.{outputs_at, report_of, commit_report, after_commit, refresh_report, refreshed, RefusesUnchanged, IsStart, IsInstruction, IsCommit, IsRefresh};
+ghost use Rattle.lift_world.specs.Running.{outputs_at, report_of, commit_report, after_commit, refresh_report, refreshed, RefusesUnchanged, IsStart, IsInstruction, IsCommit, IsRefresh, IsEvent, IsRun};
 
 use crate::event::Event;
 use crate::replies::Replies;
@@ -204,12 +202,12 @@ impl World {
         report(asked, level)
     }
 
-    fn refresh(&mut self, fields: Fields) -> Reply
-        ensures refresh { IsRefresh self.old self.new result fields }
+    fn refresh(&mut self, fields: &Fields) -> Reply
+        ensures refresh { IsRefresh self.old self.new result fields.now }
         ensures same { self.new.program ≡ self.old.program }
         ensures refused { RefusesUnchanged self.old self.new result }
     {
-        if in_range(&fields, self.sizes()) {
+        if in_range(fields, self.sizes()) {
             Reply::Refreshed(self.take(fields))
         } else {
             Reply::Refused(60)
@@ -217,10 +215,10 @@ impl World {
     }
 
     // Takes fields that are in range.
-    fn take(&mut self, fields: Fields) -> Report
-        requires { fields_in_range (sizes_of self.old.program.config) fields ≡ true }
-        ensures report { result ≡ refresh_report self.old.image fields }
-        ensures image { self.new.image ≡ refreshed self.old.image fields }
+    fn take(&mut self, fields: &Fields) -> Report
+        requires { fields_in_range (sizes_of self.old.program.config) fields.now ≡ true }
+        ensures report { result ≡ refresh_report self.old.image fields.now }
+        ensures image { self.new.image ≡ refreshed self.old.image fields.now }
         ensures others { self.new ≡ record self.old { image = self.new.image; shown = self.new.shown } }
     {
         let asked = self.image.outputs.as_slice()[0].opens;
@@ -233,25 +231,40 @@ impl World {
             car,
             outputs.opens,
         );
-        self.image.fields = fields;
+        self.image.fields.time = fields.time;
+        self.image.fields.run_limit = fields.run_limit;
+        self.image.fields.cars.set(0, car);
         self.image.outputs.set(0, outputs);
         report(asked, car.level)
     }
 
-    /// One event.
-    pub fn apply(&mut self, event: Event) -> Reply
-        ensures start { (task : ℕ) → event ≡ Event.Start task → IsStart self.old self.new result task }
-        ensures instruction { (task : ℕ) → event ≡ Event.Instruction task → IsInstruction self.old self.new result task }
-        ensures commit { (task : ℕ) → event ≡ Event.Commit task → IsCommit self.old self.new result task }
-        ensures refresh { (fields : Fields) → event ≡ Event.Refresh fields → IsRefresh self.old self.new result fields }
-        ensures same { self.new.program ≡ self.old.program }
-        ensures refused { RefusesUnchanged self.old self.new result }
+    // One event, which the caller keeps.
+    fn happen(&mut self, event: &Event) -> Reply
+        ensures { IsEvent event.now self.old self.new result }
     {
         match event {
-            Event::Start(task) => self.start(task),
-            Event::Instruction(task) => self.instruction(task),
-            Event::Commit(task) => self.commit(task),
+            Event::Start(task) => self.start(*task),
+            Event::Instruction(task) => self.instruction(*task),
+            Event::Commit(task) => self.commit(*task),
             Event::Refresh(fields) => self.refresh(fields),
+        }
+    }
+
+    /// One event. An event that is refused changes nothing.
+    pub fn apply(&mut self, event: Event) -> Reply
+        ensures { IsEvent event self.old self.new result }
+    {
+        self.happen(&event)
+    }
+
+    /// A run over a list of events, with a reply for each.
+    pub fn run(&mut self, events: &[Event], replies: &mut Replies)
+        requires room { length replies.old.items + length events.now ≤ replies.old.room }
+        ensures run { IsRun events.now self.old replies.old.items self.new replies.new.items }
+    {
+        'events: for event in events {
+            let reply = self.happen(event);
+            replies.push(reply);
         }
     }
 
