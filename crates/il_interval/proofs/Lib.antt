@@ -1,0 +1,5 @@
+mod Rows
+pub mod Corners
+pub mod Hulls
+pub mod Growth
+pub mod Numbers
