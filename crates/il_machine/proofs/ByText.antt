@@ -1,18 +1,16 @@
 -- What the map from paths answers.
-use Rattle.std.proofs.Common.{◌≡◌, ℕ, Bool, true, false, List, [], ◌∷◌, refl, sym, ap, ◌∙◌, cond, Some, None, Option, BTreeMap}
-use Rattle.std.specs.Prelude.{String, is_some, map}
+use Rattle.std.proofs.Common.{◌≡◌, List, [], ◌∷◌, sym, ap, ◌∙◌, cond, Some, BTreeMap}
+use Rattle.std.specs.Prelude.{String}
 use Rattle.std.proofs.lemmas.Cmp.{nat_list_cmp_total}
 use Rattle.std.specs.Cmp.Lexicographic.{slice_cmp}
 use Rattle.std.specs.Ordering.{nat_cmp, eq_by_cmp}
 use Rattle.std.specs.Cmp.{eq_by_cmp_equiv}
-use Rattle.std.specs.Map.{lookup, update}
-use Rattle.std.specs.Str.{bytes_eq}
+use Rattle.std.specs.Map.{lookup}
 use Rattle.std.specs.String.{string_bytes, string_cmp}
 use Rattle.std.specs.BTreeMap as tree
 use Rattle.std.proofs.lemmas.Map.Text.{btree_map_updates_text, is_eq-slice_cmp}
 use Rattle.il_run.specs.declared.value.Value.{Value}
-use Rattle.il_run.specs.NameMap.{NameMap, Text, order, get, insert, empty, from_entries, get-insert, get-empty, same_map}
-use Rattle.il_run.specs.State.{Values}
+use Rattle.il_run.specs.NameMap.{Text, order, get, insert, get-insert, get-empty, same_map}
 use Rattle.il_machine.specs.ByText.{by_text}
 
 -- what the map of some entries has at a path: the first entry's value

@@ -1,6 +1,6 @@
 -- Copying all entries of a map over those of another.
-use Rattle.std.proofs.Common.{◌≡◌, ℕ, Bool, true, false, List, [], ◌∷◌, refl, sym, ap, ◌∙◌, cond, Some, None, Option, subst}
-use Rattle.std.specs.Prelude.{String, is_some, IsSome, map}
+use Rattle.std.proofs.Common.{◌≡◌, Bool, true, false, List, [], ◌∷◌, refl, sym, ap, ◌∙◌, cond, Some, None, Option, subst}
+use Rattle.std.specs.Prelude.{String, is_some, map}
 use Rattle.std.specs.List.{AllByRecursion}
 use Rattle.std.specs.declared.cmp.Ordering.{Ordering}
 use Rattle.std.specs.declared.cmp.Ordering.TheVariants.{Less, Equal, Greater}
@@ -12,7 +12,7 @@ use Rattle.std.specs.Ordering.{eq_by_cmp, is_eq}
 use Rattle.std.specs.Cmp.{eq_by_cmp_equiv}
 use Rattle.std.specs.Cmp.Lexicographic.{nat_list_cmp_total}
 use Rattle.il_run.specs.declared.value.Value.{Value}
-use Rattle.il_run.specs.NameMap.{NameMap, Text, order, get, insert, empty, get-insert, get-empty, same_map}
+use Rattle.il_run.specs.NameMap.{Text, order, get, insert, empty, get-insert, get-empty, same_map}
 use Rattle.il_run.specs.State.{Values}
 use Rattle.il_machine.specs.ByText.{by_text, HaveSamePaths}
 

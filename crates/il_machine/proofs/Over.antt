@@ -1,14 +1,11 @@
 -- Values that stand over others.
-use Rattle.std.proofs.Common.{◌≡◌, ℕ, Bool, true, false, List, [], ◌∷◌, refl, sym, ap, ◌∙◌, cond, Some, None, Option, subst}
-use Rattle.std.specs.Prelude.{is_some, IsSome}
-use Rattle.std.specs.Ordering.{nat_cmp, eq_by_cmp}
-use Rattle.std.specs.Cmp.{eq_by_cmp_equiv}
-use Rattle.std.specs.Cmp.Lexicographic.{slice_cmp, nat_list_cmp_total}
+use Rattle.std.proofs.Common.{◌≡◌, Bool, true, false, List, [], ◌∷◌, refl, sym, ap, ◌∙◌, cond, Some, None, Option}
+use Rattle.std.specs.Prelude.{is_some}
+use Rattle.std.specs.Ordering.{eq_by_cmp}
 use Rattle.std.specs.FinMap.Entries.{find}
-use Rattle.std.specs.FinMap.{slice_cmp-IsAntisymmetric, nat_cmp-IsAntisymmetric}
 use Rattle.il_rules.specs.Names.{or_else}
 use Rattle.il_run.specs.declared.value.Value.{Value}
-use Rattle.il_run.specs.NameMap.{NameMap, Text, order, get, insert, with_entries, get-insert, same_map}
+use Rattle.il_run.specs.NameMap.{Text, order, get, insert, with_entries, get-insert, same_map}
 use Rattle.il_run.specs.State.{Values}
 use Rattle.il_machine.specs.ByText.{HaveSamePaths}
 use Rattle.il_machine.specs.Boolean.{over}

@@ -1,9 +1,9 @@
 -- Where scans start: each BOOL name has a Boolean.
-use Rattle.std.proofs.Common.{◌≡◌, ◌≢◌, ◌<◌, ◌≤◌, ℕ, ◌+◌, Bool, true, false, List, [], ◌∷◌, ◌++◌, refl, sym, ap, ◌∙◌, cond, Some, None, Option, subst, length, arith, append-nil}
-use Rattle.std.specs.Prelude.{is_some, IsSome, option_map, map, find, codes, ◌||◌, bytes_eq, flat_map, slice_index, if◌then◌else◌}
-use Rattle.std.specs.Ordering.{nat_cmp, eq_by_cmp, is_eq}
+use Rattle.std.proofs.Common.{◌≡◌, Bool, true, false, List, [], ◌∷◌, ◌++◌, refl, sym, ap, ◌∙◌, cond, Some, None, Option, subst, arith, append-nil}
+use Rattle.std.specs.Prelude.{is_some, option_map, map, find, ◌||◌, bytes_eq, if◌then◌else◌}
+use Rattle.std.specs.Ordering.{eq_by_cmp}
 use Rattle.std.specs.Cmp.{eq_by_cmp_equiv}
-use Rattle.std.specs.Cmp.Lexicographic.{slice_cmp, nat_list_cmp_total}
+use Rattle.std.specs.Cmp.Lexicographic.{nat_list_cmp_total}
 use Rattle.std.proofs.lemmas.Map.Text.{is_eq-slice_cmp}
 use Rattle.il_spec.specs.declared.tree.Config.{Config}
 use Rattle.il_spec.specs.declared.tree.Unit.{Unit as Organized}
@@ -18,14 +18,14 @@ use Rattle.il_spec.specs.declared.tree.Subrange.{Subrange}
 use Rattle.il_spec.specs.declared.tree.Elementary.{Elementary}
 use Rattle.il_spec.specs.declared.tree.Elementary.TheVariants.{Bool as BoolType, Int, Time}
 use Rattle.il_spec.specs.ElementaryTypes.{plain}
-use Rattle.il_rules.specs.Names.{or_else, Variable, Origin, AsInput, AsOutput, AsVariable, AsExternal, ImageName, image_of, image_name, meaning, own_variable, variables_of, result_of, with_origin, named_forms, form_named, meant_variable, image_meaning, sees, outer_meaning, global_meaning, MeansVariable, MeansUnit, MeansStandard, Meaning, unit_named, is_predeclared}
+use Rattle.il_rules.specs.Names.{or_else, Variable, Origin, AsInput, AsOutput, AsVariable, AsExternal, ImageName, image_of, image_name, meaning, own_variable, variables_of, result_of, with_origin, named_forms, form_named, meant_variable, sees, outer_meaning, MeansVariable, MeansUnit, MeansStandard, unit_named, is_predeclared}
 use Rattle.il_rules.specs.Carried.{IsBooleanName, IsReady, IsCarriedProgram, AreCarriedVariables}
 use Rattle.il_run.specs.declared.value.Value.{Value}
-use Rattle.il_run.specs.declared.value.Value.TheVariants.{Boolean, Integer}
+use Rattle.il_run.specs.declared.value.Value.TheVariants.{Boolean}
 use Rattle.il_run.specs.NameMap.{Text, order, get, insert, empty, get-insert, get-empty}
 use Rattle.il_run.specs.State.{Values}
 use Rattle.il_machine.specs.Boolean.{HasBoolean, HasImage, HasOwn, over, Kept, IsScanState}
-use Rattle.il_machine.specs.Opening.{with_car, with_group, with_names, with_variables, KeepsOthers}
+use Rattle.il_machine.specs.Opening.{with_names, with_variables}
 use Rattle.il_machine.specs.ByText.{HaveSamePaths}
 use Rattle.il_machine.proofs.Copies.{same_text}
 use Rattle.il_machine.proofs.Steps.{same_program}
@@ -196,7 +196,7 @@ starts c u variables image unit is own has = record {
 -- THE OPENING WORLD
 
 -- the test of a name and the order of texts agree
-name_test : (k q : Text) → bytes_eq k q ≡ eq_by_cmp order q k
+pub name_test : (k q : Text) → bytes_eq k q ≡ eq_by_cmp order q k
 name_test k q = sym (is_eq-slice_cmp k q) ∙ (eq_by_cmp_equiv nat_list_cmp_total).symm k q
 
 some_cond : (b : Bool) (v : Value) (o : Option Value) → is_some (cond b (Some v) o) ≡ (b || is_some o)
@@ -206,11 +206,11 @@ some_cond false v o = refl
 some_insert : (m : Values) (k : Text) (v : Value) (q : Text) → is_some (get (insert m k v) q) ≡ (bytes_eq k q || is_some (get m q))
 some_insert m k v q = ap is_some (get-insert m k v q) ∙ some_cond (eq_by_cmp order q k) v (get m q) ∙ ap (λ b. b || is_some (get m q)) (sym (name_test k q))
 
-abbrev names_have : Text → List Named → Bool
+abbrev pub names_have : Text → List Named → Bool
 names_have q [] = false
 names_have q (n ∷ ns) = bytes_eq n.name q || names_have q ns
 
-abbrev lists_have : Text → List Declaration → Bool
+abbrev pub lists_have : Text → List Declaration → Bool
 lists_have q [] = false
 lists_have q (d ∷ ds) = names_have q d.names || lists_have q ds
 

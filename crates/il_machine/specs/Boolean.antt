@@ -1,13 +1,10 @@
 -- The states of a scan of one program of Boolean instructions on a straight line, and what an instruction of it leaves (own rules).
-use Rattle.std.specs.Prelude.{◌≡◌, ℕ, ◌<◌, ◌≤◌, Bool, true, false, List, [], ◌∷◌, length, ℤ, pos, Option, Some, None, option_map, slice_get, nat_lt, is_some, IsSome, refl, codes}
+use Rattle.std.specs.Prelude.{◌≡◌, ℕ, ◌<◌, ◌≤◌, Bool, true, List, [], ◌∷◌, length, ℤ, pos, Option, Some, None, option_map, is_some, IsSome, refl, codes}
 use Rattle.std.specs.Coded.{Coded, code_by, coded×, coded_list, coded_ℕ, coded_bool, coded_option}
 use Rattle.il_spec.specs.contracts.tree.Config as config
 use Rattle.il_machine.specs.contracts.verified.UnitCost as unit_cost
 use Rattle.il_spec.specs.declared.tree.Config.{Config}
 use Rattle.il_spec.specs.declared.tree.Unit.{Unit as Organized}
-use Rattle.il_spec.specs.declared.tree.Step.{Step as BodyStep}
-use Rattle.il_spec.specs.declared.tree.Form.TheVariants.{Scalar as ScalarForm}
-use Rattle.il_spec.specs.declared.tree.Elementary.TheVariants.{Bool as BoolType}
 use Rattle.il_spec.specs.declared.tree.Literal.TheVariants.{Truth}
 use Rattle.il_spec.specs.declared.tree.Reference.{Reference}
 use Rattle.il_spec.specs.declared.tree.Reference.TheVariants.{Literal as OfLiteral, Variable as OfVariable}
@@ -15,16 +12,16 @@ use Rattle.il_spec.specs.declared.tree.Operator.TheVariants.{Logic}
 use Rattle.il_spec.specs.declared.tree.Store.TheVariants.{Plain, Negated}
 use Rattle.il_spec.specs.declared.tree.Instruction.{Instruction}
 use Rattle.il_spec.specs.declared.tree.Instruction.TheVariants.{Load, Store, Not, Operate}
-use Rattle.il_spec.specs.ElementaryTypes.{plain}
 use Rattle.il_rules.specs.Names.{own_variable}
 use Rattle.il_rules.specs.Carried.{IsBooleanName, IsReady, HasReadyProgram, IsCarried}
 use Rattle.il_machine.specs.declared.verified.UnitCost.{UnitCost}
 use Rattle.il_run.specs.declared.value.Value.{Value}
 use Rattle.il_run.specs.declared.value.Value.TheVariants.{Boolean, Integer}
-use Rattle.il_run.specs.declared.value.Content.{Content}
 use Rattle.il_run.specs.NameMap.{Text, get, insert, with_entries}
 use Rattle.il_run.specs.State.{Values, Frame, State, values_code}
 use Rattle.il_run.specs.Step.{truth, logic, negated_if}
+use Rattle.il_run.specs.Scan.{task_program}
+use Rattle.lift_spec.specs.Snapshot.{whole_of}
 use Rattle.il_machine.specs.ByText.{HaveSamePaths}
 
 -- A verified configuration as contracts see it: the tree, and what each unit costs.
@@ -49,10 +46,16 @@ pub record HasSizes (c : Config) : Type 0 where
   pub floors : IsWithin 2 16 c.floors.value
   pub slots : IsWithin 1 64 c.slots.value
 
--- a configuration that the machine runs: it is carried, its program finds what it needs, and its group has one car
+-- a program is that of CAR1, and GROUP has none (own rules)
+pub record IsTasked (c : Config) (u : Organized) : Type 0 where
+  pub car : task_program c (codes "CAR1") ≡ Some u
+  pub group : task_program c (codes "GROUP") ≡ None
+
+-- a configuration that the machine runs: it is carried, its program finds what it needs and is that of its one task, and its group has one car
 pub record IsRunnable (c : Config) : Type 0 where
   pub carried : IsCarried c
   pub ready : HasReadyProgram c
+  pub tasked : IsTasked c ready.0
   pub sizes : HasSizes c
 
 -- the frames of a scan of the unit: one at a place, none once the scan has ended
@@ -135,6 +138,10 @@ pub record HasOwn (u : Organized) (variables : Values) : Type 0 where
 -- the same of a configuration's program
 abbrev pub OwnsBooleans : Config → Values → Type 0
 OwnsBooleans c variables = (u : Organized) → IsReady c u → HasOwn u variables
+
+-- a path with no number but 0 in the first has none in the second
+abbrev pub KeepsNumbers : Values → Values → Type 0
+KeepsNumbers before after = (path : Text) → whole_of (get before path) ≡ pos 0 → whole_of (get after path) ≡ pos 0
 
 -- EFFECTS
 

@@ -1,5 +1,5 @@
 -- A map with text keys, seen as a map from paths.
-use Rattle.std.specs.Prelude.{◌≡◌, ℕ, List, map, String, is_some}
+use Rattle.std.specs.Prelude.{◌≡◌, List, map, String, is_some}
 use Rattle.std.specs.String.{string_bytes}
 use Rattle.il_run.specs.declared.value.Value.{Value}
 use Rattle.il_run.specs.NameMap.{Text, from_entries, get}

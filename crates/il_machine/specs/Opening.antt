@@ -1,30 +1,29 @@
--- What a task's scans begin with in the opening world (own rules).
-use Rattle.std.specs.Prelude.{◌≡◌, ◌≢◌, ℕ, true, false, List, [], ◌∷◌, codes, slice_index, pos}
+-- What a car's scans are given of the image, and the variables with which they begin in the opening world (own rules).
+use Rattle.std.specs.Prelude.{ℕ, false, List, [], ◌∷◌, replicate, codes}
 use Rattle.il_spec.specs.declared.tree.Declaration.{Declaration}
 use Rattle.il_spec.specs.declared.tree.Named.{Named}
 use Rattle.il_spec.specs.declared.tree.Config.{Config}
+use Rattle.il_run.specs.declared.value.Value.{Value}
 use Rattle.il_run.specs.declared.value.Value.TheVariants.{Boolean, Integer}
-use Rattle.il_run.specs.NameMap.{Text, get, insert}
+use Rattle.il_run.specs.NameMap.{Text, insert, from_entries}
 use Rattle.il_run.specs.State.{Values}
+use Rattle.lift_spec.specs.declared.image.Image.{Image}
+use Rattle.lift_spec.specs.Image.{sizes_of}
+use Rattle.lift_spec.specs.Calls.{opening_calls}
+use Rattle.lift_spec.specs.Snapshot.{number, elements_of, image_entries}
 
--- with the names of a car: at floor 1, locked and still
-abbrev pub with_car : Values → Values
-with_car m =
-    insert (insert (insert (insert (insert (insert (insert (insert (insert (insert m (codes "SERVE") (Integer (pos 0))) (codes "OPEN") (Boolean false)) (codes "MOTOR") (Integer (pos 0)))
-    (codes "OPENED") (Boolean false)) (codes "LOCKED") (Boolean true)) (codes "BOTTOM") (Boolean true)) (codes "TOP") (Boolean false)) (codes "LEVEL") (Boolean true)) (codes "POS") (Integer (pos 1))) (codes "CARNO") (Integer (pos 1))
+-- the image as CAR1's program is given it, while no call waits
+unfoldable pub shown_of : Config → Image → Values
+shown_of c i = from_entries (image_entries (sizes_of c) 1 i (opening_calls (sizes_of c)).slots)
 
--- with the names of the group
-abbrev pub with_group : Config → Values → Values
-with_group c m =
-    insert (insert (insert (insert (insert m (codes "RUNLIMIT") (Integer c.cars.value)) (codes "NOW") (Integer (pos 0))) (codes "SLOTS") (Integer c.slots.value)) (codes "FLOORS") (Integer c.floors.value)) (codes "CARS") (Integer c.cars.value)
+-- what a program is given of the group in the opening world
+abbrev pub size_entries : Config → List (Text × Value)
+size_entries c =
+    (codes "CARS", Integer c.cars.value) ∷ (codes "FLOORS", Integer c.floors.value) ∷ (codes "SLOTS", Integer c.slots.value) ∷ (codes "NOW", number 0) ∷ (codes "RUNLIMIT", Integer c.cars.value) ∷ []
 
--- the letter C is first
-abbrev pub BeginsWithC : Text → Type 0
-BeginsWithC name = slice_index name 0 ≡ 67
-
--- paths that don't begin with C keep their values
-abbrev pub KeepsOthers : Values → Values → Type 0
-KeepsOthers before after = (q : Text) → slice_index q 0 ≢ 67 → get after q ≡ get before q
+-- an array of the image with one value in so many elements
+abbrev pub row_entries : Text → ℕ → Value → List (Text × Value)
+row_entries name size value = elements_of name 1 (replicate size value)
 
 -- with FALSE at each of these names
 abbrev pub with_names : Values → List Named → Values

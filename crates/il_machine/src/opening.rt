@@ -2,8 +2,10 @@
 
 ghost use Rattle.std.specs.Prelude.{◌≡◌, IfOk, OnOk};
 ghost use Rattle.il_run.specs.NameMap as map;
-ghost use Rattle.il_machine.specs.Boolean.{HasImage};
-ghost use Rattle.il_machine.specs.Opening.{with_car, with_group, with_names, with_variables, KeepsOthers, BeginsWithC};
+ghost use Rattle.il_machine.specs.Boolean.{HasSizes};
+ghost use Rattle.il_machine.specs.Opening.{shown_of, size_entries, row_entries, with_names, with_variables};
+ghost use Rattle.lift_spec.specs.Image.{sizes_of, opening_image, opening_car, opening_outputs};
+ghost use Rattle.lift_spec.specs.Snapshot.{car_entries};
 
 use crate::values::Values;
 use il_run::value::Value;
@@ -33,10 +35,11 @@ fn put_names(alloc: Global, values: &mut Values, names: &[Named]) -> Result<(), 
 
 /// The image as CAR1 sees it in the opening world (own rule).
 pub fn opening_image(alloc: Global, config: &Config) -> Result<Values, AllocError>
-    ensures { IfOk result (λ v. HasImage v) }
+    requires { HasSizes config.now }
+    ensures { IfOk result (λ v. v ≡ shown_of config.now (opening_image (sizes_of config.now))) }
 {
     let mut values = Values::new(alloc);
-    let slots = config.slots.value;
+    let slots = slots_of(config);
     put_car(alloc, &mut values)?;
     put_row(alloc, &mut values, "CALLCAR", slots, Value::Integer(0))?;
     put_row(alloc, &mut values, "CALLTO", slots, Value::Integer(0))?;
@@ -52,9 +55,17 @@ pub fn opening_image(alloc: Global, config: &Config) -> Result<Values, AllocErro
     Ok(values)
 }
 
+// How many call slots the group has.
+fn slots_of(config: &Config) -> u8
+    requires { HasSizes config.now }
+    ensures { result ≡ (sizes_of config.now).slots }
+{
+    config.slots.value as u8
+}
+
 // What a car's program sees of its car, the last name first.
 fn put_car(alloc: Global, values: &mut Values) -> Result<(), AllocError>
-    ensures { OnOk result (values.new ≡ with_car values.old) }
+    ensures { OnOk result (values.new ≡ map.with_entries values.old (car_entries 1 opening_car opening_outputs)) }
 {
     values.put(alloc, "SERVE", Value::Integer(0))?;
     values.put(alloc, "OPEN", Value::Boolean(false))?;
@@ -71,7 +82,7 @@ fn put_car(alloc: Global, values: &mut Values) -> Result<(), AllocError>
 
 // What every program sees of the group, the last name first.
 fn put_group(alloc: Global, values: &mut Values, config: &Config) -> Result<(), AllocError>
-    ensures { OnOk result (values.new ≡ with_group config.now values.old) }
+    ensures { OnOk result (values.new ≡ map.with_entries values.old (size_entries config.now)) }
 {
     values.put(alloc, "RUNLIMIT", Value::Integer(config.cars.value))?;
     values.put(alloc, "NOW", Value::Integer(0))?;
@@ -86,11 +97,10 @@ fn put_row(
     alloc: Global,
     values: &mut Values,
     name: &str,
-    slots: i64,
+    slots: u8,
     value: Value,
 ) -> Result<(), AllocError>
-    requires { BeginsWithC name.now }
-    ensures { OnOk result (KeepsOthers values.old values.new) }
+    ensures { OnOk result (values.new ≡ map.with_entries values.old (row_entries name.now slots value)) }
 {
     let mut slot = slots;
     while slot > 0 {

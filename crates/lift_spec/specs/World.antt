@@ -1,5 +1,5 @@
 -- The world of a group, one step for each event, and its runs (own rules).
-use Rattle.std.specs.Prelude.{◌≡◌, ◌≢◌, ℕ, zero, suc, ◌+◌, ◌≤◌, Bool, true, false, ◌&&◌, List, [], ◌∷◌, ◌++◌, All, map, length, replicate, slice_get, slice_set, Option, Some, None, IsSome, Result, Ok, Err, IsOk, ◌==◌, if◌then◌else◌}
+use Rattle.std.specs.Prelude.{◌≡◌, ◌≢◌, ℕ, zero, suc, ◌+◌, Bool, true, false, ◌&&◌, List, [], ◌∷◌, ◌++◌, All, map, length, replicate, slice_get, slice_set, Option, Some, None, Result, Ok, Err, ◌==◌, if◌then◌else◌}
 use Rattle.il_spec.specs.declared.tree.Config.{Config}
 use Rattle.il_spec.specs.declared.tree.Unit.{Unit as Organized}
 use Rattle.lift_spec.specs.declared.image.Fields.{Fields}
@@ -17,7 +17,7 @@ use Rattle.il_run.specs.State.{Values, State}
 use Rattle.il_run.specs.Step.{Trap, Outcome, Next as Goes, Trapped, Stuck, step as scan_step}
 use Rattle.il_run.specs.Scan.{opening_variables, opening_globals, restricted, has_ended}
 use Rattle.il_run.specs.Ranges.{HoldGlobals}
-use Rattle.lift_spec.specs.Image.{sizes_of, is_floor, FieldsInRange, fields_in_range, opening_image, Obeys}
+use Rattle.lift_spec.specs.Image.{sizes_of, is_floor, FieldsInRange, fields_in_range, opening_image}
 use Rattle.lift_spec.specs.Settle.{settled_car, with_outputs, AllSettled, settled_all, denials_of}
 use Rattle.lift_spec.specs.Hands.{has_call, with_call, with_calls, has_from, calls_from, calls_not_from, mask_of}
 use Rattle.lift_spec.specs.Calls.{Calls, opening_calls, SlotInRange, ticket_of, Entered, enter_all, tell, serve}
@@ -324,13 +324,3 @@ abbrev pub answered : ℕ → ℕ → List Event → List Reply → ℕ
 answered t count [] replies = count
 answered t count (e ∷ events) [] = count
 answered t count (e ∷ events) (r ∷ replies) = answered t (counted t count e r) events replies
-
--- Of every run from the opening world: no scan traps or sticks, none exceeds its budget or has not ended by then, and after it the image lies in its ranges and obeys the interlock.
-pub record RunsWell (p : Config) (budget : ℕ → ℕ) : Type 0 where
-  pub steady : (events : List Event) → IsOk (run p (opening p) [] events)
-  pub ranges : (events : List Event) (w : World) (replies : List Reply) → run p (opening p) [] events ≡ Ok (w, replies) → InRanges p w.group
-  pub obeys : (events : List Event) (w : World) (replies : List Reply) → run p (opening p) [] events ≡ Ok (w, replies) → Obeys w.group.image
-  pub within : (events : List Event) (w : World) (replies : List Reply) (t : ℕ) → run p (opening p) [] events ≡ Ok (w, replies) → IsSome (task_at w.group t) → answered t 0 events replies ≤ budget t
-  pub ends :
-      (events : List Event) (w : World) (replies : List Reply) (t : ℕ) (scan : State) → run p (opening p) [] events ≡ Ok (w, replies) → scan_at w t ≡ Some scan → answered t 0 events replies ≡ budget t →
-      has_ended scan ≡ true

@@ -1,12 +1,11 @@
 -- Which texts are accepted.
-use Rattle.std.proofs.Common.{◌≡◌, ◌≢◌, refl, sym, ap, ◌∙◌, subst, ℕ, ◌≤◌, ◌<◌, ◌⊎◌, inl, inr, ℤ, pos, negsuc, ◌≤ℤ◌, Bool, true, false, ◌&&◌, IsTrue, IsFalse, List, [], ◌∷◌, length, Some, None, Option, arith, zero, suc}
-use Rattle.std.specs.Prelude.{Contains, slice_index_or, Ok, Err, Result, int_le, IsErrAnd}
+use Rattle.std.proofs.Common.{◌≡◌, ◌≢◌, refl, sym, ap, ◌∙◌, subst, ℕ, ◌≤◌, ◌⊎◌, inl, inr, ℤ, pos, negsuc, ◌≤ℤ◌, Bool, true, false, ◌&&◌, List, [], ◌∷◌, length, Some, None, Option, arith, zero, suc}
+use Rattle.std.specs.Prelude.{Contains, Ok, Err, Result, int_le, IsErrAnd}
 use lib.Signed.{le_z_yes}
 use lib.Dec.{T}
 use Rattle.std.proofs.lemmas.Int.{ints}
 use Rattle.il_spec.specs.declared.tree.Config.{Config}
 use Rattle.il_spec.specs.declared.tree.Size.{Size}
-use Rattle.il_spec.specs.declared.tree.Subrange.{Subrange}
 use Rattle.il_spec.specs.declared.tree.Task.{Task}
 use Rattle.il_spec.specs.declared.tree.Place.{Place}
 use Rattle.il_spec.specs.declared.token.Token.{Token}
@@ -15,15 +14,16 @@ use Rattle.il_spec.specs.declared.fault.Refusal.TheVariants.{Fault, Memory}
 use Rattle.il_spec.specs.Text.{AreTokens}
 use Rattle.il_spec.specs.Grammar.{AfterLines, SpellsConfig, Spells, IsWithinLimits}
 use Rattle.il_rules.specs.Names.{car_number}
-use Rattle.il_rules.specs.Declarations.{sizes_of, is_within, IsInitialOutside, IsBadTask, size_outside, missing_task}
+use Rattle.il_rules.specs.Declarations.{sizes_of, is_within, size_outside, missing_task}
 use Rattle.il_rules.specs.Carried.{IsCarried, HasReadyProgram}
-use Rattle.il_rules.specs.Faults.{IsUnbroken, Declaring, Typing, BreaksDeclarations, initial_outside, bad_task}
-use Rattle.il_subset.specs.Subset.{NamesNotCarried, BreaksYet, broken, not_carried, IsDeclaredYet, IsNamed, IsRefusedYet}
+use Rattle.il_rules.specs.Faults.{IsUnbroken, Declaring, Typing, initial_outside, bad_task}
+use Rattle.il_subset.specs.Subset.{NamesNotCarried, broken, not_carried, IsDeclaredYet, IsRefusedYet}
 use Rattle.il_machine.specs.Boolean.{IsRunnable, IsWithin, HasSizes}
 use Rattle.il_parse.specs.Carried as parsed
 use Rattle.il_parse.specs.Refused.{HasFewInstructions, IsFault}
-use Rattle.lift_world.specs.Loading.{IsAccepted}
+use Rattle.lift_world.specs.Loading.{IsSpelled, IsAccepted}
 use Rattle.lift_world.proofs.Carrying.{carried_to, carried_from}
+use Rattle.lift_world.proofs.Tasking.{tasked}
 
 -- SIZES
 
@@ -107,32 +107,40 @@ number_of : (Y : Type 0) (e : Refusal) → IsFault {A = Y} (Err e) → (number :
 number_of Y (Fault number line) h = (number, line, refl)
 number_of Y Memory h = absurd h
 
--- a text that the parser refuses spells no configuration that is accepted
-pub none_parsed : (text : List ℕ) (tokens : List Token) → ((ts : List Token) → AreTokens text 0 ts → ts ≡ tokens)
-    → ((c : Config) → AfterLines (SpellsConfig text c) tokens [] → parsed.IsCarried c → HasFewInstructions c → ⊥) → (c : Config) → IsAccepted text c → ⊥
-none_parsed text tokens only refused c a =
+-- a text that the parser refuses spells none of the subset
+pub none_spelled : (text : List ℕ) (tokens : List Token) → ((ts : List Token) → AreTokens text 0 ts → ts ≡ tokens)
+    → ((c : Config) → AfterLines (SpellsConfig text c) tokens [] → parsed.IsCarried c → HasFewInstructions c → ⊥) → (c : Config) → IsSpelled text c → ⊥
+none_spelled text tokens only refused c a =
     refused c (subst (λ ts. AfterLines (SpellsConfig text c) ts []) (only a.spelled.0 a.spelled.1) a.spelled.2) (carried_from c a.carried) a.limits.instructions
 
 -- what the parser gives is the only such configuration
-pub same_parsed : (text : List ℕ) (tokens : List Token) (found : Config) → ((ts : List Token) → AreTokens text 0 ts → ts ≡ tokens)
-    → ((d : Config) → AfterLines (SpellsConfig text d) tokens [] → parsed.IsCarried d → HasFewInstructions d → d ≡ found) → (c : Config) → IsAccepted text c → c ≡ found
-same_parsed text tokens found only unique c a =
+pub same_spelled : (text : List ℕ) (tokens : List Token) (found : Config) → ((ts : List Token) → AreTokens text 0 ts → ts ≡ tokens)
+    → ((d : Config) → AfterLines (SpellsConfig text d) tokens [] → parsed.IsCarried d → HasFewInstructions d → d ≡ found) → (c : Config) → IsSpelled text c → c ≡ found
+same_spelled text tokens found only unique c a =
     unique c (subst (λ ts. AfterLines (SpellsConfig text c) ts []) (only a.spelled.0 a.spelled.1) a.spelled.2) (carried_from c a.carried) a.limits.instructions
 
 -- a text whose configuration is refused spells none that is accepted
-pub none_judged : (text : List ℕ) (found : Config) (e : Refusal) → ((c : Config) → IsAccepted text c → c ≡ found) → IsRefusedYet found e → IsFault {A = Config} (Err e) → (c : Config) → IsAccepted text c → ⊥
+pub none_judged : (text : List ℕ) (found : Config) (e : Refusal) → ((c : Config) → IsSpelled text c → c ≡ found) → IsRefusedYet found e → IsFault {A = Config} (Err e) → (c : Config) → IsAccepted text c → ⊥
 none_judged text found e same refused fault c a =
     let named = number_of Config e fault in
-    let declared : IsDeclaredYet found = subst IsDeclaredYet (same c a) a.declared in
-    let typed : IsUnbroken Typing found = subst (IsUnbroken Typing) (same c a) a.typed in
+    let is = same c a.spelled in
+    let declared : IsDeclaredYet found = subst IsDeclaredYet is a.declared in
+    let typed : IsUnbroken Typing found = subst (IsUnbroken Typing) is a.typed in
     names_broken found named.0 named.1 (subst (IsRefusedYet found) named.2 refused) declared typed
+
+-- the fault that is handed on is the one that was named
+pub named_judged : {X : Type 0} (found : Config) (e : Refusal) (r : Result X Refusal) (c : Config) → c ≡ found → IsRefusedYet found e → IsErrAnd r (λ d. d ≡ e) → IsErrAnd r (IsRefusedYet c)
+named_judged {X} found e (Ok x) c is refused same = absurd same
+named_judged {X} found e (Err d) c is refused same = subst (λ f. IsRefusedYet f d) (sym is) (subst (IsRefusedYet found) (sym same) refused)
 
 -- what was parsed and judged is accepted
 pub accepted_is : (text : List ℕ) (c : Config) → length text ≤ 262144 → Spells text c → (length text ≤ 262144 → IsWithinLimits text c) → parsed.IsCarried c → IsUnbroken Declaring c → IsUnbroken Typing c
     → ((place : Place) → ¬ NamesNotCarried c place) → IsAccepted text c
 accepted_is text c short spelled limits carried declared typed none =
-    record { spelled = spelled; limits = limits short; carried = carried_to c carried; declared = declared_yet c declared none; typed = typed }
+    record { spelled = record { spelled = spelled; limits = limits short; carried = carried_to c carried }; declared = declared_yet c declared none; typed = typed }
 
 -- and runs
 pub runnable_is : (c : Config) → parsed.IsCarried c → IsUnbroken Declaring c → HasReadyProgram c → IsRunnable c
-runnable_is c carried declared ready = record { carried = carried_to c carried; ready = ready; sizes = has_sizes c (carried_to c carried) declared }
+runnable_is c carried declared ready =
+    let sizes = has_sizes c (carried_to c carried) declared in
+    record { carried = carried_to c carried; ready = ready; tasked = tasked c ready.0 (carried_to c carried) sizes.cars declared ready.1.alone; sizes = sizes }

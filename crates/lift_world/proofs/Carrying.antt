@@ -1,11 +1,9 @@
 -- The configurations that the parser carries are those of the rules.
-use Rattle.std.proofs.Common.{◌≡◌, refl, ap, ◌∙◌, Bool, true, false, List, [], ◌∷◌, Some, None, Option}
+use Rattle.std.proofs.Common.{◌≡◌, refl, ap, ◌∙◌, true, false, List, [], ◌∷◌, Option}
 use Rattle.std.specs.List.{AllByRecursion}
 use Rattle.il_spec.specs.declared.tree.Config.{Config}
-use Rattle.il_spec.specs.declared.tree.Unit.{Unit as ProgramUnit}
 use Rattle.il_spec.specs.declared.tree.Declaration.{Declaration}
 use Rattle.il_spec.specs.declared.tree.Step.{Step}
-use Rattle.il_spec.specs.declared.tree.Scalar.{Scalar}
 use Rattle.il_spec.specs.declared.tree.Subrange.{Subrange}
 use Rattle.il_spec.specs.declared.tree.Elementary.{Elementary}
 use Rattle.il_spec.specs.declared.tree.Elementary.TheVariants.{Bool as BoolType}

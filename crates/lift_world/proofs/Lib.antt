@@ -3,3 +3,7 @@ pub mod Settling
 pub mod Carrying
 pub mod Accepting
 pub mod Runs
+pub mod Tasking
+pub mod Seeing
+pub mod Modelling
+pub mod Going

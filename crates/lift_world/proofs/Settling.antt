@@ -1,8 +1,8 @@
 -- How one car whose motor is still settles.
-use Rattle.std.proofs.Common.{◌≡◌, Bool, true, false, ◌&&◌, not, refl, sym, ap, ◌∙◌, List, [], ◌∷◌, subst}
-use Rattle.std.specs.Prelude.{slice_index_or, slice_set, is_some, codes, length, pos, nat_abs}
+use Rattle.std.proofs.Common.{◌≡◌, ℕ, zero, suc, Some, arith, Bool, true, false, ◌&&◌, refl, sym, ap, ◌∙◌, List, [], ◌∷◌, subst}
+use Rattle.std.specs.Prelude.{slice_get, slice_index_or, slice_set, is_some, codes, length, pos, nat_abs}
 use Rattle.il_spec.specs.declared.tree.Config.{Config}
-use Rattle.lift_spec.specs.Image.{sizes_of, fields_in_range}
+use Rattle.lift_spec.specs.Image.{sizes_of, FieldsInRange, fields_in_range, Obeys, CarObeys, runs, running_cars}
 use Rattle.lift_spec.proofs.Laws.{fields_in_range_means}
 use Rattle.il_machine.specs.ByText.{HaveSamePaths}
 use Rattle.il_run.specs.declared.value.Value.TheVariants.{Boolean}
@@ -15,11 +15,12 @@ use Rattle.lift_spec.specs.declared.image.CarOutputs.{CarOutputs}
 use Rattle.lift_spec.specs.declared.image.Fields.{Fields}
 use Rattle.lift_spec.specs.declared.image.Image.{Image}
 use Rattle.lift_spec.specs.declared.image.Motor.{Motor}
-use Rattle.lift_spec.specs.declared.image.Motor.TheVariants.{Still}
-use Rattle.lift_spec.specs.declared.report.Report.{Report}
-use Rattle.lift_spec.specs.Settle.{Settled, settled_car, settled_all, denials_of}
-use Rattle.lift_world.specs.Running.{Running, IsOneCar, IsWorldOf, outputs_at, report_of, commit_report, committed, asks_open, after_commit, refreshed, refresh_report}
+use Rattle.lift_spec.specs.declared.image.Motor.TheVariants.{Still, Up, Down}
+use Rattle.lift_spec.specs.Settle.{settled_car, settled_all}
+use Rattle.lift_world.specs.Running.{Running, IsOneCar, IsWorldOf, outputs_at, report_of, commit_report, committed, asks_open, after_commit, refreshed, refresh_report, with_fields}
+use Rattle.il_machine.specs.Opening.{shown_of}
 use Rattle.lift_world.proofs.Showing.{truth_keeps}
+use Rattle.lift_world.proofs.Seeing.{commit_shows, refresh_shows}
 
 commits_as : (w : Running) (car : CarFields) (asked level : Bool) → w.image.fields.cars ≡ car ∷ [] → asked ≡ asks_open w → car.level ≡ level → report_of asked level ≡ commit_report w
 unfolding settled_car report_of outputs_at commit_report committed
@@ -89,18 +90,26 @@ one_car fields told car asked level cars is level_is =
     record { fields = car; cars = cars; outputs = record { motor = Still; opens = asked && level }; told = is; still = refl; opens = λ h. sym level_is ∙ open_at_level asked level h }
 
 -- a commit leaves a world
-pub commit_keeps : (w : Running) (inv : IsWorldOf w) (asked level : Bool) (told : List CarOutputs) (variables shown : Values) → told ≡ outputs_at asked level ∷ [] → level ≡ inv.image.fields.level → variables ≡ w.scan.variables
-    → (b : Bool) → shown ≡ insert w.shown (codes "OPEN") (Boolean b) → IsWorldOf (record { program = w.program; image = record { fields = w.image.fields; outputs = told }; variables = variables; shown = shown; scan = w.scan; busy = false })
-commit_keeps w inv asked level told variables shown told_is level_is copied b is_shown =
+pub commit_keeps : (w : Running) (inv : IsWorldOf w) (asked level : Bool) (told : List CarOutputs) (o : CarOutputs) (variables shown : Values) → told ≡ o ∷ [] → o ≡ outputs_at asked level → level ≡ inv.image.fields.level → variables ≡ w.scan.variables
+    → shown ≡ insert w.shown (codes "OPEN") (Boolean o.opens) → IsWorldOf (record { program = w.program; image = record { fields = w.image.fields; outputs = told }; variables = variables; shown = shown; scan = w.scan; busy = false })
+unfolding outputs_at
+commit_keeps w inv asked level told o variables shown told_is is level_is copied is_shown =
+    let still : o.motor ≡ Still = ap (λ (x : CarOutputs). x.motor) is in
     record {
       runnable = inv.runnable;
-      image = one_car w.image.fields told inv.image.fields asked level inv.image.cars told_is level_is;
+      image = one_car w.image.fields told inv.image.fields asked level inv.image.cars (told_is ∙ ap (λ x. x ∷ []) is) level_is;
+      ranges = inv.ranges;
       own = subst (OwnsBooleans w.program.config) (sym copied) inv.scan_own;
       scan_own = inv.scan_own;
-      shown = rw is_shown (truth_keeps w.shown (codes "OPEN") b inv.shown);
+      shown = rw is_shown (truth_keeps w.shown (codes "OPEN") o.opens inv.shown);
       variables_there = rw copied (λ q. refl);
-      shown_there = rw is_shown (λ q. inv.shown_there q ∙ keeps_paths w.shown (codes "OPEN") (Boolean b) (ap is_some inv.shown.opens.1) q);
+      shown_there = rw is_shown (λ q. inv.shown_there q ∙ keeps_paths w.shown (codes "OPEN") (Boolean o.opens) (ap is_some inv.shown.opens.1) q);
       scan = inv.scan;
+      sees =
+          is_shown ∙ commit_shows w.program.config w.image inv.image.fields inv.image.outputs o w.shown inv.image.cars inv.image.told inv.image.still still inv.sees
+          ∙ ap (λ l. shown_of w.program.config (record { fields = w.image.fields; outputs = l })) (sym told_is);
+      motor = inv.motor;
+      serve = inv.serve;
     }
 
 -- what a commit leaves
@@ -119,19 +128,34 @@ one_of c fields one h = only fields.cars ((fields_in_range_means (sizes_of c) fi
     only (car ∷ other ∷ cars) n = cc
 
 -- a refresh leaves a world
-pub refresh_keeps : (w : Running) (inv : IsWorldOf w) (fields : Fields) (car : CarFields) (asked level : Bool) (told : List CarOutputs) (shown : Values) → fields.cars ≡ car ∷ [] → told ≡ outputs_at asked level ∷ [] → level ≡ car.level
-    → HasImage shown → HaveSamePaths w.shown shown → IsWorldOf (record { program = w.program; image = record { fields = fields; outputs = told }; variables = w.variables; shown = shown; scan = w.scan; busy = w.busy })
-refresh_keeps w inv fields car asked level told shown cars told_is level_is has paths =
+pub refresh_keeps : (w : Running) (inv : IsWorldOf w) (fields : Fields) (car : CarFields) (asked level : Bool) (told : List CarOutputs) (o : CarOutputs) (shown : Values) → fields.cars ≡ car ∷ [] → told ≡ o ∷ [] → o ≡ outputs_at asked level → level ≡ car.level
+    → FieldsInRange (sizes_of w.program.config) fields → HasImage shown → HaveSamePaths w.shown shown → shown ≡ with_fields fields.time fields.run_limit car o.opens w.shown
+    → IsWorldOf (record { program = w.program; image = record { fields = fields; outputs = told }; variables = w.variables; shown = shown; scan = w.scan; busy = w.busy })
+unfolding outputs_at
+refresh_keeps w inv fields car asked level told o shown cars told_is is level_is ranges has paths shows =
+    let still : o.motor ≡ Still = ap (λ (x : CarOutputs). x.motor) is in
     record {
       runnable = inv.runnable;
-      image = one_car fields told car asked level cars told_is level_is;
+      image = one_car fields told car asked level cars (told_is ∙ ap (λ x. x ∷ []) is) level_is;
+      ranges = ranges;
       own = inv.own;
       scan_own = inv.scan_own;
       shown = has;
       variables_there = inv.variables_there;
       shown_there = λ q. inv.shown_there q ∙ paths q;
       scan = inv.scan;
+      sees =
+          shows ∙ refresh_shows w.program.config w.image fields inv.image.fields car inv.image.outputs o w.shown inv.image.cars inv.image.told inv.image.still still cars inv.sees
+          ∙ ap (λ l. shown_of w.program.config (record { fields = fields; outputs = l })) (sym told_is);
+      motor = inv.motor;
+      serve = inv.serve;
     }
+
+-- the fields that are taken lie in their ranges
+pub taken_in_range : (c : Config) (fields : Fields) (cars : List CarFields) (car : CarFields) → fields_in_range (sizes_of c) fields ≡ true → fields.cars ≡ car ∷ [] → cars ≡ car ∷ []
+    → FieldsInRange (sizes_of c) (record { time = fields.time; run_limit = fields.run_limit; cars = cars })
+taken_in_range c fields cars car h are is =
+    subst (λ l. FieldsInRange (sizes_of c) (record { time = fields.time; run_limit = fields.run_limit; cars = l })) (are ∙ sym is) (fields_in_range_means (sizes_of c) fields h)
 
 -- the first of one car's fields
 pub car_of : (cars : List CarFields) (car none : CarFields) → cars ≡ car ∷ [] → slice_index_or cars 0 none ≡ car
@@ -148,3 +172,32 @@ taken_is i one fields car opens level told cars is_told is_cars is_opens are lev
     ap (λ t. record { fields = record { time = fields.time; run_limit = fields.run_limit; cars = cars }; outputs = t }) is_told
     ∙ ap (λ l. record { fields = record { time = fields.time; run_limit = fields.run_limit; cars = l }; outputs = outputs_at opens level ∷ [] }) (is_cars ∙ sym are)
     ∙ refreshed_is i one fields car opens level is_opens are level_is
+
+-- one car whose motor is still, and which opens its door only at a level, obeys the interlock
+pub one_obeys : (i : Image) → IsOneCar i → Obeys i
+one_obeys i one =
+    record {
+      cars = ap length one.told ∙ sym (ap length one.cars);
+      each = λ car f o fields told. first car f o (subst (λ l. slice_get l car ≡ Some f) one.cars fields) (subst (λ l. slice_get l car ≡ Some o) one.told told);
+      limit = let none = ap running_cars one.told ∙ ap (λ (m : Motor). running_cars (record { motor = m; opens = one.outputs.opens } ∷ [])) one.still in let n = ap length none in omega (arith, n);
+    }
+  where
+    obeys : CarObeys one.fields one.outputs
+    obeys =
+        record {
+          running = λ r. let bad : true ≡ false = sym r ∙ ap runs one.still in cc;
+          up = λ e. let bad : Up ≡ Still = sym e ∙ one.still in cc;
+          down = λ e. let bad : Down ≡ Still = sym e ∙ one.still in cc;
+          opening = λ h. (one.opens h, one.still);
+        }
+
+    first : (car : ℕ) (f : CarFields) (o : CarOutputs) → slice_get (one.fields ∷ []) car ≡ Some f → slice_get (one.outputs ∷ []) car ≡ Some o → CarObeys f o
+    first zero f o fields told =
+        let same_fields : one.fields ≡ f = cc in let same_outputs : one.outputs ≡ o = cc in
+        subst (λ g. CarObeys g o) same_fields (subst (CarObeys one.fields) same_outputs obeys)
+    first (suc k) f o fields told = cc
+
+-- such outputs leave the motor still
+pub outputs_still : (asked level : Bool) → (outputs_at asked level).motor ≡ Still
+unfolding outputs_at
+outputs_still asked level = refl

@@ -1,5 +1,5 @@
 -- What a car's program is shown keeps the names of the image.
-use Rattle.std.proofs.Common.{◌≡◌, Bool, true, false, refl, sym, ap, ◌∙◌, cond, Some, None, Option, ℕ, ℤ, pos}
+use Rattle.std.proofs.Common.{◌≡◌, Bool, true, false, refl, ap, ◌∙◌, cond, Some, Option, ℤ}
 use Rattle.std.specs.Prelude.{is_some, IsSome, codes}
 use Rattle.std.specs.Ordering.{eq_by_cmp}
 use Rattle.il_run.specs.declared.value.Value.{Value}
@@ -9,8 +9,6 @@ use Rattle.il_run.specs.State.{Values}
 use Rattle.il_machine.specs.ByText.{HaveSamePaths}
 use Rattle.il_machine.specs.Boolean.{HasBoolean, HasImage}
 use Rattle.il_machine.proofs.Over.{keeps_paths}
-use Rattle.lift_spec.specs.declared.image.CarFields.{CarFields}
-use Rattle.lift_world.specs.Running.{with_fields}
 
 some_or : (b : Bool) (v : Value) (o : Option Value) → is_some o ≡ true → is_some (cond b (Some v) o) ≡ true
 some_or true v o h = refl

@@ -8,11 +8,15 @@ use Rattle.il_spec.specs.declared.tree.Unit.{Unit as ProgramUnit}
 use Rattle.il_machine.specs.declared.verified.UnitCost.{UnitCost}
 use Rattle.il_subset.specs.Subset.{IsDeclaredYet}
 
--- The text spells the configuration within the limits, it is of the subset that is carried so far, and none of its rules is broken.
-pub record IsAccepted (text : List ℕ) (c : Config) : Type 0 where
+-- The text spells the configuration within the limits, and it is of the subset that is carried so far.
+pub record IsSpelled (text : List ℕ) (c : Config) : Type 0 where
   pub spelled : Spells text c
   pub limits : IsWithinLimits text c
   pub carried : IsCarried c
+
+-- And none of its rules is broken.
+pub record IsAccepted (text : List ℕ) (c : Config) : Type 0 where
+  pub spelled : IsSpelled text c
   pub declared : IsDeclaredYet c
   pub typed : IsUnbroken Typing c
 

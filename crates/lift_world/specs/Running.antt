@@ -1,9 +1,9 @@
 -- What a world of one car keeps (own rules).
-use Rattle.std.specs.Prelude.{◌≡◌, ◌≢◌, ℕ, Bool, true, false, ◌&&◌, not, List, [], ◌∷◌, ◌++◌, length, pos, codes, refl, if◌then◌else◌, Some, None}
+use Rattle.std.specs.Prelude.{◌≡◌, ◌≢◌, ℕ, Bool, true, false, ◌&&◌, not, List, [], ◌∷◌, map, pos, codes, refl, if◌then◌else◌, Option, Some, None}
 use Rattle.std.specs.Coded.{Coded, code_by, coded×, coded_bool}
 use Rattle.il_spec.specs.declared.tree.Config.{Config}
 use Rattle.il_run.specs.declared.value.Value.TheVariants.{Boolean, Integer}
-use Rattle.il_run.specs.NameMap.{Text, insert, get}
+use Rattle.il_run.specs.NameMap.{insert, get}
 use Rattle.il_run.specs.State.{Values, values_code}
 use Rattle.il_machine.specs.ByText.{HaveSamePaths}
 use Rattle.il_machine.specs.Boolean.{Program, program_code, Kept, kept_code, IsRunnable, IsScanOf, HasImage, OwnsBooleans, over, state_of}
@@ -14,9 +14,15 @@ use Rattle.lift_spec.specs.declared.image.CarOutputs.{CarOutputs}
 use Rattle.lift_spec.specs.declared.image.Motor.TheVariants.{Still}
 use Rattle.lift_spec.specs.declared.image.Fields.{Fields}
 use Rattle.lift_spec.specs.Settle.{Settled, settled_car, settled_all, denials_of}
-use Rattle.lift_spec.specs.Snapshot.{truth_of}
-use Rattle.lift_spec.specs.Image.{sizes_of, fields_in_range}
+use Rattle.lift_spec.specs.Snapshot.{truth_of, whole_of}
+use Rattle.lift_spec.specs.Image.{sizes_of, FieldsInRange, fields_in_range}
 use Rattle.il_run.specs.Step.{step, Next}
+use Rattle.il_run.specs.Scan.{opening_globals}
+use Rattle.lift_spec.specs.declared.event.Event.{Event as Happening}
+use Rattle.lift_spec.specs.declared.event.Event.TheVariants.{Start as Starts, Instruction as Instructs, Commit as Commits, Refresh as Refreshes}
+use Rattle.lift_spec.specs.Calls.{opening_calls, ticket_of}
+use Rattle.lift_spec.specs.World.{World}
+use Rattle.il_machine.specs.Opening.{shown_of}
 use Rattle.lift_world.specs.declared.event.Event.{Event}
 use Rattle.lift_world.specs.declared.event.Event.TheVariants.{Start, Instruction, Commit, Refresh}
 use Rattle.lift_spec.specs.declared.event.Reply.{Reply}
@@ -72,12 +78,47 @@ pub record IsOneCar (i : Image) : Type 0 where
 pub record IsWorldOf (w : Running) : Type 0 where
   pub runnable : IsRunnable w.program.config
   pub image : IsOneCar w.image
+  pub ranges : FieldsInRange (sizes_of w.program.config) w.image.fields
   pub own : OwnsBooleans w.program.config w.variables
   pub scan_own : OwnsBooleans w.program.config w.scan.variables
   pub shown : HasImage w.shown
   pub variables_there : HaveSamePaths w.scan.variables w.variables
   pub shown_there : HaveSamePaths w.scan.written w.shown
   pub scan : IsScanOf w.program.config w.scan
+  -- what scans are shown is the image, under its names
+  pub sees : w.shown ≡ shown_of w.program.config w.image
+  -- no scan wishes a motor or a serve
+  pub motor : whole_of (get (over w.scan.written w.scan.variables) (codes "MOTOR")) ≡ pos 0
+  pub serve : whole_of (get (over w.scan.written w.scan.variables) (codes "SERVE")) ≡ pos 0
+
+-- THE WORLD OF THE DEFINITIONS
+
+-- the tickets that an open scan of such a group saw: no call waits
+abbrev pub tickets_of : Config → Bool → Option (List (Option ℕ))
+tickets_of c busy = if busy then Some (map ticket_of (opening_calls (sizes_of c)).slots) else None
+
+-- the world of a configuration with one car, from its image, the car's variables, and where its scan stands, if one is open: GROUP has no program, and no call waits
+unfoldable pub world_by : Config → Image → Values → Kept → Bool → World
+world_by c i variables scan busy =
+    record {
+      group = record { image = i; calls = opening_calls (sizes_of c); globals = opening_globals c; tasks = None ∷ Some (record { variables = variables; tickets = tickets_of c busy }) ∷ [] };
+      scans = None ∷ (if busy then Some (state_of scan) else None) ∷ [];
+      desk = [];
+      hand = [];
+    }
+
+-- the world of the definitions that such a world is
+abbrev pub world_of : Running → World
+world_of w = world_by w.program.config w.image w.variables w.scan w.busy
+
+-- an event as one of the definitions
+abbrev pub event_of : Event → Happening
+event_of (Start task) = Starts task
+event_of (Instruction task) = Instructs task
+event_of (Commit task) = Commits task
+event_of (Refresh fields) = Refreshes fields
+
+-- WHAT EACH EVENT DOES
 
 -- the reply to an event that did not happen
 abbrev pub IsRefusal : Reply → Type 0
@@ -151,21 +192,3 @@ pub record IsRefresh (before after : Running) (reply : Reply) (fields : Fields) 
   pub refreshes : fields_in_range (sizes_of before.program.config) fields ≡ true → (reply ≡ Refreshed (refresh_report before.image fields)) × (after.image ≡ refreshed before.image fields)
   pub scan : (after.scan ≡ before.scan) × (after.busy ≡ before.busy)
   pub variables : after.variables ≡ before.variables
-
--- what an event does, by its kind (own rules)
-abbrev pub Happens : Event → Running → Running → Reply → Type 0
-Happens (Start task) before after reply = IsStart before after reply task
-Happens (Instruction task) before after reply = IsInstruction before after reply task
-Happens (Commit task) before after reply = IsCommit before after reply task
-Happens (Refresh fields) before after reply = IsRefresh before after reply fields
-
--- one event: what its kind does; the program stays, and an event that is refused changes nothing
-pub record IsEvent (event : Event) (before after : Running) (reply : Reply) : Type 0 where
-  pub happens : Happens event before after reply
-  pub same : after.program ≡ before.program
-  pub refused : RefusesUnchanged before after reply
-
--- a run over a list of events: one after the other, each with its reply behind the replies so far
-abbrev pub IsRun : List Event → Running → List Reply → Running → List Reply → Type 0
-IsRun [] before so_far after all = (after ≡ before) × (all ≡ so_far)
-IsRun (e ∷ es) before so_far after all = (next : Running) × (reply : Reply) × IsEvent e before next reply × IsRun es next (so_far ++ reply ∷ []) after all

@@ -1,12 +1,14 @@
 // From a text to a verified configuration.
 
-ghost use Rattle.std.specs.Prelude.{◌≡◌, ◌≤◌, IfOk, length, map, All};
+ghost use Rattle.std.specs.Prelude.{◌≡◌, ◌≤◌, IfOk, IsErrAnd, length, map, All};
 ghost use Rattle.il_spec.specs.Grammar.{Spells, IsWithinLimits};
 ghost use Rattle.il_spec.specs.declared.tree.Config.{Config};
 ghost use Rattle.il_parse.specs.Refused.{IsFault};
 ghost use Rattle.il_rules.specs.Carried.{IsCarried};
 ghost use Rattle.il_rules.specs.Faults.{IsUnbroken, Declaring, Typing};
-ghost use Rattle.lift_world.specs.Loading.{IsAccepted, cost_of};
+ghost use Rattle.il_subset.specs.Subset.{IsRefusedYet};
+ghost use Rattle.lift_world.specs.Loading.{IsSpelled, IsAccepted, cost_of};
+ghost use Rattle.lift_world.specs.Runs.{RunsWell, budget_of};
 
 use il_machine::{UnitCost, Verified};
 use il_parse::parse;
@@ -25,7 +27,9 @@ use std::alloc::{AllocError, Global};
 pub fn load(alloc: Global, text: &[u8]) -> Result<Verified, Refusal>
     ensures found { IfOk result (λ v. IsAccepted text.now v.config) }
     ensures costs { IfOk result (λ v. v.costs ≡ map cost_of v.config.units) }
+    ensures runs { IfOk result (λ v. RunsWell v.config (budget_of v)) }
     ensures refused { IsFault result → (c : Config) → IsAccepted text.now c → ⊥ }
+    ensures named { IsFault result → (c : Config) → IsSpelled text.now c → IsErrAnd result (IsRefusedYet c) }
 {
     let tokens = tokens(alloc, text)?;
     let config = parse(alloc, text, &tokens)?;

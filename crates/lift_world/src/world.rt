@@ -1,10 +1,11 @@
 // The world.
 
-ghost use Rattle.std.specs.Prelude.{◌≡◌, ◌≢◌, ℕ, ◌+◌, ◌≤◌, length, IfOk, true, false, None, ◌∷◌, []};
-ghost use Rattle.lift_spec.specs.Image.{sizes_of, fields_in_range};
+ghost use Rattle.std.specs.Prelude.{◌≡◌, ◌≢◌, ℕ, ◌+◌, ◌≤◌, length, map, IfOk, Ok, true, false, None};
+ghost use Rattle.lift_spec.specs.Image.{sizes_of, FieldsInRange, fields_in_range, Obeys};
 ghost use Rattle.il_run.specs.NameMap as values;
 ghost use Rattle.lift_spec.specs.Snapshot.{truth_of};
-ghost use Rattle.lift_world.specs.Running.{outputs_at, report_of, commit_report, after_commit, refresh_report, refreshed, RefusesUnchanged, IsStart, IsInstruction, IsCommit, IsRefresh, IsEvent, IsRun};
+ghost use Rattle.lift_spec.specs.World as model;
+ghost use Rattle.lift_world.specs.Running.{outputs_at, report_of, commit_report, after_commit, refresh_report, refreshed, RefusesUnchanged, IsWorldOf, IsStart, IsInstruction, IsCommit, IsRefresh, world_of, event_of};
 
 use crate::event::Event;
 use crate::replies::Replies;
@@ -99,7 +100,7 @@ impl World {
     /// The opening world of a configuration.
     pub fn new(alloc: Global, verified: Verified) -> Result<World, Refusal>
         ensures same { IfOk result (λ w. w.program ≡ verified) }
-        ensures idle { IfOk result (λ w. w.busy ≡ false) }
+        ensures opening { IfOk result (λ w. world_of w ≡ model.opening verified.config) }
     {
         let store = Store::new(alloc, &verified, CAR)?;
         let begin = Begin {
@@ -131,6 +132,7 @@ impl World {
     }
 
     fn start(&mut self, task: u8) -> Reply
+        ensures world { task ≡ 1 → IsWorldOf self.old }
         ensures start { IsStart self.old self.new result task }
         ensures same { self.new.program ≡ self.old.program }
         ensures refused { RefusesUnchanged self.old self.new result }
@@ -147,6 +149,7 @@ impl World {
     }
 
     fn instruction(&mut self, task: u8) -> Reply
+        ensures world { task ≡ 1 → IsWorldOf self.old }
         ensures instruction { IsInstruction self.old self.new result task }
         ensures same { self.new.program ≡ self.old.program }
         ensures refused { RefusesUnchanged self.old self.new result }
@@ -168,6 +171,7 @@ impl World {
 
     #[tactic(auto, unfolding(crate::specs::Running::after_commit))]
     fn commit(&mut self, task: u8) -> Reply
+        ensures world { task ≡ 1 → IsWorldOf self.old }
         ensures commit { IsCommit self.old self.new result task }
         ensures same { self.new.program ≡ self.old.program }
         ensures refused { RefusesUnchanged self.old self.new result }
@@ -203,6 +207,7 @@ impl World {
     }
 
     fn refresh(&mut self, fields: &Fields) -> Reply
+        ensures world { IsWorldOf self.old }
         ensures refresh { IsRefresh self.old self.new result fields.now }
         ensures same { self.new.program ≡ self.old.program }
         ensures refused { RefusesUnchanged self.old self.new result }
@@ -240,7 +245,8 @@ impl World {
 
     // One event, which the caller keeps.
     fn happen(&mut self, event: &Event) -> Reply
-        ensures { IsEvent event.now self.old self.new result }
+        ensures model { model.happens self.old.program.config (world_of self.old) (event_of event.now) ≡ Ok (world_of self.new, result) }
+        ensures same { self.new.program ≡ self.old.program }
     {
         match event {
             Event::Start(task) => self.start(*task),
@@ -252,7 +258,8 @@ impl World {
 
     /// One event. An event that is refused changes nothing.
     pub fn apply(&mut self, event: Event) -> Reply
-        ensures { IsEvent event self.old self.new result }
+        ensures model { model.happens self.old.program.config (world_of self.old) (event_of event) ≡ Ok (world_of self.new, result) }
+        ensures same { self.new.program ≡ self.old.program }
     {
         self.happen(&event)
     }
@@ -260,7 +267,8 @@ impl World {
     /// A run over a list of events, with a reply for each.
     pub fn run(&mut self, events: &[Event], replies: &mut Replies)
         requires room { length replies.old.items + length events.now ≤ replies.old.room }
-        ensures run { IsRun events.now self.old replies.old.items self.new replies.new.items }
+        ensures model { model.run self.old.program.config (world_of self.old) replies.old.items (map event_of events.now) ≡ Ok (world_of self.new, replies.new.items) }
+        ensures same { self.new.program ≡ self.old.program }
     {
         'events: for event in events {
             let reply = self.happen(event);
@@ -268,9 +276,11 @@ impl World {
         }
     }
 
-    /// The image.
+    /// The image. It lies in its ranges and obeys the interlock.
     pub fn image(&self) -> &Image
-        ensures { result.now ≡ self.now.image }
+        ensures image { result.now ≡ self.now.image }
+        ensures ranges { FieldsInRange (sizes_of self.now.program.config) self.now.image.fields }
+        ensures obeys { Obeys self.now.image }
     {
         &self.image
     }
@@ -284,7 +294,8 @@ impl World {
 
     /// How many cars, floors and slots the group has.
     pub fn sizes(&self) -> Sizes
-        ensures { result ≡ sizes_of self.now.program.config }
+        ensures sizes { result ≡ sizes_of self.now.program.config }
+        ensures world { IsWorldOf self.now }
     {
         let config = self.verified.config();
         Sizes {

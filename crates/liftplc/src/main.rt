@@ -21,8 +21,22 @@ use std::process::ExitCode;
 use std::{env, io};
 
 /// The words of the command line, without the program's name.
-fn words(rt: &HostRuntime) -> io::Result<Vec<String>> {
-    Ok(env::args(rt)?.skip(1).collect(rt.alloc())?)
+fn words(rt: &HostRuntime) -> Result<Vec<String>, Fault> {
+    match env::args(rt) {
+        Ok(words) => Ok(words.skip(1).collect(rt.alloc())?),
+        Err(error) => Err(unread(rt, error.kind())),
+    }
+}
+
+/// Why words can't be read: a growth was refused, or one of them is no text.
+fn unread(rt: &HostRuntime, kind: io::ErrorKind) -> Fault {
+    match kind {
+        io::ErrorKind::OutOfMemory => Fault::NoMemory,
+        _ => match String::from_str(rt.alloc(), "error: a word is not UTF-8\n") {
+            Ok(text) => Fault::Misuse(text),
+            Err(_) => Fault::NoMemory,
+        },
+    }
 }
 
 fn main(rt: HostRuntime) -> ExitCode {
@@ -30,7 +44,7 @@ fn main(rt: HostRuntime) -> ExitCode {
     let mut err = Stream::new(rt.stderr());
     let status = match words(&rt) {
         Ok(words) => run(rt.alloc(), &words, &Disk(&rt), &mut out, &mut err),
-        Err(_) => show(Err(Fault::NoMemory), &mut out, &mut err),
+        Err(fault) => show(Err(fault), &mut out, &mut err),
     };
     ExitCode::from(status.code())
 }

@@ -1,7 +1,7 @@
-use Rattle.std.proofs.Common.{◌≡◌, sym, ap, ◌∙◌, refl}
 use Rattle.il_machine.specs.Boolean.{seen}
 use Rattle.il_machine.proofs.Steps.{scan_does, effect_there, store_goes, store_ends, step_read, step_past, in_scan, next_state}
 use Rattle.il_machine.proofs.Starts.{own_after, own_of}
+use Rattle.il_machine.proofs.Numbers.{effect_keeps_numbers}
 use Rattle.il_machine.proofs.store.step.Goals as goal
 
 pub exec-result-requires : goal.exec-result-requires
@@ -39,3 +39,6 @@ returns-else-at-steps-clause-step c =
     let none = step_past c.program-unit.result.now _ c.in-Some.at c.as_slice-steps.ensures c.if-at-steps.false in
     let state = in_scan c.args.verified.now.config c.program-unit.result.now _ _ c.program-unit.ensures.ready c.store.view_is c.requires.scan in
     rw (← c.store.view_is) (store_ends c.args.verified.now.config c.program-unit.result.now _ c.in-Some.at c.program-unit.ensures.ready state c.in-Some.is none)
+
+pub returns-then-at-steps-clause-numbers : goal.returns-then-at-steps-clause-numbers
+returns-then-at-steps-clause-numbers c = rw (← c.store.view_is) (effect_keeps_numbers c.index-steps-at.result.instruction _ _ _ _ (rw (← c.index-steps-at.is) at c.exec-result.ensures.effect))

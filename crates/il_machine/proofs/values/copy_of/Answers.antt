@@ -1,5 +1,4 @@
-use Rattle.std.proofs.Common.{◌≡◌, sym, ap, ◌∙◌}
-use Rattle.il_run.specs.NameMap as map
+use Rattle.std.proofs.Common.{sym, ap, ◌∙◌}
 use Rattle.il_machine.proofs.Copies.{put_all, put_all-new}
 use Rattle.il_machine.proofs.values.copy_of.Goals as goal
 

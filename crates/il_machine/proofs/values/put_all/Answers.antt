@@ -1,10 +1,5 @@
-use Rattle.std.proofs.Common.{◌≡◌, ◌∷◌, [], sym, ap, ◌∙◌, true, map, String}
-use Rattle.std.specs.Prelude.{is_some}
-use Rattle.std.specs.String.{string_bytes}
-use Rattle.il_run.specs.NameMap.{get, insert, Text}
-use Rattle.il_run.specs.State.{Values}
-use Rattle.il_machine.specs.ByText.{by_text, HaveSamePaths}
-use Rattle.il_machine.proofs.Copies.{put_all, AreIn, are_in-by_text, put_all-same, same_paths-insert, front_in, is_there}
+use Rattle.std.proofs.Common.{sym, ap, ◌∙◌}
+use Rattle.il_machine.proofs.Copies.{put_all, are_in-by_text, put_all-same, same_paths-insert, front_in, is_there}
 use Rattle.il_machine.proofs.values.put_all.Goals as goal
 
 pub loop-path-init : goal.loop-path-init

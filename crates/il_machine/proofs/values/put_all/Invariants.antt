@@ -1,4 +1,4 @@
-use Rattle.std.proofs.Common.{◌≡◌, ℕ, List}
+use Rattle.std.proofs.Common.{◌≡◌}
 use Rattle.il_machine.specs.ByText.{HaveSamePaths, by_text}
 use Rattle.il_machine.proofs.Copies.{put_all, AreIn}
 use Rattle.il_machine.proofs.values.put_all.Given as goal

@@ -1,4 +1,4 @@
-use Rattle.std.proofs.Common.{◌≡◌, ap}
+use Rattle.std.proofs.Common.{ap}
 use Rattle.std.specs.Prelude.{is_some}
 use Rattle.lift_world.proofs.Showing.{begin_shows, time_shows, limit_shows, position_shows, truth_shows}
 use Rattle.lift_world.proofs.shown.show.Goals as goal

@@ -1,4 +1,4 @@
-use Rattle.std.proofs.Common.{◌≡◌, sym, ap, ◌∙◌}
+use Rattle.std.proofs.Common.{sym, ap, ◌∙◌}
 use Rattle.il_rules.specs.Names.{or_else}
 use Rattle.il_run.specs.NameMap as map
 use Rattle.il_machine.specs.Boolean.{seen}

@@ -1,4 +1,4 @@
-use Rattle.std.proofs.Common.{◌≡◌, sym, ap, ◌∙◌, refl}
+use Rattle.std.proofs.Common.{ap, ◌∙◌}
 use Rattle.il_machine.proofs.Starts.{starts}
 use Rattle.il_machine.proofs.store.Store.restart.Goals as goal
 

@@ -1,4 +1,4 @@
-use Rattle.std.proofs.Common.{◌≡◌, sym, ap, ◌∙◌}
+use Rattle.std.proofs.Common.{sym, ap, ◌∙◌}
 use Rattle.il_run.specs.NameMap as map
 use Rattle.il_machine.proofs.ByText.{get-by_text}
 use Rattle.il_machine.proofs.values.Values.get.Goals as goal

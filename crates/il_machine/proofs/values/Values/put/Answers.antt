@@ -1,4 +1,4 @@
-use Rattle.std.proofs.Common.{◌≡◌, sym, ap, ◌∙◌, string_bytes}
+use Rattle.std.proofs.Common.{◌≡◌, ap, ◌∙◌, string_bytes}
 use Rattle.il_run.specs.NameMap as map
 use Rattle.il_machine.specs.ByText.{by_text}
 use Rattle.il_machine.proofs.ByText.{by_text-insert}

@@ -1,4 +1,4 @@
-use Rattle.std.proofs.Common.{◌≡◌, sym, ap, ◌∙◌, IsSome, None, subst, rules}
+use Rattle.std.proofs.Common.{◌≡◌, sym, ap, ◌∙◌, None, rules}
 use Rattle.il_run.specs.NameMap as map
 use Rattle.std.specs.Option.{option_copied_mut}
 use Rattle.il_machine.proofs.ByText.{get-by_text, by_text-set}

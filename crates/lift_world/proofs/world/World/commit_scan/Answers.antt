@@ -1,5 +1,4 @@
-use Rattle.std.proofs.Common.{◌≡◌, ap, ◌∙◌, []}
-use Rattle.std.specs.Prelude.{◌∷◌}
+use Rattle.std.proofs.Common.{ap, ◌∙◌}
 use Rattle.lift_spec.specs.Snapshot.{truth_of}
 use Rattle.lift_world.specs.contracts.world.World.{the_view}
 use Rattle.lift_world.specs.Running.{commit_report, after_commit, asks_open}
@@ -9,8 +8,8 @@ use Rattle.lift_world.proofs.world.World.commit_scan.Goals as goal
 pub invariant_of-self : goal.invariant_of-self
 invariant_of-self c =
     let inv = c.self.invariant in
-    commit_keeps (the_view c.self.inside) inv c.is_true-asked.result _ c.set-2.new.self c.copy_from.new.self c.set.new.self
-    (told_is _ _ _ _ c.set-2.ensures inv.image.told ∙ ap (λ o. o ∷ []) c.outputs_at-outputs.ensures) (level_of _ _ inv.image.fields _ c.as_slice.ensures inv.image.cars) (c.copy_from.ensures ∙ c.variables.ensures) _ c.set.ensures
+    commit_keeps (the_view c.self.inside) inv c.is_true-asked.result _ c.set-2.new.self c.outputs_at-outputs.result c.copy_from.new.self c.set.new.self
+    (told_is _ _ _ _ c.set-2.ensures inv.image.told) c.outputs_at-outputs.ensures (level_of _ _ inv.image.fields _ c.as_slice.ensures inv.image.cars) (c.copy_from.ensures ∙ c.variables.ensures) c.set.ensures
 
 pub returns-clause-report : goal.returns-clause-report
 unfolding asks_open
