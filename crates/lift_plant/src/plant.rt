@@ -1,8 +1,11 @@
 // The plant of a group.
 
-ghost use Rattle.std.specs.Prelude.{◌≡◌, ◌≤◌, ℕ, All, map, length};
+ghost use Rattle.std.specs.Prelude.{◌≡◌, ◌≤◌, ℕ, List, All, map, length};
 ghost use Rattle.lift_spec.specs.Plant.{PlantState, opening_plant, plant_after, fields_of_plant, moved_all, fields_of_cars};
+ghost use Rattle.lift_spec.specs.declared.image.Sizes.{Sizes};
+ghost use Rattle.lift_spec.specs.declared.image.CarOutputs.{CarOutputs};
 ghost use Rattle.lift_plant.specs.Cars.{placed, IsPlaced};
+ghost use Rattle.lift_plant.specs.Safe.{IsSafeStep};
 
 use crate::car::{Car, car_fields, moved_car};
 use lift_image::{CarFields, CarOutputs, Fields, Row};
@@ -115,3 +118,9 @@ pub fn plant_step(plant: Plant, outputs: &Row<CarOutputs, 8>) -> (Plant, Fields)
     };
     (moved, fields)
 }
+
+/// A law: a step under outputs that obey the interlock with what the plant tells moves no car whose door isn't
+/// shut, keeps each car that is in its shaft there, and tells fields in range.
+pub fn step_is_safe()
+    ensures { (sizes : Sizes) (plant : PlantState) (outputs : List CarOutputs) → IsSafeStep sizes plant outputs }
+{}

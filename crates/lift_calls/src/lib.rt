@@ -1,0 +1,10 @@
+//! The calls of a lift group: the slots that they enter, and the tickets under which they stand there.
+#![tactic(auto)]
+
+pub mod book;
+
+pub use lift_spec::calls::{Answer, Call, Entering, Slot};
+pub use lift_spec::image::Sizes;
+
+#[cfg(test)]
+mod tests;

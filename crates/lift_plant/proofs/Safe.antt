@@ -1,0 +1,155 @@
+-- A step of the plant under outputs that obey the interlock with what it tells.
+use Rattle.std.proofs.Common.{◌≡◌, ◌≢◌, refl, sym, ap, ◌∙◌, subst, ℕ, zero, suc, ◌+◌, ◌-◌, ◌*◌, ◌≤◌, ◌<◌, min, Bool, true, false, List, [], ◌∷◌, length, Some, None, Option, ℤ, pos, negsuc, ◌+ℤ◌, ◌≤ℤ◌, ◌<ℤ◌, slice_get, All, arith}
+use Rattle.std.specs.Prelude.{int_lt, int_le, int_div, nat_abs, ◌==◌, if◌then◌else◌}
+use Rattle.std.proofs.lemmas.Int.{ints}
+use Rattle.std.proofs.lemmas.List.Elements.{All-nil, All-cons}
+use lib.Signed.{le_z_yes, lt_z_yes}
+use lib.Dec.{T}
+use borrow.Author.Differences.{le-false, lt-false}
+use Rattle.lift_spec.specs.declared.image.Sizes.{Sizes}
+use Rattle.lift_spec.specs.declared.image.CarFields.{CarFields}
+use Rattle.lift_spec.specs.declared.image.CarOutputs.{CarOutputs}
+use Rattle.lift_spec.specs.declared.image.Motor.{Motor}
+use Rattle.lift_spec.specs.declared.image.Motor.TheVariants.{Up, Down, Still}
+use Rattle.lift_spec.specs.Image.{IsFloor, FieldsInRange, CarObeys, runs}
+use Rattle.lift_spec.specs.Snapshot.{motor_number}
+use Rattle.lift_spec.specs.Plant.{PlacedCar, PlantState, kept_within, moved, moved_all, fields_of_car, fields_of_cars, fields_of_plant, plant_after, IsPlantOf, IsInShaft, StaysSafe, ObeysWithOwnFields}
+use Rattle.lift_plant.specs.Safe.{IsSafeStep}
+
+-- NUMBERS
+
+lt_from : (x y : ℤ) → int_lt x y ≡ true → x <ℤ y
+lt_from x y h = lt_z_yes (subst T (sym h) tt)
+
+kept_by : (low high z r : ℤ) (a b : Bool) → int_lt z low ≡ a → int_lt high z ≡ b → low ≤ℤ z → z ≤ℤ high → (if a then low else (if b then high else z)) ≡ z
+kept_by low high z r true b below above l h = let less = lt_from z low below in absurd (omega (arith, ints, less, l))
+kept_by low high z r false true below above l h = let less = lt_from high z above in absurd (omega (arith, ints, less, h))
+kept_by low high z r false false below above l h = refl
+
+-- a number between the ends stays
+in_between : (low high z : ℤ) → low ≤ℤ z → z ≤ℤ high → kept_within low high z ≡ z
+in_between low high z l h = kept_by low high z z (int_lt z low) (int_lt high z) refl refl l h
+
+-- and none leaves them
+kept : (low high z : ℤ) → low ≤ℤ high → (low ≤ℤ kept_within low high z) × (kept_within low high z ≤ℤ high)
+kept low high z order = by (int_lt z low) (int_lt high z) refl refl
+  where
+    by : (a b : Bool) → int_lt z low ≡ a → int_lt high z ≡ b → (low ≤ℤ (if a then low else (if b then high else z))) × ((if a then low else (if b then high else z)) ≤ℤ high)
+    by true b below above = (omega (arith, ints), order)
+    by false true below above = (order, omega (arith, ints))
+    by false false below above = let l = lt-false z low below in let h = lt-false high z above in (omega (arith, ints, l), omega (arith, ints, h))
+
+-- ONE CAR
+
+-- the motor of a car whose door is not shut is still
+still_unless_shut : (floors : ℕ) (a : PlacedCar) (o : CarOutputs) → CarObeys (fields_of_car floors a) o → (a.door == 0) ≡ false → o.motor ≡ Still
+still_unless_shut floors a o obeys ajar = by o.motor refl
+  where
+    running : (m : Motor) → o.motor ≡ m → runs m ≡ true → ⊥
+    running m is r = let locked = (obeys.running (ap runs is ∙ r)).0 in let bad : true ≡ false = sym locked ∙ ajar in cc
+
+    by : (m : Motor) → o.motor ≡ m → o.motor ≡ Still
+    by Up is = absurd (running Up is refl)
+    by Down is = absurd (running Down is refl)
+    by Still is = is
+
+-- it stays where it is
+door_step : (floors : ℕ) (a : PlacedCar) (o : CarOutputs) → CarObeys (fields_of_car floors a) o → (negsuc 9 ≤ℤ a.place) × (a.place ≤ℤ pos (10 * floors)) → (a.door == 0) ≡ false → (moved floors a o).place ≡ a.place
+door_step floors a o obeys ends ajar =
+    let same : a.place +ℤ pos 0 ≡ a.place = omega (arith, ints) in
+    ap (λ (m : Motor). kept_within (negsuc 9) (pos (10 * floors)) (a.place +ℤ motor_number m)) (still_unless_shut floors a o obeys ajar) ∙ ap (kept_within (negsuc 9) (pos (10 * floors))) same
+    ∙ in_between (negsuc 9) (pos (10 * floors)) a.place ends.0 ends.1
+
+-- a car in its shaft stays in it
+shaft_step : (floors : ℕ) (a : PlacedCar) (o : CarOutputs) → CarObeys (fields_of_car floors a) o → IsInShaft floors a → IsInShaft floors (moved floors a o)
+shaft_step floors a o obeys inside = by o.motor refl
+  where
+    low : pos 0 ≤ℤ a.place
+    low = inside.0
+
+    high : a.place ≤ℤ pos (10 * (floors - 1))
+    high = inside.1
+
+    goes : (step next : ℤ) → a.place +ℤ step ≡ next → pos 0 ≤ℤ next → next ≤ℤ pos (10 * (floors - 1)) → (pos 0 ≤ℤ kept_within (negsuc 9) (pos (10 * floors)) (a.place +ℤ step)) × (kept_within (negsuc 9) (pos (10 * floors)) (a.place +ℤ step) ≤ℤ pos (10 * (floors - 1)))
+    goes step next is l h =
+        let stays : kept_within (negsuc 9) (pos (10 * floors)) (a.place +ℤ step) ≡ next = ap (kept_within (negsuc 9) (pos (10 * floors))) is ∙ in_between (negsuc 9) (pos (10 * floors)) next (omega (arith, ints, l)) (omega (arith, ints, h)) in
+        (subst (λ z. pos 0 ≤ℤ z) (sym stays) l, subst (λ z. z ≤ℤ pos (10 * (floors - 1))) (sym stays) h)
+
+    by : (m : Motor) → o.motor ≡ m → (pos 0 ≤ℤ (moved floors a o).place) × ((moved floors a o).place ≤ℤ pos (10 * (floors - 1)))
+    by Still is = rw is (goes (pos 0) a.place (omega (arith, ints)) low high)
+    by Up is = let below = le-false (pos (10 * (floors - 1))) a.place (obeys.up is) in rw is (goes (pos 1) (a.place +ℤ pos 1) refl (omega (arith, ints, low)) (omega (arith, ints, below)))
+    by Down is = let above = le-false a.place (pos 0) (obeys.down is) in rw is (goes (negsuc 0) (a.place +ℤ negsuc 0) refl (omega (arith, ints, above)) (omega (arith, ints, high)))
+
+-- ALL CARS
+
+-- a car after a step, its place before and its outputs
+record Moved (floors : ℕ) (cars : List PlacedCar) (outputs : List CarOutputs) (k : ℕ) (b : PlacedCar) : Type 0 where
+  pub before : PlacedCar
+  pub outputs_of : CarOutputs
+  pub there : slice_get cars k ≡ Some before
+  pub told : slice_get outputs k ≡ Some outputs_of
+  pub is : b ≡ moved floors before outputs_of
+
+moved_at : (floors : ℕ) (cars : List PlacedCar) (outputs : List CarOutputs) (k : ℕ) (b : PlacedCar) → length outputs ≡ length cars → slice_get (moved_all floors cars outputs) k ≡ Some b → Moved floors cars outputs k b
+moved_at floors [] outputs k b same h = cc
+moved_at floors (car ∷ cars) [] k b same h = absurd (omega (arith, same))
+moved_at floors (car ∷ cars) (o ∷ outputs) zero b same h = let is : moved floors car o ≡ b = cc in record { before = car; outputs_of = o; there = refl; told = refl; is = sym is }
+moved_at floors (car ∷ cars) (o ∷ outputs) (suc k) b same h =
+    let m = moved_at floors cars outputs k b (omega (arith, same)) h in
+    record { before = m.before; outputs_of = m.outputs_of; there = m.there; told = m.told; is = m.is }
+
+fields_at : (floors : ℕ) (cars : List PlacedCar) (k : ℕ) (a : PlacedCar) → slice_get cars k ≡ Some a → slice_get (fields_of_cars floors cars) k ≡ Some (fields_of_car floors a)
+fields_at floors [] k a h = cc
+fields_at floors (car ∷ cars) zero a h = let is : car ≡ a = cc in ap (λ c. Some (fields_of_car floors c)) is
+fields_at floors (car ∷ cars) (suc k) a h = fields_at floors cars k a h
+
+fields_length : (floors : ℕ) (cars : List PlacedCar) → length (fields_of_cars floors cars) ≡ length cars
+fields_length floors [] = refl
+fields_length floors (car ∷ cars) = ap suc (fields_length floors cars)
+
+moved_length : (floors : ℕ) (cars : List PlacedCar) (outputs : List CarOutputs) → length (moved_all floors cars outputs) ≡ length cars
+moved_length floors [] outputs = refl
+moved_length floors (car ∷ cars) [] = refl
+moved_length floors (car ∷ cars) (o ∷ outputs) = ap suc (moved_length floors cars outputs)
+
+-- a number from 1 to the number of floors is a floor
+floor_of : (sizes : Sizes) (floors : ℕ) (z : ℤ) → floors ≡ sizes.floors → 1 ≤ floors → IsFloor sizes (nat_abs (kept_within (pos 1) (pos floors) z))
+floor_of sizes floors z is some = by (kept_within (pos 1) (pos floors) z) refl (kept (pos 1) (pos floors) z (omega (arith, ints)))
+  where
+    by : (r : ℤ) → kept_within (pos 1) (pos floors) z ≡ r → (pos 1 ≤ℤ kept_within (pos 1) (pos floors) z) × (kept_within (pos 1) (pos floors) z ≤ℤ pos floors) → IsFloor sizes (nat_abs (kept_within (pos 1) (pos floors) z))
+    by (pos n) e ends =
+        let low : pos 1 ≤ℤ pos n = subst (λ r. pos 1 ≤ℤ r) e ends.0 in
+        let high : pos n ≤ℤ pos floors = subst (λ r. r ≤ℤ pos floors) e ends.1 in
+        subst (λ r. IsFloor sizes (nat_abs r)) (sym e) (omega (arith, ints, low), omega (arith, ints, high, is))
+    by (negsuc n) e ends = let low : pos 1 ≤ℤ negsuc n = subst (λ r. pos 1 ≤ℤ r) e ends.0 in absurd (omega (arith, ints, low))
+
+positions : (sizes : Sizes) (floors : ℕ) (cars : List PlacedCar) → floors ≡ sizes.floors → 1 ≤ floors → All (λ (car : CarFields). IsFloor sizes car.pos) (fields_of_cars floors cars)
+positions sizes floors [] is some = All-nil _
+positions sizes floors (car ∷ cars) is some =
+    All-cons (λ (c : CarFields). IsFloor sizes c.pos) (fields_of_car floors car) (fields_of_cars floors cars) (floor_of sizes floors (int_div (car.place +ℤ pos 5) (pos 10) +ℤ pos 1) is some) (positions sizes floors cars is some)
+
+pub safe_step : (sizes : Sizes) (plant : PlantState) (outputs : List CarOutputs) → IsSafeStep sizes plant outputs
+unfolding plant_after
+safe_step sizes plant outputs some of_group same obeys =
+    record {
+      doors = λ k a b before after ajar.
+          let m = moved_at plant.floors plant.cars outputs k b same after in
+          let is : m.before ≡ a = same_car (slice_get plant.cars k) m.before a m.there before in
+          let obeys_one : CarObeys (fields_of_car plant.floors a) m.outputs_of = obeys.each k (fields_of_car plant.floors a) m.outputs_of (fields_at plant.floors plant.cars k a before) m.told in
+          ap (λ (c : PlacedCar). c.place) m.is ∙ ap (λ c. (moved plant.floors c m.outputs_of).place) is ∙ door_step plant.floors a m.outputs_of obeys_one (of_group.places k a before) ajar;
+      shaft = λ k a b before after inside.
+          let m = moved_at plant.floors plant.cars outputs k b same after in
+          let is : m.before ≡ a = same_car (slice_get plant.cars k) m.before a m.there before in
+          let obeys_one : CarObeys (fields_of_car plant.floors a) m.outputs_of = obeys.each k (fields_of_car plant.floors a) m.outputs_of (fields_at plant.floors plant.cars k a before) m.told in
+          subst (IsInShaft plant.floors) (sym (m.is ∙ ap (λ c. moved plant.floors c m.outputs_of) is)) (shaft_step plant.floors a m.outputs_of obeys_one inside);
+      fields =
+          record {
+            cars = fields_length plant.floors (moved_all plant.floors plant.cars outputs) ∙ moved_length plant.floors plant.cars outputs ∙ of_group.cars;
+            positions = positions sizes plant.floors (moved_all plant.floors plant.cars outputs) of_group.floors (let f = of_group.floors in omega (arith, f, some));
+            time = omega arith;
+            run_limit = of_group.run_limit;
+          };
+    }
+  where
+    same_car : (o : Option PlacedCar) (a b : PlacedCar) → o ≡ Some a → o ≡ Some b → a ≡ b
+    same_car o a b p q = let both : Some a ≡ Some b = sym p ∙ q in cc

@@ -1,0 +1,9 @@
+-- What the plant owes to the interlock (own rules).
+use Rattle.std.specs.Prelude.{◌≡◌, ◌≤◌, List, length}
+use Rattle.lift_spec.specs.declared.image.Sizes.{Sizes}
+use Rattle.lift_spec.specs.declared.image.CarOutputs.{CarOutputs}
+use Rattle.lift_spec.specs.Plant.{PlantState, IsPlantOf, ObeysWithOwnFields, StaysSafe, plant_after}
+
+-- a step of a plant of a group with a floor, under outputs of all its cars that obey the interlock with what the plant tells, is safe
+abbrev pub IsSafeStep : Sizes → PlantState → List CarOutputs → Type 0
+IsSafeStep sizes plant outputs = 1 ≤ sizes.floors → IsPlantOf sizes plant → length outputs ≡ length plant.cars → ObeysWithOwnFields plant outputs → StaysSafe sizes plant (plant_after plant outputs)
