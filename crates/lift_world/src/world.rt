@@ -1,6 +1,7 @@
 // The world.
 
-ghost use Rattle.std.specs.Prelude.{◌≡◌, ◌≢◌, ℕ, ◌+◌, ◌≤◌, length, map, IfOk, Ok, true, false, None};
+ghost use Rattle.il_spec.specs.declared.fault.Refusal.TheVariants.{Memory};
+ghost use Rattle.std.specs.Prelude.{◌≡◌, ◌≢◌, ℕ, ◌+◌, ◌≤◌, length, map, IfOk, IfErr, Ok, true, false, None};
 ghost use Rattle.lift_spec.specs.Image.{sizes_of, FieldsInRange, fields_in_range, Obeys};
 ghost use Rattle.il_run.specs.NameMap as values;
 ghost use Rattle.lift_spec.specs.Snapshot.{truth_of};
@@ -101,6 +102,7 @@ impl World {
     pub fn new(alloc: Global, verified: Verified) -> Result<World, Refusal>
         ensures same { IfOk result (λ w. w.program ≡ verified) }
         ensures opening { IfOk result (λ w. world_of w ≡ model.opening verified.config) }
+        ensures memory { IfErr result (λ e. e ≡ Memory) }
     {
         let store = Store::new(alloc, &verified, CAR)?;
         let begin = Begin {

@@ -1,0 +1,49 @@
+// What the rules ask of one motor.
+
+ghost use Rattle.std.specs.Prelude.{◌≡◌};
+ghost use Rattle.lift_spec.specs.Image.{runs};
+ghost use Rattle.lift_spec.specs.Settle.{reverses, is_at_end, granted};
+
+use lift_image::{CarFields, Motor};
+use lift_spec::report::Rule;
+
+/// Whether a car whose motor is this runs.
+pub fn runs(motor: Motor) -> bool
+    ensures { result ≡ runs motor }
+{
+    match motor {
+        Motor::Up | Motor::Down => true,
+        Motor::Still => false,
+    }
+}
+
+/// From a committed motor to the opposite one.
+pub fn reverses(committed: Motor, wish: Motor) -> bool
+    ensures { result ≡ reverses committed wish }
+{
+    match (committed, wish) {
+        (Motor::Up, Motor::Down) | (Motor::Down, Motor::Up) => true,
+        _ => false,
+    }
+}
+
+/// Up at the top, or down at the bottom.
+pub fn is_at_end(car: CarFields, motor: Motor) -> bool
+    ensures { result ≡ is_at_end car motor }
+{
+    match motor {
+        Motor::Up => car.top,
+        Motor::Down => car.bottom,
+        Motor::Still => false,
+    }
+}
+
+/// The motor that is left of a wish: still where a rule denies it.
+pub fn granted(wish: Motor, denial: Option<Rule>) -> Motor
+    ensures { result ≡ granted wish denial }
+{
+    match denial {
+        None => wish,
+        Some(_) => Motor::Still,
+    }
+}

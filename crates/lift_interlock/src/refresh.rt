@@ -1,0 +1,143 @@
+// A refresh.
+
+ghost use Rattle.std.specs.Prelude.{◌≡◌, ◌≤◌, ◌+◌, ◌++◌, length};
+ghost use Rattle.lift_spec.specs.Settle.{may_run_on, able_from, below, denies_running, running_denial, settled_running, denials_of, settled_all};
+
+use crate::motor::{granted, is_at_end, runs};
+use crate::settled::{AllSettled, Settled, listed, open_denial};
+use lift_image::{CarFields, CarOutputs, Fields, Row};
+use lift_spec::report::{Denial, Rule};
+
+/// The order in which rules deny a running motor.
+const RUNNING_ORDER: [Rule; 3] = [Rule::Unlocked, Rule::AtEnd, Rule::Crowded];
+
+// Whether a car runs and meets the rules 2 and 3.
+fn may_run_on(fields: CarFields, outputs: CarOutputs) -> bool
+    ensures { result ≡ may_run_on fields outputs }
+{
+    runs(outputs.motor) && (fields.locked && (!outputs.opens && !is_at_end(fields, outputs.motor)))
+}
+
+// The cars that do, rising.
+fn able_cars(fields: &[CarFields], outputs: &[CarOutputs]) -> Row<u8, 8>
+    requires as_many { length outputs.now ≡ length fields.now }
+    requires room { length fields.now ≤ 8 }
+    ensures { result ≡ able_from 1 fields.now outputs.now }
+{
+    let mut able = Row::new();
+    for index in 0..fields.len() {
+        if may_run_on(fields[index], outputs[index]) {
+            able.push(index as u8 + 1);
+        }
+    }
+    able
+}
+
+// How many cars of a set are below a car.
+fn below(car: u8, set: &[u8]) -> usize
+    ensures { result ≡ length (below car set.now) }
+{
+    set.iter().filter(|member| **member < car).count()
+}
+
+// Whether a rule denies a running car to run on, beside the cars that meet the rules 2 and 3.
+fn denies_running(
+    run_limit: u8,
+    able: &[u8],
+    car: u8,
+    fields: CarFields,
+    outputs: CarOutputs,
+    rule: Rule,
+) -> bool
+    ensures { result ≡ denies_running run_limit able.now car fields outputs rule }
+{
+    match rule {
+        Rule::Reversal | Rule::NotLevel => false,
+        Rule::Unlocked => !fields.locked || outputs.opens,
+        Rule::AtEnd => is_at_end(fields, outputs.motor),
+        Rule::Crowded => usize::from(run_limit) <= below(car, able),
+    }
+}
+
+// The rule that denies a running car to run on, if one does.
+fn running_denial(
+    run_limit: u8,
+    able: &[u8],
+    car: u8,
+    fields: CarFields,
+    outputs: CarOutputs,
+) -> Option<Rule>
+    ensures { result ≡ running_denial run_limit able.now car fields outputs }
+{
+    if !runs(outputs.motor) {
+        return None;
+    }
+    for rule in RUNNING_ORDER {
+        if denies_running(run_limit, able, car, fields, outputs, rule) {
+            return Some(rule);
+        }
+    }
+    None
+}
+
+// One car at a refresh.
+fn settle_running(
+    run_limit: u8,
+    able: &[u8],
+    car: u8,
+    fields: CarFields,
+    outputs: CarOutputs,
+) -> Settled
+    ensures { result ≡ settled_running run_limit able.now car fields outputs }
+{
+    let denial = running_denial(run_limit, able, car, fields, outputs);
+    Settled {
+        outputs: CarOutputs {
+            motor: granted(outputs.motor, denial),
+            opens: outputs.opens && fields.level,
+        },
+        denials: listed(open_denial(outputs.opens, fields.level), denial),
+    }
+}
+
+// Adds the denials of a car.
+fn add_denials(denials: &mut Row<Denial, 16>, car: u8, rules: &[Rule])
+    requires { length denials.old + length rules.now ≤ 16 }
+    ensures { denials.new ≡ denials.old ++ denials_of car rules.now }
+{
+    for rule in rules {
+        denials.push(Denial { car, rule: *rule });
+    }
+}
+
+/// A refresh: what is left of the outputs of all cars, of which there are at most 8, under new fields of as many (own
+/// rule). Running cars that fail rule 2 or 3 stop, by the first that they fail; of the rest the RUNLIMIT
+/// lowest-numbered run on, and the others stop by 5. Open commands stay exactly at a level, otherwise they end by 4.
+#[tactic(auto, unfolding(lift_spec::specs::Settle::settled_all))]
+pub fn settle_all(outputs: &Row<CarOutputs, 8>, fields: &Fields) -> AllSettled
+    requires { length outputs.now ≡ length fields.now.cars }
+    ensures { result ≡ settled_all outputs.now fields.now }
+{
+    let count = fields.cars.len();
+    let cars = fields.cars.as_slice();
+    let before = outputs.as_slice();
+    let able = able_cars(cars, before);
+    let mut after = Row::new();
+    let mut denials = Row::new();
+    for index in 0..count {
+        let car = index as u8 + 1;
+        let settled = settle_running(
+            fields.run_limit,
+            able.as_slice(),
+            car,
+            cars[index],
+            before[index],
+        );
+        after.push(settled.outputs);
+        add_denials(&mut denials, car, settled.denials.as_slice());
+    }
+    AllSettled {
+        outputs: after,
+        denials,
+    }
+}
