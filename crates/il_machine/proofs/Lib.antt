@@ -6,3 +6,4 @@ pub mod Starts
 pub mod Variables
 pub mod Numbers
 pub mod Openings
+pub mod Listings

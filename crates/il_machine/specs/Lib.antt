@@ -1,3 +1,4 @@
 pub mod ByText
 pub mod Boolean
 pub mod Opening
+pub mod Listing

@@ -1,8 +1,8 @@
 //! The machine: it runs the tasks' programs, on an ordered map from paths to values.
 #![tactic(auto)]
 
-pub mod cells;
-pub mod instruction;
+mod cells;
+mod instruction;
 mod opening;
 pub mod store;
 #[cfg(test)]

@@ -1,5 +1,5 @@
 -- Which texts are accepted.
-use Rattle.std.proofs.Common.{◌≡◌, ◌≢◌, refl, sym, ap, ◌∙◌, subst, ℕ, ◌≤◌, ◌⊎◌, inl, inr, ℤ, pos, negsuc, ◌≤ℤ◌, Bool, true, false, ◌&&◌, List, [], ◌∷◌, length, Some, None, Option, arith, zero, suc}
+use Rattle.std.proofs.Common.{codes, ◌≡◌, ◌≢◌, refl, sym, ap, ◌∙◌, subst, ℕ, ◌≤◌, ◌⊎◌, inl, inr, ℤ, pos, negsuc, ◌≤ℤ◌, Bool, true, false, ◌&&◌, List, [], ◌∷◌, length, Some, None, Option, arith, zero, suc}
 use Rattle.std.specs.Prelude.{Contains, Ok, Err, Result, int_le, IsErrAnd}
 use lib.Signed.{le_z_yes}
 use lib.Dec.{T}
@@ -23,7 +23,7 @@ use Rattle.il_parse.specs.Carried as parsed
 use Rattle.il_parse.specs.Refused.{HasFewInstructions, IsFault}
 use Rattle.lift_world.specs.Loading.{IsSpelled, IsAccepted}
 use Rattle.lift_world.proofs.Carrying.{carried_to, carried_from}
-use Rattle.lift_world.proofs.Tasking.{tasked}
+use Rattle.lift_world.proofs.Tasking.{tasked, task_named}
 
 -- SIZES
 
@@ -144,3 +144,8 @@ pub runnable_is : (c : Config) → parsed.IsCarried c → IsUnbroken Declaring c
 runnable_is c carried declared ready =
     let sizes = has_sizes c (carried_to c carried) declared in
     record { carried = carried_to c carried; ready = ready; tasked = tasked c ready.0 (carried_to c carried) sizes.cars declared ready.1.alone; sizes = sizes }
+
+-- the TASK line of what runs is that of CAR1
+pub car_is_named : (c : Config) (carried : parsed.IsCarried c) (declared : IsUnbroken Declaring c) (ready : HasReadyProgram c) → (runnable_is c carried declared ready).carried.task.name.name ≡ codes "CAR1"
+unfolding runnable_is
+car_is_named c carried declared ready = task_named c (carried_to c carried) (has_sizes c (carried_to c carried) declared).cars declared

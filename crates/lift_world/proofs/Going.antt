@@ -25,7 +25,9 @@ use Rattle.lift_spec.specs.Calls.{SlotInRange}
 use Rattle.lift_spec.specs.declared.calls.Slot.TheVariants.{Free}
 use Rattle.il_run.specs.Ranges.{HaveValues, entity_scalars, instance_scalars}
 use Rattle.il_run.specs.Meaning.{entities}
-use Rattle.lift_world.specs.Runs.{RunsWell, first_cost, budget_of}
+use Rattle.lift_world.specs.Runs.{RunsWell, ShowsBudget, first_cost, budget_of}
+use Rattle.il_machine.specs.Listing.{TaskLine}
+use Rattle.il_machine.proofs.Listings.{one_shown}
 use Rattle.lift_world.specs.Loading.{cost_of}
 use Rattle.std.proofs.lemmas.List.Elements.{All-replicate}
 use Rattle.lift_spec.proofs.Laws.{fields_in_range_means}
@@ -636,3 +638,15 @@ first_cost_is units u is = ap (λ us. first_cost (map cost_of us)) is ∙ ap (λ
 -- a verified configuration runs well within what it costs
 pub verified_runs_well : (p : Program) (runs : IsRunnable p.config) → p.costs ≡ map cost_of p.config.units → RunsWell p.config (budget_of p)
 verified_runs_well p runs costs = runs_well p.config runs (budget_of p) (ap first_cost costs ∙ first_cost_is p.config.units runs.ready.0 runs.ready.1.alone)
+
+-- and the task that is shown has its cost as the budget
+pub verified_shows_budget : (p : Program) (runs : IsRunnable p.config) → runs.carried.task.name.name ≡ codes "CAR1" → p.costs ≡ map cost_of p.config.units → ShowsBudget p
+verified_shows_budget p runs name costs =
+    let one : p.costs ≡ cost_of runs.ready.0 ∷ [] = costs ∙ ap (map cost_of) runs.ready.1.alone in
+    ap (map (λ (l : TaskLine). l.budget)) (one_shown p runs (cost_of runs.ready.0) [] name one) ∙ ap (λ cs. first_cost cs ∷ []) (sym one)
+
+-- the same of what was made of a configuration
+pub shown_of_made : (d : Config) (p : Program) → p.config ≡ d → (runs : IsRunnable d) → runs.carried.task.name.name ≡ codes "CAR1" → p.costs ≡ map cost_of d.units → ShowsBudget p
+shown_of_made d p is runs name costs =
+    let made : ◌≡◌ {A = Program} (record { config = d; costs = p.costs }) p = ap (λ (c : Config). record { config = c; costs = p.costs }) (sym is) in
+    subst ShowsBudget made (verified_shows_budget (record { config = d; costs = p.costs }) runs name costs)

@@ -142,3 +142,7 @@ tasked c u carried cars unbroken alone =
           ap (λ (ls : List ProgramLine). program_of c (find (λ l. bytes_eq (codes "CAR1") l.task.name) ls)) carried.lines ∙ ap (λ n. program_of c (if bytes_eq (codes "CAR1") n then Some line else None)) name ∙ line_runs c line u carried.lines alone unbroken;
       group = ap (λ (ls : List ProgramLine). program_of c (find (λ l. bytes_eq (codes "GROUP") l.task.name) ls)) carried.lines ∙ ap (λ n. program_of c (if bytes_eq (codes "GROUP") n then Some line else None)) name;
     }
+
+-- the TASK line is that of CAR1
+pub task_named : (c : Config) (carried : IsCarried c) → c.cars.value ≡ pos 1 → IsUnbroken Declaring c → carried.task.name.name ≡ codes "CAR1"
+task_named c carried cars unbroken = named_one carried.task.name.name (task_is c carried.task carried.tasks cars unbroken)

@@ -3,6 +3,7 @@ use Rattle.std.specs.Prelude.{◌≡◌, ℕ, ◌≤◌, true, List, [], ◌∷�
 use Rattle.il_spec.specs.declared.tree.Config.{Config}
 use Rattle.il_machine.specs.declared.verified.UnitCost.{UnitCost}
 use Rattle.il_machine.specs.Boolean.{Program}
+use Rattle.il_machine.specs.Listing.{TaskLine, task_lines}
 use Rattle.il_run.specs.State.{State}
 use Rattle.il_run.specs.Scan.{has_ended}
 use Rattle.lift_spec.specs.declared.event.Reply.{Reply}
@@ -19,6 +20,10 @@ first_cost (u ∷ us) = u.cost
 -- the budget of each task: the cost of the one program
 abbrev pub budget_of : Program → ℕ → ℕ
 budget_of p task = first_cost p.costs
+
+-- the one task that is shown has this budget
+abbrev pub ShowsBudget : Program → Type 0
+ShowsBudget p = map (λ (l : TaskLine). l.budget) (task_lines p) ≡ budget_of p 1 ∷ []
 
 -- Of every run from the opening world over any list of these events, with any numbers in them.
 pub record RunsWell (c : Config) (budget : ℕ → ℕ) : Type 0 where

@@ -8,7 +8,7 @@ ghost use Rattle.il_rules.specs.Carried.{IsCarried};
 ghost use Rattle.il_rules.specs.Faults.{IsUnbroken, Declaring, Typing};
 ghost use Rattle.il_subset.specs.Subset.{IsRefusedYet};
 ghost use Rattle.lift_world.specs.Loading.{IsSpelled, IsAccepted, cost_of};
-ghost use Rattle.lift_world.specs.Runs.{RunsWell, budget_of};
+ghost use Rattle.lift_world.specs.Runs.{RunsWell, ShowsBudget, budget_of};
 
 use il_machine::{UnitCost, Verified};
 use il_parse::parse;
@@ -28,6 +28,7 @@ pub fn load(alloc: Global, text: &[u8]) -> Result<Verified, Refusal>
     ensures found { IfOk result (λ v. IsAccepted text.now v.config) }
     ensures costs { IfOk result (λ v. v.costs ≡ map cost_of v.config.units) }
     ensures runs { IfOk result (λ v. RunsWell v.config (budget_of v)) }
+    ensures budget { IfOk result (λ v. ShowsBudget v) }
     ensures refused { IsFault result → (c : Config) → IsAccepted text.now c → ⊥ }
     ensures named { IsFault result → (c : Config) → IsSpelled text.now c → IsErrAnd result (IsRefusedYet c) }
 {

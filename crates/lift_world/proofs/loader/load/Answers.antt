@@ -4,9 +4,9 @@ use Rattle.lift_world.specs.Loading.{IsAccepted}
 use Rattle.std.specs.Prelude.{map}
 use Rattle.il_machine.specs.Boolean.{IsRunnable}
 use Rattle.lift_world.specs.Loading.{cost_of}
-use Rattle.lift_world.proofs.Going.{verified_runs_well}
+use Rattle.lift_world.proofs.Going.{verified_runs_well, shown_of_made}
 use Rattle.lift_world.proofs.Carrying.{carried_to}
-use Rattle.lift_world.proofs.Accepting.{handed_on, none_spelled, same_spelled, none_judged, named_judged, accepted_is, runnable_is}
+use Rattle.lift_world.proofs.Accepting.{handed_on, none_spelled, same_spelled, none_judged, named_judged, accepted_is, runnable_is, car_is_named}
 use Rattle.lift_world.proofs.loader.load.Goals as goal
 
 pub returns-in_err-config-clause-refused : goal.returns-in_err-config-clause-refused
@@ -42,3 +42,10 @@ pub returns-clause-runs : goal.returns-clause-runs
 returns-clause-runs c =
     let runs = runnable_is _ c.in_ok-config.ensures.carried c.in_ok-judge.ensures.accepted.0 c.in_ok-judge.ensures.ready in
     verified_runs_well c.of.result (subst IsRunnable (sym c.of.ensures.config) runs) (c.of.ensures.costs ∙ c.in_ok-costs.ensures ∙ ap (map cost_of) c.as_slice.ensures ∙ ap (λ (d : Config). map cost_of d.units) (sym c.of.ensures.config))
+
+pub returns-clause-budget : goal.returns-clause-budget
+returns-clause-budget c =
+    let carried = c.in_ok-config.ensures.carried in
+    let declared = c.in_ok-judge.ensures.accepted.0 in
+    let ready = c.in_ok-judge.ensures.ready in
+    shown_of_made c.in_ok-config.config c.of.result c.of.ensures.config (runnable_is _ carried declared ready) (car_is_named _ carried declared ready) (c.of.ensures.costs ∙ c.in_ok-costs.ensures ∙ ap (map cost_of) c.as_slice.ensures)
