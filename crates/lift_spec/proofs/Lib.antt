@@ -3,3 +3,4 @@ mod WorldRows
 pub mod Interlock
 pub mod Refreshed
 pub mod Laws
+pub mod Hands

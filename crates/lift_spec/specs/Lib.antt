@@ -1,6 +1,7 @@
 pub mod Image
 pub mod Settle
 pub mod Hands
+pub mod Words
 pub mod Calls
 pub mod Snapshot
 pub mod World

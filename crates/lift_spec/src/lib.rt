@@ -8,3 +8,5 @@ pub mod hand;
 pub mod image;
 pub mod report;
 pub mod row;
+#[cfg(test)]
+mod tests;
