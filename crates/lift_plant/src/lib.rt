@@ -3,3 +3,5 @@
 
 mod car;
 pub mod plant;
+#[cfg(test)]
+mod tests;
