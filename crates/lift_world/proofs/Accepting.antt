@@ -23,7 +23,7 @@ use Rattle.il_parse.specs.Carried as parsed
 use Rattle.il_parse.specs.Refused.{HasFewInstructions, IsFault}
 use Rattle.lift_world.specs.Loading.{IsSpelled, IsAccepted}
 use Rattle.lift_world.proofs.Carrying.{carried_to, carried_from}
-use Rattle.lift_world.proofs.Tasking.{tasked, task_named}
+use Rattle.lift_world.proofs.Tasking.{is_one, only_task, tasked, task_named}
 
 -- SIZES
 
@@ -48,19 +48,6 @@ size_within c unbroken s lo hi there false is = absurd (unbroken 23 s.place (ini
 
 other_number : (o : Option ℕ) (k : ℕ) → o ≡ Some 1 → 2 ≤ k → o ≡ Some k → ⊥
 other_number o k one two is = let same : Some 1 ≡ Some k = sym one ∙ is in let e : 1 ≡ k = cc in omega (arith, e, two)
-
-is_one : (o : Option ℕ) → (o ≡ Some 1) ⊎ (o ≢ Some 1)
-is_one None = inr (λ e. cc)
-is_one (Some zero) = inr (λ e. cc)
-is_one (Some (suc zero)) = inl refl
-is_one (Some (suc (suc n))) = inr (λ e. cc)
-
-only_task : (c : Config) (task other : Task) → c.tasks ≡ task ∷ [] → Contains c.tasks other → other ≡ task
-only_task c task other is among = pick task other (subst (λ l. Contains l other) is among)
-  where
-    pick : (task other : Task) → Contains (task ∷ []) other → other ≡ task
-    pick task other (zero, below, at) = sym at
-    pick task other (suc k, below, at) = absurd (omega (arith, below))
 
 no_second : (c : Config) (task : Task) → c.tasks ≡ task ∷ [] → IsUnbroken Declaring c → (n : ℕ) → c.cars.value ≡ pos n → 1 ≤ n → n ≤ 1
 no_second c task is unbroken zero cars least = omega arith

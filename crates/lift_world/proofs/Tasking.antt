@@ -70,14 +70,14 @@ only_name names a b is among = pick a b (subst (λ l. Contains l b) is among)
     pick a b (zero, below, at) = sym at
     pick a b (suc k, below, at) = absurd (omega (arith, below))
 
-only_task : (c : Config) (task other : Task) → c.tasks ≡ task ∷ [] → Contains c.tasks other → other ≡ task
+pub only_task : (c : Config) (task other : Task) → c.tasks ≡ task ∷ [] → Contains c.tasks other → other ≡ task
 only_task c task other is among = pick task other (subst (λ l. Contains l other) is among)
   where
     pick : (task other : Task) → Contains (task ∷ []) other → other ≡ task
     pick task other (zero, below, at) = sym at
     pick task other (suc k, below, at) = absurd (omega (arith, below))
 
-is_one : (o : Option ℕ) → (o ≡ Some 1) ⊎ (o ≢ Some 1)
+pub is_one : (o : Option ℕ) → (o ≡ Some 1) ⊎ (o ≢ Some 1)
 is_one None = inr (λ e. cc)
 is_one (Some zero) = inr (λ e. cc)
 is_one (Some (suc zero)) = inl refl
