@@ -3,7 +3,7 @@
 ghost use Rattle.std.specs.Prelude.{◌≡◌};
 ghost use Rattle.il_interval.specs.Interval.{between};
 
-use super::Interval;
+use super::{Interval, ranges_grow};
 
 fn range(lo: i128, hi: i128) -> Interval
     ensures { result ≡ between lo hi }
@@ -35,4 +35,5 @@ fn worked_ranges(rt: HostRuntime) {
     assert!(rt; range(3, 4).within(range(3, 4)), "the same range");
     assert!(rt; !range(2, 4).within(range(3, 4)), "begins before");
     assert!(rt; !range(3, 5).within(range(3, 4)), "ends beyond");
+    ranges_grow();
 }
