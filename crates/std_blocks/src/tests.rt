@@ -19,7 +19,7 @@ fn sr_is_set_dominant(rt: HostRuntime) {
         block.s1 = s1;
         block.r = r;
         block.sr();
-        assert_eq!(rt; block.q1, q1, "at S1 {s1}, R {r}");
+        assert_eq!(rt; block.q1, q1);
     }
 }
 
@@ -37,7 +37,7 @@ fn rs_is_reset_dominant(rt: HostRuntime) {
         block.s = s;
         block.r1 = r1;
         block.rs();
-        assert_eq!(rt; block.q1, q1, "at S {s}, R1 {r1}");
+        assert_eq!(rt; block.q1, q1);
     }
 }
 
@@ -48,14 +48,14 @@ fn edges_show_for_one_call(rt: HostRuntime) {
     for (clk, q) in [(true, true), (true, false), (false, false), (true, true)] {
         rising.clk = clk;
         rising.r_trig();
-        assert_eq!(rt; rising.q, q, "R_TRIG at CLK {clk}");
+        assert_eq!(rt; rising.q, q);
     }
     // a first call with CLK FALSE is an edge
     let mut falling = EdgeDetector::new();
     for (clk, q) in [(false, true), (false, false), (true, false), (false, true)] {
         falling.clk = clk;
         falling.f_trig();
-        assert_eq!(rt; falling.q, q, "F_TRIG at CLK {clk}");
+        assert_eq!(rt; falling.q, q);
     }
 }
 
@@ -67,7 +67,7 @@ fn ctu_counts_to_two(rt: HostRuntime) {
     for (cu, cv, q) in [(true, 1, false), (false, 1, false), (true, 2, true)] {
         block.cu = cu;
         block.ctu();
-        assert_eq!(rt; (block.cv, block.q), (cv, q), "at CU {cu}");
+        assert_eq!(rt; (block.cv, block.q), (cv, q));
     }
 }
 
@@ -80,7 +80,7 @@ fn ctd_counts_from_one(rt: HostRuntime) {
         block.ld = ld;
         block.cd = cd;
         block.ctd();
-        assert_eq!(rt; (block.cv, block.q), (cv, q), "at LD {ld}, CD {cd}");
+        assert_eq!(rt; (block.cv, block.q), (cv, q));
     }
 }
 
@@ -103,11 +103,7 @@ fn ctud_counts_both_ways(rt: HostRuntime) {
         block.r = r;
         block.ld = ld;
         block.ctud();
-        assert_eq!(rt;
-            (block.cv, block.qu, block.qd),
-            (cv, qu, qd),
-            "at CU {cu}, CD {cd}, R {r}, LD {ld}"
-        );
+        assert_eq!(rt; (block.cv, block.qu, block.qd), (cv, qu, qd));
     }
 }
 
@@ -132,14 +128,14 @@ fn ton_delays_a_rise(rt: HostRuntime) {
     let mut at_once = DelayTimer::new();
     at_once.input = true;
     at_once.ton(500);
-    assert!(rt; at_once.q, "with PT T#0s");
+    assert!(rt; at_once.q);
     // the clock goes back at the second call
     let mut block = DelayTimer::new();
     block.pt = 1000;
     for (now, et, q) in [(500, 0, false), (300, 0, false), (1300, 1000, true)] {
         block.input = true;
         block.ton(now);
-        assert_eq!(rt; (block.et, block.q), (et, q), "at NOW {now}");
+        assert_eq!(rt; (block.et, block.q), (et, q));
     }
 }
 
@@ -155,7 +151,7 @@ fn tof_delays_a_fall(rt: HostRuntime) {
     ] {
         block.input = input;
         block.tof(now);
-        assert_eq!(rt; (block.et, block.q), (et, q), "at NOW {now}");
+        assert_eq!(rt; (block.et, block.q), (et, q));
     }
 }
 
@@ -171,6 +167,6 @@ fn tp_makes_a_pulse(rt: HostRuntime) {
     ] {
         block.input = input;
         block.tp(now);
-        assert_eq!(rt; (block.et, block.q), (et, q), "at NOW {now}");
+        assert_eq!(rt; (block.et, block.q), (et, q));
     }
 }
