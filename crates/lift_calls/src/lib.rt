@@ -4,6 +4,7 @@
 pub mod book;
 
 pub use lift_spec::calls::{Answer, Call, Entering, Slot};
+pub use lift_spec::hand::Hand;
 pub use lift_spec::image::Sizes;
 
 #[cfg(test)]
