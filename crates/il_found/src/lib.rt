@@ -1,0 +1,6 @@
+//! Faults that were found, and which of them is named.
+#![tactic(auto)]
+
+mod found;
+
+pub use found::{Found, earlier, fault_if, refusal};
