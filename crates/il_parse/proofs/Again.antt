@@ -1,10 +1,10 @@
 -- What is spelled is read: words, names, sizes, the TASK line, the PROGRAM line, declarations.
-use Rattle.std.proofs.Common.{◌≡◌, ℕ, zero, suc, ◌<◌, ◌≤◌, Bool, true, false, not, cond, List, [], ◌∷◌, length, codes, Option, Some, None, refl, sym, ap, subst, ◌∙◌, inl, inr, arith}
-use Rattle.std.specs.Prelude.{IsTrue, ℤ, slice_range}
+use Rattle.std.proofs.Common.{◌≡◌, ℕ, zero, suc, ◌<◌, ◌≤◌, Bool, true, false, not, cond, List, [], ◌∷◌, length, codes, Option, Some, None, refl, sym, ap, ◌∙◌, inl, inr, arith}
+use Rattle.std.specs.Prelude.{IsTrue, ℤ, slice_range, ⊤}
 use Rattle.std.specs.List.{AllByRecursion}
 use Rattle.std.specs.Str.{IsAscii}
 use Rattle.std.proofs.lemmas.Str.{IsAscii-take, IsAscii-drop, IsUtf8-from_ascii, is_utf8-from_IsUtf8}
-use Rattle.il_spec.specs.declared.token.Sign.TheVariants.{Assign, Colon, Semicolon, Comma, OpenParenthesis, CloseParenthesis}
+use Rattle.il_spec.specs.declared.token.Sign.TheVariants.{Assign, Range, Colon, Semicolon, Comma, OpenParenthesis, CloseParenthesis}
 use Rattle.il_spec.specs.declared.token.Token.{Token}
 use Rattle.il_spec.specs.declared.keyword.Keyword.{Keyword}
 use Rattle.il_spec.specs.declared.keyword.Keyword.TheVariants as word
@@ -16,7 +16,9 @@ use Rattle.il_spec.specs.declared.tree.Subrange.{Subrange}
 use Rattle.il_spec.specs.declared.tree.Initial.{Initial}
 use Rattle.il_spec.specs.declared.tree.Form.{Form as TypeForm}
 use Rattle.il_spec.specs.declared.tree.Form.TheVariants as form
+use Rattle.il_spec.specs.declared.tree.Literal.{Literal}
 use Rattle.il_spec.specs.declared.tree.Literal.TheVariants as literal
+use Rattle.il_spec.specs.declared.tree.WrittenType.{WrittenType}
 use Rattle.il_spec.specs.declared.tree.Size.{Size}
 use Rattle.il_spec.specs.declared.tree.Task.{Task}
 use Rattle.il_spec.specs.declared.tree.ProgramLine.{ProgramLine}
@@ -24,12 +26,13 @@ use Rattle.il_spec.specs.declared.tree.Declaration.{Declaration}
 use Rattle.il_spec.specs.declared.tree.UnitKind.TheVariants as unit
 use Rattle.il_spec.specs.Text.{name_of}
 use Rattle.il_spec.specs.Words.{keyword_of}
-use Rattle.il_spec.specs.Grammar.{Front, skip_line_ends, is_line_end, loose, One, AfterLines, No, At, Repeats, Listed, TheSign, ATyped, AWord, AName, TheWord, TheName, SomeName, TheText, ADecimal, SpellsSize, SpellsTask, SpellsProgramLine, SpellsType, SpellsDeclaration, SpellsOptionalList, SpellsExternals}
-use Rattle.il_parse.specs.Carried.{IsCarriedDeclaration, IsPlainBool}
-use Rattle.il_parse.specs.Reading.{◌>>=◌, place_of, is_word_kind, is_reserved, first_at, comes, comma_first, comma_comes, many_at, word_at, placed_word_at, absent_at, name_at, named_at, next_name_at, names_at, declaration_at, variables_at, externals_at, size_at, interval_at, priority_at, task_at, program_line_at}
-use Rattle.il_parse.proofs.Leaves.{bytes_same, word_again, as_word, placed_again, absent_again, comes_again, sign_again, sign_same, duration_again, decimal_again, name_free}
+use Rattle.il_spec.specs.Grammar.{Front, Gap, skip_line_ends, is_line_end, loose, One, AfterLines, No, At, Repeats, Listed, TheSign, ATyped, AWord, AName, TheWord, TheName, SomeName, TheText, ADecimal, SpellsSize, SpellsTask, SpellsProgramLine, ALiteral, SpellsSubrange, SpellsType, SpellsInitial, SpellsDeclaration, SpellsOptionalList, SpellsExternals}
+use Rattle.il_rules.specs.Subset.{IsCarriedLiteral, IsCarriedScalar, IsCarriedForm, IsCarriedInitial, AreCarriedVariables}
+use Rattle.il_parse.specs.Reading.{◌>>=◌, place_of, is_word_kind, is_reserved, first_at, comes, no_comma, many_at, listed_at, word_at, placed_word_at, absent_at, name_at, named_at, next_name_at, names_at, limits_at, subrange_at, written, type_at, assigned_at, initial_at, declaration_at, variables_at, externals_at, size_at, interval_at, priority_at, task_at, program_line_at}
+use Rattle.il_parse.proofs.Leaves.{bytes_same, word_again, as_word, placed_again, absent_again, comes_again, signs_apart, sign_stands, sign_missing, sign_again, number_again, duration_again, decimal_again, name_free}
 use Rattle.il_parse.proofs.Keys.{IsSpelled, key_int, key_interval, key_priority, key_task, key_with, key_program, key_bool, key_var, key_end_var, key_external}
-use Rattle.il_parse.proofs.Lists.{no_comma}
+use Rattle.il_parse.proofs.Parts.{IsCarriedDeclaration, each_declaration}
+use Rattle.il_parse.proofs.Literals.{placed_literal_again}
 
 -- a test that passes is true
 is_true_of : (b : Bool) → IsTrue b → b ≡ true
@@ -102,31 +105,59 @@ repeats_length P C E shorter (x ∷ xs) ts rest h all =
     let one = shorter ts x h.0 h.1 all.0 in
     omega arith
 
--- signs that come, or don't
-comma_is : (us rest : List Token) → TheSign Comma us rest → comma_first us ≡ true
-comma_is [] rest h = absurd h
-comma_is (t ∷ ts) rest h = sign_same Comma t.kind h.0
-
--- where a colon stands, no comma does
-comma_isnt : (us rest : List Token) → TheSign Colon us rest → comma_first us ≡ false
-comma_isnt [] rest h = absurd h
-comma_isnt (t ∷ ts) rest h = rw h.0 refl
-
 -- a colon ends the names
 colon_stops : (ts rest : List Token) → TheSign Colon (skip_line_ends ts) rest → no_comma ts ≡ true
-unfolding comma_comes
-colon_stops ts rest h = ap not (comma_isnt (skip_line_ends ts) rest h)
+colon_stops ts rest h = ap not (sign_missing Comma ts (signs_apart Colon Comma (λ bad. cc) (skip_line_ends ts) rest h))
 
 -- a comma brings another name
 comma_goes : (ts rest : List Token) → TheSign Comma (skip_line_ends ts) rest → no_comma ts ≡ false
-unfolding comma_comes
-comma_goes ts rest h = ap not (comma_is (skip_line_ends ts) rest h)
+comma_goes ts rest h = ap not (sign_stands Comma ts rest h)
 
--- a plain BOOL is this type
-plain_is : (f : TypeForm) → IsPlainBool f → f ≡ form.Scalar (record { elementary = elementary.Bool; subrange = None })
-plain_is (form.Scalar s) h = ap (λ (e : Elementary). form.Scalar (record { elementary = e; subrange = s.subrange })) h.0 ∙ ap (λ (r : Option Subrange). form.Scalar (record { elementary = elementary.Bool; subrange = r })) h.1
-plain_is (form.Array b e) h = absurd h
-plain_is (form.Block n) h = absurd h
+-- values behind a first one, as they are read again
+pub record Rejoins {A : Type 0} (gap : Gap) (P : A → Front) (E : Front) (ends : List Token → Bool) (next : List Token → Option (A × List Token)) (x : A) (xs : List A) (us rest : List Token) : Type 0 where
+  pub first : List Token
+  pub after : List Token
+  pub value : P x us first
+  pub end : E (gap after) rest
+  pub shorter : length after ≤ length first
+  pub few : length xs ≤ length first
+  pub reads : (k : ℕ) → length xs < k → many_at ends next k first ≡ Some (xs, after)
+
+-- values that are spelled are a first one and others that are read
+pub others_again : {A : Type 0} (gap : Gap) (P : A → Front) (C : A → Type 0) (E : Front) (ends : List Token → Bool) (next : List Token → Option (A × List Token))
+    → ((ts m : List Token) (x : A) (rest : List Token) → TheSign Comma (gap ts) m → P x (gap m) rest → C x → next ts ≡ Some (x, rest))
+    → ((ts m : List Token) (x : A) (rest : List Token) → TheSign Comma (gap ts) m → P x (gap m) rest → C x → length rest < length ts)
+    → ((ts rest : List Token) → TheSign Comma (gap ts) rest → ends ts ≡ false)
+    → ((ts rest : List Token) → E (gap ts) rest → ends ts ≡ true)
+    → (xs : List A) (x : A) (us rest : List Token) → Listed gap P (x ∷ xs) E us rest → AllByRecursion C xs → Rejoins gap P E ends next x xs us rest
+others_again gap P C E ends next again less goes stops [] x us rest h all = record {
+  first = h.0;
+  after = h.0;
+  value = h.1;
+  end = h.2;
+  shorter = omega arith;
+  few = omega arith;
+  reads = λ k lt. none_again ends next h.0 k lt (stops h.0 rest h.2);
+}
+others_again gap P C E ends next again less goes stops (y ∷ ys) x us rest h all =
+    let later = others_again gap P C E ends next again less goes stops ys y (gap h.2.0) rest h.2.2 all.1 in
+    let one = less h.0 h.2.0 y later.first h.2.1 later.value all.0 in
+    let s5 = later.shorter in
+    let s6 = later.few in
+    record {
+      first = h.0;
+      after = later.after;
+      value = h.1;
+      end = later.end;
+      shorter = omega arith;
+      few = omega arith;
+      reads = λ k lt. some_again ends next h.0 y later.first ys later.after k lt (goes h.0 h.2.0 h.2.1) (again h.0 h.2.0 y later.first h.2.1 later.value all.0) later.reads;
+    }
+
+-- values of any kind
+any_all : {A : Type 0} (xs : List A) → AllByRecursion (λ (x : A). ⊤) xs
+any_all [] = tt
+any_all (x ∷ xs) = (tt, any_all xs)
 
 module _ (text : List ℕ) (ascii : IsAscii text) where
   -- a reserved word that is spelled is read
@@ -254,46 +285,23 @@ module _ (text : List ℕ) (ascii : IsAscii text) where
 
   -- ---- declarations
 
-  -- names behind a first one, as they are read again
-  record Renames (n : Named) (ns : List Named) (us rest : List Token) : Type 0 where
-    first : List Token
-    after : List Token
-    named : TheName text n us first
-    colon : TheSign Colon (skip_line_ends after) rest
-    shorter : length after ≤ length first
-    few : length ns ≤ length first
-    reads : (k : ℕ) → length ns < k → many_at no_comma (next_name_at text) k first ≡ Some (ns, after)
+  -- a name takes a token
+  name_shorter : (n : Named) (us rest : List Token) → TheName text n us rest → length rest < length us
+  name_shorter n us rest h = at_shorter n.place (AName text n.name) (one_shorter _) us rest h
 
-  -- names that are spelled are a first one and others that are read
-  others_again : (ns : List Named) (n : Named) (us rest : List Token) → Listed loose (TheName text) (n ∷ ns) (TheSign Colon) us rest → Renames n ns us rest
+  -- a comma and a name take tokens
+  next_shorter : (ts m : List Token) (n : Named) (rest : List Token) → TheSign Comma (skip_line_ends ts) m → TheName text n (skip_line_ends m) rest → ⊤ → length rest < length ts
+  next_shorter ts m n rest comma name any =
+      let s1 = skip_shorter ts in
+      let s2 = one_shorter _ _ _ comma in
+      let s3 = skip_shorter m in
+      let s4 = name_shorter n (skip_line_ends m) rest name in
+      omega arith
+
+  -- a comma and a name that are spelled are read
+  next_name_again : (ts m : List Token) (n : Named) (rest : List Token) → TheSign Comma (skip_line_ends ts) m → TheName text n (skip_line_ends m) rest → ⊤ → next_name_at text ts ≡ Some (n, rest)
   unfolding next_name_at
-  others_again [] n us rest h = record {
-    first = h.0;
-    after = h.0;
-    named = h.1;
-    colon = h.2;
-    shorter = omega arith;
-    few = omega arith;
-    reads = λ k lt. none_again no_comma (next_name_at text) h.0 k lt (colon_stops h.0 rest h.2);
-  }
-  others_again (m ∷ ms) n us rest h =
-      let later = others_again ms m (skip_line_ends h.2.0) rest h.2.2 in
-      let next : next_name_at text h.0 ≡ Some (m, later.first) = rw (sign_again Comma h.0 h.2.0 h.2.1) (named_again h.2.0 m later.first later.named) in
-      let s1 = skip_shorter h.0 in
-      let s2 = one_shorter _ _ _ h.2.1 in
-      let s3 = skip_shorter h.2.0 in
-      let s4 = at_shorter m.place (AName text m.name) (one_shorter _) _ _ later.named in
-      let s5 = later.shorter in
-      let s6 = later.few in
-      record {
-        first = h.0;
-        after = later.after;
-        named = h.1;
-        colon = later.colon;
-        shorter = omega arith;
-        few = omega arith;
-        reads = λ k lt. some_again no_comma (next_name_at text) h.0 m later.first ms later.after k lt (comma_goes h.0 h.2.0 h.2.1) next later.reads;
-      }
+  next_name_again ts m n rest comma name any = rw (sign_again Comma ts m comma) (named_again m n rest name)
 
   -- a list of names, as it is read again
   record RereadsNames (ns : List Named) (ts rest : List Token) : Type 0 where
@@ -305,38 +313,168 @@ module _ (text : List ℕ) (ascii : IsAscii text) where
 
   -- names that are spelled are read
   names_again : (ns : List Named) (ts rest : List Token) → Listed loose (TheName text) ns (TheSign Colon) (skip_line_ends ts) rest → RereadsNames ns ts rest
-  unfolding names_at
+  unfolding listed_at
   names_again [] ts rest h = absurd h
   names_again (n ∷ ns) ts rest h =
-      let r = others_again ns n (skip_line_ends ts) rest h in
+      let r = others_again loose (TheName text) (λ x. ⊤) (TheSign Colon) no_comma (next_name_at text) next_name_again next_shorter comma_goes colon_stops ns n (skip_line_ends ts) rest h (any_all ns) in
       let few = r.few in
       let s1 = skip_shorter ts in
-      let s2 = at_shorter n.place (AName text n.name) (one_shorter _) _ _ r.named in
+      let s2 = name_shorter n _ _ r.value in
       let s3 = r.shorter in
       let s4 = skip_shorter r.after in
-      let s5 = one_shorter _ _ _ r.colon in
+      let s5 = one_shorter _ _ _ r.end in
       record {
         first = n;
         behind = r.first;
-        named = r.named;
+        named = r.value;
         shorter = omega arith;
-        reads = rw (named_again ts n r.first r.named, r.reads (suc (length r.first)) (omega arith), sign_again Colon r.after rest r.colon) refl;
+        reads = rw (named_again ts n r.first r.value, r.reads (suc (length r.first)) (omega arith), sign_again Colon r.after rest r.end) refl;
       }
 
-  -- a declaration of BOOL variables
-  abbrev bools : List Named → Place → Declaration
-  bools ns p = record { names = ns; declared = record { place = p; form = form.Scalar (record { elementary = elementary.Bool; subrange = None }) }; initial = None }
+  -- limits that are spelled are read
+  limits_again : (ts : List Token) (s : Subrange) (rest : List Token) → SpellsSubrange text (Some s) ts rest → limits_at ts ≡ Some (s, rest)
+  unfolding limits_at
+  limits_again ts s rest h =
+      let h1 = h.2 in
+      let h2 = h1.2 in
+      let h3 = h2.2 in
+      rw (
+        sign_again OpenParenthesis ts h.0 h.1,
+        number_again h.0 s.lower h1.0 h1.1,
+        sign_again Range h1.0 h2.0 h2.1,
+        number_again h2.0 s.upper h3.0 h3.1,
+        sign_again CloseParenthesis h3.0 rest h3.2,
+      ) refl
 
-  -- a carried declaration is one of BOOL variables
-  bools_is : (d : Declaration) → IsCarriedDeclaration d → bools d.names d.declared.place ≡ d
-  bools_is d h =
-      ap (λ (f : TypeForm). record { names = d.names; declared = record { place = d.declared.place; form = f }; initial = None }) (sym (plain_is d.declared.form h.0))
-      ∙ ap (λ (i : Option Initial). record { names = d.names; declared = d.declared; initial = i }) (sym h.1)
+  -- so is a subrange, which may be missing
+  subrange_again : (ts : List Token) (s : Option Subrange) (rest : List Token) → SpellsSubrange text s ts rest → subrange_at ts ≡ Some (s, rest)
+  unfolding subrange_at
+  subrange_again ts None rest h = rw (sign_missing OpenParenthesis ts h.1) (ap (λ (r : List Token). Some (None, r)) h.0)
+  subrange_again ts (Some s) rest h = rw (sign_stands OpenParenthesis ts h.0 h.1, limits_again ts s rest h) refl
 
-  -- its type is the word BOOL
-  bool_type : (p : Place) (us rest : List Token) → SpellsType text (record { place = p; form = form.Scalar (record { elementary = elementary.Bool; subrange = None }) }) us rest → At p (TheWord text (word.Elementary elementary.Bool)) us rest
-  bool_type p [] rest h = absurd h
-  bool_type p (t ∷ ts) rest h = (h.0, h.1, (h.2.1.0, h.2.1.1 ∙ h.2.2.0))
+  -- a subrange takes no tokens or some
+  subrange_shorter : (ts : List Token) (s : Option Subrange) (rest : List Token) → SpellsSubrange text s ts rest → length rest ≤ length ts
+  subrange_shorter ts None rest h = let same = ap length h.0 in omega (arith, same)
+  subrange_shorter ts (Some s) rest h =
+      let h1 = h.2 in
+      let h2 = h1.2 in
+      let h3 = h2.2 in
+      let s1 = skip_shorter ts in
+      let s2 = one_shorter _ _ _ h.1 in
+      let s3 = skip_shorter h.0 in
+      let s4 = one_shorter _ _ _ h1.1 in
+      let s5 = skip_shorter h1.0 in
+      let s6 = one_shorter _ _ _ h2.1 in
+      let s7 = skip_shorter h2.0 in
+      let s8 = one_shorter _ _ _ h3.1 in
+      let s9 = skip_shorter h3.0 in
+      let s10 = one_shorter _ _ _ h3.2 in
+      omega arith
+
+  -- the word of a type, and a subrange
+  record HasType (p : Place) (e : Elementary) (s : Option Subrange) (us rest : List Token) : Type 0 where
+    behind : List Token
+    placed : At p (TheWord text (word.Elementary e)) us behind
+    limited : SpellsSubrange text s behind rest
+
+  -- a type is its word and a subrange
+  type_parts : (p : Place) (e : Elementary) (s : Option Subrange) (us rest : List Token) → SpellsType text (written p e s) us rest → HasType p e s us rest
+  type_parts p e s [] rest h = absurd h
+  type_parts p e s (t ∷ ts) rest h = record { behind = h.2.0; placed = (h.0, h.1, h.2.1); limited = h.2.2 }
+
+  -- a type takes tokens
+  type_shorter : (p : Place) (e : Elementary) (s : Option Subrange) (us rest : List Token) → SpellsType text (written p e s) us rest → length rest < length us
+  type_shorter p e s us rest h =
+      let parts = type_parts p e s us rest h in
+      let s1 = at_shorter p (TheWord text (word.Elementary e)) (one_shorter _) _ _ parts.placed in
+      let s2 = subrange_shorter parts.behind s rest parts.limited in
+      omega arith
+
+  -- where INT stands, BOOL doesn't
+  no_bool : (p : Place) (us rest : List Token) → At p (TheWord text (word.Elementary elementary.Int)) us rest → (other : List Token) → TheWord text (word.Elementary elementary.Bool) us other → ⊥
+  no_bool p [] rest h other w = h
+  no_bool p (t ∷ ts) rest h other w = let bad = sym h.2.0.1 ∙ w.0.1 in cc
+
+  -- where a word stands with its place, it stands
+  unplaced : (p : Place) (k : Keyword) (us rest : List Token) → At p (TheWord text k) us rest → TheWord text k us rest
+  unplaced p k [] rest h = absurd h
+  unplaced p k (t ∷ ts) rest h = h.2
+
+  -- a carried scalar type that is spelled is read
+  scalar_again : (ts : List Token) (p : Place) (e : Elementary) (s : Option Subrange) (rest : List Token) → SpellsType text (written p e s) (skip_line_ends ts) rest → IsCarriedScalar e s → type_at text ts ≡ Some (written p e s, rest)
+  unfolding type_at
+  scalar_again ts p elementary.Bool None rest h carried =
+      let parts = type_parts p elementary.Bool None (skip_line_ends ts) rest h in
+      rw (comes_again text (word.Elementary elementary.Bool) (codes "BOOL") key_bool.only ts parts.behind (unplaced p (word.Elementary elementary.Bool) _ _ parts.placed), placed_key_again key_bool ts p parts.behind parts.placed)
+      (ap (λ (r : List Token). Some (written p elementary.Bool None, r)) parts.limited.0)
+  scalar_again ts p elementary.Bool (Some s) rest h carried = absurd carried
+  scalar_again ts p elementary.Int s rest h carried =
+      let parts = type_parts p elementary.Int s (skip_line_ends ts) rest h in
+      rw (
+        absent_again text (word.Elementary elementary.Bool) (codes "BOOL") key_bool.there ts ts (refl, no_bool p (skip_line_ends ts) parts.behind parts.placed),
+        placed_key_again key_int ts p parts.behind parts.placed,
+        subrange_again parts.behind s rest parts.limited,
+      ) refl
+  scalar_again ts p elementary.Sint s rest h carried = absurd carried
+  scalar_again ts p elementary.Dint s rest h carried = absurd carried
+  scalar_again ts p elementary.Usint s rest h carried = absurd carried
+  scalar_again ts p elementary.Uint s rest h carried = absurd carried
+  scalar_again ts p elementary.Udint s rest h carried = absurd carried
+  scalar_again ts p elementary.Time s rest h carried = absurd carried
+
+  -- a type, as it is read again
+  record RereadsType (d : WrittenType) (ts rest : List Token) : Type 0 where
+    shorter : length rest < length ts
+    reads : type_at text ts ≡ Some (d, rest)
+
+  -- a carried type that is spelled is read
+  type_again : (ts : List Token) (p : Place) (f : TypeForm) (rest : List Token) → SpellsType text (record { place = p; form = f }) (skip_line_ends ts) rest → IsCarriedForm f → RereadsType (record { place = p; form = f }) ts rest
+  type_again ts p (form.Scalar s) rest h carried =
+      let s1 = skip_shorter ts in
+      let s2 = type_shorter p s.elementary s.subrange (skip_line_ends ts) rest h in
+      record { shorter = omega arith; reads = scalar_again ts p s.elementary s.subrange rest h carried }
+  type_again ts p (form.Array b e) rest h carried = absurd carried
+  type_again ts p (form.Block n) rest h carried = absurd carried
+
+  -- a literal takes a token
+  pub literal_shorter : (l : Literal) (us rest : List Token) → ALiteral text l us rest → length rest < length us
+  literal_shorter (literal.Truth b) us rest h = one_shorter _ us rest h
+  literal_shorter (literal.Bare v) us rest h = one_shorter _ us rest h
+  literal_shorter (literal.Whole e v) us rest h = one_shorter _ us rest h
+  literal_shorter (literal.Time v) us rest h = one_shorter _ us rest h
+
+  -- `:=` and a literal that are spelled are read
+  assigned_again : (ts m : List Token) (i : Initial) (rest : List Token) → TheSign Assign (skip_line_ends ts) m → At i.place (ALiteral text i.literal) (skip_line_ends m) rest → IsCarriedLiteral i.literal → assigned_at text ts ≡ Some (i, rest)
+  unfolding assigned_at
+  assigned_again ts m i rest sign value carried = rw (sign_again Assign ts m sign) (placed_literal_again text (skip_line_ends m) i rest value carried)
+
+  -- an initial value, as it is read again
+  record RereadsInitial (i : Option Initial) (ts rest : List Token) : Type 0 where
+    shorter : length rest < length ts
+    reads : initial_at text ts ≡ Some (i, rest)
+
+  -- a carried initial value that is spelled is read
+  initial_again : (ts : List Token) (i : Option Initial) (rest : List Token) → SpellsInitial text i (skip_line_ends ts) rest → IsCarriedInitial i → RereadsInitial i ts rest
+  unfolding initial_at
+  initial_again ts None rest h carried =
+      let s1 = skip_shorter ts in
+      let s2 = one_shorter _ _ _ h in
+      record {
+        shorter = omega arith;
+        reads = rw (sign_missing Assign ts (signs_apart Semicolon Assign (λ bad. cc) (skip_line_ends ts) rest h), sign_again Semicolon ts rest h) refl;
+      }
+  initial_again ts (Some i) rest h carried =
+      let h1 = h.2 in
+      let s1 = skip_shorter ts in
+      let s2 = one_shorter _ _ _ h.1 in
+      let s3 = skip_shorter h.0 in
+      let s4 = at_shorter i.place (ALiteral text i.literal) (literal_shorter i.literal) _ _ h1.1 in
+      let s5 = skip_shorter h1.0 in
+      let s6 = one_shorter _ _ _ h1.2 in
+      record {
+        shorter = omega arith;
+        reads = rw (sign_stands Assign ts h.0 h.1, assigned_again ts h.0 i h1.0 h.1 h1.1 carried, sign_again Semicolon h1.0 rest h1.2) refl;
+      }
 
   -- a declaration, as it is read again
   record RereadsDeclaration (d : Declaration) (ts rest : List Token) : Type 0 where
@@ -346,30 +484,23 @@ module _ (text : List ℕ) (ascii : IsAscii text) where
     shorter : length rest < length ts
     reads : declaration_at text ts ≡ Some (d, rest)
 
-  -- a declaration of BOOL variables is read
-  bools_again : (ns : List Named) (p : Place) (ts rest : List Token) → SpellsDeclaration text (bools ns p) (skip_line_ends ts) rest → RereadsDeclaration (bools ns p) ts rest
+  -- a carried declaration that is spelled is read
+  declaration_again : (ts : List Token) (d : Declaration) (rest : List Token) → SpellsDeclaration text d (skip_line_ends ts) rest → IsCarriedDeclaration d → RereadsDeclaration d ts rest
   unfolding declaration_at
-  bools_again ns p ts rest h =
-      let names = names_again ns ts h.0 h.1 in
-      let typed = bool_type p (skip_line_ends h.0) h.2.0 h.2.1 in
+  declaration_again ts d rest h carried =
+      let names = names_again d.names ts h.0 h.1 in
+      let typed = type_again h.0 d.declared.place d.declared.form h.2.0 h.2.1 carried.0 in
+      let value = initial_again h.2.0 d.initial rest h.2.2 carried.1 in
       let s1 = names.shorter in
-      let s2 = skip_shorter h.0 in
-      let s3 = at_shorter p (TheWord text (word.Elementary elementary.Bool)) (one_shorter _) _ _ typed in
-      let s4 = skip_shorter h.2.0 in
-      let s5 = one_shorter _ _ _ h.2.2 in
+      let s2 = typed.shorter in
+      let s3 = value.shorter in
       record {
         first = names.first;
         behind = names.behind;
         named = names.named;
         shorter = omega arith;
-        reads = rw (names.reads, placed_key_again key_bool h.0 p h.2.0 typed, sign_again Semicolon h.2.0 rest h.2.2) refl;
+        reads = rw (names.reads, typed.reads, value.reads) refl;
       }
-
-  -- a carried declaration that is spelled is read
-  declaration_again : (ts : List Token) (d : Declaration) (rest : List Token) → SpellsDeclaration text d (skip_line_ends ts) rest → IsCarriedDeclaration d → RereadsDeclaration d ts rest
-  declaration_again ts d rest h carried =
-      let same = bools_is d carried in
-      subst (λ (x : Declaration). RereadsDeclaration x ts rest) same (bools_again d.names d.declared.place ts rest (subst (λ (x : Declaration). SpellsDeclaration text x (skip_line_ends ts) rest) (sym same) h))
 
   -- a name is no reserved word
   name_no_word : (k : Keyword) (n : Named) (us rest : List Token) → TheName text n us rest → (other : List Token) → TheWord text k us other → ⊥
@@ -377,15 +508,16 @@ module _ (text : List ℕ) (ascii : IsAscii text) where
   name_no_word k n (t ∷ ts) rest h other w = let bad = sym (ap keyword_of h.2.0.1 ∙ h.2.0.2) ∙ w.0.1 in cc
 
   -- the list of variables
-  pub variables_again : (ts : List Token) (ds : List Declaration) (rest : List Token) → SpellsOptionalList text word.Var (SpellsDeclaration text) ds ts rest → AllByRecursion IsCarriedDeclaration ds → variables_at text ts ≡ Some (ds, rest)
+  pub variables_again : (ts : List Token) (ds : List Declaration) (rest : List Token) → SpellsOptionalList text word.Var (SpellsDeclaration text) ds ts rest → AreCarriedVariables ds → variables_at text ts ≡ Some (ds, rest)
   unfolding variables_at
   variables_again ts ds rest (inl h) all =
+      let each = each_declaration ds all in
       let r = many_again (SpellsDeclaration text) IsCarriedDeclaration (TheWord text word.EndVar) (comes text (codes "END_VAR")) (declaration_at text)
       (λ us d r s c. (declaration_again us d r s c).reads)
       (λ us d r s c. let x = declaration_again us d r s c in absent_again text word.EndVar (codes "END_VAR") key_end_var.there us us (refl, name_no_word word.EndVar x.first (skip_line_ends us) x.behind x.named))
       (λ us r w. comes_again text word.EndVar (codes "END_VAR") key_end_var.only us r w)
-      ds h.0 rest h.2 all in
-      let few = repeats_length (SpellsDeclaration text) IsCarriedDeclaration (TheWord text word.EndVar) (λ us d r s c. (declaration_again us d r s c).shorter) ds h.0 rest h.2 all in
+      ds h.0 rest h.2 each in
+      let few = repeats_length (SpellsDeclaration text) IsCarriedDeclaration (TheWord text word.EndVar) (λ us d r s c. (declaration_again us d r s c).shorter) ds h.0 rest h.2 each in
       rw (comes_again text word.Var (codes "VAR") key_var.only ts h.0 h.1, keyword_again key_var ts h.0 h.1, r.reads (suc (length h.0)) (omega arith), keyword_again key_end_var r.after rest r.end) refl
   variables_again ts ds rest (inr h) all =
       rw (absent_again text word.Var (codes "VAR") key_var.there ts rest h.1) (ap (λ (x : List Declaration). Some (x, ts)) (sym h.0) ∙ ap (λ (r : List Token). Some (ds, r)) h.1.0)

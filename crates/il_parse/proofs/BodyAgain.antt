@@ -1,14 +1,11 @@
 -- What is spelled of a body is read.
-use Rattle.std.proofs.Common.{◌≡◌, ℕ, ◌≤◌, Bool, true, false, ◌&&◌, List, [], ◌∷◌, length, codes, eqb, Option, Some, None, refl, sym, ap, subst, ◌∙◌, inl, inr, arith}
-use Rattle.std.specs.Prelude.{bytes_eq}
+use Rattle.std.proofs.Common.{◌≡◌, ℕ, suc, ◌<◌, ◌≤◌, Bool, true, false, not, ◌&&◌, List, [], ◌∷◌, length, codes, eqb, Option, Some, None, refl, sym, ap, subst, ◌∙◌, inl, inr, arith}
 use Rattle.std.specs.List.{AllByRecursion}
 use Rattle.std.specs.Str.{IsAscii}
 use Rattle.std.proofs.lemmas.Bool.{eqb-true}
-use Rattle.il_spec.specs.declared.token.Sign.{Sign}
-use Rattle.il_spec.specs.declared.token.Sign.TheVariants.{Ampersand}
+use Rattle.il_spec.specs.declared.token.Sign.TheVariants.{Comma, Ampersand}
 use Rattle.il_spec.specs.declared.token.Kind.TheVariants as kind
 use Rattle.il_spec.specs.declared.token.Token.{Token}
-use Rattle.il_spec.specs.declared.keyword.Keyword.{Keyword}
 use Rattle.il_spec.specs.declared.keyword.Keyword.TheVariants as word
 use Rattle.il_spec.specs.declared.tree.Named.{Named}
 use Rattle.il_spec.specs.declared.tree.Place.{Place}
@@ -16,8 +13,11 @@ use Rattle.il_spec.specs.declared.tree.Literal.TheVariants as literal
 use Rattle.il_spec.specs.declared.tree.Reference.{Reference}
 use Rattle.il_spec.specs.declared.tree.Reference.TheVariants as reference
 use Rattle.il_spec.specs.declared.tree.Operand.{Operand}
+use Rattle.il_spec.specs.declared.tree.Operator.{Operator}
 use Rattle.il_spec.specs.declared.tree.Operator.TheVariants.{Logic, Arithmetic, Comparison}
 use Rattle.il_spec.specs.declared.tree.Logic.TheVariants.{Conjunction, Disjunction, Exclusive}
+use Rattle.il_spec.specs.declared.tree.Arithmetic.TheVariants.{Add, Sub, Mul, Div, Mod}
+use Rattle.il_spec.specs.declared.tree.Store.{Store as StoreKind}
 use Rattle.il_spec.specs.declared.tree.Store.TheVariants.{Plain, Negated, Set, Reset}
 use Rattle.il_spec.specs.declared.tree.Instruction.{Instruction}
 use Rattle.il_spec.specs.declared.tree.Instruction.TheVariants as instruction
@@ -25,29 +25,16 @@ use Rattle.il_spec.specs.declared.tree.Step.{Step}
 use Rattle.il_spec.specs.declared.tree.Body.{Body}
 use Rattle.il_spec.specs.Text.{name_of}
 use Rattle.il_spec.specs.Words.{keyword_of}
-use Rattle.il_spec.specs.Grammar.{skip_line_ends, tight, ◌⨾◌, ◌⋯◌, No, At, Repeats, TheLineEnd, TheWord, TheLetterN, SpellsOperand, SpellsInstruction, SpellsStep, SpellsBody}
+use Rattle.il_spec.specs.Grammar.{is_line_end, skip_line_ends, tight, ◌⨾◌, ◌⋯◌, No, At, Repeats, TheSign, TheLineEnd, TheWord, TheLetterN, SpellsReference, SpellsOperand, SpellsOperands, SpellsOperator, SpellsInstruction, SpellsStep, SpellsBody}
 use Rattle.il_parse.specs.declared.body.Action.{Action}
 use Rattle.il_parse.specs.declared.body.Action.TheVariants as action
-use Rattle.il_parse.specs.Carried.{IsCarriedInstruction, IsCarriedStep, IsCarriedOperand, IsPlainName}
-use Rattle.il_parse.specs.Reading.{◌>>=◌, is_word_kind, is_sign, is_word, comes, action_of, is_negated, first_at, target_at, operand_at, target_line_at, operand_line_at, instruction_at, step_behind, operator_at, step_at, body_at}
-use Rattle.il_parse.proofs.Leaves.{sign_same, both_true, is_word_sound, is_word_again, line_end_again, bytes_again, comes_again, absent_again}
-use Rattle.il_parse.proofs.Keys.{IsSpelled, key_load, key_load_not, key_store, key_store_not, key_not, key_and, key_or, key_true, key_false, key_end_program}
-use Rattle.il_parse.proofs.Again.{name_again, placed_key_again, many_again}
-
--- a sign is no word
-not_word : (text w : List ℕ) (t : Token) (s : Sign) → t.kind ≡ kind.Sign s → is_word text w t ≡ false
-unfolding is_word
-not_word text w t s e = rw (ap is_word_kind e) refl
-
--- which word a token is, by its bytes
-word_by : (text w n : List ℕ) (t : Token) → t.kind ≡ kind.Word → name_of text t ≡ n → is_word text w t ≡ bytes_eq n w
-unfolding is_word
-word_by text w n t k e = rw (ap is_word_kind k, e) refl
-
--- a name is no keyword
-name_apart : (text w n : List ℕ) (k : Keyword) (t : Token) (b : Bool) → IsSpelled k w → is_word text w t ≡ b → name_of text t ≡ n → keyword_of n ≡ None → is_word text w t ≡ false
-name_apart text w n k t true key e spelled free = let word = is_word_sound text w t e in let bad = sym key.there ∙ ap keyword_of (sym word.1 ∙ spelled) ∙ free in absurd cc
-name_apart text w n k t false key e spelled free = e
+use Rattle.il_rules.specs.Subset.{IsCarriedOperand, AreCarriedOperands, IsCarriedPlace, IsCarriedOperator, IsCarriedStore, IsCarriedInstruction, AreCarriedSteps}
+use Rattle.il_parse.specs.Reading.{◌>>=◌, place_of, is_word_kind, is_sign, is_word, comes, action_of, is_negated, first_at, listed_at, target_at, operand_at, target_line_at, operand_line_at, no_tight_comma, next_operand_at, some_operands_at, operands_at, instruction_at, step_behind, operator_at, step_at, body_at}
+use Rattle.il_parse.proofs.Leaves.{sign_same, first_stands, both_true, is_word_sound, word_by, no_word, line_end_again, bytes_again, comes_again, absent_again}
+use Rattle.il_parse.proofs.Keys.{key_load, key_load_not, key_store, key_store_not, key_not, key_and, key_or, key_add, key_sub, key_end_program}
+use Rattle.il_parse.proofs.Parts.{IsCarriedArgument, IsCarriedStep, each_operand, each_step}
+use Rattle.il_parse.proofs.Literals.{literal_again, name_no_literal}
+use Rattle.il_parse.proofs.Again.{at_shorter, one_shorter, name_again, placed_key_again, many_again, others_again, literal_shorter}
 
 -- no letter N behind an ampersand, no negation
 negation : (text : List ℕ) (t : Token) (n : Token) (ns : List Token) (b : Bool) → ((is_sign Ampersand t.kind && eqb n.start t.end) && is_word text (codes "N") n) ≡ b → No (TheLetterN text t.end) (n ∷ ns) (n ∷ ns) → b ≡ false
@@ -70,35 +57,26 @@ plain_word text t (n ∷ ns) k = rw k refl
 
 module _ (text : List ℕ) (ascii : IsAscii text) where
   -- a name that is spelled as an operand is read
-  target_again : (p : Place) (r : Reference) (ts rest : List Token) → IsPlainName r → SpellsOperand text tight (record { place = p; reference = r }) ts rest → target_at text ts ≡ Some (record { place = p; reference = r }, rest)
+  target_again : (p : Place) (r : Reference) (ts rest : List Token) → IsCarriedPlace r → SpellsOperand text tight (record { place = p; reference = r }) ts rest → target_at text ts ≡ Some (record { place = p; reference = r }, rest)
   unfolding target_at
-  target_again p (reference.Literal v) ts rest plain h = absurd plain
-  target_again p (reference.Element n i) ts rest plain h = absurd plain
-  target_again p (reference.Member n m) ts rest plain h = absurd plain
-  target_again p (reference.Variable n) [] rest plain h = absurd h
-  target_again p (reference.Variable n) (t ∷ ts) rest plain h =
+  target_again p (reference.Literal v) ts rest carried h = absurd carried
+  target_again p (reference.Element n i) ts rest carried h = absurd carried
+  target_again p (reference.Member n m) ts rest carried h = absurd carried
+  target_again p (reference.Variable n) [] rest carried h = absurd h
+  target_again p (reference.Variable n) (t ∷ ts) rest carried h =
       let end = h.2.2.1.0 ∙ h.2.2.2.0 in
       rw (name_again text ascii (t ∷ ts) n h.2.0 h.2.1, h.0, h.1, end) refl
 
   -- a carried operand that is spelled is read
   operand_again : (p : Place) (r : Reference) (ts rest : List Token) → IsCarriedOperand r → SpellsOperand text tight (record { place = p; reference = r }) ts rest → operand_at text ts ≡ Some (record { place = p; reference = r }, rest)
   unfolding operand_at
-  operand_again p (reference.Element n i) ts rest plain h = absurd plain
-  operand_again p (reference.Member n m) ts rest plain h = absurd plain
-  operand_again p (reference.Literal (literal.Bare v)) ts rest plain h = absurd plain
-  operand_again p (reference.Literal (literal.Whole e v)) ts rest plain h = absurd plain
-  operand_again p (reference.Literal (literal.Time v)) ts rest plain h = absurd plain
-  operand_again p (reference.Literal (literal.Truth v)) [] rest plain h = absurd h
-  operand_again p (reference.Literal (literal.Truth true)) (t ∷ ts) rest plain h =
-      rw (is_word_again text (codes "TRUE") t h.2.0.0 (key_true.only (name_of text t) h.2.0.1), h.0, h.1, h.2.1) refl
-  operand_again p (reference.Literal (literal.Truth false)) (t ∷ ts) rest plain h =
-      let spelled = key_false.only (name_of text t) h.2.0.1 in
-      rw (word_by text (codes "TRUE") (codes "FALSE") t h.2.0.0 spelled, word_by text (codes "FALSE") (codes "FALSE") t h.2.0.0 spelled, h.0, h.1, h.2.1) refl
-  operand_again p (reference.Variable n) [] rest plain h = absurd h
-  operand_again p (reference.Variable n) (t ∷ ts) rest plain h =
-      let a = name_apart text (codes "TRUE") n (word.Truth true) t (is_word text (codes "TRUE") t) key_true refl h.2.1.0.1 h.2.1.0.2 in
-      let b = name_apart text (codes "FALSE") n (word.Truth false) t (is_word text (codes "FALSE") t) key_false refl h.2.1.0.1 h.2.1.0.2 in
-      rw (a, b) (target_again p (reference.Variable n) (t ∷ ts) rest tt h)
+  operand_again p (reference.Element n i) ts rest carried h = absurd carried
+  operand_again p (reference.Member n m) ts rest carried h = absurd carried
+  operand_again p (reference.Literal l) [] rest carried h = absurd h
+  operand_again p (reference.Literal l) (t ∷ ts) rest carried h = let read = literal_again text t l ts rest h.2 carried in rw (read.0, h.0, h.1, read.1) refl
+  operand_again p (reference.Variable n) [] rest carried h = absurd h
+  operand_again p (reference.Variable n) (t ∷ ts) rest carried h =
+      rw (name_no_literal text t n h.2.1.0.0 h.2.1.0.1 h.2.1.0.2) (target_again p (reference.Variable n) (t ∷ ts) rest tt h)
 
   -- also with the end of its line
   operand_line_again : (o : Operand) (ts rest : List Token) → IsCarriedOperand o.reference → (SpellsOperand text tight o ⨾ TheLineEnd) ts rest → operand_line_at text ts ≡ Some (o, rest)
@@ -106,9 +84,75 @@ module _ (text : List ℕ) (ascii : IsAscii text) where
   operand_line_again o ts rest carried h = rw (operand_again o.place o.reference ts h.0 carried h.1, line_end_again h.0 rest h.2) refl
 
   -- a name also with the end of its line
-  target_line_again : (o : Operand) (ts rest : List Token) → IsPlainName o.reference → (SpellsOperand text tight o ⨾ TheLineEnd) ts rest → target_line_at text ts ≡ Some (o, rest)
+  target_line_again : (o : Operand) (ts rest : List Token) → IsCarriedPlace o.reference → (SpellsOperand text tight o ⨾ TheLineEnd) ts rest → target_line_at text ts ≡ Some (o, rest)
   unfolding target_line_at
   target_line_again o ts rest plain h = rw (target_again o.place o.reference ts h.0 plain h.1, line_end_again h.0 rest h.2) refl
+
+  -- where an operand stands, the line doesn't end
+  goes_on : (r : Reference) (t : Token) (ts rest : List Token) → IsCarriedOperand r → SpellsReference text tight r (t ∷ ts) rest → is_line_end t.kind ≡ false
+  goes_on (reference.Element n i) t ts rest carried h = absurd carried
+  goes_on (reference.Member n m) t ts rest carried h = absurd carried
+  goes_on (reference.Literal (literal.Truth v)) t ts rest carried h = ap is_line_end h.0.0
+  goes_on (reference.Literal (literal.Bare v)) t ts rest carried h = ap is_line_end h.0
+  goes_on (reference.Literal (literal.Whole e v)) t ts rest carried h = ap is_line_end h.0
+  goes_on (reference.Literal (literal.Time v)) t ts rest carried h = absurd carried
+  goes_on (reference.Variable n) t ts rest carried h = ap is_line_end h.1.0.0
+
+  -- a reference takes tokens
+  reference_shorter : (r : Reference) (us rest : List Token) → IsCarriedOperand r → SpellsReference text tight r us rest → length rest < length us
+  reference_shorter (reference.Element n i) us rest carried h = absurd carried
+  reference_shorter (reference.Member n m) us rest carried h = absurd carried
+  reference_shorter (reference.Literal l) us rest carried h = literal_shorter text ascii l us rest h
+  reference_shorter (reference.Variable n) us rest carried h =
+      let s1 = one_shorter _ us h.0 h.1 in
+      let s2 = ap length h.2.1.0 in
+      let s3 = ap length h.2.2.0 in
+      omega (arith, s1, s2, s3)
+
+  -- an operand takes tokens
+  operand_shorter : (o : Operand) (us rest : List Token) → IsCarriedOperand o.reference → SpellsOperand text tight o us rest → length rest < length us
+  operand_shorter o us rest carried h = at_shorter o.place (SpellsReference text tight o.reference) (λ vs r x. reference_shorter o.reference vs r carried x) us rest h
+
+  -- a comma and an operand that are spelled are read
+  next_operand_again : (ts m : List Token) (o : Operand) (rest : List Token) → TheSign Comma ts m → SpellsOperand text tight o m rest → IsCarriedArgument o → next_operand_at text ts ≡ Some (o, rest)
+  unfolding next_operand_at
+  next_operand_again [] m o rest comma h carried = absurd comma
+  next_operand_again (t ∷ ts) m o rest comma h carried =
+      rw (sign_same Comma t.kind comma.0, comma.1) (operand_again o.place o.reference m rest carried h)
+
+  -- they take tokens
+  next_operand_shorter : (ts m : List Token) (o : Operand) (rest : List Token) → TheSign Comma ts m → SpellsOperand text tight o m rest → IsCarriedArgument o → length rest < length ts
+  next_operand_shorter ts m o rest comma h carried =
+      let s1 = one_shorter _ ts m comma in
+      let s2 = operand_shorter o m rest carried h in
+      omega arith
+
+  -- a line end ends the operands
+  line_stops : (ts rest : List Token) → TheLineEnd ts rest → no_tight_comma ts ≡ true
+  line_stops [] rest h = absurd h
+  line_stops (t ∷ ts) rest h = ap not (ap (is_sign Comma) h.0)
+
+  -- a comma brings another operand
+  comma_brings : (ts rest : List Token) → TheSign Comma ts rest → no_tight_comma ts ≡ false
+  comma_brings ts rest h = ap not (first_stands Comma ts rest h)
+
+  -- where an operand stands, operands are read
+  some_read : (o : Operand) (us rest : List Token) → IsCarriedOperand o.reference → SpellsOperand text tight o us rest → operands_at text us ≡ some_operands_at text us
+  unfolding operands_at
+  some_read o [] rest carried h = absurd h
+  some_read o (t ∷ ts) rest carried h = rw (goes_on o.reference t ts rest carried h.2) refl
+
+  -- operands that are spelled are read
+  operands_again : (os : List Operand) (ts rest : List Token) → SpellsOperands text os ts rest → AreCarriedOperands os → operands_at text ts ≡ Some (os, rest)
+  unfolding operands_at listed_at
+  operands_again [] [] rest h carried = absurd h
+  operands_again [] (t ∷ ts) rest h carried = rw (ap is_line_end h.0) (ap (λ (r : List Token). Some ([], r)) h.1)
+  operands_again (o ∷ os) ts rest h carried =
+      let r = others_again tight (SpellsOperand text tight) IsCarriedArgument TheLineEnd no_tight_comma (next_operand_at text) next_operand_again next_operand_shorter comma_brings line_stops os o ts rest h (each_operand os carried.1) in
+      let few = r.few in
+      let read : some_operands_at text ts ≡ Some (o ∷ os, rest) =
+      rw (operand_again o.place o.reference ts r.first carried.0 r.value, r.reads (suc (length r.first)) (omega arith), line_end_again r.after rest r.end) refl in
+      some_read o ts r.first carried.0 r.value ∙ read
 
   -- the action of a token, and that it doesn't negate
   record Acts (t : Token) (ts : List Token) (a : Action) : Type 0 where
@@ -137,25 +181,69 @@ module _ (text : List ℕ) (ascii : IsAscii text) where
   not_acts t ts k h = let by = λ (n : List ℕ). word_by text n (codes "NOT") t k (key_not.only (name_of text t) h) in record { acts = rw (by (codes "LD"), by (codes "LDN"), by (codes "ST"), by (codes "STN"), by (codes "NOT")) refl; plain = plain_word text t ts k }
 
   -- AND
-  and_acts : (t : Token) (ts : List Token) → t.kind ≡ kind.Word → keyword_of (name_of text t) ≡ Some (word.Operate (Logic Conjunction false)) → Acts t ts (action.Operate Conjunction)
+  and_acts : (t : Token) (ts : List Token) → t.kind ≡ kind.Word → keyword_of (name_of text t) ≡ Some (word.Operate (Logic Conjunction false)) → Acts t ts (action.Operate (Logic Conjunction false))
   unfolding action_of
   and_acts t ts k h = let by = λ (n : List ℕ). word_by text n (codes "AND") t k (key_and.only (name_of text t) h) in record { acts = rw (by (codes "LD"), by (codes "LDN"), by (codes "ST"), by (codes "STN"), by (codes "NOT"), by (codes "AND")) refl; plain = plain_word text t ts k }
 
   -- OR
-  or_acts : (t : Token) (ts : List Token) → t.kind ≡ kind.Word → keyword_of (name_of text t) ≡ Some (word.Operate (Logic Disjunction false)) → Acts t ts (action.Operate Disjunction)
+  or_acts : (t : Token) (ts : List Token) → t.kind ≡ kind.Word → keyword_of (name_of text t) ≡ Some (word.Operate (Logic Disjunction false)) → Acts t ts (action.Operate (Logic Disjunction false))
   unfolding action_of
   or_acts t ts k h = let by = λ (n : List ℕ). word_by text n (codes "OR") t k (key_or.only (name_of text t) h) in record { acts = rw (by (codes "LD"), by (codes "LDN"), by (codes "ST"), by (codes "STN"), by (codes "NOT"), by (codes "AND"), ap (is_sign Ampersand) k, by (codes "OR")) refl; plain = plain_word text t ts k }
 
-  -- the ampersand
-  sign_acts : (t : Token) (ts : List Token) → t.kind ≡ kind.Sign Ampersand → No (TheLetterN text t.end) ts ts → Acts t ts (action.Operate Conjunction)
+  -- ADD
+  add_acts : (t : Token) (ts : List Token) → t.kind ≡ kind.Word → keyword_of (name_of text t) ≡ Some (word.Operate (Arithmetic Add)) → Acts t ts (action.Operate (Arithmetic Add))
   unfolding action_of
-  sign_acts t ts k none = let by = λ (n : List ℕ). not_word text n t Ampersand k in record { acts = rw (by (codes "LD"), by (codes "LDN"), by (codes "ST"), by (codes "STN"), by (codes "NOT"), by (codes "AND"), sign_same Ampersand t.kind k) refl; plain = plain_sign text t ts none }
+  add_acts t ts k h = let by = λ (n : List ℕ). word_by text n (codes "ADD") t k (key_add.only (name_of text t) h) in record { acts = rw (by (codes "LD"), by (codes "LDN"), by (codes "ST"), by (codes "STN"), by (codes "NOT"), by (codes "AND"), ap (is_sign Ampersand) k, by (codes "OR"), by (codes "ADD")) refl; plain = plain_word text t ts k }
+
+  -- SUB
+  sub_acts : (t : Token) (ts : List Token) → t.kind ≡ kind.Word → keyword_of (name_of text t) ≡ Some (word.Operate (Arithmetic Sub)) → Acts t ts (action.Operate (Arithmetic Sub))
+  unfolding action_of
+  sub_acts t ts k h = let by = λ (n : List ℕ). word_by text n (codes "SUB") t k (key_sub.only (name_of text t) h) in record { acts = rw (by (codes "LD"), by (codes "LDN"), by (codes "ST"), by (codes "STN"), by (codes "NOT"), by (codes "AND"), ap (is_sign Ampersand) k, by (codes "OR"), by (codes "ADD"), by (codes "SUB")) refl; plain = plain_word text t ts k }
+
+  -- LIMIT
+  limit_acts : (t : Token) (ts : List Token) → t.kind ≡ kind.Word → name_of text t ≡ codes "LIMIT" → Acts t ts action.Limit
+  unfolding action_of
+  limit_acts t ts k h = let by = λ (n : List ℕ). word_by text n (codes "LIMIT") t k h in record { acts = rw (by (codes "LD"), by (codes "LDN"), by (codes "ST"), by (codes "STN"), by (codes "NOT"), by (codes "AND"), ap (is_sign Ampersand) k, by (codes "OR"), by (codes "ADD"), by (codes "SUB"), by (codes "LIMIT")) refl; plain = plain_word text t ts k }
+
+  -- the ampersand
+  sign_acts : (t : Token) (ts : List Token) → t.kind ≡ kind.Sign Ampersand → No (TheLetterN text t.end) ts ts → Acts t ts (action.Operate (Logic Conjunction false))
+  unfolding action_of
+  sign_acts t ts k none = let by = λ (n : List ℕ). no_word text n t (ap is_word_kind k) in record { acts = rw (by (codes "LD"), by (codes "LDN"), by (codes "ST"), by (codes "STN"), by (codes "NOT"), by (codes "AND"), sign_same Ampersand t.kind k) refl; plain = plain_sign text t ts none }
 
   -- an action with what stands behind it is a step
-  step_from : (p : Place) (t : Token) (ts : List Token) (a : Action) (i : Instruction) (rest : List Token) → t.start ≡ p.offset → t.line ≡ p.line → Acts t ts a → instruction_at text a ts ≡ Some (i, rest)
+  step_from : (p : Place) (t : Token) (ts : List Token) (a : Action) (i : Instruction) (rest : List Token) → t.start ≡ p.offset → t.line ≡ p.line → Acts t ts a → instruction_at text t a ts ≡ Some (i, rest)
       → (action_of text t >>= λ x. step_behind text t x ts) ≡ Some (record { labels = []; place = p; instruction = i }, rest)
   unfolding step_behind
   step_from p t ts a i rest o l acts e = rw (acts.acts, acts.plain, e, o, l) refl
+
+  -- ST and STN
+  stores_again : (store : StoreKind) (t : Token) (ts : List Token) → IsCarriedStore store → t.kind ≡ kind.Word → keyword_of (name_of text t) ≡ Some (word.Store store) → Acts t ts (action.Store store)
+  stores_again Plain t ts carried k h = store_acts t ts k h
+  stores_again Negated t ts carried k h = store_not_acts t ts k h
+  stores_again Set t ts carried k h = absurd carried
+  stores_again Reset t ts carried k h = absurd carried
+
+  -- AND, OR, ADD and SUB
+  operators_again : (op : Operator) (t : Token) (ts m : List Token) → IsCarriedOperator op → SpellsOperator text op (t ∷ ts) m → Acts t ts (action.Operate op) × (ts ≡ m)
+  operators_again (Logic Conjunction false) t ts m carried (inl w) = (and_acts t ts w.0.0 w.0.1, w.1)
+  operators_again (Logic Conjunction false) t ts m carried (inr w) = (sign_acts t ts w.0 (refl, w.1.1), w.1.0)
+  operators_again (Logic Disjunction false) t ts m carried (inl w) = (or_acts t ts w.0.0 w.0.1, w.1)
+  operators_again (Logic Disjunction false) t ts m carried (inr w) = absurd w
+  operators_again (Arithmetic Add) t ts m carried (inl w) = (add_acts t ts w.0.0 w.0.1, w.1)
+  operators_again (Arithmetic Add) t ts m carried (inr w) = absurd w
+  operators_again (Arithmetic Sub) t ts m carried (inl w) = (sub_acts t ts w.0.0 w.0.1, w.1)
+  operators_again (Arithmetic Sub) t ts m carried (inr w) = absurd w
+  operators_again (Logic Conjunction true) t ts m carried h = absurd carried
+  operators_again (Logic Disjunction true) t ts m carried h = absurd carried
+  operators_again (Logic Exclusive n) t ts m carried h = absurd carried
+  operators_again (Arithmetic Mul) t ts m carried h = absurd carried
+  operators_again (Arithmetic Div) t ts m carried h = absurd carried
+  operators_again (Arithmetic Mod) t ts m carried h = absurd carried
+  operators_again (Comparison c) t ts m carried h = absurd carried
+
+  -- LIMIT where it is written
+  limit_is : (f : Named) (t : Token) → t.start ≡ f.place.offset → t.line ≡ f.place.line → f.name ≡ codes "LIMIT" → record { place = place_of t; name = codes "LIMIT" } ≡ f
+  limit_is f t s l n = ap (λ (x : List ℕ). record { place = place_of t; name = x }) (sym n) ∙ rw (s, l) refl
 
   -- a carried instruction behind its operator's token
   instruction_again : (p : Place) (i : Instruction) (t : Token) (ts rest : List Token) → t.start ≡ p.offset → t.line ≡ p.line → IsCarriedInstruction i → SpellsInstruction text i (t ∷ ts) rest
@@ -163,32 +251,22 @@ module _ (text : List ℕ) (ascii : IsAscii text) where
   unfolding instruction_at
   instruction_again p (instruction.Load negated o) t ts rest s l carried h =
       step_from p t ts (action.Load negated) (instruction.Load negated o) rest s l (load_acts negated t ts h.1.0.0 h.1.0.1) (rw (operand_line_again o ts rest carried (subst (λ (m : List Token). (SpellsOperand text tight o ⨾ TheLineEnd) m rest) (sym h.1.1) h.2)) refl)
-  instruction_again p (instruction.Store Plain o) t ts rest s l carried h =
-      step_from p t ts (action.Store Plain) (instruction.Store Plain o) rest s l (store_acts t ts h.1.0.0 h.1.0.1) (rw (target_line_again o ts rest carried (subst (λ (m : List Token). (SpellsOperand text tight o ⨾ TheLineEnd) m rest) (sym h.1.1) (h.2.0, h.2.1.1, h.2.2))) refl)
-  instruction_again p (instruction.Store Negated o) t ts rest s l carried h =
-      step_from p t ts (action.Store Negated) (instruction.Store Negated o) rest s l (store_not_acts t ts h.1.0.0 h.1.0.1) (rw (target_line_again o ts rest carried (subst (λ (m : List Token). (SpellsOperand text tight o ⨾ TheLineEnd) m rest) (sym h.1.1) (h.2.0, h.2.1.1, h.2.2))) refl)
-  instruction_again p (instruction.Store Set o) t ts rest s l carried h = absurd carried
-  instruction_again p (instruction.Store Reset o) t ts rest s l carried h = absurd carried
+  instruction_again p (instruction.Store store o) t ts rest s l carried h =
+      step_from p t ts (action.Store store) (instruction.Store store o) rest s l (stores_again store t ts carried.0 h.1.0.0 h.1.0.1) (rw (target_line_again o ts rest carried.1 (subst (λ (m : List Token). (SpellsOperand text tight o ⨾ TheLineEnd) m rest) (sym h.1.1) (h.2.0, h.2.1.1, h.2.2))) refl)
   instruction_again p instruction.Not t ts rest s l carried h =
       step_from p t ts action.Not instruction.Not rest s l (not_acts t ts h.1.0.0 h.1.0.1) (rw (line_end_again ts rest (subst (λ (m : List Token). TheLineEnd m rest) (sym h.1.1) h.2)) refl)
-  instruction_again p (instruction.Operate (Logic Conjunction false) o) t ts rest s l carried (m, inl w, h) =
-      step_from p t ts (action.Operate Conjunction) (instruction.Operate (Logic Conjunction false) o) rest s l (and_acts t ts w.0.0 w.0.1) (rw (operand_line_again o ts rest carried (subst (λ (m : List Token). (SpellsOperand text tight o ⨾ TheLineEnd) m rest) (sym w.1) h)) refl)
-  instruction_again p (instruction.Operate (Logic Conjunction false) o) t ts rest s l carried (m, inr w, h) =
-      step_from p t ts (action.Operate Conjunction) (instruction.Operate (Logic Conjunction false) o) rest s l (sign_acts t ts w.0 (refl, w.1.1)) (rw (operand_line_again o ts rest carried (subst (λ (m : List Token). (SpellsOperand text tight o ⨾ TheLineEnd) m rest) (sym w.1.0) h)) refl)
-  instruction_again p (instruction.Operate (Logic Disjunction false) o) t ts rest s l carried (m, inl w, h) =
-      step_from p t ts (action.Operate Disjunction) (instruction.Operate (Logic Disjunction false) o) rest s l (or_acts t ts w.0.0 w.0.1) (rw (operand_line_again o ts rest carried (subst (λ (m : List Token). (SpellsOperand text tight o ⨾ TheLineEnd) m rest) (sym w.1) h)) refl)
-  instruction_again p (instruction.Operate (Logic Disjunction false) o) t ts rest s l carried (m, inr w, h) = absurd w
-  instruction_again p (instruction.Operate (Logic Conjunction true) o) t ts rest s l carried h = absurd carried
-  instruction_again p (instruction.Operate (Logic Disjunction true) o) t ts rest s l carried h = absurd carried
-  instruction_again p (instruction.Operate (Logic Exclusive n) o) t ts rest s l carried h = absurd carried
-  instruction_again p (instruction.Operate (Arithmetic a) o) t ts rest s l carried h = absurd carried
-  instruction_again p (instruction.Operate (Comparison a) o) t ts rest s l carried h = absurd carried
+  instruction_again p (instruction.Operate op o) t ts rest s l carried h =
+      let acts = operators_again op t ts h.0 carried.0 h.1 in
+      step_from p t ts (action.Operate op) (instruction.Operate op o) rest s l acts.0 (rw (operand_line_again o ts rest carried.1 (subst (λ (m : List Token). (SpellsOperand text tight o ⨾ TheLineEnd) m rest) (sym acts.1) h.2)) refl)
+  instruction_again p (instruction.Invoke f os) t ts rest s l carried h =
+      let read = operands_again os ts rest (subst (λ (m : List Token). SpellsOperands text os m rest) (sym h.1.2.1) h.2) carried.1 in
+      step_from p t ts action.Limit (instruction.Invoke f os) rest s l (limit_acts t ts h.1.2.0.0 (h.1.2.0.1 ∙ carried.0))
+      (rw read (ap (λ (x : Named). Some (instruction.Invoke x os, rest)) (limit_is f t h.1.0 h.1.1 carried.0)))
   instruction_again p (instruction.Defer op o) t ts rest s l carried h = absurd carried
   instruction_again p instruction.Evaluate t ts rest s l carried h = absurd carried
   instruction_again p (instruction.Jump c k) t ts rest s l carried h = absurd carried
   instruction_again p (instruction.Return c) t ts rest s l carried h = absurd carried
   instruction_again p (instruction.Call c k a) t ts rest s l carried h = absurd carried
-  instruction_again p (instruction.Invoke f a) t ts rest s l carried h = absurd carried
 
   -- an operator with the tokens behind it
   abbrev operator_found : Token → Action → List Token → Option ((Token × Action) × List Token)
@@ -231,7 +309,7 @@ module _ (text : List ℕ) (ascii : IsAscii text) where
   unfolding action_of
   no_action_end t a e h k =
       let by = λ (n : List ℕ). word_by text n (codes "END_PROGRAM") t k (key_end_program.only (name_of text t) h) in
-      let none : action_of text t ≡ None = rw (by (codes "LD"), by (codes "LDN"), by (codes "ST"), by (codes "STN"), by (codes "NOT"), by (codes "AND"), ap (is_sign Ampersand) k, by (codes "OR")) refl in
+      let none : action_of text t ≡ None = rw (by (codes "LD"), by (codes "LDN"), by (codes "ST"), by (codes "STN"), by (codes "NOT"), by (codes "AND"), ap (is_sign Ampersand) k, by (codes "OR"), by (codes "ADD"), by (codes "SUB"), by (codes "LIMIT")) refl in
       let bad = sym none ∙ e in
       absurd cc
 
@@ -277,8 +355,8 @@ module _ (text : List ℕ) (ascii : IsAscii text) where
   body_is b h = ap (λ (ls : List Named). record { steps = b.steps; last_labels = ls; end = b.end }) (sym h)
 
   -- a carried body that is spelled is read
-  pub body_again : (b : Body) (ts rest : List Token) → SpellsBody text word.EndProgram b ts rest → AllByRecursion IsCarriedStep b.steps → b.last_labels ≡ [] → length b.steps ≤ 4096 → body_at text ts ≡ Some (b, rest)
+  pub body_again : (b : Body) (ts rest : List Token) → SpellsBody text word.EndProgram b ts rest → AreCarriedSteps b.steps → b.last_labels ≡ [] → length b.steps ≤ 4096 → body_at text ts ≡ Some (b, rest)
   body_again b ts rest h all none few =
       let same = body_is b none in
       let k = subst (λ (x : Body). SpellsBody text word.EndProgram x ts rest) (sym same) h in
-      subst (λ (x : Body). body_at text ts ≡ Some (x, rest)) same (bare_body b.steps b.end ts rest k.1 all few)
+      subst (λ (x : Body). body_at text ts ≡ Some (x, rest)) same (bare_body b.steps b.end ts rest k.1 (each_step b.steps all) few)

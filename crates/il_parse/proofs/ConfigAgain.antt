@@ -16,18 +16,12 @@ use Rattle.il_spec.specs.declared.tree.UnitKind.TheVariants as unit
 use Rattle.il_spec.specs.declared.tree.Unit.{Unit as ProgramUnit}
 use Rattle.il_spec.specs.declared.tree.Config.{Config}
 use Rattle.il_spec.specs.Grammar.{skip_line_ends, AfterLines, No, At, TheWord, TheName, SomeName, TheEnd, SpellsUnit, SpellsSizes, SpellsConfig}
-use Rattle.il_parse.specs.Carried.{HasOne, IsCarriedUnit, IsCarried}
+use Rattle.il_rules.specs.Subset.{IsCarriedProgram, IsCarried}
 use Rattle.il_parse.specs.Refused.{HasFewInstructions}
 use Rattle.il_parse.specs.Reading.{heading_at, lists_at, unit_at, sizes_at, processor_at, tasks_at, programs_at, units_at, group_at, end_at, configuration_at}
 use Rattle.il_parse.proofs.Keys.{key_program, key_input, key_output, key_configuration, key_global, key_constant, key_end_var, key_resource, key_on, key_end_resource, key_end_configuration}
 use Rattle.il_parse.proofs.Again.{keyword_again, placed_key_again, absent_key_again, named_again, some_named_again, size_again, task_again, program_line_again, variables_again, externals_again}
 use Rattle.il_parse.proofs.BodyAgain.{body_again}
-
--- exactly one value
-one_of : {A : Type 0} (P : A → Type 0) (xs : List A) → HasOne P xs → (x : A) × (x ∷ [] ≡ xs) × P x
-one_of P [] h = absurd h
-one_of P (x ∷ []) h = (x, refl, h)
-one_of P (x ∷ y ∷ xs) h = absurd h
 
 module _ (text : List ℕ) (ascii : IsAscii text) where
   -- a program without inputs, outputs and externals
@@ -39,12 +33,12 @@ module _ (text : List ℕ) (ascii : IsAscii text) where
   some_unit p n ds b k i o e = record { place = p; kind = k; name = n; inputs = i; outputs = o; variables = ds; externals = e; body = b }
 
   -- a carried program is a plain one
-  unit_is : (u : ProgramUnit) → IsCarriedUnit u → plain_unit u.place u.name u.variables u.body ≡ u
+  unit_is : (u : ProgramUnit) → IsCarriedProgram u → plain_unit u.place u.name u.variables u.body ≡ u
   unit_is u h =
-      ap (λ (k : UnitKind). some_unit u.place u.name u.variables u.body k [] [] []) (sym h.is_program)
-      ∙ ap (λ (x : List Declaration). some_unit u.place u.name u.variables u.body u.kind x [] []) (sym h.no_inputs)
-      ∙ ap (λ (x : List Declaration). some_unit u.place u.name u.variables u.body u.kind u.inputs x []) (sym h.no_outputs)
-      ∙ ap (λ (x : List Declaration). some_unit u.place u.name u.variables u.body u.kind u.inputs u.outputs x) (sym h.no_externals)
+      ap (λ (k : UnitKind). some_unit u.place u.name u.variables u.body k [] [] []) (sym h.kind)
+      ∙ ap (λ (x : List Declaration). some_unit u.place u.name u.variables u.body u.kind x [] []) (sym h.inputs)
+      ∙ ap (λ (x : List Declaration). some_unit u.place u.name u.variables u.body u.kind u.inputs x []) (sym h.outputs)
+      ∙ ap (λ (x : List Declaration). some_unit u.place u.name u.variables u.body u.kind u.inputs u.outputs x) (sym h.externals)
 
   -- a heading that is spelled is read
   heading_again : (p : Place) (n : Named) (ts a b c rest : List Token) → At p (TheWord text word.Program) (skip_line_ends ts) a → TheName text n (skip_line_ends a) b → No (AfterLines (TheWord text word.VarInput)) b c → No (AfterLines (TheWord text word.VarOutput)) c rest
@@ -54,7 +48,7 @@ module _ (text : List ℕ) (ascii : IsAscii text) where
       rw (placed_key_again text ascii key_program ts p a x, named_again text ascii a n b y, absent_key_again text ascii key_input b c z, absent_key_again text ascii key_output c rest w) refl
 
   -- a plain program that is spelled is read
-  plain_again : (p : Place) (n : Named) (ds : List Declaration) (b : Body) (ts rest : List Token) → SpellsUnit text (plain_unit p n ds b) (skip_line_ends ts) rest → IsCarriedUnit (plain_unit p n ds b) → length b.steps ≤ 4096
+  plain_again : (p : Place) (n : Named) (ds : List Declaration) (b : Body) (ts rest : List Token) → SpellsUnit text (plain_unit p n ds b) (skip_line_ends ts) rest → IsCarriedProgram (plain_unit p n ds b) → length b.steps ≤ 4096
       → unit_at text ts ≡ Some (plain_unit p n ds b, rest)
   unfolding unit_at lists_at
   plain_again p n ds b ts rest h carried few =
@@ -70,15 +64,15 @@ module _ (text : List ℕ) (ascii : IsAscii text) where
         heading_again p n ts h1.0 h3.0 h4.0 h5.0 h1.1 named h4.1 h5.1,
         variables_again text ascii h5.0 ds h6.0 h6.1 carried.variables,
         externals_again text ascii h6.0 h7.0 h7.1,
-        body_again text ascii b h7.0 rest h7.2 carried.steps carried.no_last_labels few,
+        body_again text ascii b h7.0 rest h7.2 carried.steps carried.last_labels few,
       ) refl
 
   -- a carried program that is spelled is read
-  unit_again : (u : ProgramUnit) (ts rest : List Token) → SpellsUnit text u (skip_line_ends ts) rest → IsCarriedUnit u → length u.body.steps ≤ 4096 → unit_at text ts ≡ Some (u, rest)
+  unit_again : (u : ProgramUnit) (ts rest : List Token) → SpellsUnit text u (skip_line_ends ts) rest → IsCarriedProgram u → length u.body.steps ≤ 4096 → unit_at text ts ≡ Some (u, rest)
   unit_again u ts rest h carried few =
       let same = unit_is u carried in
       subst (λ (x : ProgramUnit). unit_at text ts ≡ Some (x, rest)) same
-      (plain_again u.place u.name u.variables u.body ts rest (subst (λ (x : ProgramUnit). SpellsUnit text x (skip_line_ends ts) rest) (sym same) h) (subst (λ (x : ProgramUnit). IsCarriedUnit x) (sym same) carried) few)
+      (plain_again u.place u.name u.variables u.body ts rest (subst (λ (x : ProgramUnit). SpellsUnit text x (skip_line_ends ts) rest) (sym same) h) (subst (λ (x : ProgramUnit). IsCarriedProgram x) (sym same) carried) few)
 
   -- the three sizes that are spelled are read
   sizes_again : (c : Config) (ts rest : List Token) → SpellsSizes text c (skip_line_ends ts) rest → sizes_at text ts ≡ Some ((c.cars, c.floors, c.slots), rest)
@@ -123,7 +117,7 @@ module _ (text : List ℕ) (ascii : IsAscii text) where
   made us s g gs tasks lines p = record { units = us; cars = s.0; floors = s.1; slots = s.2; globals_place = g; globals = gs; tasks = tasks; programs = lines; end_resource = p }
 
   -- a configuration of these parts is read
-  made_again : (ts : List Token) (u : ProgramUnit) (s : Size × Size × Size) (t : Task) (l : ProgramLine) (p : Place) → AfterLines (SpellsConfig text (made (u ∷ []) s None [] (t ∷ []) (l ∷ []) p)) ts [] → IsCarriedUnit u → length u.body.steps ≤ 4096
+  made_again : (ts : List Token) (u : ProgramUnit) (s : Size × Size × Size) (t : Task) (l : ProgramLine) (p : Place) → AfterLines (SpellsConfig text (made (u ∷ []) s None [] (t ∷ []) (l ∷ []) p)) ts [] → IsCarriedProgram u → length u.body.steps ≤ 4096
       → configuration_at text ts ≡ Some (made (u ∷ []) s None [] (t ∷ []) (l ∷ []) p)
   unfolding configuration_at units_at tasks_at programs_at
   made_again ts u s t l p h carried few =
@@ -151,16 +145,16 @@ module _ (text : List ℕ) (ascii : IsAscii text) where
   -- a carried configuration that is spelled is read
   pub configuration_again : (ts : List Token) (c : Config) → AfterLines (SpellsConfig text c) ts [] → IsCarried c → HasFewInstructions c → configuration_at text ts ≡ Some c
   configuration_again ts c h carried few =
-      let u = one_of IsCarriedUnit c.units carried.unit in
-      let t = one_of _ c.tasks carried.task in
-      let l = one_of _ c.programs carried.program in
+      let u = carried.program in
+      let t = carried.task in
+      let l = carried.line in
       let s : Size × Size × Size = (c.cars, c.floors, c.slots) in
-      let same : made (u.0 ∷ []) s None [] (t.0 ∷ []) (l.0 ∷ []) c.end_resource ≡ c =
-      ap (λ (x : List ProgramUnit). made x s None [] (t.0 ∷ []) (l.0 ∷ []) c.end_resource) u.1
-      ∙ ap (λ (x : List Task). made c.units s None [] x (l.0 ∷ []) c.end_resource) t.1
-      ∙ ap (λ (x : List ProgramLine). made c.units s None [] c.tasks x c.end_resource) l.1
-      ∙ ap (λ (x : Option Place). made c.units s x [] c.tasks c.programs c.end_resource) (sym carried.no_globals_list)
-      ∙ ap (λ (x : List Declaration). made c.units s c.globals_place x c.tasks c.programs c.end_resource) (sym carried.no_globals) in
-      let small = All-head (λ (x : ProgramUnit). length x.body.steps ≤ 4096) u.0 [] (subst (λ (xs : List ProgramUnit). All (λ (x : ProgramUnit). length x.body.steps ≤ 4096) xs) (sym u.1) few) in
+      let same : made (u ∷ []) s None [] (t ∷ []) (l ∷ []) c.end_resource ≡ c =
+      ap (λ (x : List ProgramUnit). made x s None [] (t ∷ []) (l ∷ []) c.end_resource) (sym carried.alone)
+      ∙ ap (λ (x : List Task). made c.units s None [] x (l ∷ []) c.end_resource) (sym carried.tasks)
+      ∙ ap (λ (x : List ProgramLine). made c.units s None [] c.tasks x c.end_resource) (sym carried.lines)
+      ∙ ap (λ (x : Option Place). made c.units s x [] c.tasks c.programs c.end_resource) (sym carried.globals_place)
+      ∙ ap (λ (x : List Declaration). made c.units s c.globals_place x c.tasks c.programs c.end_resource) (sym carried.globals) in
+      let small = All-head (λ (x : ProgramUnit). length x.body.steps ≤ 4096) u [] (subst (λ (xs : List ProgramUnit). All (λ (x : ProgramUnit). length x.body.steps ≤ 4096) xs) carried.alone few) in
       subst (λ (x : Config). configuration_at text ts ≡ Some x) same
-      (made_again ts u.0 s t.0 l.0 c.end_resource (subst (λ (x : Config). AfterLines (SpellsConfig text x) ts []) (sym same) h) u.2 small)
+      (made_again ts u s t l c.end_resource (subst (λ (x : Config). AfterLines (SpellsConfig text x) ts []) (sym same) h) carried.carried small)

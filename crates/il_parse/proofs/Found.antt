@@ -4,7 +4,7 @@ use Rattle.il_spec.specs.declared.token.Token.{Token}
 use Rattle.il_spec.specs.declared.tree.Config.{Config}
 use Rattle.il_spec.specs.Text.{AreTokens}
 use Rattle.il_spec.specs.Grammar.{AfterLines, SpellsConfig, Spells, IsWithinLimits}
-use Rattle.il_parse.specs.Carried.{IsCarried}
+use Rattle.il_rules.specs.Subset.{IsCarried}
 use Rattle.il_parse.specs.Reading.{configuration_at}
 use Rattle.il_parse.specs.Refused.{IsSmall, HasFewInstructions}
 use Rattle.il_parse.proofs.Leaves.{some_is}

@@ -4,11 +4,12 @@ use Rattle.std.specs.Prelude.{bytes_eq}
 use Rattle.il_spec.specs.declared.keyword.Keyword.{Keyword}
 use Rattle.il_spec.specs.declared.keyword.Keyword.TheVariants as word
 use Rattle.il_spec.specs.declared.tree.Elementary.TheVariants as elementary
-use Rattle.il_spec.specs.declared.tree.Operator.TheVariants.{Logic}
+use Rattle.il_spec.specs.declared.tree.Operator.TheVariants.{Logic, Arithmetic}
 use Rattle.il_spec.specs.declared.tree.Logic.TheVariants.{Conjunction, Disjunction}
+use Rattle.il_spec.specs.declared.tree.Arithmetic.TheVariants.{Add, Sub}
 use Rattle.il_spec.specs.declared.tree.Store.TheVariants.{Plain, Negated}
 use Rattle.il_spec.specs.Text.{entry_of}
-use Rattle.il_spec.specs.Words.{reserved_words, keyword_of}
+use Rattle.il_spec.specs.Words.{reserved_words, keyword_of, IsName}
 use Rattle.il_parse.proofs.Leaves.{some_is, both_true, bytes_same}
 
 -- the word of a keyword that the parser looks for, and nothing for the others
@@ -20,6 +21,8 @@ spelling (word.Store Negated) = codes "STN"
 spelling word.Not = codes "NOT"
 spelling (word.Operate (Logic Conjunction false)) = codes "AND"
 spelling (word.Operate (Logic Disjunction false)) = codes "OR"
+spelling (word.Operate (Arithmetic Add)) = codes "ADD"
+spelling (word.Operate (Arithmetic Sub)) = codes "SUB"
 spelling (word.Elementary elementary.Bool) = codes "BOOL"
 spelling (word.Elementary elementary.Int) = codes "INT"
 spelling (word.Truth true) = codes "TRUE"
@@ -123,6 +126,21 @@ key_and = is_spelled (word.Operate (Logic Conjunction false)) refl refl
 pub key_or : IsSpelled (word.Operate (Logic Disjunction false)) (codes "OR")
 unfolding keyword_of entry_of
 key_or = is_spelled (word.Operate (Logic Disjunction false)) refl refl
+
+-- ADD
+pub key_add : IsSpelled (word.Operate (Arithmetic Add)) (codes "ADD")
+unfolding keyword_of entry_of
+key_add = is_spelled (word.Operate (Arithmetic Add)) refl refl
+
+-- SUB
+pub key_sub : IsSpelled (word.Operate (Arithmetic Sub)) (codes "SUB")
+unfolding keyword_of entry_of
+key_sub = is_spelled (word.Operate (Arithmetic Sub)) refl refl
+
+-- LIMIT is a name
+pub limit_free : IsName (codes "LIMIT")
+unfolding keyword_of entry_of
+limit_free = refl
 
 -- BOOL
 pub key_bool : IsSpelled (word.Elementary elementary.Bool) (codes "BOOL")

@@ -1,5 +1,5 @@
 -- What the smallest readers read is spelled there, and what is spelled there they read.
-use Rattle.std.proofs.Common.{◌≡◌, ℕ, Bool, true, false, ◌&&◌, ◌||◌, not, cond, List, [], ◌∷◌, ◌++◌, eqb, Option, Some, None, refl, sym, ap, subst, ◌∙◌, arith}
+use Rattle.std.proofs.Common.{◌≡◌, ℕ, Bool, true, false, ◌&&◌, ◌||◌, not, cond, List, [], ◌∷◌, ◌++◌, eqb, Option, Some, None, refl, sym, ap, subst, ◌∙◌, inl, inr, ◌⊎◌, arith}
 use Rattle.std.specs.Prelude.{bytes_eq, ℤ, slice_range}
 use Rattle.std.specs.Str.{is_utf8}
 use Rattle.std.proofs.lemmas.Bool.{eqb-true}
@@ -15,8 +15,8 @@ use Rattle.il_spec.specs.declared.tree.Named.{Named}
 use Rattle.il_spec.specs.declared.tree.Literal.TheVariants as literal
 use Rattle.il_spec.specs.Text.{name_of, is_plain_decimal, entry_of}
 use Rattle.il_spec.specs.Words.{operator_words, instruction_words, type_words, declaration_words, unit_words, keyword_of, IsName}
-use Rattle.il_spec.specs.Grammar.{is_line_end, skip_line_ends, AfterLines, No, At, TheSign, TheLineEnd, ATyped, TheWord, AWord, AName, TheName, SomeName, ADecimal}
-use Rattle.il_parse.specs.Reading.{◌>>=◌, place_of, is_word_kind, sign_number, is_sign, number_of, duration_of, is_there, is_among, is_reserved, first_at, sign_at, line_end_at, duration_at, is_word, comes_first, comes, placed_word_at, word_at, name_at, named_at, decimal_at}
+use Rattle.il_spec.specs.Grammar.{is_line_end, skip_line_ends, AfterLines, No, At, TheSign, TheLineEnd, ANumber, ATyped, TheWord, AWord, AName, TheName, SomeName, ADecimal}
+use Rattle.il_parse.specs.Reading.{◌>>=◌, place_of, is_word_kind, sign_number, is_sign, number_of, duration_of, is_there, is_among, is_reserved, first_at, first_is, sign_comes, sign_at, line_end_at, number_at, duration_at, is_word, comes_first, comes, placed_word_at, word_at, name_at, named_at, decimal_at}
 
 -- the parts of a step that gave something
 pub bind_some : {A B : Type 0} (r : Option A) (f : A → Option B) (y : B) → (r >>= f) ≡ Some y → (x : A) × (r ≡ Some x) × (f x ≡ Some y)
@@ -31,6 +31,11 @@ some_is x y e = cc
 pub guard_some : {A : Type 0} (b : Bool) (x y : A) → cond b (Some x) None ≡ Some y → (b ≡ true) × (x ≡ y)
 guard_some true x y e = (refl, some_is x y e)
 guard_some false x y e = absurd cc
+
+-- which way a choice went
+pub chosen : {A : Type 0} (b : Bool) (x z : Option A) (y : A) → cond b x z ≡ Some y → ((b ≡ true) × (x ≡ Some y)) ⊎ ((b ≡ false) × (z ≡ Some y))
+chosen true x z y e = inl (refl, e)
+chosen false x z y e = inr (refl, e)
 
 -- both tests pass
 pub both_true : (a b : Bool) → (a && b) ≡ true → (a ≡ true) × (b ≡ true)
@@ -51,7 +56,7 @@ word_kind (kind.Sign v) e = absurd cc
 word_kind kind.LineEnd e = absurd cc
 
 -- a line end is one
-line_end_kind : (k : Kind) → is_line_end k ≡ true → k ≡ kind.LineEnd
+pub line_end_kind : (k : Kind) → is_line_end k ≡ true → k ≡ kind.LineEnd
 line_end_kind kind.LineEnd e = refl
 line_end_kind (kind.Number v) e = absurd cc
 line_end_kind (kind.Typed v) e = absurd cc
@@ -96,6 +101,45 @@ same_number n = grind arith
 pub sign_same : (s : Sign) (k : Kind) → k ≡ kind.Sign s → is_sign s k ≡ true
 sign_same s k e = rw e (same_number (sign_number s))
 
+-- where one sign stands, another doesn't
+pub signs_apart : (s r : Sign) → (kind.Sign s ≡ kind.Sign r → ⊥) → (us rest : List Token) → TheSign s us rest → (other : List Token) → TheSign r us other → ⊥
+signs_apart s r apart [] rest h other k = h
+signs_apart s r apart (t ∷ ts) rest h other k = apart (sym h.0 ∙ k.0)
+
+-- where a sign stands, it is the first token
+pub first_stands : (s : Sign) (us rest : List Token) → TheSign s us rest → first_is s us ≡ true
+first_stands s [] rest h = absurd h
+first_stands s (t ∷ ts) rest h = sign_same s t.kind h.0
+
+-- the first token that passes for a sign is it
+first_found : (s : Sign) (b : Bool) (us : List Token) → first_is s us ≡ b → ((rest : List Token) → TheSign s us rest → ⊥) → first_is s us ≡ false
+first_found s b [] e none = refl
+first_found s true (t ∷ ts) e none = absurd (none ts (sign_is s t.kind e, refl))
+first_found s false (t ∷ ts) e none = e
+
+-- where a sign doesn't stand, it isn't the first token
+pub first_missing : (s : Sign) (us : List Token) → ((rest : List Token) → TheSign s us rest → ⊥) → first_is s us ≡ false
+first_missing s us none = first_found s (first_is s us) us refl none
+
+-- a sign that isn't the first token doesn't stand there
+first_none : (s : Sign) (us : List Token) → first_is s us ≡ false → (rest : List Token) → TheSign s us rest → ⊥
+first_none s us e rest h = let yes = first_stands s us rest h in absurd cc
+
+-- where a sign stands, it comes
+pub sign_stands : (s : Sign) (ts rest : List Token) → TheSign s (skip_line_ends ts) rest → sign_comes s ts ≡ true
+unfolding sign_comes
+sign_stands s ts rest h = first_stands s (skip_line_ends ts) rest h
+
+-- where a sign doesn't stand, it doesn't come
+pub sign_missing : (s : Sign) (ts : List Token) → ((rest : List Token) → TheSign s (skip_line_ends ts) rest → ⊥) → sign_comes s ts ≡ false
+unfolding sign_comes
+sign_missing s ts none = first_missing s (skip_line_ends ts) none
+
+-- a sign that doesn't come doesn't stand there
+pub sign_none : (s : Sign) (ts : List Token) → sign_comes s ts ≡ false → (rest : List Token) → TheSign s (skip_line_ends ts) rest → ⊥
+unfolding sign_comes
+sign_none s ts e rest h = first_none s (skip_line_ends ts) e rest h
+
 -- ---- words
 
 -- bytes that compare equal are equal
@@ -118,6 +162,16 @@ module _ (text : List ℕ) where
   pub is_word_again : (w : List ℕ) (t : Token) → t.kind ≡ kind.Word → name_of text t ≡ w → is_word text w t ≡ true
   unfolding is_word
   is_word_again w t k e = rw (ap is_word_kind k) (bytes_again (name_of text t) w e)
+
+  -- which word a token is, by its bytes
+  pub word_by : (w n : List ℕ) (t : Token) → t.kind ≡ kind.Word → name_of text t ≡ n → is_word text w t ≡ bytes_eq n w
+  unfolding is_word
+  word_by w n t k e = rw (ap is_word_kind k, e) refl
+
+  -- what is no word is not this word
+  pub no_word : (w : List ℕ) (t : Token) → is_word_kind t.kind ≡ false → is_word text w t ≡ false
+  unfolding is_word
+  no_word w t e = rw e refl
 
   -- a word at the front that is read stands there
   word_first : (w : List ℕ) (us rest : List Token) → (first_at us >>= λ t. cond (is_word text w t.0) (Some t.1) None) ≡ Some rest → AWord text w us rest
@@ -252,6 +306,33 @@ number_kind kind.Word v e = absurd cc
 number_kind (kind.Typed x) v e = absurd cc
 number_kind (kind.Sign x) v e = absurd cc
 number_kind kind.LineEnd v e = absurd cc
+
+-- a number at the front
+abbrev number_in : List Token → Option (ℤ × List Token)
+number_in us = first_at us >>= λ t. number_of t.0.kind >>= λ x. Some (x, t.1)
+
+-- a number at the front that is read stands there
+number_first : (us : List Token) (v : ℤ) (rest : List Token) → number_in us ≡ Some (v, rest) → ANumber v us rest
+number_first [] v rest e = absurd cc
+number_first (t ∷ ts) v rest e =
+    let b = bind_some (number_of t.kind) (λ x. Some (x, ts)) (v, rest) e in
+    let p = some_is (b.0, ts) (v, rest) b.2 in
+    (number_kind t.kind v (b.1 ∙ ap (λ (y : ℤ × List Token). Some y.0) p), ap (λ (y : ℤ × List Token). y.1) p)
+
+-- a number that is read stands there
+pub number_sound : (ts : List Token) (v : ℤ) (rest : List Token) → number_at ts ≡ Some (v, rest) → ANumber v (skip_line_ends ts) rest
+unfolding number_at
+number_sound ts v rest e = number_first (skip_line_ends ts) v rest e
+
+-- a number at the front is read
+number_first_again : (us : List Token) (v : ℤ) (rest : List Token) → ANumber v us rest → number_in us ≡ Some (v, rest)
+number_first_again [] v rest h = absurd h
+number_first_again (t ∷ ts) v rest h = rw (ap number_of h.0) (ap (λ (r : List Token). Some (v, r)) h.1)
+
+-- a number that stands there is read
+pub number_again : (ts : List Token) (v : ℤ) (rest : List Token) → ANumber v (skip_line_ends ts) rest → number_at ts ≡ Some (v, rest)
+unfolding number_at
+number_again ts v rest h = number_first_again (skip_line_ends ts) v rest h
 
 -- a duration has its value
 duration_kind : (k : Kind) (v : ℤ) → duration_of k ≡ Some v → k ≡ kind.Typed (literal.Time v)

@@ -5,6 +5,8 @@ pub mod Steps
 pub mod Lists
 pub mod Leaves
 pub mod Keys
+pub mod Parts
+pub mod Literals
 pub mod Sound
 pub mod BodySound
 pub mod ConfigSound

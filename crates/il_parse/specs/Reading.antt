@@ -1,15 +1,21 @@
 -- What the readers of tokens give, as functions: the value that is read and the tokens behind it, or nothing.
 use Rattle.std.specs.Prelude.{◌≡◌, ℕ, zero, suc, Bool, true, false, not, ◌&&◌, ◌||◌, ◌==◌, if◌then◌else◌, ℤ, List, [], ◌∷◌, ◌++◌, length, bytes_eq, codes, Option, Some, None, Result, Ok, Err}
 use Rattle.std.specs.Str.{is_utf8}
-use Rattle.std.specs.Prelude.{slice_range}
+use Rattle.std.specs.Prelude.{slice_range, int_le}
 use Rattle.il_spec.specs.declared.token.Sign.{Sign}
 use Rattle.il_spec.specs.declared.token.Sign.TheVariants.{Assign, Arrow, Range, Colon, Semicolon, Comma, OpenParenthesis, CloseParenthesis, OpenBracket, CloseBracket, Dot, Ampersand}
 use Rattle.il_spec.specs.declared.token.Kind.{Kind}
 use Rattle.il_spec.specs.declared.token.Kind.TheVariants as kind
 use Rattle.il_spec.specs.declared.token.Token.{Token}
 use Rattle.il_spec.specs.declared.tree.Place.{Place}
+use Rattle.il_spec.specs.declared.tree.Elementary.{Elementary}
 use Rattle.il_spec.specs.declared.tree.Elementary.TheVariants as elementary
+use Rattle.il_spec.specs.declared.tree.Literal.{Literal}
 use Rattle.il_spec.specs.declared.tree.Literal.TheVariants as literal
+use Rattle.il_spec.specs.declared.tree.Subrange.{Subrange}
+use Rattle.il_spec.specs.declared.tree.WrittenType.{WrittenType}
+use Rattle.il_spec.specs.declared.tree.Initial.{Initial}
+use Rattle.il_spec.specs.ElementaryTypes.{limits}
 use Rattle.il_spec.specs.declared.tree.Form.TheVariants as form
 use Rattle.il_spec.specs.declared.tree.Named.{Named}
 use Rattle.il_spec.specs.declared.tree.Declaration.{Declaration}
@@ -17,6 +23,7 @@ use Rattle.il_spec.specs.declared.tree.Reference.TheVariants as reference
 use Rattle.il_spec.specs.declared.tree.Operand.{Operand}
 use Rattle.il_spec.specs.declared.tree.Operator.TheVariants as operator
 use Rattle.il_spec.specs.declared.tree.Logic.TheVariants.{Conjunction, Disjunction}
+use Rattle.il_spec.specs.declared.tree.Arithmetic.TheVariants.{Add, Sub}
 use Rattle.il_spec.specs.declared.tree.Store.TheVariants.{Plain, Negated}
 use Rattle.il_spec.specs.declared.tree.Instruction.{Instruction}
 use Rattle.il_spec.specs.declared.tree.Instruction.TheVariants as instruction
@@ -92,6 +99,30 @@ abbrev pub duration_of : Kind → Option ℤ
 duration_of (kind.Typed (literal.Time value)) = Some value
 duration_of _ = None
 
+-- whether a number lies within limits (2.3.3.1)
+abbrev pub lies_in : Option Subrange → ℤ → Bool
+lies_in None value = false
+lies_in (Some s) value = int_le s.lower value && int_le value s.upper
+
+-- whether a number is a value of a type (2.3.1)
+abbrev pub is_value : Elementary → ℤ → Bool
+is_value e value = lies_in (limits e) value
+
+-- a whole number that is a value of the type written before it (2.2.1)
+abbrev pub whole_of : Literal → Option Literal
+whole_of (literal.Whole e value) = if is_value e value then Some (literal.Whole e value) else None
+whole_of _ = None
+
+-- a number, with a type or without one (2.2.1)
+abbrev pub numeral_of : Kind → Option Literal
+numeral_of (kind.Number value) = Some (literal.Bare value)
+numeral_of (kind.Typed typed) = whole_of typed
+numeral_of _ = None
+
+-- a scalar type at a place (2.3.3)
+abbrev pub written : Place → Elementary → Option Subrange → WrittenType
+written place e subrange = record { place = place; form = form.Scalar (record { elementary = e; subrange = subrange }) }
+
 -- whether there is a value
 abbrev pub is_there : {A : Type 0} → Option A → Bool
 is_there (Some x) = true
@@ -122,6 +153,13 @@ line_end_at ts = do
   t ← first_at ts
   if is_line_end t.0.kind then Some t.1 else None
 
+-- a number (2.2.1)
+unfoldable pub number_at : List Token → Option (ℤ × List Token)
+number_at ts = do
+  t ← first_at (skip_line_ends ts)
+  value ← number_of t.0.kind
+  Some (value, t.1)
+
 -- a duration
 unfoldable pub duration_at : List Token → Option (ℤ × List Token)
 duration_at ts = do
@@ -144,14 +182,44 @@ many_at ends item (suc count) ts =
 abbrev pub with_front : {A : Type 0} → List A → Option (List A × List Token) → Option (List A × List Token)
 with_front front read = read >>= λ xs. Some (front ++ xs.0, xs.1)
 
--- whether a comma comes next
-abbrev pub comma_first : List Token → Bool
-comma_first [] = false
-comma_first (t ∷ ts) = is_sign Comma t.kind
+-- a value, others up to where a test holds, and what ends them (own rule)
+unfoldable pub listed_at : {A : Type 0} → (List Token → Option (A × List Token)) → (List Token → Bool) → (List Token → Option (A × List Token)) → (List Token → Option (List Token)) → List Token → Option (List A × List Token)
+listed_at item ends next end ts = do
+  x ← item ts
+  xs ← many_at ends next (suc (length x.1)) x.1
+  rest ← end xs.1
+  Some (x.0 ∷ xs.0, rest)
 
--- whether a comma is the first token that is no line end
-unfoldable pub comma_comes : List Token → Bool
-comma_comes ts = comma_first (skip_line_ends ts)
+-- whether the first token is the sign (own rule)
+abbrev pub first_is : Sign → List Token → Bool
+first_is sign [] = false
+first_is sign (t ∷ ts) = is_sign sign t.kind
+
+-- whether the sign is the first token that is no line end (own rule)
+unfoldable pub sign_comes : Sign → List Token → Bool
+sign_comes sign ts = first_is sign (skip_line_ends ts)
+
+-- no comma comes (own rule)
+abbrev pub no_comma : List Token → Bool
+no_comma ts = not (sign_comes Comma ts)
+
+-- no comma is the first token (own rule)
+abbrev pub no_tight_comma : List Token → Bool
+no_tight_comma ts = not (first_is Comma ts)
+
+-- the limits of a subrange, in parentheses (2.3.3)
+unfoldable pub limits_at : List Token → Option (Subrange × List Token)
+limits_at ts = do
+  r0 ← sign_at OpenParenthesis ts
+  lower ← number_at r0
+  r1 ← sign_at Range lower.1
+  upper ← number_at r1
+  r2 ← sign_at CloseParenthesis upper.1
+  Some (record { lower = lower.0; upper = upper.0 }, r2)
+
+-- a subrange, which may be missing (2.3.3)
+unfoldable pub subrange_at : List Token → Option (Option Subrange × List Token)
+subrange_at ts = if sign_comes OpenParenthesis ts then (limits_at ts >>= λ s. Some (Some s.0, s.1)) else Some (None, ts)
 
 -- The readers that need the text.
 module _ (text : List ℕ) where
@@ -203,6 +271,13 @@ module _ (text : List ℕ) where
     value ← number_of t.0.kind
     if is_plain_decimal text t.0 then Some ((place_of t.0, value), t.1) else None
 
+  -- the literal that a token is (2.2)
+  unfoldable pub literal_of : Token → Option Literal
+  literal_of t =
+      if is_word (codes "TRUE") t then Some (literal.Truth true)
+      else if is_word (codes "FALSE") t then Some (literal.Truth false)
+      else numeral_of t.kind
+
   -- what an operator does
   unfoldable pub action_of : Token → Option Action
   action_of t =
@@ -211,8 +286,11 @@ module _ (text : List ℕ) where
       else if is_word (codes "ST") t then Some (action.Store Plain)
       else if is_word (codes "STN") t then Some (action.Store Negated)
       else if is_word (codes "NOT") t then Some action.Not
-      else if is_word (codes "AND") t || is_sign Ampersand t.kind then Some (action.Operate Conjunction)
-      else if is_word (codes "OR") t then Some (action.Operate Disjunction)
+      else if is_word (codes "AND") t || is_sign Ampersand t.kind then Some (action.Operate (operator.Logic Conjunction false))
+      else if is_word (codes "OR") t then Some (action.Operate (operator.Logic Disjunction false))
+      else if is_word (codes "ADD") t then Some (action.Operate (operator.Arithmetic Add))
+      else if is_word (codes "SUB") t then Some (action.Operate (operator.Arithmetic Sub))
+      else if is_word (codes "LIMIT") t then Some action.Limit
       else None
 
   -- whether the letter N stands directly behind an ampersand
@@ -234,15 +312,18 @@ module _ (text : List ℕ) where
     name ← name_at ts
     Some (record { place = place_of t.0; reference = reference.Variable name.0 }, name.1)
 
-  -- TRUE, FALSE or a name
+  -- this literal as an operand, or else a name (3.2.1)
+  abbrev pub literal_or_name : Option Literal → Token × List Token → List Token → Option (Operand × List Token)
+  literal_or_name (Some l) t ts = Some (record { place = place_of t.0; reference = reference.Literal l }, t.1)
+  literal_or_name None t ts = target_at ts
+
+  -- a literal or a name (3.2.1)
   unfoldable pub operand_at : List Token → Option (Operand × List Token)
   operand_at ts = do
     t ← first_at ts
-    if is_word (codes "TRUE") t.0 then Some (record { place = place_of t.0; reference = reference.Literal (literal.Truth true) }, t.1)
-        else if is_word (codes "FALSE") t.0 then Some (record { place = place_of t.0; reference = reference.Literal (literal.Truth false) }, t.1)
-        else target_at ts
+    literal_or_name (literal_of t.0) t ts
 
-  -- TRUE, FALSE or a name, and the end of the line
+  -- a literal or a name, and the end of the line (3.2.2)
   unfoldable pub operand_line_at : List Token → Option (Operand × List Token)
   operand_line_at ts = do
     o ← operand_at ts
@@ -256,25 +337,44 @@ module _ (text : List ℕ) where
     rest ← line_end_at o.1
     Some (o.0, rest)
 
+  -- a comma and an operand, directly at the front (3.2.3)
+  unfoldable pub next_operand_at : List Token → Option (Operand × List Token)
+  next_operand_at ts = do
+    t ← first_at ts
+    if is_sign Comma t.0.kind then operand_at t.1 else None
+
+  -- operands with commas between them, and the end of the line (3.2.3)
+  abbrev pub some_operands_at : List Token → Option (List Operand × List Token)
+  some_operands_at ts = listed_at operand_at no_tight_comma next_operand_at line_end_at ts
+
+  -- operands, which may be none, and the end of the line (3.2.3)
+  unfoldable pub operands_at : List Token → Option (List Operand × List Token)
+  operands_at ts = do
+    t ← first_at ts
+    if is_line_end t.0.kind then Some ([], t.1) else some_operands_at ts
+
   -- what stands behind an operator
-  unfoldable pub instruction_at : Action → List Token → Option (Instruction × List Token)
-  instruction_at (action.Load negated) ts = do
+  unfoldable pub instruction_at : Token → Action → List Token → Option (Instruction × List Token)
+  instruction_at t (action.Load negated) ts = do
     o ← operand_line_at ts
     Some (instruction.Load negated o.0, o.1)
-  instruction_at (action.Store store) ts = do
+  instruction_at t (action.Store store) ts = do
     o ← target_line_at ts
     Some (instruction.Store store o.0, o.1)
-  instruction_at action.Not ts = do
+  instruction_at t action.Not ts = do
     rest ← line_end_at ts
     Some (instruction.Not, rest)
-  instruction_at (action.Operate logic) ts = do
+  instruction_at t (action.Operate op) ts = do
     o ← operand_line_at ts
-    Some (instruction.Operate (operator.Logic logic false) o.0, o.1)
+    Some (instruction.Operate op o.0, o.1)
+  instruction_at t action.Limit ts = do
+    os ← operands_at ts
+    Some (instruction.Invoke (record { place = place_of t; name = codes "LIMIT" }) os.0, os.1)
 
   -- the instruction of an operator, at its place
   unfoldable pub step_behind : Token → Action → List Token → Option (Step × List Token)
   step_behind t a ts = do
-    i ← if is_negated t ts then None else instruction_at a ts
+    i ← if is_negated t ts then None else instruction_at t a ts
     Some (record { labels = []; place = place_of t; instruction = i.0 }, i.1)
 
   -- an instruction with its place
@@ -302,20 +402,36 @@ module _ (text : List ℕ) where
     named_at rest
 
   -- names with commas between them, and a colon
-  unfoldable pub names_at : List Token → Option (List Named × List Token)
-  names_at ts = do
-    name ← named_at ts
-    names ← many_at (λ (rest : List Token). not (comma_comes rest)) next_name_at (suc (length name.1)) name.1
-    rest ← sign_at Colon names.1
-    Some (name.0 ∷ names.0, rest)
+  abbrev pub names_at : List Token → Option (List Named × List Token)
+  names_at ts = listed_at named_at no_comma next_name_at (sign_at Colon) ts
+
+  -- BOOL, INT, or a subrange of INT (2.3.1, 2.3.3)
+  unfoldable pub type_at : List Token → Option (WrittenType × List Token)
+  type_at ts =
+      if comes (codes "BOOL") ts then (placed_word_at (codes "BOOL") ts >>= λ p. Some (written p.0 elementary.Bool None, p.1))
+      else (placed_word_at (codes "INT") ts >>= λ p. subrange_at p.1 >>= λ s. Some (written p.0 elementary.Int s.0, s.1))
+
+  -- `:=` and a literal (2.4.3.2)
+  unfoldable pub assigned_at : List Token → Option (Initial × List Token)
+  assigned_at ts = do
+    rest ← sign_at Assign ts
+    t ← first_at (skip_line_ends rest)
+    l ← literal_of t.0
+    Some (record { place = place_of t.0; literal = l }, t.1)
+
+  -- an initial value, which may be missing, and a semicolon (2.4.3.2)
+  unfoldable pub initial_at : List Token → Option (Option Initial × List Token)
+  initial_at ts =
+      if sign_comes Assign ts then (assigned_at ts >>= λ i. sign_at Semicolon i.1 >>= λ rest. Some (Some i.0, rest))
+      else (sign_at Semicolon ts >>= λ rest. Some (None, rest))
 
   -- a declaration
   unfoldable pub declaration_at : List Token → Option (Declaration × List Token)
   declaration_at ts = do
     names ← names_at ts
-    type ← placed_word_at (codes "BOOL") names.1
-    rest ← sign_at Semicolon type.1
-    Some (record { names = names.0; declared = record { place = type.0; form = form.Scalar (record { elementary = elementary.Bool; subrange = None }) }; initial = None }, rest)
+    type ← type_at names.1
+    initial ← initial_at type.1
+    Some (record { names = names.0; declared = type.0; initial = initial.0 }, initial.1)
 
   -- the declarations of a list
   abbrev pub declarations_at : List Token → Option (List Declaration × List Token)

@@ -1,15 +1,19 @@
 // The body of a program: its instructions (IEC 61131-3:2003, 3.2).
 
-ghost use Rattle.std.specs.Prelude.{◌≡◌, ◌<◌, length, IfOk};
-ghost use Rattle.il_parse.specs.Reading.{Gives, place_of, action_of, is_negated, operator_at, target_at, operand_at, operand_line_at, target_line_at, instruction_at, step_behind, steps_at, body_at};
+ghost use Rattle.std.specs.Prelude.{◌≡◌, ◌<◌, false, length, IfOk};
+ghost use Rattle.il_parse.specs.Reading.{Gives, place_of, action_of, is_negated, operator_at, target_at, operand_at, operand_line_at, target_line_at, next_operand_at, some_operands_at, operands_at, instruction_at, step_behind, steps_at, body_at};
 
 use crate::front::{
-    comes, first, is_sign, is_word, line_end, place_of, placed_word, skip_lines, tight_name,
+    comes, first, is_sign, is_word, line_end, place_of, placed_word, skip_lines, stands, tight_name,
 };
+use crate::literal::literal_of;
 use crate::stop::{Stop, outside, too_many};
 use il_spec::list::Items;
-use il_spec::token::{Sign, Token};
-use il_spec::tree::{Body, Instruction, Literal, Logic, Operand, Operator, Reference, Step, Store};
+use il_spec::name::Name;
+use il_spec::token::{Kind, Sign, Token};
+use il_spec::tree::{
+    Arithmetic, Body, Instruction, Logic, Named, Operand, Operator, Reference, Step, Store,
+};
 use std::alloc::Global;
 
 /// How many instructions a unit may have.
@@ -21,7 +25,8 @@ pub enum Action {
     Load { negated: bool },
     Store(Store),
     Not,
-    Operate(Logic),
+    Operate(Operator),
+    Limit,
 }
 
 /// The action that a token names.
@@ -45,12 +50,31 @@ pub fn action_of(text: &[u8], token: &Token) -> Option<Action>
         return Some(Action::Not);
     }
     if is_word(text, token, b"AND") || is_sign(token, Sign::Ampersand) {
-        return Some(Action::Operate(Logic::Conjunction));
+        return Some(Action::Operate(logic(Logic::Conjunction)));
     }
     if is_word(text, token, b"OR") {
-        return Some(Action::Operate(Logic::Disjunction));
+        return Some(Action::Operate(logic(Logic::Disjunction)));
+    }
+    if is_word(text, token, b"ADD") {
+        return Some(Action::Operate(Operator::Arithmetic(Arithmetic::Add)));
+    }
+    if is_word(text, token, b"SUB") {
+        return Some(Action::Operate(Operator::Arithmetic(Arithmetic::Sub)));
+    }
+    if is_word(text, token, b"LIMIT") {
+        return Some(Action::Limit);
     }
     None
+}
+
+// The operator that doesn't negate.
+fn logic(logic: Logic) -> Operator
+    ensures { result ≡ Operator.Logic logic false }
+{
+    Operator::Logic {
+        logic,
+        negated: false,
+    }
 }
 
 /// Whether an operator is an `&` with the letter N directly behind it, which negates.
@@ -102,7 +126,7 @@ fn target<'a>(
     ))
 }
 
-/// TRUE, FALSE or a name.
+/// A literal or a name.
 #[tactic(auto, unfolding(crate::specs::Reading::operand_at))]
 fn operand<'a>(
     alloc: Global,
@@ -113,26 +137,19 @@ fn operand<'a>(
     ensures shorter { IfOk result (λ r. length r.1.now < length tokens.now) }
 {
     let (token, rest) = first(tokens)?;
-    if is_word(text, token, b"TRUE") {
-        return Ok((truth(token, true), rest));
-    }
-    if is_word(text, token, b"FALSE") {
-        return Ok((truth(token, false), rest));
-    }
-    target(alloc, text, tokens)
+    let Some(literal) = literal_of(text, token) else {
+        return target(alloc, text, tokens);
+    };
+    Ok((
+        Operand {
+            place: place_of(token),
+            reference: Reference::Literal(literal),
+        },
+        rest,
+    ))
 }
 
-// TRUE or FALSE, at this token.
-fn truth(token: &Token, value: bool) -> Operand
-    ensures { result ≡ record { place = place_of token.now; reference = Reference.Literal (Literal.Truth value) } }
-{
-    Operand {
-        place: place_of(token),
-        reference: Reference::Literal(Literal::Truth(value)),
-    }
-}
-
-/// TRUE, FALSE or a name, and the end of the line.
+/// A literal or a name, and the end of the line.
 #[tactic(auto, unfolding(crate::specs::Reading::operand_line_at))]
 fn operand_line<'a>(
     alloc: Global,
@@ -162,15 +179,73 @@ fn target_line<'a>(
     Ok((operand, rest))
 }
 
+/// A comma and an operand.
+#[tactic(auto, unfolding(crate::specs::Reading::next_operand_at))]
+fn next_operand<'a>(
+    alloc: Global,
+    text: &[u8],
+    tokens: &'a [Token],
+) -> Result<(Operand, &'a [Token]), Stop>
+    ensures reads { Gives (λ r. (r.0, r.1.now)) result (next_operand_at text.now tokens.now) }
+    ensures shorter { IfOk result (λ r. length r.1.now < length tokens.now) }
+{
+    let (token, rest) = first(tokens)?;
+    if is_sign(token, Sign::Comma) {
+        operand(alloc, text, rest)
+    } else {
+        Err(outside(token))
+    }
+}
+
+/// Operands with commas between them, and the end of the line.
+#[tactic(auto, unfolding(crate::specs::Reading::listed_at))]
+fn some_operands<'a>(
+    alloc: Global,
+    text: &[u8],
+    tokens: &'a [Token],
+) -> Result<(Items<Operand>, &'a [Token]), Stop>
+    ensures reads { Gives (λ r. (r.0, r.1.now)) result (some_operands_at text.now tokens.now) }
+    ensures shorter { IfOk result (λ r. length r.1.now < length tokens.now) }
+{
+    let mut operands = Items::new(alloc);
+    let (first, mut rest) = operand(alloc, text, tokens)?;
+    operands.push(first)?;
+    'operands: while stands(rest, Sign::Comma) {
+        let (next, after) = next_operand(alloc, text, rest)?;
+        operands.push(next)?;
+        rest = after;
+    }
+    let rest = line_end(rest)?;
+    Ok((operands, rest))
+}
+
+/// Operands, which may be none, and the end of the line.
+#[tactic(auto, unfolding(crate::specs::Reading::operands_at))]
+fn operands<'a>(
+    alloc: Global,
+    text: &[u8],
+    tokens: &'a [Token],
+) -> Result<(Items<Operand>, &'a [Token]), Stop>
+    ensures reads { Gives (λ r. (r.0, r.1.now)) result (operands_at text.now tokens.now) }
+    ensures shorter { IfOk result (λ r. length r.1.now < length tokens.now) }
+{
+    let (token, rest) = first(tokens)?;
+    if let Kind::LineEnd = token.kind {
+        return Ok((Items::new(alloc), rest));
+    }
+    some_operands(alloc, text, tokens)
+}
+
 /// What stands behind an operator, up to the end of the line.
 #[tactic(auto, unfolding(crate::specs::Reading::instruction_at))]
 fn instruction<'a>(
     alloc: Global,
     text: &[u8],
+    operator: &Token,
     action: Action,
     tokens: &'a [Token],
 ) -> Result<(Instruction, &'a [Token]), Stop>
-    ensures reads { Gives (λ r. (r.0, r.1.now)) result (instruction_at text.now action tokens.now) }
+    ensures reads { Gives (λ r. (r.0, r.1.now)) result (instruction_at text.now operator.now action tokens.now) }
     ensures shorter { IfOk result (λ r. length r.1.now < length tokens.now) }
 {
     match action {
@@ -186,13 +261,17 @@ fn instruction<'a>(
             let rest = line_end(tokens)?;
             Ok((Instruction::Not, rest))
         }
-        Action::Operate(logic) => {
+        Action::Operate(operator) => {
             let (operand, rest) = operand_line(alloc, text, tokens)?;
-            let operator = Operator::Logic {
-                logic,
-                negated: false,
-            };
             Ok((Instruction::Operate { operator, operand }, rest))
+        }
+        Action::Limit => {
+            let (operands, rest) = operands(alloc, text, tokens)?;
+            let function = Named {
+                place: place_of(operator),
+                name: Name::of(alloc, "LIMIT")?,
+            };
+            Ok((Instruction::Invoke { function, operands }, rest))
         }
     }
 }
@@ -212,7 +291,7 @@ fn step<'a>(
     if is_negated(text, operator, tokens) {
         return Err(outside(operator));
     }
-    let (instruction, rest) = instruction(alloc, text, action, tokens)?;
+    let (instruction, rest) = instruction(alloc, text, operator, action, tokens)?;
     let step = Step {
         labels: Items::new(alloc),
         place: place_of(operator),

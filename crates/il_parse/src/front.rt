@@ -1,12 +1,12 @@
 // What may stand at the front of a list of tokens. Each reader gives the tokens behind what it has read; all but `line_end`,
-// `tight_name` and `is_word` pass over the line ends before it.
+// `tight_name`, `stands` and `is_word` pass over the line ends before it.
 
 ghost use Rattle.std.specs.Prelude.{◌≡◌, ◌<◌, ◌≤◌, length, map, IfOk, bytes_eq, slice_range};
 ghost use Rattle.std.specs.Char.{to_ascii_uppercase, is_ascii_digit};
 ghost use Rattle.il_spec.specs.Text.{is_grouped};
 ghost use Rattle.il_spec.specs.Words.{operator_words, instruction_words, type_words, declaration_words, unit_words};
 ghost use Rattle.il_spec.specs.Grammar.{skip_line_ends};
-ghost use Rattle.il_parse.specs.Reading.{Gives, place_of, first_at, is_word, comes, word_at, placed_word_at, sign_at, is_sign, line_end_at, name_at, named_at, decimal_at, duration_at, is_reserved, is_among};
+ghost use Rattle.il_parse.specs.Reading.{Gives, place_of, first_at, is_word, comes, word_at, placed_word_at, sign_at, is_sign, first_is, sign_comes, line_end_at, number_at, name_at, named_at, decimal_at, duration_at, is_reserved, is_among};
 
 use crate::stop::{Stop, outside};
 use il_spec::name::Name;
@@ -159,6 +159,24 @@ pub fn is_sign(token: &Token, sign: Sign) -> bool
     }
 }
 
+/// Whether the first token is the sign.
+pub fn stands(tokens: &[Token], sign: Sign) -> bool
+    ensures { result ≡ first_is sign tokens.now }
+{
+    match tokens.first() {
+        Some(token) => is_sign(token, sign),
+        None => false,
+    }
+}
+
+/// Whether the sign comes next.
+#[tactic(auto, unfolding(crate::specs::Reading::sign_comes))]
+pub fn sign_comes(tokens: &[Token], sign: Sign) -> bool
+    ensures { result ≡ sign_comes sign tokens.now }
+{
+    stands(skip_lines(tokens), sign)
+}
+
 /// The end of the line.
 #[tactic(auto, unfolding(crate::specs::Reading::line_end_at))]
 pub fn line_end(tokens: &[Token]) -> Result<&[Token], Stop>
@@ -212,6 +230,20 @@ pub fn named<'a>(
     let (name, rest) = tight_name(alloc, text, tokens)?;
     let place = place_of(token);
     Ok((Named { place, name }, rest))
+}
+
+/// A number.
+#[tactic(auto, unfolding(crate::specs::Reading::number_at))]
+pub fn number(tokens: &[Token]) -> Result<(i64, &[Token]), Stop>
+    ensures reads { Gives (λ r. (r.0, r.1.now)) result (number_at tokens.now) }
+    ensures shorter { IfOk result (λ r. length r.1.now < length tokens.now) }
+{
+    let (token, rest) = first(skip_lines(tokens))?;
+    if let Kind::Number(value) = token.kind {
+        Ok((value, rest))
+    } else {
+        Err(outside(token))
+    }
 }
 
 /// A decimal without sign and base, with its place.

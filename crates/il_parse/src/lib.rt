@@ -5,12 +5,13 @@ ghost use Rattle.std.specs.Prelude.{◌≡◌, ◌≤◌, length, IfOk, []};
 ghost use Rattle.il_spec.specs.Text.{AreTokens};
 ghost use Rattle.il_spec.specs.Grammar.{AfterLines, SpellsConfig, Spells, IsWithinLimits};
 ghost use Rattle.il_spec.specs.declared.tree.Config.{Config};
-ghost use Rattle.il_parse.specs.Carried.{IsCarried};
+ghost use Rattle.il_rules.specs.Subset.{IsCarried};
 ghost use Rattle.il_parse.specs.Refused.{IsFault, IsSmall, HasFewInstructions};
 
 mod body;
 mod configuration;
 mod front;
+mod literal;
 mod stop;
 #[cfg(test)]
 mod tests;
@@ -25,10 +26,13 @@ use stop::Stop;
 
 /// The configuration that the tokens of a text spell.
 ///
-/// Read is one PROGRAM with at most one VAR list of BOOL variables, the instructions LD, LDN, ST, STN, NOT, AND and OR over
-/// TRUE, FALSE and names, and a configuration with one TASK and one PROGRAM line. Any other token is fault 10 at its line, the
-/// first with which no such text goes on; at the end of the text the line is one more than its line feeds. Fault 12 stands at
-/// the operator of the 4097th instruction.
+/// Read is one PROGRAM with at most one VAR list and a straight line of instructions, and a configuration with one TASK and one
+/// PROGRAM line. Variables are of type BOOL, INT or `INT (a..b)`, each declaration with an initial value or without one. The
+/// instructions are LD, LDN, AND, OR, ADD and SUB with a literal or a name, ST and STN with a name, NOT, and LIMIT with any number
+/// of literals and names. A literal is TRUE, FALSE, a number, or a number with its type before it that is a value of that type.
+///
+/// Any other token is fault 10 at its line, the first with which no such text goes on; at the end of the text the line is one
+/// more than its line feeds. Fault 12 stands at the operator of the 4097th instruction.
 pub fn parse(alloc: Global, text: &[u8], tokens: &[Token]) -> Result<Config, Refusal>
     requires { AreTokens text.now 0 tokens.now }
     // What is read is spelled so.

@@ -1,6 +1,6 @@
 use super::*;
 use il_spec::token::{Kind, Sign};
-use il_spec::tree::{Instruction, Literal, Reference};
+use il_spec::tree::{Elementary, Form, Initial, Instruction, Literal, Scalar, Subrange};
 use std::alloc::AllocError;
 use std::test::*;
 
@@ -18,8 +18,11 @@ fn kind_of(part: &[u8]) -> Kind {
         b")" => Kind::Sign(Sign::CloseParenthesis),
         b"&" => Kind::Sign(Sign::Ampersand),
         b":=" => Kind::Sign(Sign::Assign),
+        b".." => Kind::Sign(Sign::Range),
         b"1" => Kind::Number(1),
         b"2" => Kind::Number(2),
+        b"INT#7" => Kind::Typed(Literal::Whole(Elementary::Int, 7)),
+        b"SINT#200" => Kind::Typed(Literal::Whole(Elementary::Sint, 200)),
         b"T#100ms" => Kind::Typed(Literal::Time(100)),
         _ => Kind::Word,
     }
@@ -107,8 +110,51 @@ fn reads_a_program(rt: HostRuntime) -> Result<(), Fail> {
     Ok(())
 }
 
+// How many operands a function takes, if the instruction calls one.
+fn operands_of(instruction: &Instruction) -> Option<usize> {
+    match instruction {
+        Instruction::Invoke { operands, .. } => Some(operands.as_slice().len()),
+        _ => None,
+    }
+}
+
+#[test]
+fn reads_numbers(rt: HostRuntime) -> Result<(), Fail> {
+    let config = read(
+        rt.alloc(),
+        "PROGRAM C\nVAR A : INT ( 1\n.. 2 ) := 2 ; B , D : INT := INT#7 ; E : BOOL := TRUE ; END_VAR\nLD A\nADD INT#7\nSUB B\nlimit 1 , A , 2\nLIMIT\nST A\nEND_PROGRAM\n",
+    )?;
+    let units = config.units.as_slice();
+    assert_eq!(rt; units.len(), 1);
+    let variables = units[0].variables.as_slice();
+    assert_eq!(rt; variables.len(), 3);
+    assert!(rt;
+        matches!(
+            &variables[0].declared.form,
+            Form::Scalar(Scalar {
+                subrange: Some(Subrange { lower: 1, upper: 2 }),
+                ..
+            })
+        )
+    );
+    assert!(rt;
+        matches!(
+            &variables[1].initial,
+            Some(Initial {
+                literal: Literal::Whole(Elementary::Int, 7),
+                ..
+            })
+        )
+    );
+    let steps = units[0].body.steps.as_slice();
+    assert_eq!(rt; steps.len(), 6);
+    assert_eq!(rt; operands_of(&steps[3].instruction), Some(3));
+    assert_eq!(rt; operands_of(&steps[4].instruction), Some(0));
+    Ok(())
+}
+
 // Each body with the line of its fault.
-const OUTSIDE: [(&str, u32); 9] = [
+const OUTSIDE: [(&str, u32); 17] = [
     ("", 1),
     ("PROGRAM C\nVAR A : BOOL ; END_VAR LD A\nEND_PROGRAM\n", 2),
     (
@@ -121,6 +167,23 @@ const OUTSIDE: [(&str, u32); 9] = [
     ("PROGRAM C\nLD A\nS A\nEND_PROGRAM\n", 3),
     ("PROGRAM C\nLD A\nXOR A\nEND_PROGRAM\n", 3),
     ("PROGRAM TASK\nLD A\nEND_PROGRAM\n", 1),
+    (
+        "PROGRAM C\nVAR A : BOOL\n( 1 .. 2 ) ; END_VAR\nEND_PROGRAM\n",
+        3,
+    ),
+    (
+        "PROGRAM C\nVAR A : INT ( 1 .. INT#7\n) ; END_VAR\nEND_PROGRAM\n",
+        2,
+    ),
+    (
+        "PROGRAM C\nVAR A : INT := SINT#200\n; END_VAR\nEND_PROGRAM\n",
+        2,
+    ),
+    ("PROGRAM C\nLD A\nMUL A\nEND_PROGRAM\n", 3),
+    ("PROGRAM C\nLD A\nADD ( A\n)\nEND_PROGRAM\n", 3),
+    ("PROGRAM C\nLD T#100ms\nEND_PROGRAM\n", 2),
+    ("PROGRAM C\nLD A\nMAX 1 , 2\nEND_PROGRAM\n", 3),
+    ("PROGRAM C\nLD A\nLIMIT 1 ,\n2\nEND_PROGRAM\n", 3),
 ];
 
 #[test]

@@ -1,28 +1,21 @@
 // A program and its declarations (IEC 61131-3:2003, 2.4.3 and 2.5.3).
 
-ghost use Rattle.std.specs.Prelude.{◌≡◌, ◌<◌, length, IfOk};
-ghost use Rattle.il_parse.specs.Reading.{Gives, comma_comes, next_name_at, names_at, declaration_at, declarations_at, variables_at, externals_at, absent_at, heading_at, lists_at, unit_at};
+ghost use Rattle.std.specs.Prelude.{◌≡◌, ◌<◌, ◌≤◌, length, IfOk};
+ghost use Rattle.il_parse.specs.Reading.{Gives, next_name_at, names_at, limits_at, subrange_at, written, type_at, assigned_at, initial_at, declaration_at, declarations_at, variables_at, externals_at, absent_at, heading_at, lists_at, unit_at};
 
 use crate::body::body;
-use crate::front::{comes, first, is_sign, named, placed_word, sign, skip_lines, word};
+use crate::front::{
+    comes, first, named, number, place_of, placed_word, sign, sign_comes, skip_lines, word,
+};
+use crate::literal::literal_of;
 use crate::stop::{Stop, outside};
 use il_spec::list::Items;
 use il_spec::token::{Sign, Token};
 use il_spec::tree::{
-    Declaration, Elementary, Form, Named, Place, Scalar, Unit, UnitKind, WrittenType,
+    Declaration, Elementary, Form, Initial, Named, Place, Scalar, Subrange, Unit, UnitKind,
+    WrittenType,
 };
 use std::alloc::Global;
-
-/// Whether a comma comes next.
-#[tactic(auto, unfolding(crate::specs::Reading::comma_comes))]
-fn comma_comes(tokens: &[Token]) -> bool
-    ensures { result ≡ comma_comes tokens.now }
-{
-    match skip_lines(tokens).first() {
-        Some(token) => is_sign(token, Sign::Comma),
-        None => false,
-    }
-}
 
 /// A comma and a name.
 #[tactic(auto, unfolding(crate::specs::Reading::next_name_at))]
@@ -39,7 +32,7 @@ fn next_name<'a>(
 }
 
 /// Names with commas between them, and a colon.
-#[tactic(auto, unfolding(crate::specs::Reading::names_at))]
+#[tactic(auto, unfolding(crate::specs::Reading::listed_at))]
 fn names<'a>(
     alloc: Global,
     text: &[u8],
@@ -51,7 +44,7 @@ fn names<'a>(
     let mut names = Items::new(alloc);
     let (name, mut rest) = named(alloc, text, tokens)?;
     names.push(name)?;
-    'names: while comma_comes(rest) {
+    'names: while sign_comes(rest, Sign::Comma) {
         let (name, after) = next_name(alloc, text, rest)?;
         names.push(name)?;
         rest = after;
@@ -60,7 +53,93 @@ fn names<'a>(
     Ok((names, rest))
 }
 
-/// Names of BOOL variables with no initial value.
+/// The limits of a subrange, in parentheses.
+#[tactic(auto, unfolding(crate::specs::Reading::limits_at))]
+fn limits(tokens: &[Token]) -> Result<(Subrange, &[Token]), Stop>
+    ensures reads { Gives (λ r. (r.0, r.1.now)) result (limits_at tokens.now) }
+    ensures shorter { IfOk result (λ r. length r.1.now < length tokens.now) }
+{
+    let rest = sign(tokens, Sign::OpenParenthesis)?;
+    let (lower, rest) = number(rest)?;
+    let rest = sign(rest, Sign::Range)?;
+    let (upper, rest) = number(rest)?;
+    let rest = sign(rest, Sign::CloseParenthesis)?;
+    Ok((Subrange { lower, upper }, rest))
+}
+
+/// A subrange, which may be missing.
+#[tactic(auto, unfolding(crate::specs::Reading::subrange_at))]
+fn subrange(tokens: &[Token]) -> Result<(Option<Subrange>, &[Token]), Stop>
+    ensures reads { Gives (λ r. (r.0, r.1.now)) result (subrange_at tokens.now) }
+    ensures shorter { IfOk result (λ r. length r.1.now ≤ length tokens.now) }
+{
+    if !sign_comes(tokens, Sign::OpenParenthesis) {
+        return Ok((None, tokens));
+    }
+    let (subrange, rest) = limits(tokens)?;
+    Ok((Some(subrange), rest))
+}
+
+/// BOOL, INT, or a subrange of INT.
+#[tactic(auto, unfolding(crate::specs::Reading::type_at))]
+fn declared<'a>(text: &[u8], tokens: &'a [Token]) -> Result<(WrittenType, &'a [Token]), Stop>
+    ensures reads { Gives (λ r. (r.0, r.1.now)) result (type_at text.now tokens.now) }
+    ensures shorter { IfOk result (λ r. length r.1.now < length tokens.now) }
+{
+    if comes(text, tokens, b"BOOL") {
+        let (place, rest) = placed_word(text, tokens, b"BOOL")?;
+        return Ok((written(place, Elementary::Bool, None), rest));
+    }
+    let (place, rest) = placed_word(text, tokens, b"INT")?;
+    let (subrange, rest) = subrange(rest)?;
+    Ok((written(place, Elementary::Int, subrange), rest))
+}
+
+// A scalar type at this place.
+fn written(place: Place, elementary: Elementary, subrange: Option<Subrange>) -> WrittenType
+    ensures { result ≡ written place elementary subrange }
+{
+    let scalar = Scalar {
+        elementary,
+        subrange,
+    };
+    WrittenType {
+        place,
+        form: Form::Scalar(scalar),
+    }
+}
+
+/// `:=` and a literal.
+#[tactic(auto, unfolding(crate::specs::Reading::assigned_at))]
+fn assigned<'a>(text: &[u8], tokens: &'a [Token]) -> Result<(Initial, &'a [Token]), Stop>
+    ensures reads { Gives (λ r. (r.0, r.1.now)) result (assigned_at text.now tokens.now) }
+    ensures shorter { IfOk result (λ r. length r.1.now < length tokens.now) }
+{
+    let rest = sign(tokens, Sign::Assign)?;
+    let (token, rest) = first(skip_lines(rest))?;
+    let Some(literal) = literal_of(text, token) else {
+        return Err(outside(token));
+    };
+    let place = place_of(token);
+    Ok((Initial { place, literal }, rest))
+}
+
+/// An initial value, which may be missing, and a semicolon.
+#[tactic(auto, unfolding(crate::specs::Reading::initial_at))]
+fn initial<'a>(text: &[u8], tokens: &'a [Token]) -> Result<(Option<Initial>, &'a [Token]), Stop>
+    ensures reads { Gives (λ r. (r.0, r.1.now)) result (initial_at text.now tokens.now) }
+    ensures shorter { IfOk result (λ r. length r.1.now < length tokens.now) }
+{
+    if !sign_comes(tokens, Sign::Assign) {
+        let rest = sign(tokens, Sign::Semicolon)?;
+        return Ok((None, rest));
+    }
+    let (initial, rest) = assigned(text, tokens)?;
+    let rest = sign(rest, Sign::Semicolon)?;
+    Ok((Some(initial), rest))
+}
+
+/// Names of variables, their type, and their initial value.
 #[tactic(auto, unfolding(crate::specs::Reading::declaration_at))]
 fn declaration<'a>(
     alloc: Global,
@@ -71,21 +150,13 @@ fn declaration<'a>(
     ensures shorter { IfOk result (λ r. length r.1.now < length tokens.now) }
 {
     let (names, rest) = names(alloc, text, tokens)?;
-    let (place, rest) = placed_word(text, rest, b"BOOL")?;
-    let rest = sign(rest, Sign::Semicolon)?;
-    let scalar = Scalar {
-        elementary: Elementary::Bool,
-        subrange: None,
-    };
-    let declared = WrittenType {
-        place,
-        form: Form::Scalar(scalar),
-    };
+    let (declared, rest) = declared(text, rest)?;
+    let (initial, rest) = initial(text, rest)?;
     Ok((
         Declaration {
             names,
             declared,
-            initial: None,
+            initial,
         },
         rest,
     ))
