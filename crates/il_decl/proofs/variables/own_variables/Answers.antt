@@ -1,0 +1,33 @@
+use Rattle.std.proofs.Common.{◌<◌, ◌++◌, ◌∷◌, [], take, length, arith, sym, ap, ◌∙◌, subst, append_assoc, refl}
+use Rattle.std.proofs.lemmas.Option.{slice_get_read, get_or_from_slice_get}
+use Rattle.il_rules.specs.Subset.{AreCarriedVariables}
+use Rattle.std.proofs.lemmas.List.{take_more, map-append}
+use Rattle.il_spec.specs.declared.tree.Form.TheVariants.{Scalar as OfScalar}
+use Rattle.il_found.specs.Least.{fault_of, earlier_of}
+use Rattle.il_decl.specs.Images.{writes}
+use Rattle.il_decl.specs.Parts.{AreVariables, forms_in, forms_of, is_taken_by, with_new}
+use Rattle.il_decl.proofs.Taken.{variables_none, variables_next}
+use Rattle.il_decl.proofs.Carried.{form_carried}
+use Rattle.il_decl.proofs.variables.own_variables.Goals as goal
+
+pub declarations-init : goal.declarations-init
+declarations-init c = variables_none c.args.unit.now c.new-symbols.result c.new-symbols.ensures
+
+pub scalar_of-scalar-requires : goal.scalar_of-scalar-requires
+scalar_of-scalar-requires c =
+    let items = c.as_slice-declaration-items.result.now in
+    let low : c.declarations.declaration-index < length items = omega arith in
+    let there = get_or_from_slice_get items c.declarations.declaration-index c.declaration-item.result c.declaration-item.result (slice_get_read _ _ _ _ refl low c.declaration-item.is) in
+    form_carried items (subst AreCarriedVariables (sym c.as_slice-declaration-items.ensures) c.requires) c.declaration-item.result (c.declarations.declaration-index, low, there)
+
+pub names-preserved : goal.names-preserved
+names-preserved c =
+    let scalar = c.scalar_of-scalar.result in
+    let before = forms_in (take c.declarations.declaration-index c.as_slice-declaration-items.result.now) in
+    let low : c.names.named-index < length c.as_slice-named-items.result.now = omega arith in
+    let more = take_more c.as_slice-named-items.result.now c.names.named-index c.named-item.result low ∙ ap (λ x. take c.names.named-index c.as_slice-named-items.result.now ++ x ∷ []) (sym c.named-item.is) in
+    let one = ap (forms_of (OfScalar scalar)) more ∙ map-append (λ n. (n, OfScalar scalar)) (take c.names.named-index c.as_slice-named-items.result.now) (c.named-item.result ∷ []) in
+    let longer = ap (λ l. before ++ l) one ∙ sym (append_assoc before (forms_of (OfScalar scalar) (take c.names.named-index c.as_slice-named-items.result.now)) ((c.named-item.result, OfScalar scalar) ∷ [])) in
+    let is = c.earlier-found.ensures ∙ ap (earlier_of c.names.found) (c.fault_if.ensures ∙ ap (λ b. fault_of b 20 c.named-item.result.place) (c.is_taken.ensures ∙ ap (is_taken_by c.args.unit.now c.names.symbols) c.as_str-name.ensures)) in
+    subst (λ l. AreVariables c.args.unit.now l c.put_new.new.symbols c.earlier-found.result) (sym longer)
+    (variables_next c.args.unit.now _ c.named-item.result scalar c.names.symbols c.put_new.new.symbols c.names.found c.earlier-found.result (c.in_ok-put_new.ensures ∙ ap (λ k. with_new c.names.symbols k (writes scalar)) c.as_str-name.ensures) is c.names.invariant)

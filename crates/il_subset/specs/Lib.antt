@@ -1,4 +1,0 @@
-pub mod Least
-pub mod Parts
-pub mod Predeclared
-pub mod Subset

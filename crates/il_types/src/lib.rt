@@ -1,0 +1,67 @@
+//! The rules of instructions: types of operands, targets and arguments.
+#![tactic(auto)]
+
+mod instructions;
+mod operands;
+#[cfg(test)]
+mod tests;
+
+ghost use Rattle.std.specs.Prelude.{◌≡◌, ◌≢◌, [], ◌∷◌, length, IfOk, IfErr};
+ghost use Rattle.il_spec.specs.declared.tree.Unit.{Unit as ProgramUnit};
+ghost use Rattle.il_spec.specs.declared.fault.Refusal.TheVariants.{Memory};
+ghost use Rattle.il_rules.specs.Names.{Spelling};
+ghost use Rattle.il_rules.specs.Subset.{IsCarried, IsDeclaredYet};
+ghost use Rattle.il_rules.specs.Symbols.{symbol_of};
+ghost use Rattle.il_rules.specs.Faults.{IsUnbroken, IsRefusedBy, Typing};
+ghost use Rattle.il_run.specs.NameMap as map;
+ghost use Rattle.il_found.specs.Least.{IsLeast, Below};
+ghost use Rattle.il_types.specs.Typing.{Mistyped, fault_at};
+
+use crate::instructions::{lowest_number, type_after};
+use il_found::{Found, earlier, refusal};
+use il_rules::symbol::Symbol;
+use il_spec::fault::Refusal;
+use il_spec::tree::{Config, Place, Step};
+use il_table::Table;
+
+/// Judges the types of the program's instructions (30 to 33, 37): the first fault in the text, at one instruction the lowest number.
+pub fn check_types(config: &Config, symbols: &Table<Symbol>) -> Result<(), Refusal>
+    requires carried { IsCarried config.now }
+    requires declared { IsDeclaredYet config.now }
+    requires symbols { (u : ProgramUnit) → config.now.units ≡ u ∷ [] → (name : Spelling) → map.get symbols.now name ≡ symbol_of config.now u name }
+    ensures accepted { IfOk result (λ _. IsUnbroken Typing config.now) }
+    ensures refused { IfErr result (IsRefusedBy Typing config.now) }
+    ensures fault { IfErr result (λ e. e ≢ Memory) }
+{
+    let Some(unit) = config.units.as_slice().first() else {
+        unreachable!()
+    };
+    match types_fault(unit.body.steps.as_slice(), symbols) {
+        Some(found) => Err(refusal(found)),
+        None => Ok(()),
+    }
+}
+
+// The first fault of types on a straight line.
+fn types_fault(steps: &[Step], symbols: &Table<Symbol>) -> Option<Found>
+    ensures { IsLeast result (Below (Mistyped symbols.now steps.now) steps.now (length steps.now)) }
+{
+    let mut found = None;
+    let mut before = None;
+    for step in steps {
+        let number = lowest_number(symbols, &step.instruction, before);
+        found = earlier(found, fault_at(number, step.place));
+        before = type_after(symbols, &step.instruction, before);
+    }
+    found
+}
+
+// A number at a place as a fault.
+fn fault_at(number: Option<u16>, place: Place) -> Option<Found>
+    ensures { result ≡ fault_at number place }
+{
+    match number {
+        Some(number) => Some(Found { number, place }),
+        None => None,
+    }
+}
