@@ -1,0 +1,310 @@
+-- Declared ranges: each has a number, and lies in its type.
+use Rattle.std.proofs.Common.{◌≡◌, zero, suc, Bool, true, false, ◌&&◌, if◌then◌else◌, List, [], ◌∷◌, ◌++◌, map, Option, Some, None, option_map, option_and_then, ℤ, pos, negsuc, ◌≤ℤ◌, refl, sym, ap, ◌∙◌, subst, arith}
+use Rattle.std.specs.Prelude.{Contains, find, flat_map, int_le, bytes_eq}
+use Rattle.std.proofs.lemmas.Int.{ints}
+use Rattle.std.proofs.lemmas.List.Elements.{Contains-append_left, Contains-append_right}
+use Rattle.il_spec.specs.declared.tree.Config.{Config}
+use Rattle.il_spec.specs.declared.tree.Unit.{Unit as ProgramUnit}
+use Rattle.il_spec.specs.declared.tree.UnitKind.TheVariants.{Program}
+use Rattle.il_spec.specs.declared.tree.Declaration.{Declaration}
+use Rattle.il_spec.specs.declared.tree.Named.{Named}
+use Rattle.il_spec.specs.declared.tree.Size.{Size}
+use Rattle.il_spec.specs.declared.tree.WrittenType.{WrittenType}
+use Rattle.il_spec.specs.declared.tree.Form.{Form}
+use Rattle.il_spec.specs.declared.tree.Form.TheVariants.{Scalar as OfScalar, Array as OfArray, Block as OfBlock}
+use Rattle.il_spec.specs.declared.tree.Scalar.{Scalar}
+use Rattle.il_spec.specs.declared.tree.Subrange.{Subrange}
+use Rattle.il_spec.specs.declared.tree.Elementary.{Elementary}
+use Rattle.il_spec.specs.declared.tree.Elementary.TheVariants.{Bool as Boolean, Int, Time}
+use Rattle.il_interval.specs.declared.Interval.{Interval}
+use Rattle.il_rules.specs.declared.symbol.Symbol.{Symbol}
+use Rattle.il_rules.specs.Names.{Spelling, Origin, AsVariable, Variable, ImageName, image_of, image_name, is_predeclared, unit_named, own_variable, variables_of, with_origin, named_forms, sees, Meaning, MeansVariable, MeansUnit, MeansStandard, meaning, meant_variable, global_meaning, outer_meaning, or_else}
+use Rattle.il_rules.specs.Declarations.{has_value, is_within, unless, Admitted, AllForms, ScalarsAlone, ScalarsAndArrays, types_in, unit_types, written_types, type_numbers, subrange_numbers, admitted_variables, result_types, sizes_of, size_outside}
+use Rattle.il_rules.specs.Faults.{empty_range, initial_outside}
+use Rattle.il_rules.specs.Subset.{broken, IsDeclaredYet, IsCarriedProgram, AreCarriedVariables, IsCarriedForm, IsCarriedScalar}
+use Rattle.il_rules.specs.Symbols.{symbol_by, symbol_of}
+use Rattle.il_run.specs.Annotation.{interval, range}
+use Rattle.il_verify.proofs.Tests.{left_true, right_true, le_is, IsRange}
+
+-- PROPER TYPES
+
+-- a BOOL, or a type with a range that has a number and lies in it
+abbrev pub IsProperRange : Elementary → Option Interval → Type 0
+IsProperRange e None = e ≡ Boolean
+IsProperRange e (Some declared) = IsRange e declared
+
+-- the same of a scalar's declaration
+abbrev pub IsProper : Scalar → Type 0
+IsProper s = IsProperRange s.elementary (range s)
+
+-- the same of a form, if it is scalar
+abbrev pub IsProperForm : Form → Type 0
+IsProperForm (OfScalar s) = IsProper s
+IsProperForm _ = Unit {0}
+
+-- the same of what a name means
+abbrev pub IsProperSymbol : Option Symbol → Type 0
+IsProperSymbol None = Unit {0}
+IsProperSymbol (Some s) = IsProper s.scalar
+
+-- VARIABLES OF THE PROGRAM
+
+abbrev AllProper : List (Spelling × Form) → Type 0
+AllProper [] = Unit {0}
+AllProper (v ∷ vs) = IsProperForm v.1 × AllProper vs
+
+all_append : (xs ys : List (Spelling × Form)) → AllProper xs → AllProper ys → AllProper (xs ++ ys)
+all_append [] ys p q = q
+all_append (x ∷ xs) ys p q = (p.0, all_append xs ys p.1 q)
+
+all_names : (form : Form) → IsProperForm form → (ns : List Named) → AllProper (map (λ n. (n.name, form)) ns)
+all_names form p [] = tt
+all_names form p (n ∷ ns) = (p, all_names form p ns)
+
+all_declared : (ds : List Declaration) → ((d : Declaration) → Contains ds d → IsProperForm d.declared.form) → AllProper (named_forms ds)
+all_declared [] h = tt
+all_declared (d ∷ ds) h =
+    all_append (map (λ n. (n.name, d.declared.form)) d.names) (named_forms ds) (all_names d.declared.form (h d (0, omega arith, refl)) d.names) (all_declared ds (λ x (k, low, e). h x (suc k, omega arith, e)))
+
+-- what is found is the first, or behind it
+first_or : {X : Type 0} (P : X → Type 0) (b : Bool) (x y : X) (more : Option X) → P x → (more ≡ Some y → P y) → (if b then Some x else more) ≡ Some y → P y
+first_or P true x y more p q e = let same : x ≡ y = cc in subst P same p
+first_or P false x y more p q e = q e
+
+-- the variable of a name among those of a list
+find_proper : (origin : Origin) (name : Spelling) (vs : List (Spelling × Form)) → AllProper vs → (v : Variable) → find (λ v. bytes_eq v.name name) (map (λ v. record { name = v.0; form = v.1; origin = origin }) vs) ≡ Some v → IsProperForm v.form
+find_proper origin name [] p v e = cc
+find_proper origin name (x ∷ vs) p v e =
+    first_or (λ (v : Variable). IsProperForm v.form) (bytes_eq x.0 name) (record { name = x.0; form = x.1; origin = origin }) v (find (λ v. bytes_eq v.name name) (map (λ v. record { name = v.0; form = v.1; origin = origin }) vs)) p.0 (find_proper origin name vs p.1 v) e
+
+-- a subrange of INT that breaks no rule
+int_range : (s : Subrange) → (Contains (subrange_numbers Int (Some s)) 22 → ⊥) → IsRange Int (interval s)
+int_range s h = by_test (has_value Int s.lower && has_value Int s.upper && int_le s.lower s.upper) refl h
+  where
+    by_test : (b : Bool) → (has_value Int s.lower && has_value Int s.upper && int_le s.lower s.upper) ≡ b → (Contains (unless b 22) 22 → ⊥) → IsRange Int (interval s)
+    by_test false e h = absurd (h (0, omega arith, refl))
+    by_test true e h =
+        let lower : has_value Int s.lower ≡ true = left_true _ _ (left_true _ _ e) in
+        let upper : has_value Int s.upper ≡ true = right_true _ _ (left_true _ _ e) in
+        let up : int_le s.lower s.upper ≡ true = right_true _ _ e in
+        record { ordered = le_is _ _ up; fits = (le_is _ _ (left_true _ _ lower), le_is _ _ (right_true _ _ upper)) }
+
+-- the whole of INT
+whole_int : IsProper (record { elementary = Int; subrange = None })
+whole_int = record { ordered = omega (arith, ints); fits = (omega (arith, ints), omega (arith, ints)) }
+
+-- a carried type that breaks no rule
+carried_proper : (c : Config) (f : Form) → IsCarriedForm f → (Contains (type_numbers c AllForms f) 22 → ⊥) → IsProperForm f
+unfolding type_numbers
+carried_proper c (OfScalar s) carried h = by_parts s.elementary s.subrange carried h
+  where
+    by_parts : (e : Elementary) (o : Option Subrange) → IsCarriedScalar e o → (Contains (subrange_numbers e o) 22 → ⊥) → IsProper (record { elementary = e; subrange = o })
+    by_parts Boolean None k h = refl
+    by_parts Int None k h = whole_int
+    by_parts Int (Some sub) k h = int_range sub h
+    by_parts _ _ k h = absurd k
+carried_proper c (OfArray bounds element) carried h = tt
+carried_proper c (OfBlock name) carried h = tt
+
+-- a declaration of the program is carried
+declared_carried : (ds : List Declaration) → AreCarriedVariables ds → (d : Declaration) → Contains ds d → IsCarriedForm d.declared.form
+declared_carried [] k d (n, low, e) = absurd (omega arith)
+declared_carried (x ∷ ds) k d (zero, low, e) = subst (λ (y : Declaration). IsCarriedForm y.declared.form) e k.0
+declared_carried (x ∷ ds) k d (suc n, low, e) = declared_carried ds k.2 d (n, omega arith, e)
+
+-- the type of a declaration is among those that are written
+in_types : (admitted : Admitted) (ds : List Declaration) (d : Declaration) → Contains ds d → Contains (types_in admitted ds) (admitted, d.declared)
+in_types admitted [] d (n, low, e) = absurd (omega arith)
+in_types admitted (x ∷ ds) d (zero, low, e) = (0, omega arith, ap (λ (y : Declaration). (admitted, y.declared)) e)
+in_types admitted (x ∷ ds) d (suc n, low, e) = let more = in_types admitted ds d (n, omega arith, e) in (suc more.0, omega (arith, more.1), more.2)
+
+in_unit : (u : ProgramUnit) → u.kind ≡ Program → (d : Declaration) → Contains u.variables d → Contains (unit_types u) (AllForms, d.declared)
+in_unit u kind d among =
+    Contains-append_left (((result_types u.kind ++ types_in ScalarsAlone u.inputs) ++ types_in ScalarsAlone u.outputs) ++ types_in (admitted_variables u.kind) u.variables) (types_in ScalarsAndArrays u.externals) _
+    (Contains-append_right ((result_types u.kind ++ types_in ScalarsAlone u.inputs) ++ types_in ScalarsAlone u.outputs) _ _ (subst (λ k. Contains (types_in (admitted_variables k) u.variables) (AllForms, d.declared)) (sym kind) (in_types AllForms u.variables d among)))
+
+in_units : (c : Config) (u : ProgramUnit) → c.units ≡ u ∷ [] → (t : Admitted × WrittenType) → Contains (unit_types u) t → Contains (written_types c) t
+in_units c u alone t among =
+    Contains-append_left (flat_map unit_types c.units) _ t (subst (λ us. Contains (flat_map unit_types us) t) (sym alone) (Contains-append_left (unit_types u) [] t among))
+
+-- each variable of the program has a proper type
+variable_proper : (c : Config) (u : ProgramUnit) → c.units ≡ u ∷ [] → IsCarriedProgram u → IsDeclaredYet c → (d : Declaration) → Contains u.variables d → IsProperForm d.declared.form
+variable_proper c u alone carried declared d among =
+    carried_proper c d.declared.form (declared_carried u.variables carried.variables d among) (λ k. declared 22 d.declared.place (broken (empty_range refl ((AllForms, d.declared), in_units c u alone (AllForms, d.declared) (in_unit u carried.kind d among), k, refl))))
+
+-- the variables of the program are those of its one list
+own_are : (u : ProgramUnit) → IsCarriedProgram u → variables_of u ≡ with_origin AsVariable u.variables ++ []
+own_are u k = rw (k.kind, k.inputs, k.outputs, k.externals) refl
+
+no_more : {X : Type 0} (xs : List X) → xs ++ [] ≡ xs
+no_more [] = refl
+no_more (x ∷ xs) = ap (λ ys. x ∷ ys) (no_more xs)
+
+own_proper : (c : Config) (u : ProgramUnit) → c.units ≡ u ∷ [] → IsCarriedProgram u → IsDeclaredYet c → (name : Spelling) (v : Variable) → own_variable u name ≡ Some v → IsProperForm v.form
+own_proper c u alone carried declared name v e =
+    find_proper AsVariable name (named_forms u.variables) (all_declared u.variables (variable_proper c u alone carried declared)) v (ap (find (λ (v : Variable). bytes_eq v.name name)) (sym (own_are u carried ∙ no_more _)) ∙ e)
+
+-- NAMES OF THE IMAGE
+
+-- sizes within their limits
+record AreSizes (cars floors slots : ℤ) : Type 0 where
+  cars_low : pos 1 ≤ℤ cars
+  cars_high : cars ≤ℤ pos 8
+  floors_low : pos 2 ≤ℤ floors
+  floors_high : floors ≤ℤ pos 16
+  slots_low : pos 1 ≤ℤ slots
+  slots_high : slots ≤ℤ pos 64
+
+size_within : (c : Config) → IsDeclaredYet c → (s : Size × Subrange) → Contains (sizes_of c) s → is_within s.1 s.0.value ≡ true
+size_within c declared s among = by_test (is_within s.1 s.0.value) refl
+  where
+    by_test : (b : Bool) → is_within s.1 s.0.value ≡ b → is_within s.1 s.0.value ≡ true
+    by_test true e = e
+    by_test false e = absurd (declared 23 s.0.place (broken (initial_outside refl (size_outside s among e refl))))
+
+sizes_are : (c : Config) → IsDeclaredYet c → AreSizes c.cars.value c.floors.value c.slots.value
+sizes_are c declared =
+    let cars = size_within c declared (c.cars, record { lower = pos 1; upper = pos 8 }) (0, omega arith, refl) in
+    let floors = size_within c declared (c.floors, record { lower = pos 2; upper = pos 16 }) (1, omega arith, refl) in
+    let slots = size_within c declared (c.slots, record { lower = pos 1; upper = pos 64 }) (2, omega arith, refl) in
+    record {
+      cars_low = le_is _ _ (left_true _ _ cars);
+      cars_high = le_is _ _ (right_true _ _ cars);
+      floors_low = le_is _ _ (left_true _ _ floors);
+      floors_high = le_is _ _ (right_true _ _ floors);
+      slots_low = le_is _ _ (left_true _ _ slots);
+      slots_high = le_is _ _ (right_true _ _ slots);
+    }
+
+abbrev AllImages : List ImageName → Type 0
+AllImages [] = Unit {0}
+AllImages (i ∷ is) = IsProperForm i.variable.form × AllImages is
+
+find_image : (name : Spelling) (is : List ImageName) → AllImages is → (i : ImageName) → find (λ i. bytes_eq i.variable.name name) is ≡ Some i → IsProperForm i.variable.form
+find_image name [] p i e = cc
+find_image name (x ∷ is) p i e = first_or (λ (i : ImageName). IsProperForm i.variable.form) (bytes_eq x.variable.name name) x i (find (λ i. bytes_eq i.variable.name name) is) p.0 (find_image name is p.1 i) e
+
+-- INT within limits that lie in it
+small : (a b : ℤ) → negsuc 32767 ≤ℤ a → a ≤ℤ b → b ≤ℤ pos 32767 → IsRange Int (record { lo = a; hi = b })
+small a b low up high = record { ordered = up; fits = (low, high) }
+
+time_proper : IsProper (record { elementary = Time; subrange = None })
+time_proper = record { ordered = omega (arith, ints); fits = (omega (arith, ints), omega (arith, ints)) }
+
+images_proper : (cars floors slots : ℤ) → AreSizes cars floors slots → AllImages (image_of cars floors slots)
+images_proper cars floors slots s = (
+  small cars cars (omega (arith, ints)) (omega (arith, ints)) (omega (arith, ints)),
+  (
+    small floors floors (omega (arith, ints)) (omega (arith, ints)) (omega (arith, ints)),
+    (
+      small slots slots (omega (arith, ints)) (omega (arith, ints)) (omega (arith, ints)),
+      (
+        time_proper,
+        (
+          small (pos 0) cars (omega (arith, ints)) (omega (arith, ints)) (omega (arith, ints)),
+          (
+            small (pos 1) cars (omega (arith, ints)) (omega (arith, ints)) (omega (arith, ints)),
+            (
+              small (pos 1) floors (omega (arith, ints)) (omega (arith, ints)) (omega (arith, ints)),
+              (
+                refl,
+                (
+                  refl,
+                  (
+                    refl,
+                    (
+                      refl,
+                      (
+                        refl,
+                        (
+                          tt,
+                          (
+                            tt,
+                            (
+                              tt,
+                              (
+                                tt,
+                                (
+                                  tt,
+                                  (
+                                    tt,
+                                    (
+                                      small (negsuc 0) (pos 1) (omega (arith, ints)) (omega (arith, ints)) (omega (arith, ints)),
+                                      (
+                                        refl,
+                                        (
+                                          small (pos 0) slots (omega (arith, ints)) (omega (arith, ints)) (omega (arith, ints)),
+                                          (tt, tt),
+                                        ),
+                                      ),
+                                    ),
+                                  ),
+                                ),
+                              ),
+                            ),
+                          ),
+                        ),
+                      ),
+                    ),
+                  ),
+                ),
+              ),
+            ),
+          ),
+        ),
+      ),
+    ),
+  ),
+)
+
+image_proper : (c : Config) → IsDeclaredYet c → (name : Spelling) (i : ImageName) → image_name c name ≡ Some i → IsProperForm i.variable.form
+unfolding image_name
+image_proper c declared name i e = find_image name (image_of c.cars.value c.floors.value c.slots.value) (images_proper c.cars.value c.floors.value c.slots.value (sizes_are c declared)) i e
+
+-- ANY NAME
+
+-- the form of what a name means, if it is a variable
+abbrev IsProperMeaning : Option Meaning → Type 0
+IsProperMeaning (Some (MeansVariable v)) = IsProperForm v.form
+IsProperMeaning _ = Unit {0}
+
+global_proper : (c : Config) (name : Spelling) → IsProperMeaning (global_meaning c name)
+global_proper c name = by_unit (unit_named c name) (is_predeclared c name)
+  where
+    by_unit : (o : Option ProgramUnit) (b : Bool) → IsProperMeaning (or_else (option_map MeansUnit o) (if b then Some MeansStandard else None))
+    by_unit (Some u) b = tt
+    by_unit None true = tt
+    by_unit None false = tt
+
+seen_proper : (b : Bool) (v : Variable) → IsProperForm v.form → IsProperMeaning (if b then Some (MeansVariable v) else None)
+seen_proper true v p = p
+seen_proper false v p = tt
+
+outer_proper : (c : Config) (u : ProgramUnit) (name : Spelling) (o : Option ImageName) → ((i : ImageName) → o ≡ Some i → IsProperForm i.variable.form) → IsProperMeaning (outer_meaning c u name o)
+outer_proper c u name None p = global_proper c name
+outer_proper c u name (Some i) p = seen_proper (sees c u i) i.variable (p i refl)
+
+means_proper : (o : Option Variable) (other : Option Meaning) → ((v : Variable) → o ≡ Some v → IsProperForm v.form) → IsProperMeaning other → IsProperMeaning (or_else (option_map MeansVariable o) other)
+means_proper None other p q = q
+means_proper (Some v) other p q = p v refl
+
+meaning_proper : (c : Config) (u : ProgramUnit) → c.units ≡ u ∷ [] → IsCarriedProgram u → IsDeclaredYet c → (name : Spelling) → IsProperMeaning (meaning c u name)
+unfolding meaning
+meaning_proper c u alone carried declared name =
+    means_proper (own_variable u name) (outer_meaning c u name (image_name c name)) (own_proper c u alone carried declared name) (outer_proper c u name (image_name c name) (image_proper c declared name))
+
+symbol_proper_by : (origin : Origin) (f : Form) → IsProperForm f → IsProperSymbol (symbol_by origin f)
+symbol_proper_by origin (OfScalar s) p = p
+symbol_proper_by origin (OfArray bounds element) p = tt
+symbol_proper_by origin (OfBlock name) p = tt
+
+by_meaning : (m : Option Meaning) → IsProperMeaning m → IsProperSymbol (option_and_then (λ v. symbol_by v.origin v.form) (meant_variable m))
+by_meaning (Some (MeansVariable v)) p = symbol_proper_by v.origin v.form p
+by_meaning (Some (MeansUnit u)) p = tt
+by_meaning (Some MeansStandard) p = tt
+by_meaning None p = tt
+
+-- the declared range of a name has a number, and lies in its type
+pub symbol_proper : (c : Config) (u : ProgramUnit) → c.units ≡ u ∷ [] → IsCarriedProgram u → IsDeclaredYet c → (name : Spelling) → IsProperSymbol (symbol_of c u name)
+unfolding symbol_of
+symbol_proper c u alone carried declared name = by_meaning (meaning c u name) (meaning_proper c u alone carried declared name)

@@ -1,0 +1,6 @@
+use Rattle.std.proofs.Common.{subst}
+use Rattle.il_verify.specs.Resolved.{IsChecked}
+use Rattle.il_verify.proofs.code.Checked.config.Goals as goal
+
+pub returns-clause-checked : goal.returns-clause-checked
+returns-clause-checked c = subst IsChecked c.self.view_is (record { resolved = c.config.ensures.resolved; annotated = c.self.invariant })
