@@ -1,9 +1,6 @@
-pub mod ByText
-pub mod Copies
 pub mod Over
-pub mod Steps
-pub mod Starts
-pub mod Variables
-pub mod Numbers
-pub mod Openings
 pub mod Listings
+pub mod Steps
+pub mod Does
+pub mod Scans
+pub mod Openings

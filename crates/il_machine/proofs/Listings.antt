@@ -10,7 +10,7 @@ use Rattle.il_spec.specs.declared.tree.Task.{Task}
 use Rattle.il_spec.specs.declared.tree.ProgramLine.{ProgramLine}
 use Rattle.il_rules.specs.Names.{Spelling, is_program, is_predeclared, program_named}
 use Rattle.il_run.specs.Scan.{program_of}
-use Rattle.il_machine.specs.Boolean.{Program}
+use Rattle.il_machine.specs.Scanning.{Program}
 use Rattle.il_machine.specs.Listing.{TaskLine, UnitLine, unit_line, unit_lines, is_task_name, unit_of, task_by, task_among, task_order, task_lines, ShowsOne}
 
 -- nothing is not something
@@ -83,8 +83,8 @@ pub one_shown : (p : Program) → ShowsOne p (task_lines p)
 one_shown p r c cs name costs =
     let t = r.carried.task in
     let l = r.carried.line in
-    let u = r.ready.0 in
-    let alone = r.ready.1.alone in
+    let u = r.checked.resolved.program in
+    let alone = r.checked.resolved.is.alone in
     let found = ap (λ (ls : List ProgramLine). program_of p.config (find (λ l. bytes_eq (codes "CAR1") l.task.name) ls)) (sym r.carried.lines) ∙ r.tasked.car in
     let line = line_names l p.config u found in
     let unit = unit_named_so p.config u u l.program.name alone (line_runs l p.config u line found) in

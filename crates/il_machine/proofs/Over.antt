@@ -7,9 +7,9 @@ use Rattle.il_rules.specs.Names.{or_else}
 use Rattle.il_run.specs.declared.value.Value.{Value}
 use Rattle.il_run.specs.NameMap.{Text, order, get, insert, with_entries, get-insert, same_map}
 use Rattle.il_run.specs.State.{Values}
-use Rattle.il_machine.specs.ByText.{HaveSamePaths}
-use Rattle.il_machine.specs.Boolean.{over}
-use Rattle.il_machine.proofs.Copies.{same_text, same_paths-insert}
+use Rattle.il_table.specs.ByText.{HaveSameNames}
+use Rattle.il_machine.specs.Scanning.{over}
+use Rattle.il_table.proofs.Copies.{same_text, same_names-insert}
 
 or_else_cond : (b : Bool) (v : Value) (o p : Option Value) → cond b (Some v) (or_else o p) ≡ or_else (cond b (Some v) o) p
 or_else_cond true v o p = refl
@@ -53,5 +53,5 @@ pub there_under : (m s : Values) (k : Text) → is_some (get s k) ≡ false → 
 there_under m s k none there = ap is_some (sym (ap (λ o. or_else o (get m k)) (none_of (get s k) none)) ∙ sym (get-over m s k)) ∙ there
 
 -- a write at a path that is there keeps the paths
-pub keeps_paths : (m : Values) (k : Text) (v : Value) → is_some (get m k) ≡ true → HaveSamePaths m (insert m k v)
-keeps_paths m k v there = λ q. sym (same_paths-insert m m k v there (λ _. refl) q)
+pub keeps_paths : (m : Values) (k : Text) (v : Value) → is_some (get m k) ≡ true → HaveSameNames m (insert m k v)
+keeps_paths m k v there = λ q. sym (same_names-insert m m k v there (λ _. refl) q)

@@ -1,4 +1,4 @@
-pub mod ByText
-pub mod Boolean
+pub mod Scanning
+pub mod Effect
 pub mod Opening
 pub mod Listing

@@ -10,7 +10,7 @@ use Rattle.il_machine.specs.declared.verified.UnitInfo.{UnitInfo}
 use Rattle.il_machine.specs.declared.verified.TaskInfo.{TaskInfo}
 use Rattle.il_run.specs.NameMap.{Text}
 use Rattle.lift_spec.specs.Snapshot.{task_name}
-use Rattle.il_machine.specs.Boolean.{Program, IsRunnable}
+use Rattle.il_machine.specs.Scanning.{Program, IsRunnable}
 
 -- UNITS
 

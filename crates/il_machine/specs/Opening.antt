@@ -1,11 +1,9 @@
 -- What a car's scans are given of the image, and the variables with which they begin in the opening world (own rules).
-use Rattle.std.specs.Prelude.{ℕ, false, List, [], ◌∷◌, replicate, codes}
-use Rattle.il_spec.specs.declared.tree.Declaration.{Declaration}
-use Rattle.il_spec.specs.declared.tree.Named.{Named}
+use Rattle.std.specs.Prelude.{ℕ, List, [], ◌∷◌, replicate, codes}
 use Rattle.il_spec.specs.declared.tree.Config.{Config}
 use Rattle.il_run.specs.declared.value.Value.{Value}
-use Rattle.il_run.specs.declared.value.Value.TheVariants.{Boolean, Integer}
-use Rattle.il_run.specs.NameMap.{Text, insert, from_entries}
+use Rattle.il_run.specs.declared.value.Value.TheVariants.{Integer}
+use Rattle.il_run.specs.NameMap.{Text, from_entries}
 use Rattle.il_run.specs.State.{Values}
 use Rattle.lift_spec.specs.declared.image.Image.{Image}
 use Rattle.lift_spec.specs.Image.{sizes_of}
@@ -24,13 +22,3 @@ size_entries c =
 -- an array of the image with one value in so many elements
 abbrev pub row_entries : Text → ℕ → Value → List (Text × Value)
 row_entries name size value = elements_of name 1 (replicate size value)
-
--- with FALSE at each of these names
-abbrev pub with_names : Values → List Named → Values
-with_names m [] = m
-with_names m (n ∷ ns) = with_names (insert m n.name (Boolean false)) ns
-
--- with FALSE at each name of these declarations
-abbrev pub with_variables : Values → List Declaration → Values
-with_variables m [] = m
-with_variables m (d ∷ ds) = with_variables (with_names m d.names) ds

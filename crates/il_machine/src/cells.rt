@@ -2,10 +2,10 @@
 
 ghost use Rattle.std.specs.Prelude.{◌≡◌, IsSome};
 ghost use Rattle.il_run.specs.NameMap as map;
-ghost use Rattle.il_machine.specs.ByText.{HaveSamePaths};
-ghost use Rattle.il_machine.specs.Boolean.{seen, KeepsPaths};
+ghost use Rattle.il_table.specs.ByText.{HaveSameNames};
+ghost use Rattle.il_machine.specs.Scanning.{seen, KeepsPaths};
 
-use crate::values::Values;
+use crate::Values;
 use il_run::value::Value;
 use std::marker::Model;
 
@@ -17,7 +17,7 @@ pub struct Cells {
 }
 
 impl Model for Cells {
-    ghost use Rattle.il_machine.specs.Boolean.{Cells, cells_code};
+    ghost use Rattle.il_machine.specs.Scanning.{Cells, cells_code};
 
     ghost Value = { Cells };
 
@@ -74,8 +74,8 @@ impl Cells {
 
     /// Takes all values of maps with the same paths.
     pub fn copy_from(&mut self, variables: &Values, written: &Values)
-        requires variables { HaveSamePaths self.old.variables variables.now }
-        requires written { HaveSamePaths self.old.written written.now }
+        requires variables { HaveSameNames self.old.variables variables.now }
+        requires written { HaveSameNames self.old.written written.now }
         ensures variables { self.new.variables ≡ variables.now }
         ensures written { self.new.written ≡ written.now }
     {

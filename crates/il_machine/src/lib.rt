@@ -1,4 +1,4 @@
-//! The machine: it runs the tasks' programs, on an ordered map from paths to values.
+//! The machine: it runs the tasks' programs, on ordered maps from paths to values.
 #![tactic(auto)]
 
 mod cells;
@@ -7,10 +7,12 @@ mod opening;
 pub mod store;
 #[cfg(test)]
 mod tests;
-pub mod values;
 pub mod verified;
 
 pub use il_run::value::Value;
+pub use il_verify::Checked;
 pub use store::{Begin, Stepped, Store, step};
-pub use values::Values;
 pub use verified::{TaskInfo, UnitCost, UnitInfo, Verified};
+
+/// Values by path, as `V`.
+pub type Values = il_table::Table<Value>;

@@ -1,37 +1,16 @@
-// The values with which a task's scans begin in the opening world.
+// The image with which scans begin in the opening world.
 
 ghost use Rattle.std.specs.Prelude.{◌≡◌, IfOk, OnOk};
 ghost use Rattle.il_run.specs.NameMap as map;
-ghost use Rattle.il_machine.specs.Boolean.{HasSizes};
-ghost use Rattle.il_machine.specs.Opening.{shown_of, size_entries, row_entries, with_names, with_variables};
+ghost use Rattle.il_machine.specs.Scanning.{HasSizes};
+ghost use Rattle.il_machine.specs.Opening.{shown_of, size_entries, row_entries};
 ghost use Rattle.lift_spec.specs.Image.{sizes_of, opening_image, opening_car, opening_outputs};
 ghost use Rattle.lift_spec.specs.Snapshot.{car_entries};
 
-use crate::values::Values;
+use crate::Values;
 use il_run::value::Value;
-use il_spec::tree::{Config, Named, Unit};
+use il_spec::tree::Config;
 use std::alloc::{AllocError, Global};
-
-/// The variables of a program, FALSE.
-pub fn opening_variables(alloc: Global, unit: &Unit) -> Result<Values, AllocError>
-    ensures { IfOk result (λ v. v ≡ with_variables map.empty unit.now.variables) }
-{
-    let mut values = Values::new(alloc);
-    'lists: for declaration in unit.variables.as_slice() {
-        put_names(alloc, &mut values, declaration.names.as_slice())?;
-    }
-    Ok(values)
-}
-
-// FALSE for each name.
-fn put_names(alloc: Global, values: &mut Values, names: &[Named]) -> Result<(), AllocError>
-    ensures { OnOk result (values.new ≡ with_names values.old names.now) }
-{
-    'names: for named in names {
-        values.put(alloc, named.name.as_str(), Value::Boolean(false))?;
-    }
-    Ok(())
-}
 
 /// The image as CAR1 sees it in the opening world (own rule).
 pub fn opening_image(alloc: Global, config: &Config) -> Result<Values, AllocError>

@@ -1,7 +1,7 @@
 use Rattle.std.proofs.Common.{sym, ap, ◌∙◌}
 use Rattle.il_rules.specs.Names.{or_else}
 use Rattle.il_run.specs.NameMap as map
-use Rattle.il_machine.specs.Boolean.{seen}
+use Rattle.il_machine.specs.Scanning.{seen}
 use Rattle.il_machine.proofs.Over.{get-over}
 use Rattle.il_machine.proofs.cells.Cells.get.Goals as goal
 

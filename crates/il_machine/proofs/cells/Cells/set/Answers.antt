@@ -1,7 +1,7 @@
 use Rattle.std.proofs.Common.{sym, ap, ◌∙◌, refl}
 use Rattle.std.specs.Prelude.{is_some}
 use Rattle.il_run.specs.NameMap as map
-use Rattle.il_machine.specs.Boolean.{seen, over}
+use Rattle.il_machine.specs.Scanning.{seen, over}
 use Rattle.il_machine.proofs.Over.{over-insert, over-insert_under, there_under, keeps_paths}
 use Rattle.il_machine.proofs.cells.Cells.set.Goals as goal
 
