@@ -1,5 +1,5 @@
 -- Which texts are accepted.
-use Rattle.std.proofs.Common.{codes, ◌≡◌, ◌≢◌, refl, sym, ap, ◌∙◌, subst, ℕ, ◌≤◌, ◌⊎◌, inl, inr, ℤ, pos, negsuc, ◌≤ℤ◌, Bool, true, false, ◌&&◌, List, [], ◌∷◌, length, Some, None, Option, arith, zero, suc}
+use Rattle.std.proofs.Common.{codes, ◌≡◌, ◌≢◌, refl, sym, ap, ◌∙◌, subst, ℕ, ◌+◌, ◌<◌, ◌≤◌, ◌⊎◌, inl, inr, ℤ, pos, negsuc, ◌≤ℤ◌, Bool, true, false, ◌&&◌, List, [], ◌∷◌, length, Some, Option, arith, zero, suc}
 use Rattle.std.specs.Prelude.{Contains, Ok, Err, Result, int_le, IsErrAnd}
 use lib.Signed.{le_z_yes}
 use lib.Dec.{T}
@@ -7,7 +7,6 @@ use Rattle.std.proofs.lemmas.Int.{ints}
 use Rattle.il_spec.specs.declared.tree.Config.{Config}
 use Rattle.il_spec.specs.declared.tree.Size.{Size}
 use Rattle.il_spec.specs.declared.tree.Task.{Task}
-use Rattle.il_spec.specs.declared.tree.Place.{Place}
 use Rattle.il_spec.specs.declared.token.Token.{Token}
 use Rattle.il_spec.specs.declared.fault.Refusal.{Refusal}
 use Rattle.il_spec.specs.declared.fault.Refusal.TheVariants.{Fault, Memory}
@@ -15,14 +14,17 @@ use Rattle.il_spec.specs.Text.{AreTokens}
 use Rattle.il_spec.specs.Grammar.{AfterLines, SpellsConfig, Spells, IsWithinLimits}
 use Rattle.il_rules.specs.Names.{car_number}
 use Rattle.il_rules.specs.Declarations.{sizes_of, is_within, size_outside, missing_task}
-use Rattle.il_rules.specs.Carried.{IsCarried, HasReadyProgram}
+use Rattle.il_rules.specs.Subset.{IsCarried, IsDeclaredYet, broken}
+use Rattle.il_rules.specs.Symbols.{IsProgram}
+use Rattle.il_rules.proofs.Straight.{among_units}
+use Rattle.il_run.specs.Annotation.{Annotated}
+use Rattle.il_verify.specs.Resolved.{IsResolved, IsChecked}
+use Rattle.std.proofs.lemmas.Option.{slice_get_within}
+use Rattle.il_spec.specs.declared.tree.Unit.{Unit as Organized}
 use Rattle.il_rules.specs.Faults.{IsUnbroken, Declaring, Typing, initial_outside, bad_task}
-use Rattle.il_subset.specs.Subset.{NamesNotCarried, broken, not_carried, IsDeclaredYet, IsRefusedYet}
-use Rattle.il_machine.specs.Boolean.{IsRunnable, IsWithin, HasSizes}
-use Rattle.il_parse.specs.Carried as parsed
+use Rattle.il_machine.specs.Scanning.{IsRunnable, IsWithin, HasSizes}
 use Rattle.il_parse.specs.Refused.{HasFewInstructions, IsFault}
-use Rattle.lift_world.specs.Loading.{IsSpelled, IsAccepted}
-use Rattle.lift_world.proofs.Carrying.{carried_to, carried_from}
+use Rattle.lift_world.specs.Loading.{IsSpelled, IsAccepted, IsRefusedFor}
 use Rattle.lift_world.proofs.Tasking.{is_one, only_task, tasked, task_named}
 
 -- SIZES
@@ -75,15 +77,16 @@ has_sizes c carried unbroken =
 
 -- REFUSALS
 
--- what a judgement names is broken
-pub names_broken : (c : Config) (number line : ℕ) → IsRefusedYet c (Fault number line) → IsDeclaredYet c → IsUnbroken Typing c → ⊥
-names_broken c number line (place, inl first, at) declared typed = declared number place first.broken
-names_broken c number line (place, inr (unbroken, first), at) declared typed = typed number place first.broken
-
--- nothing is broken so far where no declaration is, and no name that is not carried stands
-pub declared_yet : (c : Config) → IsUnbroken Declaring c → ((place : Place) → ¬ NamesNotCarried c place) → IsDeclaredYet c
-declared_yet c unbroken none number place (broken b) = unbroken number place b
-declared_yet c unbroken none number place (not_carried is names) = none place names
+-- what is named is broken, or has no ranges
+names_broken : (c : Config) (number line : ℕ) → IsRefusedFor c (Fault number line) → IsDeclaredYet c → IsUnbroken Typing c → Annotated c → ⊥
+names_broken c number line (inl (place, first, at)) declared typed annotated = declared number place first.broken
+names_broken c number line (inr (inl (unbroken, (place, first, at)))) declared typed annotated = typed number place first.broken
+names_broken c number line (inr (inr (unbroken, fine, (u, s, program, first, at)))) declared typed annotated =
+    let a = annotated u (among_units c u program.alone) in
+    first.first.none a.0 (record { entry = a.1.entry; each = λ place k below is. a.1.each place k (within_body first.at (length u.body.steps) place (slice_get_within u.body.steps first.at s first.stands) below) is })
+  where
+    within_body : (at n place : ℕ) → at < n → place < at + 1 → place < n + 1
+    within_body at n place low below = omega (arith, low, below)
 
 -- a fault that is handed on is a fault
 pub handed_on : {X : Type 0} (Y : Type 0) (e : Refusal) (r : Result X Refusal) → IsErrAnd r (λ d. d ≡ e) → IsFault r → IsFault {A = Y} (Err e)
@@ -96,43 +99,52 @@ number_of Y Memory h = absurd h
 
 -- a text that the parser refuses spells none of the subset
 pub none_spelled : (text : List ℕ) (tokens : List Token) → ((ts : List Token) → AreTokens text 0 ts → ts ≡ tokens)
-    → ((c : Config) → AfterLines (SpellsConfig text c) tokens [] → parsed.IsCarried c → HasFewInstructions c → ⊥) → (c : Config) → IsSpelled text c → ⊥
+    → ((c : Config) → AfterLines (SpellsConfig text c) tokens [] → IsCarried c → HasFewInstructions c → ⊥) → (c : Config) → IsSpelled text c → ⊥
 none_spelled text tokens only refused c a =
-    refused c (subst (λ ts. AfterLines (SpellsConfig text c) ts []) (only a.spelled.0 a.spelled.1) a.spelled.2) (carried_from c a.carried) a.limits.instructions
+    refused c (subst (λ ts. AfterLines (SpellsConfig text c) ts []) (only a.spelled.0 a.spelled.1) a.spelled.2) a.carried a.limits.instructions
 
 -- what the parser gives is the only such configuration
 pub same_spelled : (text : List ℕ) (tokens : List Token) (found : Config) → ((ts : List Token) → AreTokens text 0 ts → ts ≡ tokens)
-    → ((d : Config) → AfterLines (SpellsConfig text d) tokens [] → parsed.IsCarried d → HasFewInstructions d → d ≡ found) → (c : Config) → IsSpelled text c → c ≡ found
+    → ((d : Config) → AfterLines (SpellsConfig text d) tokens [] → IsCarried d → HasFewInstructions d → d ≡ found) → (c : Config) → IsSpelled text c → c ≡ found
 same_spelled text tokens found only unique c a =
-    unique c (subst (λ ts. AfterLines (SpellsConfig text c) ts []) (only a.spelled.0 a.spelled.1) a.spelled.2) (carried_from c a.carried) a.limits.instructions
+    unique c (subst (λ ts. AfterLines (SpellsConfig text c) ts []) (only a.spelled.0 a.spelled.1) a.spelled.2) a.carried a.limits.instructions
 
 -- a text whose configuration is refused spells none that is accepted
-pub none_judged : (text : List ℕ) (found : Config) (e : Refusal) → ((c : Config) → IsSpelled text c → c ≡ found) → IsRefusedYet found e → IsFault {A = Config} (Err e) → (c : Config) → IsAccepted text c → ⊥
+pub none_judged : (text : List ℕ) (found : Config) (e : Refusal) → ((c : Config) → IsSpelled text c → c ≡ found) → IsRefusedFor found e → IsFault {A = Config} (Err e) → (c : Config) → IsAccepted text c → ⊥
 none_judged text found e same refused fault c a =
     let named = number_of Config e fault in
     let is = same c a.spelled in
     let declared : IsDeclaredYet found = subst IsDeclaredYet is a.declared in
     let typed : IsUnbroken Typing found = subst (IsUnbroken Typing) is a.typed in
-    names_broken found named.0 named.1 (subst (IsRefusedYet found) named.2 refused) declared typed
+    let annotated : Annotated found = subst Annotated is a.annotated in
+    names_broken found named.0 named.1 (subst (IsRefusedFor found) named.2 refused) declared typed annotated
 
 -- the fault that is handed on is the one that was named
-pub named_judged : {X : Type 0} (found : Config) (e : Refusal) (r : Result X Refusal) (c : Config) → c ≡ found → IsRefusedYet found e → IsErrAnd r (λ d. d ≡ e) → IsErrAnd r (IsRefusedYet c)
+pub named_judged : {X : Type 0} (found : Config) (e : Refusal) (r : Result X Refusal) (c : Config) → c ≡ found → IsRefusedFor found e → IsErrAnd r (λ d. d ≡ e) → IsErrAnd r (IsRefusedFor c)
 named_judged {X} found e (Ok x) c is refused same = absurd same
-named_judged {X} found e (Err d) c is refused same = subst (λ f. IsRefusedYet f d) (sym is) (subst (IsRefusedYet found) (sym same) refused)
+named_judged {X} found e (Err d) c is refused same = subst (λ f. IsRefusedFor f d) (sym is) (subst (IsRefusedFor found) (sym same) refused)
 
--- what was parsed and judged is accepted
-pub accepted_is : (text : List ℕ) (c : Config) → length text ≤ 262144 → Spells text c → (length text ≤ 262144 → IsWithinLimits text c) → parsed.IsCarried c → IsUnbroken Declaring c → IsUnbroken Typing c
-    → ((place : Place) → ¬ NamesNotCarried c place) → IsAccepted text c
-accepted_is text c short spelled limits carried declared typed none =
-    record { spelled = record { spelled = spelled; limits = limits short; carried = carried_to c carried }; declared = declared_yet c declared none; typed = typed }
+-- what was parsed, judged and verified is accepted
+pub accepted_is : (text : List ℕ) (c : Config) → length text ≤ 262144 → Spells text c → (length text ≤ 262144 → IsWithinLimits text c) → IsCarried c → IsDeclaredYet c → IsUnbroken Typing c → Annotated c → IsAccepted text c
+accepted_is text c short spelled limits carried declared typed annotated =
+    record { spelled = record { spelled = spelled; limits = limits short; carried = carried }; declared = declared; typed = typed; annotated = annotated }
 
--- and runs
-pub runnable_is : (c : Config) → parsed.IsCarried c → IsUnbroken Declaring c → HasReadyProgram c → IsRunnable c
-runnable_is c carried declared ready =
-    let sizes = has_sizes c (carried_to c carried) declared in
-    record { carried = carried_to c carried; ready = ready; tasked = tasked c ready.0 (carried_to c carried) sizes.cars declared ready.1.alone; sizes = sizes }
+-- nothing of declarations is broken
+pub unbroken_is : (c : Config) → IsDeclaredYet c → IsUnbroken Declaring c
+unbroken_is c declared number place b = declared number place (broken b)
+
+-- the names of the one program are resolved
+pub resolved_is : (c : Config) (carried : IsCarried c) → IsDeclaredYet c → IsUnbroken Typing c → ((u : Organized) → c.units ≡ u ∷ [] → IsProgram c u) → IsResolved c
+resolved_is c carried declared typed program = record { program = carried.program; is = program carried.program carried.alone; carried = carried.carried; declared = declared; typed = typed }
+
+-- and it runs
+pub runnable_is : (c : Config) → IsCarried c → IsChecked c → IsRunnable c
+runnable_is c carried checked =
+    let declared = unbroken_is c checked.resolved.declared in
+    let sizes = has_sizes c carried declared in
+    record { carried = carried; checked = checked; tasked = tasked c checked.resolved.program carried sizes.cars declared checked.resolved.is.alone; sizes = sizes }
 
 -- the TASK line of what runs is that of CAR1
-pub car_is_named : (c : Config) (carried : parsed.IsCarried c) (declared : IsUnbroken Declaring c) (ready : HasReadyProgram c) → (runnable_is c carried declared ready).carried.task.name.name ≡ codes "CAR1"
+pub car_is_named : (c : Config) (carried : IsCarried c) (checked : IsChecked c) → (runnable_is c carried checked).carried.task.name.name ≡ codes "CAR1"
 unfolding runnable_is
-car_is_named c carried declared ready = task_named c (carried_to c carried) (has_sizes c (carried_to c carried) declared).cars declared
+car_is_named c carried checked = let declared = unbroken_is c checked.resolved.declared in task_named c carried (has_sizes c carried declared).cars declared

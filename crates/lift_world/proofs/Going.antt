@@ -7,7 +7,10 @@ use Rattle.il_spec.specs.declared.tree.Config.{Config}
 use Rattle.il_spec.specs.declared.tree.Step.{Step as BodyStep}
 use Rattle.il_spec.specs.declared.tree.Unit.{Unit as Organized}
 use Rattle.il_rules.specs.Names.{or_else}
-use Rattle.il_rules.specs.Carried.{IsReady, IsCarriedProgram}
+use Rattle.il_rules.specs.Subset.{IsCarriedProgram}
+use Rattle.il_rules.specs.Symbols.{IsProgram}
+use Rattle.il_opening.specs.Held.{HoldsOwn}
+use Rattle.il_opening.proofs.Held.{opening_holds}
 use Rattle.il_run.specs.declared.value.Value.{Value}
 use Rattle.il_run.specs.NameMap.{Text, get, same_map}
 use Rattle.il_run.specs.State.{Values, State}
@@ -19,8 +22,9 @@ use Rattle.lift_spec.specs.declared.image.Motor.TheVariants.{Still}
 use Rattle.lift_spec.specs.declared.event.Reply.{Reply}
 use Rattle.lift_spec.specs.declared.event.Reply.TheVariants.{Started, More, End, Committed, Refreshed, Refused}
 use Rattle.lift_spec.specs.Image.{sizes_of, FieldsInRange, fields_in_range, opening_car, opening_outputs, Obeys}
-use Rattle.lift_spec.specs.World.{World, Halt, happens, run, and_then, opening, task_at, scan_at, counted, answered, InRanges}
+use Rattle.lift_spec.specs.World.{World, TaskState, Halt, happens, run, and_then, opening, task_at, scan_at, counted, answered, InRanges}
 use Rattle.lift_spec.specs.World as model
+use Rattle.lift_spec.specs.Snapshot.{whole_of, program_of}
 use Rattle.lift_spec.specs.Calls.{SlotInRange}
 use Rattle.lift_spec.specs.declared.calls.Slot.TheVariants.{Free}
 use Rattle.il_run.specs.Ranges.{HaveValues, entity_scalars, instance_scalars}
@@ -33,19 +37,17 @@ use Rattle.std.proofs.lemmas.List.Elements.{All-replicate}
 use Rattle.lift_spec.proofs.Laws.{fields_in_range_means}
 use Rattle.lift_world.specs.declared.event.Event.{Event}
 use Rattle.lift_world.specs.declared.event.Event.TheVariants.{Start, Instruction, Commit, Refresh}
-use Rattle.il_machine.specs.ByText.{HaveSamePaths}
-use Rattle.il_machine.specs.Boolean.{Program, HasBoolean, HasOwn, HasImage, IsRunnable, Kept, state_of, over}
+use Rattle.il_table.specs.ByText.{HaveSameNames}
+use Rattle.il_machine.specs.Scanning.{Program, OwnsDeclared, HasImage, IsRunnable, Kept, state_of, over}
 use Rattle.il_machine.specs.Opening.{shown_of}
 use Rattle.il_machine.proofs.Over.{get-over}
-use Rattle.il_machine.proofs.Steps.{scan_does, store_goes, store_ends, next_state}
-use Rattle.il_machine.proofs.Starts.{own_after, own_of, opening_own, starts}
-use Rattle.il_machine.proofs.Variables.{opening_variables_are}
-use Rattle.il_machine.proofs.Numbers.{effect_keeps_numbers}
+use Rattle.il_machine.proofs.Scans.{same_program, scan_does, store_goes, store_ends, next_state, end_state, own_after, unseen_after, effect_keeps, starts}
+use Rattle.lift_world.proofs.Naming.{no_motor, no_serve}
 use Rattle.il_machine.proofs.Openings.{shown_has_image}
-use Rattle.lift_world.specs.Running.{Running, IsOneCar, world_of, world_by, event_of, started, after_commit, commit_report, committed, asks_open, refreshed, refresh_report, outputs_at}
+use Rattle.lift_world.specs.Running.{Running, IsOneCar, world_of, world_by, tickets_of, event_of, started, after_commit, commit_report, committed, asks_open, refreshed, refresh_report, outputs_at}
 use Rattle.lift_world.proofs.Settling.{one_car, one_of, outputs_are, outputs_still, refreshed_is, one_obeys}
 use Rattle.lift_world.proofs.Seeing.{commit_shows}
-use Rattle.lift_world.proofs.Modelling.{IsSound, carried_is, start_is, instruction_is, commit_is_model, refresh_is_model, begins_quiet, get_entries_at, first_image, first_is, first_one, first_in_range, opens_so}
+use Rattle.lift_world.proofs.Modelling.{IsSound, carried_is, car_program, start_is, instruction_is, commit_is_model, refresh_is_model, begins_quiet, get_entries_at, first_image, first_is, first_one, first_in_range, opens_so}
 
 -- THE LENGTH OF A SCAN
 
@@ -80,13 +82,21 @@ some_cond true o h = h refl
 some_cond false o h = refl
 
 -- they have the paths of the others
-restricted_same : (all own : Values) → ((q : Text) → is_some (get own q) ≡ true → is_some (get all q) ≡ true) → HaveSamePaths (restricted own all) own
+restricted_same : (all own : Values) → ((q : Text) → is_some (get own q) ≡ true → is_some (get all q) ≡ true) → HaveSameNames (restricted own all) own
 unfolding restricted get
 restricted_same all own h q = ap is_some (get_entries_at all own.list q) ∙ some_cond (is_some (get own q)) (get all q) (h q)
 
 -- a variable is seen
-over_boolean : (below own : Values) (q : Text) → HasBoolean own q → HasBoolean (over below own) q
-over_boolean below own q h = (h.0, get-over below own q ∙ ap (λ o. or_else o (get below q)) h.1)
+over_there : (below own : Values) (q : Text) → is_some (get own q) ≡ true → is_some (get (over below own) q) ≡ true
+over_there below own q h = ap is_some (get-over below own q) ∙ by (get own q) h
+  where
+    by : (o : Option Value) → is_some o ≡ true → is_some (or_else o (get below q)) ≡ true
+    by (Some v) is = refl
+    by None is = cc
+
+-- the variables of a configuration's program, by the program
+own_of : (c : Config) (u : Organized) (variables : Values) → IsProgram c u → HoldsOwn u variables → OwnsDeclared c variables
+own_of c u variables program own v other = subst (λ w. HoldsOwn w variables) (same_program c u v program other) own
 
 -- a place with no step is behind the last
 beyond : (u : Organized) (at : ℕ) → slice_get u.body.steps at ≡ None → length u.body.steps ≤ at
@@ -147,7 +157,7 @@ goes_start w s (suc zero) = by w.busy refl
     }
     by false is =
         let u = s.scan.0 in
-        let quiet = begins_quiet w.program.config u w.image s.image.outputs w.shown w.variables (s.own u s.scan.1) s.image.told s.image.still s.sees in
+        let quiet = begins_quiet w.program.config u w.image s.image.outputs w.shown w.variables s.runnable s.scan.1 (s.own u s.scan.1) s.image.told s.image.still s.sees in
         record {
           after = started w;
           reply = Started;
@@ -159,7 +169,7 @@ goes_start w s (suc zero) = by w.busy refl
                 ranges = s.ranges;
                 own = s.own;
                 variables_there = λ q. refl;
-                scan = (u, s.scan.1, starts w.program.config u w.variables w.shown w.scan.unit s.scan.2.unit (s.own u s.scan.1) (subst HasImage (sym s.sees) (shown_has_image w.program.config w.image)));
+                scan = (u, s.scan.1, starts w.program.config u w.variables w.shown w.scan.unit s.scan.1 s.runnable.checked.annotated s.scan.2.unit (s.own u s.scan.1) (subst (HasImage w.program.config) (sym s.sees) (shown_has_image w.program.config w.image s.runnable.sizes s.ranges)));
                 sees = s.sees;
                 motor = quiet.0;
                 serve = quiet.1;
@@ -169,7 +179,7 @@ goes_start w s (suc zero) = by w.busy refl
         }
 
 -- the one program's steps
-steps_are : (c : Config) (u : Organized) → IsReady c u → length_of c.units ≡ length u.body.steps
+steps_are : (c : Config) (u : Organized) → IsProgram c u → length_of c.units ≡ length u.body.steps
 steps_are c u ready = ap length_of ready.alone
 
 -- a scan that has not ended makes a step
@@ -184,9 +194,6 @@ goes_step w s at busy place = by (slice_get s.scan.0.body.steps at) refl
 
     going : w.scan.place ≢ None
     going e = none_some at w.scan.place e place
-
-    own : HasOwn u w.scan.variables
-    own = own_after c u w.scan w.variables (carried_of w s) s.scan.2 (λ q. sym (s.variables_there q)) (s.own u s.scan.1)
 
     by : (o : Option BodyStep) → slice_get s.scan.0.body.steps at ≡ o → Goes w (Instruction 1)
     by None past =
@@ -213,7 +220,7 @@ goes_step w s at busy place = by (slice_get s.scan.0.body.steps at) refl
                 ranges = s.ranges;
                 own = s.own;
                 variables_there = s.variables_there;
-                scan = (u, s.scan.1, record { unit = s.scan.2.unit; within = λ a e. absurd (none_some a None refl e); known = s.scan.2.known; has = λ a e. absurd (none_some a None refl e) });
+                scan = (u, s.scan.1, end_state c u w.scan s.scan.2);
                 sees = s.sees;
                 motor = s.motor;
                 serve = s.serve;
@@ -227,13 +234,14 @@ goes_step w s at busy place = by (slice_get s.scan.0.body.steps at) refl
               omega (arith, before, most, least, all);
         }
     by (Some i) stands =
-        let does = scan_does c u w.scan at i s.scan.1 s.scan.2 place stands in
+        let below = slice_get_within u.body.steps at i stands in
+        let does = (scan_does c u w.scan at i s.scan.1 (carried_of w s) s.scan.2 place stands below).2 in
         let variables = restricted w.scan.variables does.after in
         let whole : over does.after variables ≡ does.after = over_restricted does.after w.scan.variables in
         let effects = does.effect_is ∙ ap (λ v. Some (v, does.left)) (sym whole) in
         let left : Kept = record { unit = w.scan.unit; variables = variables; written = does.after; place = Some (at + 1); result = Some does.left } in
         let after : Running = record w { scan = left } in
-        let numbers = effect_keeps_numbers i.instruction (over w.scan.written w.scan.variables) w.scan.result (over does.after variables) does.left effects in
+        let unseen = unseen_after c u at i (over w.scan.written w.scan.variables) (over does.after variables) w.scan.result does.left s.scan.1 s.runnable.checked.resolved.declared stands effects in
         record {
           after = after;
           reply = More;
@@ -243,7 +251,7 @@ goes_step w s at busy place = by (slice_get s.scan.0.body.steps at) refl
                 other = λ ne. absurd (ne refl);
                 idle = λ _ f. absurd (not_both w.busy busy f);
                 ended = λ _ _ e. absurd (going e);
-                step = λ _ _ _. store_goes c u w.scan at i (over does.after variables) does.left s.scan.1 s.scan.2 place stands effects;
+                step = λ _ _ _. store_goes c u w.scan at i (over does.after variables) does.left s.scan.1 (carried_of w s) s.scan.2 place stands below effects;
                 more = λ _ _ _ _. refl;
                 end = λ _ _ _ e. absurd (none_some (at + 1) (Some (at + 1)) e refl);
                 only = refl;
@@ -254,11 +262,11 @@ goes_step w s at busy place = by (slice_get s.scan.0.body.steps at) refl
                 image = s.image;
                 ranges = s.ranges;
                 own = s.own;
-                variables_there = λ q. restricted_same does.after w.scan.variables (λ p there. let b = does.keeps p (over_boolean w.scan.written w.scan.variables p (own.booleans p there)) in ap is_some b.1) q ∙ s.variables_there q;
-                scan = (u, s.scan.1, next_state c u w.scan at i variables does.after does.left s.scan.1 s.scan.2 place stands (slice_get_within u.body.steps at i stands) effects);
+                variables_there = λ q. restricted_same does.after w.scan.variables (λ p there. effect_keeps c i.instruction (over w.scan.written w.scan.variables) w.scan.result does.after does.left p does.effect_is (over_there w.scan.written w.scan.variables p there)) q ∙ s.variables_there q;
+                scan = (u, s.scan.1, next_state c u w.scan at i variables does.after does.left s.scan.1 (carried_of w s) s.scan.2 place stands below effects);
                 sees = s.sees;
-                motor = numbers (codes "MOTOR") s.motor;
-                serve = numbers (codes "SERVE") s.serve;
+                motor = ap whole_of (unseen u s.scan.1 (codes "MOTOR") (no_motor c u s.runnable s.scan.1) refl) ∙ s.motor;
+                serve = ap whole_of (unseen u s.scan.1 (codes "SERVE") (no_serve c u s.runnable s.scan.1) refl) ∙ s.serve;
               };
           same = refl;
           counts = let before : gone w ≡ at = ap (steps_before (length_of c.units)) place in omega (arith, before);
@@ -350,12 +358,12 @@ commit_sound w s =
     let level = s.image.fields.level in
     let is : outputs_at asked level ≡ (committed w).outputs = outputs_are w s.image asked level refl refl in
     let still : (committed w).outputs.motor ≡ Still = ap (λ (o : CarOutputs). o.motor) (sym is) ∙ outputs_still asked level in
-    let own = own_after w.program.config s.scan.0 w.scan w.variables (carried_of w s) s.scan.2 (λ q. sym (s.variables_there q)) (s.own s.scan.0 s.scan.1) in
+    let own = own_after w.program.config s.scan.0 w.variables w.scan.variables w.scan.written s.scan.2.declared (λ q. sym (s.variables_there q)) (s.own s.scan.0 s.scan.1) in
     record {
       runnable = s.runnable;
       image = one_car w.image.fields ((committed w).outputs ∷ []) s.image.fields asked level s.image.cars (ap (λ o. o ∷ []) (sym is)) refl;
       ranges = s.ranges;
-      own = λ v ready. own_of w.program.config s.scan.0 v w.scan.variables s.scan.1 ready own;
+      own = own_of w.program.config s.scan.0 w.scan.variables s.scan.1 own;
       variables_there = λ q. refl;
       scan = s.scan;
       sees = commit_shows w.program.config w.image s.image.fields s.image.outputs (committed w).outputs w.shown s.image.cars s.image.told s.image.still still s.sees;
@@ -498,31 +506,31 @@ runs_on c (e ∷ es) w so_far s same =
 abbrev first_world : (c : Config) → IsRunnable c → Running
 first_world c runs =
     let shown : Values = shown_of c (first_image (opening_car ∷ []) (opening_outputs ∷ [])) in
-    let variables : Values = opening_variables c runs.ready.0 in
+    let variables : Values = opening_variables c runs.checked.resolved.program in
     record {
       program = record { config = c; costs = [] };
       image = first_image (opening_car ∷ []) (opening_outputs ∷ []);
       variables = variables;
       shown = shown;
-      scan = record { unit = runs.ready.0.name.name; variables = variables; written = shown; place = Some 0; result = None };
+      scan = record { unit = runs.checked.resolved.program.name.name; variables = variables; written = shown; place = Some 0; result = None };
       busy = false;
     }
 
-first_own : (c : Config) (runs : IsRunnable c) → HasOwn runs.ready.0 (opening_variables c runs.ready.0)
-first_own c runs = let carried = carried_is c runs.ready.0 runs runs.ready.1.alone in subst (HasOwn runs.ready.0) (opening_variables_are c runs.ready.0 carried) (opening_own runs.ready.0 carried)
+first_own : (c : Config) (runs : IsRunnable c) → HoldsOwn runs.checked.resolved.program (opening_variables c runs.checked.resolved.program)
+first_own c runs = let r = runs.checked.resolved in opening_holds c r.program r.is r.carried r.declared
 
 first_sound : (c : Config) (runs : IsRunnable c) → IsSound (first_world c runs)
 first_sound c runs =
-    let u = runs.ready.0 in
+    let u = runs.checked.resolved.program in
     let image = first_image (opening_car ∷ []) (opening_outputs ∷ []) in
-    let quiet = begins_quiet c u image opening_outputs (shown_of c image) (opening_variables c u) (first_own c runs) refl refl refl in
+    let quiet = begins_quiet c u image opening_outputs (shown_of c image) (opening_variables c u) runs runs.checked.resolved.is (first_own c runs) refl refl refl in
     record {
       runnable = runs;
       image = first_one (opening_car ∷ []) (opening_outputs ∷ []) refl refl;
       ranges = first_in_range c (opening_car ∷ []) (opening_outputs ∷ []) runs refl;
-      own = λ v ready. own_of c u v (opening_variables c u) runs.ready.1 ready (first_own c runs);
+      own = own_of c u (opening_variables c u) runs.checked.resolved.is (first_own c runs);
       variables_there = λ q. refl;
-      scan = (u, runs.ready.1, starts c u (opening_variables c u) (shown_of c image) u.name.name refl (first_own c runs) (shown_has_image c image));
+      scan = (u, runs.checked.resolved.is, starts c u (opening_variables c u) (shown_of c image) u.name.name runs.checked.resolved.is runs.checked.annotated refl (first_own c runs) (shown_has_image c image runs.sizes (first_in_range c (opening_car ∷ []) (opening_outputs ∷ []) runs refl)));
       sees = refl;
       motor = quiet.0;
       serve = quiet.1;
@@ -533,7 +541,7 @@ ran : (c : Config) (runs : IsRunnable c) (events : List Event) → Ran c (first_
 ran c runs events = runs_on c events (first_world c runs) [] (first_sound c runs) refl
 
 opens_first : (c : Config) (runs : IsRunnable c) → world_of (first_world c runs) ≡ opening c
-opens_first c runs = opens_so c runs (first_image (opening_car ∷ []) (opening_outputs ∷ [])) (opening_variables c runs.ready.0) (first_world c runs).scan (first_is c (opening_car ∷ []) (opening_outputs ∷ []) runs refl refl) refl
+opens_first c runs = opens_so c runs (first_image (opening_car ∷ []) (opening_outputs ∷ [])) (opening_variables c runs.checked.resolved.program) (first_world c runs).scan (first_is c (opening_car ∷ []) (opening_outputs ∷ []) runs refl refl) refl
 
 ran_is : (c : Config) (runs : IsRunnable c) (events : List Event) → run c (opening c) [] (map event_of events) ≡ Ok (world_of (ran c runs events).after, (ran c runs events).replies)
 ran_is c runs events = ap (λ w. run c w [] (map event_of events)) (sym (opens_first c runs)) ∙ (ran c runs events).is
@@ -560,6 +568,24 @@ in_ranges v s =
 obeys : (v : Running) → IsSound v → Obeys (world_of v).group.image
 unfolding world_by
 obeys v s = one_obeys v.image s.image
+
+-- the task of a world
+abbrev task_of_world : Running → TaskState
+task_of_world v = record { variables = v.variables; tickets = tickets_of v.program.config v.busy }
+
+one_of_both : {X : Type 0} (a b : X) → Some a ≡ Some b → a ≡ b
+one_of_both a b e = cc
+
+-- the task's variables are the program's
+own_at : (v : Running) → IsSound v → (t : ℕ) (u : Organized) (task : TaskState) → program_of v.program.config t ≡ Some u → task_at (world_of v).group t ≡ Some task → HoldsOwn u task.variables
+unfolding world_by
+own_at v s zero u task program there = cc
+own_at v s (suc (suc t)) u task program there = cc
+own_at v s (suc zero) u task program there =
+    let r = s.runnable.checked.resolved in
+    let same : r.program ≡ u = one_of_both _ _ (sym (car_program v.program.config r.program s.runnable.tasked) ∙ program) in
+    let task_is : task_of_world v ≡ task = one_of_both _ _ there in
+    subst (λ w. HoldsOwn w task.variables) same (subst (λ (x : TaskState). HoldsOwn r.program x.variables) task_is (s.own r.program r.is))
 
 -- the one program's steps, with the implicit RET, are the budget
 gone_within : (v : Running) (s : IsSound v) → gone v ≤ length_of v.program.config.units + 1
@@ -613,6 +639,10 @@ runs_well c runs budget is =
       ranges = λ events w replies end.
           let r = ran c runs events in
           subst (InRanges c) (ap (λ (v : World). v.group) (ends_there c runs events w replies end).0) (subst (λ d. InRanges d (world_of r.after).group) r.same (in_ranges r.after r.sound));
+      variables = λ events w replies t u task end program there.
+          let r = ran c runs events in
+          let same = ends_there c runs events w replies end in
+          own_at r.after r.sound t u task (ap (λ d. program_of d t) r.same ∙ program) (ap (λ (v : World). task_at v.group t) same.0 ∙ there);
       obeys = λ events w replies end. let r = ran c runs events in subst (λ (v : World). Obeys v.group.image) (ends_there c runs events w replies end).0 (obeys r.after r.sound);
       within = λ events w replies t end there.
           let r = ran c runs events in
@@ -637,13 +667,13 @@ first_cost_is units u is = ap (λ us. first_cost (map cost_of us)) is ∙ ap (λ
 
 -- a verified configuration runs well within what it costs
 pub verified_runs_well : (p : Program) (runs : IsRunnable p.config) → p.costs ≡ map cost_of p.config.units → RunsWell p.config (budget_of p)
-verified_runs_well p runs costs = runs_well p.config runs (budget_of p) (ap first_cost costs ∙ first_cost_is p.config.units runs.ready.0 runs.ready.1.alone)
+verified_runs_well p runs costs = runs_well p.config runs (budget_of p) (ap first_cost costs ∙ first_cost_is p.config.units runs.checked.resolved.program runs.checked.resolved.is.alone)
 
 -- and the task that is shown has its cost as the budget
 pub verified_shows_budget : (p : Program) (runs : IsRunnable p.config) → runs.carried.task.name.name ≡ codes "CAR1" → p.costs ≡ map cost_of p.config.units → ShowsBudget p
 verified_shows_budget p runs name costs =
-    let one : p.costs ≡ cost_of runs.ready.0 ∷ [] = costs ∙ ap (map cost_of) runs.ready.1.alone in
-    ap (map (λ (l : TaskLine). l.budget)) (one_shown p runs (cost_of runs.ready.0) [] name one) ∙ ap (λ cs. first_cost cs ∷ []) (sym one)
+    let one : p.costs ≡ cost_of runs.checked.resolved.program ∷ [] = costs ∙ ap (map cost_of) runs.checked.resolved.is.alone in
+    ap (map (λ (l : TaskLine). l.budget)) (one_shown p runs (cost_of runs.checked.resolved.program) [] name one) ∙ ap (λ cs. first_cost cs ∷ []) (sym one)
 
 -- the same of what was made of a configuration
 pub shown_of_made : (d : Config) (p : Program) → p.config ≡ d → (runs : IsRunnable d) → runs.carried.task.name.name ≡ codes "CAR1" → p.costs ≡ map cost_of d.units → ShowsBudget p

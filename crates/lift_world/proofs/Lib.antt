@@ -1,6 +1,6 @@
 pub mod Showing
 pub mod Settling
-pub mod Carrying
+pub mod Naming
 pub mod Accepting
 pub mod Runs
 pub mod Tasking

@@ -10,9 +10,11 @@ use Rattle.il_spec.specs.declared.tree.Config.{Config}
 use Rattle.il_spec.specs.declared.tree.Declaration.{Declaration}
 use Rattle.il_spec.specs.declared.tree.Unit.{Unit as Organized}
 use Rattle.il_rules.specs.Names.{or_else}
-use Rattle.il_rules.specs.Carried.{IsCarriedProgram, IsReady}
+use Rattle.il_rules.specs.Subset.{IsCarriedProgram}
+use Rattle.il_rules.specs.Symbols.{IsProgram}
+use Rattle.il_opening.specs.Held.{HoldsOwn}
+use Rattle.lift_world.proofs.Naming.{no_motor, no_serve}
 use Rattle.il_run.specs.declared.value.Value.{Value}
-use Rattle.il_run.specs.declared.value.Value.TheVariants.{Boolean}
 use Rattle.il_run.specs.NameMap.{Text, order, get, get-empty, get-insert, from_entries, with_entries, same_map}
 use Rattle.il_run.specs.State.{Values, State}
 use Rattle.il_run.specs.Meaning.{entities}
@@ -32,10 +34,10 @@ use Rattle.lift_spec.specs.Settle.{settled_car, outputs_of, denials_of}
 use Rattle.lift_spec.specs.Snapshot.{whole_of, wishes_of, motor_of, scan_begins, begins_by, image_entries, motor_number, program_of, task_name, written_globals}
 use Rattle.lift_spec.specs.World.{World, Halt, happens, opening, opening_task, opening_tasks_from, committed_group, car_commits, refreshed_group}
 use Rattle.lift_spec.specs.World as model
-use Rattle.il_machine.specs.ByText.{HaveSamePaths}
-use Rattle.il_machine.specs.Boolean.{Program, HasBoolean, HasImage, HasOwn, OwnsBooleans, IsScanOf, IsRunnable, IsTasked, Kept, state_of, frames_at, over}
+use Rattle.il_table.specs.ByText.{HaveSameNames}
+use Rattle.il_machine.specs.Scanning.{Program, OwnsDeclared, HasImage, KeepsUnseen, IsScanOf, IsRunnable, IsTasked, Kept, state_of, frames_at, over}
 use Rattle.il_machine.specs.Opening.{shown_of}
-use Rattle.il_machine.proofs.Copies.{same_text}
+use Rattle.il_table.proofs.Copies.{same_text}
 use Rattle.il_machine.proofs.Over.{get-over}
 use Rattle.il_machine.proofs.Openings.{shown_motor, shown_serve, shown_has_image}
 use Rattle.lift_world.specs.Running.{Running, IsOneCar, IsWorldOf, world_of, world_by, tickets_of, started, after_commit, commit_report, committed, asks_open, refreshed, refresh_report, RefusesUnchanged, IsRefusal, IsStart, IsInstruction, IsCommit, IsRefresh}
@@ -53,8 +55,8 @@ pub record IsSound (w : Running) : Type 0 where
   pub runnable : IsRunnable w.program.config
   pub image : IsOneCar w.image
   pub ranges : FieldsInRange (sizes_of w.program.config) w.image.fields
-  pub own : OwnsBooleans w.program.config w.variables
-  pub variables_there : HaveSamePaths w.scan.variables w.variables
+  pub own : OwnsDeclared w.program.config w.variables
+  pub variables_there : HaveSameNames w.scan.variables w.variables
   pub scan : IsScanOf w.program.config w.scan
   pub sees : w.shown ≡ shown_of w.program.config w.image
   pub motor : whole_of (get (over w.scan.written w.scan.variables) (codes "MOTOR")) ≡ pos 0
@@ -80,21 +82,21 @@ sound_of w inv =
 pub carried_is : (c : Config) (u : Organized) → IsRunnable c → c.units ≡ u ∷ [] → IsCarriedProgram u
 carried_is c u runs alone = let same : runs.carried.program ≡ u = let both : runs.carried.program ∷ [] ≡ u ∷ [] = sym runs.carried.alone ∙ alone in cc in subst IsCarriedProgram same runs.carried.carried
 
-ready_carried : (c : Config) (runs : IsRunnable c) → IsCarriedProgram runs.ready.0
-ready_carried c runs = carried_is c runs.ready.0 runs runs.ready.1.alone
+ready_carried : (c : Config) (runs : IsRunnable c) → IsCarriedProgram runs.checked.resolved.program
+ready_carried c runs = runs.checked.resolved.carried
 
-same_ready : (c : Config) (u v : Organized) → IsReady c u → IsReady c v → u ≡ v
+same_ready : (c : Config) (u v : Organized) → IsProgram c u → IsProgram c v → u ≡ v
 same_ready c u v a b = let both : u ∷ [] ≡ v ∷ [] = sym a.alone ∙ b.alone in cc
 
 -- NUMBERS
 
--- what scans see holds no number where neither part does
-no_number : (below above : Values) (q : Text) → (is_some (get above q) ≡ true → HasBoolean above q) → whole_of (get below q) ≡ pos 0 → whole_of (get (over below above) q) ≡ pos 0
-no_number below above q booleans h = ap whole_of (get-over below above q) ∙ by (get above q) refl
+-- what scans see of a name that no variable has is what they are shown
+unhidden : (below above : Values) (q : Text) → is_some (get above q) ≡ false → whole_of (get below q) ≡ pos 0 → whole_of (get (over below above) q) ≡ pos 0
+unhidden below above q none h = ap whole_of (get-over below above q) ∙ by (get above q) none
   where
-    by : (o : Option Value) → get above q ≡ o → whole_of (or_else o (get below q)) ≡ pos 0
+    by : (o : Option Value) → is_some o ≡ false → whole_of (or_else o (get below q)) ≡ pos 0
     by None is = h
-    by (Some v) is = let b = booleans (ap is_some is) in let same : Some v ≡ Some (Boolean b.0) = sym is ∙ b.1 in ap whole_of same
+    by (Some v) is = cc
 
 -- a car that is still is shown so
 shown_still : (c : Config) (i : Image) (o : CarOutputs) → i.outputs ≡ o ∷ [] → o.motor ≡ Still → whole_of (get (shown_of c i) (codes "MOTOR")) ≡ pos 0
@@ -102,11 +104,11 @@ shown_still c i o told still =
     ap whole_of (shown_motor c i) ∙ ap (λ (l : List CarOutputs). motor_number (outputs_of (record { fields = i.fields; outputs = l }) 1).motor) told ∙ ap motor_number still
 
 -- a scan that begins with the image wishes nothing
-pub begins_quiet : (c : Config) (u : Organized) (i : Image) (o : CarOutputs) (shown variables : Values) → HasOwn u variables → i.outputs ≡ o ∷ [] → o.motor ≡ Still → shown ≡ shown_of c i
+pub begins_quiet : (c : Config) (u : Organized) (i : Image) (o : CarOutputs) (shown variables : Values) → IsRunnable c → IsProgram c u → HoldsOwn u variables → i.outputs ≡ o ∷ [] → o.motor ≡ Still → shown ≡ shown_of c i
     → (whole_of (get (over shown variables) (codes "MOTOR")) ≡ pos 0) × (whole_of (get (over shown variables) (codes "SERVE")) ≡ pos 0)
-begins_quiet c u i o shown variables own told still is = (
-  no_number shown variables (codes "MOTOR") (own.booleans (codes "MOTOR")) (ap (λ m. whole_of (get m (codes "MOTOR"))) is ∙ shown_still c i o told still),
-  no_number shown variables (codes "SERVE") (own.booleans (codes "SERVE")) (ap (λ m. whole_of (get m (codes "SERVE"))) is ∙ ap whole_of (shown_serve c i)),
+begins_quiet c u i o shown variables runs program own told still is = (
+  unhidden shown variables (codes "MOTOR") (own.paths (codes "MOTOR") ∙ ap is_some (no_motor c u runs program)) (ap (λ m. whole_of (get m (codes "MOTOR"))) is ∙ shown_still c i o told still),
+  unhidden shown variables (codes "SERVE") (own.paths (codes "SERVE") ∙ ap is_some (no_serve c u runs program)) (ap (λ m. whole_of (get m (codes "SERVE"))) is ∙ ap whole_of (shown_serve c i)),
 )
 
 -- REFUSALS
@@ -138,7 +140,7 @@ get_entries_at end (e ∷ es) q = by (get_entries_at end es q) (get end e.0) ref
     ] refl)
 
 -- a commit keeps the variables that the scan left
-restricted_is : (start left written : Values) → HaveSamePaths left start → restricted start (over written left) ≡ left
+restricted_is : (start left written : Values) → HaveSameNames left start → restricted start (over written left) ≡ left
 unfolding restricted get
 restricted_is start left written same = same_map _ _ (λ q. get_entries_at (over written left) start.list q ∙ ap (λ o. cond (is_some (get start q)) o None) (get-over written left q) ∙ by q (get left q) refl (is_some (get start q)) refl)
   where
@@ -155,7 +157,7 @@ unfolding digits
 car_name = refl
 
 -- the program of task 1
-car_program : (c : Config) (u : Organized) → IsTasked c u → program_of c 1 ≡ Some u
+pub car_program : (c : Config) (u : Organized) → IsTasked c u → program_of c 1 ≡ Some u
 car_program c u tasked = ap (task_program c) car_name ∙ tasked.car
 
 -- a scan's start is the definition's
@@ -164,10 +166,10 @@ begins_is : (w : Running) (inv : IsSound w) (tickets : Option (List (Option ℕ)
 unfolding scan_begins begins world_by shown_of
 begins_is w inv tickets =
     let c = w.program.config in
-    let u = inv.runnable.ready.0 in
+    let u = inv.runnable.checked.resolved.program in
     let b = model.beginning_of (world_of w).group (record { variables = w.variables; tickets = tickets }) in
     let carried = ready_carried c inv.runnable in
-    let unit : w.scan.unit ≡ u.name.name = inv.scan.2.unit ∙ ap (λ (v : Organized). v.name.name) (same_ready c inv.scan.0 u inv.scan.1 inv.runnable.ready.1) in
+    let unit : w.scan.unit ≡ u.name.name = inv.scan.2.unit ∙ ap (λ (v : Organized). v.name.name) (same_ready c inv.scan.0 u inv.scan.1 inv.runnable.checked.resolved.is) in
     ap (begins_by c 1 b) (car_program c u inv.runnable.tasked)
     ∙ ap (λ (ex : List Declaration). begins u w.variables (entries_at b.snapshot.globals (paths_of (entities ex)) ++ image_entries (sizes_of c) 1 w.image (opening_calls (sizes_of c)).slots)) carried.externals
     ∙ ap (λ m. record { values = with_entries m w.variables.list; frames = frames_at u.name.name (Some 0); result = None }) (sym inv.sees)
@@ -190,14 +192,13 @@ ended_at k place is = ap (λ p. has_ended (state_of (record k { place = p }))) i
 pub start_keeps : (w : Running) (inv : IsWorldOf w) (scan : Kept) → scan ≡ record { unit = w.scan.unit; variables = w.variables; written = w.shown; place = Some 0; result = None } → IsScanOf w.program.config scan
     → IsWorldOf (record { program = w.program; image = w.image; variables = w.variables; shown = w.shown; scan = scan; busy = true })
 start_keeps w inv scan is of_program =
-    let quiet = begins_quiet w.program.config inv.runnable.ready.0 w.image inv.image.outputs w.shown w.variables (inv.own inv.runnable.ready.0 inv.runnable.ready.1) inv.image.told inv.image.still inv.sees in
+    let quiet = begins_quiet w.program.config inv.runnable.checked.resolved.program w.image inv.image.outputs w.shown w.variables inv.runnable inv.runnable.checked.resolved.is (inv.own inv.runnable.checked.resolved.program inv.runnable.checked.resolved.is) inv.image.told inv.image.still inv.sees in
     record {
       runnable = inv.runnable;
       image = inv.image;
       ranges = inv.ranges;
       own = inv.own;
       scan_own = rw is inv.own;
-      shown = inv.shown;
       variables_there = rw is (λ q. refl);
       shown_there = rw is (λ q. refl);
       scan = of_program;
@@ -205,6 +206,31 @@ start_keeps w inv scan is of_program =
       motor = rw is quiet.0;
       serve = rw is quiet.1;
     }
+
+-- a step leaves a world
+pub step_keeps : (w : Running) (inv : IsWorldOf w) (scan : Kept) → IsScanOf w.program.config scan → (OwnsDeclared w.program.config w.scan.variables → OwnsDeclared w.program.config scan.variables) → HaveSameNames w.scan.variables scan.variables
+    → HaveSameNames w.scan.written scan.written → KeepsUnseen w.program.config (over w.scan.written w.scan.variables) (over scan.written scan.variables)
+    → IsWorldOf (record { program = w.program; image = w.image; variables = w.variables; shown = w.shown; scan = scan; busy = w.busy })
+step_keeps w inv scan of_program own variables written unseen =
+    let c = w.program.config in
+    let r = inv.runnable.checked.resolved in
+    record {
+      runnable = inv.runnable;
+      image = inv.image;
+      ranges = inv.ranges;
+      own = inv.own;
+      scan_own = own inv.scan_own;
+      variables_there = λ q. sym (variables q) ∙ inv.variables_there q;
+      shown_there = λ q. sym (written q) ∙ inv.shown_there q;
+      scan = of_program;
+      sees = inv.sees;
+      motor = ap whole_of (unseen r.program r.is (codes "MOTOR") (no_motor c r.program inv.runnable r.is) refl) ∙ inv.motor;
+      serve = ap whole_of (unseen r.program r.is (codes "SERVE") (no_serve c r.program inv.runnable r.is) refl) ∙ inv.serve;
+    }
+
+-- what scans are shown has a value of its declared set for each name
+pub has_image : (w : Running) → IsWorldOf w → HasImage w.program.config w.shown
+has_image w inv = subst (HasImage w.program.config) (sym inv.sees) (shown_has_image w.program.config w.image inv.runnable.sizes inv.ranges)
 
 -- Start
 pub start_is : (w after : Running) (reply : Reply) (t : ℕ) → (t ≡ 1 → IsSound w) → IsStart w after reply t → RefusesUnchanged w after reply → happens w.program.config (world_of w) (Start t) ≡ answers (world_of after) reply
@@ -274,7 +300,7 @@ committed_is : (w : Running) (inv : IsSound w) (tickets : List (Option ℕ)) (sa
 unfolding committed_group world_by after_commit commit_report committed
 committed_is w inv tickets saw =
     let c = w.program.config in
-    let u = inv.runnable.ready.0 in
+    let u = inv.runnable.checked.resolved.program in
     let values = over w.scan.written w.scan.variables in
     let group : model.Group = record { image = w.image; calls = opening_calls (sizes_of c); globals = opening_globals c; tasks = None ∷ Some (record { variables = w.variables; tickets = saw }) ∷ [] } in
     let task : model.TaskState = record { variables = w.variables; tickets = saw } in
@@ -346,10 +372,10 @@ refresh_is_model w after inv reply fields same h unchanged = by (fields_in_range
 -- THE OPENING WORLD
 
 -- how a world opens
-pub opens_so : (c : Config) (runs : IsRunnable c) (i : Image) (variables : Values) (scan : Kept) → i ≡ opening_image (sizes_of c) → variables ≡ opening_variables c runs.ready.0 → world_by c i variables scan false ≡ opening c
+pub opens_so : (c : Config) (runs : IsRunnable c) (i : Image) (variables : Values) (scan : Kept) → i ≡ opening_image (sizes_of c) → variables ≡ opening_variables c runs.checked.resolved.program → world_by c i variables scan false ≡ opening c
 unfolding world_by opening
 opens_so c runs i variables scan image is =
-    let u = runs.ready.0 in
+    let u = runs.checked.resolved.program in
     ap (λ j. shape j (None ∷ Some (record { variables = variables; tickets = None }) ∷ []) 1) image
     ∙ ap (λ v. shape (opening_image (sizes_of c)) (None ∷ Some (record { variables = v; tickets = None }) ∷ []) 1) is
     ∙ ap (λ o. shape (opening_image (sizes_of c)) (None ∷ opening_task c o ∷ []) 1) (sym (car_program c u runs.tasked)) ∙ ap (λ o. shape (opening_image (sizes_of c)) (opening_task c o ∷ opening_task c (program_of c 1) ∷ []) 1) (sym runs.tasked.group)
@@ -383,19 +409,18 @@ first_in_range c cars told runs is =
 
 -- a world that opens is one
 pub opening_keeps : (p : Program) (runs : IsRunnable p.config) (store : Kept) (cars : List CarFields) (told : List CarOutputs) (variables shown : Values) → IsScanOf p.config store → store.written ≡ shown_of p.config (opening_image (sizes_of p.config))
-    → OwnsBooleans p.config store.variables → cars ≡ opening_car ∷ [] → told ≡ opening_outputs ∷ [] → variables ≡ store.variables → shown ≡ store.written
+    → OwnsDeclared p.config store.variables → cars ≡ opening_car ∷ [] → told ≡ opening_outputs ∷ [] → variables ≡ store.variables → shown ≡ store.written
     → IsWorldOf (record { program = p; image = first_image cars told; variables = variables; shown = shown; scan = store; busy = false })
 opening_keeps p runs store cars told variables shown scan written own is_cars is_told is_variables is_shown =
     let c = p.config in
     let first : store.written ≡ shown_of c (first_image cars told) = written ∙ ap (shown_of c) (sym (first_is c cars told runs is_cars is_told)) in
-    let quiet = begins_quiet c runs.ready.0 (first_image cars told) opening_outputs store.written store.variables (own runs.ready.0 runs.ready.1) is_told refl first in
+    let quiet = begins_quiet c runs.checked.resolved.program (first_image cars told) opening_outputs store.written store.variables runs runs.checked.resolved.is (own runs.checked.resolved.program runs.checked.resolved.is) is_told refl first in
     record {
       runnable = runs;
       image = first_one cars told is_cars is_told;
       ranges = first_in_range c cars told runs is_cars;
       own = rw is_variables own;
       scan_own = own;
-      shown = rw is_shown (subst HasImage (sym first) (shown_has_image c (first_image cars told)));
       variables_there = rw is_variables (λ q. refl);
       shown_there = rw is_shown (λ q. refl);
       scan = scan;
@@ -404,7 +429,7 @@ opening_keeps p runs store cars told variables shown scan written own is_cars is
       serve = quiet.1;
     }
 
-pub opening_is : (p : Program) (runs : IsRunnable p.config) (store : Kept) (cars : List CarFields) (told : List CarOutputs) (variables : Values) → ((u : Organized) → IsReady p.config u → store.variables ≡ opening_variables p.config u)
+pub opening_is : (p : Program) (runs : IsRunnable p.config) (store : Kept) (cars : List CarFields) (told : List CarOutputs) (variables : Values) → ((u : Organized) → IsProgram p.config u → store.variables ≡ opening_variables p.config u)
     → cars ≡ opening_car ∷ [] → told ≡ opening_outputs ∷ [] → variables ≡ store.variables → world_by p.config (first_image cars told) variables store false ≡ opening p.config
 opening_is p runs store cars told variables opens is_cars is_told is_variables =
-    opens_so p.config runs (first_image cars told) variables store (first_is p.config cars told runs is_cars is_told) (is_variables ∙ opens runs.ready.0 runs.ready.1)
+    opens_so p.config runs (first_image cars told) variables store (first_is p.config cars told runs is_cars is_told) (is_variables ∙ opens runs.checked.resolved.program runs.checked.resolved.is)

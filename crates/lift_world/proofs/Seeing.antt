@@ -20,7 +20,7 @@ use Rattle.lift_spec.specs.Image.{sizes_of}
 use Rattle.lift_spec.specs.Settle.{fields_of, outputs_of}
 use Rattle.lift_spec.specs.Snapshot.{number, elements_of, car_entries}
 use Rattle.il_machine.specs.Opening.{shown_of}
-use Rattle.il_machine.proofs.Copies.{same_text}
+use Rattle.il_table.proofs.Copies.{same_text}
 use Rattle.il_machine.proofs.Openings.{shown_layers, with_calls, group_entries, other_path, begins_with}
 use Rattle.lift_world.specs.Running.{with_fields}
 
@@ -94,13 +94,13 @@ is_true : (b c : Bool) → b ≡ false → c ≡ true → (not b && c) ≡ true
 is_true true c p q = cc
 is_true false c p q = q
 
-apart_row : (name : Text) (at : ℕ) (vs : List Value) (k : Text) → slice_index name 0 ≡ 67 → slice_index k 0 ≢ 67 → is_apart k (elements_of name at vs) ≡ true
+apart_row : (name : Text) (at : ℕ) (vs : List Value) (k : Text) → slice_index name 2 ≡ 76 → slice_index k 2 ≢ 76 → is_apart k (elements_of name at vs) ≡ true
 apart_row name at [] k begins differs = refl
 apart_row name at (v ∷ vs) k begins differs =
     is_true _ _ (other_path k _ differs (begins_with (name ++ codes "[" ++ signed_decimal (pos at)) (codes "]") (begins_with (name ++ codes "[") (signed_decimal (pos at)) (begins_with name (codes "[") begins))) _ refl)
     (apart_row name (at + 1) vs k begins differs)
 
-below_calls : (n : ℕ) (m : Values) (k : Text) (v : Value) → slice_index k 0 ≢ 67 → insert (with_calls n m) k v ≡ with_calls n (insert m k v)
+below_calls : (n : ℕ) (m : Values) (k : Text) (v : Value) → slice_index k 2 ≢ 76 → insert (with_calls n m) k v ≡ with_calls n (insert m k v)
 below_calls n m k v differs =
     goes_below _ k v _ (apart_row (codes "CALLWAITS") 1 (replicate n (Boolean false)) k refl differs)
     ∙ ap (λ x. with_entries x (elements_of (codes "CALLWAITS") 1 (replicate n (Boolean false))))
@@ -110,7 +110,7 @@ below_calls n m k v differs =
     ∙ ap (λ x. with_entries x (elements_of (codes "CALLTO") 1 (replicate n (number 0)))) (goes_below _ k v _ (apart_row (codes "CALLCAR") 1 (replicate n (number 0)) k refl differs))))
 
 -- a name of the car
-in_car : (n : ℕ) (group car : List (Text × Value)) (k : Text) (v : Value) → is_apart k group ≡ true → slice_index k 0 ≢ 67 → is_some (find order k car) ≡ true → insert (layered n group car) k v ≡ layered n group (replaced k v car)
+in_car : (n : ℕ) (group car : List (Text × Value)) (k : Text) (v : Value) → is_apart k group ≡ true → slice_index k 2 ≢ 76 → is_some (find order k car) ≡ true → insert (layered n group car) k v ≡ layered n group (replaced k v car)
 in_car n group car k v apart differs there =
     goes_below _ k v group apart ∙ ap (λ m. with_entries m group) (below_calls n (with_entries empty car) k v differs ∙ ap (with_calls n) (goes_in empty k v car there))
 
@@ -119,7 +119,7 @@ in_car n group car k v apart differs there =
 abbrev layers_of : Config → Fields → CarFields → CarOutputs → Values
 layers_of c fields car outputs = layered (sizes_of c).slots (group_entries c fields) (car_entries 1 car outputs)
 
-car_layer : (c : Config) (fields : Fields) (car : CarFields) (outputs : CarOutputs) (k : Text) (v : Value) → is_apart k (group_entries c fields) ≡ true → slice_index k 0 ≢ 67 → is_some (find order k (car_entries 1 car outputs)) ≡ true
+car_layer : (c : Config) (fields : Fields) (car : CarFields) (outputs : CarOutputs) (k : Text) (v : Value) → is_apart k (group_entries c fields) ≡ true → slice_index k 2 ≢ 76 → is_some (find order k (car_entries 1 car outputs)) ≡ true
     → insert (layers_of c fields car outputs) k v ≡ layered (sizes_of c).slots (group_entries c fields) (replaced k v (car_entries 1 car outputs))
 car_layer c fields car outputs k v apart differs there = in_car (sizes_of c).slots (group_entries c fields) (car_entries 1 car outputs) k v apart differs there
 

@@ -1,14 +1,14 @@
 -- How one car whose motor is still settles.
 use Rattle.std.proofs.Common.{◌≡◌, ℕ, zero, suc, Some, arith, Bool, true, false, ◌&&◌, refl, sym, ap, ◌∙◌, List, [], ◌∷◌, subst}
-use Rattle.std.specs.Prelude.{slice_get, slice_index_or, slice_set, is_some, codes, length, pos, nat_abs}
+use Rattle.std.specs.Prelude.{slice_get, slice_index_or, slice_set, codes, length, pos, nat_abs}
 use Rattle.il_spec.specs.declared.tree.Config.{Config}
 use Rattle.lift_spec.specs.Image.{sizes_of, FieldsInRange, fields_in_range, Obeys, CarObeys, runs, running_cars}
 use Rattle.lift_spec.proofs.Laws.{fields_in_range_means}
-use Rattle.il_machine.specs.ByText.{HaveSamePaths}
+use Rattle.il_table.specs.ByText.{HaveSameNames}
 use Rattle.il_run.specs.declared.value.Value.TheVariants.{Boolean}
 use Rattle.il_run.specs.NameMap.{insert}
 use Rattle.il_run.specs.State.{Values}
-use Rattle.il_machine.specs.Boolean.{OwnsBooleans, HasImage}
+use Rattle.il_machine.specs.Scanning.{OwnsDeclared}
 use Rattle.il_machine.proofs.Over.{keeps_paths}
 use Rattle.lift_spec.specs.declared.image.CarFields.{CarFields}
 use Rattle.lift_spec.specs.declared.image.CarOutputs.{CarOutputs}
@@ -17,9 +17,9 @@ use Rattle.lift_spec.specs.declared.image.Image.{Image}
 use Rattle.lift_spec.specs.declared.image.Motor.{Motor}
 use Rattle.lift_spec.specs.declared.image.Motor.TheVariants.{Still, Up, Down}
 use Rattle.lift_spec.specs.Settle.{settled_car, settled_all}
-use Rattle.lift_world.specs.Running.{Running, IsOneCar, IsWorldOf, outputs_at, report_of, commit_report, committed, asks_open, after_commit, refreshed, refresh_report, with_fields}
+use Rattle.lift_world.specs.Running.{Running, HasNames, IsOneCar, IsWorldOf, outputs_at, report_of, commit_report, committed, asks_open, after_commit, refreshed, refresh_report, with_fields}
 use Rattle.il_machine.specs.Opening.{shown_of}
-use Rattle.lift_world.proofs.Showing.{truth_keeps}
+use Rattle.lift_world.proofs.Showing.{shown_names}
 use Rattle.lift_world.proofs.Seeing.{commit_shows, refresh_shows}
 
 commits_as : (w : Running) (car : CarFields) (asked level : Bool) → w.image.fields.cars ≡ car ∷ [] → asked ≡ asks_open w → car.level ≡ level → report_of asked level ≡ commit_report w
@@ -89,6 +89,10 @@ unfolding outputs_at
 one_car fields told car asked level cars is level_is =
     record { fields = car; cars = cars; outputs = record { motor = Still; opens = asked && level }; told = is; still = refl; opens = λ h. sym level_is ∙ open_at_level asked level h }
 
+-- what scans are shown has the names
+pub names_of : (w : Running) → IsWorldOf w → HasNames w.shown
+names_of w inv = subst HasNames (sym inv.sees) (shown_names w.program.config w.image)
+
 -- a commit leaves a world
 pub commit_keeps : (w : Running) (inv : IsWorldOf w) (asked level : Bool) (told : List CarOutputs) (o : CarOutputs) (variables shown : Values) → told ≡ o ∷ [] → o ≡ outputs_at asked level → level ≡ inv.image.fields.level → variables ≡ w.scan.variables
     → shown ≡ insert w.shown (codes "OPEN") (Boolean o.opens) → IsWorldOf (record { program = w.program; image = record { fields = w.image.fields; outputs = told }; variables = variables; shown = shown; scan = w.scan; busy = false })
@@ -99,11 +103,10 @@ commit_keeps w inv asked level told o variables shown told_is is level_is copied
       runnable = inv.runnable;
       image = one_car w.image.fields told inv.image.fields asked level inv.image.cars (told_is ∙ ap (λ x. x ∷ []) is) level_is;
       ranges = inv.ranges;
-      own = subst (OwnsBooleans w.program.config) (sym copied) inv.scan_own;
+      own = subst (OwnsDeclared w.program.config) (sym copied) inv.scan_own;
       scan_own = inv.scan_own;
-      shown = rw is_shown (truth_keeps w.shown (codes "OPEN") o.opens inv.shown);
       variables_there = rw copied (λ q. refl);
-      shown_there = rw is_shown (λ q. inv.shown_there q ∙ keeps_paths w.shown (codes "OPEN") (Boolean o.opens) (ap is_some inv.shown.opens.1) q);
+      shown_there = rw is_shown (λ q. inv.shown_there q ∙ keeps_paths w.shown (codes "OPEN") (Boolean o.opens) (names_of w inv).opens q);
       scan = inv.scan;
       sees =
           is_shown ∙ commit_shows w.program.config w.image inv.image.fields inv.image.outputs o w.shown inv.image.cars inv.image.told inv.image.still still inv.sees
@@ -129,10 +132,10 @@ one_of c fields one h = only fields.cars ((fields_in_range_means (sizes_of c) fi
 
 -- a refresh leaves a world
 pub refresh_keeps : (w : Running) (inv : IsWorldOf w) (fields : Fields) (car : CarFields) (asked level : Bool) (told : List CarOutputs) (o : CarOutputs) (shown : Values) → fields.cars ≡ car ∷ [] → told ≡ o ∷ [] → o ≡ outputs_at asked level → level ≡ car.level
-    → FieldsInRange (sizes_of w.program.config) fields → HasImage shown → HaveSamePaths w.shown shown → shown ≡ with_fields fields.time fields.run_limit car o.opens w.shown
+    → FieldsInRange (sizes_of w.program.config) fields → HaveSameNames w.shown shown → shown ≡ with_fields fields.time fields.run_limit car o.opens w.shown
     → IsWorldOf (record { program = w.program; image = record { fields = fields; outputs = told }; variables = w.variables; shown = shown; scan = w.scan; busy = w.busy })
 unfolding outputs_at
-refresh_keeps w inv fields car asked level told o shown cars told_is is level_is ranges has paths shows =
+refresh_keeps w inv fields car asked level told o shown cars told_is is level_is ranges paths shows =
     let still : o.motor ≡ Still = ap (λ (x : CarOutputs). x.motor) is in
     record {
       runnable = inv.runnable;
@@ -140,7 +143,6 @@ refresh_keeps w inv fields car asked level told o shown cars told_is is level_is
       ranges = ranges;
       own = inv.own;
       scan_own = inv.scan_own;
-      shown = has;
       variables_there = inv.variables_there;
       shown_there = λ q. inv.shown_there q ∙ paths q;
       scan = inv.scan;

@@ -12,10 +12,10 @@ use Rattle.il_spec.specs.declared.tree.Task.{Task}
 use Rattle.il_spec.specs.declared.tree.ProgramLine.{ProgramLine}
 use Rattle.il_rules.specs.Names.{Spelling, car_number, car_digits, decimal_value, is_program, is_predeclared, program_named}
 use Rattle.il_rules.specs.Declarations.{unknown_task, unknown_program, missing_task, names_of_tasks}
-use Rattle.il_rules.specs.Carried.{IsCarried}
+use Rattle.il_rules.specs.Subset.{IsCarried}
 use Rattle.il_rules.specs.Faults.{IsUnbroken, Declaring, bad_task}
 use Rattle.il_run.specs.Scan.{program_of}
-use Rattle.il_machine.specs.Boolean.{IsTasked}
+use Rattle.il_machine.specs.Scanning.{IsTasked}
 
 -- nothing is not something
 nothing_is : {X : Type 0} (x : X) → ◌≡◌ {A = Option X} None (Some x) → ⊥

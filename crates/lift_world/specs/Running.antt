@@ -1,12 +1,12 @@
 -- What a world of one car keeps (own rules).
-use Rattle.std.specs.Prelude.{◌≡◌, ◌≢◌, ℕ, Bool, true, false, ◌&&◌, not, List, [], ◌∷◌, map, pos, codes, refl, if◌then◌else◌, Option, Some, None}
+use Rattle.std.specs.Prelude.{◌≡◌, ◌≢◌, ℕ, Bool, true, false, ◌&&◌, not, List, [], ◌∷◌, map, pos, codes, refl, if◌then◌else◌, Option, Some, None, IsSome}
 use Rattle.std.specs.Coded.{Coded, code_by, coded×, coded_bool}
 use Rattle.il_spec.specs.declared.tree.Config.{Config}
 use Rattle.il_run.specs.declared.value.Value.TheVariants.{Boolean, Integer}
 use Rattle.il_run.specs.NameMap.{insert, get}
 use Rattle.il_run.specs.State.{Values, values_code}
-use Rattle.il_machine.specs.ByText.{HaveSamePaths}
-use Rattle.il_machine.specs.Boolean.{Program, program_code, Kept, kept_code, IsRunnable, IsScanOf, HasImage, OwnsBooleans, over, state_of}
+use Rattle.il_table.specs.ByText.{HaveSameNames}
+use Rattle.il_machine.specs.Scanning.{Program, program_code, Kept, kept_code, IsRunnable, IsScanOf, OwnsDeclared, over, state_of}
 use Rattle.lift_spec.specs.contracts.image.Image as image
 use Rattle.lift_spec.specs.declared.image.Image.{Image}
 use Rattle.lift_spec.specs.declared.image.CarFields.{CarFields}
@@ -74,16 +74,27 @@ pub record IsOneCar (i : Image) : Type 0 where
   pub still : outputs.motor ≡ Still
   pub opens : outputs.opens ≡ true → fields.level ≡ true
 
+-- the names that a commit and a refresh write are there
+pub record HasNames (shown : Values) : Type 0 where
+  pub time : IsSome (get shown (codes "NOW"))
+  pub run_limit : IsSome (get shown (codes "RUNLIMIT"))
+  pub position : IsSome (get shown (codes "POS"))
+  pub level : IsSome (get shown (codes "LEVEL"))
+  pub top : IsSome (get shown (codes "TOP"))
+  pub bottom : IsSome (get shown (codes "BOTTOM"))
+  pub locked : IsSome (get shown (codes "LOCKED"))
+  pub opened : IsSome (get shown (codes "OPENED"))
+  pub opens : IsSome (get shown (codes "OPEN"))
+
 -- what holds of every world
 pub record IsWorldOf (w : Running) : Type 0 where
   pub runnable : IsRunnable w.program.config
   pub image : IsOneCar w.image
   pub ranges : FieldsInRange (sizes_of w.program.config) w.image.fields
-  pub own : OwnsBooleans w.program.config w.variables
-  pub scan_own : OwnsBooleans w.program.config w.scan.variables
-  pub shown : HasImage w.shown
-  pub variables_there : HaveSamePaths w.scan.variables w.variables
-  pub shown_there : HaveSamePaths w.scan.written w.shown
+  pub own : OwnsDeclared w.program.config w.variables
+  pub scan_own : OwnsDeclared w.program.config w.scan.variables
+  pub variables_there : HaveSameNames w.scan.variables w.variables
+  pub shown_there : HaveSameNames w.scan.written w.shown
   pub scan : IsScanOf w.program.config w.scan
   -- what scans are shown is the image, under its names
   pub sees : w.shown ≡ shown_of w.program.config w.image

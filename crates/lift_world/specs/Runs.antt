@@ -2,13 +2,16 @@
 use Rattle.std.specs.Prelude.{◌≡◌, ℕ, ◌≤◌, true, List, [], ◌∷◌, map, Some, Ok, IsSome, IsOk}
 use Rattle.il_spec.specs.declared.tree.Config.{Config}
 use Rattle.il_machine.specs.declared.verified.UnitCost.{UnitCost}
-use Rattle.il_machine.specs.Boolean.{Program}
+use Rattle.il_machine.specs.Scanning.{Program}
 use Rattle.il_machine.specs.Listing.{TaskLine, task_lines}
 use Rattle.il_run.specs.State.{State}
 use Rattle.il_run.specs.Scan.{has_ended}
 use Rattle.lift_spec.specs.declared.event.Reply.{Reply}
+use Rattle.il_spec.specs.declared.tree.Unit.{Unit as ProgramUnit}
+use Rattle.il_opening.specs.Held.{HoldsOwn}
+use Rattle.lift_spec.specs.Snapshot.{program_of}
 use Rattle.lift_spec.specs.Image.{Obeys}
-use Rattle.lift_spec.specs.World.{World, run, opening, task_at, scan_at, answered, InRanges}
+use Rattle.lift_spec.specs.World.{World, TaskState, run, opening, task_at, scan_at, answered, InRanges}
 use Rattle.lift_world.specs.declared.event.Event.{Event}
 use Rattle.lift_world.specs.Running.{event_of}
 
@@ -31,6 +34,10 @@ pub record RunsWell (c : Config) (budget : ℕ → ℕ) : Type 0 where
   pub steady : (events : List Event) → IsOk (run c (opening c) [] (map event_of events))
   -- the image lies in its ranges
   pub ranges : (events : List Event) (w : World) (replies : List Reply) → run c (opening c) [] (map event_of events) ≡ Ok (w, replies) → InRanges c w.group
+  -- and so do the program's variables: each has a value of its declared set
+  pub variables :
+      (events : List Event) (w : World) (replies : List Reply) (t : ℕ) (u : ProgramUnit) (task : TaskState) → run c (opening c) [] (map event_of events) ≡ Ok (w, replies) → program_of c t ≡ Some u → task_at w.group t ≡ Some task
+      → HoldsOwn u task.variables
   -- the image obeys the interlock: an open command is at a level
   pub obeys : (events : List Event) (w : World) (replies : List Reply) → run c (opening c) [] (map event_of events) ≡ Ok (w, replies) → Obeys w.group.image
   -- since its start a scan made no more steps than the budget

@@ -1,42 +1,42 @@
 // From a text to a verified configuration.
 
 ghost use Rattle.std.specs.Prelude.{◌≡◌, ◌≤◌, IfOk, IsErrAnd, length, map, All};
-ghost use Rattle.il_spec.specs.Grammar.{Spells, IsWithinLimits};
 ghost use Rattle.il_spec.specs.declared.tree.Config.{Config};
 ghost use Rattle.il_parse.specs.Refused.{IsFault};
-ghost use Rattle.il_rules.specs.Carried.{IsCarried};
-ghost use Rattle.il_rules.specs.Faults.{IsUnbroken, Declaring, Typing};
-ghost use Rattle.il_subset.specs.Subset.{IsRefusedYet};
-ghost use Rattle.lift_world.specs.Loading.{IsSpelled, IsAccepted, cost_of};
+ghost use Rattle.lift_world.specs.Loading.{IsSpelled, IsAccepted, IsRefusedFor, cost_of};
 ghost use Rattle.lift_world.specs.Runs.{RunsWell, ShowsBudget, budget_of};
 
+use il_decl::declare;
 use il_machine::{UnitCost, Verified};
 use il_parse::parse;
 use il_spec::fault::Refusal;
 use il_spec::list::Items;
-use il_spec::tree::{Config, Unit};
-use il_subset::judge;
+use il_spec::tree::Unit;
 use il_text::tokens;
+use il_types::check_types;
+use il_verify::{Code, verify};
 use std::alloc::{AllocError, Global};
 
 /// The configuration that a text spells, verified.
 ///
 /// A text is refused with the first fault of these phases, in their order: tokens (1 to 6), grammar (10, 12),
-/// declarations (20, 21, 23, 24), types (32, 33). From 20 on it is the fault at the earliest place, at one place the
-/// one with the lowest number.
+/// declarations (20 to 25), types (30 to 33, 37), ranges (40, 43). From 20 on it is the phase's fault at the earliest place,
+/// at one place the one with the lowest number.
 pub fn load(alloc: Global, text: &[u8]) -> Result<Verified, Refusal>
     ensures found { IfOk result (λ v. IsAccepted text.now v.config) }
     ensures costs { IfOk result (λ v. v.costs ≡ map cost_of v.config.units) }
     ensures runs { IfOk result (λ v. RunsWell v.config (budget_of v)) }
     ensures budget { IfOk result (λ v. ShowsBudget v) }
     ensures refused { IsFault result → (c : Config) → IsAccepted text.now c → ⊥ }
-    ensures named { IsFault result → (c : Config) → IsSpelled text.now c → IsErrAnd result (IsRefusedYet c) }
+    ensures named { IsFault result → (c : Config) → IsSpelled text.now c → IsErrAnd result (IsRefusedFor c) }
 {
     let tokens = tokens(alloc, text)?;
     let config = parse(alloc, text, &tokens)?;
-    judge(alloc, &config)?;
-    let costs = costs(alloc, config.units.as_slice())?;
-    Ok(Verified::of(config, costs))
+    let symbols = declare(alloc, &config)?;
+    check_types(&config, &symbols)?;
+    let checked = verify(alloc, Code::of(config, symbols))?;
+    let costs = costs(alloc, checked.config().units.as_slice())?;
+    Ok(Verified::of(checked, costs))
 }
 
 // What the units cost.

@@ -2,19 +2,17 @@
 
 ghost use Rattle.std.specs.Prelude.{◌≡◌, IsSome};
 ghost use Rattle.il_run.specs.NameMap as map;
-ghost use Rattle.il_machine.specs.ByText.{HaveSamePaths};
-ghost use Rattle.il_machine.specs.Boolean.{HasImage};
-ghost use Rattle.lift_world.specs.Running.{with_fields};
+ghost use Rattle.il_table.specs.ByText.{HaveSameNames};
+ghost use Rattle.lift_world.specs.Running.{HasNames, with_fields};
 
 use il_machine::{Value, Values};
 use lift_image::CarFields;
 
 /// Shows the time, RUNLIMIT, a car's fields and its open command.
 pub fn show(shown: &mut Values, time: u32, run_limit: u8, car: CarFields, opens: bool)
-    requires { HasImage shown.old }
+    requires { HasNames shown.old }
     ensures exact { shown.new ≡ with_fields time run_limit car opens shown.old }
-    ensures image { HasImage shown.new }
-    ensures paths { HaveSamePaths shown.old shown.new }
+    ensures paths { HaveSameNames shown.old shown.new }
 {
     shown.set("NOW", Value::Integer(time as i64));
     shown.set("RUNLIMIT", Value::Integer(run_limit as i64));

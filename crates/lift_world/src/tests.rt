@@ -178,3 +178,60 @@ fn runs_events(rt: HostRuntime) -> Result<(), Fail> {
     );
     Ok(())
 }
+
+/// The fault's number and line, where the configuration with this body is refused; (0, 0) where it is accepted.
+fn refusal(alloc: Global, body: &str) -> (u16, u32) {
+    match loaded(alloc, body) {
+        Err(Refusal::Fault { number, line }) => (number, line),
+        Err(Refusal::Memory) => (1000, 0),
+        Ok(_) => (0, 0),
+    }
+}
+
+#[test]
+fn refuses_ranges(rt: HostRuntime) -> Result<(), Fail> {
+    let alloc = rt.alloc();
+    let rows = [
+        ("VAR V : INT; END_VAR\nLD V\nADD 1\nST V\n", 40, 4),
+        ("VAR V : INT (0..9); END_VAR\nLD V\nADD 1\nST V\n", 43, 5),
+        (
+            "VAR V : INT (0..9) := 4; END_VAR\nLD V\nSUB V\nST V\n",
+            43,
+            5,
+        ),
+        ("VAR V : INT (0..9) := 10; END_VAR\n", 23, 2),
+        (
+            "VAR V : INT; W : INT (0..9); END_VAR\nLD 0\nLIMIT V, 9\nST W\n",
+            0,
+            0,
+        ),
+        ("NOT\n", 32, 2),
+        ("LD 1\nADD TRUE\n", 30, 3),
+    ];
+    for (body, number, line) in rows {
+        let mut text = String::from_str(alloc, "PROGRAM C\n")?;
+        text.push_str(body)?;
+        text.push_str("END_PROGRAM\n")?;
+        let found = refusal(alloc, text.as_str());
+        assert!(rt; found.0 == number && found.1 == line);
+    }
+    Ok(())
+}
+
+#[test]
+fn counts(rt: HostRuntime) -> Result<(), Fail> {
+    let alloc = rt.alloc();
+    let verified = loaded(
+        alloc,
+        "PROGRAM C\nVAR V : INT (3..9); W : INT (0..11); END_VAR\nLD V\nADD 2\nST W\nLD FLOORS\nSUB POS\nLIMIT 7, 9\nST V\nEND_PROGRAM\n",
+    )?;
+    let mut world = World::new(alloc, verified)?;
+    let _started = world.apply(Event::Start(1));
+    for _ in 0..8 {
+        let _stepped = world.apply(Event::Instruction(1));
+    }
+    let _committed = world.apply(Event::Commit(1));
+    assert!(rt; world.variable(1, "W") == Some(Value::Integer(5)));
+    assert!(rt; world.variable(1, "V") == Some(Value::Integer(7)));
+    Ok(())
+}

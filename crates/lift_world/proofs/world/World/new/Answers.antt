@@ -1,6 +1,6 @@
 use Rattle.std.proofs.Common.{◌∙◌, ap, subst, [], ◌∷◌, ◌++◌}
 use Rattle.lift_spec.specs.Image.{opening_car, opening_outputs}
-use Rattle.il_machine.specs.Boolean.{Program, IsRunnable}
+use Rattle.il_machine.specs.Scanning.{Program, IsRunnable}
 use Rattle.lift_world.proofs.Modelling.{opening_keeps, opening_is}
 use Rattle.lift_world.proofs.world.World.new.Goals as goal
 

@@ -1,5 +1,5 @@
 use Rattle.std.proofs.Common.{ap, ◌∙◌}
-use Rattle.il_machine.specs.Boolean.{Program}
+use Rattle.il_machine.specs.Scanning.{Program}
 use Rattle.lift_world.proofs.Runs.{one_more, room_left}
 use Rattle.lift_world.proofs.world.World.run.Goals as goal
 
