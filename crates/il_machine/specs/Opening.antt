@@ -1,4 +1,4 @@
--- What a car's scans are given of the image, and the variables with which they begin in the opening world (own rules).
+-- What a car's scans are given of the image (own rules).
 use Rattle.std.specs.Prelude.{ℕ, List, [], ◌∷◌, replicate, codes}
 use Rattle.il_spec.specs.declared.tree.Config.{Config}
 use Rattle.il_run.specs.declared.value.Value.{Value}

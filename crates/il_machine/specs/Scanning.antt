@@ -67,7 +67,7 @@ frames_at unit (Some place) = record { unit = unit; path = []; place = place; de
 abbrev pub over : Values → Values → Values
 over values above = with_entries values above.list
 
--- the two maps in which a scan's values stand: the task's variables, and the image over them
+-- the two maps in which a scan's values stand: the task's variables, and the image under them
 pub record Cells : Type 0 where
   pub variables : Values
   pub written : Values
