@@ -28,8 +28,14 @@ fn body_of(name: &str) -> Option<&'static str> {
         Some("PROGRAM C\nNOT\nEND_PROGRAM\n")
     } else if name == "stores_level.il" {
         Some("PROGRAM C\nLD TRUE\nST LEVEL\nEND_PROGRAM\n")
-    } else if name == "loads_number.il" {
-        Some("PROGRAM C\nLD 1\nEND_PROGRAM\n")
+    } else if name == "multiplies.il" {
+        Some("PROGRAM C\nLD 1\nMUL 2\nEND_PROGRAM\n")
+    } else if name == "stores_number.il" {
+        Some("PROGRAM C\nLD 1\nST OPEN\nEND_PROGRAM\n")
+    } else if name == "overflows.il" {
+        Some("PROGRAM C\nLD 32767\nADD 1\nEND_PROGRAM\n")
+    } else if name == "outgrows.il" {
+        Some("PROGRAM C\nVAR A : INT (0..3); END_VAR\nLD A\nADD 1\nST A\nEND_PROGRAM\n")
     } else if name == "other_name.il" {
         Some("PROGRAM C\nLD A\nEND_PROGRAM\n")
     } else if name == "closes.il" {
@@ -139,7 +145,10 @@ fn tells_faults(rt: HostRuntime) -> Result<(), Fail> {
         ("sim empty.il 1", 2, "refused 10 at line 1\n"),
         ("check begins_with_not.il", 2, "refused 32 at line 2\n"),
         ("check stores_level.il", 2, "refused 33 at line 3\n"),
-        ("check loads_number.il", 2, "refused 10 at line 2\n"),
+        ("check multiplies.il", 2, "refused 10 at line 3\n"),
+        ("check stores_number.il", 2, "refused 30 at line 3\n"),
+        ("check overflows.il", 2, "refused 40 at line 3\n"),
+        ("check outgrows.il", 2, "refused 43 at line 5\n"),
         ("sim other_name.il 1", 2, "refused 21 at line 2\n"),
         ("sim empty.il 00050000", 2, "refused 10 at line 1\n"),
     ] {
