@@ -13,7 +13,7 @@ use Rattle.il_rules.specs.declared.symbol.Symbol.{Symbol}
 use Rattle.il_rules.specs.Symbols.{IsProgram, symbol_by, symbol_of}
 use Rattle.il_rules.specs.Declarations.{names_in}
 use Rattle.il_rules.specs.Names.{Spelling, or_else, entry_of, Variable, ImageName, CarRole, GroupRole, Role, image_name, is_predeclared, is_program_kind, is_seen_by, sees, unit_named, own_variable, car_number, task_role, program_role, MeansVariable, MeansUnit, MeansStandard, meaning, meant_variable, global_meaning, outer_meaning}
-use Rattle.il_rules.specs.Subset.{BreaksYet}
+use Rattle.il_rules.specs.Subset.{BreaksInSubset}
 use Rattle.il_found.specs.declared.found.Found.{Found}
 use Rattle.il_decl.specs.Images.{image_symbols}
 use Rattle.il_decl.specs.Parts.{AreVariables, IsFrame, forms_in, is_car, is_program_of, is_up_to, misses_car}
@@ -123,7 +123,7 @@ own_is_no_image config unit task line symbols f free name own image =
 
 -- what the program sees of the image
 seen_is : (config : Config) (unit : ProgramUnit) (task : Task) (line : ProgramLine) → IsFrame config unit task line → program_role config unit.name.name config.programs ≡ Some CarRole → (i : ImageName) → sees config unit i ≡ is_seen_by (Some CarRole) i.audience
-seen_is config unit task line f role i = ap (λ k. is_program_kind k && is_seen_by (program_role config unit.name.name config.programs) i.audience) f.carried.kind ∙ ap (λ r. is_seen_by r i.audience) role
+seen_is config unit task line f role i = ap (λ k. is_program_kind k && is_seen_by (program_role config unit.name.name config.programs) i.audience) f.supported.kind ∙ ap (λ r. is_seen_by r i.audience) role
 
 -- no unit and no standard name is a variable
 no_global : (config : Config) (name : Spelling) → meant_variable (global_meaning config name) ≡ None
@@ -164,7 +164,7 @@ symbols_are config unit task line symbols setting free name =
     ∙ ap (λ o. or_else o (get symbols name)) (image_entry config name)
     ∙ ap (or_else (option_and_then symbol_seen (image_name config name))) (setting.means name)
     ∙ joined config unit name (seen_is config unit task line setting.frame (role_is config unit task line symbols setting.frame free)) (own_variable unit name) (image_name config name)
-    (λ own image. own_is_no_image config unit task line symbols setting.frame free name (sym (own-one_of unit setting.frame.carried name) ∙ own) image)
+    (λ own image. own_is_no_image config unit task line symbols setting.frame free name (sym (own-one_of unit setting.frame.supported name) ∙ own) image)
 
 -- ACCEPTED
 
@@ -174,7 +174,7 @@ pub record IsAcceptedWith (config : Config) (unit : ProgramUnit) (symbols : Name
   pub symbols_are : (name : Spelling) → get symbols name ≡ symbol_of config unit name
 
 -- it holds where nothing is broken
-pub accepted_with : (config : Config) (unit : ProgramUnit) (task : Task) (line : ProgramLine) (symbols all : NameMap Symbol) (taken : Option Found) → IsFrame config unit task line → AreVariables unit (forms_in unit.variables) symbols taken → ((n : ℕ) (p : Place) → BreaksYet config n p → ⊥)
+pub accepted_with : (config : Config) (unit : ProgramUnit) (task : Task) (line : ProgramLine) (symbols all : NameMap Symbol) (taken : Option Found) → IsFrame config unit task line → AreVariables unit (forms_in unit.variables) symbols taken → ((n : ℕ) (p : Place) → BreaksInSubset config n p → ⊥)
     → all ≡ with_entries symbols (image_symbols config.cars.value config.floors.value config.slots.value) → IsAcceptedWith config unit all
 accepted_with config unit task line symbols all taken frame v unbroken is = record {
   program = record { alone = frame.alone; named = named_is config unit task line symbols frame free; role = role_is config unit task line symbols frame free };

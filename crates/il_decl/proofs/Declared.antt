@@ -18,7 +18,7 @@ use Rattle.il_run.specs.NameMap.{NameMap}
 use Rattle.il_rules.specs.declared.symbol.Symbol.{Symbol}
 use Rattle.il_rules.specs.Names.{Spelling, is_one_of}
 use Rattle.il_rules.specs.Declarations.{Admitted, AllForms, types_in, written_types, type_numbers, IsTypeBroken, all_declarations, initial_numbers, IsInitialBroken, IsNameBroken, name_numbers, names_in, IsExternal, IsUnknown, unknown_type, unknown_global, unknown_name, IsInitialOutside, initial_outside as outside, size_outside, HasOtherType, type_misplaced, initial_of_other_type, external_differs, name_of_other_type}
-use Rattle.il_rules.specs.Subset.{IsCarriedForm, instruction_names, IsNotCarriedName, NamesNotCarried, BreaksYet, broken, not_carried}
+use Rattle.il_rules.specs.Subset.{IsSupportedForm, instruction_names, IsUnsupportedName, NamesUnsupported, BreaksInSubset, broken, unsupported}
 use Rattle.il_rules.specs.Faults.{BreaksDeclarations, duplicate, unknown, empty_range, initial_outside, bad_task, other_type, same_place}
 use Rattle.il_found.specs.declared.found.Found.{Found}
 use Rattle.il_found.specs.Least.{earlier_of, IsLeast, Either, Below}
@@ -27,9 +27,9 @@ use Rattle.il_decl.specs.Predeclared.{car_names}
 use Rattle.il_decl.specs.Parts.{structure_of, TakenNames, type_breaks, initial_breaks, TypeFault, InitialFault, Misdeclared, is_known, has_unknown, UnknownName, sees_image, IsFrame}
 use Rattle.il_decl.proofs.Lists.{none_in, any_in}
 use Rattle.il_decl.proofs.Single.{only_unit, among_units}
-use Rattle.il_decl.proofs.Carried.{form_carried}
+use Rattle.il_decl.proofs.Supported.{form_supported}
 use Rattle.il_decl.proofs.Known.{IsSetting, IsUnknownAs, unknown_as, not_known}
-use Rattle.il_decl.proofs.Instructions.{step_carried, names_fine, unknown_in, meaningless}
+use Rattle.il_decl.proofs.Instructions.{step_supported, names_fine, unknown_in, meaningless}
 use Rattle.il_decl.proofs.FirstValue.{type_cases, initial_cases}
 use Rattle.il_decl.proofs.Duplicates.{Again, names_are_unit, from_duplicate, to_taken}
 use Rattle.il_decl.proofs.Frames.{StructureFaults, both, structure_least, from_size, from_task, to_structure}
@@ -50,7 +50,7 @@ declarations_are config unit task line f = rw (f.alone, f.globals) (append-nil _
 
 -- all types are those of its variables
 types_are : (config : Config) (unit : ProgramUnit) (task : Task) (line : ProgramLine) → IsFrame config unit task line → written_types config ≡ types_in AllForms unit.variables
-types_are config unit task line f = rw (f.alone, f.globals, f.carried.kind, f.carried.inputs, f.carried.outputs, f.carried.externals) (append-nil _ ∙ append-nil _ ∙ append-nil _)
+types_are config unit task line f = rw (f.alone, f.globals, f.supported.kind, f.supported.inputs, f.supported.outputs, f.supported.externals) (append-nil _ ∙ append-nil _ ∙ append-nil _)
 
 -- the declaration that writes a type
 type_of : (ds : List Declaration) (t : Admitted × WrittenType) → Contains (types_in AllForms ds) t → (d : Declaration) × Contains ds d × (t ≡ (AllForms, d.declared))
@@ -82,28 +82,28 @@ from_names config unit task line symbols setting number place high (other, s, am
       where
         by_test : (k : ℕ) → k < length unit.body.steps → slice_get unit.body.steps k ≡ Some s → (b : Bool) → has_unknown symbols (sees_image unit line) s.instruction ≡ b → Covered (Declares config unit task line symbols) number place
         by_test k low e true is = (21, place, inl (inr (inl (k, s, low, e, (is, refl, at)))), same_place refl high)
-        by_test k low e false is = absurd (none_in number (subst (λ l. Contains l number) (names_fine config unit task line symbols setting s.instruction (step_carried unit.body.steps setting.frame.carried.steps k s e).1 is) broken_number))
+        by_test k low e false is = absurd (none_in number (subst (λ l. Contains l number) (names_fine config unit task line symbols setting s.instruction (step_supported unit.body.steps setting.frame.supported.steps k s e).1 is) broken_number))
 
--- each name that is not carried is found
-pub from_not_carried : (config : Config) (unit : ProgramUnit) (task : Task) (line : ProgramLine) (symbols : NameMap Symbol) → IsSetting config unit task line symbols → (place : Place) → NamesNotCarried config place → Declares config unit task line symbols 21 place
-from_not_carried config unit task line symbols setting place (other, s, name, among, listed, in_names, is, at) =
-    subst (λ u. Contains u.body.steps s → IsNotCarriedName config u name → Declares config unit task line symbols 21 place) (sym (only_unit config unit setting.frame.alone other among)) here listed is
+-- each name that is not supported is found
+pub from_unsupported : (config : Config) (unit : ProgramUnit) (task : Task) (line : ProgramLine) (symbols : NameMap Symbol) → IsSetting config unit task line symbols → (place : Place) → NamesUnsupported config place → Declares config unit task line symbols 21 place
+from_unsupported config unit task line symbols setting place (other, s, name, among, listed, in_names, is, at) =
+    subst (λ u. Contains u.body.steps s → IsUnsupportedName config u name → Declares config unit task line symbols 21 place) (sym (only_unit config unit setting.frame.alone other among)) here listed is
   where
-    here : Contains unit.body.steps s → IsNotCarriedName config unit name → Declares config unit task line symbols 21 place
+    here : Contains unit.body.steps s → IsUnsupportedName config unit name → Declares config unit task line symbols 21 place
     here c none =
         let stands = stands_at unit.body.steps s c in
         let unknown_here = not_known config unit task line symbols setting name none in
         inl (inr (inl (stands.0, s, stands.1, stands.2, (any_in (λ n. not (is_known symbols (sees_image unit line) n)) (instruction_names s.instruction) name in_names (ap not unknown_here), refl, at))))
 
 -- a scalar type breaks what is said of it
-type_same : (config : Config) (form : Form) → IsCarriedForm form → type_numbers config AllForms form ≡ type_breaks form
+type_same : (config : Config) (form : Form) → IsSupportedForm form → type_numbers config AllForms form ≡ type_breaks form
 unfolding type_numbers
 type_same config (OfScalar s) c = refl
 type_same config (OfArray bounds element) c = absurd c
 type_same config (OfBlock name) c = absurd c
 
 -- and so does an initial value
-initial_same : (form : Form) (literal : Literal) → IsCarriedForm form → initial_numbers form literal ≡ initial_breaks form literal
+initial_same : (form : Form) (literal : Literal) → IsSupportedForm form → initial_numbers form literal ≡ initial_breaks form literal
 initial_same (OfScalar s) literal c = refl
 initial_same (OfArray bounds element) literal c = absurd c
 initial_same (OfBlock name) literal c = absurd c
@@ -118,24 +118,24 @@ from_type : (config : Config) (unit : ProgramUnit) (task : Task) (line : Program
 from_type config unit task line symbols f number place (t, among, numbers, at) =
     let d = type_of unit.variables t (subst (λ l. Contains l t) (types_are config unit task line f) among) in
     let here = subst (λ (x : Admitted × WrittenType). Contains (type_numbers config x.0 x.1.form) number × (place ≡ x.1.place)) d.2 (numbers, at) in
-    of_declaration config unit task line symbols number place d.0 d.1 (λ k. inl (subst (λ l. Contains l number) (type_same config d.0.declared.form (form_carried unit.variables f.carried.variables d.0 d.1)) here.0, here.1))
+    of_declaration config unit task line symbols number place d.0 d.1 (λ k. inl (subst (λ l. Contains l number) (type_same config d.0.declared.form (form_supported unit.variables f.supported.variables d.0 d.1)) here.0, here.1))
 
 -- each initial value that is broken is found
 from_initial : (config : Config) (unit : ProgramUnit) (task : Task) (line : ProgramLine) (symbols : NameMap Symbol) → IsFrame config unit task line → (number : ℕ) (place : Place) → IsInitialBroken config number place → Declares config unit task line symbols number place
 from_initial config unit task line symbols f number place (d, initial, among, there, numbers, at) =
     let listed = subst (λ l. Contains l d) (declarations_are config unit task line f) among in
-    of_declaration config unit task line symbols number place d listed (λ k. inr (initial, there, subst (λ l. Contains l number) (initial_same d.declared.form initial.literal (form_carried unit.variables f.carried.variables d listed)) numbers, at))
+    of_declaration config unit task line symbols number place d listed (λ k. inr (initial, there, subst (λ l. Contains l number) (initial_same d.declared.form initial.literal (form_supported unit.variables f.supported.variables d listed)) numbers, at))
 
 -- what is found covers itself
 exactly : (P : ℕ → Place → Type 0) (n m : ℕ) (p : Place) → n ≡ m → P m p → Covered P n p
 exactly P n m p e h = (n, p, subst (λ k. P k p) (sym e) h, no_later-refl n p)
 
 -- each fault of declarations is found, or one that is no later
-pub from_broken : (config : Config) (unit : ProgramUnit) (task : Task) (line : ProgramLine) (symbols : NameMap Symbol) → IsSetting config unit task line symbols → (n : ℕ) (p : Place) → BreaksYet config n p → Covered (Declares config unit task line symbols) n p
+pub from_broken : (config : Config) (unit : ProgramUnit) (task : Task) (line : ProgramLine) (symbols : NameMap Symbol) → IsSetting config unit task line symbols → (n : ℕ) (p : Place) → BreaksInSubset config n p → Covered (Declares config unit task line symbols) n p
 from_broken config unit task line symbols setting n p b = yet b
   where
     no_external : (d : Declaration) (m : Named) → IsExternal config d m → ⊥
-    no_external d m e = none_in d (subst (λ l. Contains l d) (setting.frame.carried.externals) (subst (λ u. Contains u.externals d) (only_unit config unit setting.frame.alone e.unit e.written) e.listed))
+    no_external d m e = none_in d (subst (λ l. Contains l d) (setting.frame.supported.externals) (subst (λ u. Contains u.externals d) (only_unit config unit setting.frame.alone e.unit e.written) e.listed))
 
     of_unknown : n ≡ 21 → IsUnknown config p → Covered (Declares config unit task line symbols) n p
     of_unknown e (unknown_type t) = exactly (Declares config unit task line symbols) n 21 p e (from_type config unit task line symbols setting.frame 21 p t)
@@ -164,14 +164,14 @@ from_broken config unit task line symbols setting n p b = yet b
     declared (bad_task e t) = exactly (Declares config unit task line symbols) n 24 p e (inr (from_task config unit task line setting.frame p t))
     declared (other_type e t) = of_type e t
 
-    yet : BreaksYet config n p → Covered (Declares config unit task line symbols) n p
+    yet : BreaksInSubset config n p → Covered (Declares config unit task line symbols) n p
     yet (broken d) = declared d
-    yet (not_carried e x) = exactly (Declares config unit task line symbols) n 21 p e (from_not_carried config unit task line symbols setting p x)
+    yet (unsupported e x) = exactly (Declares config unit task line symbols) n 21 p e (from_unsupported config unit task line symbols setting p x)
 
 -- EACH FOUND FAULT IS BROKEN
 
 -- an unknown name is broken
-to_unknown : (config : Config) (unit : ProgramUnit) (task : Task) (line : ProgramLine) (symbols : NameMap Symbol) → IsSetting config unit task line symbols → (place : Place) (at : ℕ) (s : Step) → slice_get unit.body.steps at ≡ Some s → has_unknown symbols (sees_image unit line) s.instruction ≡ true → place ≡ s.place → BreaksYet config 21 place
+to_unknown : (config : Config) (unit : ProgramUnit) (task : Task) (line : ProgramLine) (symbols : NameMap Symbol) → IsSetting config unit task line symbols → (place : Place) (at : ℕ) (s : Step) → slice_get unit.body.steps at ≡ Some s → has_unknown symbols (sees_image unit line) s.instruction ≡ true → place ≡ s.place → BreaksInSubset config 21 place
 to_unknown config unit task line symbols setting place at s e has is =
     let u = unknown_in symbols (sees_image unit line) (instruction_names s.instruction) has in
     of_name u.0 u.1 (unknown_as config unit task line symbols setting u.0 u.2) (is_one_of car_names u.0) refl
@@ -179,9 +179,9 @@ to_unknown config unit task line symbols setting place at s e has is =
     listed : Contains unit.body.steps s
     listed = (at, slice_get_within unit.body.steps at s e, get_or_from_slice_get unit.body.steps at s s e)
 
-    of_name : (name : Spelling) → Contains (instruction_names s.instruction) name → IsUnknownAs config unit name → (b : Bool) → is_one_of car_names name ≡ b → BreaksYet config 21 place
-    of_name name among u true cars = broken (unknown refl (unknown_name (unit, s, among_units config unit setting.frame.alone, listed, meaningless config unit s.instruction name (step_carried unit.body.steps setting.frame.carried.steps at s e).1 among (u.means_none cars), is)))
-    of_name name among u false cars = not_carried refl (unit, s, name, among_units config unit setting.frame.alone, listed, among, u.not_carried cars, is)
+    of_name : (name : Spelling) → Contains (instruction_names s.instruction) name → IsUnknownAs config unit name → (b : Bool) → is_one_of car_names name ≡ b → BreaksInSubset config 21 place
+    of_name name among u true cars = broken (unknown refl (unknown_name (unit, s, among_units config unit setting.frame.alone, listed, meaningless config unit s.instruction name (step_supported unit.body.steps setting.frame.supported.steps at s e).1 among (u.means_none cars), is)))
+    of_name name among u false cars = unsupported refl (unit, s, name, among_units config unit setting.frame.alone, listed, among, u.unsupported cars, is)
 
 -- a type that is found is broken
 to_type : (config : Config) (unit : ProgramUnit) (task : Task) (line : ProgramLine) → IsFrame config unit task line → (n : ℕ) (p : Place) (d : Declaration) → Contains unit.variables d → TypeFault d n p → BreaksDeclarations config n p
@@ -191,7 +191,7 @@ to_type config unit task line f n p d among (numbers, at) = go (type_cases d.dec
     is_broken = (
       (AllForms, d.declared),
       subst (λ l. Contains l (AllForms, d.declared)) (sym (types_are config unit task line f)) (has_type unit.variables d among),
-      subst (λ l. Contains l n) (sym (type_same config d.declared.form (form_carried unit.variables f.carried.variables d among))) numbers,
+      subst (λ l. Contains l n) (sym (type_same config d.declared.form (form_supported unit.variables f.supported.variables d among))) numbers,
       at,
     )
 
@@ -209,7 +209,7 @@ to_initial config unit task line f n p d among (initial, there, numbers, at) = g
       initial,
       subst (λ l. Contains l d) (sym (declarations_are config unit task line f)) among,
       there,
-      subst (λ l. Contains l n) (sym (initial_same d.declared.form initial.literal (form_carried unit.variables f.carried.variables d among))) numbers,
+      subst (λ l. Contains l n) (sym (initial_same d.declared.form initial.literal (form_supported unit.variables f.supported.variables d among))) numbers,
       at,
     )
 
@@ -218,13 +218,13 @@ to_initial config unit task line f n p d among (initial, there, numbers, at) = g
     go (inr e) = other_type e (initial_of_other_type (subst (λ k. IsInitialBroken config k p) e is_broken))
 
 -- each fault that is found is one of declarations
-pub to_broken : (config : Config) (unit : ProgramUnit) (task : Task) (line : ProgramLine) (symbols : NameMap Symbol) → IsSetting config unit task line symbols → (n : ℕ) (p : Place) → Declares config unit task line symbols n p → BreaksYet config n p
+pub to_broken : (config : Config) (unit : ProgramUnit) (task : Task) (line : ProgramLine) (symbols : NameMap Symbol) → IsSetting config unit task line symbols → (n : ℕ) (p : Place) → Declares config unit task line symbols n p → BreaksInSubset config n p
 to_broken config unit task line symbols setting n p h = go h
   where
-    number_is : (m : ℕ) → n ≡ m → BreaksYet config m p → BreaksYet config n p
-    number_is m e b = subst (λ k. BreaksYet config k p) (sym e) b
+    number_is : (m : ℕ) → n ≡ m → BreaksInSubset config m p → BreaksInSubset config n p
+    number_is m e b = subst (λ k. BreaksInSubset config k p) (sym e) b
 
-    go : Declares config unit task line symbols n p → BreaksYet config n p
+    go : Declares config unit task line symbols n p → BreaksInSubset config n p
     go (inl (inl (before, after, x, e, (is, number, at)))) = broken (duplicate number (to_taken config unit task line setting.frame p (before, after, x, e, (is, refl, at))))
     go (inl (inr (inl (at, s, low, e, (is, number, there))))) = number_is 21 number (to_unknown config unit task line symbols setting p at s e is there)
     go (inl (inr (inr (at, d, low, e, inl x)))) = broken (to_type config unit task line setting.frame n p d (at, low, get_or_from_slice_get unit.variables at d d e) x)
@@ -232,8 +232,8 @@ to_broken config unit task line symbols setting n p h = go h
     go (inr x) = broken (to_structure config unit task line setting.frame n p x)
 
 -- the first fault that is found is the first that breaks a rule of declarations
-pub declared_least : (config : Config) (unit : ProgramUnit) (task : Task) (line : ProgramLine) (symbols : NameMap Symbol) → IsSetting config unit task line symbols → (found : Option Found) → IsLeast found (Declares config unit task line symbols) → IsLeast found (BreaksYet config)
-declared_least config unit task line symbols setting found least = least_wider (Declares config unit task line symbols) (BreaksYet config) found least (to_broken config unit task line symbols setting) (from_broken config unit task line symbols setting)
+pub declared_least : (config : Config) (unit : ProgramUnit) (task : Task) (line : ProgramLine) (symbols : NameMap Symbol) → IsSetting config unit task line symbols → (found : Option Found) → IsLeast found (Declares config unit task line symbols) → IsLeast found (BreaksInSubset config)
+declared_least config unit task line symbols setting found least = least_wider (Declares config unit task line symbols) (BreaksInSubset config) found least (to_broken config unit task line symbols setting) (from_broken config unit task line symbols setting)
 
 -- the parts together
 pub found_least : (config : Config) (unit : ProgramUnit) (task : Task) (line : ProgramLine) (symbols : NameMap Symbol) (taken named valued structure found : Option Found) → IsLeast taken (TakenNames unit (names_in unit.variables)) → IsLeast named (Below (UnknownName symbols (sees_image unit line)) unit.body.steps (length unit.body.steps))

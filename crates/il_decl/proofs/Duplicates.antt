@@ -11,7 +11,7 @@ use Rattle.il_spec.specs.declared.tree.Step.{Step}
 use Rattle.il_spec.specs.declared.tree.Place.{Place}
 use Rattle.il_rules.specs.Names.{is_one_of, is_predeclared}
 use Rattle.il_rules.specs.Declarations.{unit_declarations, names_in, unit_names, labels_of, IsAgain, IsDuplicate, predeclared_unit, second_unit, predeclared_variable, variable_as_unit, second_variable, second_label, predeclared_global, global_as_unit, second_global, second_task, second_program_line}
-use Rattle.il_rules.specs.Subset.{AreCarriedSteps}
+use Rattle.il_rules.specs.Subset.{AreSupportedSteps}
 use Rattle.il_decl.specs.Predeclared.{is_predeclared_name}
 use Rattle.il_decl.specs.Parts.{is_taken, TakenNames, IsFrame}
 use Rattle.il_decl.proofs.Lists.{none_in, again_none, again_one, split_at, in_split, in_one_of, one_of_in, or_left, or_right}
@@ -22,10 +22,10 @@ use Rattle.il_decl.proofs.Frames.{StructureFaults}
 
 -- the one list of a program of the subset
 pub names_are_unit : (unit : ProgramUnit) (config : Config) (task : Task) (line : ProgramLine) → IsFrame config unit task line → unit_declarations unit ≡ unit.variables
-names_are_unit unit config task line f = rw (f.carried.inputs, f.carried.outputs, f.carried.externals) (append-nil _)
+names_are_unit unit config task line f = rw (f.supported.inputs, f.supported.outputs, f.supported.externals) (append-nil _)
 
 -- no instruction has a label
-no_labels : (steps : List Step) → AreCarriedSteps steps → flat_map (λ s. s.labels) steps ≡ []
+no_labels : (steps : List Step) → AreSupportedSteps steps → flat_map (λ s. s.labels) steps ≡ []
 no_labels [] c = refl
 no_labels (s ∷ steps) c = rw (c.0) (no_labels steps c.2)
 
@@ -65,7 +65,7 @@ from_duplicate config unit task line f place d = go d
     go (second_variable other n among again at) =
         at_unit (λ u. IsAgain (λ m. m.name) (unit_names u) n → Again config unit task line place) (λ (before, after, e, c). taken before after n (sym same_names ∙ e) (or_right (is_predeclared_name n.name || bytes_eq n.name unit.name.name) _ (in_one_of (map (λ m. m.name) before) n.name c)) at) other among again
     go (second_label other n among again at) =
-        absurd (at_unit (λ u. IsAgain (λ m. m.name) (labels_of u.body) n → ⊥) (again_none (λ m. m.name) (labels_of unit.body) n (rw (f.carried.last_labels) (append-nil _ ∙ no_labels unit.body.steps f.carried.steps))) other among again)
+        absurd (at_unit (λ u. IsAgain (λ m. m.name) (labels_of u.body) n → ⊥) (again_none (λ m. m.name) (labels_of unit.body) n (rw (f.supported.last_labels) (append-nil _ ∙ no_labels unit.body.steps f.supported.steps))) other among again)
     go (predeclared_global n among pre at) = absurd (no_globals n among)
     go (global_as_unit n among same at) = absurd (no_globals n among)
     go (second_global n again at) = absurd (again_none (λ m. m.name) (names_in config.globals) n (ap names_in f.globals) again)

@@ -82,7 +82,7 @@ program_is config unit task line f name =
     ∙ by_tests (is_predeclared_name name) (bytes_eq unit.name.name name)
   where
     is_one : is_program unit ≡ true
-    is_one = rw (f.carried.kind) refl
+    is_one = rw (f.supported.kind) refl
 
     by_tests : (p same : Bool) → option_and_then (λ u. if is_program u then Some u else None) (if p then None else (if same then Some unit else None)) ≡ (if not p && same then Some unit else None)
     by_tests true same = refl
@@ -196,7 +196,7 @@ to_structure config unit task line f n place h = go h
 
     go : StructureFaults config unit task line n place → BreaksDeclarations config n place
     go (inl (inl (inl (is, e, at)))) = duplicate e (predeclared_unit unit among (predeclared_is config unit.name.name ∙ is) at)
-    go (inl (inl (inr (is, e, at)))) = bad_task e (unused_program unit among (rw (f.carried.kind) refl) (λ c. differ line.program.name unit.name.name (not_false _ is) (sym (in_lines (λ l. l.program.name) unit.name.name c))) at)
+    go (inl (inl (inr (is, e, at)))) = bad_task e (unused_program unit among (rw (f.supported.kind) refl) (λ c. differ line.program.name unit.name.name (not_false _ is) (sym (in_lines (λ l. l.program.name) unit.name.name c))) at)
     go (inl (inr (inl (is, e, at)))) = size 0 e (config.cars, record { lower = pos 1; upper = pos 8 }) (0, omega arith, refl) is at
     go (inl (inr (inr (inl (is, e, at))))) = size 0 e (config.floors, record { lower = pos 2; upper = pos 16 }) (1, omega arith, refl) is at
     go (inl (inr (inr (inr (is, e, at))))) = size 0 e (config.slots, record { lower = pos 1; upper = pos 64 }) (2, omega arith, refl) is at

@@ -17,36 +17,36 @@ use Rattle.il_run.specs.NameMap.{NameMap}
 use Rattle.il_rules.specs.declared.symbol.Symbol.{Symbol}
 use Rattle.il_rules.specs.Names.{Spelling, standard_function, function_named, meaning}
 use Rattle.il_rules.specs.Declarations.{unless, Access, Reads, Stores, scalar_numbers, reference_numbers, name_numbers}
-use Rattle.il_rules.specs.Subset.{IsCarriedOperand, IsCarriedPlace, AreCarriedOperands, IsCarriedInstruction, AreCarriedSteps, reference_names, instruction_names}
+use Rattle.il_rules.specs.Subset.{IsSupportedOperand, IsSupportedPlace, AreSupportedOperands, IsSupportedInstruction, AreSupportedSteps, reference_names, instruction_names}
 use Rattle.il_decl.specs.Parts.{sees_image, is_known, has_unknown_in, has_unknown}
 use Rattle.il_decl.proofs.Known.{IsSetting, known_plain}
 
 -- the instructions of a body of the subset
-pub step_carried : (steps : List Step) → AreCarriedSteps steps → (at : ℕ) (s : Step) → slice_get steps at ≡ Some s → (s.labels ≡ []) × IsCarriedInstruction s.instruction
-step_carried [] c at s e = let bad : None ≡ Some s = e in cc
-step_carried (x ∷ xs) c zero s e = let same : x ≡ s = cc in subst (λ y. (y.labels ≡ []) × IsCarriedInstruction y.instruction) same (c.0, c.1)
-step_carried (x ∷ xs) c (suc at) s e = step_carried xs c.2 at s e
+pub step_supported : (steps : List Step) → AreSupportedSteps steps → (at : ℕ) (s : Step) → slice_get steps at ≡ Some s → (s.labels ≡ []) × IsSupportedInstruction s.instruction
+step_supported [] c at s e = let bad : None ≡ Some s = e in cc
+step_supported (x ∷ xs) c zero s e = let same : x ≡ s = cc in subst (λ y. (y.labels ≡ []) × IsSupportedInstruction y.instruction) same (c.0, c.1)
+step_supported (x ∷ xs) c (suc at) s e = step_supported xs c.2 at s e
 
 -- what a name breaks where a scalar variable stands
 abbrev breaks : Config → ProgramUnit → Spelling → List ℕ
 breaks config unit name = scalar_numbers (meaning config unit name)
 
 -- an operand breaks what its name does
-of_operand : (config : Config) (unit : ProgramUnit) (access : Access) (r : Reference) → IsCarriedOperand r → reference_numbers config unit access r ≡ flat_map (breaks config unit) (reference_names r)
+of_operand : (config : Config) (unit : ProgramUnit) (access : Access) (r : Reference) → IsSupportedOperand r → reference_numbers config unit access r ≡ flat_map (breaks config unit) (reference_names r)
 of_operand config unit access (OfLiteral l) c = refl
 of_operand config unit access (OfVariable name) c = sym (append-nil _)
 of_operand config unit access (OfElement name index) c = absurd c
 of_operand config unit access (OfMember name word) c = absurd c
 
 -- and so does a place
-of_place : (config : Config) (unit : ProgramUnit) (r : Reference) → IsCarriedPlace r → reference_numbers config unit Stores r ≡ flat_map (breaks config unit) (reference_names r)
+of_place : (config : Config) (unit : ProgramUnit) (r : Reference) → IsSupportedPlace r → reference_numbers config unit Stores r ≡ flat_map (breaks config unit) (reference_names r)
 of_place config unit (OfLiteral l) c = absurd c
 of_place config unit (OfVariable name) c = sym (append-nil _)
 of_place config unit (OfElement name index) c = absurd c
 of_place config unit (OfMember name word) c = absurd c
 
 -- operands break what their names do
-of_operands : (config : Config) (unit : ProgramUnit) (os : List Operand) → AreCarriedOperands os → flat_map (λ o. reference_numbers config unit Reads o.reference) os ≡ flat_map (breaks config unit) (flat_map (λ o. reference_names o.reference) os)
+of_operands : (config : Config) (unit : ProgramUnit) (os : List Operand) → AreSupportedOperands os → flat_map (λ o. reference_numbers config unit Reads o.reference) os ≡ flat_map (breaks config unit) (flat_map (λ o. reference_names o.reference) os)
 of_operands config unit [] c = refl
 of_operands config unit (o ∷ os) c =
     ap (λ l. l ++ flat_map (λ (p : Operand). reference_numbers config unit Reads p.reference) os) (of_operand config unit Reads o.reference c.0)
@@ -54,7 +54,7 @@ of_operands config unit (o ∷ os) c =
     ∙ sym (flat_map-append (breaks config unit) (reference_names o.reference) (flat_map (λ (p : Operand). reference_names p.reference) os))
 
 -- an instruction breaks what its names do
-pub numbers_are : (config : Config) (unit : ProgramUnit) (i : Instruction) → IsCarriedInstruction i → name_numbers config unit i ≡ flat_map (breaks config unit) (instruction_names i)
+pub numbers_are : (config : Config) (unit : ProgramUnit) (i : Instruction) → IsSupportedInstruction i → name_numbers config unit i ≡ flat_map (breaks config unit) (instruction_names i)
 unfolding name_numbers standard_function
 numbers_are config unit (Load negated operand) c = of_operand config unit Reads operand.reference c
 numbers_are config unit (Store kind to) c = of_place config unit to.reference c.1
@@ -81,7 +81,7 @@ all_known config unit task line symbols s (n ∷ names) e =
     neither false b h = let bad : true ≡ false = h in cc
 
 -- an instruction with known names breaks nothing
-pub names_fine : (config : Config) (unit : ProgramUnit) (task : Task) (line : ProgramLine) (symbols : NameMap Symbol) → IsSetting config unit task line symbols → (i : Instruction) → IsCarriedInstruction i → has_unknown symbols (sees_image unit line) i ≡ false → name_numbers config unit i ≡ []
+pub names_fine : (config : Config) (unit : ProgramUnit) (task : Task) (line : ProgramLine) (symbols : NameMap Symbol) → IsSetting config unit task line symbols → (i : Instruction) → IsSupportedInstruction i → has_unknown symbols (sees_image unit line) i ≡ false → name_numbers config unit i ≡ []
 names_fine config unit task line symbols s i c e = numbers_are config unit i c ∙ all_known config unit task line symbols s (instruction_names i) e
 
 -- the unknown one of some names
@@ -100,6 +100,6 @@ in_all f (n ∷ names) name k (zero, low, e) c = Contains-append_left (f n) (fla
 in_all f (n ∷ names) name k (suc j, low, e) c = Contains-append_right (f n) (flat_map f names) k (in_all f names name k (j, omega arith, e) c)
 
 -- a name without a meaning is 21
-pub meaningless : (config : Config) (unit : ProgramUnit) (i : Instruction) (name : Spelling) → IsCarriedInstruction i → Contains (instruction_names i) name → meaning config unit name ≡ None → Contains (name_numbers config unit i) 21
+pub meaningless : (config : Config) (unit : ProgramUnit) (i : Instruction) (name : Spelling) → IsSupportedInstruction i → Contains (instruction_names i) name → meaning config unit name ≡ None → Contains (name_numbers config unit i) 21
 meaningless config unit i name c among none =
     subst (λ l. Contains l 21) (sym (numbers_are config unit i c)) (in_all (breaks config unit) (instruction_names i) name 21 among (subst (λ m. Contains (scalar_numbers m) 21) (sym none) (0, omega arith, refl)))

@@ -13,7 +13,8 @@ use Rattle.il_run.specs.NameMap.{NameMap}
 use Rattle.il_rules.specs.declared.symbol.Symbol.{Symbol}
 use Rattle.il_rules.specs.Declarations.{names_in}
 use Rattle.il_rules.specs.Names.{is_one_of}
-use Rattle.il_rules.specs.Subset.{BreaksYet, IsUndeclaredBy}
+use Rattle.il_rules.specs.Faults.{IsRefusedBy}
+use Rattle.il_rules.specs.Subset.{BreaksInSubset}
 use Rattle.il_found.specs.declared.found.Found.{Found}
 use Rattle.il_found.specs.Least.{Below, IsLeast, earlier_of}
 use Rattle.il_decl.specs.Parts.{AreVariables, IsFrame, Misdeclared, TakenNames, UnknownName, forms_in, sees_image, structure_of}
@@ -25,13 +26,13 @@ pub setting_of : (config : Config) (unit : ProgramUnit) (task : Task) (line : Pr
 setting_of config unit task line symbols taken frame v = record {
   frame = frame;
   knows = λ name. v.knows name ∙ ap (λ l. is_one_of (map (λ n. n.name) l) name) (names_are unit.variables);
-  means = λ name. v.means name ∙ own_symbol_is unit frame.carried name;
+  means = λ name. v.means name ∙ own_symbol_is unit frame.supported name;
 }
 
 -- the parts of declarations together
 pub declared_by : (config : Config) (unit : ProgramUnit) (task : Task) (line : ProgramLine) (symbols : NameMap Symbol) (taken named valued structure found : Option Found) (group : Bool) (steps : List Step) (declarations : List Declaration) → IsFrame config unit task line → AreVariables unit (forms_in unit.variables) symbols taken
     → group ≡ (bytes_eq line.program.name unit.name.name && bytes_eq line.task.name (codes "GROUP")) → steps ≡ unit.body.steps → IsLeast named (Below (UnknownName symbols (not group)) steps (length steps))
-    → declarations ≡ unit.variables → IsLeast valued (Below Misdeclared declarations (length declarations)) → structure ≡ structure_of config unit task line → found ≡ earlier_of (earlier_of taken (earlier_of named valued)) structure → IsLeast found (BreaksYet config)
+    → declarations ≡ unit.variables → IsLeast valued (Below Misdeclared declarations (length declarations)) → structure ≡ structure_of config unit task line → found ≡ earlier_of (earlier_of taken (earlier_of named valued)) structure → IsLeast found (BreaksInSubset config)
 declared_by config unit task line symbols taken named valued structure found group steps declarations frame v role same n listed w s is =
     declared_least config unit task line symbols (setting_of config unit task line symbols taken frame v) found
     (found_least config unit task line symbols taken named valued structure found taken_least named_least (subst (λ l. IsLeast valued (Below Misdeclared l (length l))) listed w) s is)
@@ -43,5 +44,5 @@ declared_by config unit task line symbols taken named valued structure found gro
     named_least = subst (λ b. IsLeast named (Below (UnknownName symbols (not b)) unit.body.steps (length unit.body.steps))) role (subst (λ l. IsLeast named (Below (UnknownName symbols (not group)) l (length l))) same n)
 
 -- the refusal of the first fault
-pub refused_by : (config : Config) (found : Option Found) (f : Found) (r : Refusal) → IsLeast found (BreaksYet config) → found ≡ Some f → r ≡ Fault f.number f.place.line → IsUndeclaredBy config r
-refused_by config found f r l is refuses = subst (IsUndeclaredBy config) (sym refuses) (f.place, record { broken = l.holds f is; first = l.first f is }, refl)
+pub refused_by : (config : Config) (found : Option Found) (f : Found) (r : Refusal) → IsLeast found (BreaksInSubset config) → found ≡ Some f → r ≡ Fault f.number f.place.line → IsRefusedBy (BreaksInSubset config) r
+refused_by config found f r l is refuses = subst (IsRefusedBy (BreaksInSubset config)) (sym refuses) (f.place, record { broken = l.holds f is; first = l.first f is }, refl)

@@ -18,7 +18,7 @@ use Rattle.il_rules.specs.declared.symbol.Symbol.{Symbol}
 use Rattle.il_rules.specs.Symbols.{symbol_by}
 use Rattle.il_rules.specs.Names.{image_read, image_written, within, Spelling, or_else, is_one_of, Variable, Origin, AsVariable, ImageName, Audience, Everybody, CarPrograms, Role, image_name, CarRole, GroupRole, car_number, program_role, is_program_kind, is_seen_by, sees, MeansVariable, meaning, outer_meaning, named_forms, with_origin, variables_of, own_variable}
 use Rattle.il_rules.specs.Declarations.{names_in, scalar_numbers, scalar_form_numbers}
-use Rattle.il_rules.specs.Subset.{IsCarriedProgram, carried_image_names, IsNotCarriedName}
+use Rattle.il_rules.specs.Subset.{IsSupportedProgram, supported_image_names, IsUnsupportedName}
 use Rattle.il_decl.specs.Predeclared.{shared_names, car_names}
 use Rattle.il_decl.specs.Parts.{IsFrame, sees_image, is_known, forms_of, forms_in, symbol_among}
 use Rattle.il_decl.proofs.Predeclared.{one_of-append, find-one_of}
@@ -34,7 +34,7 @@ abbrev as_variable : Named × Form → Variable
 as_variable e = record { name = e.0.name; form = e.1; origin = AsVariable }
 
 -- the variables of a program of the subset
-own_is : (unit : ProgramUnit) → IsCarriedProgram unit → variables_of unit ≡ with_origin AsVariable unit.variables
+own_is : (unit : ProgramUnit) → IsSupportedProgram unit → variables_of unit ≡ with_origin AsVariable unit.variables
 own_is unit p = rw (p.kind, p.inputs, p.outputs, p.externals) (append-nil _)
 
 -- the variables of one declaration
@@ -74,7 +74,7 @@ find-map {A = A} {B = B} f p (x ∷ xs) = go (p (f x)) (find-map f p xs)
     go false rest = rest
 
 -- an own variable, by the declarations
-own_found : (unit : ProgramUnit) → IsCarriedProgram unit → (name : Spelling) → own_variable unit name ≡ option_map as_variable (find (λ e. bytes_eq e.0.name name) (forms_in unit.variables))
+own_found : (unit : ProgramUnit) → IsSupportedProgram unit → (name : Spelling) → own_variable unit name ≡ option_map as_variable (find (λ e. bytes_eq e.0.name name) (forms_in unit.variables))
 own_found unit p name = ap (find (λ v. bytes_eq v.name name)) (own_is unit p ∙ variables_are unit.variables) ∙ find-map as_variable (λ v. bytes_eq v.name name) (forms_in unit.variables)
 
 -- what a name means among the variables of a unit
@@ -82,7 +82,7 @@ abbrev pub own_symbol : ProgramUnit → Spelling → Option Symbol
 own_symbol unit name = option_and_then (λ v. symbol_by v.origin v.form) (own_variable unit name)
 
 -- the same, by the declarations
-pub own_symbol_is : (unit : ProgramUnit) → IsCarriedProgram unit → (name : Spelling) → symbol_among (forms_in unit.variables) name ≡ own_symbol unit name
+pub own_symbol_is : (unit : ProgramUnit) → IsSupportedProgram unit → (name : Spelling) → symbol_among (forms_in unit.variables) name ≡ own_symbol unit name
 own_symbol_is unit p name = go (find (λ e. bytes_eq e.0.name name) (forms_in unit.variables)) ∙ ap (option_and_then (λ (v : Variable). symbol_by v.origin v.form)) (sym (own_found unit p name))
   where
     go : (o : Option (Named × Form)) → option_and_then (λ (e : Named × Form). symbol_by AsVariable e.1) o ≡ option_and_then (λ (v : Variable). symbol_by v.origin v.form) (option_map as_variable o)
@@ -99,7 +99,7 @@ one_of_forms [] name = refl
 one_of_forms (f ∷ fs) name = ap (λ b. bytes_eq f.0.name name || b) (one_of_forms fs name)
 
 -- whether a name is a variable's, by the names alone
-pub own-one_of : (unit : ProgramUnit) → IsCarriedProgram unit → (name : Spelling) → is_some (own_variable unit name) ≡ is_own unit name
+pub own-one_of : (unit : ProgramUnit) → IsSupportedProgram unit → (name : Spelling) → is_some (own_variable unit name) ≡ is_own unit name
 own-one_of unit p name =
     ap is_some (own_found unit p name)
     ∙ mapped (find (λ e. bytes_eq e.0.name name) (forms_in unit.variables))
@@ -113,8 +113,8 @@ own-one_of unit p name =
 
 -- IMAGE NAMES
 
--- an image name that is carried: a scalar for an audience
-pub record IsCarriedImage (config : Config) (audience : Audience) (name : Spelling) : Type 0 where
+-- an image name that is supported: a scalar for an audience
+pub record IsSupportedImage (config : Config) (audience : Audience) (name : Spelling) : Type 0 where
   pub image : ImageName
   pub is : image_name config name ≡ Some image
   pub seen_by : image.audience ≡ audience
@@ -133,35 +133,35 @@ none_of_these : {A : Type 0} → false ≡ true → A
 none_of_these e = cc
 
 -- an image name that each program reads
-shared : (config : Config) (name : Spelling) → is_one_of shared_names name ≡ true → IsCarriedImage config Everybody name
+shared : (config : Config) (name : Spelling) → is_one_of shared_names name ≡ true → IsSupportedImage config Everybody name
 unfolding image_name shared_names
 shared config name =
-    by_name (IsCarriedImage config Everybody) (codes "CARS") (codes "FLOORS" ∷ codes "SLOTS" ∷ codes "RUNLIMIT" ∷ []) name (record { image = image_read (codes "CARS") Everybody (OfScalar (within config.cars.value config.cars.value)); is = refl; seen_by = refl; scalar = refl })
-    (by_name (IsCarriedImage config Everybody) (codes "FLOORS") (codes "SLOTS" ∷ codes "RUNLIMIT" ∷ []) name (record { image = image_read (codes "FLOORS") Everybody (OfScalar (within config.floors.value config.floors.value)); is = refl; seen_by = refl; scalar = refl })
-    (by_name (IsCarriedImage config Everybody) (codes "SLOTS") (codes "RUNLIMIT" ∷ []) name (record { image = image_read (codes "SLOTS") Everybody (OfScalar (within config.slots.value config.slots.value)); is = refl; seen_by = refl; scalar = refl })
-    (by_name (IsCarriedImage config Everybody) (codes "RUNLIMIT") [] name (record { image = image_read (codes "RUNLIMIT") Everybody (OfScalar (within (pos 0) config.cars.value)); is = refl; seen_by = refl; scalar = refl }) (λ (e : false ≡ true). none_of_these e))))
+    by_name (IsSupportedImage config Everybody) (codes "CARS") (codes "FLOORS" ∷ codes "SLOTS" ∷ codes "RUNLIMIT" ∷ []) name (record { image = image_read (codes "CARS") Everybody (OfScalar (within config.cars.value config.cars.value)); is = refl; seen_by = refl; scalar = refl })
+    (by_name (IsSupportedImage config Everybody) (codes "FLOORS") (codes "SLOTS" ∷ codes "RUNLIMIT" ∷ []) name (record { image = image_read (codes "FLOORS") Everybody (OfScalar (within config.floors.value config.floors.value)); is = refl; seen_by = refl; scalar = refl })
+    (by_name (IsSupportedImage config Everybody) (codes "SLOTS") (codes "RUNLIMIT" ∷ []) name (record { image = image_read (codes "SLOTS") Everybody (OfScalar (within config.slots.value config.slots.value)); is = refl; seen_by = refl; scalar = refl })
+    (by_name (IsSupportedImage config Everybody) (codes "RUNLIMIT") [] name (record { image = image_read (codes "RUNLIMIT") Everybody (OfScalar (within (pos 0) config.cars.value)); is = refl; seen_by = refl; scalar = refl }) (λ (e : false ≡ true). none_of_these e))))
 
 -- a BOOL that a car's program reads
 abbrev signal : Spelling → ImageName
 signal name = image_read name CarPrograms (OfScalar (plain Boolean))
 
 -- an image name that only the programs of cars see
-of_cars : (config : Config) (name : Spelling) → is_one_of car_names name ≡ true → IsCarriedImage config CarPrograms name
+of_cars : (config : Config) (name : Spelling) → is_one_of car_names name ≡ true → IsSupportedImage config CarPrograms name
 unfolding image_name car_names
 of_cars config name =
-    by_name (IsCarriedImage config CarPrograms) (codes "CARNO") (codes "POS" ∷ codes "LEVEL" ∷ codes "TOP" ∷ codes "BOTTOM" ∷ codes "LOCKED" ∷ codes "OPENED" ∷ codes "OPEN" ∷ []) name (record { image = image_read (codes "CARNO") CarPrograms (OfScalar (within (pos 1) config.cars.value)); is = refl; seen_by = refl; scalar = refl })
-    (by_name (IsCarriedImage config CarPrograms) (codes "POS") (codes "LEVEL" ∷ codes "TOP" ∷ codes "BOTTOM" ∷ codes "LOCKED" ∷ codes "OPENED" ∷ codes "OPEN" ∷ []) name (record { image = image_read (codes "POS") CarPrograms (OfScalar (within (pos 1) config.floors.value)); is = refl; seen_by = refl; scalar = refl })
-    (by_name (IsCarriedImage config CarPrograms) (codes "LEVEL") (codes "TOP" ∷ codes "BOTTOM" ∷ codes "LOCKED" ∷ codes "OPENED" ∷ codes "OPEN" ∷ []) name (record { image = signal (codes "LEVEL"); is = refl; seen_by = refl; scalar = refl })
-    (by_name (IsCarriedImage config CarPrograms) (codes "TOP") (codes "BOTTOM" ∷ codes "LOCKED" ∷ codes "OPENED" ∷ codes "OPEN" ∷ []) name (record { image = signal (codes "TOP"); is = refl; seen_by = refl; scalar = refl })
-    (by_name (IsCarriedImage config CarPrograms) (codes "BOTTOM") (codes "LOCKED" ∷ codes "OPENED" ∷ codes "OPEN" ∷ []) name (record { image = signal (codes "BOTTOM"); is = refl; seen_by = refl; scalar = refl })
-    (by_name (IsCarriedImage config CarPrograms) (codes "LOCKED") (codes "OPENED" ∷ codes "OPEN" ∷ []) name (record { image = signal (codes "LOCKED"); is = refl; seen_by = refl; scalar = refl })
-    (by_name (IsCarriedImage config CarPrograms) (codes "OPENED") (codes "OPEN" ∷ []) name (record { image = signal (codes "OPENED"); is = refl; seen_by = refl; scalar = refl })
-    (by_name (IsCarriedImage config CarPrograms) (codes "OPEN") [] name (record { image = image_written (codes "OPEN") CarPrograms (OfScalar (plain Boolean)); is = refl; seen_by = refl; scalar = refl }) (λ (e : false ≡ true). none_of_these e))))))))
+    by_name (IsSupportedImage config CarPrograms) (codes "CARNO") (codes "POS" ∷ codes "LEVEL" ∷ codes "TOP" ∷ codes "BOTTOM" ∷ codes "LOCKED" ∷ codes "OPENED" ∷ codes "OPEN" ∷ []) name (record { image = image_read (codes "CARNO") CarPrograms (OfScalar (within (pos 1) config.cars.value)); is = refl; seen_by = refl; scalar = refl })
+    (by_name (IsSupportedImage config CarPrograms) (codes "POS") (codes "LEVEL" ∷ codes "TOP" ∷ codes "BOTTOM" ∷ codes "LOCKED" ∷ codes "OPENED" ∷ codes "OPEN" ∷ []) name (record { image = image_read (codes "POS") CarPrograms (OfScalar (within (pos 1) config.floors.value)); is = refl; seen_by = refl; scalar = refl })
+    (by_name (IsSupportedImage config CarPrograms) (codes "LEVEL") (codes "TOP" ∷ codes "BOTTOM" ∷ codes "LOCKED" ∷ codes "OPENED" ∷ codes "OPEN" ∷ []) name (record { image = signal (codes "LEVEL"); is = refl; seen_by = refl; scalar = refl })
+    (by_name (IsSupportedImage config CarPrograms) (codes "TOP") (codes "BOTTOM" ∷ codes "LOCKED" ∷ codes "OPENED" ∷ codes "OPEN" ∷ []) name (record { image = signal (codes "TOP"); is = refl; seen_by = refl; scalar = refl })
+    (by_name (IsSupportedImage config CarPrograms) (codes "BOTTOM") (codes "LOCKED" ∷ codes "OPENED" ∷ codes "OPEN" ∷ []) name (record { image = signal (codes "BOTTOM"); is = refl; seen_by = refl; scalar = refl })
+    (by_name (IsSupportedImage config CarPrograms) (codes "LOCKED") (codes "OPENED" ∷ codes "OPEN" ∷ []) name (record { image = signal (codes "LOCKED"); is = refl; seen_by = refl; scalar = refl })
+    (by_name (IsSupportedImage config CarPrograms) (codes "OPENED") (codes "OPEN" ∷ []) name (record { image = signal (codes "OPENED"); is = refl; seen_by = refl; scalar = refl })
+    (by_name (IsSupportedImage config CarPrograms) (codes "OPEN") [] name (record { image = image_written (codes "OPEN") CarPrograms (OfScalar (plain Boolean)); is = refl; seen_by = refl; scalar = refl }) (λ (e : false ≡ true). none_of_these e))))))))
 
--- the carried image names, by their audience
-carried_are : (name : Spelling) → is_one_of carried_image_names name ≡ (is_one_of shared_names name || is_one_of car_names name)
+-- the supported image names, by their audience
+supported_are : (name : Spelling) → is_one_of supported_image_names name ≡ (is_one_of shared_names name || is_one_of car_names name)
 unfolding shared_names car_names
-carried_are name = one_of-append shared_names car_names name
+supported_are name = one_of-append shared_names car_names name
 
 -- each program sees what everybody does
 all_see : (r : Option Role) → is_seen_by r Everybody ≡ true
@@ -170,7 +170,7 @@ all_see (Some CarRole) = refl
 all_see (Some GroupRole) = refl
 
 -- it sees the names that each program reads
-seen_shared : (config : Config) (unit : ProgramUnit) → IsCarriedProgram unit → (image : ImageName) → image.audience ≡ Everybody → sees config unit image ≡ true
+seen_shared : (config : Config) (unit : ProgramUnit) → IsSupportedProgram unit → (image : ImageName) → image.audience ≡ Everybody → sees config unit image ≡ true
 seen_shared config unit p image is =
     ap (λ k. is_program_kind k && is_seen_by (program_role config unit.name.name config.programs) image.audience) p.kind
     ∙ ap (is_seen_by (program_role config unit.name.name config.programs)) is
@@ -191,7 +191,7 @@ role_seen true false None among = refl
 -- what a car's program sees, it sees
 seen_of_cars : (config : Config) (unit : ProgramUnit) (task : Task) (line : ProgramLine) → IsFrame config unit task line → (image : ImageName) → image.audience ≡ CarPrograms → sees config unit image ≡ sees_image unit line
 seen_of_cars config unit task line f image is =
-    rw (f.carried.kind, f.lines, is) (role_seen (bytes_eq line.program.name unit.name.name) (bytes_eq line.task.name (codes "GROUP")) (car_number line.task.name) (λ k. int_le (pos k) config.cars.value))
+    rw (f.supported.kind, f.lines, is) (role_seen (bytes_eq line.program.name unit.name.name) (bytes_eq line.task.name (codes "GROUP")) (car_number line.task.name) (λ k. int_le (pos k) config.cars.value))
 
 -- MEANING
 
@@ -221,13 +221,13 @@ scalar_by origin (OfBlock name) e = let bad : false ≡ true = e in cc
 known_own : (config : Config) (unit : ProgramUnit) (task : Task) (line : ProgramLine) (symbols : NameMap Symbol) → IsSetting config unit task line symbols → (name : Spelling) → is_some (get symbols name) ≡ true → scalar_numbers (meaning config unit name) ≡ []
 unfolding meaning
 known_own config unit task line symbols s name there =
-    let v = some_there (own_variable unit name) (own-one_of unit s.frame.carried name ∙ sym (s.knows name) ∙ there) in
+    let v = some_there (own_variable unit name) (own-one_of unit s.frame.supported name ∙ sym (s.knows name) ∙ there) in
     let scalar = ap is_some (sym (s.means name ∙ ap (option_and_then (λ (w : Variable). symbol_by w.origin w.form)) v.1)) ∙ there in
     ap (λ o. scalar_numbers (or_else (option_map MeansVariable o) (outer_meaning config unit name (image_name config name)))) v.1 ∙ scalar_by v.0.origin v.0.form scalar
 
 -- no name of them
 own_none : (config : Config) (unit : ProgramUnit) (task : Task) (line : ProgramLine) (symbols : NameMap Symbol) → IsSetting config unit task line symbols → (name : Spelling) → is_some (get symbols name) ≡ false → own_variable unit name ≡ None
-own_none config unit task line symbols s name e = none_there (own_variable unit name) (own-one_of unit s.frame.carried name ∙ sym (s.knows name) ∙ e)
+own_none config unit task line symbols s name e = none_there (own_variable unit name) (own-one_of unit s.frame.supported name ∙ sym (s.knows name) ∙ e)
 
 -- an image name
 image_means : (config : Config) (unit : ProgramUnit) (name : Spelling) (i : ImageName) (b : Bool) → own_variable unit name ≡ None → image_name config name ≡ Some i → sees config unit i ≡ b → meaning config unit name ≡ (if b then Some (MeansVariable i.variable) else None)
@@ -239,7 +239,7 @@ image_means config unit name i b none is seen =
 known_shared : (config : Config) (unit : ProgramUnit) (task : Task) (line : ProgramLine) → IsFrame config unit task line → (name : Spelling) → own_variable unit name ≡ None → is_one_of shared_names name ≡ true → scalar_numbers (meaning config unit name) ≡ []
 known_shared config unit task line f name none is =
     let i = shared config name is in
-    ap scalar_numbers (image_means config unit name i.image true none i.is (seen_shared config unit f.carried i.image i.seen_by)) ∙ i.scalar
+    ap scalar_numbers (image_means config unit name i.image true none i.is (seen_shared config unit f.supported i.image i.seen_by)) ∙ i.scalar
 
 -- an image name of the programs of cars, where it is seen
 known_of_cars : (config : Config) (unit : ProgramUnit) (task : Task) (line : ProgramLine) → IsFrame config unit task line → (name : Spelling) → own_variable unit name ≡ None → sees_image unit line ≡ true → is_one_of car_names name ≡ true → scalar_numbers (meaning config unit name) ≡ []
@@ -264,10 +264,10 @@ known_plain config unit task line symbols s name known = by_own (is_some (get sy
     by_own false own false is_all true is_sight false is_cars e = let bad : false ≡ true = e in cc
     by_own false own false is_all false is_sight cars is_cars e = let bad : false ≡ true = e in cc
 
--- an unknown name is not carried, or means nothing
+-- an unknown name is not supported, or means nothing
 pub record IsUnknownAs (config : Config) (unit : ProgramUnit) (name : Spelling) : Type 0 where
   pub means_none : is_one_of car_names name ≡ true → meaning config unit name ≡ None
-  pub not_carried : is_one_of car_names name ≡ false → IsNotCarriedName config unit name
+  pub unsupported : is_one_of car_names name ≡ false → IsUnsupportedName config unit name
 
 -- what an unknown name is
 pub unknown_as : (config : Config) (unit : ProgramUnit) (task : Task) (line : ProgramLine) (symbols : NameMap Symbol) → IsSetting config unit task line symbols → (name : Spelling) → is_known symbols (sees_image unit line) name ≡ false → IsUnknownAs config unit name
@@ -278,7 +278,7 @@ unknown_as config unit task line symbols s name unknown = by_own (is_some (get s
     by_own false own true is_all e = let bad : true ≡ false = e in cc
     by_own false own false is_all e = record {
       means_none = λ cars. unseen_image config unit task line s.frame name none (by_sight (sees_image unit line) (ap (λ b. sees_image unit line && b) (sym cars) ∙ e)) cars;
-      not_carried = λ cars. (none, carried_are name ∙ ap (λ b. b || is_one_of car_names name) is_all ∙ cars);
+      unsupported = λ cars. (none, supported_are name ∙ ap (λ b. b || is_one_of car_names name) is_all ∙ cars);
     }
       where
         none : own_variable unit name ≡ None
@@ -288,11 +288,11 @@ unknown_as config unit task line symbols s name unknown = by_own (is_some (get s
         by_sight true h = h
         by_sight false h = refl
 
--- a name that is neither a variable's nor carried is unknown
-pub not_known : (config : Config) (unit : ProgramUnit) (task : Task) (line : ProgramLine) (symbols : NameMap Symbol) → IsSetting config unit task line symbols → (name : Spelling) → IsNotCarriedName config unit name → is_known symbols (sees_image unit line) name ≡ false
+-- a name that is neither a variable's nor supported is unknown
+pub not_known : (config : Config) (unit : ProgramUnit) (task : Task) (line : ProgramLine) (symbols : NameMap Symbol) → IsSetting config unit task line symbols → (name : Spelling) → IsUnsupportedName config unit name → is_known symbols (sees_image unit line) name ≡ false
 not_known config unit task line symbols s name (none, no_image) =
-    let both = neither (is_one_of shared_names name) (is_one_of car_names name) (sym (carried_are name) ∙ no_image) in
-    ap (λ b. b || is_one_of shared_names name || (sees_image unit line && is_one_of car_names name)) (s.knows name ∙ sym (own-one_of unit s.frame.carried name) ∙ ap is_some none)
+    let both = neither (is_one_of shared_names name) (is_one_of car_names name) (sym (supported_are name) ∙ no_image) in
+    ap (λ b. b || is_one_of shared_names name || (sees_image unit line && is_one_of car_names name)) (s.knows name ∙ sym (own-one_of unit s.frame.supported name) ∙ ap is_some none)
     ∙ ap (λ b. b || (sees_image unit line && is_one_of car_names name)) both.0
     ∙ ap (λ b. sees_image unit line && b) both.1
     ∙ and_false (sees_image unit line)

@@ -1,5 +1,5 @@
 pub mod Accepted
-pub mod Carried
+pub mod Supported
 pub mod Decisions
 pub mod Declared
 pub mod Digits

@@ -22,7 +22,7 @@ use Rattle.il_rules.specs.declared.symbol.Symbol.{Symbol}
 use Rattle.il_rules.specs.Symbols.{symbol_by}
 use Rattle.il_rules.specs.Names.{Spelling, is_one_of, car_number, AsVariable}
 use Rattle.il_rules.specs.Declarations.{subrange_numbers, initial_numbers}
-use Rattle.il_rules.specs.Subset.{IsCarriedProgram, instruction_names, reference_names}
+use Rattle.il_rules.specs.Subset.{IsSupportedProgram, instruction_names, reference_names}
 use Rattle.il_found.specs.declared.found.Found.{Found}
 use Rattle.il_found.specs.Least.{fault_of, earlier_of, IsLeast, When, Either}
 use Rattle.il_decl.specs.Predeclared.{is_predeclared_name, shared_names, car_names}
@@ -30,7 +30,7 @@ use Rattle.il_decl.specs.Predeclared.{is_predeclared_name, shared_names, car_nam
 -- the parts of a configuration of the subset
 pub record IsFrame (config : Config) (unit : ProgramUnit) (task : Task) (line : ProgramLine) : Type 0 where
   pub alone : config.units ≡ unit ∷ []
-  pub carried : IsCarriedProgram unit
+  pub supported : IsSupportedProgram unit
   pub globals : config.globals ≡ []
   pub tasks : config.tasks ≡ task ∷ []
   pub lines : config.programs ≡ line ∷ []
@@ -162,7 +162,7 @@ Misdeclared at d = Either (TypeFault d) (InitialFault d.declared.form d.initial)
 abbrev pub sees_image : ProgramUnit → ProgramLine → Bool
 sees_image unit line = not (bytes_eq line.program.name unit.name.name && bytes_eq line.task.name (codes "GROUP"))
 
--- whether a name is a variable's, or an image name that is carried and seen
+-- whether a name is a variable's, or an image name that is supported and seen
 abbrev pub is_known : NameMap Symbol → Bool → Spelling → Bool
 is_known symbols sees name = is_some (table.get symbols name) || is_one_of shared_names name || (sees && is_one_of car_names name)
 

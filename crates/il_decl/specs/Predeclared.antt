@@ -1,6 +1,15 @@
 -- The predeclared names, in the order of their tables.
-use Rattle.std.specs.Prelude.{Bool, ◌||◌, List, [], ◌∷◌, codes}
-use Rattle.il_rules.specs.Names.{Spelling, is_one_of}
+use Rattle.std.specs.Prelude.{Bool, ◌||◌, List, [], ◌∷◌, codes, bytes_eq}
+use Rattle.std.specs.List.{list_any}
+use Rattle.il_rules.specs.Names.{Spelling}
+
+-- whether a name is this one; the words stay closed unless a proof opens this
+unfoldable pub is_name : Spelling → Spelling → Bool
+is_name word name = bytes_eq word name
+
+-- whether a name is one of these
+abbrev pub is_among : List Spelling → Spelling → Bool
+is_among words name = list_any (λ word. is_name word name) words
 
 -- image names that every program or every car's program reads as one number
 unfoldable pub number_names : List Spelling
@@ -18,17 +27,17 @@ row_names = codes "CPOS" ∷ codes "CMOTOR" ∷ codes "CALLWAITS" ∷ codes "CAL
 unfoldable pub written_image_names : List Spelling
 written_image_names = codes "MOTOR" ∷ codes "OPEN" ∷ codes "SERVE" ∷ codes "ASSIGN" ∷ []
 
--- the carried image names that every program sees (own rule)
+-- the supported image names that every program sees (own rule)
 unfoldable pub shared_names : List Spelling
 shared_names = codes "CARS" ∷ codes "FLOORS" ∷ codes "SLOTS" ∷ codes "RUNLIMIT" ∷ []
 
--- the carried image names that only the programs of cars see (own rule)
+-- the supported image names that only the programs of cars see (own rule)
 unfoldable pub car_names : List Spelling
 car_names = codes "CARNO" ∷ codes "POS" ∷ codes "LEVEL" ∷ codes "TOP" ∷ codes "BOTTOM" ∷ codes "LOCKED" ∷ codes "OPENED" ∷ codes "OPEN" ∷ []
 
 -- whether a name is an image name (own rule)
 unfoldable pub is_image_name : Spelling → Bool
-is_image_name name = is_one_of number_names name || is_one_of read_image_names name || is_one_of row_names name || is_one_of written_image_names name
+is_image_name name = is_among number_names name || is_among read_image_names name || is_among row_names name || is_among written_image_names name
 
 -- conversions from SINT (2.5.1.5.1)
 unfoldable pub names_from_sint : List Spelling
@@ -60,15 +69,15 @@ uniform_function_names = codes "ABS" ∷ codes "MIN" ∷ codes "MAX" ∷ codes "
 
 -- whether a name is a conversion's from a signed type (2.5.1.5.1)
 unfoldable pub is_from_signed : Spelling → Bool
-is_from_signed name = is_one_of names_from_sint name || is_one_of names_from_int name || is_one_of names_from_dint name
+is_from_signed name = is_among names_from_sint name || is_among names_from_int name || is_among names_from_dint name
 
 -- whether a name is a conversion's from an unsigned type (2.5.1.5.1)
 unfoldable pub is_from_unsigned : Spelling → Bool
-is_from_unsigned name = is_one_of names_from_usint name || is_one_of names_from_uint name || is_one_of names_from_udint name
+is_from_unsigned name = is_among names_from_usint name || is_among names_from_uint name || is_among names_from_udint name
 
 -- whether a name is a standard function's (2.5.1.5)
 unfoldable pub is_standard_function : Spelling → Bool
-is_standard_function name = is_one_of uniform_function_names name || is_from_signed name || is_from_unsigned name
+is_standard_function name = is_among uniform_function_names name || is_from_signed name || is_from_unsigned name
 
 -- the standard blocks (2.5.2.3)
 unfoldable pub standard_block_names : List Spelling
@@ -76,4 +85,4 @@ standard_block_names = codes "SR" ∷ codes "RS" ∷ codes "R_TRIG" ∷ codes "F
 
 -- whether no text may declare a name again (own rule)
 unfoldable pub is_predeclared_name : Spelling → Bool
-is_predeclared_name name = is_image_name name || is_standard_function name || is_one_of standard_block_names name
+is_predeclared_name name = is_image_name name || is_standard_function name || is_among standard_block_names name

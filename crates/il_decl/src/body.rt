@@ -11,7 +11,7 @@ use il_rules::symbol::Symbol;
 use il_spec::tree::{Instruction, Operand, Reference, Step};
 use il_table::Table;
 
-/// 21 at the first instruction with a name that is no variable, and no image name that is carried and seen (2.4.3).
+/// 21 at the first instruction with a name that is no variable, and no image name that is supported and seen (2.4.3).
 pub fn names_fault(steps: &[Step], symbols: &Table<Symbol>, sees_image: bool) -> Option<Found>
     ensures { IsLeast result (Below (UnknownName symbols.now sees_image) steps.now (length steps.now)) }
 {
@@ -60,7 +60,7 @@ fn is_unknown(reference: &Reference, symbols: &Table<Symbol>, sees_image: bool) 
     }
 }
 
-// Whether a name is a variable's, or an image name that is carried and seen.
+// Whether a name is a variable's, or an image name that is supported and seen.
 fn is_known(name: &str, symbols: &Table<Symbol>, sees_image: bool) -> bool
     ensures { result ≡ is_known symbols.now sees_image name.now }
 {

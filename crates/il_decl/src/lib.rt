@@ -14,7 +14,8 @@ ghost use Rattle.std.specs.Prelude.{◌≡◌, IfOk, IfErr, [], ◌∷◌};
 ghost use Rattle.il_spec.specs.declared.tree.Unit.{Unit as ProgramUnit};
 ghost use Rattle.il_run.specs.NameMap as map;
 ghost use Rattle.il_rules.specs.Names.{Spelling};
-ghost use Rattle.il_rules.specs.Subset.{IsCarried, IsDeclaredYet, IsUndeclaredBy, BreaksYet};
+ghost use Rattle.il_rules.specs.Faults.{HasNoFault, IsRefusedBy};
+ghost use Rattle.il_rules.specs.Subset.{IsSupported, BreaksInSubset};
 ghost use Rattle.il_rules.specs.Symbols.{IsProgram, symbol_of};
 ghost use Rattle.il_found.specs.Least.{IsLeast};
 ghost use Rattle.il_decl.specs.Parts.{IsFrame, AreVariables, forms_in};
@@ -34,11 +35,11 @@ use std::alloc::Global;
 /// Judges the declarations of a configuration of the subset (20 to 25), and gives what each scalar name of its program means.
 /// Of the faults that are found the one at the earliest place is named, at one place the one with the lowest number.
 pub fn declare(alloc: Global, config: &Config) -> Result<Table<Symbol>, Refusal>
-    requires carried { IsCarried config.now }
-    ensures accepted { IfOk result (λ _. IsDeclaredYet config.now) }
+    requires supported { IsSupported config.now }
+    ensures accepted { IfOk result (λ _. HasNoFault (BreaksInSubset config.now)) }
     ensures program { IfOk result (λ _. (u : ProgramUnit) → config.now.units ≡ u ∷ [] → IsProgram config.now u) }
     ensures symbols { IfOk result (λ s. (u : ProgramUnit) → config.now.units ≡ u ∷ [] → (name : Spelling) → map.get s name ≡ symbol_of config.now u name) }
-    ensures refused { IfErr result (IsUndeclaredBy config.now) }
+    ensures refused { IfErr result (IsRefusedBy (BreaksInSubset config.now)) }
 {
     let Some(unit) = config.units.as_slice().first() else {
         unreachable!()
@@ -61,10 +62,10 @@ fn declare_program(
     line: &ProgramLine,
 ) -> Result<Table<Symbol>, Refusal>
     requires { IsFrame config.now unit.now task.now line.now }
-    ensures accepted { IfOk result (λ _. IsDeclaredYet config.now) }
+    ensures accepted { IfOk result (λ _. HasNoFault (BreaksInSubset config.now)) }
     ensures program { IfOk result (λ _. IsProgram config.now unit.now) }
     ensures symbols { IfOk result (λ s. (name : Spelling) → map.get s name ≡ symbol_of config.now unit.now name) }
-    ensures refused { IfErr result (IsUndeclaredBy config.now) }
+    ensures refused { IfErr result (IsRefusedBy (BreaksInSubset config.now)) }
 {
     let mut variables = own_variables(alloc, unit)?;
     if let Some(found) = declared_fault(config, unit, task, line, &variables) {
@@ -84,7 +85,7 @@ fn declared_fault(
 ) -> Option<Found>
     requires frame { IsFrame config.now unit.now task.now line.now }
     requires variables { AreVariables unit.now (forms_in unit.now.variables) variables.now.symbols variables.now.found }
-    ensures { IsLeast result (BreaksYet config.now) }
+    ensures { IsLeast result (BreaksInSubset config.now) }
 {
     let sees_image = !is_of_group(unit, line);
     let named = names_fault(unit.body.steps.as_slice(), &variables.symbols, sees_image);

@@ -1,7 +1,7 @@
 // Worked configurations with the fault of each.
 
 ghost use Rattle.std.specs.Prelude.{◌≡◌, IfOk, [], ◌∷◌};
-ghost use Rattle.il_rules.specs.Subset.{AreCarriedVariables, AreCarriedSteps, IsCarriedForm, IsCarriedInitial, IsCarriedInstruction, IsCarriedOperand, IsCarriedProgram, IsCarried};
+ghost use Rattle.il_rules.specs.Subset.{AreSupportedVariables, AreSupportedSteps, IsSupportedForm, IsSupportedInitial, IsSupportedInstruction, IsSupportedOperand, IsSupportedProgram, IsSupported};
 
 use crate::declare;
 use il_rules::symbol::Symbol;
@@ -74,7 +74,7 @@ fn scalar(elementary: Elementary, subrange: Option<Subrange>) -> Scalar
 }
 
 fn form(declared: Type) -> Form
-    ensures { IsCarriedForm result }
+    ensures { IsSupportedForm result }
 {
     match declared {
         Type::Bool => Form::Scalar(scalar(Elementary::Bool, None)),
@@ -86,7 +86,7 @@ fn form(declared: Type) -> Form
 }
 
 fn initial(start: Start) -> Option<Initial>
-    ensures { IsCarriedInitial result }
+    ensures { IsSupportedInitial result }
 {
     let literal = match start {
         Start::Nothing => return None,
@@ -106,7 +106,7 @@ fn declaration(
     declared: Type,
     start: Start,
 ) -> Result<Declaration, AllocError>
-    ensures { IfOk result (λ d. IsCarriedForm d.declared.form × IsCarriedInitial d.initial) }
+    ensures { IfOk result (λ d. IsSupportedForm d.declared.form × IsSupportedInitial d.initial) }
 {
     Ok(Declaration {
         names: one(alloc, named(alloc, line, name)?)?,
@@ -119,7 +119,7 @@ fn declaration(
 }
 
 fn variables(alloc: Global, short: Short<'_>) -> Result<Items<Declaration>, AllocError>
-    ensures { IfOk result (λ declarations. AreCarriedVariables declarations) }
+    ensures { IfOk result (λ declarations. AreSupportedVariables declarations) }
 {
     let first = declaration(alloc, 20, short.names.0, short.declared, short.start)?;
     let mut declarations = one(alloc, first)?;
@@ -128,13 +128,13 @@ fn variables(alloc: Global, short: Short<'_>) -> Result<Items<Declaration>, Allo
 }
 
 fn variable(alloc: Global, name: &str) -> Result<Reference, AllocError>
-    ensures { IfOk result (λ reference. IsCarriedOperand reference) }
+    ensures { IfOk result (λ reference. IsSupportedOperand reference) }
 {
     Ok(Reference::Variable(Name::of(alloc, name)?))
 }
 
 fn operand(alloc: Global, name: &str) -> Result<Operand, AllocError>
-    ensures { IfOk result (λ operand. IsCarriedOperand operand.reference) }
+    ensures { IfOk result (λ operand. IsSupportedOperand operand.reference) }
 {
     Ok(Operand {
         place: place(0),
@@ -143,7 +143,7 @@ fn operand(alloc: Global, name: &str) -> Result<Operand, AllocError>
 }
 
 fn load(alloc: Global, name: &str) -> Result<Instruction, AllocError>
-    ensures { IfOk result (λ instruction. IsCarriedInstruction instruction) }
+    ensures { IfOk result (λ instruction. IsSupportedInstruction instruction) }
 {
     Ok(Instruction::Load {
         negated: false,
@@ -152,7 +152,7 @@ fn load(alloc: Global, name: &str) -> Result<Instruction, AllocError>
 }
 
 fn limit(alloc: Global, name: &str) -> Result<Instruction, AllocError>
-    ensures { IfOk result (λ instruction. IsCarriedInstruction instruction) }
+    ensures { IfOk result (λ instruction. IsSupportedInstruction instruction) }
 {
     Ok(Instruction::Invoke {
         function: named(alloc, 0, "LIMIT")?,
@@ -171,7 +171,7 @@ fn step(alloc: Global, line: u32, instruction: Instruction) -> Step
 }
 
 fn steps(alloc: Global, short: Short<'_>) -> Result<Items<Step>, AllocError>
-    ensures { IfOk result (λ steps. AreCarriedSteps steps) }
+    ensures { IfOk result (λ steps. AreSupportedSteps steps) }
 {
     let first = load(alloc, short.loaded)?;
     let second = limit(alloc, short.limit)?;
@@ -181,7 +181,7 @@ fn steps(alloc: Global, short: Short<'_>) -> Result<Items<Step>, AllocError>
 }
 
 fn program(alloc: Global, short: Short<'_>) -> Result<Unit, AllocError>
-    ensures { IfOk result (λ unit. IsCarriedProgram unit) }
+    ensures { IfOk result (λ unit. IsSupportedProgram unit) }
 {
     Ok(Unit {
         place: place(10),
@@ -225,7 +225,7 @@ fn program_line(alloc: Global, task: &str) -> Result<ProgramLine, AllocError> {
 }
 
 fn configuration(alloc: Global, short: Short<'_>) -> Result<Config, AllocError>
-    ensures { IfOk result (λ config. IsCarried config) }
+    ensures { IfOk result (λ config. IsSupported config) }
 {
     Ok(Config {
         units: one(alloc, program(alloc, short)?)?,

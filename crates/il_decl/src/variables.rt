@@ -2,7 +2,7 @@
 
 ghost use Rattle.std.specs.Prelude.{◌≡◌, IfOk, OnOk};
 ghost use Rattle.il_spec.specs.declared.tree.Form.TheVariants.{Scalar as OfScalar};
-ghost use Rattle.il_rules.specs.Subset.{AreCarriedVariables, IsCarriedForm};
+ghost use Rattle.il_rules.specs.Subset.{AreSupportedVariables, IsSupportedForm};
 ghost use Rattle.il_decl.specs.Images.{writes};
 ghost use Rattle.il_decl.specs.Parts.{AreVariables, forms_in, is_taken_by, with_new};
 
@@ -24,7 +24,7 @@ pub struct Variables {
 /// The variables that a program declares. A name is taken (20) if it is predeclared, the program's, or an earlier variable's
 /// (2.4.3).
 pub fn own_variables(alloc: Global, unit: &Unit) -> Result<Variables, AllocError>
-    requires { AreCarriedVariables unit.now.variables }
+    requires { AreSupportedVariables unit.now.variables }
     ensures { IfOk result (λ v. AreVariables unit.now (forms_in unit.now.variables) v.symbols v.found) }
 {
     let mut symbols = Table::new(alloc);
@@ -45,7 +45,7 @@ pub fn own_variables(alloc: Global, unit: &Unit) -> Result<Variables, AllocError
 
 // The scalar type that a form is.
 fn scalar_of(form: &Form) -> Scalar
-    requires { IsCarriedForm form.now }
+    requires { IsSupportedForm form.now }
     ensures { form.now ≡ OfScalar result }
 {
     match form {

@@ -7,3 +7,10 @@ pub mod Instructions
 pub mod Bodies
 pub mod Units
 pub mod Configurations
+pub mod Walk
+pub mod Words
+pub mod Shown
+pub mod Members
+pub mod Spelled
+pub mod FaultPlaces
+pub mod FirstLines

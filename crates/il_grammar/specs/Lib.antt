@@ -1,1 +1,2 @@
 pub mod One
+pub mod Places

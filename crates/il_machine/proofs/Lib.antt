@@ -1,3 +1,4 @@
+pub mod Budgets
 pub mod Over
 pub mod Listings
 pub mod Steps

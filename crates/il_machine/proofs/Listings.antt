@@ -81,15 +81,15 @@ only_car among x there others =
 
 pub one_shown : (p : Program) → ShowsOne p (task_lines p)
 one_shown p r c cs name costs =
-    let t = r.carried.task in
-    let l = r.carried.line in
+    let t = r.supported.task in
+    let l = r.supported.line in
     let u = r.checked.resolved.program in
     let alone = r.checked.resolved.is.alone in
-    let found = ap (λ (ls : List ProgramLine). program_of p.config (find (λ l. bytes_eq (codes "CAR1") l.task.name) ls)) (sym r.carried.lines) ∙ r.tasked.car in
+    let found = ap (λ (ls : List ProgramLine). program_of p.config (find (λ l. bytes_eq (codes "CAR1") l.task.name) ls)) (sym r.supported.lines) ∙ r.tasked.car in
     let line = line_names l p.config u found in
     let unit = unit_named_so p.config u u l.program.name alone (line_runs l p.config u line found) in
-    ap (λ ts. filter_map (task_among ts p.config.programs (unit_lines p.config.units p.costs)) task_order) r.carried.tasks
-    ∙ ap (λ ls. filter_map (task_among (t ∷ []) ls (unit_lines p.config.units p.costs)) task_order) r.carried.lines
+    ap (λ ts. filter_map (task_among ts p.config.programs (unit_lines p.config.units p.costs)) task_order) r.supported.tasks
+    ∙ ap (λ ls. filter_map (task_among (t ∷ []) ls (unit_lines p.config.units p.costs)) task_order) r.supported.lines
     ∙ ap (λ us. filter_map (task_among (t ∷ []) (l ∷ []) (unit_lines us p.costs)) task_order) alone
     ∙ ap (λ cs. filter_map (task_among (t ∷ []) (l ∷ []) (unit_lines (u ∷ []) cs)) task_order) costs
     ∙ only_car (task_among (t ∷ []) (l ∷ []) (unit_line u c ∷ [])) (task_by t l (unit_line u c)) (is_there t l (unit_line u c) name line unit)

@@ -1,5 +1,5 @@
 -- Stores of a scan: where it starts, and what a step leaves.
-use Rattle.std.proofs.Common.{◌≡◌, ◌<◌, ◌≤◌, ℕ, ◌+◌, Bool, true, false, List, [], ◌∷◌, refl, sym, ap, ◌∙◌, cond, Some, None, Option, subst, length, slice_get, get_or, ℤ, arith}
+use Rattle.std.proofs.Common.{◌≡◌, ◌<◌, ◌≤◌, ℕ, ◌+◌, Bool, true, false, List, [], ◌∷◌, ◌++◌, refl, sym, ap, ◌∙◌, cond, Some, None, Option, subst, length, slice_get, get_or, ℤ, arith}
 use Rattle.std.proofs.lemmas.Int.{ints}
 use Rattle.std.proofs.lemmas.Option.{slice_get_read, slice_get_past, slice_get_within, get_or_from_slice_get}
 use Rattle.std.proofs.lemmas.List.Elements.{Contains-get_or}
@@ -21,12 +21,13 @@ use Rattle.il_interval.specs.Interval.{IsIn, IsWithin}
 use Rattle.il_rules.specs.Names.{or_else, Variable, own_variable, form_named, unit_named, meaning, meant_variable, outer_meaning, image_name, MeansVariable}
 use Rattle.il_rules.specs.Declarations.{declared_limits}
 use Rattle.il_rules.specs.Symbols.{IsProgram}
-use Rattle.il_rules.specs.Subset.{IsCarriedProgram, reference_names, instruction_names, IsDeclaredYet, not_carried}
-use Rattle.il_rules.proofs.Straight.{step_carried, among_units}
+use Rattle.il_rules.specs.Faults.{HasNoFault}
+use Rattle.il_rules.specs.Subset.{IsSupportedProgram, reference_names, instruction_names, unsupported, BreaksInSubset}
+use Rattle.il_rules.proofs.Straight.{step_supported, among_units}
 use Rattle.il_run.specs.declared.value.Value.{Value}
 use Rattle.il_run.specs.declared.value.Value.TheVariants.{Boolean, Integer}
 use Rattle.il_run.specs.declared.value.Content.{Content}
-use Rattle.il_run.specs.NameMap.{Text, order, get, insert, get-insert}
+use Rattle.il_run.specs.NameMap.{Text, order, get, insert, get-insert, from_entries}
 use Rattle.il_run.specs.Values.{IsOf, IsValueIn}
 use Rattle.il_run.specs.State.{Values, State}
 use Rattle.il_run.specs.Step.{Next, executed, instruction_or_return, with_unit, step_in, step}
@@ -34,6 +35,14 @@ use Rattle.il_run.specs.Annotation.{Knowledge, Annotation, IsAnnotated, IsEntry,
 use Rattle.il_table.specs.ByText.{HaveSameNames}
 use Rattle.il_table.proofs.Copies.{same_text, is_in-insert}
 use Rattle.il_opening.specs.Held.{HasOf, HoldsOwn}
+use Rattle.il_run.specs.Scan.{begins, entries_at, paths_of, opening_variables, opening_globals}
+use Rattle.il_run.specs.Meaning.{entities}
+use Rattle.lift_spec.specs.declared.image.Image.{Image}
+use Rattle.lift_spec.specs.declared.calls.Slot.{Slot}
+use Rattle.lift_spec.specs.Image.{sizes_of, opening_image}
+use Rattle.lift_spec.specs.Calls.{opening_calls}
+use Rattle.lift_spec.specs.Snapshot.{image_entries, given_entries}
+use Rattle.il_machine.specs.Opening.{shown_of, opening_start}
 use Rattle.il_machine.specs.Scanning.{HasDeclared, HasImage, KeepsUnseen, Agrees, AgreesAt, IsKnownResult, Kept, state_of, frames_at, over, IsScanState, IsScanOf}
 use Rattle.il_machine.specs.Effect.{Effect, with_some, gives, stored, put_down, effect}
 use Rattle.il_machine.proofs.Steps.{symboled, formed}
@@ -97,14 +106,14 @@ named_by c u k program state = ap (unit_named c) state.unit ∙ program.named
 
 -- a scan's instruction does what it does
 pub scan_does :
-    (c : Config) (u : Organized) (k : Kept) (at : ℕ) (s : BodyStep) → IsProgram c u → IsCarriedProgram u → IsScanState c u k → k.place ≡ Some at → slice_get u.body.steps at ≡ Some s → at < length u.body.steps
+    (c : Config) (u : Organized) (k : Kept) (at : ℕ) (s : BodyStep) → IsProgram c u → IsSupportedProgram u → IsScanState c u k → k.place ≡ Some at → slice_get u.body.steps at ≡ Some s → at < length u.body.steps
     → (a : Annotation) × IsAnnotated c u a × Does c u k.unit a at (over k.written k.variables) k.result s.instruction
-scan_does c u k at s program carried state place stands below =
+scan_does c u k at s program supported state place stands below =
     let here = state.agrees at place in
     let passes = here.is.each at here.known (before_end at (length u.body.steps) below) here.stands in (
       here.annotation,
       here.is,
-      does c u program k.unit here.annotation at (over k.written k.variables) state.declared here.known k.result here.agrees s.instruction (step_carried u.body.steps carried.steps at s stands).1
+      does c u program k.unit here.annotation at (over k.written k.variables) state.declared here.known k.result here.agrees s.instruction (step_supported u.body.steps supported.steps at s stands).1
           (subst (λ o. Passes (record { config = c; unit = u; annotation = here.annotation; place = at; known = here.known }) (instruction_or_return o)) stands passes),
     )
   where
@@ -121,11 +130,11 @@ same_effect o a b p q = cc
 
 -- one step of a store at an instruction
 pub store_goes :
-    (c : Config) (u : Organized) (k : Kept) (at : ℕ) (s : BodyStep) (after : Values) (left : Content) → IsProgram c u → IsCarriedProgram u → IsScanState c u k → k.place ≡ Some at → slice_get u.body.steps at ≡ Some s → at < length u.body.steps
+    (c : Config) (u : Organized) (k : Kept) (at : ℕ) (s : BodyStep) (after : Values) (left : Content) → IsProgram c u → IsSupportedProgram u → IsScanState c u k → k.place ≡ Some at → slice_get u.body.steps at ≡ Some s → at < length u.body.steps
     → effect c s.instruction (over k.written k.variables) k.result ≡ Some (after, left)
     → step c (state_of k) ≡ Next (at_place k.unit (Some (at + 1)) after (Some left))
-store_goes c u k at s after left program carried state place stands below is =
-    let d = scan_does c u k at s program carried state place stands below in
+store_goes c u k at s after left program supported state place stands below is =
+    let d = scan_does c u k at s program supported state place stands below in
     let same = same_effect _ _ _ d.2.effect_is is in
     ap (λ p. step c (record { values = over k.written k.variables; frames = frames_at k.unit p; result = k.result })) place
     ∙ step_goes c u k.unit d.0 at (over k.written k.variables) k.result s (named_by c u k program state) stands d.2
@@ -139,11 +148,11 @@ store_ends c u k at program state place stands =
 
 -- behind an instruction stands a store of the scan again
 pub next_state :
-    (c : Config) (u : Organized) (k : Kept) (at : ℕ) (s : BodyStep) (variables written : Values) (left : Content) → IsProgram c u → IsCarriedProgram u → IsScanState c u k → k.place ≡ Some at → slice_get u.body.steps at ≡ Some s → at < length u.body.steps
+    (c : Config) (u : Organized) (k : Kept) (at : ℕ) (s : BodyStep) (variables written : Values) (left : Content) → IsProgram c u → IsSupportedProgram u → IsScanState c u k → k.place ≡ Some at → slice_get u.body.steps at ≡ Some s → at < length u.body.steps
     → effect c s.instruction (over k.written k.variables) k.result ≡ Some (over written variables, left)
     → IsScanState c u (record { unit = k.unit; variables = variables; written = written; place = Some (at + 1); result = Some left })
-next_state c u k at s variables written left program carried state place stands below is =
-    let d = scan_does c u k at s program carried state place stands below in
+next_state c u k at s variables written left program supported state place stands below is =
+    let d = scan_does c u k at s program supported state place stands below in
     let same = same_effect _ _ _ d.2.effect_is is in
     let P : Values × Content → Type 0 = λ e. HasDeclared c u e.0 in
     let Q : Values × Content → Type 0 = λ e. Agrees d.2.next e.0 (Some e.1) in
@@ -240,11 +249,11 @@ effect_apart c (Jump condition label) values before after left q e apart = cc
 effect_apart c (Return condition) values before after left q e apart = cc
 effect_apart c (Call condition instance arguments) values before after left q e apart = cc
 
--- of an accepted program no instruction names what is not carried
-pub unseen_after : (c : Config) (u : Organized) (at : ℕ) (s : BodyStep) (values after : Values) (before : Option Content) (left : Content) → IsProgram c u → IsDeclaredYet c → slice_get u.body.steps at ≡ Some s → effect c s.instruction values before ≡ Some (after, left) → KeepsUnseen c values after
+-- of an accepted program no instruction names what is not supported
+pub unseen_after : (c : Config) (u : Organized) (at : ℕ) (s : BodyStep) (values after : Values) (before : Option Content) (left : Content) → IsProgram c u → HasNoFault (BreaksInSubset c) → slice_get u.body.steps at ≡ Some s → effect c s.instruction values before ≡ Some (after, left) → KeepsUnseen c values after
 unseen_after c u at s values after before left program declared stands is v other name own unseen =
     effect_apart c s.instruction values before after left name is (λ named.
-    declared 21 s.place (not_carried refl (u, s, name, among_units c u program.alone, contained u.body.steps at s stands, named, (own_same, unseen), refl)))
+    declared 21 s.place (unsupported refl (u, s, name, among_units c u program.alone, contained u.body.steps at s stands, named, (own_same, unseen), refl)))
   where
     own_same : own_variable u name ≡ None
     own_same = ap (λ x. own_variable x name) (same_program c u v program other) ∙ own
@@ -354,3 +363,36 @@ effect_keeps c Evaluate values before after left q e h = cc
 effect_keeps c (Jump condition label) values before after left q e h = cc
 effect_keeps c (Return condition) values before after left q e h = cc
 effect_keeps c (Call condition instance arguments) values before after left q e h = cc
+
+-- WHERE A SCAN BEGINS
+
+-- a scan of the program begins with these variables beside what it is given
+pub begins_with : (u : Organized) (unit : Text) (variables written begun : Values) (given : List (Text × Value)) → unit ≡ u.name.name → variables ≡ begun → written ≡ from_entries given
+    → state_of (record { unit = unit; variables = variables; written = written; place = Some 0; result = None }) ≡ begins u begun given
+unfolding begins
+begins_with u unit variables written begun given named own shown =
+    ap (λ n. state_of (record { unit = n; variables = variables; written = written; place = Some 0; result = None })) named
+    ∙ ap (λ m. state_of (record { unit = u.name.name; variables = m; written = written; place = Some 0; result = None })) own
+    ∙ ap (λ m. state_of (record { unit = u.name.name; variables = begun; written = m; place = Some 0; result = None })) shown
+
+-- a program of the subset lists no globals
+given_is : (c : Config) (u : Organized) (i : Image) (slots : List Slot) (globals : Values) → u.externals ≡ [] → image_entries (sizes_of c) 1 i slots ≡ given_entries c 1 u (record { image = i; slots = slots; globals = globals })
+given_is c u i slots globals none = ap (λ ds. entries_at globals (paths_of (entities ds)) ++ image_entries (sizes_of c) 1 i slots) (sym none)
+
+-- the same in the opening world
+pub opening_begins : (c : Config) (u v : Organized) (k : Kept) → u ≡ v → u.externals ≡ [] → k.unit ≡ u.name.name → k.variables ≡ opening_variables c u → k.written ≡ shown_of c (opening_image (sizes_of c)) → k.place ≡ Some 0 → k.result ≡ None
+    → state_of k ≡ opening_start c v
+unfolding begins shown_of
+opening_begins c u v k same none unit variables written place result =
+    kept_is unit variables written place result
+    ∙ ap (λ given. begins u (opening_variables c u) given) (given_is c u (opening_image (sizes_of c)) (opening_calls (sizes_of c)).slots (opening_globals c) none)
+    ∙ ap (opening_start c) same
+  where
+    kept_is : k.unit ≡ u.name.name → k.variables ≡ opening_variables c u → k.written ≡ shown_of c (opening_image (sizes_of c)) → k.place ≡ Some 0 → k.result ≡ None
+        → state_of k ≡ begins u (opening_variables c u) (image_entries (sizes_of c) 1 (opening_image (sizes_of c)) (opening_calls (sizes_of c)).slots)
+    kept_is unit variables written place result =
+        ap (λ n. state_of (record { unit = n; variables = k.variables; written = k.written; place = k.place; result = k.result })) unit
+        ∙ ap (λ m. state_of (record { unit = u.name.name; variables = m; written = k.written; place = k.place; result = k.result })) variables
+        ∙ ap (λ m. state_of (record { unit = u.name.name; variables = opening_variables c u; written = m; place = k.place; result = k.result })) written
+        ∙ ap (λ p. state_of (record { unit = u.name.name; variables = opening_variables c u; written = shown_of c (opening_image (sizes_of c)); place = p; result = k.result })) place
+        ∙ ap (λ r. state_of (record { unit = u.name.name; variables = opening_variables c u; written = shown_of c (opening_image (sizes_of c)); place = Some 0; result = r })) result

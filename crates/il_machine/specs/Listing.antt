@@ -1,5 +1,5 @@
 -- What a verified configuration shows: its tasks, and what its units cost (own rules).
-use Rattle.std.specs.Prelude.{◌≡◌, ℕ, Bool, ◌&&◌, List, [], ◌∷◌, ℤ, Option, find, option_map, option_and_then, nat_le, bytes_eq, codes, refl}
+use Rattle.std.specs.Prelude.{◌≡◌, ℕ, Bool, ◌&&◌, List, [], ◌∷◌, ℤ, Option, Some, find, option_map, option_and_then, nat_le, bytes_eq, codes, refl}
 use Rattle.std.specs.List.{filter_map}
 use Rattle.std.specs.Coded.{Coded, code_by, coded×, coded_list, coded_ℕ, coded_ℤ}
 use Rattle.il_spec.specs.declared.tree.Unit.{Unit as Organized}
@@ -9,7 +9,8 @@ use Rattle.il_machine.specs.declared.verified.UnitCost.{UnitCost}
 use Rattle.il_machine.specs.declared.verified.UnitInfo.{UnitInfo}
 use Rattle.il_machine.specs.declared.verified.TaskInfo.{TaskInfo}
 use Rattle.il_run.specs.NameMap.{Text}
-use Rattle.lift_spec.specs.Snapshot.{task_name}
+use Rattle.il_run.specs.Paths.{IsLongest}
+use Rattle.lift_spec.specs.Snapshot.{task_name, program_of}
 use Rattle.il_machine.specs.Scanning.{Program, IsRunnable}
 
 -- UNITS
@@ -105,9 +106,13 @@ car_line t l c = record { name = codes "CAR1"; interval = t.interval; priority =
 -- where the TASK line of a runnable configuration is that of CAR1 and its program has a cost, that task alone is shown (own rule)
 abbrev pub ShowsOne : Program → List TaskLine → Type 0
 ShowsOne p shown =
-    (r : IsRunnable p.config) (c : UnitCost) (cs : List UnitCost) → r.carried.task.name.name ≡ codes "CAR1" → p.costs ≡ c ∷ cs
-    → shown ≡ car_line r.carried.task r.carried.line c ∷ []
+    (r : IsRunnable p.config) (c : UnitCost) (cs : List UnitCost) → r.supported.task.name.name ≡ codes "CAR1" → p.costs ≡ c ∷ cs
+    → shown ≡ car_line r.supported.task r.supported.line c ∷ []
 
 -- what is shown of a task (own rule)
 abbrev pub task_shown : TaskInfo → TaskLine
 task_shown t = record { name = t.name.now; interval = t.interval; priority = t.priority; program = t.program.now; budget = t.budget }
+
+-- The budget that is printed of a task is the greatest cost of a control path of its program.
+abbrev pub PrintsBudgets : Program → Type 0
+PrintsBudgets p = (task : ℕ) (line : TaskLine) (u : Organized) → task_line p task ≡ Some line → program_of p.config task ≡ Some u → IsLongest p.config u line.budget

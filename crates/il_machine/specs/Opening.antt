@@ -4,11 +4,13 @@ use Rattle.il_spec.specs.declared.tree.Config.{Config}
 use Rattle.il_run.specs.declared.value.Value.{Value}
 use Rattle.il_run.specs.declared.value.Value.TheVariants.{Integer}
 use Rattle.il_run.specs.NameMap.{Text, from_entries}
-use Rattle.il_run.specs.State.{Values}
+use Rattle.il_run.specs.State.{Values, State}
+use Rattle.il_run.specs.Scan.{begins, opening_variables, opening_globals}
+use Rattle.il_spec.specs.declared.tree.Unit.{Unit as Organized}
 use Rattle.lift_spec.specs.declared.image.Image.{Image}
-use Rattle.lift_spec.specs.Image.{sizes_of}
+use Rattle.lift_spec.specs.Image.{sizes_of, opening_image}
 use Rattle.lift_spec.specs.Calls.{opening_calls}
-use Rattle.lift_spec.specs.Snapshot.{number, elements_of, image_entries}
+use Rattle.lift_spec.specs.Snapshot.{Snapshot, number, elements_of, image_entries, given_entries}
 
 -- the image as CAR1's program is given it, while no call waits
 unfoldable pub shown_of : Config → Image → Values
@@ -22,3 +24,11 @@ size_entries c =
 -- an array of the image with one value in so many elements
 abbrev pub row_entries : Text → ℕ → Value → List (Text × Value)
 row_entries name size value = elements_of name 1 (replicate size value)
+
+-- what a scan's start copies of the opening world
+abbrev pub opening_snapshot : Config → Snapshot
+opening_snapshot c = record { image = opening_image (sizes_of c); slots = (opening_calls (sizes_of c)).slots; globals = opening_globals c }
+
+-- where a scan of CAR1 begins in the opening world (2.7.2)
+abbrev pub opening_start : Config → Organized → State
+opening_start c u = begins u (opening_variables c u) (given_entries c 1 u (opening_snapshot c))

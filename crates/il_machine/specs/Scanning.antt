@@ -11,7 +11,8 @@ use Rattle.il_interval.specs.declared.Interval.{Interval}
 use Rattle.il_rules.specs.declared.symbol.Symbol.{Symbol}
 use Rattle.il_rules.specs.Names.{own_variable, is_one_of}
 use Rattle.il_rules.specs.Symbols.{IsProgram, symbol_of}
-use Rattle.il_rules.specs.Subset.{IsCarried, carried_image_names}
+use Rattle.il_rules.specs.Written.{IsWritten}
+use Rattle.il_rules.specs.Subset.{IsSupported, supported_image_names}
 use Rattle.il_verify.specs.Resolved.{IsChecked}
 use Rattle.il_machine.specs.declared.verified.UnitCost.{UnitCost}
 use Rattle.il_run.specs.declared.value.Value.TheVariants.{Integer}
@@ -19,7 +20,9 @@ use Rattle.il_run.specs.declared.value.Content.{Content}
 use Rattle.il_run.specs.NameMap.{Text, get, with_entries}
 use Rattle.il_run.specs.State.{Values, Frame, State, values_code}
 use Rattle.il_run.specs.Step.{truth, content}
-use Rattle.il_run.specs.Annotation.{Known, Flag, Ranged, Knowledge, Annotation, IsAnnotated, Annotated}
+use Rattle.il_run.specs.declared.known.Known.{Known}
+use Rattle.il_run.specs.declared.known.Known.TheVariants.{Flag, Ranged}
+use Rattle.il_run.specs.Annotation.{Knowledge, Annotation, IsAnnotated, Annotated}
 use Rattle.il_run.specs.Scan.{task_program}
 use Rattle.il_opening.specs.Held.{HasOf, HoldsOwn}
 use Rattle.il_table.specs.ByText.{HaveSameNames}
@@ -51,9 +54,10 @@ pub record IsTasked (c : Config) (u : Organized) : Type 0 where
   pub car : task_program c (codes "CAR1") ≡ Some u
   pub group : task_program c (codes "GROUP") ≡ None
 
--- a configuration that the machine runs: it is carried and checked, its program is that of its one task, and its group has one car
+-- a configuration that the machine runs: it is as a text spells it, supported and checked, its program is that of its one task, and its group has one car
 pub record IsRunnable (c : Config) : Type 0 where
-  pub carried : IsCarried c
+  pub written : IsWritten c
+  pub supported : IsSupported c
   pub checked : IsChecked c
   pub tasked : IsTasked c checked.resolved.program
   pub sizes : HasSizes c
@@ -129,7 +133,7 @@ pub record AgreesAt (c : Config) (u : Organized) (at : ℕ) (values : Values) (r
   pub annotation : Annotation
   pub is : IsAnnotated c u annotation
   pub known : Knowledge
-  pub stands : slice_get annotation at ≡ Some known
+  pub stands : slice_get annotation at ≡ Some (Some known)
   pub agrees : Agrees known values result
 
 -- A store of a scan of an annotated unit: where it stands, a value of its declared set for each name, and what an annotation knows.
@@ -154,4 +158,4 @@ OwnsDeclared c variables = (u : Organized) → IsProgram c u → HoldsOwn u vari
 
 -- a name that the program can't name so far has what it had
 abbrev pub KeepsUnseen : Config → Values → Values → Type 0
-KeepsUnseen c before after = (u : Organized) → IsProgram c u → (name : Text) → own_variable u name ≡ None → is_one_of carried_image_names name ≡ false → get after name ≡ get before name
+KeepsUnseen c before after = (u : Organized) → IsProgram c u → (name : Text) → own_variable u name ≡ None → is_one_of supported_image_names name ≡ false → get after name ≡ get before name

@@ -16,7 +16,7 @@ use Rattle.il_spec.specs.declared.tree.Instruction.TheVariants.{Load, Store, Not
 use Rattle.il_spec.specs.declared.tree.Form.{Form}
 use Rattle.il_spec.specs.declared.tree.Form.TheVariants.{Scalar as ScalarForm, Array as ArrayForm, Block as BlockForm}
 use Rattle.il_rules.specs.Names.{or_else, unit_named, image_name, standard_function, standard_block}
-use Rattle.il_rules.specs.Subset.{AreCarriedVariables, IsCarriedForm, AreCarriedSteps, IsCarriedInstruction, IsCarriedProgram}
+use Rattle.il_rules.specs.Subset.{AreSupportedVariables, IsSupportedForm, AreSupportedSteps, IsSupportedInstruction, IsSupportedProgram}
 use Rattle.il_run.specs.declared.value.Value.{Value}
 use Rattle.il_run.specs.NameMap.{Text, order, get, insert, empty, get-insert, get-empty, from_entries, same_map}
 use Rattle.il_run.specs.State.{Values}
@@ -116,24 +116,24 @@ Inner = Text → Text → List (Text × Value)
 abbrev named_as : Form → Option Literal → List Named → List Entity
 named_as form initial names = map (λ n. record { name = n.name; form = form; initial = initial }) names
 
-names_values : (inner : Inner) (rest : List Entity) (f : Form) (initial : Option Literal) (ns : List Named) → IsCarriedForm f → entity_values inner [] (named_as f initial ns ++ rest) ≡ entries (form_opening f initial) ns ++ entity_values inner [] rest
-names_values inner rest f initial [] carried = refl
-names_values inner rest (ScalarForm s) initial (n ∷ ns) carried = ap (λ l. (n.name, form_opening (ScalarForm s) initial) ∷ l) (names_values inner rest (ScalarForm s) initial ns carried)
-names_values inner rest (ArrayForm bounds element) initial (n ∷ ns) carried = absurd carried
-names_values inner rest (BlockForm block) initial (n ∷ ns) carried = absurd carried
+names_values : (inner : Inner) (rest : List Entity) (f : Form) (initial : Option Literal) (ns : List Named) → IsSupportedForm f → entity_values inner [] (named_as f initial ns ++ rest) ≡ entries (form_opening f initial) ns ++ entity_values inner [] rest
+names_values inner rest f initial [] supported = refl
+names_values inner rest (ScalarForm s) initial (n ∷ ns) supported = ap (λ l. (n.name, form_opening (ScalarForm s) initial) ∷ l) (names_values inner rest (ScalarForm s) initial ns supported)
+names_values inner rest (ArrayForm bounds element) initial (n ∷ ns) supported = absurd supported
+names_values inner rest (BlockForm block) initial (n ∷ ns) supported = absurd supported
 
-variables_values : (inner : Inner) (ds : List Declaration) → AreCarriedVariables ds → entity_values inner [] (entities ds) ≡ all_entries ds
+variables_values : (inner : Inner) (ds : List Declaration) → AreSupportedVariables ds → entity_values inner [] (entities ds) ≡ all_entries ds
 variables_values inner [] h = refl
 variables_values inner (d ∷ ds) h =
     names_values inner (entities ds) d.declared.form (option_map (λ i. i.literal) d.initial) d.names h.0 ∙ ap (λ l. entries (declared_opening d) d.names ++ l) (variables_values inner ds h.2)
 
-names_blocks : (rest : List Entity) (f : Form) (initial : Option Literal) (ns : List Named) → IsCarriedForm f → block_names (named_as f initial ns ++ rest) ≡ block_names rest
-names_blocks rest f initial [] carried = refl
-names_blocks rest (ScalarForm s) initial (n ∷ ns) carried = names_blocks rest (ScalarForm s) initial ns carried
-names_blocks rest (ArrayForm bounds element) initial (n ∷ ns) carried = absurd carried
-names_blocks rest (BlockForm block) initial (n ∷ ns) carried = absurd carried
+names_blocks : (rest : List Entity) (f : Form) (initial : Option Literal) (ns : List Named) → IsSupportedForm f → block_names (named_as f initial ns ++ rest) ≡ block_names rest
+names_blocks rest f initial [] supported = refl
+names_blocks rest (ScalarForm s) initial (n ∷ ns) supported = names_blocks rest (ScalarForm s) initial ns supported
+names_blocks rest (ArrayForm bounds element) initial (n ∷ ns) supported = absurd supported
+names_blocks rest (BlockForm block) initial (n ∷ ns) supported = absurd supported
 
-variables_blocks : (ds : List Declaration) → AreCarriedVariables ds → block_names (entities ds) ≡ []
+variables_blocks : (ds : List Declaration) → AreSupportedVariables ds → block_names (entities ds) ≡ []
 variables_blocks [] h = refl
 variables_blocks (d ∷ ds) h = names_blocks (entities ds) d.declared.form (option_map (λ i. i.literal) d.initial) d.names h.0 ∙ variables_blocks ds h.2
 
@@ -147,7 +147,7 @@ unfolding standard_function
 no_limit c = ap (λ b. if b then None else find (λ u. bytes_eq u.name.name (codes "LIMIT")) c.units) (some_or (is_some (image_name c (codes "LIMIT"))) (is_some (standard_function (codes "LIMIT"))) (is_some (standard_block (codes "LIMIT"))) refl)
 
 -- so what the instructions call is none
-one_step : (c : Config) (s : BodyStep) (ss : List BodyStep) (i : Instruction) → IsCarriedInstruction i → found_units c (invoked_names (record s { instruction = i } ∷ ss)) ≡ found_units c (invoked_names ss)
+one_step : (c : Config) (s : BodyStep) (ss : List BodyStep) (i : Instruction) → IsSupportedInstruction i → found_units c (invoked_names (record s { instruction = i } ∷ ss)) ≡ found_units c (invoked_names ss)
 one_step c s ss (Load negated operand) h = refl
 one_step c s ss (Store kind to) h = refl
 one_step c s ss Not h = refl
@@ -163,29 +163,29 @@ one_step c s ss (Invoke function operands) h =
     not_found : found_units c (codes "LIMIT" ∷ invoked_names ss) ≡ found_units c (invoked_names ss)
     not_found = rw (no_limit c) refl
 
-steps_invoke : (c : Config) (ss : List BodyStep) → AreCarriedSteps ss → found_units c (invoked_names ss) ≡ []
+steps_invoke : (c : Config) (ss : List BodyStep) → AreSupportedSteps ss → found_units c (invoked_names ss) ≡ []
 steps_invoke c [] h = refl
 steps_invoke c (s ∷ ss) h = one_step c s ss s.instruction h.1 ∙ steps_invoke c ss h.2
 
 abbrev entities_by : (inputs outputs variables : List Declaration) → List Entity
 entities_by inputs outputs variables = entities inputs ++ entities outputs ++ entities variables
 
-own_are : (u : Organized) → IsCarriedProgram u → own_entities u ≡ entities u.variables
-own_are u carried = ap (λ l. entities_by l u.outputs u.variables) carried.inputs ∙ ap (λ l. entities_by [] l u.variables) carried.outputs
+own_are : (u : Organized) → IsSupportedProgram u → own_entities u ≡ entities u.variables
+own_are u supported = ap (λ l. entities_by l u.outputs u.variables) supported.inputs ∙ ap (λ l. entities_by [] l u.variables) supported.outputs
 
-uses_none : (c : Config) (u : Organized) → IsCarriedProgram u → found_units c (used_names u) ≡ []
-uses_none c u carried =
-    ap (λ es. found_units c (block_names es ++ invoked_names u.body.steps)) (own_are u carried) ∙ ap (λ l. found_units c (l ++ invoked_names u.body.steps)) (variables_blocks u.variables carried.variables)
-    ∙ steps_invoke c u.body.steps carried.steps
+uses_none : (c : Config) (u : Organized) → IsSupportedProgram u → found_units c (used_names u) ≡ []
+uses_none c u supported =
+    ap (λ es. found_units c (block_names es ++ invoked_names u.body.steps)) (own_are u supported) ∙ ap (λ l. found_units c (l ++ invoked_names u.body.steps)) (variables_blocks u.variables supported.variables)
+    ∙ steps_invoke c u.body.steps supported.steps
 
 -- which are the program's alone, since it uses no other unit
-pub opening_entries : (c : Config) (u : Organized) → IsCarriedProgram u → from_entries (all_entries u.variables) ≡ opening_variables c u
+pub opening_entries : (c : Config) (u : Organized) → IsSupportedProgram u → from_entries (all_entries u.variables) ≡ opening_variables c u
 unfolding opening_variables
-opening_entries c u carried =
+opening_entries c u supported =
     let inner : Inner = instance_values depth c in
     ap from_entries (sym (append-nil (all_entries u.variables)))
-    ∙ ap (λ l. from_entries (l ++ [])) (sym (variables_values inner u.variables carried.variables) ∙ ap (λ es. entity_values inner [] es) (sym (own_are u carried)))
-    ∙ ap (λ us. from_entries (entity_values inner [] (own_entities u) ++ function_values c (flat_map (λ v. v ∷ used_units 15 c v) us))) (sym (uses_none c u carried))
+    ∙ ap (λ l. from_entries (l ++ [])) (sym (variables_values inner u.variables supported.variables) ∙ ap (λ es. entity_values inner [] es) (sym (own_are u supported)))
+    ∙ ap (λ us. from_entries (entity_values inner [] (own_entities u) ++ function_values c (flat_map (λ v. v ∷ used_units 15 c v) us))) (sym (uses_none c u supported))
 
-pub opening_variables_are : (c : Config) (u : Organized) → IsCarriedProgram u → with_variables empty u.variables ≡ opening_variables c u
-opening_variables_are c u carried = same_entries u.variables ∙ opening_entries c u carried
+pub opening_variables_are : (c : Config) (u : Organized) → IsSupportedProgram u → with_variables empty u.variables ≡ opening_variables c u
+opening_variables_are c u supported = same_entries u.variables ∙ opening_entries c u supported

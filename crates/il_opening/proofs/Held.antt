@@ -22,9 +22,9 @@ use Rattle.il_spec.specs.declared.tree.Elementary.{Elementary}
 use Rattle.il_spec.specs.declared.tree.Elementary.TheVariants.{Bool as BoolType, Sint, Int, Dint, Usint, Uint, Udint, Time}
 use Rattle.il_rules.specs.Names.{AsInput, AsOutput, AsVariable, AsExternal, Variable, variables_of, result_of, with_origin, named_forms}
 use Rattle.il_rules.specs.Declarations.{has_value, is_within, unless, Admitted, AllForms, ScalarsAlone, ScalarsAndArrays, types_in, unit_types, written_types, type_numbers, subrange_numbers, admitted_variables, result_types, unit_declarations, all_declarations, initial_numbers}
-use Rattle.il_rules.specs.Faults.{empty_range, initial_outside as broken_initial, other_type}
+use Rattle.il_rules.specs.Faults.{empty_range, initial_outside as broken_initial, other_type, HasNoFault}
 use Rattle.il_rules.specs.Declarations.{initial_outside, initial_of_other_type}
-use Rattle.il_rules.specs.Subset.{broken, IsDeclaredYet, AreCarriedVariables, IsCarriedForm, IsCarriedScalar, IsCarriedInitial, IsCarriedLiteral, IsCarriedProgram}
+use Rattle.il_rules.specs.Subset.{broken, AreSupportedVariables, IsSupportedForm, IsSupportedScalar, IsSupportedInitial, IsSupportedLiteral, IsSupportedProgram, BreaksInSubset}
 use Rattle.il_rules.specs.Symbols.{IsProgram}
 use Rattle.il_run.specs.declared.value.Value.{Value}
 use Rattle.il_run.specs.declared.value.Value.TheVariants.{Integer}
@@ -60,7 +60,7 @@ within_is : (s : Subrange) (z : ℤ) → is_within s z ≡ true → (s.lower ≤
 within_is s z e = (le_is _ _ (left_true _ _ e), le_is _ _ (right_true _ _ e))
 
 -- without an initial value
-default_of : (e : Elementary) (o : Option Subrange) → IsCarriedScalar e o → ¬ Contains (subrange_numbers e o) 22 → IsOf (record { elementary = e; subrange = o }) (initial_value (record { elementary = e; subrange = o }) None)
+default_of : (e : Elementary) (o : Option Subrange) → IsSupportedScalar e o → ¬ Contains (subrange_numbers e o) 22 → IsOf (record { elementary = e; subrange = o }) (initial_value (record { elementary = e; subrange = o }) None)
 default_of BoolType None k h = tt
 default_of Int None k h = (omega (arith, ints), omega (arith, ints))
 default_of Int (Some s) k h =
@@ -69,15 +69,15 @@ default_of Int (Some s) k h =
 default_of _ _ k h = absurd k
 
 -- BOOL has no number
-whole_boolean : (w : Elementary) (z : ℤ) → IsCarriedLiteral (Whole w z) → ¬ Contains (initial_numbers (ScalarForm (record { elementary = BoolType; subrange = None })) (Whole w z)) 25 → ⊥
-whole_boolean BoolType z carried other = carried
-whole_boolean Sint z carried other = other (0, omega arith, refl)
-whole_boolean Int z carried other = other (0, omega arith, refl)
-whole_boolean Dint z carried other = other (0, omega arith, refl)
-whole_boolean Usint z carried other = other (0, omega arith, refl)
-whole_boolean Uint z carried other = other (0, omega arith, refl)
-whole_boolean Udint z carried other = other (0, omega arith, refl)
-whole_boolean Time z carried other = other (0, omega arith, refl)
+whole_boolean : (w : Elementary) (z : ℤ) → IsSupportedLiteral (Whole w z) → ¬ Contains (initial_numbers (ScalarForm (record { elementary = BoolType; subrange = None })) (Whole w z)) 25 → ⊥
+whole_boolean BoolType z supported other = supported
+whole_boolean Sint z supported other = other (0, omega arith, refl)
+whole_boolean Int z supported other = other (0, omega arith, refl)
+whole_boolean Dint z supported other = other (0, omega arith, refl)
+whole_boolean Usint z supported other = other (0, omega arith, refl)
+whole_boolean Uint z supported other = other (0, omega arith, refl)
+whole_boolean Udint z supported other = other (0, omega arith, refl)
+whole_boolean Time z supported other = other (0, omega arith, refl)
 
 -- a number with its type written before it is INT's
 whole_int : (o : Option Subrange) (w : Elementary) (z : ℤ) → ¬ Contains (initial_numbers (ScalarForm (record { elementary = Int; subrange = o })) (Whole w z)) 25 → ¬ Contains (initial_numbers (ScalarForm (record { elementary = Int; subrange = o })) (Whole w z)) 23
@@ -93,20 +93,20 @@ whole_int o Udint z other outside = absurd (other (0, omega arith, refl))
 whole_int o Time z other outside = absurd (other (0, omega arith, refl))
 
 -- with one
-literal_of : (e : Elementary) (o : Option Subrange) → IsCarriedScalar e o → (l : Literal) → IsCarriedLiteral l → ¬ Contains (initial_numbers (ScalarForm (record { elementary = e; subrange = o })) l) 25 → ¬ Contains (initial_numbers (ScalarForm (record { elementary = e; subrange = o })) l) 23
+literal_of : (e : Elementary) (o : Option Subrange) → IsSupportedScalar e o → (l : Literal) → IsSupportedLiteral l → ¬ Contains (initial_numbers (ScalarForm (record { elementary = e; subrange = o })) l) 25 → ¬ Contains (initial_numbers (ScalarForm (record { elementary = e; subrange = o })) l) 23
     → IsOf (record { elementary = e; subrange = o }) (literal_value l)
-literal_of BoolType None k (Truth b) carried other outside = tt
-literal_of BoolType None k (Bare z) carried other outside = absurd (other (0, omega arith, refl))
-literal_of BoolType None k (Whole w z) carried other outside = whole_boolean w z carried other
-literal_of Int o k (Truth b) carried other outside = absurd (other (0, omega arith, refl))
-literal_of Int None k (Bare z) carried other outside = within_is _ z (holds _ 23 outside)
-literal_of Int (Some s) k (Bare z) carried other outside = within_is s z (holds _ 23 outside)
-literal_of Int o k (Whole w z) carried other outside = whole_int o w z other outside
-literal_of e o k (Duration z) carried other outside = absurd carried
-literal_of _ _ k l carried other outside = absurd k
+literal_of BoolType None k (Truth b) supported other outside = tt
+literal_of BoolType None k (Bare z) supported other outside = absurd (other (0, omega arith, refl))
+literal_of BoolType None k (Whole w z) supported other outside = whole_boolean w z supported other
+literal_of Int o k (Truth b) supported other outside = absurd (other (0, omega arith, refl))
+literal_of Int None k (Bare z) supported other outside = within_is _ z (holds _ 23 outside)
+literal_of Int (Some s) k (Bare z) supported other outside = within_is s z (holds _ 23 outside)
+literal_of Int o k (Whole w z) supported other outside = whole_int o w z other outside
+literal_of e o k (Duration z) supported other outside = absurd supported
+literal_of _ _ k l supported other outside = absurd k
 
 -- a declaration's opening value is of its type
-opening_of : (c : Config) (f : Form) (o : Option Initial) → IsCarriedForm f → IsCarriedInitial o → ¬ Contains (type_numbers c AllForms f) 22 → ((i : Initial) → o ≡ Some i → ¬ Contains (initial_numbers f i.literal) 25 × ¬ Contains (initial_numbers f i.literal) 23)
+opening_of : (c : Config) (f : Form) (o : Option Initial) → IsSupportedForm f → IsSupportedInitial o → ¬ Contains (type_numbers c AllForms f) 22 → ((i : Initial) → o ≡ Some i → ¬ Contains (initial_numbers f i.literal) 25 × ¬ Contains (initial_numbers f i.literal) 23)
     → (s : Scalar) → f ≡ ScalarForm s → IsOf s (form_opening f (option_map (λ i. i.literal) o))
 unfolding type_numbers
 opening_of c (ScalarForm x) None k initial empty_not outside s is = let same : x ≡ s = cc in subst (λ y. IsOf y (initial_value x None)) same (default_of x.elementary x.subrange k empty_not)
@@ -138,21 +138,21 @@ in_all c u alone d among =
     Contains-append_left (flat_map unit_declarations c.units) _ d (subst (λ us. Contains (flat_map unit_declarations us) d) (sym alone) (Contains-append_left (unit_declarations u) [] d
     (Contains-append_left ((u.inputs ++ u.outputs) ++ u.variables) u.externals d (Contains-append_right (u.inputs ++ u.outputs) u.variables d among))))
 
--- each declaration is carried
-both_carried : (ds : List Declaration) → AreCarriedVariables ds → (d : Declaration) → Contains ds d → IsCarriedForm d.declared.form × IsCarriedInitial d.initial
-both_carried [] k d (n, low, e) = absurd (omega arith)
-both_carried (x ∷ ds) k d (zero, low, e) = subst (λ (y : Declaration). IsCarriedForm y.declared.form × IsCarriedInitial y.initial) e (k.0, k.1)
-both_carried (x ∷ ds) k d (suc n, low, e) = both_carried ds k.2 d (n, omega arith, e)
+-- each declaration is supported
+both_supported : (ds : List Declaration) → AreSupportedVariables ds → (d : Declaration) → Contains ds d → IsSupportedForm d.declared.form × IsSupportedInitial d.initial
+both_supported [] k d (n, low, e) = absurd (omega arith)
+both_supported (x ∷ ds) k d (zero, low, e) = subst (λ (y : Declaration). IsSupportedForm y.declared.form × IsSupportedInitial y.initial) e (k.0, k.1)
+both_supported (x ∷ ds) k d (suc n, low, e) = both_supported ds k.2 d (n, omega arith, e)
 
 -- a declaration whose opening value is of its type
 abbrev Opens : Declaration → Type 0
 Opens d = (s : Scalar) → d.declared.form ≡ ScalarForm s → IsOf s (declared_opening d)
 
-opens : (c : Config) (u : Organized) → IsProgram c u → IsCarriedProgram u → IsDeclaredYet c → (d : Declaration) → Contains u.variables d → Opens d
-opens c u program carried declared d among =
-    let k = both_carried u.variables carried.variables d among in
+opens : (c : Config) (u : Organized) → IsProgram c u → IsSupportedProgram u → HasNoFault (BreaksInSubset c) → (d : Declaration) → Contains u.variables d → Opens d
+opens c u program supported declared d among =
+    let k = both_supported u.variables supported.variables d among in
     opening_of c d.declared.form d.initial k.0 k.1
-    (λ h. declared 22 d.declared.place (broken (empty_range refl ((AllForms, d.declared), in_units c u program.alone (AllForms, d.declared) (in_unit u carried.kind d among), h, refl))))
+    (λ h. declared 22 d.declared.place (broken (empty_range refl ((AllForms, d.declared), in_units c u program.alone (AllForms, d.declared) (in_unit u supported.kind d among), h, refl))))
     (λ i is. (
       λ h. declared 25 i.place (broken (other_type refl (initial_of_other_type (d, i, in_all c u program.alone d among, is, h, refl)))),
       λ h. declared 23 i.place (broken (broken_initial refl (initial_outside (d, i, in_all c u program.alone d among, is, h, refl)))),
@@ -212,20 +212,20 @@ some_lists q (d ∷ ds) = some_names q d.declared.form (declared_opening d) d.na
 abbrev variables_by : UnitKind → Text → List Declaration → List Declaration → List Declaration → List Declaration → List Variable
 variables_by kind name ins outs vars exts = result_of kind name ++ with_origin AsInput ins ++ with_origin AsOutput outs ++ with_origin AsVariable vars ++ with_origin AsExternal exts
 
--- a carried program has its VAR list alone
-pub own_variables : (u : Organized) → IsCarriedProgram u → variables_of u ≡ map as_variable (named_forms u.variables)
-own_variables u carried =
-    ap (λ k. variables_by k u.name.name u.inputs u.outputs u.variables u.externals) carried.kind
-    ∙ ap (λ x. variables_by Program u.name.name x u.outputs u.variables u.externals) carried.inputs
-    ∙ ap (λ x. variables_by Program u.name.name [] x u.variables u.externals) carried.outputs
-    ∙ ap (λ x. variables_by Program u.name.name [] [] u.variables x) carried.externals
+-- a supported program has its VAR list alone
+pub own_variables : (u : Organized) → IsSupportedProgram u → variables_of u ≡ map as_variable (named_forms u.variables)
+own_variables u supported =
+    ap (λ k. variables_by k u.name.name u.inputs u.outputs u.variables u.externals) supported.kind
+    ∙ ap (λ x. variables_by Program u.name.name x u.outputs u.variables u.externals) supported.inputs
+    ∙ ap (λ x. variables_by Program u.name.name [] x u.variables u.externals) supported.outputs
+    ∙ ap (λ x. variables_by Program u.name.name [] [] u.variables x) supported.externals
     ∙ append-nil (with_origin AsVariable u.variables)
 
 -- the variables of the opening world are the program's, each with a value of its declared set
-pub opening_holds : (c : Config) (u : Organized) → IsProgram c u → IsCarriedProgram u → IsDeclaredYet c → HoldsOwn u (opening_variables c u)
-opening_holds c u program carried declared = record {
-  paths = λ q. ap (λ m. is_some (get m q)) (sym (opening_entries c u carried)) ∙ some_lists q u.variables ∙ ap (λ vs. is_some (find (λ v. bytes_eq v.name q) vs)) (sym (own_variables u carried));
+pub opening_holds : (c : Config) (u : Organized) → IsProgram c u → IsSupportedProgram u → HasNoFault (BreaksInSubset c) → HoldsOwn u (opening_variables c u)
+opening_holds c u program supported declared = record {
+  paths = λ q. ap (λ m. is_some (get m q)) (sym (opening_entries c u supported)) ∙ some_lists q u.variables ∙ ap (λ vs. is_some (find (λ v. bytes_eq v.name q) vs)) (sym (own_variables u supported));
   each = λ q v s is form.
-      let there = first_lists q u.variables (all_open u.variables (opens c u program carried declared)) v s (ap (find (λ v. bytes_eq v.name q)) (sym (own_variables u carried)) ∙ is) form in
-      (there.0, ap (λ m. get m q) (sym (opening_entries c u carried)) ∙ there.1, there.2);
+      let there = first_lists q u.variables (all_open u.variables (opens c u program supported declared)) v s (ap (find (λ v. bytes_eq v.name q)) (sym (own_variables u supported)) ∙ is) form in
+      (there.0, ap (λ m. get m q) (sym (opening_entries c u supported)) ∙ there.1, there.2);
 }

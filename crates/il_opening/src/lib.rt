@@ -5,7 +5,8 @@ ghost use Rattle.std.specs.Prelude.{◌≡◌, IfOk, OnOk};
 ghost use Rattle.il_spec.specs.declared.tree.Config.{Config};
 ghost use Rattle.il_spec.specs.declared.tree.Unit.{Unit as ProgramUnit};
 ghost use Rattle.il_rules.specs.Symbols.{IsProgram};
-ghost use Rattle.il_rules.specs.Subset.{IsCarriedProgram, IsDeclaredYet};
+ghost use Rattle.il_rules.specs.Faults.{HasNoFault};
+ghost use Rattle.il_rules.specs.Subset.{IsSupportedProgram, BreaksInSubset};
 ghost use Rattle.il_run.specs.Scan.{opening_variables};
 ghost use Rattle.il_run.specs.NameMap as map;
 ghost use Rattle.il_opening.specs.Opening.{literal_opening, scalar_opening, declared_opening, with_names, with_variables};
@@ -19,7 +20,7 @@ use std::alloc::{AllocError, Global};
 /// The variables of a program with their initial values; one without has FALSE, 0 or the lower limit of its subrange
 /// (IEC 61131-3:2003, 2.4.3.2; the lower limit is an own rule).
 pub fn opening_variables(alloc: Global, unit: &Unit) -> Result<Table<Value>, AllocError>
-    requires { IsCarriedProgram unit.now }
+    requires { IsSupportedProgram unit.now }
     ensures { IfOk result (λ v. (c : Config) → v ≡ opening_variables c unit.now) }
 {
     opening_values(alloc, unit.variables.as_slice())
@@ -27,7 +28,7 @@ pub fn opening_variables(alloc: Global, unit: &Unit) -> Result<Table<Value>, All
 
 /// A law: where no rule of declarations is broken, each variable of the program has an opening value of its declared set.
 pub fn opening_values_are_declared()
-    ensures { (c : Config) (u : ProgramUnit) → IsProgram c u → IsCarriedProgram u → IsDeclaredYet c → HoldsOwn u (opening_variables c u) }
+    ensures { (c : Config) (u : ProgramUnit) → IsProgram c u → IsSupportedProgram u → HasNoFault (BreaksInSubset c) → HoldsOwn u (opening_variables c u) }
 {}
 
 // The opening values of declarations.

@@ -27,11 +27,11 @@ use Rattle.il_spec.specs.declared.tree.UnitKind.TheVariants as unit
 use Rattle.il_spec.specs.Text.{name_of}
 use Rattle.il_spec.specs.Words.{keyword_of}
 use Rattle.il_spec.specs.Grammar.{Front, Gap, skip_line_ends, is_line_end, loose, One, AfterLines, No, At, Repeats, Listed, TheSign, ATyped, AWord, AName, TheWord, TheName, SomeName, TheText, ADecimal, SpellsSize, SpellsTask, SpellsProgramLine, ALiteral, SpellsSubrange, SpellsType, SpellsInitial, SpellsDeclaration, SpellsOptionalList, SpellsExternals}
-use Rattle.il_rules.specs.Subset.{IsCarriedLiteral, IsCarriedScalar, IsCarriedForm, IsCarriedInitial, AreCarriedVariables}
+use Rattle.il_rules.specs.Subset.{IsSupportedLiteral, IsSupportedScalar, IsSupportedForm, IsSupportedInitial, AreSupportedVariables}
 use Rattle.il_parse.specs.Reading.{◌>>=◌, place_of, is_word_kind, is_reserved, first_at, comes, no_comma, many_at, listed_at, word_at, placed_word_at, absent_at, name_at, named_at, next_name_at, names_at, limits_at, subrange_at, written, type_at, assigned_at, initial_at, declaration_at, variables_at, externals_at, size_at, interval_at, priority_at, task_at, program_line_at}
 use Rattle.il_parse.proofs.Leaves.{bytes_same, word_again, as_word, placed_again, absent_again, comes_again, signs_apart, sign_stands, sign_missing, sign_again, number_again, duration_again, decimal_again, name_free}
 use Rattle.il_parse.proofs.Keys.{IsSpelled, key_int, key_interval, key_priority, key_task, key_with, key_program, key_bool, key_var, key_end_var, key_external}
-use Rattle.il_parse.proofs.Parts.{IsCarriedDeclaration, each_declaration}
+use Rattle.il_parse.proofs.Parts.{IsSupportedDeclaration, each_declaration}
 use Rattle.il_parse.proofs.Literals.{placed_literal_again}
 
 -- a test that passes is true
@@ -400,41 +400,41 @@ module _ (text : List ℕ) (ascii : IsAscii text) where
   unplaced p k [] rest h = absurd h
   unplaced p k (t ∷ ts) rest h = h.2
 
-  -- a carried scalar type that is spelled is read
-  scalar_again : (ts : List Token) (p : Place) (e : Elementary) (s : Option Subrange) (rest : List Token) → SpellsType text (written p e s) (skip_line_ends ts) rest → IsCarriedScalar e s → type_at text ts ≡ Some (written p e s, rest)
+  -- a supported scalar type that is spelled is read
+  scalar_again : (ts : List Token) (p : Place) (e : Elementary) (s : Option Subrange) (rest : List Token) → SpellsType text (written p e s) (skip_line_ends ts) rest → IsSupportedScalar e s → type_at text ts ≡ Some (written p e s, rest)
   unfolding type_at
-  scalar_again ts p elementary.Bool None rest h carried =
+  scalar_again ts p elementary.Bool None rest h supported =
       let parts = type_parts p elementary.Bool None (skip_line_ends ts) rest h in
       rw (comes_again text (word.Elementary elementary.Bool) (codes "BOOL") key_bool.only ts parts.behind (unplaced p (word.Elementary elementary.Bool) _ _ parts.placed), placed_key_again key_bool ts p parts.behind parts.placed)
       (ap (λ (r : List Token). Some (written p elementary.Bool None, r)) parts.limited.0)
-  scalar_again ts p elementary.Bool (Some s) rest h carried = absurd carried
-  scalar_again ts p elementary.Int s rest h carried =
+  scalar_again ts p elementary.Bool (Some s) rest h supported = absurd supported
+  scalar_again ts p elementary.Int s rest h supported =
       let parts = type_parts p elementary.Int s (skip_line_ends ts) rest h in
       rw (
         absent_again text (word.Elementary elementary.Bool) (codes "BOOL") key_bool.there ts ts (refl, no_bool p (skip_line_ends ts) parts.behind parts.placed),
         placed_key_again key_int ts p parts.behind parts.placed,
         subrange_again parts.behind s rest parts.limited,
       ) refl
-  scalar_again ts p elementary.Sint s rest h carried = absurd carried
-  scalar_again ts p elementary.Dint s rest h carried = absurd carried
-  scalar_again ts p elementary.Usint s rest h carried = absurd carried
-  scalar_again ts p elementary.Uint s rest h carried = absurd carried
-  scalar_again ts p elementary.Udint s rest h carried = absurd carried
-  scalar_again ts p elementary.Time s rest h carried = absurd carried
+  scalar_again ts p elementary.Sint s rest h supported = absurd supported
+  scalar_again ts p elementary.Dint s rest h supported = absurd supported
+  scalar_again ts p elementary.Usint s rest h supported = absurd supported
+  scalar_again ts p elementary.Uint s rest h supported = absurd supported
+  scalar_again ts p elementary.Udint s rest h supported = absurd supported
+  scalar_again ts p elementary.Time s rest h supported = absurd supported
 
   -- a type, as it is read again
   record RereadsType (d : WrittenType) (ts rest : List Token) : Type 0 where
     shorter : length rest < length ts
     reads : type_at text ts ≡ Some (d, rest)
 
-  -- a carried type that is spelled is read
-  type_again : (ts : List Token) (p : Place) (f : TypeForm) (rest : List Token) → SpellsType text (record { place = p; form = f }) (skip_line_ends ts) rest → IsCarriedForm f → RereadsType (record { place = p; form = f }) ts rest
-  type_again ts p (form.Scalar s) rest h carried =
+  -- a supported type that is spelled is read
+  type_again : (ts : List Token) (p : Place) (f : TypeForm) (rest : List Token) → SpellsType text (record { place = p; form = f }) (skip_line_ends ts) rest → IsSupportedForm f → RereadsType (record { place = p; form = f }) ts rest
+  type_again ts p (form.Scalar s) rest h supported =
       let s1 = skip_shorter ts in
       let s2 = type_shorter p s.elementary s.subrange (skip_line_ends ts) rest h in
-      record { shorter = omega arith; reads = scalar_again ts p s.elementary s.subrange rest h carried }
-  type_again ts p (form.Array b e) rest h carried = absurd carried
-  type_again ts p (form.Block n) rest h carried = absurd carried
+      record { shorter = omega arith; reads = scalar_again ts p s.elementary s.subrange rest h supported }
+  type_again ts p (form.Array b e) rest h supported = absurd supported
+  type_again ts p (form.Block n) rest h supported = absurd supported
 
   -- a literal takes a token
   pub literal_shorter : (l : Literal) (us rest : List Token) → ALiteral text l us rest → length rest < length us
@@ -444,26 +444,26 @@ module _ (text : List ℕ) (ascii : IsAscii text) where
   literal_shorter (literal.Time v) us rest h = one_shorter _ us rest h
 
   -- `:=` and a literal that are spelled are read
-  assigned_again : (ts m : List Token) (i : Initial) (rest : List Token) → TheSign Assign (skip_line_ends ts) m → At i.place (ALiteral text i.literal) (skip_line_ends m) rest → IsCarriedLiteral i.literal → assigned_at text ts ≡ Some (i, rest)
+  assigned_again : (ts m : List Token) (i : Initial) (rest : List Token) → TheSign Assign (skip_line_ends ts) m → At i.place (ALiteral text i.literal) (skip_line_ends m) rest → IsSupportedLiteral i.literal → assigned_at text ts ≡ Some (i, rest)
   unfolding assigned_at
-  assigned_again ts m i rest sign value carried = rw (sign_again Assign ts m sign) (placed_literal_again text (skip_line_ends m) i rest value carried)
+  assigned_again ts m i rest sign value supported = rw (sign_again Assign ts m sign) (placed_literal_again text (skip_line_ends m) i rest value supported)
 
   -- an initial value, as it is read again
   record RereadsInitial (i : Option Initial) (ts rest : List Token) : Type 0 where
     shorter : length rest < length ts
     reads : initial_at text ts ≡ Some (i, rest)
 
-  -- a carried initial value that is spelled is read
-  initial_again : (ts : List Token) (i : Option Initial) (rest : List Token) → SpellsInitial text i (skip_line_ends ts) rest → IsCarriedInitial i → RereadsInitial i ts rest
+  -- a supported initial value that is spelled is read
+  initial_again : (ts : List Token) (i : Option Initial) (rest : List Token) → SpellsInitial text i (skip_line_ends ts) rest → IsSupportedInitial i → RereadsInitial i ts rest
   unfolding initial_at
-  initial_again ts None rest h carried =
+  initial_again ts None rest h supported =
       let s1 = skip_shorter ts in
       let s2 = one_shorter _ _ _ h in
       record {
         shorter = omega arith;
         reads = rw (sign_missing Assign ts (signs_apart Semicolon Assign (λ bad. cc) (skip_line_ends ts) rest h), sign_again Semicolon ts rest h) refl;
       }
-  initial_again ts (Some i) rest h carried =
+  initial_again ts (Some i) rest h supported =
       let h1 = h.2 in
       let s1 = skip_shorter ts in
       let s2 = one_shorter _ _ _ h.1 in
@@ -473,7 +473,7 @@ module _ (text : List ℕ) (ascii : IsAscii text) where
       let s6 = one_shorter _ _ _ h1.2 in
       record {
         shorter = omega arith;
-        reads = rw (sign_stands Assign ts h.0 h.1, assigned_again ts h.0 i h1.0 h.1 h1.1 carried, sign_again Semicolon h1.0 rest h1.2) refl;
+        reads = rw (sign_stands Assign ts h.0 h.1, assigned_again ts h.0 i h1.0 h.1 h1.1 supported, sign_again Semicolon h1.0 rest h1.2) refl;
       }
 
   -- a declaration, as it is read again
@@ -484,13 +484,13 @@ module _ (text : List ℕ) (ascii : IsAscii text) where
     shorter : length rest < length ts
     reads : declaration_at text ts ≡ Some (d, rest)
 
-  -- a carried declaration that is spelled is read
-  declaration_again : (ts : List Token) (d : Declaration) (rest : List Token) → SpellsDeclaration text d (skip_line_ends ts) rest → IsCarriedDeclaration d → RereadsDeclaration d ts rest
+  -- a supported declaration that is spelled is read
+  declaration_again : (ts : List Token) (d : Declaration) (rest : List Token) → SpellsDeclaration text d (skip_line_ends ts) rest → IsSupportedDeclaration d → RereadsDeclaration d ts rest
   unfolding declaration_at
-  declaration_again ts d rest h carried =
+  declaration_again ts d rest h supported =
       let names = names_again d.names ts h.0 h.1 in
-      let typed = type_again h.0 d.declared.place d.declared.form h.2.0 h.2.1 carried.0 in
-      let value = initial_again h.2.0 d.initial rest h.2.2 carried.1 in
+      let typed = type_again h.0 d.declared.place d.declared.form h.2.0 h.2.1 supported.0 in
+      let value = initial_again h.2.0 d.initial rest h.2.2 supported.1 in
       let s1 = names.shorter in
       let s2 = typed.shorter in
       let s3 = value.shorter in
@@ -508,16 +508,16 @@ module _ (text : List ℕ) (ascii : IsAscii text) where
   name_no_word k n (t ∷ ts) rest h other w = let bad = sym (ap keyword_of h.2.0.1 ∙ h.2.0.2) ∙ w.0.1 in cc
 
   -- the list of variables
-  pub variables_again : (ts : List Token) (ds : List Declaration) (rest : List Token) → SpellsOptionalList text word.Var (SpellsDeclaration text) ds ts rest → AreCarriedVariables ds → variables_at text ts ≡ Some (ds, rest)
+  pub variables_again : (ts : List Token) (ds : List Declaration) (rest : List Token) → SpellsOptionalList text word.Var (SpellsDeclaration text) ds ts rest → AreSupportedVariables ds → variables_at text ts ≡ Some (ds, rest)
   unfolding variables_at
   variables_again ts ds rest (inl h) all =
       let each = each_declaration ds all in
-      let r = many_again (SpellsDeclaration text) IsCarriedDeclaration (TheWord text word.EndVar) (comes text (codes "END_VAR")) (declaration_at text)
+      let r = many_again (SpellsDeclaration text) IsSupportedDeclaration (TheWord text word.EndVar) (comes text (codes "END_VAR")) (declaration_at text)
       (λ us d r s c. (declaration_again us d r s c).reads)
       (λ us d r s c. let x = declaration_again us d r s c in absent_again text word.EndVar (codes "END_VAR") key_end_var.there us us (refl, name_no_word word.EndVar x.first (skip_line_ends us) x.behind x.named))
       (λ us r w. comes_again text word.EndVar (codes "END_VAR") key_end_var.only us r w)
       ds h.0 rest h.2 each in
-      let few = repeats_length (SpellsDeclaration text) IsCarriedDeclaration (TheWord text word.EndVar) (λ us d r s c. (declaration_again us d r s c).shorter) ds h.0 rest h.2 each in
+      let few = repeats_length (SpellsDeclaration text) IsSupportedDeclaration (TheWord text word.EndVar) (λ us d r s c. (declaration_again us d r s c).shorter) ds h.0 rest h.2 each in
       rw (comes_again text word.Var (codes "VAR") key_var.only ts h.0 h.1, keyword_again key_var ts h.0 h.1, r.reads (suc (length h.0)) (omega arith), keyword_again key_end_var r.after rest r.end) refl
   variables_again ts ds rest (inr h) all =
       rw (absent_again text word.Var (codes "VAR") key_var.there ts rest h.1) (ap (λ (x : List Declaration). Some (x, ts)) (sym h.0) ∙ ap (λ (r : List Token). Some (ds, r)) h.1.0)

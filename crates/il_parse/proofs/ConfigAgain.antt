@@ -16,7 +16,7 @@ use Rattle.il_spec.specs.declared.tree.UnitKind.TheVariants as unit
 use Rattle.il_spec.specs.declared.tree.Unit.{Unit as ProgramUnit}
 use Rattle.il_spec.specs.declared.tree.Config.{Config}
 use Rattle.il_spec.specs.Grammar.{skip_line_ends, AfterLines, No, At, TheWord, TheName, SomeName, TheEnd, SpellsUnit, SpellsSizes, SpellsConfig}
-use Rattle.il_rules.specs.Subset.{IsCarriedProgram, IsCarried}
+use Rattle.il_rules.specs.Subset.{IsSupportedProgram, IsSupported}
 use Rattle.il_parse.specs.Refused.{HasFewInstructions}
 use Rattle.il_parse.specs.Reading.{heading_at, lists_at, unit_at, sizes_at, processor_at, tasks_at, programs_at, units_at, group_at, end_at, configuration_at}
 use Rattle.il_parse.proofs.Keys.{key_program, key_input, key_output, key_configuration, key_global, key_constant, key_end_var, key_resource, key_on, key_end_resource, key_end_configuration}
@@ -32,8 +32,8 @@ module _ (text : List ℕ) (ascii : IsAscii text) where
   abbrev some_unit : Place → Named → List Declaration → Body → UnitKind → List Declaration → List Declaration → List Declaration → ProgramUnit
   some_unit p n ds b k i o e = record { place = p; kind = k; name = n; inputs = i; outputs = o; variables = ds; externals = e; body = b }
 
-  -- a carried program is a plain one
-  unit_is : (u : ProgramUnit) → IsCarriedProgram u → plain_unit u.place u.name u.variables u.body ≡ u
+  -- a supported program is a plain one
+  unit_is : (u : ProgramUnit) → IsSupportedProgram u → plain_unit u.place u.name u.variables u.body ≡ u
   unit_is u h =
       ap (λ (k : UnitKind). some_unit u.place u.name u.variables u.body k [] [] []) (sym h.kind)
       ∙ ap (λ (x : List Declaration). some_unit u.place u.name u.variables u.body u.kind x [] []) (sym h.inputs)
@@ -48,10 +48,10 @@ module _ (text : List ℕ) (ascii : IsAscii text) where
       rw (placed_key_again text ascii key_program ts p a x, named_again text ascii a n b y, absent_key_again text ascii key_input b c z, absent_key_again text ascii key_output c rest w) refl
 
   -- a plain program that is spelled is read
-  plain_again : (p : Place) (n : Named) (ds : List Declaration) (b : Body) (ts rest : List Token) → SpellsUnit text (plain_unit p n ds b) (skip_line_ends ts) rest → IsCarriedProgram (plain_unit p n ds b) → length b.steps ≤ 4096
+  plain_again : (p : Place) (n : Named) (ds : List Declaration) (b : Body) (ts rest : List Token) → SpellsUnit text (plain_unit p n ds b) (skip_line_ends ts) rest → IsSupportedProgram (plain_unit p n ds b) → length b.steps ≤ 4096
       → unit_at text ts ≡ Some (plain_unit p n ds b, rest)
   unfolding unit_at lists_at
-  plain_again p n ds b ts rest h carried few =
+  plain_again p n ds b ts rest h supported few =
       let h1 = h.1 in
       let h2 = h1.2 in
       let h3 = h2.2 in
@@ -62,17 +62,17 @@ module _ (text : List ℕ) (ascii : IsAscii text) where
       let named = subst (λ (m : List Token). TheName text n (skip_line_ends h1.0) m) h3.1 h2.1 in
       rw (
         heading_again p n ts h1.0 h3.0 h4.0 h5.0 h1.1 named h4.1 h5.1,
-        variables_again text ascii h5.0 ds h6.0 h6.1 carried.variables,
+        variables_again text ascii h5.0 ds h6.0 h6.1 supported.variables,
         externals_again text ascii h6.0 h7.0 h7.1,
-        body_again text ascii b h7.0 rest h7.2 carried.steps carried.last_labels few,
+        body_again text ascii b h7.0 rest h7.2 supported.steps supported.last_labels few,
       ) refl
 
-  -- a carried program that is spelled is read
-  unit_again : (u : ProgramUnit) (ts rest : List Token) → SpellsUnit text u (skip_line_ends ts) rest → IsCarriedProgram u → length u.body.steps ≤ 4096 → unit_at text ts ≡ Some (u, rest)
-  unit_again u ts rest h carried few =
-      let same = unit_is u carried in
+  -- a supported program that is spelled is read
+  unit_again : (u : ProgramUnit) (ts rest : List Token) → SpellsUnit text u (skip_line_ends ts) rest → IsSupportedProgram u → length u.body.steps ≤ 4096 → unit_at text ts ≡ Some (u, rest)
+  unit_again u ts rest h supported few =
+      let same = unit_is u supported in
       subst (λ (x : ProgramUnit). unit_at text ts ≡ Some (x, rest)) same
-      (plain_again u.place u.name u.variables u.body ts rest (subst (λ (x : ProgramUnit). SpellsUnit text x (skip_line_ends ts) rest) (sym same) h) (subst (λ (x : ProgramUnit). IsCarriedProgram x) (sym same) carried) few)
+      (plain_again u.place u.name u.variables u.body ts rest (subst (λ (x : ProgramUnit). SpellsUnit text x (skip_line_ends ts) rest) (sym same) h) (subst (λ (x : ProgramUnit). IsSupportedProgram x) (sym same) supported) few)
 
   -- the three sizes that are spelled are read
   sizes_again : (c : Config) (ts rest : List Token) → SpellsSizes text c (skip_line_ends ts) rest → sizes_at text ts ≡ Some ((c.cars, c.floors, c.slots), rest)
@@ -117,10 +117,10 @@ module _ (text : List ℕ) (ascii : IsAscii text) where
   made us s g gs tasks lines p = record { units = us; cars = s.0; floors = s.1; slots = s.2; globals_place = g; globals = gs; tasks = tasks; programs = lines; end_resource = p }
 
   -- a configuration of these parts is read
-  made_again : (ts : List Token) (u : ProgramUnit) (s : Size × Size × Size) (t : Task) (l : ProgramLine) (p : Place) → AfterLines (SpellsConfig text (made (u ∷ []) s None [] (t ∷ []) (l ∷ []) p)) ts [] → IsCarriedProgram u → length u.body.steps ≤ 4096
+  made_again : (ts : List Token) (u : ProgramUnit) (s : Size × Size × Size) (t : Task) (l : ProgramLine) (p : Place) → AfterLines (SpellsConfig text (made (u ∷ []) s None [] (t ∷ []) (l ∷ []) p)) ts [] → IsSupportedProgram u → length u.body.steps ≤ 4096
       → configuration_at text ts ≡ Some (made (u ∷ []) s None [] (t ∷ []) (l ∷ []) p)
   unfolding configuration_at units_at tasks_at programs_at
-  made_again ts u s t l p h carried few =
+  made_again ts u s t l p h supported few =
       let c = made (u ∷ []) s None [] (t ∷ []) (l ∷ []) p in
       let a1 = h.2 in
       let a2 = a1.2 in
@@ -134,7 +134,7 @@ module _ (text : List ℕ) (ascii : IsAscii text) where
       let r4 = r3.2 in
       let r5 = r4.2 in
       rw (
-        unit_again u ts h.0 h.1 carried few,
+        unit_again u ts h.0 h.1 supported few,
         group_again c h.0 a1.0 a2.0 a3.0 a4.0 a1.1 a2.1 a3.1 a4.1.1,
         processor_again a4.0 r.0 r1.0 r2.0 r3.0 r.1 r1.1 r2.1 r3.1,
         task_again text ascii r3.0 t r4.0 r4.1,
@@ -142,19 +142,19 @@ module _ (text : List ℕ) (ascii : IsAscii text) where
         end_again p r5.0 a5.0 a5.2.0 r5.2 a5.2.1 a5.2.2,
       ) refl
 
-  -- a carried configuration that is spelled is read
-  pub configuration_again : (ts : List Token) (c : Config) → AfterLines (SpellsConfig text c) ts [] → IsCarried c → HasFewInstructions c → configuration_at text ts ≡ Some c
-  configuration_again ts c h carried few =
-      let u = carried.program in
-      let t = carried.task in
-      let l = carried.line in
+  -- a supported configuration that is spelled is read
+  pub configuration_again : (ts : List Token) (c : Config) → AfterLines (SpellsConfig text c) ts [] → IsSupported c → HasFewInstructions c → configuration_at text ts ≡ Some c
+  configuration_again ts c h supported few =
+      let u = supported.program in
+      let t = supported.task in
+      let l = supported.line in
       let s : Size × Size × Size = (c.cars, c.floors, c.slots) in
       let same : made (u ∷ []) s None [] (t ∷ []) (l ∷ []) c.end_resource ≡ c =
-      ap (λ (x : List ProgramUnit). made x s None [] (t ∷ []) (l ∷ []) c.end_resource) (sym carried.alone)
-      ∙ ap (λ (x : List Task). made c.units s None [] x (l ∷ []) c.end_resource) (sym carried.tasks)
-      ∙ ap (λ (x : List ProgramLine). made c.units s None [] c.tasks x c.end_resource) (sym carried.lines)
-      ∙ ap (λ (x : Option Place). made c.units s x [] c.tasks c.programs c.end_resource) (sym carried.globals_place)
-      ∙ ap (λ (x : List Declaration). made c.units s c.globals_place x c.tasks c.programs c.end_resource) (sym carried.globals) in
-      let small = All-head (λ (x : ProgramUnit). length x.body.steps ≤ 4096) u [] (subst (λ (xs : List ProgramUnit). All (λ (x : ProgramUnit). length x.body.steps ≤ 4096) xs) carried.alone few) in
+      ap (λ (x : List ProgramUnit). made x s None [] (t ∷ []) (l ∷ []) c.end_resource) (sym supported.alone)
+      ∙ ap (λ (x : List Task). made c.units s None [] x (l ∷ []) c.end_resource) (sym supported.tasks)
+      ∙ ap (λ (x : List ProgramLine). made c.units s None [] c.tasks x c.end_resource) (sym supported.lines)
+      ∙ ap (λ (x : Option Place). made c.units s x [] c.tasks c.programs c.end_resource) (sym supported.globals_place)
+      ∙ ap (λ (x : List Declaration). made c.units s c.globals_place x c.tasks c.programs c.end_resource) (sym supported.globals) in
+      let small = All-head (λ (x : ProgramUnit). length x.body.steps ≤ 4096) u [] (subst (λ (xs : List ProgramUnit). All (λ (x : ProgramUnit). length x.body.steps ≤ 4096) xs) supported.alone few) in
       subst (λ (x : Config). configuration_at text ts ≡ Some x) same
-      (made_again ts u s t l c.end_resource (subst (λ (x : Config). AfterLines (SpellsConfig text x) ts []) (sym same) h) carried.carried small)
+      (made_again ts u s t l c.end_resource (subst (λ (x : Config). AfterLines (SpellsConfig text x) ts []) (sym same) h) supported.supported small)

@@ -12,7 +12,7 @@ use Rattle.il_spec.specs.declared.tree.Declaration.{Declaration}
 use Rattle.il_spec.specs.declared.tree.Unit.{Unit as ProgramUnit}
 use Rattle.il_spec.specs.declared.tree.Config.{Config}
 use Rattle.il_spec.specs.Grammar.{skip_line_ends, AfterLines, No, At, TheWord, TheName, SomeName, TheEnd, SpellsUnit, SpellsSizes, SpellsTask, SpellsProgramLine, SpellsConfig, greatest_depth}
-use Rattle.il_rules.specs.Subset.{IsCarriedProgram, IsCarried}
+use Rattle.il_rules.specs.Subset.{IsSupportedProgram, IsSupported}
 use Rattle.il_parse.specs.Reading.{word_at, placed_word_at, absent_at, named_at, heading_at, variables_at, externals_at, lists_at, body_at, unit_at, size_at, sizes_at, processor_at, task_at, program_line_at, tasks_at, programs_at, units_at, group_at, ends_at, end_at, configuration_at}
 use Rattle.il_parse.proofs.Leaves.{bind_some, some_is, named_sound, some_name_sound}
 use Rattle.il_parse.proofs.Keys.{key_program, key_input, key_output, key_configuration, key_global, key_constant, key_end_var, key_resource, key_on, key_end_resource, key_end_configuration}
@@ -42,8 +42,8 @@ module _ (text : List ℕ) where
       subst (λ (y : (Place × Named) × List Token). HasHeading y.0.0 y.0.1 ts y.1) (some_is ((p.0.0, n.0.0), o.0) (h, rest) o.2)
       (record { a = p.0.1; b = n.0.1; c = i.0; placed = placed_key text key_program ts p.0.0 p.0.1 p.1; named = named_sound text p.0.1 n.0.0 n.0.1 n.1; no_inputs = absent_key text key_input n.0.1 i.0 i.1; no_outputs = absent_key text key_output i.0 o.0 o.1 })
 
-  -- a program that is read is spelled so, and carried
-  pub unit_sound : (ts : List Token) (u : ProgramUnit) (rest : List Token) → unit_at text ts ≡ Some (u, rest) → SpellsUnit text u (skip_line_ends ts) rest × IsCarriedProgram u × (length u.body.steps < 4097)
+  -- a program that is read is spelled so, and supported
+  pub unit_sound : (ts : List Token) (u : ProgramUnit) (rest : List Token) → unit_at text ts ≡ Some (u, rest) → SpellsUnit text u (skip_line_ends ts) rest × IsSupportedProgram u × (length u.body.steps < 4097)
   unfolding unit_at lists_at
   unit_sound ts u rest e =
       let h = bind_some (heading_at text ts) _ (u, rest) e in
@@ -56,7 +56,7 @@ module _ (text : List ℕ) where
       let variables = variables_sound text h.0.1 l.0.0 v.0.1 (v.1 ∙ ap (λ (y : List Declaration × List Token). Some (y.0, v.0.1)) listed) in
       let externals = externals_sound text v.0.1 l.0.1 (x.1 ∙ ap (λ (y : List Declaration × List Token). Some y.1) listed) in
       let body = body_sound text l.0.1 b.0.0 b.0.1 b.1 in
-      subst (λ (y : ProgramUnit × List Token). SpellsUnit text y.0 (skip_line_ends ts) y.1 × IsCarriedProgram y.0 × (length y.0.body.steps < 4097)) (some_is _ (u, rest) b.2) (
+      subst (λ (y : ProgramUnit × List Token). SpellsUnit text y.0 (skip_line_ends ts) y.1 × IsSupportedProgram y.0 × (length y.0.body.steps < 4097)) (some_is _ (u, rest) b.2) (
         ((refl, refl), (head.a, head.placed, (head.b, head.named, (head.b, refl, (head.c, head.no_inputs, (h.0.1, head.no_outputs, (v.0.1, variables.0, (l.0.1, externals, body.0)))))))),
         record {
           kind = refl;
@@ -135,7 +135,7 @@ module _ (text : List ℕ) where
   -- what is found
   pub record IsFound (ts : List Token) (c : Config) : Type 0 where
     pub spelled : AfterLines (SpellsConfig text c) ts []
-    pub carried : IsCarried c
+    pub supported : IsSupported c
     pub units : length c.units ≤ 64
     pub instructions : All (λ (u : ProgramUnit). length u.body.steps ≤ 4096) c.units
     pub nesting : All (λ (u : ProgramUnit). greatest_depth 0 u.body.steps ≤ 16) c.units
@@ -176,7 +176,7 @@ module _ (text : List ℕ) where
 
   -- the parts together are a configuration
   together : (ts : List Token) (u : ProgramUnit) (s : Size × Size × Size) (t : Task) (l : ProgramLine) (p : Place) (m g r q z : List Token)
-      → SpellsUnit text u (skip_line_ends ts) m × IsCarriedProgram u × (length u.body.steps < 4097)
+      → SpellsUnit text u (skip_line_ends ts) m × IsSupportedProgram u × (length u.body.steps < 4097)
       → HasGroup (made (u ∷ []) s (t ∷ []) (l ∷ []) p) m g → HasProcessor g r → SpellsTask text t (skip_line_ends r) q → SpellsProgramLine text l (skip_line_ends q) z → HasEnd p z
       → IsFound ts (made (u ∷ []) s (t ∷ []) (l ∷ []) p)
   together ts u s t l p m g r q z unit group processor task line end = record {
@@ -205,13 +205,13 @@ module _ (text : List ℕ) where
         ),
       ),
     );
-    carried = record { program = u; alone = refl; carried = unit.1; globals_place = refl; globals = refl; task = t; tasks = refl; line = l; lines = refl };
+    supported = record { program = u; alone = refl; supported = unit.1; globals_place = refl; globals = refl; task = t; tasks = refl; line = l; lines = refl };
     units = omega arith;
     instructions = All-from_recursion (λ (v : ProgramUnit). length v.body.steps ≤ 4096) (u ∷ []) (let few = unit.2 in omega arith, tt);
     nesting = All-from_recursion (λ (v : ProgramUnit). greatest_depth 0 v.body.steps ≤ 16) (u ∷ []) (let flat = (nested u.body.steps (each_step u.body.steps unit.1.steps)).1 in omega (arith, flat), tt);
   }
 
-  -- a configuration that is read is spelled so, carried and small
+  -- a configuration that is read is spelled so, supported and small
   pub configuration_sound : (ts : List Token) (c : Config) → configuration_at text ts ≡ Some c → IsFound ts c
   unfolding configuration_at units_at tasks_at programs_at
   configuration_sound ts c e =

@@ -4,7 +4,7 @@ use Rattle.il_spec.specs.declared.token.Token.{Token}
 use Rattle.il_spec.specs.declared.tree.Config.{Config}
 use Rattle.il_spec.specs.Text.{AreTokens}
 use Rattle.il_spec.specs.Grammar.{AfterLines, SpellsConfig, Spells, IsWithinLimits}
-use Rattle.il_rules.specs.Subset.{IsCarried}
+use Rattle.il_rules.specs.Subset.{IsSupported}
 use Rattle.il_parse.specs.Reading.{configuration_at}
 use Rattle.il_parse.specs.Refused.{IsSmall, HasFewInstructions}
 use Rattle.il_parse.proofs.Leaves.{some_is}
@@ -25,12 +25,12 @@ pub within_by : (text : List ℕ) (ts : List Token) (c : Config) → IsFound tex
 within_by text ts c found short = record { bytes = short; units = found.units; instructions = found.instructions; nesting = found.nesting }
 
 -- what the parser doesn't find isn't spelled
-pub refused_by : (text : List ℕ) (ts : List Token) → AreTokens text 0 ts → configuration_at text ts ≡ None → (c : Config) → AfterLines (SpellsConfig text c) ts [] → IsCarried c → HasFewInstructions c → ⊥
-refused_by text ts cut none c spelled carried few =
-    let read = configuration_again text (tokens_ascii text ts cut) ts c spelled carried few in
+pub refused_by : (text : List ℕ) (ts : List Token) → AreTokens text 0 ts → configuration_at text ts ≡ None → (c : Config) → AfterLines (SpellsConfig text c) ts [] → IsSupported c → HasFewInstructions c → ⊥
+refused_by text ts cut none c spelled supported few =
+    let read = configuration_again text (tokens_ascii text ts cut) ts c spelled supported few in
     let bad = sym none ∙ read in
     absurd cc
 
 -- what it finds is the only one
-pub only_by : (text : List ℕ) (ts : List Token) (c : Config) → AreTokens text 0 ts → configuration_at text ts ≡ Some c → (d : Config) → AfterLines (SpellsConfig text d) ts [] → IsCarried d → HasFewInstructions d → d ≡ c
-only_by text ts c cut found d spelled carried few = some_is d c (sym (configuration_again text (tokens_ascii text ts cut) ts d spelled carried few) ∙ found)
+pub only_by : (text : List ℕ) (ts : List Token) (c : Config) → AreTokens text 0 ts → configuration_at text ts ≡ Some c → (d : Config) → AfterLines (SpellsConfig text d) ts [] → IsSupported d → HasFewInstructions d → d ≡ c
+only_by text ts c cut found d spelled supported few = some_is d c (sym (configuration_again text (tokens_ascii text ts cut) ts d spelled supported few) ∙ found)

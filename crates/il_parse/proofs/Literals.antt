@@ -16,7 +16,7 @@ use Rattle.il_spec.specs.ElementaryTypes.{limits, LiesIn}
 use Rattle.il_spec.specs.Text.{name_of}
 use Rattle.il_spec.specs.Words.{keyword_of}
 use Rattle.il_spec.specs.Grammar.{At, ALiteral}
-use Rattle.il_rules.specs.Subset.{IsCarriedLiteral}
+use Rattle.il_rules.specs.Subset.{IsSupportedLiteral}
 use Rattle.il_parse.specs.Reading.{◌>>=◌, place_of, first_at, is_word_kind, is_word, lies_in, is_value, numeral_of, literal_of}
 use Rattle.il_parse.proofs.Leaves.{bind_some, some_is, guard_some, chosen, both_true, is_word_sound, is_word_again, word_by, no_word}
 use Rattle.il_parse.proofs.Keys.{IsSpelled, key_true, key_false}
@@ -47,30 +47,30 @@ name_apart text w n k t false key e spelled free = e
 
 module _ (text : List ℕ) where
   -- a number that is read stands there
-  numeral_sound : (t : Token) (k : Kind) (l : Literal) (us : List Token) → t.kind ≡ k → numeral_of k ≡ Some l → ALiteral text l (t ∷ us) us × IsCarriedLiteral l
+  numeral_sound : (t : Token) (k : Kind) (l : Literal) (us : List Token) → t.kind ≡ k → numeral_of k ≡ Some l → ALiteral text l (t ∷ us) us × IsSupportedLiteral l
   numeral_sound t kind.Word l us k e = absurd cc
-  numeral_sound t (kind.Number v) l us k e = subst (λ (x : Literal). ALiteral text x (t ∷ us) us × IsCarriedLiteral x) (some_is (literal.Bare v) l e) ((k, refl), tt)
+  numeral_sound t (kind.Number v) l us k e = subst (λ (x : Literal). ALiteral text x (t ∷ us) us × IsSupportedLiteral x) (some_is (literal.Bare v) l e) ((k, refl), tt)
   numeral_sound t (kind.Typed (literal.Truth b)) l us k e = absurd cc
   numeral_sound t (kind.Typed (literal.Bare v)) l us k e = absurd cc
   numeral_sound t (kind.Typed (literal.Whole w v)) l us k e =
       let g = guard_some (is_value w v) (literal.Whole w v) l e in
-      subst (λ (x : Literal). ALiteral text x (t ∷ us) us × IsCarriedLiteral x) g.1 ((k, refl), lies_sound (limits w) v g.0)
+      subst (λ (x : Literal). ALiteral text x (t ∷ us) us × IsSupportedLiteral x) g.1 ((k, refl), lies_sound (limits w) v g.0)
   numeral_sound t (kind.Typed (literal.Time v)) l us k e = absurd cc
   numeral_sound t (kind.Sign s) l us k e = absurd cc
   numeral_sound t kind.LineEnd l us k e = absurd cc
 
-  -- a literal that is read stands there, and is carried
-  pub literal_sound : (t : Token) (l : Literal) (us : List Token) → literal_of text t ≡ Some l → ALiteral text l (t ∷ us) us × IsCarriedLiteral l
+  -- a literal that is read stands there, and is supported
+  pub literal_sound : (t : Token) (l : Literal) (us : List Token) → literal_of text t ≡ Some l → ALiteral text l (t ∷ us) us × IsSupportedLiteral l
   unfolding literal_of
   literal_sound t l us e =
       elim (chosen (is_word text (codes "TRUE") t) _ _ l e) [
         | inl c ↦
             let w = is_word_sound text (codes "TRUE") t c.0 in
-            subst (λ (x : Literal). ALiteral text x (t ∷ us) us × IsCarriedLiteral x) (some_is (literal.Truth true) l c.1) (((w.0, ap keyword_of w.1 ∙ key_true.there), refl), tt)
+            subst (λ (x : Literal). ALiteral text x (t ∷ us) us × IsSupportedLiteral x) (some_is (literal.Truth true) l c.1) (((w.0, ap keyword_of w.1 ∙ key_true.there), refl), tt)
         | inr d ↦ elim (chosen (is_word text (codes "FALSE") t) _ _ l d.1) [
           | inl c ↦
               let w = is_word_sound text (codes "FALSE") t c.0 in
-              subst (λ (x : Literal). ALiteral text x (t ∷ us) us × IsCarriedLiteral x) (some_is (literal.Truth false) l c.1) (((w.0, ap keyword_of w.1 ∙ key_false.there), refl), tt)
+              subst (λ (x : Literal). ALiteral text x (t ∷ us) us × IsSupportedLiteral x) (some_is (literal.Truth false) l c.1) (((w.0, ap keyword_of w.1 ∙ key_false.there), refl), tt)
           | inr c ↦ numeral_sound t t.kind l us refl c.1
         ]
       ]
@@ -80,18 +80,18 @@ module _ (text : List ℕ) where
   unfolding literal_of
   numeral_again t l k e = rw (no_word text (codes "TRUE") t k, no_word text (codes "FALSE") t k) e
 
-  -- a carried literal that stands there is read
-  pub literal_again : (t : Token) (l : Literal) (us rest : List Token) → ALiteral text l (t ∷ us) rest → IsCarriedLiteral l → (literal_of text t ≡ Some l) × (us ≡ rest)
+  -- a supported literal that stands there is read
+  pub literal_again : (t : Token) (l : Literal) (us rest : List Token) → ALiteral text l (t ∷ us) rest → IsSupportedLiteral l → (literal_of text t ≡ Some l) × (us ≡ rest)
   unfolding literal_of
-  literal_again t (literal.Truth true) us rest h carried = (rw (is_word_again text (codes "TRUE") t h.0.0 (key_true.only (name_of text t) h.0.1)) refl, h.1)
-  literal_again t (literal.Truth false) us rest h carried =
+  literal_again t (literal.Truth true) us rest h supported = (rw (is_word_again text (codes "TRUE") t h.0.0 (key_true.only (name_of text t) h.0.1)) refl, h.1)
+  literal_again t (literal.Truth false) us rest h supported =
       let spelled = key_false.only (name_of text t) h.0.1 in
       (rw (word_by text (codes "TRUE") (codes "FALSE") t h.0.0 spelled, word_by text (codes "FALSE") (codes "FALSE") t h.0.0 spelled) refl, h.1)
-  literal_again t (literal.Bare v) us rest h carried = (numeral_again t (literal.Bare v) (ap is_word_kind h.0) (ap numeral_of h.0), h.1)
-  literal_again t (literal.Whole w v) us rest h carried =
-      let value : numeral_of (kind.Typed (literal.Whole w v)) ≡ Some (literal.Whole w v) = rw (lies_again (limits w) v carried) refl in
+  literal_again t (literal.Bare v) us rest h supported = (numeral_again t (literal.Bare v) (ap is_word_kind h.0) (ap numeral_of h.0), h.1)
+  literal_again t (literal.Whole w v) us rest h supported =
+      let value : numeral_of (kind.Typed (literal.Whole w v)) ≡ Some (literal.Whole w v) = rw (lies_again (limits w) v supported) refl in
       (numeral_again t (literal.Whole w v) (ap is_word_kind h.0) (ap numeral_of h.0 ∙ value), h.1)
-  literal_again t (literal.Time v) us rest h carried = absurd carried
+  literal_again t (literal.Time v) us rest h supported = absurd supported
 
   -- a name is no literal
   pub name_no_literal : (t : Token) (n : List ℕ) → t.kind ≡ kind.Word → name_of text t ≡ n → keyword_of n ≡ None → literal_of text t ≡ None
@@ -106,15 +106,15 @@ module _ (text : List ℕ) where
   placed_literal us = first_at us >>= λ t. literal_of text t.0 >>= λ l. Some (record { place = place_of t.0; literal = l }, t.1)
 
   -- a literal at the front that is read stands there
-  pub placed_literal_sound : (us : List Token) (i : Initial) (rest : List Token) → placed_literal us ≡ Some (i, rest) → At i.place (ALiteral text i.literal) us rest × IsCarriedLiteral i.literal
+  pub placed_literal_sound : (us : List Token) (i : Initial) (rest : List Token) → placed_literal us ≡ Some (i, rest) → At i.place (ALiteral text i.literal) us rest × IsSupportedLiteral i.literal
   placed_literal_sound [] i rest e = absurd cc
   placed_literal_sound (t ∷ ts) i rest e =
       let l = bind_some (literal_of text t) _ (i, rest) e in
       let s = literal_sound t l.0 ts l.1 in
-      subst (λ (y : Initial × List Token). At y.0.place (ALiteral text y.0.literal) (t ∷ ts) y.1 × IsCarriedLiteral y.0.literal) (some_is _ (i, rest) l.2)
+      subst (λ (y : Initial × List Token). At y.0.place (ALiteral text y.0.literal) (t ∷ ts) y.1 × IsSupportedLiteral y.0.literal) (some_is _ (i, rest) l.2)
       ((refl, refl, s.0), s.1)
 
-  -- a carried literal at the front is read
-  pub placed_literal_again : (us : List Token) (i : Initial) (rest : List Token) → At i.place (ALiteral text i.literal) us rest → IsCarriedLiteral i.literal → placed_literal us ≡ Some (i, rest)
-  placed_literal_again [] i rest h carried = absurd h
-  placed_literal_again (t ∷ ts) i rest h carried = let l = literal_again t i.literal ts rest h.2 carried in rw (l.0, h.0, h.1, l.1) refl
+  -- a supported literal at the front is read
+  pub placed_literal_again : (us : List Token) (i : Initial) (rest : List Token) → At i.place (ALiteral text i.literal) us rest → IsSupportedLiteral i.literal → placed_literal us ≡ Some (i, rest)
+  placed_literal_again [] i rest h supported = absurd h
+  placed_literal_again (t ∷ ts) i rest h supported = let l = literal_again t i.literal ts rest h.2 supported in rw (l.0, h.0, h.1, l.1) refl

@@ -20,11 +20,11 @@ use Rattle.il_spec.specs.declared.tree.ProgramLine.{ProgramLine}
 use Rattle.il_spec.specs.declared.tree.Declaration.{Declaration}
 use Rattle.il_spec.specs.Grammar.{Front, Gap, skip_line_ends, loose, AfterLines, No, At, Repeats, Listed, TheSign, ATyped, AWord, TheWord, TheName, TheText, ADecimal, SpellsSize, SpellsTask, SpellsProgramLine, ALiteral, SpellsSubrange, SpellsType, SpellsInitial, SpellsDeclaration, SpellsOptionalList, SpellsExternals}
 use Rattle.il_spec.specs.declared.tree.UnitKind.TheVariants as unit
-use Rattle.il_rules.specs.Subset.{IsCarriedLiteral, IsCarriedForm, IsCarriedInitial, AreCarriedVariables}
+use Rattle.il_rules.specs.Subset.{IsSupportedLiteral, IsSupportedForm, IsSupportedInitial, AreSupportedVariables}
 use Rattle.il_parse.specs.Reading.{comes, no_comma, sign_comes, many_at, listed_at, word_at, placed_word_at, absent_at, sign_at, number_at, decimal_at, named_at, next_name_at, names_at, limits_at, subrange_at, written, type_at, assigned_at, initial_at, declaration_at, declarations_at, variables_at, externals_at, size_at, interval_at, priority_at, task_at, program_line_at}
 use Rattle.il_parse.proofs.Leaves.{bind_some, some_is, chosen, signs_apart, sign_none, bytes_again, word_sound, as_keyword, placed_sound, sign_sound, number_sound, decimal_sound, duration_sound, named_sound, absent_sound}
 use Rattle.il_parse.proofs.Keys.{IsSpelled, key_int, key_interval, key_priority, key_task, key_with, key_program, key_bool, key_var, key_end_var, key_external}
-use Rattle.il_parse.proofs.Parts.{IsCarriedDeclaration, all_declarations}
+use Rattle.il_parse.proofs.Parts.{IsSupportedDeclaration, all_declarations}
 use Rattle.il_parse.proofs.Literals.{placed_literal_sound}
 
 -- what stands at a place stands there
@@ -59,12 +59,12 @@ many_sound {A} P E ends item sound (suc count) ts xs r e rest h =
           (x.0.1, sound ts x.0.0 x.0.1 x.1, many_sound P E ends item sound count x.0.1 others.0.0 others.0.1 others.1 rest end)
     ]
 
--- each value that a loop reads is carried, and they are fewer than the count
-pub many_carried : {A : Type 0} (C : A → Type 0) (ends : List Token → Bool) (item : List Token → Option (A × List Token)) → ((ts : List Token) (x : A) (rest : List Token) → item ts ≡ Some (x, rest) → C x)
+-- each value that a loop reads is supported, and they are fewer than the count
+pub many_supported : {A : Type 0} (C : A → Type 0) (ends : List Token → Bool) (item : List Token → Option (A × List Token)) → ((ts : List Token) (x : A) (rest : List Token) → item ts ≡ Some (x, rest) → C x)
     → (count : ℕ) (ts : List Token) (xs : List A) (r : List Token) → many_at ends item count ts ≡ Some (xs, r) → AllByRecursion C xs × (length xs < count)
 unfolding many_at
-many_carried {A} C ends item sound zero ts xs r e = absurd cc
-many_carried {A} C ends item sound (suc count) ts xs r e =
+many_supported {A} C ends item sound zero ts xs r e = absurd cc
+many_supported {A} C ends item sound (suc count) ts xs r e =
     elim (chosen (ends ts) (Some ([], ts)) _ (xs, r) e) [
       | inl c ↦
           let p = ap (λ (y : List A × List Token). y.0) (some_is ([], ts) (xs, r) c.1) in
@@ -73,7 +73,7 @@ many_carried {A} C ends item sound (suc count) ts xs r e =
           let x = bind_some (item ts) _ (xs, r) c.1 in
           let others = bind_some (many_at ends item count x.0.1) _ (xs, r) x.2 in
           let p = ap (λ (y : List A × List Token). y.0) (some_is _ (xs, r) others.2) in
-          let m = many_carried C ends item sound count x.0.1 others.0.0 others.0.1 others.1 in
+          let m = many_supported C ends item sound count x.0.1 others.0.0 others.0.1 others.1 in
           subst (λ (y : List A). AllByRecursion C y × (length y < suc count)) p ((sound ts x.0.0 x.0.1 x.1, m.0), omega (arith, m.1))
     ]
 
@@ -123,17 +123,17 @@ listed_sound {A} gap P E Free item ends next close first sound comma end last ts
     subst (λ (y : List A × List Token). Listed gap P y.0 E (gap ts) y.1) (some_is _ (xs, rest) c.2)
     (others_sound gap P E Free ends next sound comma end (suc (length x.0.1)) x.0.0 (gap ts) x.0.1 others.0.0 others.0.1 c.0 (first ts x.0.0 x.0.1 x.1) others.1 (last others.0.1 c.0 c.1))
 
--- each value of a list that is read is carried
-pub listed_carried : {A : Type 0} (C : A → Type 0) (item : List Token → Option (A × List Token)) (ends : List Token → Bool) (next : List Token → Option (A × List Token)) (close : List Token → Option (List Token))
+-- each value of a list that is read is supported
+pub listed_supported : {A : Type 0} (C : A → Type 0) (item : List Token → Option (A × List Token)) (ends : List Token → Bool) (next : List Token → Option (A × List Token)) (close : List Token → Option (List Token))
     → ((ts : List Token) (x : A) (rest : List Token) → item ts ≡ Some (x, rest) → C x)
     → ((ts : List Token) (x : A) (rest : List Token) → next ts ≡ Some (x, rest) → C x)
     → (ts : List Token) (xs : List A) (rest : List Token) → listed_at item ends next close ts ≡ Some (xs, rest) → AllByRecursion C xs
 unfolding listed_at
-listed_carried {A} C item ends next close first later ts xs rest e =
+listed_supported {A} C item ends next close first later ts xs rest e =
     let x = bind_some (item ts) _ (xs, rest) e in
     let others = bind_some (many_at ends next (suc (length x.0.1)) x.0.1) _ (xs, rest) x.2 in
     let c = bind_some (close others.0.1) _ (xs, rest) others.2 in
-    let all = many_carried C ends next later (suc (length x.0.1)) x.0.1 others.0.0 others.0.1 others.1 in
+    let all = many_supported C ends next later (suc (length x.0.1)) x.0.1 others.0.0 others.0.1 others.1 in
     subst (λ (y : List A × List Token). AllByRecursion C y.0) (some_is _ (xs, rest) c.2) (first ts x.0.0 x.0.1 x.1, all.0)
 
 module _ (text : List ℕ) where
@@ -280,8 +280,8 @@ module _ (text : List ℕ) where
   written_sound p e s [] m rest h sub = h
   written_sound p e s (t ∷ ts) m rest h sub = (h.0, h.1, (m, h.2, sub))
 
-  -- a type that is read is spelled so, where no parenthesis follows, and carried
-  type_sound : (ts : List Token) (d : WrittenType) (rest : List Token) → type_at text ts ≡ Some (d, rest) → ((other : List Token) → TheSign OpenParenthesis (skip_line_ends rest) other → ⊥) → SpellsType text d (skip_line_ends ts) rest × IsCarriedForm d.form
+  -- a type that is read is spelled so, where no parenthesis follows, and supported
+  type_sound : (ts : List Token) (d : WrittenType) (rest : List Token) → type_at text ts ≡ Some (d, rest) → ((other : List Token) → TheSign OpenParenthesis (skip_line_ends rest) other → ⊥) → SpellsType text d (skip_line_ends ts) rest × IsSupportedForm d.form
   unfolding type_at
   type_sound ts d rest e none =
       elim (chosen (comes text (codes "BOOL") ts) _ _ (d, rest) e) [
@@ -289,12 +289,12 @@ module _ (text : List ℕ) where
             let p = bind_some (placed_word_at text (codes "BOOL") ts) _ (d, rest) c.1 in
             let same = some_is (written p.0.0 elementary.Bool None, p.0.1) (d, rest) p.2 in
             let free = subst (λ (r : List Token). (other : List Token) → TheSign OpenParenthesis (skip_line_ends r) other → ⊥) (sym (ap (λ (y : WrittenType × List Token). y.1) same)) none in
-            subst (λ (y : WrittenType × List Token). SpellsType text y.0 (skip_line_ends ts) y.1 × IsCarriedForm y.0.form) same
+            subst (λ (y : WrittenType × List Token). SpellsType text y.0 (skip_line_ends ts) y.1 × IsSupportedForm y.0.form) same
             (written_sound p.0.0 elementary.Bool None (skip_line_ends ts) p.0.1 p.0.1 (placed_key key_bool ts p.0.0 p.0.1 p.1) (refl, free), tt)
         | inr c ↦
             let p = bind_some (placed_word_at text (codes "INT") ts) _ (d, rest) c.1 in
             let s = bind_some (subrange_at p.0.1) _ (d, rest) p.2 in
-            subst (λ (y : WrittenType × List Token). SpellsType text y.0 (skip_line_ends ts) y.1 × IsCarriedForm y.0.form) (some_is _ (d, rest) s.2)
+            subst (λ (y : WrittenType × List Token). SpellsType text y.0 (skip_line_ends ts) y.1 × IsSupportedForm y.0.form) (some_is _ (d, rest) s.2)
             (written_sound p.0.0 elementary.Int s.0.0 (skip_line_ends ts) p.0.1 s.0.1 (placed_key key_int ts p.0.0 p.0.1 p.1) (subrange_sound p.0.1 s.0.0 s.0.1 s.1), tt)
       ]
 
@@ -303,7 +303,7 @@ module _ (text : List ℕ) where
     behind : List Token
     assigned : TheSign Assign (skip_line_ends ts) behind
     value : At i.place (ALiteral text i.literal) (skip_line_ends behind) rest
-    carried : IsCarriedLiteral i.literal
+    supported : IsSupportedLiteral i.literal
 
   -- `:=` and a literal that are read are spelled so
   assigned_sound : (ts : List Token) (i : Initial) (rest : List Token) → assigned_at text ts ≡ Some (i, rest) → HasAssigned i ts rest
@@ -311,10 +311,10 @@ module _ (text : List ℕ) where
   assigned_sound ts i rest e =
       let a = bind_some (sign_at Assign ts) _ (i, rest) e in
       let l = placed_literal_sound text (skip_line_ends a.0) i rest a.2 in
-      record { behind = a.0; assigned = sign_sound Assign ts a.0 a.1; value = l.0; carried = l.1 }
+      record { behind = a.0; assigned = sign_sound Assign ts a.0 a.1; value = l.0; supported = l.1 }
 
-  -- an initial value that is read is spelled so, and carried
-  initial_sound : (ts : List Token) (i : Option Initial) (rest : List Token) → initial_at text ts ≡ Some (i, rest) → SpellsInitial text i (skip_line_ends ts) rest × IsCarriedInitial i
+  -- an initial value that is read is spelled so, and supported
+  initial_sound : (ts : List Token) (i : Option Initial) (rest : List Token) → initial_at text ts ≡ Some (i, rest) → SpellsInitial text i (skip_line_ends ts) rest × IsSupportedInitial i
   unfolding initial_at
   initial_sound ts i rest e =
       elim (chosen (sign_comes Assign ts) _ _ (i, rest) e) [
@@ -322,11 +322,11 @@ module _ (text : List ℕ) where
             let a = bind_some (assigned_at text ts) _ (i, rest) c.1 in
             let s = bind_some (sign_at Semicolon a.0.1) _ (i, rest) a.2 in
             let h = assigned_sound ts a.0.0 a.0.1 a.1 in
-            subst (λ (y : Option Initial × List Token). SpellsInitial text y.0 (skip_line_ends ts) y.1 × IsCarriedInitial y.0) (some_is _ (i, rest) s.2)
-            ((h.behind, h.assigned, (a.0.1, h.value, sign_sound Semicolon a.0.1 s.0 s.1)), h.carried)
+            subst (λ (y : Option Initial × List Token). SpellsInitial text y.0 (skip_line_ends ts) y.1 × IsSupportedInitial y.0) (some_is _ (i, rest) s.2)
+            ((h.behind, h.assigned, (a.0.1, h.value, sign_sound Semicolon a.0.1 s.0 s.1)), h.supported)
         | inr c ↦
             let s = bind_some (sign_at Semicolon ts) _ (i, rest) c.1 in
-            subst (λ (y : Option Initial × List Token). SpellsInitial text y.0 (skip_line_ends ts) y.1 × IsCarriedInitial y.0) (some_is _ (i, rest) s.2)
+            subst (λ (y : Option Initial × List Token). SpellsInitial text y.0 (skip_line_ends ts) y.1 × IsSupportedInitial y.0) (some_is _ (i, rest) s.2)
             (sign_sound Semicolon ts s.0 s.1, tt)
       ]
 
@@ -335,8 +335,8 @@ module _ (text : List ℕ) where
   no_open None us rest h = signs_apart Semicolon OpenParenthesis (λ bad. cc) us rest h
   no_open (Some i) us rest h = signs_apart Assign OpenParenthesis (λ bad. cc) us h.0 h.1
 
-  -- a declaration that is read is spelled so, and carried
-  pub declaration_sound : (ts : List Token) (d : Declaration) (rest : List Token) → declaration_at text ts ≡ Some (d, rest) → SpellsDeclaration text d (skip_line_ends ts) rest × IsCarriedDeclaration d
+  -- a declaration that is read is spelled so, and supported
+  pub declaration_sound : (ts : List Token) (d : Declaration) (rest : List Token) → declaration_at text ts ≡ Some (d, rest) → SpellsDeclaration text d (skip_line_ends ts) rest × IsSupportedDeclaration d
   unfolding declaration_at
   declaration_sound ts d rest e =
       let n = bind_some (names_at text ts) _ (d, rest) e in
@@ -344,11 +344,11 @@ module _ (text : List ℕ) where
       let i = bind_some (initial_at text t.0.1) _ (d, rest) t.2 in
       let value = initial_sound t.0.1 i.0.0 i.0.1 i.1 in
       let typed = type_sound n.0.1 t.0.0 t.0.1 t.1 (no_open i.0.0 (skip_line_ends t.0.1) i.0.1 value.0) in
-      subst (λ (y : Declaration × List Token). SpellsDeclaration text y.0 (skip_line_ends ts) y.1 × IsCarriedDeclaration y.0) (some_is _ (d, rest) i.2)
+      subst (λ (y : Declaration × List Token). SpellsDeclaration text y.0 (skip_line_ends ts) y.1 × IsSupportedDeclaration y.0) (some_is _ (d, rest) i.2)
       ((n.0.1, names_sound ts n.0.0 n.0.1 n.1, (t.0.1, typed.0, value.0)), (typed.1, value.1))
 
   -- the list of variables
-  pub variables_sound : (ts : List Token) (ds : List Declaration) (rest : List Token) → variables_at text ts ≡ Some (ds, rest) → SpellsOptionalList text word.Var (SpellsDeclaration text) ds ts rest × AreCarriedVariables ds
+  pub variables_sound : (ts : List Token) (ds : List Declaration) (rest : List Token) → variables_at text ts ≡ Some (ds, rest) → SpellsOptionalList text word.Var (SpellsDeclaration text) ds ts rest × AreSupportedVariables ds
   unfolding variables_at
   variables_sound ts ds rest e =
       elim (chosen (comes text (codes "VAR") ts) _ (Some ([], ts)) (ds, rest) e) [
@@ -357,11 +357,11 @@ module _ (text : List ℕ) where
             let m = bind_some (declarations_at text a.0) _ (ds, rest) a.2 in
             let b = bind_some (word_at text (codes "END_VAR") m.0.1) _ (ds, rest) m.2 in
             let all = many_sound (SpellsDeclaration text) (TheWord text word.EndVar) (comes text (codes "END_VAR")) (declaration_at text) (λ us x r k. (declaration_sound us x r k).0) (suc (length a.0)) a.0 m.0.0 m.0.1 m.1 b.0 (keyword_sound key_end_var m.0.1 b.0 b.1) in
-            let carried = many_carried IsCarriedDeclaration (comes text (codes "END_VAR")) (declaration_at text) (λ us x r k. (declaration_sound us x r k).1) (suc (length a.0)) a.0 m.0.0 m.0.1 m.1 in
-            subst (λ (y : List Declaration × List Token). SpellsOptionalList text word.Var (SpellsDeclaration text) y.0 ts y.1 × AreCarriedVariables y.0) (some_is (m.0.0, b.0) (ds, rest) b.2)
-            (inl (a.0, keyword_sound key_var ts a.0 a.1, all), all_declarations m.0.0 carried.0)
+            let supported = many_supported IsSupportedDeclaration (comes text (codes "END_VAR")) (declaration_at text) (λ us x r k. (declaration_sound us x r k).1) (suc (length a.0)) a.0 m.0.0 m.0.1 m.1 in
+            subst (λ (y : List Declaration × List Token). SpellsOptionalList text word.Var (SpellsDeclaration text) y.0 ts y.1 × AreSupportedVariables y.0) (some_is (m.0.0, b.0) (ds, rest) b.2)
+            (inl (a.0, keyword_sound key_var ts a.0 a.1, all), all_declarations m.0.0 supported.0)
         | inr c ↦
-            subst (λ (y : List Declaration × List Token). SpellsOptionalList text word.Var (SpellsDeclaration text) y.0 ts y.1 × AreCarriedVariables y.0) (some_is ([], ts) (ds, rest) c.1)
+            subst (λ (y : List Declaration × List Token). SpellsOptionalList text word.Var (SpellsDeclaration text) y.0 ts y.1 × AreSupportedVariables y.0) (some_is ([], ts) (ds, rest) c.1)
             (inr (refl, absent_sound text word.Var (codes "VAR") key_var.there key_var.only ts c.0), tt)
       ]
 

@@ -8,7 +8,7 @@ ghost use Rattle.il_spec.specs.Words.{operator_words, instruction_words, type_wo
 ghost use Rattle.il_spec.specs.Grammar.{skip_line_ends};
 ghost use Rattle.il_parse.specs.Reading.{Gives, place_of, first_at, is_word, comes, word_at, placed_word_at, sign_at, is_sign, first_is, sign_comes, line_end_at, number_at, name_at, named_at, decimal_at, duration_at, is_reserved, is_among};
 
-use crate::stop::{Stop, outside};
+use crate::stop::{Flaw, Stop, outside};
 use il_spec::name::Name;
 use il_spec::token::{Kind, Sign, Token};
 use il_spec::tree::{Literal, Named, Place};
@@ -47,7 +47,7 @@ pub fn first(tokens: &[Token]) -> Result<(&Token, &[Token]), Stop>
     match tokens.split_first() {
         Some((token, rest)) => Ok((token, rest)),
         None => Err(Stop::Fault {
-            number: 10,
+            flaw: Flaw::Outside,
             line: None,
         }),
     }

@@ -1,20 +1,18 @@
 //! Parser: the tree that the tokens of a text spell, for a subset of the language.
 #![tactic(auto)]
 
-ghost use Rattle.std.specs.Prelude.{◌≡◌, ◌≤◌, length, IfOk, []};
+ghost use Rattle.std.specs.Prelude.{◌≡◌, ◌≤◌, length, IfOk, IfErr, []};
 ghost use Rattle.il_spec.specs.Text.{AreTokens};
 ghost use Rattle.il_spec.specs.Grammar.{AfterLines, SpellsConfig, Spells, IsWithinLimits};
 ghost use Rattle.il_spec.specs.declared.tree.Config.{Config};
-ghost use Rattle.il_rules.specs.Subset.{IsCarried};
-ghost use Rattle.il_parse.specs.Refused.{IsFault, IsSmall, HasFewInstructions};
+ghost use Rattle.il_rules.specs.Subset.{IsSupported};
+ghost use Rattle.il_parse.specs.Refused.{IsFault, IsOfParser, IsSmall, HasFewInstructions};
 
 mod body;
 mod configuration;
 mod front;
 mod literal;
 mod stop;
-#[cfg(test)]
-mod tests;
 mod unit;
 
 use configuration::configuration;
@@ -38,23 +36,26 @@ pub fn parse(alloc: Global, text: &[u8], tokens: &[Token]) -> Result<Config, Ref
     // What is read is spelled so.
     ensures found { IfOk result (λ c. AfterLines (SpellsConfig text.now c) tokens.now []) }
     ensures spelled { IfOk result (λ c. Spells text.now c) }
-    ensures carried { IfOk result (λ c. IsCarried c) }
+    ensures supported { IfOk result (λ c. IsSupported c) }
 
     // It is small enough.
     ensures small { IfOk result (λ c. IsSmall c) }
     ensures limits { IfOk result (λ c. length text.now ≤ 262144 → IsWithinLimits text.now c) }
 
     // What is spelled within the subset and the limits is read, unless memory runs out.
-    ensures refused { IsFault result → (c : Config) → AfterLines (SpellsConfig text.now c) tokens.now [] → IsCarried c → HasFewInstructions c → ⊥ }
+    ensures refused { IsFault result → (c : Config) → AfterLines (SpellsConfig text.now c) tokens.now [] → IsSupported c → HasFewInstructions c → ⊥ }
+
+    // What is refused is 10, what no such text goes on with, 11, too many open parentheses, or 12, too many instructions.
+    ensures number { IfErr result (λ e. IsOfParser e) }
 
     // And nothing else is spelled within them.
-    ensures only { IfOk result (λ c. (d : Config) → AfterLines (SpellsConfig text.now d) tokens.now [] → IsCarried d → HasFewInstructions d → d ≡ c) }
+    ensures only { IfOk result (λ c. (d : Config) → AfterLines (SpellsConfig text.now d) tokens.now [] → IsSupported d → HasFewInstructions d → d ≡ c) }
 {
     match configuration(alloc, text, tokens) {
         Ok(config) => Ok(config),
         Err(Stop::Memory) => Err(Refusal::Memory),
-        Err(Stop::Fault { number, line }) => Err(Refusal::Fault {
-            number,
+        Err(Stop::Fault { flaw, line }) => Err(Refusal::Fault {
+            number: flaw.number(),
             line: line.unwrap_or(last_line(text)),
         }),
     }

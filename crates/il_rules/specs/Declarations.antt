@@ -44,10 +44,10 @@ declared_limits scalar = or_else scalar.subrange (limits scalar.elementary)
 abbrev pub is_within : Subrange → ℤ → Bool
 is_within range value = int_le range.lower value && int_le value range.upper
 
--- whether a value lies within the limits that are there
+-- whether there are limits and a value lies within them
 abbrev pub is_within_any : Option Subrange → ℤ → Bool
 is_within_any (Some range) value = is_within range value
-is_within_any None value = true
+is_within_any None value = false
 
 -- whether a type has this value, so that a bare number can be a literal of it (2.2.1)
 abbrev pub has_value : Elementary → ℤ → Bool

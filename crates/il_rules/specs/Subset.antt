@@ -1,4 +1,4 @@
--- The configurations that are carried so far: one program of Boolean and whole-number instructions on a straight line, and one task (own rule).
+-- The configurations that are supported so far: one program of Boolean and whole-number instructions on a straight line, and one task (own rule).
 -- It widens until nothing is left of it.
 use Rattle.std.specs.Prelude.{◌≡◌, ℕ, false, List, [], ◌∷◌, flat_map, Option, Some, None, Contains, codes}
 use Rattle.il_spec.specs.declared.tree.Config.{Config}
@@ -32,97 +32,97 @@ use Rattle.il_spec.specs.declared.tree.Place.{Place}
 use Rattle.il_spec.specs.declared.fault.Refusal.{Refusal}
 use Rattle.il_spec.specs.declared.fault.Refusal.TheVariants.{Fault, Memory}
 use Rattle.il_rules.specs.Names.{Spelling, is_one_of, own_variable}
-use Rattle.il_rules.specs.Faults.{BreaksDeclarations, IsNoLater}
+use Rattle.il_rules.specs.Faults.{BreaksDeclarations}
 
 -- TREES
 
 -- TRUE, FALSE, or a whole number; one with a type written before it is a value of that type
-abbrev pub IsCarriedLiteral : Literal → Type 0
-IsCarriedLiteral (Truth b) = Unit {0}
-IsCarriedLiteral (Bare z) = Unit {0}
-IsCarriedLiteral (Whole e z) = IsValueOf e z
-IsCarriedLiteral _ = ⊥
+abbrev pub IsSupportedLiteral : Literal → Type 0
+IsSupportedLiteral (Truth b) = Unit {0}
+IsSupportedLiteral (Bare z) = Unit {0}
+IsSupportedLiteral (Whole e z) = IsValueOf e z
+IsSupportedLiteral _ = ⊥
 
--- a carried literal or a name
-abbrev pub IsCarriedOperand : Reference → Type 0
-IsCarriedOperand (OfLiteral l) = IsCarriedLiteral l
-IsCarriedOperand (OfVariable name) = Unit {0}
-IsCarriedOperand _ = ⊥
+-- a supported literal or a name
+abbrev pub IsSupportedOperand : Reference → Type 0
+IsSupportedOperand (OfLiteral l) = IsSupportedLiteral l
+IsSupportedOperand (OfVariable name) = Unit {0}
+IsSupportedOperand _ = ⊥
 
--- each is a carried literal or a name
-abbrev pub AreCarriedOperands : List Operand → Type 0
-AreCarriedOperands [] = Unit {0}
-AreCarriedOperands (o ∷ os) = IsCarriedOperand o.reference × AreCarriedOperands os
+-- each is a supported literal or a name
+abbrev pub AreSupportedOperands : List Operand → Type 0
+AreSupportedOperands [] = Unit {0}
+AreSupportedOperands (o ∷ os) = IsSupportedOperand o.reference × AreSupportedOperands os
 
 -- the place is a name
-abbrev pub IsCarriedPlace : Reference → Type 0
-IsCarriedPlace (OfVariable name) = Unit {0}
-IsCarriedPlace _ = ⊥
+abbrev pub IsSupportedPlace : Reference → Type 0
+IsSupportedPlace (OfVariable name) = Unit {0}
+IsSupportedPlace _ = ⊥
 
 -- AND, OR, ADD and SUB
-abbrev pub IsCarriedOperator : Operator → Type 0
-IsCarriedOperator (Logic Conjunction false) = Unit {0}
-IsCarriedOperator (Logic Disjunction false) = Unit {0}
-IsCarriedOperator (Arithmetic Add) = Unit {0}
-IsCarriedOperator (Arithmetic Sub) = Unit {0}
-IsCarriedOperator _ = ⊥
+abbrev pub IsSupportedOperator : Operator → Type 0
+IsSupportedOperator (Logic Conjunction false) = Unit {0}
+IsSupportedOperator (Logic Disjunction false) = Unit {0}
+IsSupportedOperator (Arithmetic Add) = Unit {0}
+IsSupportedOperator (Arithmetic Sub) = Unit {0}
+IsSupportedOperator _ = ⊥
 
 -- ST and STN
-abbrev pub IsCarriedStore : StoreKind → Type 0
-IsCarriedStore Plain = Unit {0}
-IsCarriedStore Negated = Unit {0}
-IsCarriedStore _ = ⊥
+abbrev pub IsSupportedStore : StoreKind → Type 0
+IsSupportedStore Plain = Unit {0}
+IsSupportedStore Negated = Unit {0}
+IsSupportedStore _ = ⊥
 
 -- the instruction is LD, LDN, ST, STN, NOT, AND, OR, ADD, SUB or LIMIT of such operands
-abbrev pub IsCarriedInstruction : Instruction → Type 0
-IsCarriedInstruction (Load negated operand) = IsCarriedOperand operand.reference
-IsCarriedInstruction (Store kind to) = IsCarriedStore kind × IsCarriedPlace to.reference
-IsCarriedInstruction Not = Unit {0}
-IsCarriedInstruction (Operate operator operand) = IsCarriedOperator operator × IsCarriedOperand operand.reference
-IsCarriedInstruction (Invoke function operands) = (function.name ≡ codes "LIMIT") × AreCarriedOperands operands
-IsCarriedInstruction _ = ⊥
+abbrev pub IsSupportedInstruction : Instruction → Type 0
+IsSupportedInstruction (Load negated operand) = IsSupportedOperand operand.reference
+IsSupportedInstruction (Store kind to) = IsSupportedStore kind × IsSupportedPlace to.reference
+IsSupportedInstruction Not = Unit {0}
+IsSupportedInstruction (Operate operator operand) = IsSupportedOperator operator × IsSupportedOperand operand.reference
+IsSupportedInstruction (Invoke function operands) = (function.name ≡ codes "LIMIT") × AreSupportedOperands operands
+IsSupportedInstruction _ = ⊥
 
--- each instruction is carried, and has no label
-abbrev pub AreCarriedSteps : List BodyStep → Type 0
-AreCarriedSteps [] = Unit {0}
-AreCarriedSteps (s ∷ ss) = (s.labels ≡ []) × IsCarriedInstruction s.instruction × AreCarriedSteps ss
+-- each instruction is supported, and has no label
+abbrev pub AreSupportedSteps : List BodyStep → Type 0
+AreSupportedSteps [] = Unit {0}
+AreSupportedSteps (s ∷ ss) = (s.labels ≡ []) × IsSupportedInstruction s.instruction × AreSupportedSteps ss
 
 -- BOOL, INT, or a subrange of INT
-abbrev pub IsCarriedScalar : Elementary → Option Subrange → Type 0
-IsCarriedScalar BoolType None = Unit {0}
-IsCarriedScalar Int subrange = Unit {0}
-IsCarriedScalar _ _ = ⊥
+abbrev pub IsSupportedScalar : Elementary → Option Subrange → Type 0
+IsSupportedScalar BoolType None = Unit {0}
+IsSupportedScalar Int subrange = Unit {0}
+IsSupportedScalar _ _ = ⊥
 
 -- such a scalar type
-abbrev pub IsCarriedForm : Form → Type 0
-IsCarriedForm (ScalarForm s) = IsCarriedScalar s.elementary s.subrange
-IsCarriedForm _ = ⊥
+abbrev pub IsSupportedForm : Form → Type 0
+IsSupportedForm (ScalarForm s) = IsSupportedScalar s.elementary s.subrange
+IsSupportedForm _ = ⊥
 
--- no initial value, or a carried literal
-abbrev pub IsCarriedInitial : Option Initial → Type 0
-IsCarriedInitial None = Unit {0}
-IsCarriedInitial (Some i) = IsCarriedLiteral i.literal
+-- no initial value, or a supported literal
+abbrev pub IsSupportedInitial : Option Initial → Type 0
+IsSupportedInitial None = Unit {0}
+IsSupportedInitial (Some i) = IsSupportedLiteral i.literal
 
 -- each variable is of such a type, and has such an initial value
-abbrev pub AreCarriedVariables : List Declaration → Type 0
-AreCarriedVariables [] = Unit {0}
-AreCarriedVariables (d ∷ ds) = IsCarriedForm d.declared.form × IsCarriedInitial d.initial × AreCarriedVariables ds
+abbrev pub AreSupportedVariables : List Declaration → Type 0
+AreSupportedVariables [] = Unit {0}
+AreSupportedVariables (d ∷ ds) = IsSupportedForm d.declared.form × IsSupportedInitial d.initial × AreSupportedVariables ds
 
 -- a program with such variables and instructions alone
-pub record IsCarriedProgram (u : Organized) : Type 0 where
+pub record IsSupportedProgram (u : Organized) : Type 0 where
   pub kind : u.kind ≡ Program
   pub inputs : u.inputs ≡ []
   pub outputs : u.outputs ≡ []
   pub externals : u.externals ≡ []
-  pub variables : AreCarriedVariables u.variables
-  pub steps : AreCarriedSteps u.body.steps
+  pub variables : AreSupportedVariables u.variables
+  pub steps : AreSupportedSteps u.body.steps
   pub last_labels : u.body.last_labels ≡ []
 
 -- one program, no globals, one task and one PROGRAM line
-pub record IsCarried (c : Config) : Type 0 where
+pub record IsSupported (c : Config) : Type 0 where
   pub program : Organized
   pub alone : c.units ≡ program ∷ []
-  pub carried : IsCarriedProgram program
+  pub supported : IsSupportedProgram program
   pub globals_place : c.globals_place ≡ None
   pub globals : c.globals ≡ []
   pub task : Task
@@ -132,9 +132,9 @@ pub record IsCarried (c : Config) : Type 0 where
 
 -- NAMES OF THE IMAGE
 
--- the image names that are carried; others are unknown so far
-abbrev pub carried_image_names : List Spelling
-carried_image_names =
+-- the image names that are supported; others are unknown so far
+abbrev pub supported_image_names : List Spelling
+supported_image_names =
     codes "CARS" ∷ codes "FLOORS" ∷ codes "SLOTS" ∷ codes "RUNLIMIT" ∷ codes "CARNO" ∷ codes "POS"
     ∷ codes "LEVEL" ∷ codes "TOP" ∷ codes "BOTTOM" ∷ codes "LOCKED" ∷ codes "OPENED" ∷ codes "OPEN" ∷ []
 
@@ -151,32 +151,18 @@ instruction_names (Operate operator operand) = reference_names operand.reference
 instruction_names (Invoke function operands) = flat_map (λ o. reference_names o.reference) operands
 instruction_names _ = []
 
--- A name that is no variable of the unit, and an image name that is not carried.
-abbrev pub IsNotCarriedName : Config → Organized → Spelling → Type 0
-IsNotCarriedName c u name = (own_variable u name ≡ None) × (is_one_of carried_image_names name ≡ false)
+-- A name that is no variable of the unit, and an image name that is not supported.
+abbrev pub IsUnsupportedName : Config → Organized → Spelling → Type 0
+IsUnsupportedName c u name = (own_variable u name ≡ None) × (is_one_of supported_image_names name ≡ false)
 
 -- DECLARATIONS, SO FAR
 
--- an instruction with a name that is neither a variable nor carried, at its operator
-abbrev pub NamesNotCarried : Config → Place → Type 0
-NamesNotCarried config place =
-    (unit : Organized) × (step : BodyStep) × (name : Spelling) × Contains config.units unit × Contains unit.body.steps step × Contains (instruction_names step.instruction) name × IsNotCarriedName config unit name × (place ≡ step.place)
+-- an instruction with a name that is neither a variable nor supported, at its operator
+abbrev pub NamesUnsupported : Config → Place → Type 0
+NamesUnsupported config place =
+    (unit : Organized) × (step : BodyStep) × (name : Spelling) × Contains config.units unit × Contains unit.body.steps step × Contains (instruction_names step.instruction) name × IsUnsupportedName config unit name × (place ≡ step.place)
 
--- a rule of declarations is broken so far: as ever, or by an image name that is not carried, which is unknown (21)
-pub data BreaksYet (config : Config) (number : ℕ) (place : Place) : Type 0 where
-  broken : BreaksDeclarations config number place → BreaksYet config number place
-  not_carried : number ≡ 21 → NamesNotCarried config place → BreaksYet config number place
-
--- the fault of declarations that is named: at the earliest broken place, at one place the lowest number
-pub record IsFirstYet (config : Config) (number : ℕ) (place : Place) : Type 0 where
-  pub broken : BreaksYet config number place
-  pub first : (other_number : ℕ) (other_place : Place) → BreaksYet config other_number other_place → IsNoLater number place other_number other_place
-
--- no rule of declarations is broken so far
-abbrev pub IsDeclaredYet : Config → Type 0
-IsDeclaredYet config = (number : ℕ) (place : Place) → ¬ BreaksYet config number place
-
--- a refusal names that fault by its line; want of memory says nothing of the configuration
-abbrev pub IsUndeclaredBy : Config → Refusal → Type 0
-IsUndeclaredBy config (Fault number line) = (place : Place) × IsFirstYet config number place × (line ≡ place.line)
-IsUndeclaredBy config Memory = Unit {0}
+-- a rule of declarations is broken so far: as ever, or by an image name that is not supported, which is unknown (21)
+pub data BreaksInSubset (config : Config) (number : ℕ) (place : Place) : Type 0 where
+  broken : BreaksDeclarations config number place → BreaksInSubset config number place
+  unsupported : number ≡ 21 → NamesUnsupported config place → BreaksInSubset config number place

@@ -83,13 +83,13 @@ pub fn is_within(range: Subrange, value: i64) -> bool
     range.lower <= value && value <= range.upper
 }
 
-/// Whether a number lies within the limits that are there.
+/// Whether there are limits and a number lies within them.
 pub fn is_within_any(range: Option<Subrange>, value: i64) -> bool
     ensures { result ≡ is_within_any range value }
 {
     match range {
         Some(limits) => is_within(limits, value),
-        None => true,
+        None => false,
     }
 }
 

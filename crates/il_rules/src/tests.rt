@@ -24,6 +24,8 @@ fn numbers_of_types(rt: HostRuntime) -> Result<(), Fail> {
         !has_value(Elementary::Usint, 256)
             && is_within(digits, 9)
             && !is_within_any(Some(digits), 10)
+            && !is_within_any(None, 7)
+            && !has_value(Elementary::Bool, 7)
     );
     assert!(rt;
         is_whole(Elementary::Udint) && !is_whole(Elementary::Time) && is_counted(Elementary::Time)

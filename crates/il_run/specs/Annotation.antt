@@ -38,6 +38,9 @@ use Rattle.il_rules.specs.Declarations.{declared_limits}
 use Rattle.il_rules.specs.Types.{label_place}
 use Rattle.il_run.specs.NameMap.{NameMap, Text, get, insert}
 use Rattle.il_run.specs.Meaning.{inputs_of, outputs_of, Denotation, Constant, Direct, Numbered, Indexed, Inside, Unknown, denotation, natural}
+use Rattle.il_run.specs.declared.known.Known.{Known}
+use Rattle.il_run.specs.declared.known.Known.TheVariants.{Flag, Ranged}
+use Rattle.il_run.specs.declared.known.KnownDeferred.{KnownDeferred}
 use Rattle.il_run.specs.Step.{arithmetic, takes, instruction_at, rest_of}
 
 -- Ranges of types --
@@ -58,25 +61,15 @@ numbers_of e = option_map interval (limits e)
 abbrev pub range : Scalar → Option Interval
 range s = option_map interval (declared_limits s)
 
--- What is known of a value: that it is a Boolean, or its type and an interval of it. Booleans are never narrowed.
-pub data Known : Type 0 where
-  Flag : Known
-  Ranged : Elementary → Interval → Known
-
--- A deferred operation, with what is known of its left operand.
-pub record KnownDeferred : Type 0 where
-  pub operator : Operator
-  pub left : Known
-
 -- What is known at a place: an interval for each whole or time scalar variable, the current result if there is one, and each deferred value.
 pub record Knowledge : Type 0 where
   pub variables : NameMap Interval
   pub result : Option Known
   pub deferred : List KnownDeferred
 
--- What is known at each place of a body, the last of them the return behind its last instruction.
+-- What is known at each place of a body, the last of them the return behind its last instruction; nothing at a place that nothing reaches.
 abbrev pub Annotation : Type 0
-Annotation = List Knowledge
+Annotation = List (Option Knowledge)
 
 -- One says no less than another --
 
@@ -115,7 +108,7 @@ pub record IsPart (k l : Knowledge) : Type 0 where
 
 -- What is known lies in the ranges of a place.
 abbrev pub Leads : Annotation → ℕ → Knowledge → Type 0
-Leads a place k = (next : Knowledge) × (slice_get a place ≡ Some next) × IsPart k next
+Leads a place k = (next : Knowledge) × (slice_get a place ≡ Some (Some next)) × IsPart k next
 
 -- Declared ranges --
 
@@ -165,12 +158,12 @@ abbrev pub WithFlow : Elementary → Option Interval → Option Interval → (Kn
 WithFlow e None flow go = go Flag
 WithFlow e (Some declared) flow go = WithInterval flow (λ i. go (Ranged e i))
 
--- A literal: a bare one has to be a value of the whole type that is given.
+-- A literal: a value of the type that is written, and for a bare one of the whole type that is given.
 abbrev pub WithLiteral : Elementary → Literal → (Known → Type 0) → Type 0
 WithLiteral e (Truth b) go = go Flag
 WithLiteral e (Bare z) go = IsTrue (is_whole e) × IsValueOf e z × go (Ranged e (only z))
-WithLiteral e (Whole written z) go = go (Ranged written (only z))
-WithLiteral e (Duration z) go = go (Ranged Time (only z))
+WithLiteral e (Whole written z) go = IsValueOf written z × go (Ranged written (only z))
+WithLiteral e (Duration z) go = IsValueOf Time z × go (Ranged Time (only z))
 
 -- What is known of an operand, where its index lies in its array. Scalar variables have the range of the place, all else its declared range.
 abbrev pub WithOperand : NameMap Interval → Elementary → Denotation → (Known → Type 0) → Type 0
@@ -405,6 +398,7 @@ IsInvoked s None (Some u) operands first =
     FitsFirst (named_forms u.inputs) first × FitInputs s (rest_of (named_forms u.inputs)) operands × IsResultOf s u.kind
 IsInvoked s None None operands first = ⊥
 
+-- A jump stands outside of parentheses, so nothing is set aside there (3.2.2).
 -- For all values in the ranges of the place the instruction does not trap, and what it gives lies in the ranges of every successor.
 abbrev pub Passes : Spot → Instruction → Type 0
 Passes s (Load negated operand) = WithLoaded s operand (λ k. IsLoaded s negated k)
@@ -414,7 +408,8 @@ Passes s (Operate operator operand) = WithKnownResult s.known.result (λ left. I
 Passes s (Defer operator first) = WithKnownResult s.known.result (λ left. IsSetAside s operator first left)
 Passes s Evaluate = WithKnownResult s.known.result (λ right. IsEvaluated s s.known.deferred right)
 Passes s (Jump condition label) =
-    HasCondition condition s.known.result
+    (s.known.deferred ≡ [])
+    × HasCondition condition s.known.result
     × LeadsTo s (label_place s.unit.body label.name) (knowledge s.known.variables (result_at_target condition s.known.result) s.known.deferred)
     × MayPass s condition s.known.result
 Passes s (Return condition) = HasCondition condition s.known.result × MayPass s condition s.known.result
@@ -423,10 +418,10 @@ Passes s (Call condition instance arguments) =
 Passes s (Invoke function operands) =
     WithKnownResult s.known.result (λ first. IsInvoked s (standard_function function.name) (function_named s.config function.name) operands first)
 
--- The annotation holds at each place below the bound.
+-- The annotation holds at each place below the bound; where nothing is known, nothing is asked.
 pub record IsAnnotatedBelow (config : Config) (unit : ProgramUnit) (bound : ℕ) (annotation : Annotation) : Type 0 where
-  pub entry : (first : Knowledge) × (slice_get annotation 0 ≡ Some first) × IsEntry config unit first
-  pub each : (place : ℕ) (k : Knowledge) → place < bound → slice_get annotation place ≡ Some k
+  pub entry : (first : Knowledge) × (slice_get annotation 0 ≡ Some (Some first)) × IsEntry config unit first
+  pub each : (place : ℕ) (k : Knowledge) → place < bound → slice_get annotation place ≡ Some (Some k)
       → Passes (record { config = config; unit = unit; annotation = annotation; place = place; known = k }) (instruction_at unit.body place)
 
 -- How many places a body has, the return behind the last instruction among them.

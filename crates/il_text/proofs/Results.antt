@@ -1,4 +1,4 @@
--- What is said of a result, carried over to what follows from it.
+-- What is said of a result, supported over to what follows from it.
 use Rattle.std.proofs.Common.{◌≡◌, Option, Some, None, Result, Ok, Err, refl}
 use Rattle.std.specs.Prelude.{IfOk, IfErr, option_map}
 

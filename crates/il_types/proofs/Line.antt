@@ -6,7 +6,7 @@ use Rattle.il_spec.specs.declared.tree.Step.{Step}
 use Rattle.il_spec.specs.declared.tree.Place.{Place}
 use Rattle.il_spec.specs.declared.tree.Elementary.{Elementary}
 use Rattle.il_rules.specs.declared.symbol.Symbol.{Symbol}
-use Rattle.il_rules.specs.Subset.{AreCarriedSteps}
+use Rattle.il_rules.specs.Subset.{AreSupportedSteps}
 use Rattle.il_rules.specs.Straight.{type_line}
 use Rattle.il_run.specs.NameMap.{NameMap}
 use Rattle.il_found.specs.declared.found.Found.{Found}
@@ -27,7 +27,7 @@ pub line_next : (symbols : NameMap Symbol) (steps : List Step) (at : ℕ) (s : S
 line_next symbols steps at s e = ap (λ k. line_of symbols (take k steps) None) (add-one at) ∙ line_of_next symbols steps at s None e
 
 -- the types are those of the rules
-pub line_typed : (config : Config) (unit : ProgramUnit) (symbols : NameMap Symbol) → Means config unit symbols → (steps : List Step) → AreCarriedSteps steps → (at : ℕ) (before : Option Elementary) → type_line config unit (take at steps) before ≡ line_of symbols (take at steps) before
+pub line_typed : (config : Config) (unit : ProgramUnit) (symbols : NameMap Symbol) → Means config unit symbols → (steps : List Step) → AreSupportedSteps steps → (at : ℕ) (before : Option Elementary) → type_line config unit (take at steps) before ≡ line_of symbols (take at steps) before
 line_typed config unit symbols means [] c zero before = refl
 line_typed config unit symbols means [] c (suc at) before = refl
 line_typed config unit symbols means (s ∷ steps) c zero before = refl

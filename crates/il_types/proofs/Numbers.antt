@@ -1,4 +1,4 @@
--- The lowest number of an instruction that is carried is that of the rules, and it leaves the type that the rules give.
+-- The lowest number of an instruction that is supported is that of the rules, and it leaves the type that the rules give.
 use Rattle.std.proofs.Common.{◌≡◌, ℕ, Bool, true, false, List, [], ◌∷◌, ◌++◌, refl, sym, ap, ◌∙◌, subst, arith, append-nil, take, length, Option, Some, None, option_and_then}
 use Rattle.std.specs.Prelude.{Contains, codes, flat_map, nat_eq}
 use Rattle.il_spec.specs.declared.tree.Config.{Config}
@@ -22,7 +22,7 @@ use Rattle.il_rules.specs.declared.symbol.Symbol.{Symbol}
 use Rattle.il_rules.specs.Names.{Spelling, Variable, Origin, Meaning, MeansVariable, MeansUnit, MeansStandard, meaning, meant_variable, variable_named, standard_function, StandardFunction, Limited, function_named}
 use Rattle.il_rules.specs.Declarations.{has_value, unless, Stores, scalar_form_numbers, scalar_numbers, reference_numbers, name_numbers}
 use Rattle.il_rules.specs.Types.{difference_numbers, any_difference_numbers, literal_numbers, scalar_type, reference_type, literal_type, loaded_type, index_numbers, wanted_numbers, maybe_wanted_numbers, unfit_numbers, loaded_numbers, load_numbers, presence_numbers, result_numbers, takes, taken_numbers, operand_type, uniform_numbers, function_numbers, function_type, written_variable_numbers, origin_is_written, written_numbers, store_type_numbers, Deferred, typing_numbers, type_after}
-use Rattle.il_rules.specs.Subset.{IsCarriedOperand, AreCarriedOperands, IsCarriedPlace, IsCarriedInstruction}
+use Rattle.il_rules.specs.Subset.{IsSupportedOperand, AreSupportedOperands, IsSupportedPlace, IsSupportedInstruction}
 use Rattle.il_rules.specs.Symbols.{symbol_by, symbol_of}
 use Rattle.il_run.specs.NameMap.{NameMap, get}
 use Rattle.il_types.specs.Lowest.{IsLowest, difference_of, any_difference_of, literal_of, type_of, wanted_of, maybe_wanted_of, loaded_of, loaded_literal_of, unfit_of, load_of, result_of, taken_of, written_of, store_of, target_of, store_type_of, pair_of, arguments_of, presence_of, limit_of, lowest_number, left_of}
@@ -118,19 +118,19 @@ name_lowest config unit symbols means name wanted =
     subst (λ t. IsLowest (any_difference_of (type_of (get symbols name)) wanted) (any_difference_numbers t wanted)) (sym (name_typed config unit symbols means name)) (any_difference_lowest (type_of (get symbols name)) wanted)
 
 -- an operand where a type is wanted
-pub wanted_lowest : (config : Config) (unit : ProgramUnit) (symbols : NameMap Symbol) → Means config unit symbols → (r : Reference) → IsCarriedOperand r → (wanted : Elementary) → IsLowest (wanted_of symbols r wanted) (wanted_numbers config unit r wanted)
+pub wanted_lowest : (config : Config) (unit : ProgramUnit) (symbols : NameMap Symbol) → Means config unit symbols → (r : Reference) → IsSupportedOperand r → (wanted : Elementary) → IsLowest (wanted_of symbols r wanted) (wanted_numbers config unit r wanted)
 wanted_lowest config unit symbols means (OfLiteral l) c wanted = literal_lowest l wanted
 wanted_lowest config unit symbols means (OfVariable name) c wanted = name_lowest config unit symbols means name wanted
 wanted_lowest config unit symbols means _ c wanted = absurd c
 
--- a carried operand has no index
-index_none : (config : Config) (unit : ProgramUnit) (r : Reference) → IsCarriedOperand r → index_numbers config unit r ≡ []
+-- a supported operand has no index
+index_none : (config : Config) (unit : ProgramUnit) (r : Reference) → IsSupportedOperand r → index_numbers config unit r ≡ []
 index_none config unit (OfLiteral l) c = refl
 index_none config unit (OfVariable name) c = refl
 index_none config unit _ c = absurd c
 
 -- an operand where a type is wanted, or none is known
-maybe_wanted_lowest : (config : Config) (unit : ProgramUnit) (symbols : NameMap Symbol) → Means config unit symbols → (r : Reference) → IsCarriedOperand r → (wanted : Option Elementary) → IsLowest (maybe_wanted_of symbols r wanted) (maybe_wanted_numbers config unit r wanted)
+maybe_wanted_lowest : (config : Config) (unit : ProgramUnit) (symbols : NameMap Symbol) → Means config unit symbols → (r : Reference) → IsSupportedOperand r → (wanted : Option Elementary) → IsLowest (maybe_wanted_of symbols r wanted) (maybe_wanted_numbers config unit r wanted)
 maybe_wanted_lowest config unit symbols means r c None = subst (λ l. IsLowest None l) (sym (index_none config unit r c)) lowest_none
 maybe_wanted_lowest config unit symbols means r c (Some wanted) = wanted_lowest config unit symbols means r c wanted
 
@@ -140,13 +140,13 @@ unfit_lowest None = lowest_one 31
 unfit_lowest (Some t) = lowest_none
 
 -- an operand that is loaded
-loaded_lowest : (config : Config) (unit : ProgramUnit) (r : Reference) → IsCarriedOperand r → IsLowest (loaded_literal_of r) (loaded_numbers config unit r)
+loaded_lowest : (config : Config) (unit : ProgramUnit) (r : Reference) → IsSupportedOperand r → IsLowest (loaded_literal_of r) (loaded_numbers config unit r)
 loaded_lowest config unit (OfLiteral l) c = unfit_lowest (literal_type l)
 loaded_lowest config unit (OfVariable name) c = lowest_none
 loaded_lowest config unit _ c = absurd c
 
 -- LD and LDN
-load_lowest : (config : Config) (unit : ProgramUnit) (symbols : NameMap Symbol) → Means config unit symbols → (negated : Bool) (r : Reference) → IsCarriedOperand r → IsLowest (load_of symbols negated r) (load_numbers config unit negated r)
+load_lowest : (config : Config) (unit : ProgramUnit) (symbols : NameMap Symbol) → Means config unit symbols → (negated : Bool) (r : Reference) → IsSupportedOperand r → IsLowest (load_of symbols negated r) (load_numbers config unit negated r)
 load_lowest config unit symbols means true r c = wanted_lowest config unit symbols means r c Boolean
 load_lowest config unit symbols means false r c = loaded_lowest config unit r c
 
@@ -171,13 +171,13 @@ limit_there = refl
 limit_is : (name : Spelling) → name ≡ codes "LIMIT" → standard_function name ≡ Some Limited
 limit_is name e = ap standard_function e ∙ limit_there
 
--- carried operands have no index
-indices_none : (config : Config) (unit : ProgramUnit) (operands : List Operand) → AreCarriedOperands operands → flat_map (λ o. index_numbers config unit o.reference) operands ≡ []
+-- supported operands have no index
+indices_none : (config : Config) (unit : ProgramUnit) (operands : List Operand) → AreSupportedOperands operands → flat_map (λ o. index_numbers config unit o.reference) operands ≡ []
 indices_none config unit [] c = refl
 indices_none config unit (o ∷ operands) c = ap (λ l. l ++ flat_map (λ o. index_numbers config unit o.reference) operands) (index_none config unit o.reference c.0) ∙ indices_none config unit operands c.1
 
 -- the first two arguments
-pair_lowest : (config : Config) (unit : ProgramUnit) (symbols : NameMap Symbol) → Means config unit symbols → (operands : List Operand) → AreCarriedOperands operands → (wanted : Elementary) → IsLowest (pair_of symbols operands wanted) (flat_map (λ o. wanted_numbers config unit o.reference wanted) (take 2 operands))
+pair_lowest : (config : Config) (unit : ProgramUnit) (symbols : NameMap Symbol) → Means config unit symbols → (operands : List Operand) → AreSupportedOperands operands → (wanted : Elementary) → IsLowest (pair_of symbols operands wanted) (flat_map (λ o. wanted_numbers config unit o.reference wanted) (take 2 operands))
 pair_lowest config unit symbols means [] c wanted = lowest_none
 pair_lowest config unit symbols means (a ∷ []) c wanted =
     subst (λ l. IsLowest (wanted_of symbols a.reference wanted) l) (sym (append-nil (wanted_numbers config unit a.reference wanted))) (wanted_lowest config unit symbols means a.reference c.0 wanted)
@@ -186,12 +186,12 @@ pair_lowest config unit symbols means (a ∷ b ∷ rest) c wanted =
     (subst (λ l. IsLowest (wanted_of symbols b.reference wanted) l) (sym (append-nil (wanted_numbers config unit b.reference wanted))) (wanted_lowest config unit symbols means b.reference c.1.0 wanted))
 
 -- all that is judged
-arguments_lowest : (config : Config) (unit : ProgramUnit) (symbols : NameMap Symbol) → Means config unit symbols → (operands : List Operand) → AreCarriedOperands operands → (before : Option Elementary) → IsLowest (arguments_of symbols operands before) (uniform_numbers config unit Limited operands before)
+arguments_lowest : (config : Config) (unit : ProgramUnit) (symbols : NameMap Symbol) → Means config unit symbols → (operands : List Operand) → AreSupportedOperands operands → (before : Option Elementary) → IsLowest (arguments_of symbols operands before) (uniform_numbers config unit Limited operands before)
 arguments_lowest config unit symbols means operands c None = lowest_none
 arguments_lowest config unit symbols means operands c (Some found) = lowest_by_not (is_same_type found Boolean) _ _ _ _ (lowest_one 30) (pair_lowest config unit symbols means operands c found)
 
 -- LIMIT, by what its name means
-limit_lowest : (config : Config) (unit : ProgramUnit) (symbols : NameMap Symbol) → Means config unit symbols → (function : Option StandardFunction) → function ≡ Some Limited → (own : Option ProgramUnit) (operands : List Operand) → AreCarriedOperands operands → (before : Option Elementary)
+limit_lowest : (config : Config) (unit : ProgramUnit) (symbols : NameMap Symbol) → Means config unit symbols → (function : Option StandardFunction) → function ≡ Some Limited → (own : Option ProgramUnit) (operands : List Operand) → AreSupportedOperands operands → (before : Option Elementary)
     → IsLowest (limit_of symbols operands before) (presence_numbers before ++ flat_map (λ o. index_numbers config unit o.reference) operands ++ function_numbers config unit function own operands before)
 limit_lowest config unit symbols means function is own operands c before =
     subst (λ l. IsLowest (limit_of symbols operands before) (l ++ function_numbers config unit function own operands before)) (sym (ap (λ k. presence_numbers before ++ k) (indices_none config unit operands c) ∙ append-nil (presence_numbers before)))
@@ -200,14 +200,14 @@ limit_lowest config unit symbols means function is own operands c before =
 
 -- INSTRUCTIONS
 
--- the lowest number of an instruction that is carried, with names that break nothing
-pub instruction_lowest : (config : Config) (unit : ProgramUnit) (symbols : NameMap Symbol) → Means config unit symbols → (i : Instruction) → IsCarriedInstruction i → NamesFine config unit i → (before : Option Elementary) (deferred : Option Deferred)
+-- the lowest number of an instruction that is supported, with names that break nothing
+pub instruction_lowest : (config : Config) (unit : ProgramUnit) (symbols : NameMap Symbol) → Means config unit symbols → (i : Instruction) → IsSupportedInstruction i → NamesFine config unit i → (before : Option Elementary) (deferred : Option Deferred)
     → IsLowest (lowest_number symbols i before) (typing_numbers config unit i before deferred)
 unfolding typing_numbers name_numbers
 instruction_lowest config unit symbols means (Load negated operand) c h before deferred = load_lowest config unit symbols means negated operand.reference c
 instruction_lowest config unit symbols means (StoreInto store target) c h before deferred = into target.reference c.1 h
   where
-    into : (r : Reference) → IsCarriedPlace r → AreNamesFine (reference_numbers config unit Stores r) → IsLowest (store_of store (target_of symbols r) before) (index_numbers config unit r ++ written_numbers config unit r ++ store_type_numbers config unit store r before)
+    into : (r : Reference) → IsSupportedPlace r → AreNamesFine (reference_numbers config unit Stores r) → IsLowest (store_of store (target_of symbols r) before) (index_numbers config unit r ++ written_numbers config unit r ++ store_type_numbers config unit store r before)
     into (OfVariable name) p g = lowest_both _ _ _ _ (written_lowest config unit symbols means name g) (store_type_lowest config unit symbols means store name before)
     into _ p g = absurd p
 instruction_lowest config unit symbols means Not c h before deferred = result_lowest before Boolean
@@ -218,13 +218,13 @@ instruction_lowest config unit symbols means (Invoke function operands) c h befo
 instruction_lowest config unit symbols means _ c h before deferred = absurd c
 
 -- the type that LD leaves
-load_typed : (config : Config) (unit : ProgramUnit) (symbols : NameMap Symbol) → Means config unit symbols → (r : Reference) → IsCarriedOperand r → loaded_type config unit r ≡ loaded_of symbols r
+load_typed : (config : Config) (unit : ProgramUnit) (symbols : NameMap Symbol) → Means config unit symbols → (r : Reference) → IsSupportedOperand r → loaded_type config unit r ≡ loaded_of symbols r
 load_typed config unit symbols means (OfLiteral l) c = refl
 load_typed config unit symbols means (OfVariable name) c = name_typed config unit symbols means name
 load_typed config unit symbols means _ c = absurd c
 
--- the type that an instruction leaves that is carried
-pub instruction_typed : (config : Config) (unit : ProgramUnit) (symbols : NameMap Symbol) → Means config unit symbols → (i : Instruction) → IsCarriedInstruction i → (before : Option Elementary) → type_after config unit None i before ≡ left_of symbols i before
+-- the type that an instruction leaves that is supported
+pub instruction_typed : (config : Config) (unit : ProgramUnit) (symbols : NameMap Symbol) → Means config unit symbols → (i : Instruction) → IsSupportedInstruction i → (before : Option Elementary) → type_after config unit None i before ≡ left_of symbols i before
 unfolding type_after
 instruction_typed config unit symbols means (Load true operand) c before = refl
 instruction_typed config unit symbols means (Load false operand) c before = load_typed config unit symbols means operand.reference c

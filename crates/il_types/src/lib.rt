@@ -10,9 +10,9 @@ ghost use Rattle.std.specs.Prelude.{◌≡◌, ◌≢◌, [], ◌∷◌, length,
 ghost use Rattle.il_spec.specs.declared.tree.Unit.{Unit as ProgramUnit};
 ghost use Rattle.il_spec.specs.declared.fault.Refusal.TheVariants.{Memory};
 ghost use Rattle.il_rules.specs.Names.{Spelling};
-ghost use Rattle.il_rules.specs.Subset.{IsCarried, IsDeclaredYet};
+ghost use Rattle.il_rules.specs.Subset.{IsSupported, BreaksInSubset};
 ghost use Rattle.il_rules.specs.Symbols.{symbol_of};
-ghost use Rattle.il_rules.specs.Faults.{IsUnbroken, IsRefusedBy, Typing};
+ghost use Rattle.il_rules.specs.Faults.{IsRefusedBy, Typing, HasNoFault, Broken};
 ghost use Rattle.il_run.specs.NameMap as map;
 ghost use Rattle.il_found.specs.Least.{IsLeast, Below};
 ghost use Rattle.il_types.specs.Typing.{Mistyped, fault_at};
@@ -26,11 +26,11 @@ use il_table::Table;
 
 /// Judges the types of the program's instructions (30 to 33, 37): the first fault in the text, at one instruction the lowest number.
 pub fn check_types(config: &Config, symbols: &Table<Symbol>) -> Result<(), Refusal>
-    requires carried { IsCarried config.now }
-    requires declared { IsDeclaredYet config.now }
+    requires supported { IsSupported config.now }
+    requires declared { HasNoFault (BreaksInSubset config.now) }
     requires symbols { (u : ProgramUnit) → config.now.units ≡ u ∷ [] → (name : Spelling) → map.get symbols.now name ≡ symbol_of config.now u name }
-    ensures accepted { IfOk result (λ _. IsUnbroken Typing config.now) }
-    ensures refused { IfErr result (IsRefusedBy Typing config.now) }
+    ensures accepted { IfOk result (λ _. HasNoFault (Broken Typing config.now)) }
+    ensures refused { IfErr result (IsRefusedBy (Broken Typing config.now)) }
     ensures fault { IfErr result (λ e. e ≢ Memory) }
 {
     let Some(unit) = config.units.as_slice().first() else {

@@ -1,4 +1,4 @@
--- The pass does right by each instruction that is carried, and breaks no rule of types.
+-- The pass does right by each instruction that is supported, and breaks no rule of types.
 use Rattle.std.proofs.Common.{◌≡◌, ℕ, ◌+◌, Bool, true, false, if◌then◌else◌, List, [], ◌∷◌, Option, Some, None, option_map, ℤ, refl, sym, ap, ◌∙◌, subst, cond, arith}
 use Rattle.std.specs.Prelude.{unwrap_or}
 use Rattle.std.proofs.lemmas.Int.{ints}
@@ -25,13 +25,16 @@ use Rattle.il_spec.specs.declared.tree.Instruction.TheVariants.{Load, Store, Not
 use Rattle.il_spec.specs.ElementaryTypes.{is_counted}
 use Rattle.il_rules.specs.declared.symbol.Symbol.{Symbol}
 use Rattle.il_rules.specs.Names.{Spelling, or_else}
-use Rattle.il_rules.specs.Subset.{IsCarriedOperand, IsCarriedOperator, IsCarriedStore, IsCarriedPlace}
+use Rattle.il_rules.specs.Subset.{IsSupportedOperand, IsSupportedOperator, IsSupportedStore, IsSupportedPlace}
 use Rattle.il_rules.specs.Symbols.{symbol_of}
 use Rattle.il_rules.specs.Types.{wanted_numbers, loaded_numbers, reference_type, any_difference_numbers, result_numbers, arithmetic_takes, type_after, store_type_numbers}
 use Rattle.il_run.specs.NameMap.{NameMap, get, insert, get-insert, order}
 use Rattle.il_run.specs.Meaning.{denotation, natural}
 use Rattle.il_run.specs.Step.{takes}
-use Rattle.il_run.specs.Annotation.{Known as AnyKnown, Flag as AnyFlag, Ranged as AnyRanged, Knowledge, Annotation, knowledge, Passes, Leads, IsKnownWithin, IsResultWithin, IsVariableWithin, numbers_of, range, FitsType, WithInterval, WithOperand, WithOperated, IsLoaded, KnownDeferred, WithKnownResult, GivesWithin, FitsRange, IsStored}
+use Rattle.il_run.specs.declared.known.Known.{Known as AnyKnown}
+use Rattle.il_run.specs.declared.known.Known.TheVariants.{Flag as AnyFlag, Ranged as AnyRanged}
+use Rattle.il_run.specs.declared.known.KnownDeferred.{KnownDeferred}
+use Rattle.il_run.specs.Annotation.{Knowledge, Annotation, knowledge, Passes, Leads, IsKnownWithin, IsResultWithin, IsVariableWithin, numbers_of, range, FitsType, WithInterval, WithOperand, WithOperated, IsLoaded, WithKnownResult, GivesWithin, FitsRange, IsStored}
 use Rattle.il_verify.specs.declared.known.Known.{Known}
 use Rattle.il_verify.specs.declared.known.Known.TheVariants.{Flag, Ranged}
 use Rattle.il_verify.specs.declared.ranges.Ranges.{Ranges}
@@ -77,9 +80,9 @@ flag_goes go h = record { wide = AnyFlag; within = tt; goes = h }
 
 -- LOADS
 
-pub works_load : (c : Config) (u : ProgramUnit) (t : Option Elementary) (r : Ranges) (operand : Operand) → IsFine c u t r → IsCarriedOperand operand.reference → IsNamed c u operand.reference → loaded_numbers c u operand.reference ≡ [] → Works c u t r (Load false operand)
+pub works_load : (c : Config) (u : ProgramUnit) (t : Option Elementary) (r : Ranges) (operand : Operand) → IsFine c u t r → IsSupportedOperand operand.reference → IsNamed c u operand.reference → loaded_numbers c u operand.reference ≡ [] → Works c u t r (Load false operand)
 unfolding type_after
-works_load c u t r operand fine carried named h =
+works_load c u t r operand fine supported named h =
     works_result c u t r (Load false operand) (known_operand (symbol_of c u) r.stored (natural_type operand.reference) operand.reference) l.found fine refl l.type l.typed
     (λ a p variables gets goes.
     subst (λ e. WithOperand variables e (denotation c u operand.reference) (λ k. Leads a (p + 1) (knowledge variables (Some k) []))) (sym is)
@@ -89,15 +92,15 @@ works_load c u t r operand fine carried named h =
     (subst (λ e. WithOperand k.variables e (denotation c u operand.reference) (λ w. Leads a (p + 1) (knowledge k.variables (Some w) k.deferred))) is passes))
   where
     l : IsLoadable c u r.stored operand.reference
-    l = loadable c u r.stored fine.flows operand.reference carried named h
+    l = loadable c u r.stored fine.flows operand.reference supported named h
 
     is : natural (denotation c u operand.reference) ≡ natural_type operand.reference
     is = natural_is c u (natural_type operand.reference) operand.reference l.holds
 
 -- LDN
-pub works_load_not : (c : Config) (u : ProgramUnit) (t : Option Elementary) (r : Ranges) (operand : Operand) → IsFine c u t r → IsCarriedOperand operand.reference → IsNamed c u operand.reference → wanted_numbers c u operand.reference Boolean ≡ [] → Works c u t r (Load true operand)
+pub works_load_not : (c : Config) (u : ProgramUnit) (t : Option Elementary) (r : Ranges) (operand : Operand) → IsFine c u t r → IsSupportedOperand operand.reference → IsNamed c u operand.reference → wanted_numbers c u operand.reference Boolean ≡ [] → Works c u t r (Load true operand)
 unfolding type_after
-works_load_not c u t r operand fine carried named h =
+works_load_not c u t r operand fine supported named h =
     works_result c u t r (Load true operand) Flag Boolean fine (ap (λ k. Some (with_result r k)) (known (natural_type operand.reference))) refl refl
     (λ a p variables gets goes.
     operand_sound c u r.stored variables gets (natural (denotation c u operand.reference)) operand.reference (holds (natural (denotation c u operand.reference))) _
@@ -106,10 +109,10 @@ works_load_not c u t r operand fine carried named h =
     flag_goes _ (more_flag _ _ (known (natural (denotation c u operand.reference))) (operand_complete c u r.stored k.variables covers.variables (natural (denotation c u operand.reference)) operand.reference (holds (natural (denotation c u operand.reference))) (IsLoaded (spot c u a p k) true) passes)))
   where
     holds : (e : Elementary) → OperandHolds c u e operand.reference
-    holds = flag_holds c u operand.reference (wanted_holds c u operand.reference carried named Boolean h) h
+    holds = flag_holds c u operand.reference (wanted_holds c u operand.reference supported named Boolean h) h
 
     known : (e : Elementary) → known_operand (symbol_of c u) r.stored e operand.reference ≡ Flag
-    known = flag_known c u r.stored fine.flows operand.reference (wanted_holds c u operand.reference carried named Boolean h) h
+    known = flag_known c u r.stored fine.flows operand.reference (wanted_holds c u operand.reference supported named Boolean h) h
 
 -- NOT AND LOGIC
 
@@ -121,10 +124,10 @@ works_not c u t r fine h =
     is : r.result ≡ Some Flag
     is = flag_result t r.result (wanted_result t Boolean h) fine.result
 
-pub works_logic : (c : Config) (u : ProgramUnit) (t : Option Elementary) (r : Ranges) (kind : LogicKind) (negated : Bool) (operand : Operand) → IsFine c u t r → IsCarriedOperand operand.reference → IsNamed c u operand.reference → t ≡ Some Boolean → wanted_numbers c u operand.reference Boolean ≡ []
+pub works_logic : (c : Config) (u : ProgramUnit) (t : Option Elementary) (r : Ranges) (kind : LogicKind) (negated : Bool) (operand : Operand) → IsFine c u t r → IsSupportedOperand operand.reference → IsNamed c u operand.reference → t ≡ Some Boolean → wanted_numbers c u operand.reference Boolean ≡ []
     → Works c u t r (Operate (Logic kind negated) operand)
 unfolding type_after
-works_logic c u t r kind negated operand fine carried named is_bool h =
+works_logic c u t r kind negated operand fine supported named is_bool h =
     works_result c u t r (Operate (Logic kind negated) operand) Flag Boolean fine refl refl refl
     (λ a p variables gets goes.
     subst (λ o. WithKnownResult (shown_result o) (λ left. IsOperated variables [] a p left)) (sym is)
@@ -139,10 +142,10 @@ works_logic c u t r kind negated operand fine carried named is_bool h =
     is = flag_result t r.result is_bool fine.result
 
     holds : (e : Elementary) → OperandHolds c u e operand.reference
-    holds = flag_holds c u operand.reference (wanted_holds c u operand.reference carried named Boolean h) h
+    holds = flag_holds c u operand.reference (wanted_holds c u operand.reference supported named Boolean h) h
 
     known : (e : Elementary) → known_operand (symbol_of c u) r.stored e operand.reference ≡ Flag
-    known = flag_known c u r.stored fine.flows operand.reference (wanted_holds c u operand.reference carried named Boolean h) h
+    known = flag_known c u r.stored fine.flows operand.reference (wanted_holds c u operand.reference supported named Boolean h) h
 
     context : AnyKnown → Elementary
     context AnyFlag = natural (denotation c u operand.reference)
@@ -179,8 +182,8 @@ pub record IsSum (kind : ArithmeticKind) : Type 0 where
   pub holds : (i j : Interval) → GivesWithin kind i j (hull i j)
   pub least : (i j wide_i wide_j s : Interval) → IsOrdered i → IsOrdered j → IsWithin i wide_i → IsWithin j wide_j → GivesWithin kind wide_i wide_j s → IsWithin (hull i j) s
 
-pub is_sum : (kind : ArithmeticKind) → IsCarriedOperator (Arithmetic kind) → IsSum kind
-is_sum Add carried = record {
+pub is_sum : (kind : ArithmeticKind) → IsSupportedOperator (Arithmetic kind) → IsSum kind
+is_sum Add supported = record {
   hull = interval_add;
   is = λ i j. refl;
   taken = counted;
@@ -189,7 +192,7 @@ is_sum Add carried = record {
   holds = add_holds;
   least = λ i j wide_i wide_j s p q v w h. add_least i j p q s (λ x y a b. h x y (wider_in i wide_i x v a) (wider_in j wide_j y w b));
 }
-is_sum Sub carried = record {
+is_sum Sub supported = record {
   hull = interval_sub;
   is = λ i j. refl;
   taken = counted;
@@ -198,7 +201,7 @@ is_sum Sub carried = record {
   holds = sub_holds;
   least = λ i j wide_i wide_j s p q v w h. sub_least i j p q s (λ x y a b. h x y (wider_in i wide_i x v a) (wider_in j wide_j y w b));
 }
-is_sum _ carried = absurd carried
+is_sum _ supported = absurd supported
 
 -- an annotation's range lies over the hull
 record IsOver (e : Elementary) (hull : Interval) (a : Annotation) (p : ℕ) (k : Knowledge) : Type 0 where
@@ -265,15 +268,15 @@ pub is_ranged : (e : Elementary) (i : Interval) → IsRange e i → (k : Known) 
 is_ranged e i r Flag h = absurd (no_boolean i (subst (λ x. IsRange x i) h r))
 is_ranged e i r (Ranged f j) h = record { found = j; is = ap (λ x. Ranged x j) h.0; in_type = subst (λ x. IsRange x j) h.0 h.1 }
 
-pub works_sum : (c : Config) (u : ProgramUnit) (t : Option Elementary) (stored : NameMap Interval) (result : Option Known) (kind : ArithmeticKind) (operand : Operand) → IsSum kind → IsFine c u t (ranges stored result) → IsResultOf t result → IsCarriedOperand operand.reference → IsNamed c u operand.reference
+pub works_sum : (c : Config) (u : ProgramUnit) (t : Option Elementary) (stored : NameMap Interval) (result : Option Known) (kind : ArithmeticKind) (operand : Operand) → IsSum kind → IsFine c u t (ranges stored result) → IsResultOf t result → IsSupportedOperand operand.reference → IsNamed c u operand.reference
     → (found : Elementary) → t ≡ Some found → arithmetic_takes kind found ≡ true → wanted_numbers c u operand.reference found ≡ [] → Works c u t (ranges stored result) (Operate (Arithmetic kind) operand)
-works_sum c u t stored None kind operand s fine typed carried named found is taken h = absurd (subst (λ o. IsResultOf o None) is typed)
-works_sum c u t stored (Some Flag) kind operand s fine typed carried named found is taken h =
+works_sum c u t stored None kind operand s fine typed supported named found is taken h = absurd (subst (λ o. IsResultOf o None) is typed)
+works_sum c u t stored (Some Flag) kind operand s fine typed supported named found is taken h =
     let same : found ≡ Boolean = subst (λ o. IsResultOf o (Some Flag)) is typed in absurd (s.no_flag (subst (λ x. arithmetic_takes kind x ≡ true) same taken))
-works_sum c u t stored (Some (Ranged e i)) kind operand s fine typed carried named found is taken h =
+works_sum c u t stored (Some (Ranged e i)) kind operand s fine typed supported named found is taken h =
     let of_type : (e ≡ found) × IsRange e i = subst (λ o. IsResultOf o (Some (Ranged e i))) is typed in
     let wanted : wanted_numbers c u operand.reference e ≡ [] = subst (λ x. wanted_numbers c u operand.reference x ≡ []) (sym of_type.0) h in
-    let holds = wanted_holds c u operand.reference carried named e wanted in
+    let holds = wanted_holds c u operand.reference supported named e wanted in
     let k = is_ranged e i of_type.1 (known_operand (symbol_of c u) stored e operand.reference) (wanted_typed c u stored fine.flows operand.reference e holds wanted) in
     works_ranges c u t stored kind operand s e i k.found of_type.1 k.in_type fine (is ∙ ap Some (sym of_type.0)) holds k.is
 
@@ -286,9 +289,9 @@ record IsTarget (c : Config) (u : ProgramUnit) (r : Reference) : Type 0 where
   is_name : r ≡ OfVariable name
   is_symbol : symbol_of c u name ≡ Some symbol
 
-target_of : (c : Config) (u : ProgramUnit) (r : Reference) → IsCarriedPlace r → IsNamed c u r → IsTarget c u r
-target_of c u (OfVariable name) carried named = record { name = name; symbol = named.0; is_name = refl; is_symbol = named.1 }
-target_of c u _ carried named = absurd carried
+target_of : (c : Config) (u : ProgramUnit) (r : Reference) → IsSupportedPlace r → IsNamed c u r → IsTarget c u r
+target_of c u (OfVariable name) supported named = record { name = name; symbol = named.0; is_name = refl; is_symbol = named.1 }
+target_of c u _ supported named = absurd supported
 
 -- the range of a BOOL's variable
 no_range : (c : Config) (u : ProgramUnit) (stored : NameMap Interval) → AreFlows c u stored → (name : Spelling) (s : Symbol) → symbol_of c u name ≡ Some s → s.scalar.elementary ≡ Boolean → range s.scalar ≡ None
@@ -309,24 +312,24 @@ named_operand place name = record { place = place; reference = OfVariable name }
 fits_flag : (e : Elementary) (o : Option Interval) → o ≡ None → FitsRange e o AnyFlag
 fits_flag e o is = subst (λ x. FitsRange e x AnyFlag) (sym is) tt
 
-works_store_flag : (c : Config) (u : ProgramUnit) (t : Option Elementary) (stored : NameMap Interval) (kind : StoreKind) (place : Place) (name : Spelling) → IsCarriedStore kind → IsFine c u t (ranges stored (Some Flag)) → (s : Symbol) → symbol_of c u name ≡ Some s → s.scalar.elementary ≡ Boolean
+works_store_flag : (c : Config) (u : ProgramUnit) (t : Option Elementary) (stored : NameMap Interval) (kind : StoreKind) (place : Place) (name : Spelling) → IsSupportedStore kind → IsFine c u t (ranges stored (Some Flag)) → (s : Symbol) → symbol_of c u name ≡ Some s → s.scalar.elementary ≡ Boolean
     → Works c u t (ranges stored (Some Flag)) (Store kind (named_operand place name))
 unfolding type_after
-works_store_flag c u t stored Plain place name carried fine s is bool =
+works_store_flag c u t stored Plain place name supported fine s is bool =
     works_with c u t (ranges stored (Some Flag)) (Store Plain (named_operand place name)) (ranges stored (Some Flag)) refl fine
     (λ a p variables gets goes.
     subst (λ m. IsStored (spot c u a p (knowledge variables (Some AnyFlag) [])) Plain m AnyFlag) (sym (denotes c u name s is)) (fits_flag s.scalar.elementary (range s.scalar) (no_range c u stored fine.flows name s is bool), goes variables gets))
     (λ a p k covers passes.
     let here = flag_covered k.result (IsStored (spot c u a p k) Plain (denotation c u (OfVariable name))) covers.result passes in
     covers_on c u a p (ranges stored (Some Flag)) k covers (subst (λ m. IsStored (spot c u a p k) Plain m AnyFlag) (denotes c u name s is) here).1)
-works_store_flag c u t stored Negated place name carried fine s is bool =
+works_store_flag c u t stored Negated place name supported fine s is bool =
     works_with c u t (ranges stored (Some Flag)) (Store Negated (named_operand place name)) (ranges stored (Some Flag)) refl fine
     (λ a p variables gets goes.
     subst (λ m. IsStored (spot c u a p (knowledge variables (Some AnyFlag) [])) Negated m AnyFlag) (sym (denotes c u name s is)) (fits_flag s.scalar.elementary (range s.scalar) (no_range c u stored fine.flows name s is bool), goes variables gets))
     (λ a p k covers passes.
     let here = flag_covered k.result (IsStored (spot c u a p k) Negated (denotation c u (OfVariable name))) covers.result passes in
     covers_on c u a p (ranges stored (Some Flag)) k covers (subst (λ m. IsStored (spot c u a p k) Negated m AnyFlag) (denotes c u name s is) here).1)
-works_store_flag c u t stored _ place name carried fine s is bool = absurd carried
+works_store_flag c u t stored _ place name supported fine s is bool = absurd supported
 
 -- A RANGE THAT IS STORED
 
@@ -417,21 +420,21 @@ works_store_range c u t stored e i place name fine in_type s is same = by_test (
         (record { variables = lies_stored c u stored k.variables name i o.wide o.within covers.variables; result = covers.result; deferred = covers.deferred }) o.goes)
 
 -- a store, by its result
-pub works_store : (c : Config) (u : ProgramUnit) (t : Option Elementary) (stored : NameMap Interval) (result : Option Known) (kind : StoreKind) (place : Place) (target : Reference) → IsCarriedStore kind → IsCarriedPlace target → IsNamed c u target → IsFine c u t (ranges stored result) → store_type_numbers c u kind target t ≡ []
+pub works_store : (c : Config) (u : ProgramUnit) (t : Option Elementary) (stored : NameMap Interval) (result : Option Known) (kind : StoreKind) (place : Place) (target : Reference) → IsSupportedStore kind → IsSupportedPlace target → IsNamed c u target → IsFine c u t (ranges stored result) → store_type_numbers c u kind target t ≡ []
     → Works c u t (ranges stored result) (Store kind (record { place = place; reference = target }))
-works_store c u (Some found) stored (Some Flag) Plain place (OfVariable name) carried is_place named fine h =
-    works_store_flag c u (Some found) stored Plain place name carried fine named.0 named.1
+works_store c u (Some found) stored (Some Flag) Plain place (OfVariable name) supported is_place named fine h =
+    works_store_flag c u (Some found) stored Plain place name supported fine named.0 named.1
     (no_difference named.0.scalar.elementary found (ap (λ o. any_difference_numbers o found) (sym (type_is c u name named.0 named.1)) ∙ h) ∙ fine.result)
-works_store c u (Some found) stored (Some (Ranged e i)) Plain place (OfVariable name) carried is_place named fine h =
+works_store c u (Some found) stored (Some (Ranged e i)) Plain place (OfVariable name) supported is_place named fine h =
     works_store_range c u (Some found) stored e i place name fine fine.result.1 named.0 named.1
     (fine.result.0 ∙ sym (no_difference named.0.scalar.elementary found (ap (λ o. any_difference_numbers o found) (sym (type_is c u name named.0 named.1)) ∙ h)))
-works_store c u t stored result Negated place (OfVariable name) carried is_place named fine h =
+works_store c u t stored result Negated place (OfVariable name) supported is_place named fine h =
     let is_bool = wanted_result t Boolean (left_nil (result_numbers t Boolean) _ h) in
     let of_bool : any_difference_numbers (reference_type c u (OfVariable name)) Boolean ≡ [] = right_nil (result_numbers t Boolean) _ h in
     subst (λ o. IsFine c u t (ranges stored o) → Works c u t (ranges stored o) (Store Negated (named_operand place name))) (sym (flag_result t result is_bool fine.result))
-    (λ f. works_store_flag c u t stored Negated place name carried f named.0 named.1 (no_difference named.0.scalar.elementary Boolean (ap (λ o. any_difference_numbers o Boolean) (sym (type_is c u name named.0 named.1)) ∙ of_bool))) fine
-works_store c u None stored result Plain place target carried is_place named fine h = cc
-works_store c u (Some found) stored None Plain place target carried is_place named fine h = absurd fine.result
-works_store c u t stored result Set place target carried is_place named fine h = absurd carried
-works_store c u t stored result Reset place target carried is_place named fine h = absurd carried
-works_store c u t stored result kind place _ carried is_place named fine h = absurd is_place
+    (λ f. works_store_flag c u t stored Negated place name supported f named.0 named.1 (no_difference named.0.scalar.elementary Boolean (ap (λ o. any_difference_numbers o Boolean) (sym (type_is c u name named.0 named.1)) ∙ of_bool))) fine
+works_store c u None stored result Plain place target supported is_place named fine h = cc
+works_store c u (Some found) stored None Plain place target supported is_place named fine h = absurd fine.result
+works_store c u t stored result Set place target supported is_place named fine h = absurd supported
+works_store c u t stored result Reset place target supported is_place named fine h = absurd supported
+works_store c u t stored result kind place _ supported is_place named fine h = absurd is_place

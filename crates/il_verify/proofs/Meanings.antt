@@ -17,8 +17,8 @@ use Rattle.il_spec.specs.declared.tree.Instruction.TheVariants.{Load, Store, Not
 use Rattle.il_rules.specs.declared.symbol.Symbol.{Symbol}
 use Rattle.il_rules.specs.Names.{Spelling, Origin, Variable, Meaning, MeansVariable, MeansUnit, MeansStandard, meaning, meant_variable, variable_named, form_named}
 use Rattle.il_rules.specs.Declarations.{Access, Reads, Stores, scalar_form_numbers, scalar_numbers, reference_numbers, name_numbers, unknown_name, name_of_other_type}
-use Rattle.il_rules.specs.Faults.{unknown, other_type}
-use Rattle.il_rules.specs.Subset.{broken, IsDeclaredYet}
+use Rattle.il_rules.specs.Faults.{unknown, other_type, HasNoFault}
+use Rattle.il_rules.specs.Subset.{broken, BreaksInSubset}
 use Rattle.il_rules.specs.Symbols.{symbol_by, symbol_of}
 use Rattle.il_rules.specs.Types.{scalar_type, reference_type, origin_is_written}
 use Rattle.il_run.specs.Meaning.{Direct, direct, denotation}
@@ -148,7 +148,7 @@ named_step c u (Invoke function operands) h = named_operands c u operands (hold_
 named_step c u _ h = tt
 
 -- each name of an instruction is that of a scalar variable
-pub step_named : (c : Config) (u : ProgramUnit) → IsDeclaredYet c → Contains c.units u → (at : ℕ) (s : Step) → slice_get u.body.steps at ≡ Some s → IsStepNamed c u s.instruction
+pub step_named : (c : Config) (u : ProgramUnit) → HasNoFault (BreaksInSubset c) → Contains c.units u → (at : ℕ) (s : Step) → slice_get u.body.steps at ≡ Some s → IsStepNamed c u s.instruction
 step_named c u declared among at s e =
     named_step c u s.instruction (
       λ k. declared 21 s.place (broken (unknown refl (unknown_name (u, s, among, stands, k, refl)))),

@@ -17,12 +17,14 @@ use Rattle.il_spec.specs.ElementaryTypes.{limits, LiesIn, IsValueOf, is_whole}
 use Rattle.il_rules.specs.declared.symbol.Symbol.{Symbol}
 use Rattle.il_rules.specs.Names.{Spelling, or_else}
 use Rattle.il_rules.specs.Declarations.{has_value, unless}
-use Rattle.il_rules.specs.Subset.{IsCarriedOperand}
+use Rattle.il_rules.specs.Subset.{IsSupportedOperand}
 use Rattle.il_rules.specs.Symbols.{symbol_of}
 use Rattle.il_rules.specs.Types.{literal_type, loaded_type, bare_numbers, wanted_numbers, any_difference_numbers, unfit_numbers, loaded_numbers}
 use Rattle.il_run.specs.NameMap.{NameMap, Text, get}
 use Rattle.il_run.specs.Meaning.{denotation, natural, or_dint}
-use Rattle.il_run.specs.Annotation.{Known as AnyKnown, Flag as AnyFlag, Ranged as AnyRanged, interval, only, numbers_of, range, WithInterval, WithFlow, WithOperand, IsKnownWithin, IsVariableWithin}
+use Rattle.il_run.specs.declared.known.Known.{Known as AnyKnown}
+use Rattle.il_run.specs.declared.known.Known.TheVariants.{Flag as AnyFlag, Ranged as AnyRanged}
+use Rattle.il_run.specs.Annotation.{interval, only, numbers_of, range, WithInterval, WithFlow, WithOperand, IsKnownWithin, IsVariableWithin}
 use Rattle.il_verify.specs.declared.known.Known.{Known}
 use Rattle.il_verify.specs.declared.known.Known.TheVariants.{Flag, Ranged}
 use Rattle.il_verify.specs.Forward.{fits, declared_of, literal_type_of, natural_type, known_fitting, known_flow, known_variable, known_operand}
@@ -90,14 +92,14 @@ bare_holds e z h = by_test (is_whole e) refl h
     by_test false is h = cc
 
 -- where a type is wanted
-pub wanted_holds : (c : Config) (u : ProgramUnit) (r : Reference) → IsCarriedOperand r → IsNamed c u r → (e : Elementary) → wanted_numbers c u r e ≡ [] → OperandHolds c u e r
-wanted_holds c u (OfLiteral (Truth b)) carried named e h = tt
-wanted_holds c u (OfLiteral (Bare z)) carried named e h = bare_holds e z h
-wanted_holds c u (OfLiteral (Whole written z)) carried named e h = whole_holds written z carried
-wanted_holds c u (OfLiteral (Duration z)) carried named e h = carried
-wanted_holds c u (OfVariable name) carried named e h = named
-wanted_holds c u (OfElement name index) carried named e h = carried
-wanted_holds c u (OfMember name word) carried named e h = carried
+pub wanted_holds : (c : Config) (u : ProgramUnit) (r : Reference) → IsSupportedOperand r → IsNamed c u r → (e : Elementary) → wanted_numbers c u r e ≡ [] → OperandHolds c u e r
+wanted_holds c u (OfLiteral (Truth b)) supported named e h = tt
+wanted_holds c u (OfLiteral (Bare z)) supported named e h = bare_holds e z h
+wanted_holds c u (OfLiteral (Whole written z)) supported named e h = whole_holds written z supported
+wanted_holds c u (OfLiteral (Duration z)) supported named e h = supported
+wanted_holds c u (OfVariable name) supported named e h = named
+wanted_holds c u (OfElement name index) supported named e h = supported
+wanted_holds c u (OfMember name word) supported named e h = supported
 
 -- what is known of a range that fits
 fitting : (e : Elementary) (i : Interval) → fits (numbers_of e) i ≡ true → known_fitting e i ≡ Ranged e i
@@ -174,16 +176,16 @@ bare_loaded c u stored z h = by_test (has_value Int z) (has_value Dint z) refl r
         loadable Dint refl q (ap (λ x. if x then Int else Dint) p) (ap (λ x. if x then Some Int else (if has_value Dint z then Some Dint else None)) p ∙ ap (λ x. if x then Some Dint else None) q)
     by_test false false p q e = cc
 
-pub loadable : (c : Config) (u : ProgramUnit) (stored : NameMap Interval) → AreFlows c u stored → (r : Reference) → IsCarriedOperand r → IsNamed c u r → loaded_numbers c u r ≡ [] → IsLoadable c u stored r
-loadable c u stored flows (OfLiteral (Truth b)) carried named h = record { holds = tt; found = Boolean; type = refl; typed = refl }
-loadable c u stored flows (OfLiteral (Bare z)) carried named h = bare_loaded c u stored z h
-loadable c u stored flows (OfLiteral (Whole written z)) carried named h =
-    let fit = whole_holds written z carried in record { holds = fit; found = written; type = refl; typed = fitting_type written written z fit refl }
-loadable c u stored flows (OfLiteral (Duration z)) carried named h = absurd carried
-loadable c u stored flows (OfVariable name) carried named h =
+pub loadable : (c : Config) (u : ProgramUnit) (stored : NameMap Interval) → AreFlows c u stored → (r : Reference) → IsSupportedOperand r → IsNamed c u r → loaded_numbers c u r ≡ [] → IsLoadable c u stored r
+loadable c u stored flows (OfLiteral (Truth b)) supported named h = record { holds = tt; found = Boolean; type = refl; typed = refl }
+loadable c u stored flows (OfLiteral (Bare z)) supported named h = bare_loaded c u stored z h
+loadable c u stored flows (OfLiteral (Whole written z)) supported named h =
+    let fit = whole_holds written z supported in record { holds = fit; found = written; type = refl; typed = fitting_type written written z fit refl }
+loadable c u stored flows (OfLiteral (Duration z)) supported named h = absurd supported
+loadable c u stored flows (OfVariable name) supported named h =
     record { holds = named; found = named.0.scalar.elementary; type = type_is c u name named.0 named.1; typed = variable_typed c u stored flows name named.0 named.1 }
-loadable c u stored flows (OfElement name index) carried named h = absurd carried
-loadable c u stored flows (OfMember name word) carried named h = absurd carried
+loadable c u stored flows (OfElement name index) supported named h = absurd supported
+loadable c u stored flows (OfMember name word) supported named h = absurd supported
 
 -- the type of a bare literal is that of the definition
 bare_natural : (a b : Bool) → or_dint (if a then Some Int else (if b then Some Dint else None)) ≡ (if a then Int else Dint)
@@ -234,7 +236,8 @@ pub operand_sound : (c : Config) (u : ProgramUnit) (stored variables : NameMap I
 operand_sound c u stored variables gets e (OfLiteral (Truth b)) holds go h = h
 operand_sound c u stored variables gets e (OfLiteral (Bare z)) holds go h =
     (holds.0, fit_value (limits e) z (fit_is (numbers_of e) (only z) holds.1), subst (λ k. go (shown k)) (fitting e (only z) holds.1) h)
-operand_sound c u stored variables gets e (OfLiteral (Whole written z)) holds go h = subst (λ k. go (shown k)) (fitting written (only z) holds) h
+operand_sound c u stored variables gets e (OfLiteral (Whole written z)) holds go h =
+    (fit_value (limits written) z (fit_is (numbers_of written) (only z) holds), subst (λ k. go (shown k)) (fitting written (only z) holds) h)
 operand_sound c u stored variables gets e (OfLiteral (Duration z)) holds go h = absurd holds
 operand_sound c u stored variables gets e (OfVariable name) holds go h =
     let s = holds.0 in
@@ -266,7 +269,7 @@ operand_complete c u stored variables lies e (OfLiteral (Truth b)) holds go h = 
 operand_complete c u stored variables lies e (OfLiteral (Bare z)) holds go h =
     subst (λ k. KnowsMore k go) (sym (fitting e (only z) holds.1)) (record { wide = AnyRanged e (only z); within = known_itself (AnyRanged e (only z)); goes = h.2 })
 operand_complete c u stored variables lies e (OfLiteral (Whole written z)) holds go h =
-    subst (λ k. KnowsMore k go) (sym (fitting written (only z) holds)) (record { wide = AnyRanged written (only z); within = known_itself (AnyRanged written (only z)); goes = h })
+    subst (λ k. KnowsMore k go) (sym (fitting written (only z) holds)) (record { wide = AnyRanged written (only z); within = known_itself (AnyRanged written (only z)); goes = h.1 })
 operand_complete c u stored variables lies e (OfLiteral (Duration z)) holds go h = absurd holds
 operand_complete c u stored variables lies e (OfVariable name) holds go h =
     let s = holds.0 in

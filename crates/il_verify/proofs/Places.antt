@@ -10,7 +10,10 @@ use Rattle.il_spec.specs.declared.tree.Instruction.{Instruction}
 use Rattle.il_rules.specs.Symbols.{symbol_of}
 use Rattle.il_rules.specs.Types.{type_after}
 use Rattle.il_run.specs.NameMap.{NameMap, get}
-use Rattle.il_run.specs.Annotation.{Known as AnyKnown, Flag as AnyFlag, Ranged as AnyRanged, KnownDeferred, Knowledge, Annotation, knowledge, Spot, Passes, Leads, IsKnownWithin, IsResultWithin, IsDeferredWithin, IsVariableWithin}
+use Rattle.il_run.specs.declared.known.Known.{Known as AnyKnown}
+use Rattle.il_run.specs.declared.known.Known.TheVariants.{Flag as AnyFlag, Ranged as AnyRanged}
+use Rattle.il_run.specs.declared.known.KnownDeferred.{KnownDeferred}
+use Rattle.il_run.specs.Annotation.{Knowledge, Annotation, knowledge, Spot, Passes, Leads, IsKnownWithin, IsResultWithin, IsDeferredWithin, IsVariableWithin}
 use Rattle.il_verify.specs.declared.known.Known.{Known}
 use Rattle.il_verify.specs.declared.ranges.Ranges.{Ranges}
 use Rattle.il_verify.specs.Forward.{known_after, with_result}
@@ -102,7 +105,7 @@ Goes c u a p r = (variables : NameMap Interval) → Gets c u r.stored variables 
 -- an annotation at the next place allows what is known
 pub record Next (c : Config) (u : ProgramUnit) (a : Annotation) (p : ℕ) (r : Ranges) : Type 0 where
   pub next : Knowledge
-  pub stands : slice_get a (p + 1) ≡ Some next
+  pub stands : slice_get a (p + 1) ≡ Some (Some next)
   pub covers : Covers c u r next
 
 -- what lies in wider ranges

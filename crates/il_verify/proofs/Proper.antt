@@ -20,8 +20,8 @@ use Rattle.il_interval.specs.declared.Interval.{Interval}
 use Rattle.il_rules.specs.declared.symbol.Symbol.{Symbol}
 use Rattle.il_rules.specs.Names.{Spelling, Origin, AsVariable, Variable, ImageName, image_of, image_name, is_predeclared, unit_named, own_variable, variables_of, with_origin, named_forms, sees, Meaning, MeansVariable, MeansUnit, MeansStandard, meaning, meant_variable, global_meaning, outer_meaning, or_else}
 use Rattle.il_rules.specs.Declarations.{has_value, is_within, unless, Admitted, AllForms, ScalarsAlone, ScalarsAndArrays, types_in, unit_types, written_types, type_numbers, subrange_numbers, admitted_variables, result_types, sizes_of, size_outside}
-use Rattle.il_rules.specs.Faults.{empty_range, initial_outside}
-use Rattle.il_rules.specs.Subset.{broken, IsDeclaredYet, IsCarriedProgram, AreCarriedVariables, IsCarriedForm, IsCarriedScalar}
+use Rattle.il_rules.specs.Faults.{empty_range, initial_outside, HasNoFault}
+use Rattle.il_rules.specs.Subset.{broken, IsSupportedProgram, AreSupportedVariables, IsSupportedForm, IsSupportedScalar, BreaksInSubset}
 use Rattle.il_rules.specs.Symbols.{symbol_by, symbol_of}
 use Rattle.il_run.specs.Annotation.{interval, range}
 use Rattle.il_verify.proofs.Tests.{left_true, right_true, le_is, IsRange}
@@ -93,24 +93,24 @@ int_range s h = by_test (has_value Int s.lower && has_value Int s.upper && int_l
 whole_int : IsProper (record { elementary = Int; subrange = None })
 whole_int = record { ordered = omega (arith, ints); fits = (omega (arith, ints), omega (arith, ints)) }
 
--- a carried type that breaks no rule
-carried_proper : (c : Config) (f : Form) → IsCarriedForm f → (Contains (type_numbers c AllForms f) 22 → ⊥) → IsProperForm f
+-- a supported type that breaks no rule
+supported_proper : (c : Config) (f : Form) → IsSupportedForm f → (Contains (type_numbers c AllForms f) 22 → ⊥) → IsProperForm f
 unfolding type_numbers
-carried_proper c (OfScalar s) carried h = by_parts s.elementary s.subrange carried h
+supported_proper c (OfScalar s) supported h = by_parts s.elementary s.subrange supported h
   where
-    by_parts : (e : Elementary) (o : Option Subrange) → IsCarriedScalar e o → (Contains (subrange_numbers e o) 22 → ⊥) → IsProper (record { elementary = e; subrange = o })
+    by_parts : (e : Elementary) (o : Option Subrange) → IsSupportedScalar e o → (Contains (subrange_numbers e o) 22 → ⊥) → IsProper (record { elementary = e; subrange = o })
     by_parts Boolean None k h = refl
     by_parts Int None k h = whole_int
     by_parts Int (Some sub) k h = int_range sub h
     by_parts _ _ k h = absurd k
-carried_proper c (OfArray bounds element) carried h = tt
-carried_proper c (OfBlock name) carried h = tt
+supported_proper c (OfArray bounds element) supported h = tt
+supported_proper c (OfBlock name) supported h = tt
 
--- a declaration of the program is carried
-declared_carried : (ds : List Declaration) → AreCarriedVariables ds → (d : Declaration) → Contains ds d → IsCarriedForm d.declared.form
-declared_carried [] k d (n, low, e) = absurd (omega arith)
-declared_carried (x ∷ ds) k d (zero, low, e) = subst (λ (y : Declaration). IsCarriedForm y.declared.form) e k.0
-declared_carried (x ∷ ds) k d (suc n, low, e) = declared_carried ds k.2 d (n, omega arith, e)
+-- a declaration of the program is supported
+declared_supported : (ds : List Declaration) → AreSupportedVariables ds → (d : Declaration) → Contains ds d → IsSupportedForm d.declared.form
+declared_supported [] k d (n, low, e) = absurd (omega arith)
+declared_supported (x ∷ ds) k d (zero, low, e) = subst (λ (y : Declaration). IsSupportedForm y.declared.form) e k.0
+declared_supported (x ∷ ds) k d (suc n, low, e) = declared_supported ds k.2 d (n, omega arith, e)
 
 -- the type of a declaration is among those that are written
 in_types : (admitted : Admitted) (ds : List Declaration) (d : Declaration) → Contains ds d → Contains (types_in admitted ds) (admitted, d.declared)
@@ -128,21 +128,21 @@ in_units c u alone t among =
     Contains-append_left (flat_map unit_types c.units) _ t (subst (λ us. Contains (flat_map unit_types us) t) (sym alone) (Contains-append_left (unit_types u) [] t among))
 
 -- each variable of the program has a proper type
-variable_proper : (c : Config) (u : ProgramUnit) → c.units ≡ u ∷ [] → IsCarriedProgram u → IsDeclaredYet c → (d : Declaration) → Contains u.variables d → IsProperForm d.declared.form
-variable_proper c u alone carried declared d among =
-    carried_proper c d.declared.form (declared_carried u.variables carried.variables d among) (λ k. declared 22 d.declared.place (broken (empty_range refl ((AllForms, d.declared), in_units c u alone (AllForms, d.declared) (in_unit u carried.kind d among), k, refl))))
+variable_proper : (c : Config) (u : ProgramUnit) → c.units ≡ u ∷ [] → IsSupportedProgram u → HasNoFault (BreaksInSubset c) → (d : Declaration) → Contains u.variables d → IsProperForm d.declared.form
+variable_proper c u alone supported declared d among =
+    supported_proper c d.declared.form (declared_supported u.variables supported.variables d among) (λ k. declared 22 d.declared.place (broken (empty_range refl ((AllForms, d.declared), in_units c u alone (AllForms, d.declared) (in_unit u supported.kind d among), k, refl))))
 
 -- the variables of the program are those of its one list
-own_are : (u : ProgramUnit) → IsCarriedProgram u → variables_of u ≡ with_origin AsVariable u.variables ++ []
+own_are : (u : ProgramUnit) → IsSupportedProgram u → variables_of u ≡ with_origin AsVariable u.variables ++ []
 own_are u k = rw (k.kind, k.inputs, k.outputs, k.externals) refl
 
 no_more : {X : Type 0} (xs : List X) → xs ++ [] ≡ xs
 no_more [] = refl
 no_more (x ∷ xs) = ap (λ ys. x ∷ ys) (no_more xs)
 
-own_proper : (c : Config) (u : ProgramUnit) → c.units ≡ u ∷ [] → IsCarriedProgram u → IsDeclaredYet c → (name : Spelling) (v : Variable) → own_variable u name ≡ Some v → IsProperForm v.form
-own_proper c u alone carried declared name v e =
-    find_proper AsVariable name (named_forms u.variables) (all_declared u.variables (variable_proper c u alone carried declared)) v (ap (find (λ (v : Variable). bytes_eq v.name name)) (sym (own_are u carried ∙ no_more _)) ∙ e)
+own_proper : (c : Config) (u : ProgramUnit) → c.units ≡ u ∷ [] → IsSupportedProgram u → HasNoFault (BreaksInSubset c) → (name : Spelling) (v : Variable) → own_variable u name ≡ Some v → IsProperForm v.form
+own_proper c u alone supported declared name v e =
+    find_proper AsVariable name (named_forms u.variables) (all_declared u.variables (variable_proper c u alone supported declared)) v (ap (find (λ (v : Variable). bytes_eq v.name name)) (sym (own_are u supported ∙ no_more _)) ∙ e)
 
 -- NAMES OF THE IMAGE
 
@@ -155,14 +155,14 @@ record AreSizes (cars floors slots : ℤ) : Type 0 where
   slots_low : pos 1 ≤ℤ slots
   slots_high : slots ≤ℤ pos 64
 
-size_within : (c : Config) → IsDeclaredYet c → (s : Size × Subrange) → Contains (sizes_of c) s → is_within s.1 s.0.value ≡ true
+size_within : (c : Config) → HasNoFault (BreaksInSubset c) → (s : Size × Subrange) → Contains (sizes_of c) s → is_within s.1 s.0.value ≡ true
 size_within c declared s among = by_test (is_within s.1 s.0.value) refl
   where
     by_test : (b : Bool) → is_within s.1 s.0.value ≡ b → is_within s.1 s.0.value ≡ true
     by_test true e = e
     by_test false e = absurd (declared 23 s.0.place (broken (initial_outside refl (size_outside s among e refl))))
 
-sizes_are : (c : Config) → IsDeclaredYet c → AreSizes c.cars.value c.floors.value c.slots.value
+sizes_are : (c : Config) → HasNoFault (BreaksInSubset c) → AreSizes c.cars.value c.floors.value c.slots.value
 sizes_are c declared =
     let cars = size_within c declared (c.cars, record { lower = pos 1; upper = pos 8 }) (0, omega arith, refl) in
     let floors = size_within c declared (c.floors, record { lower = pos 2; upper = pos 16 }) (1, omega arith, refl) in
@@ -257,7 +257,7 @@ images_proper cars floors slots s = (
   ),
 )
 
-image_proper : (c : Config) → IsDeclaredYet c → (name : Spelling) (i : ImageName) → image_name c name ≡ Some i → IsProperForm i.variable.form
+image_proper : (c : Config) → HasNoFault (BreaksInSubset c) → (name : Spelling) (i : ImageName) → image_name c name ≡ Some i → IsProperForm i.variable.form
 unfolding image_name
 image_proper c declared name i e = find_image name (image_of c.cars.value c.floors.value c.slots.value) (images_proper c.cars.value c.floors.value c.slots.value (sizes_are c declared)) i e
 
@@ -288,10 +288,10 @@ means_proper : (o : Option Variable) (other : Option Meaning) → ((v : Variable
 means_proper None other p q = q
 means_proper (Some v) other p q = p v refl
 
-meaning_proper : (c : Config) (u : ProgramUnit) → c.units ≡ u ∷ [] → IsCarriedProgram u → IsDeclaredYet c → (name : Spelling) → IsProperMeaning (meaning c u name)
+meaning_proper : (c : Config) (u : ProgramUnit) → c.units ≡ u ∷ [] → IsSupportedProgram u → HasNoFault (BreaksInSubset c) → (name : Spelling) → IsProperMeaning (meaning c u name)
 unfolding meaning
-meaning_proper c u alone carried declared name =
-    means_proper (own_variable u name) (outer_meaning c u name (image_name c name)) (own_proper c u alone carried declared name) (outer_proper c u name (image_name c name) (image_proper c declared name))
+meaning_proper c u alone supported declared name =
+    means_proper (own_variable u name) (outer_meaning c u name (image_name c name)) (own_proper c u alone supported declared name) (outer_proper c u name (image_name c name) (image_proper c declared name))
 
 symbol_proper_by : (origin : Origin) (f : Form) → IsProperForm f → IsProperSymbol (symbol_by origin f)
 symbol_proper_by origin (OfScalar s) p = p
@@ -305,6 +305,6 @@ by_meaning (Some MeansStandard) p = tt
 by_meaning None p = tt
 
 -- the declared range of a name has a number, and lies in its type
-pub symbol_proper : (c : Config) (u : ProgramUnit) → c.units ≡ u ∷ [] → IsCarriedProgram u → IsDeclaredYet c → (name : Spelling) → IsProperSymbol (symbol_of c u name)
+pub symbol_proper : (c : Config) (u : ProgramUnit) → c.units ≡ u ∷ [] → IsSupportedProgram u → HasNoFault (BreaksInSubset c) → (name : Spelling) → IsProperSymbol (symbol_of c u name)
 unfolding symbol_of
-symbol_proper c u alone carried declared name = by_meaning (meaning c u name) (meaning_proper c u alone carried declared name)
+symbol_proper c u alone supported declared name = by_meaning (meaning c u name) (meaning_proper c u alone supported declared name)

@@ -12,11 +12,12 @@ use Rattle.il_spec.specs.declared.fault.Refusal.{Refusal}
 use Rattle.il_spec.specs.declared.fault.Refusal.TheVariants.{Fault, Memory}
 use Rattle.il_rules.specs.declared.symbol.Symbol.{Symbol}
 use Rattle.il_rules.specs.Names.{Spelling, or_else}
-use Rattle.il_rules.specs.Subset.{IsCarriedProgram, IsDeclaredYet}
+use Rattle.il_rules.specs.Faults.{HasNoFault}
+use Rattle.il_rules.specs.Subset.{IsSupportedProgram, BreaksInSubset}
 use Rattle.il_rules.specs.Straight.{line_type, AreTyped}
 use Rattle.il_rules.specs.Symbols.{IsProgram, symbol_of}
 use Rattle.il_rules.specs.Types.{typing_numbers}
-use Rattle.il_rules.proofs.Straight.{are_typed, step_carried, type_line_next, only_unit, among_units}
+use Rattle.il_rules.proofs.Straight.{are_typed, step_supported, type_line_next, only_unit, among_units}
 use Rattle.il_run.specs.NameMap.{NameMap, Text, get, insert, empty, with_entries, get-insert, get-empty, order}
 use Rattle.il_run.specs.Step.{instruction_at, instruction_or_return}
 use Rattle.il_run.specs.Annotation.{Knowledge, Annotation, knowledge, Passes, range, IsResultWithin, IsDeferredWithin, IsEntry, IsVariableWithin, IsAnnotatedBelow, IsAnnotated, Annotated, IsFirstWithout, places, declared_range}
@@ -38,17 +39,17 @@ use Rattle.il_verify.proofs.Works.{works}
 -- a program of which no rule of declarations and of types is broken
 pub record IsSetting (c : Config) (u : ProgramUnit) : Type 0 where
   pub alone : c.units ≡ u ∷ []
-  pub carried : IsCarriedProgram u
-  pub declared : IsDeclaredYet c
+  pub supported : IsSupportedProgram u
+  pub declared : HasNoFault (BreaksInSubset c)
   pub typed : AreTyped c u
 
 pub setting : (c : Config) (r : IsResolved c) → IsSetting c r.program
-setting c r = record { alone = r.is.alone; carried = r.carried; declared = r.declared; typed = are_typed c r.program r.is.alone r.carried.steps r.typed }
+setting c r = record { alone = r.is.alone; supported = r.supported; declared = r.declared; typed = are_typed c r.program r.is.alone r.supported.steps r.typed }
 
 -- the pass does right by each instruction of the program
 step_works : (c : Config) (u : ProgramUnit) → IsSetting c u → (at : ℕ) (s : Step) → slice_get u.body.steps at ≡ Some s → (r : Ranges) → IsFine c u (line_type c u at) r → Works c u (line_type c u at) r s.instruction
 step_works c u set at s e r fine =
-    works c u (line_type c u at) r s.instruction fine (step_carried u.body.steps set.carried.steps at s e).1 (step_named c u set.declared (among_units c u set.alone) at s e)
+    works c u (line_type c u at) r s.instruction fine (step_supported u.body.steps set.supported.steps at s e).1 (step_named c u set.declared (among_units c u set.alone) at s e)
     (nothing_in (typing_numbers c u s.instruction (line_type c u at) None) (set.typed at s e))
 
 -- THE PASS
@@ -108,7 +109,7 @@ flow_entry (Some s) p = by_range s.scalar.elementary (range s.scalar) p
 
 fine_entry : (c : Config) (u : ProgramUnit) → IsSetting c u → IsFine c u None at_entry
 fine_entry c u set = record {
-  flows = λ name. subst (IsFlow (symbol_of c u name)) (sym (get-empty name)) (flow_entry (symbol_of c u name) (symbol_proper c u set.alone set.carried set.declared name));
+  flows = λ name. subst (IsFlow (symbol_of c u name)) (sym (get-empty name)) (flow_entry (symbol_of c u name) (symbol_proper c u set.alone set.supported set.declared name));
   result = tt;
 }
 
@@ -212,6 +213,10 @@ overlaid_gets c u m d stored q = get-with m stored.list q ∙ ap (or_else (find 
 abbrev at_place : NameMap Interval → Ranges → Knowledge
 at_place m r = knowledge (overlaid m r.stored) (shown_result r.result) []
 
+-- the same, at a place that is reached
+abbrev at_known : NameMap Interval → Ranges → Option Knowledge
+at_known m r = Some (at_place m r)
+
 -- the rest of an annotation, if there is one
 abbrev or_nil : Option Annotation → Annotation
 or_nil None = []
@@ -219,17 +224,17 @@ or_nil (Some a) = a
 
 -- what the pass knows at each place, until it stops
 abbrev passed : (Spelling → Option Symbol) → NameMap Interval → List Step → Ranges → Annotation
-passed lookup m [] r = at_place m r ∷ []
-passed lookup m (s ∷ steps) r = at_place m r ∷ or_nil (option_map (passed lookup m steps) (known_after lookup s.instruction r))
+passed lookup m [] r = Some (at_place m r) ∷ []
+passed lookup m (s ∷ steps) r = Some (at_place m r) ∷ or_nil (option_map (passed lookup m steps) (known_after lookup s.instruction r))
 
-passed_at : (lookup : Spelling → Option Symbol) (m : NameMap Interval) (steps : List Step) (at : ℕ) (r : Ranges) → at ≤ length steps → slice_get (passed lookup m steps r) at ≡ option_map (at_place m) (known_behind lookup (take at steps) r)
+passed_at : (lookup : Spelling → Option Symbol) (m : NameMap Interval) (steps : List Step) (at : ℕ) (r : Ranges) → at ≤ length steps → slice_get (passed lookup m steps r) at ≡ option_map (at_known m) (known_behind lookup (take at steps) r)
 passed_at lookup m [] zero r low = refl
 passed_at lookup m [] (suc at) r low = absurd (omega arith)
 passed_at lookup m (s ∷ steps) zero r low = refl
 passed_at lookup m (s ∷ steps) (suc at) r low = by_after (known_after lookup s.instruction r) (λ q. passed_at lookup m steps at q (omega arith))
   where
-    by_after : (o : Option Ranges) → ((q : Ranges) → slice_get (passed lookup m steps q) at ≡ option_map (at_place m) (known_behind lookup (take at steps) q))
-        → slice_get (or_nil (option_map (passed lookup m steps) o)) at ≡ option_map (at_place m) (option_and_then (known_behind lookup (take at steps)) o)
+    by_after : (o : Option Ranges) → ((q : Ranges) → slice_get (passed lookup m steps q) at ≡ option_map (at_known m) (known_behind lookup (take at steps) q))
+        → slice_get (or_nil (option_map (passed lookup m steps) o)) at ≡ option_map (at_known m) (option_and_then (known_behind lookup (take at steps)) o)
     by_after None h = refl
     by_after (Some q) h = h q
 
@@ -237,8 +242,8 @@ passed_at lookup m (s ∷ steps) (suc at) r low = by_after (known_after lookup s
 abbrev passed_all : Config → ProgramUnit → NameMap Interval → Annotation
 passed_all c u m = passed (symbol_of c u) m u.body.steps at_entry
 
-passed_here : (c : Config) (u : ProgramUnit) (m : NameMap Interval) (at : ℕ) → at ≤ length u.body.steps → (r : Ranges) → forward c u at ≡ Some r → slice_get (passed_all c u m) at ≡ Some (at_place m r)
-passed_here c u m at low r is = passed_at (symbol_of c u) m u.body.steps at at_entry low ∙ ap (option_map (at_place m)) is
+passed_here : (c : Config) (u : ProgramUnit) (m : NameMap Interval) (at : ℕ) → at ≤ length u.body.steps → (r : Ranges) → forward c u at ≡ Some r → slice_get (passed_all c u m) at ≡ Some (Some (at_place m r))
+passed_here c u m at low r is = passed_at (symbol_of c u) m u.body.steps at at_entry low ∙ ap (option_map (at_known m)) is
 
 -- the pass came by each place before one
 record WasAt (c : Config) (u : ProgramUnit) (at : ℕ) : Type 0 where
@@ -275,8 +280,11 @@ goes_at c u m d at low r is variables gets = (
   },
 )
 
+same_some_some : {X : Type 0} (x y : X) → Some (Some x) ≡ Some (Some y) → x ≡ y
+same_some_some x y e = let inner : Some x ≡ Some y = cc in cc
+
 -- the annotation holds at each instruction behind which the pass came
-passes_at : (c : Config) (u : ProgramUnit) → IsSetting c u → (m : NameMap Interval) → IsDeclaredMap c u m → (at : ℕ) → at < length u.body.steps → WasAt c u (at + 1) → (k : Knowledge) → slice_get (passed_all c u m) at ≡ Some k
+passes_at : (c : Config) (u : ProgramUnit) → IsSetting c u → (m : NameMap Interval) → IsDeclaredMap c u m → (at : ℕ) → at < length u.body.steps → WasAt c u (at + 1) → (k : Knowledge) → slice_get (passed_all c u m) at ≡ Some (Some k)
     → Passes (spot c u (passed_all c u m) at k) (instruction_at u.body at)
 passes_at c u set m d at low w k stands =
     let s = there u at low in
@@ -284,10 +292,10 @@ passes_at c u set m d at low w k stands =
     let b = came_on c u at s.step s.stands w.ranges after in
     let fine = fine_at c u set at (omega arith) b.before b.was in
     let here = (step_works c u set at s.step s.stands b.before fine).sound (passed_all c u m) at (overlaid m b.before.stored) (overlaid_gets c u m d b.before.stored) w.ranges b.leads (goes_at c u m d at (omega arith) w.ranges w.is) in
-    let is : at_place m b.before ≡ k = same_some (at_place m b.before) k (sym (passed_here c u m at (omega arith) b.before b.was) ∙ stands) in
+    let is : at_place m b.before ≡ k = same_some_some (at_place m b.before) k (sym (passed_here c u m at (omega arith) b.before b.was) ∙ stands) in
     subst (λ o. Passes (spot c u (passed_all c u m) at k) (instruction_or_return o)) (sym s.stands) (subst (λ x. Passes (spot c u (passed_all c u m) at x) s.step.instruction) is here)
 
-entry_of_pass : (c : Config) (u : ProgramUnit) (m : NameMap Interval) → IsDeclaredMap c u m → (first : Knowledge) × (slice_get (passed_all c u m) 0 ≡ Some first) × IsEntry c u first
+entry_of_pass : (c : Config) (u : ProgramUnit) (m : NameMap Interval) → IsDeclaredMap c u m → (first : Knowledge) × (slice_get (passed_all c u m) 0 ≡ Some (Some first)) × IsEntry c u first
 entry_of_pass c u m d = (
   at_place m at_entry,
   passed_here c u m 0 (omega arith) at_entry refl,
@@ -309,7 +317,7 @@ annotated_below c u set m d at low w = record {
 annotated_all : (c : Config) (u : ProgramUnit) → IsSetting c u → (m : NameMap Interval) → IsDeclaredMap c u m → WasAt c u (length u.body.steps) → IsAnnotated c u (passed_all c u m)
 annotated_all c u set m d w = record { entry = entry_of_pass c u m d; each = each }
   where
-    each : (place : ℕ) (k : Knowledge) → place < places u → slice_get (passed_all c u m) place ≡ Some k → Passes (spot c u (passed_all c u m) place k) (instruction_at u.body place)
+    each : (place : ℕ) (k : Knowledge) → place < places u → slice_get (passed_all c u m) place ≡ Some (Some k) → Passes (spot c u (passed_all c u m) place k) (instruction_at u.body place)
     each place k below stands = elim (slice_get_cases u.body.steps place).1 [
       | inl x ↦ passes_at c u set m d place x.1 (was_before c u (place + 1) (length u.body.steps) (let low : place < length u.body.steps = x.1 in omega arith) (omega arith) w) k stands
       | inr x ↦ subst (λ o. Passes (spot c u (passed_all c u m) place k) (instruction_or_return o)) (sym (slice_get_past u.body.steps place x.0)) (tt, tt)
@@ -322,7 +330,7 @@ record IsCovered (c : Config) (u : ProgramUnit) (a : Annotation) (at : ℕ) : Ty
   ranges : Ranges
   is : forward c u at ≡ Some ranges
   known : Knowledge
-  stands : slice_get a at ≡ Some known
+  stands : slice_get a at ≡ Some (Some known)
   covers : Covers c u ranges known
 
 forward_on : (c : Config) (u : ProgramUnit) (at : ℕ) (s : Step) → slice_get u.body.steps at ≡ Some s → (r : Ranges) → forward c u at ≡ Some r → (after : Option Ranges) → known_after (symbol_of c u) s.instruction r ≡ after → forward c u (suc at) ≡ after
@@ -333,7 +341,7 @@ covered_next c u a at s r is (next, leads, n) = record {
   ranges = next;
   is = forward_on c u at s.step s.stands r is (Some next) leads;
   known = n.next;
-  stands = subst (λ k. slice_get a k ≡ Some n.next) (add-one at) n.stands;
+  stands = subst (λ k. slice_get a k ≡ Some (Some n.next)) (add-one at) n.stands;
   covers = n.covers;
 }
 

@@ -1,4 +1,4 @@
--- The pass does right by LIMIT, and so by each instruction that is carried.
+-- The pass does right by LIMIT, and so by each instruction that is supported.
 use Rattle.std.proofs.Common.{◌≡◌, ℕ, ◌+◌, true, false, not, if◌then◌else◌, List, [], ◌∷◌, ◌++◌, take, length, Option, Some, None, refl, sym, ap, ◌∙◌, subst, arith}
 use Rattle.std.specs.Prelude.{flat_map, nat_eq, codes}
 use Rattle.std.proofs.lemmas.Int.{ints, clamps}
@@ -21,12 +21,15 @@ use Rattle.il_spec.specs.declared.tree.Instruction.TheVariants.{Load, Store, Not
 use Rattle.il_spec.specs.ElementaryTypes.{is_same_type}
 use Rattle.il_rules.specs.Names.{Limited, standard_function, function_named}
 use Rattle.il_rules.specs.Declarations.{unless}
-use Rattle.il_rules.specs.Subset.{IsCarriedOperand, AreCarriedOperands, IsCarriedOperator, IsCarriedInstruction}
+use Rattle.il_rules.specs.Subset.{IsSupportedOperand, AreSupportedOperands, IsSupportedOperator, IsSupportedInstruction}
 use Rattle.il_rules.specs.Symbols.{symbol_of}
 use Rattle.il_rules.specs.Types.{wanted_numbers, presence_numbers, index_numbers, maybe_wanted_numbers, taken_numbers, operand_type, arithmetic_takes, function_numbers, uniform_numbers, function_type, typing_numbers, type_after, store_type_numbers, written_numbers}
 use Rattle.il_run.specs.NameMap.{NameMap}
 use Rattle.il_run.specs.Meaning.{denotation}
-use Rattle.il_run.specs.Annotation.{Known as AnyKnown, Flag as AnyFlag, Ranged as AnyRanged, KnownDeferred, Annotation, knowledge, Passes, Leads, IsKnownWithin, IsResultWithin, numbers_of, WithInterval, WithOperand, WithApplied, IsInvoked}
+use Rattle.il_run.specs.declared.known.Known.{Known as AnyKnown}
+use Rattle.il_run.specs.declared.known.Known.TheVariants.{Flag as AnyFlag, Ranged as AnyRanged}
+use Rattle.il_run.specs.declared.known.KnownDeferred.{KnownDeferred}
+use Rattle.il_run.specs.Annotation.{Annotation, knowledge, Passes, Leads, IsKnownWithin, IsResultWithin, numbers_of, WithInterval, WithOperand, WithApplied, IsInvoked}
 use Rattle.il_verify.specs.declared.known.Known.{Known}
 use Rattle.il_verify.specs.declared.known.Known.TheVariants.{Flag, Ranged}
 use Rattle.il_verify.specs.declared.ranges.Ranges.{Ranges}
@@ -65,9 +68,9 @@ record IsRangedOperand (c : Config) (u : ProgramUnit) (stored : NameMap Interval
   is : known_operand (symbol_of c u) stored e r ≡ Ranged e found
   in_type : IsRange e found
 
-ranged_operand : (c : Config) (u : ProgramUnit) (t : Option Elementary) (r : Ranges) → IsFine c u t r → (e : Elementary) (i : Interval) → IsRange e i → (reference : Reference) → IsCarriedOperand reference → IsNamed c u reference → wanted_numbers c u reference e ≡ [] → IsRangedOperand c u r.stored e reference
-ranged_operand c u t r fine e i in_type reference carried named h =
-    let holds = wanted_holds c u reference carried named e h in
+ranged_operand : (c : Config) (u : ProgramUnit) (t : Option Elementary) (r : Ranges) → IsFine c u t r → (e : Elementary) (i : Interval) → IsRange e i → (reference : Reference) → IsSupportedOperand reference → IsNamed c u reference → wanted_numbers c u reference e ≡ [] → IsRangedOperand c u r.stored e reference
+ranged_operand c u t r fine e i in_type reference supported named h =
+    let holds = wanted_holds c u reference supported named e h in
     let k = is_ranged e i in_type (known_operand (symbol_of c u) r.stored e reference) (wanted_typed c u r.stored fine.flows reference e holds h) in
     record { holds = holds; found = k.found; is = k.is; in_type = k.in_type }
 
@@ -144,14 +147,14 @@ are_two c u (a ∷ b ∷ x ∷ os) found two h = absurd (omega arith)
 not_boolean : (found : Elementary) → not (is_same_type found Boolean) ≡ true → found ≡ Boolean → ⊥
 not_boolean found h e = let bad : false ≡ true = subst (λ x. not (is_same_type x Boolean) ≡ true) e h in cc
 
-works_invoke : (c : Config) (u : ProgramUnit) (t : Option Elementary) (stored : NameMap Interval) (result : Option Known) (function : Named) (operands : List Operand) → function.name ≡ codes "LIMIT" → AreCarriedOperands operands → AreNamed c u operands → IsFine c u t (ranges stored result)
+works_invoke : (c : Config) (u : ProgramUnit) (t : Option Elementary) (stored : NameMap Interval) (result : Option Known) (function : Named) (operands : List Operand) → function.name ≡ codes "LIMIT" → AreSupportedOperands operands → AreNamed c u operands → IsFine c u t (ranges stored result)
     → presence_numbers t ≡ [] → function_numbers c u (Some Limited) (function_named c function.name) operands t ≡ [] → Works c u t (ranges stored result) (Invoke function operands)
-works_invoke c u None stored result function operands name carried named fine present h = cc
-works_invoke c u (Some found) stored None function operands name carried named fine present h = absurd fine.result
-works_invoke c u (Some found) stored (Some Flag) function operands name carried named fine present h =
+works_invoke c u None stored result function operands name supported named fine present h = cc
+works_invoke c u (Some found) stored None function operands name supported named fine present h = absurd fine.result
+works_invoke c u (Some found) stored (Some Flag) function operands name supported named fine present h =
     let uniform = right_nil (unless (nat_eq (length operands) 2) 37) (uniform_numbers c u Limited operands (Some found)) h in
     absurd (not_boolean found (if_nil (not (is_same_type found Boolean)) (flat_map (λ o. wanted_numbers c u o.reference found) (take 2 operands)) 30 uniform).0 fine.result)
-works_invoke c u (Some found) stored (Some (Ranged e i)) function operands name carried named fine present h =
+works_invoke c u (Some found) stored (Some (Ranged e i)) function operands name supported named fine present h =
     let uniform = right_nil (unless (nat_eq (length operands) 2) 37) (uniform_numbers c u Limited operands (Some found)) h in
     let wanted = (if_nil (not (is_same_type found Boolean)) (flat_map (λ o. wanted_numbers c u o.reference found) (take 2 operands)) 30 uniform).1 in
     let two = eqb-true (length operands) 2 (unless_nil (nat_eq (length operands) 2) 37 (left_nil (unless (nat_eq (length operands) 2) 37) (uniform_numbers c u Limited operands (Some found)) h)) in
@@ -159,41 +162,41 @@ works_invoke c u (Some found) stored (Some (Ranged e i)) function operands name 
   where
     of_two : AreTwo c u operands found → Works c u (Some found) (ranges stored (Some (Ranged e i))) (Invoke function operands)
     of_two o =
-        let carried_two : AreCarriedOperands (o.first ∷ o.second ∷ []) = subst AreCarriedOperands o.are carried in
+        let supported_two : AreSupportedOperands (o.first ∷ o.second ∷ []) = subst AreSupportedOperands o.are supported in
         let named_two : AreNamed c u (o.first ∷ o.second ∷ []) = subst (AreNamed c u) o.are named in
         let wanted_first = subst (λ x. wanted_numbers c u o.first.reference x ≡ []) (sym fine.result.0) o.first_wanted in
         let wanted_second = subst (λ x. wanted_numbers c u o.second.reference x ≡ []) (sym fine.result.0) o.second_wanted in
         subst (λ os. Works c u (Some found) (ranges stored (Some (Ranged e i))) (Invoke function os)) (sym o.are)
         (works_limit c u (Some found) stored function o.first o.second name e i fine.result.1 fine (ap Some (sym fine.result.0))
-        (ranged_operand c u (Some found) (ranges stored (Some (Ranged e i))) fine e i fine.result.1 o.first.reference carried_two.0 named_two.0 wanted_first)
-        (ranged_operand c u (Some found) (ranges stored (Some (Ranged e i))) fine e i fine.result.1 o.second.reference carried_two.1.0 named_two.1.0 wanted_second))
+        (ranged_operand c u (Some found) (ranges stored (Some (Ranged e i))) fine e i fine.result.1 o.first.reference supported_two.0 named_two.0 wanted_first)
+        (ranged_operand c u (Some found) (ranges stored (Some (Ranged e i))) fine e i fine.result.1 o.second.reference supported_two.1.0 named_two.1.0 wanted_second))
 
 -- EACH INSTRUCTION
 
-works_operate : (c : Config) (u : ProgramUnit) (t : Option Elementary) (r : Ranges) (operator : Operator) (operand : Operand) → IsFine c u t r → IsCarriedOperator operator → IsCarriedOperand operand.reference → IsNamed c u operand.reference
+works_operate : (c : Config) (u : ProgramUnit) (t : Option Elementary) (r : Ranges) (operator : Operator) (operand : Operand) → IsFine c u t r → IsSupportedOperator operator → IsSupportedOperand operand.reference → IsNamed c u operand.reference
     → taken_numbers operator t ≡ [] → maybe_wanted_numbers c u operand.reference (operand_type operator t) ≡ [] → Works c u t r (Operate operator operand)
-works_operate c u None r operator operand fine carried_operator carried named taken h = cc
-works_operate c u (Some found) r (Logic kind negated) operand fine carried_operator carried named taken h =
-    works_logic c u (Some found) r kind negated operand fine carried named (ap Some (same_type found Boolean (unless_nil (is_same_type found Boolean) 30 taken))) h
-works_operate c u (Some found) r (Arithmetic kind) operand fine carried_operator carried named taken h =
+works_operate c u None r operator operand fine supported_operator supported named taken h = cc
+works_operate c u (Some found) r (Logic kind negated) operand fine supported_operator supported named taken h =
+    works_logic c u (Some found) r kind negated operand fine supported named (ap Some (same_type found Boolean (unless_nil (is_same_type found Boolean) 30 taken))) h
+works_operate c u (Some found) r (Arithmetic kind) operand fine supported_operator supported named taken h =
     let takes = unless_nil (arithmetic_takes kind found) 30 taken in
-    works_sum c u (Some found) r.stored r.result kind operand (is_sum kind carried_operator) fine fine.result carried named found refl takes (subst (λ b. maybe_wanted_numbers c u operand.reference (if b then Some found else None) ≡ []) takes h)
-works_operate c u (Some found) r (Comparison kind) operand fine carried_operator carried named taken h = absurd carried_operator
+    works_sum c u (Some found) r.stored r.result kind operand (is_sum kind supported_operator) fine fine.result supported named found refl takes (subst (λ b. maybe_wanted_numbers c u operand.reference (if b then Some found else None) ≡ []) takes h)
+works_operate c u (Some found) r (Comparison kind) operand fine supported_operator supported named taken h = absurd supported_operator
 
 -- the pass does right by each instruction
-pub works : (c : Config) (u : ProgramUnit) (t : Option Elementary) (r : Ranges) (i : Instruction) → IsFine c u t r → IsCarriedInstruction i → IsStepNamed c u i → typing_numbers c u i t None ≡ [] → Works c u t r i
+pub works : (c : Config) (u : ProgramUnit) (t : Option Elementary) (r : Ranges) (i : Instruction) → IsFine c u t r → IsSupportedInstruction i → IsStepNamed c u i → typing_numbers c u i t None ≡ [] → Works c u t r i
 unfolding typing_numbers
-works c u t r (Load false operand) fine carried named h = works_load c u t r operand fine carried named h
-works c u t r (Load true operand) fine carried named h = works_load_not c u t r operand fine carried named h
-works c u t r (Store kind to) fine carried named h =
-    works_store c u t r.stored r.result kind to.place to.reference carried.0 carried.1 named fine
+works c u t r (Load false operand) fine supported named h = works_load c u t r operand fine supported named h
+works c u t r (Load true operand) fine supported named h = works_load_not c u t r operand fine supported named h
+works c u t r (Store kind to) fine supported named h =
+    works_store c u t r.stored r.result kind to.place to.reference supported.0 supported.1 named fine
     (right_nil (index_numbers c u to.reference ++ written_numbers c u to.reference) (store_type_numbers c u kind to.reference t) h)
-works c u t r Not fine carried named h = works_not c u t r fine h
-works c u t r (Operate operator operand) fine carried named h =
-    works_operate c u t r operator operand fine carried.0 carried.1 named (left_nil (taken_numbers operator t) (maybe_wanted_numbers c u operand.reference (operand_type operator t)) h) (right_nil (taken_numbers operator t) (maybe_wanted_numbers c u operand.reference (operand_type operator t)) h)
-works c u t r (Invoke function operands) fine carried named h =
+works c u t r Not fine supported named h = works_not c u t r fine h
+works c u t r (Operate operator operand) fine supported named h =
+    works_operate c u t r operator operand fine supported.0 supported.1 named (left_nil (taken_numbers operator t) (maybe_wanted_numbers c u operand.reference (operand_type operator t)) h) (right_nil (taken_numbers operator t) (maybe_wanted_numbers c u operand.reference (operand_type operator t)) h)
+works c u t r (Invoke function operands) fine supported named h =
     let both = left_nil (presence_numbers t ++ flat_map (λ o. index_numbers c u o.reference) operands) (function_numbers c u (standard_function function.name) (function_named c function.name) operands t) h in
     let numbers = right_nil (presence_numbers t ++ flat_map (λ o. index_numbers c u o.reference) operands) (function_numbers c u (standard_function function.name) (function_named c function.name) operands t) h in
-    works_invoke c u t r.stored r.result function operands carried.0 carried.1 named fine (left_nil (presence_numbers t) (flat_map (λ o. index_numbers c u o.reference) operands) both)
-    (subst (λ f. function_numbers c u f (function_named c function.name) operands t ≡ []) (limit_is function.name carried.0) numbers)
-works c u t r _ fine carried named h = absurd carried
+    works_invoke c u t r.stored r.result function operands supported.0 supported.1 named fine (left_nil (presence_numbers t) (flat_map (λ o. index_numbers c u o.reference) operands) both)
+    (subst (λ f. function_numbers c u f (function_named c function.name) operands t ≡ []) (limit_is function.name supported.0) numbers)
+works c u t r _ fine supported named h = absurd supported

@@ -10,8 +10,8 @@ use Rattle.il_spec.specs.declared.fault.Refusal.TheVariants.{Fault, Memory}
 use Rattle.il_rules.specs.declared.symbol.Symbol.{Symbol}
 use Rattle.il_rules.specs.Names.{Spelling}
 use Rattle.il_rules.specs.Symbols.{IsProgram, symbol_of}
-use Rattle.il_rules.specs.Subset.{IsCarriedProgram, IsDeclaredYet}
-use Rattle.il_rules.specs.Faults.{IsUnbroken, Typing}
+use Rattle.il_rules.specs.Subset.{IsSupportedProgram, BreaksInSubset}
+use Rattle.il_rules.specs.Faults.{Typing, HasNoFault, Broken}
 use Rattle.il_run.specs.NameMap.{NameMap, get}
 use Rattle.il_run.specs.Annotation.{Annotated, IsFirstWithout}
 
@@ -19,9 +19,9 @@ use Rattle.il_run.specs.Annotation.{Annotated, IsFirstWithout}
 pub record IsResolved (c : Config) : Type 0 where
   pub program : ProgramUnit
   pub is : IsProgram c program
-  pub carried : IsCarriedProgram program
-  pub declared : IsDeclaredYet c
-  pub typed : IsUnbroken Typing c
+  pub supported : IsSupportedProgram program
+  pub declared : HasNoFault (BreaksInSubset c)
+  pub typed : HasNoFault (Broken Typing c)
 
 -- each name of the program has its meaning in the table
 abbrev pub AreSymbols : Config → NameMap Symbol → Type 0

@@ -1,7 +1,8 @@
 -- A step of the plant under outputs that obey the interlock with what it tells.
-use Rattle.std.proofs.Common.{◌≡◌, ◌≢◌, refl, sym, ap, ◌∙◌, subst, ℕ, zero, suc, ◌+◌, ◌-◌, ◌*◌, ◌≤◌, ◌<◌, min, Bool, true, false, List, [], ◌∷◌, length, Some, None, Option, ℤ, pos, negsuc, ◌+ℤ◌, ◌≤ℤ◌, ◌<ℤ◌, slice_get, All, arith}
+use Rattle.std.proofs.Common.{◌≡◌, ◌≢◌, refl, sym, ap, ◌∙◌, subst, ℕ, zero, suc, ◌+◌, ◌-◌, ◌*◌, ◌≤◌, ◌<◌, min, Bool, true, false, List, [], ◌∷◌, length, replicate, Some, None, Option, ℤ, pos, negsuc, ◌+ℤ◌, ◌≤ℤ◌, ◌<ℤ◌, slice_get, All, arith}
 use Rattle.std.specs.Prelude.{int_lt, int_le, int_div, nat_abs, ◌==◌, if◌then◌else◌}
 use Rattle.std.proofs.lemmas.Int.{ints}
+use Rattle.std.proofs.lemmas.List.{length-replicate}
 use Rattle.std.proofs.lemmas.List.Elements.{All-nil, All-cons}
 use lib.Signed.{le_z_yes, lt_z_yes}
 use lib.Dec.{T}
@@ -13,7 +14,7 @@ use Rattle.lift_spec.specs.declared.image.Motor.{Motor}
 use Rattle.lift_spec.specs.declared.image.Motor.TheVariants.{Up, Down, Still}
 use Rattle.lift_spec.specs.Image.{IsFloor, FieldsInRange, CarObeys, runs}
 use Rattle.lift_spec.specs.Snapshot.{motor_number}
-use Rattle.lift_spec.specs.Plant.{PlacedCar, PlantState, kept_within, moved, moved_all, fields_of_car, fields_of_cars, fields_of_plant, plant_after, IsPlantOf, IsInShaft, StaysSafe, ObeysWithOwnFields}
+use Rattle.lift_spec.specs.Plant.{PlacedCar, PlantState, kept_within, moved, moved_all, fields_of_car, fields_of_cars, fields_of_plant, opening_plant, plant_after, IsPlantOf, IsInShaft, StaysSafe, ObeysWithOwnFields}
 use Rattle.lift_plant.specs.Safe.{IsSafeStep}
 
 -- NUMBERS
@@ -128,9 +129,52 @@ positions sizes floors [] is some = All-nil _
 positions sizes floors (car ∷ cars) is some =
     All-cons (λ (c : CarFields). IsFloor sizes c.pos) (fields_of_car floors car) (fields_of_cars floors cars) (floor_of sizes floors (int_div (car.place +ℤ pos 5) (pos 10) +ℤ pos 1) is some) (positions sizes floors cars is some)
 
-pub safe_step : (sizes : Sizes) (plant : PlantState) (outputs : List CarOutputs) → IsSafeStep sizes plant outputs
+-- A PLANT OF A GROUP
+
+-- a door opens no further than 5
+door_after : (floors : ℕ) (a : PlacedCar) (o : CarOutputs) → a.door ≤ 5 → (moved floors a o).door ≤ 5
+door_after floors a o before = by o.opens
+  where
+    by : (b : Bool) → (if b then min 5 (a.door + 1) else a.door - 1) ≤ 5
+    by true = omega arith
+    by false = omega (arith, before)
+
+-- a step keeps the number of cars, the floors, and where cars and doors can be
+pub sized_after : (sizes : Sizes) (plant : PlantState) (outputs : List CarOutputs) → IsPlantOf sizes plant → length outputs ≡ length plant.cars → IsPlantOf sizes (plant_after plant outputs)
 unfolding plant_after
-safe_step sizes plant outputs some of_group same obeys =
+sized_after sizes plant outputs of_group same = record {
+  cars = moved_length plant.floors plant.cars outputs ∙ of_group.cars;
+  floors = of_group.floors;
+  time = omega arith;
+  run_limit = of_group.run_limit;
+  doors = λ k b after. let m = moved_at plant.floors plant.cars outputs k b same after in subst (λ (c : PlacedCar). c.door ≤ 5) (sym m.is) (door_after plant.floors m.before m.outputs_of (of_group.doors k m.before m.there));
+  places = λ k b after.
+      let m = moved_at plant.floors plant.cars outputs k b same after in
+      subst (λ (c : PlacedCar). (negsuc 9 ≤ℤ c.place) × (c.place ≤ℤ pos (10 * plant.floors))) (sym m.is) (kept (negsuc 9) (pos (10 * plant.floors)) (m.before.place +ℤ motor_number m.outputs_of.motor) (omega (arith, ints)));
+}
+
+-- each element of a list of one value is that value
+of_replicate : {X : Type 0} (n : ℕ) (x : X) (k : ℕ) (y : X) → slice_get (replicate n x) k ≡ Some y → x ≡ y
+of_replicate zero x k y h = cc
+of_replicate (suc n) x zero y h = cc
+of_replicate (suc n) x (suc k) y h = of_replicate n x k y h
+
+-- a plant that opens is one of its group
+pub opening_sized : (cars floors slots : ℕ) → IsPlantOf (record { cars = cars; floors = floors; slots = slots }) (opening_plant cars floors)
+opening_sized cars floors slots = record {
+  cars = length-replicate cars (record { place = pos 0; door = 0 });
+  floors = refl;
+  time = omega arith;
+  run_limit = omega arith;
+  doors = λ k car there. subst (λ (c : PlacedCar). c.door ≤ 5) (of_replicate cars (record { place = pos 0; door = 0 }) k car there) (omega arith);
+  places = λ k car there. subst (λ (c : PlacedCar). (negsuc 9 ≤ℤ c.place) × (c.place ≤ℤ pos (10 * floors))) (of_replicate cars (record { place = pos 0; door = 0 }) k car there) (omega (arith, ints), omega (arith, ints));
+}
+
+-- A STEP IS SAFE
+
+stays_safe : (sizes : Sizes) (plant : PlantState) (outputs : List CarOutputs) → 1 ≤ sizes.floors → IsPlantOf sizes plant → length outputs ≡ length plant.cars → ObeysWithOwnFields plant outputs → StaysSafe sizes plant (plant_after plant outputs)
+unfolding plant_after
+stays_safe sizes plant outputs some of_group same obeys =
     record {
       doors = λ k a b before after ajar.
           let m = moved_at plant.floors plant.cars outputs k b same after in
@@ -153,3 +197,6 @@ safe_step sizes plant outputs some of_group same obeys =
   where
     same_car : (o : Option PlacedCar) (a b : PlacedCar) → o ≡ Some a → o ≡ Some b → a ≡ b
     same_car o a b p q = let both : Some a ≡ Some b = sym p ∙ q in cc
+
+pub safe_step : (sizes : Sizes) (plant : PlantState) (outputs : List CarOutputs) → IsSafeStep sizes plant outputs
+safe_step sizes plant outputs some of_group same obeys = (stays_safe sizes plant outputs some of_group same obeys, sized_after sizes plant outputs of_group same)

@@ -1,7 +1,7 @@
 // The plant of a group.
 
 ghost use Rattle.std.specs.Prelude.{◌≡◌, ◌≤◌, ℕ, List, All, map, length};
-ghost use Rattle.lift_spec.specs.Plant.{PlantState, opening_plant, plant_after, fields_of_plant, moved_all, fields_of_cars};
+ghost use Rattle.lift_spec.specs.Plant.{PlantState, IsPlantOf, opening_plant, plant_after, fields_of_plant, moved_all, fields_of_cars};
 ghost use Rattle.lift_spec.specs.declared.image.Sizes.{Sizes};
 ghost use Rattle.lift_spec.specs.declared.image.CarOutputs.{CarOutputs};
 ghost use Rattle.lift_plant.specs.Cars.{placed, IsPlaced};
@@ -44,7 +44,8 @@ impl Plant {
     pub fn new(cars: u8, floors: u8) -> Plant
         requires cars { (1 ≤ cars) × (cars ≤ 8) }
         requires floors { (2 ≤ floors) × (floors ≤ 16) }
-        ensures { result ≡ opening_plant cars floors }
+        ensures plant { result ≡ opening_plant cars floors }
+        ensures sized { (slots : ℕ) → IsPlantOf (record { cars = cars; floors = floors; slots = slots }) result }
     {
         let mut placed = Row::new();
         for _ in 0..cars {
@@ -102,6 +103,7 @@ pub fn plant_step(plant: Plant, outputs: &Row<CarOutputs, 8>) -> (Plant, Fields)
     requires { length outputs.now ≡ length plant.cars }
     ensures plant { result.0 ≡ plant_after plant outputs.now }
     ensures fields { result.1 ≡ fields_of_plant result.0 }
+    ensures sized { (sizes : Sizes) → IsPlantOf sizes plant → IsPlantOf sizes result.0 }
 {
     let cars = moved_cars(plant.floors, plant.cars.as_slice(), outputs.as_slice());
     let time = u32::min(LAST_TIME, plant.time + 100);

@@ -14,14 +14,15 @@ use Rattle.il_spec.specs.Text.{AreTokens}
 use Rattle.il_spec.specs.Grammar.{AfterLines, SpellsConfig, Spells, IsWithinLimits}
 use Rattle.il_rules.specs.Names.{car_number}
 use Rattle.il_rules.specs.Declarations.{sizes_of, is_within, size_outside, missing_task}
-use Rattle.il_rules.specs.Subset.{IsCarried, IsDeclaredYet, broken}
+use Rattle.il_rules.specs.Written.{IsWritten}
+use Rattle.il_rules.specs.Subset.{IsSupported, broken, BreaksInSubset}
 use Rattle.il_rules.specs.Symbols.{IsProgram}
 use Rattle.il_rules.proofs.Straight.{among_units}
 use Rattle.il_run.specs.Annotation.{Annotated}
 use Rattle.il_verify.specs.Resolved.{IsResolved, IsChecked}
 use Rattle.std.proofs.lemmas.Option.{slice_get_within}
 use Rattle.il_spec.specs.declared.tree.Unit.{Unit as Organized}
-use Rattle.il_rules.specs.Faults.{IsUnbroken, Declaring, Typing, initial_outside, bad_task}
+use Rattle.il_rules.specs.Faults.{Declaring, Typing, initial_outside, bad_task, HasNoFault, Broken}
 use Rattle.il_machine.specs.Scanning.{IsRunnable, IsWithin, HasSizes}
 use Rattle.il_parse.specs.Refused.{HasFewInstructions, IsFault}
 use Rattle.lift_world.specs.Loading.{IsSpelled, IsAccepted, IsRefusedFor}
@@ -44,14 +45,14 @@ as_number lo hi (negsuc n) least most = absurd (omega (arith, ints, least))
 within : (lo hi : ℕ) (z : ℤ) → is_within (record { lower = pos lo; upper = pos hi }) z ≡ true → IsWithin lo hi z
 within lo hi z h = let parts = both_true (int_le (pos lo) z) (int_le z (pos hi)) h in as_number lo hi z (le_from (pos lo) z parts.0) (le_from z (pos hi) parts.1)
 
-size_within : (c : Config) → IsUnbroken Declaring c → (s : Size) (lo hi : ℕ) → Contains (sizes_of c) (s, record { lower = pos lo; upper = pos hi }) → (b : Bool) → is_within (record { lower = pos lo; upper = pos hi }) s.value ≡ b → IsWithin lo hi s.value
+size_within : (c : Config) → HasNoFault (Broken Declaring c) → (s : Size) (lo hi : ℕ) → Contains (sizes_of c) (s, record { lower = pos lo; upper = pos hi }) → (b : Bool) → is_within (record { lower = pos lo; upper = pos hi }) s.value ≡ b → IsWithin lo hi s.value
 size_within c unbroken s lo hi there true is = within lo hi s.value is
 size_within c unbroken s lo hi there false is = absurd (unbroken 23 s.place (initial_outside refl (size_outside (s, record { lower = pos lo; upper = pos hi }) there is refl)))
 
 other_number : (o : Option ℕ) (k : ℕ) → o ≡ Some 1 → 2 ≤ k → o ≡ Some k → ⊥
 other_number o k one two is = let same : Some 1 ≡ Some k = sym one ∙ is in let e : 1 ≡ k = cc in omega (arith, e, two)
 
-no_second : (c : Config) (task : Task) → c.tasks ≡ task ∷ [] → IsUnbroken Declaring c → (n : ℕ) → c.cars.value ≡ pos n → 1 ≤ n → n ≤ 1
+no_second : (c : Config) (task : Task) → c.tasks ≡ task ∷ [] → HasNoFault (Broken Declaring c) → (n : ℕ) → c.cars.value ≡ pos n → 1 ≤ n → n ≤ 1
 no_second c task is unbroken zero cars least = omega arith
 no_second c task is unbroken (suc zero) cars least = omega arith
 no_second c task is unbroken (suc (suc n)) cars least = absurd (by_number (is_one (car_number task.name.name)))
@@ -68,17 +69,17 @@ no_second c task is unbroken (suc (suc n)) cars least = absurd (by_number (is_on
     by_number (inr differs) = missing 1 (omega arith) (omega arith) differs
 
 -- a group of one task in which nothing is broken has one car
-pub has_sizes : (c : Config) → IsCarried c → IsUnbroken Declaring c → HasSizes c
-has_sizes c carried unbroken =
+pub has_sizes : (c : Config) → IsSupported c → HasNoFault (Broken Declaring c) → HasSizes c
+has_sizes c supported unbroken =
     let cars = size_within c unbroken c.cars 1 8 (0, omega arith, refl) _ refl in
-    let most = no_second c carried.task carried.tasks unbroken cars.number cars.is cars.least in
+    let most = no_second c supported.task supported.tasks unbroken cars.number cars.is cars.least in
     let one : cars.number ≡ 1 = omega (arith, most, cars.least) in
     record { cars = cars.is ∙ ap pos one; floors = size_within c unbroken c.floors 2 16 (1, omega arith, refl) _ refl; slots = size_within c unbroken c.slots 1 64 (2, omega arith, refl) _ refl }
 
 -- REFUSALS
 
 -- what is named is broken, or has no ranges
-names_broken : (c : Config) (number line : ℕ) → IsRefusedFor c (Fault number line) → IsDeclaredYet c → IsUnbroken Typing c → Annotated c → ⊥
+names_broken : (c : Config) (number line : ℕ) → IsRefusedFor c (Fault number line) → HasNoFault (BreaksInSubset c) → HasNoFault (Broken Typing c) → Annotated c → ⊥
 names_broken c number line (inl (place, first, at)) declared typed annotated = declared number place first.broken
 names_broken c number line (inr (inl (unbroken, (place, first, at)))) declared typed annotated = typed number place first.broken
 names_broken c number line (inr (inr (unbroken, fine, (u, s, program, first, at)))) declared typed annotated =
@@ -99,23 +100,23 @@ number_of Y Memory h = absurd h
 
 -- a text that the parser refuses spells none of the subset
 pub none_spelled : (text : List ℕ) (tokens : List Token) → ((ts : List Token) → AreTokens text 0 ts → ts ≡ tokens)
-    → ((c : Config) → AfterLines (SpellsConfig text c) tokens [] → IsCarried c → HasFewInstructions c → ⊥) → (c : Config) → IsSpelled text c → ⊥
+    → ((c : Config) → AfterLines (SpellsConfig text c) tokens [] → IsSupported c → HasFewInstructions c → ⊥) → (c : Config) → IsSpelled text c → ⊥
 none_spelled text tokens only refused c a =
-    refused c (subst (λ ts. AfterLines (SpellsConfig text c) ts []) (only a.spelled.0 a.spelled.1) a.spelled.2) a.carried a.limits.instructions
+    refused c (subst (λ ts. AfterLines (SpellsConfig text c) ts []) (only a.spelled.0 a.spelled.1) a.spelled.2) a.supported a.limits.instructions
 
 -- what the parser gives is the only such configuration
 pub same_spelled : (text : List ℕ) (tokens : List Token) (found : Config) → ((ts : List Token) → AreTokens text 0 ts → ts ≡ tokens)
-    → ((d : Config) → AfterLines (SpellsConfig text d) tokens [] → IsCarried d → HasFewInstructions d → d ≡ found) → (c : Config) → IsSpelled text c → c ≡ found
+    → ((d : Config) → AfterLines (SpellsConfig text d) tokens [] → IsSupported d → HasFewInstructions d → d ≡ found) → (c : Config) → IsSpelled text c → c ≡ found
 same_spelled text tokens found only unique c a =
-    unique c (subst (λ ts. AfterLines (SpellsConfig text c) ts []) (only a.spelled.0 a.spelled.1) a.spelled.2) a.carried a.limits.instructions
+    unique c (subst (λ ts. AfterLines (SpellsConfig text c) ts []) (only a.spelled.0 a.spelled.1) a.spelled.2) a.supported a.limits.instructions
 
 -- a text whose configuration is refused spells none that is accepted
 pub none_judged : (text : List ℕ) (found : Config) (e : Refusal) → ((c : Config) → IsSpelled text c → c ≡ found) → IsRefusedFor found e → IsFault {A = Config} (Err e) → (c : Config) → IsAccepted text c → ⊥
 none_judged text found e same refused fault c a =
     let named = number_of Config e fault in
     let is = same c a.spelled in
-    let declared : IsDeclaredYet found = subst IsDeclaredYet is a.declared in
-    let typed : IsUnbroken Typing found = subst (IsUnbroken Typing) is a.typed in
+    let declared : HasNoFault (BreaksInSubset found) = subst (λ (d : Config). HasNoFault (BreaksInSubset d)) is a.declared in
+    let typed : HasNoFault (Broken Typing found) = subst (λ (d : Config). HasNoFault (Broken Typing d)) is a.typed in
     let annotated : Annotated found = subst Annotated is a.annotated in
     names_broken found named.0 named.1 (subst (IsRefusedFor found) named.2 refused) declared typed annotated
 
@@ -124,27 +125,26 @@ pub named_judged : {X : Type 0} (found : Config) (e : Refusal) (r : Result X Ref
 named_judged {X} found e (Ok x) c is refused same = absurd same
 named_judged {X} found e (Err d) c is refused same = subst (λ f. IsRefusedFor f d) (sym is) (subst (IsRefusedFor found) (sym same) refused)
 
+-- what was parsed is spelled within the limits
+pub spelled_is : (text : List ℕ) (c : Config) → length text ≤ 262144 → Spells text c → (length text ≤ 262144 → IsWithinLimits text c) → IsSupported c → IsSpelled text c
+spelled_is text c short spelled limits supported = record { spelled = spelled; limits = limits short; supported = supported }
+
 -- what was parsed, judged and verified is accepted
-pub accepted_is : (text : List ℕ) (c : Config) → length text ≤ 262144 → Spells text c → (length text ≤ 262144 → IsWithinLimits text c) → IsCarried c → IsDeclaredYet c → IsUnbroken Typing c → Annotated c → IsAccepted text c
-accepted_is text c short spelled limits carried declared typed annotated =
-    record { spelled = record { spelled = spelled; limits = limits short; carried = carried }; declared = declared; typed = typed; annotated = annotated }
+pub accepted_is : (text : List ℕ) (c : Config) → length text ≤ 262144 → Spells text c → (length text ≤ 262144 → IsWithinLimits text c) → IsSupported c → HasNoFault (BreaksInSubset c) → HasNoFault (Broken Typing c) → Annotated c → IsAccepted text c
+accepted_is text c short spelled limits supported declared typed annotated =
+    record { spelled = record { spelled = spelled; limits = limits short; supported = supported }; declared = declared; typed = typed; annotated = annotated }
 
 -- nothing of declarations is broken
-pub unbroken_is : (c : Config) → IsDeclaredYet c → IsUnbroken Declaring c
+pub unbroken_is : (c : Config) → HasNoFault (BreaksInSubset c) → HasNoFault (Broken Declaring c)
 unbroken_is c declared number place b = declared number place (broken b)
 
 -- the names of the one program are resolved
-pub resolved_is : (c : Config) (carried : IsCarried c) → IsDeclaredYet c → IsUnbroken Typing c → ((u : Organized) → c.units ≡ u ∷ [] → IsProgram c u) → IsResolved c
-resolved_is c carried declared typed program = record { program = carried.program; is = program carried.program carried.alone; carried = carried.carried; declared = declared; typed = typed }
+pub resolved_is : (c : Config) (supported : IsSupported c) → HasNoFault (BreaksInSubset c) → HasNoFault (Broken Typing c) → ((u : Organized) → c.units ≡ u ∷ [] → IsProgram c u) → IsResolved c
+resolved_is c supported declared typed program = record { program = supported.program; is = program supported.program supported.alone; supported = supported.supported; declared = declared; typed = typed }
 
 -- and it runs
-pub runnable_is : (c : Config) → IsCarried c → IsChecked c → IsRunnable c
-runnable_is c carried checked =
+pub runnable_is : (c : Config) → IsWritten c → IsSupported c → IsChecked c → IsRunnable c
+runnable_is c written supported checked =
     let declared = unbroken_is c checked.resolved.declared in
-    let sizes = has_sizes c carried declared in
-    record { carried = carried; checked = checked; tasked = tasked c checked.resolved.program carried sizes.cars declared checked.resolved.is.alone; sizes = sizes }
-
--- the TASK line of what runs is that of CAR1
-pub car_is_named : (c : Config) (carried : IsCarried c) (checked : IsChecked c) → (runnable_is c carried checked).carried.task.name.name ≡ codes "CAR1"
-unfolding runnable_is
-car_is_named c carried checked = let declared = unbroken_is c checked.resolved.declared in task_named c carried (has_sizes c carried declared).cars declared
+    let sizes = has_sizes c supported declared in
+    record { written = written; supported = supported; checked = checked; tasked = tasked c checked.resolved.program supported sizes.cars declared checked.resolved.is.alone; sizes = sizes }

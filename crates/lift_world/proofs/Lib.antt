@@ -1,3 +1,5 @@
+pub mod Explaining
+pub mod Costs
 pub mod Showing
 pub mod Settling
 pub mod Naming
@@ -6,4 +8,4 @@ pub mod Runs
 pub mod Tasking
 pub mod Seeing
 pub mod Modelling
-pub mod Going
+pub mod Sound

@@ -10,7 +10,7 @@ use Rattle.il_spec.specs.declared.tree.Config.{Config}
 use Rattle.il_spec.specs.declared.tree.Declaration.{Declaration}
 use Rattle.il_spec.specs.declared.tree.Unit.{Unit as Organized}
 use Rattle.il_rules.specs.Names.{or_else}
-use Rattle.il_rules.specs.Subset.{IsCarriedProgram}
+use Rattle.il_rules.specs.Subset.{IsSupportedProgram}
 use Rattle.il_rules.specs.Symbols.{IsProgram}
 use Rattle.il_opening.specs.Held.{HoldsOwn}
 use Rattle.lift_world.proofs.Naming.{no_motor, no_serve}
@@ -78,12 +78,12 @@ sound_of w inv =
 
 -- THE PROGRAM
 
--- the one program is carried
-pub carried_is : (c : Config) (u : Organized) → IsRunnable c → c.units ≡ u ∷ [] → IsCarriedProgram u
-carried_is c u runs alone = let same : runs.carried.program ≡ u = let both : runs.carried.program ∷ [] ≡ u ∷ [] = sym runs.carried.alone ∙ alone in cc in subst IsCarriedProgram same runs.carried.carried
+-- the one program is supported
+pub supported_is : (c : Config) (u : Organized) → IsRunnable c → c.units ≡ u ∷ [] → IsSupportedProgram u
+supported_is c u runs alone = let same : runs.supported.program ≡ u = let both : runs.supported.program ∷ [] ≡ u ∷ [] = sym runs.supported.alone ∙ alone in cc in subst IsSupportedProgram same runs.supported.supported
 
-ready_carried : (c : Config) (runs : IsRunnable c) → IsCarriedProgram runs.checked.resolved.program
-ready_carried c runs = runs.checked.resolved.carried
+ready_supported : (c : Config) (runs : IsRunnable c) → IsSupportedProgram runs.checked.resolved.program
+ready_supported c runs = runs.checked.resolved.supported
 
 same_ready : (c : Config) (u v : Organized) → IsProgram c u → IsProgram c v → u ≡ v
 same_ready c u v a b = let both : u ∷ [] ≡ v ∷ [] = sym a.alone ∙ b.alone in cc
@@ -168,10 +168,10 @@ begins_is w inv tickets =
     let c = w.program.config in
     let u = inv.runnable.checked.resolved.program in
     let b = model.beginning_of (world_of w).group (record { variables = w.variables; tickets = tickets }) in
-    let carried = ready_carried c inv.runnable in
+    let supported = ready_supported c inv.runnable in
     let unit : w.scan.unit ≡ u.name.name = inv.scan.2.unit ∙ ap (λ (v : Organized). v.name.name) (same_ready c inv.scan.0 u inv.scan.1 inv.runnable.checked.resolved.is) in
     ap (begins_by c 1 b) (car_program c u inv.runnable.tasked)
-    ∙ ap (λ (ex : List Declaration). begins u w.variables (entries_at b.snapshot.globals (paths_of (entities ex)) ++ image_entries (sizes_of c) 1 w.image (opening_calls (sizes_of c)).slots)) carried.externals
+    ∙ ap (λ (ex : List Declaration). begins u w.variables (entries_at b.snapshot.globals (paths_of (entities ex)) ++ image_entries (sizes_of c) 1 w.image (opening_calls (sizes_of c)).slots)) supported.externals
     ∙ ap (λ m. record { values = with_entries m w.variables.list; frames = frames_at u.name.name (Some 0); result = None }) (sym inv.sees)
     ∙ ap (λ n. record { values = with_entries w.shown w.variables.list; frames = frames_at n (Some 0); result = None }) (sym unit)
 
@@ -308,7 +308,7 @@ committed_is w inv tickets saw =
     ap (car_commits c group 1 task tickets values) (wishes_are w inv)
     ∙ ap (λ outputs. parts w outputs (written_globals (program_of c 1) (opening_globals c) values) (restricted w.variables values)) (ap (λ (l : List CarOutputs). slice_set l 0 told) inv.image.told)
     ∙ ap (λ o. parts w (told ∷ []) (written_globals o (opening_globals c) values) (restricted w.variables values)) (car_program c u inv.runnable.tasked)
-    ∙ ap (λ (ex : List Declaration). parts w (told ∷ []) (with_entries (opening_globals c) (entries_at values (paths_of (filter (λ e. is_one_of (names_stored u) e.name) (entities ex))))) (restricted w.variables values)) (ready_carried c inv.runnable).externals
+    ∙ ap (λ (ex : List Declaration). parts w (told ∷ []) (with_entries (opening_globals c) (entries_at values (paths_of (filter (λ e. is_one_of (names_stored u) e.name) (entities ex))))) (restricted w.variables values)) (ready_supported c inv.runnable).externals
     ∙ ap (parts w (told ∷ []) (opening_globals c)) (restricted_is w.variables w.scan.variables w.scan.written inv.variables_there)
   where
     parts : Running → List CarOutputs → Values → Values → model.Group × Report

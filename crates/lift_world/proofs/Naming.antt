@@ -9,8 +9,8 @@ use Rattle.il_spec.specs.declared.tree.Named.{Named}
 use Rattle.il_spec.specs.declared.tree.Form.{Form}
 use Rattle.il_rules.specs.Names.{Variable, own_variable, named_forms, is_predeclared, image_name, standard_function, standard_block}
 use Rattle.il_rules.specs.Declarations.{names_in, unit_names, predeclared_variable}
-use Rattle.il_rules.specs.Faults.{duplicate}
-use Rattle.il_rules.specs.Subset.{broken, IsDeclaredYet, IsCarriedProgram}
+use Rattle.il_rules.specs.Faults.{duplicate, HasNoFault}
+use Rattle.il_rules.specs.Subset.{broken, IsSupportedProgram, BreaksInSubset}
 use Rattle.il_rules.specs.Symbols.{IsProgram}
 use Rattle.il_rules.proofs.Straight.{among_units}
 use Rattle.il_run.specs.NameMap.{Text}
@@ -40,13 +40,13 @@ found_lists q [] v e = cc
 found_lists q (d ∷ ds) v e = found_names q d.declared.form d.names (named_forms ds) (names_in ds) (found_lists q ds) v e
 
 -- of an accepted program no variable has a predeclared name
-not_own : (c : Config) (u : Organized) → IsProgram c u → IsCarriedProgram u → IsDeclaredYet c → (q : Text) → is_predeclared c q ≡ true → own_variable u q ≡ None
-not_own c u program carried declared q taken = by (own_variable u q) refl
+not_own : (c : Config) (u : Organized) → IsProgram c u → IsSupportedProgram u → HasNoFault (BreaksInSubset c) → (q : Text) → is_predeclared c q ≡ true → own_variable u q ≡ None
+not_own c u program supported declared q taken = by (own_variable u q) refl
   where
     own_names : unit_names u ≡ names_in u.variables
     own_names =
-        ap (λ x. names_in (((x ++ u.outputs) ++ u.variables) ++ u.externals)) carried.inputs ∙ ap (λ x. names_in ((x ++ u.variables) ++ u.externals)) carried.outputs
-        ∙ ap (λ x. names_in (u.variables ++ x)) carried.externals ∙ ap names_in (append-nil u.variables)
+        ap (λ x. names_in (((x ++ u.outputs) ++ u.variables) ++ u.externals)) supported.inputs ∙ ap (λ x. names_in ((x ++ u.variables) ++ u.externals)) supported.outputs
+        ∙ ap (λ x. names_in (u.variables ++ x)) supported.externals ∙ ap names_in (append-nil u.variables)
 
     among : (n : Named) → Contains (names_in u.variables) n → Contains (unit_names u) n
     among n h = subst (λ ns. Contains ns n) (sym own_names) h
@@ -54,7 +54,7 @@ not_own c u program carried declared q taken = by (own_variable u q) refl
     by : (o : Option Variable) → own_variable u q ≡ o → own_variable u q ≡ None
     by None is = is
     by (Some v) is =
-        let n = found_lists q u.variables v (ap (find (λ v. bytes_eq v.name q)) (sym (own_variables u carried)) ∙ is) in
+        let n = found_lists q u.variables v (ap (find (λ v. bytes_eq v.name q)) (sym (own_variables u supported)) ∙ is) in
         absurd (declared 20 n.0.place (broken (duplicate refl (predeclared_variable u n.0 (among_units c u program.alone) (among n.0 n.1) (ap (is_predeclared c) n.2 ∙ taken) refl))))
 
 or_left : (a b c : Bool) → a ≡ true → ((a || b) || c) ≡ true
@@ -72,7 +72,7 @@ serve_taken c = or_left (is_some (image_name c (codes "SERVE"))) (is_some (stand
 of_runnable : (c : Config) (u : Organized) → IsRunnable c → IsProgram c u → (q : Text) → is_predeclared c q ≡ true → own_variable u q ≡ None
 of_runnable c u runs program q taken =
     let r = runs.checked.resolved in
-    subst (λ v. own_variable v q ≡ None) (same_program c r.program u r.is program) (not_own c r.program r.is r.carried r.declared q taken)
+    subst (λ v. own_variable v q ≡ None) (same_program c r.program u r.is program) (not_own c r.program r.is r.supported r.declared q taken)
 
 -- no variable is called MOTOR
 pub no_motor : (c : Config) (u : Organized) → IsRunnable c → IsProgram c u → own_variable u (codes "MOTOR") ≡ None

@@ -12,8 +12,8 @@ use Rattle.il_spec.specs.declared.tree.Task.{Task}
 use Rattle.il_spec.specs.declared.tree.ProgramLine.{ProgramLine}
 use Rattle.il_rules.specs.Names.{Spelling, car_number, car_digits, decimal_value, is_program, is_predeclared, program_named}
 use Rattle.il_rules.specs.Declarations.{unknown_task, unknown_program, missing_task, names_of_tasks}
-use Rattle.il_rules.specs.Subset.{IsCarried}
-use Rattle.il_rules.specs.Faults.{IsUnbroken, Declaring, bad_task}
+use Rattle.il_rules.specs.Subset.{IsSupported}
+use Rattle.il_rules.specs.Faults.{Declaring, bad_task, HasNoFault, Broken}
 use Rattle.il_run.specs.Scan.{program_of}
 use Rattle.il_machine.specs.Scanning.{IsTasked}
 
@@ -84,7 +84,7 @@ is_one (Some (suc zero)) = inl refl
 is_one (Some (suc (suc n))) = inr (λ e. cc)
 
 -- the task is that of the first car
-task_is : (c : Config) (task : Task) → c.tasks ≡ task ∷ [] → c.cars.value ≡ pos 1 → IsUnbroken Declaring c → car_number task.name.name ≡ Some 1
+task_is : (c : Config) (task : Task) → c.tasks ≡ task ∷ [] → c.cars.value ≡ pos 1 → HasNoFault (Broken Declaring c) → car_number task.name.name ≡ Some 1
 task_is c task tasks cars unbroken = by (is_one (car_number task.name.name))
   where
     below : pos 1 ≤ℤ c.cars.value
@@ -101,7 +101,7 @@ first_line : (c : Config) (line : ProgramLine) → c.programs ≡ line ∷ [] �
 first_line c line is = subst (λ l. Contains l line) (sym is) (0, omega arith, refl)
 
 -- it names the task
-line_names : (c : Config) (task : Task) (line : ProgramLine) → c.tasks ≡ task ∷ [] → c.programs ≡ line ∷ [] → IsUnbroken Declaring c → line.task.name ≡ task.name.name
+line_names : (c : Config) (task : Task) (line : ProgramLine) → c.tasks ≡ task ∷ [] → c.programs ≡ line ∷ [] → HasNoFault (Broken Declaring c) → line.task.name ≡ task.name.name
 line_names c task line tasks lines unbroken = by (bytes_eq line.task.name task.name.name) refl
   where
     by : (same : Bool) → bytes_eq line.task.name task.name.name ≡ same → line.task.name ≡ task.name.name
@@ -125,7 +125,7 @@ named_is c u v name alone e = by (is_predeclared c name) (bytes_eq u.name.name n
     by false true e = kept (is_program u) e
 
 -- it names the program
-line_runs : (c : Config) (line : ProgramLine) (u : Organized) → c.programs ≡ line ∷ [] → c.units ≡ u ∷ [] → IsUnbroken Declaring c → program_named c line.program.name ≡ Some u
+line_runs : (c : Config) (line : ProgramLine) (u : Organized) → c.programs ≡ line ∷ [] → c.units ≡ u ∷ [] → HasNoFault (Broken Declaring c) → program_named c line.program.name ≡ Some u
 line_runs c line u lines alone unbroken = by (program_named c line.program.name) refl
   where
     by : (o : Option Organized) → program_named c line.program.name ≡ o → program_named c line.program.name ≡ Some u
@@ -133,16 +133,16 @@ line_runs c line u lines alone unbroken = by (program_named c line.program.name)
     by (Some v) is = is ∙ ap Some (named_is c u v line.program.name alone is)
 
 -- so its program is that of CAR1, and GROUP has none
-pub tasked : (c : Config) (u : Organized) → IsCarried c → c.cars.value ≡ pos 1 → IsUnbroken Declaring c → c.units ≡ u ∷ [] → IsTasked c u
-tasked c u carried cars unbroken alone =
-    let line = carried.line in
-    let name : line.task.name ≡ codes "CAR1" = line_names c carried.task line carried.tasks carried.lines unbroken ∙ named_one carried.task.name.name (task_is c carried.task carried.tasks cars unbroken) in
+pub tasked : (c : Config) (u : Organized) → IsSupported c → c.cars.value ≡ pos 1 → HasNoFault (Broken Declaring c) → c.units ≡ u ∷ [] → IsTasked c u
+tasked c u supported cars unbroken alone =
+    let line = supported.line in
+    let name : line.task.name ≡ codes "CAR1" = line_names c supported.task line supported.tasks supported.lines unbroken ∙ named_one supported.task.name.name (task_is c supported.task supported.tasks cars unbroken) in
     record {
       car =
-          ap (λ (ls : List ProgramLine). program_of c (find (λ l. bytes_eq (codes "CAR1") l.task.name) ls)) carried.lines ∙ ap (λ n. program_of c (if bytes_eq (codes "CAR1") n then Some line else None)) name ∙ line_runs c line u carried.lines alone unbroken;
-      group = ap (λ (ls : List ProgramLine). program_of c (find (λ l. bytes_eq (codes "GROUP") l.task.name) ls)) carried.lines ∙ ap (λ n. program_of c (if bytes_eq (codes "GROUP") n then Some line else None)) name;
+          ap (λ (ls : List ProgramLine). program_of c (find (λ l. bytes_eq (codes "CAR1") l.task.name) ls)) supported.lines ∙ ap (λ n. program_of c (if bytes_eq (codes "CAR1") n then Some line else None)) name ∙ line_runs c line u supported.lines alone unbroken;
+      group = ap (λ (ls : List ProgramLine). program_of c (find (λ l. bytes_eq (codes "GROUP") l.task.name) ls)) supported.lines ∙ ap (λ n. program_of c (if bytes_eq (codes "GROUP") n then Some line else None)) name;
     }
 
 -- the TASK line is that of CAR1
-pub task_named : (c : Config) (carried : IsCarried c) → c.cars.value ≡ pos 1 → IsUnbroken Declaring c → carried.task.name.name ≡ codes "CAR1"
-task_named c carried cars unbroken = named_one carried.task.name.name (task_is c carried.task carried.tasks cars unbroken)
+pub task_named : (c : Config) (supported : IsSupported c) → c.cars.value ≡ pos 1 → HasNoFault (Broken Declaring c) → supported.task.name.name ≡ codes "CAR1"
+task_named c supported cars unbroken = named_one supported.task.name.name (task_is c supported.task supported.tasks cars unbroken)

@@ -1,31 +1,50 @@
 -- Which texts are accepted (own rules).
-use Rattle.std.specs.Prelude.{ℕ, ◌+◌, ◌⊎◌, List, [], ◌∷◌, ◌++◌, length, map}
+use Rattle.std.specs.Prelude.{ℕ, ◌+◌, ◌≤◌, ◌⊎◌, List, [], ◌∷◌, ◌++◌, length, map}
 use Rattle.il_spec.specs.declared.fault.Refusal.{Refusal}
+use Rattle.il_spec.specs.declared.fault.Refusal.TheVariants.{Fault, Memory}
 use Rattle.il_spec.specs.declared.tree.Config.{Config}
 use Rattle.il_spec.specs.Grammar.{Spells, IsWithinLimits}
-use Rattle.il_rules.specs.Subset.{IsCarried, IsDeclaredYet, IsUndeclaredBy}
-use Rattle.il_rules.specs.Faults.{IsUnbroken, IsRefusedBy, Typing}
+use Rattle.il_rules.specs.Subset.{IsSupported, BreaksInSubset}
+use Rattle.il_rules.specs.Faults.{IsRefusedBy, Typing, HasNoFault, Broken}
 use Rattle.il_run.specs.Annotation.{Annotated}
 use Rattle.il_verify.specs.Resolved.{IsUnannotatedBy}
 use Rattle.il_spec.specs.declared.tree.Unit.{Unit as ProgramUnit}
 use Rattle.il_machine.specs.declared.verified.UnitCost.{UnitCost}
 
--- The text spells the configuration within the limits, and it is of the subset that is carried so far.
+-- The text spells the configuration within the limits, and it is of the subset that is supported so far.
 pub record IsSpelled (text : List ℕ) (c : Config) : Type 0 where
   pub spelled : Spells text c
   pub limits : IsWithinLimits text c
-  pub carried : IsCarried c
+  pub supported : IsSupported c
 
 -- And none of its rules is broken, and its program has an annotation by ranges.
 pub record IsAccepted (text : List ℕ) (c : Config) : Type 0 where
   pub spelled : IsSpelled text c
-  pub declared : IsDeclaredYet c
-  pub typed : IsUnbroken Typing c
+  pub declared : HasNoFault (BreaksInSubset c)
+  pub typed : HasNoFault (Broken Typing c)
   pub annotated : Annotated c
 
 -- The fault that is named: the first of declarations, or, where those break nothing, the first of types, or, where those break nothing, the first instruction without ranges.
 abbrev pub IsRefusedFor : Config → Refusal → Type 0
-IsRefusedFor c refusal = IsUndeclaredBy c refusal ⊎ ((IsDeclaredYet c × IsRefusedBy Typing c refusal) ⊎ (IsDeclaredYet c × IsUnbroken Typing c × IsUnannotatedBy c refusal))
+IsRefusedFor c refusal = IsRefusedBy (BreaksInSubset c) refusal ⊎ ((HasNoFault (BreaksInSubset c) × IsRefusedBy (Broken Typing c) refusal) ⊎ (HasNoFault (BreaksInSubset c) × HasNoFault (Broken Typing c) × IsUnannotatedBy c refusal))
+
+-- The text spells a configuration of the subset, and this is the fault of its declarations, types or ranges.
+abbrev pub IsSpelledWith : List ℕ → Refusal → Type 0
+IsSpelledWith text refusal = (c : Config) × IsSpelled text c × IsRefusedFor c refusal
+
+-- the text spells no configuration of the subset
+abbrev pub SpellsNone : List ℕ → Type 0
+SpellsNone text = (c : Config) → IsSpelled text c → ⊥
+
+-- What a fault says of the text: by a number up to 12 that it spells no configuration, and by any other that it spells one whose fault this is.
+pub data Explains (text : List ℕ) (number line : ℕ) : Type 0 where
+  of_text : number ≤ 12 → SpellsNone text → Explains text number line
+  of_tree : IsSpelledWith text (Fault number line) → Explains text number line
+
+-- the same of a refusal; out of memory says nothing
+abbrev pub IsExplained : List ℕ → Refusal → Type 0
+IsExplained text (Fault number line) = Explains text number line
+IsExplained text Memory = Unit {0}
 
 -- What a unit on a straight line costs: its one control path takes each instruction and the implicit RET.
 abbrev pub cost_of : ProgramUnit → UnitCost

@@ -1,12 +1,11 @@
 //! The world of a lift group: the image, the tasks' scans, and what each event does to them.
 #![tactic(auto)]
 
+mod controller;
 mod event;
 mod loader;
 mod replies;
 mod shown;
-#[cfg(test)]
-mod tests;
 mod world;
 
 pub use event::Event;

@@ -1,10 +1,11 @@
 // From a text to a verified configuration.
 
-ghost use Rattle.std.specs.Prelude.{◌≡◌, ◌≤◌, IfOk, IsErrAnd, length, map, All};
+ghost use Rattle.std.specs.Prelude.{◌≡◌, ◌≤◌, IfOk, IfErr, IsErrAnd, length, map, All};
 ghost use Rattle.il_spec.specs.declared.tree.Config.{Config};
 ghost use Rattle.il_parse.specs.Refused.{IsFault};
-ghost use Rattle.lift_world.specs.Loading.{IsSpelled, IsAccepted, IsRefusedFor, cost_of};
-ghost use Rattle.lift_world.specs.Runs.{RunsWell, ShowsBudget, budget_of};
+ghost use Rattle.il_machine.specs.Costs.{AreCosts};
+ghost use Rattle.lift_sound.specs.Runs.{RunsWell};
+ghost use Rattle.lift_world.specs.Loading.{IsSpelled, IsAccepted, IsRefusedFor, IsExplained, cost_of};
 
 use il_decl::declare;
 use il_machine::{UnitCost, Verified};
@@ -25,10 +26,10 @@ use std::alloc::{AllocError, Global};
 pub fn load(alloc: Global, text: &[u8]) -> Result<Verified, Refusal>
     ensures found { IfOk result (λ v. IsAccepted text.now v.config) }
     ensures costs { IfOk result (λ v. v.costs ≡ map cost_of v.config.units) }
-    ensures runs { IfOk result (λ v. RunsWell v.config (budget_of v)) }
-    ensures budget { IfOk result (λ v. ShowsBudget v) }
+    ensures runs { IfOk result (λ v. RunsWell v.config) }
     ensures refused { IsFault result → (c : Config) → IsAccepted text.now c → ⊥ }
     ensures named { IsFault result → (c : Config) → IsSpelled text.now c → IsErrAnd result (IsRefusedFor c) }
+    ensures number { IfErr result (IsExplained text.now) }
 {
     let tokens = tokens(alloc, text)?;
     let config = parse(alloc, text, &tokens)?;

@@ -8,10 +8,11 @@ returns-in-Ok c =
     record {
       found = found.spelled;
       spelled = spelled_by _ _ _ c.requires found;
-      carried = found.carried;
+      supported = found.supported;
       small = small_by _ _ _ found;
       limits = within_by _ _ _ found;
       refused = λ fault. absurd fault;
+      number = tt;
       only = only_by _ _ _ c.requires c.in-Ok.ensures;
     }
 

@@ -1,13 +1,13 @@
 use Rattle.std.proofs.Common.{◌<◌, ◌++◌, ◌∷◌, [], take, length, arith, sym, ap, ◌∙◌, subst, append_assoc, refl}
 use Rattle.std.proofs.lemmas.Option.{slice_get_read, get_or_from_slice_get}
-use Rattle.il_rules.specs.Subset.{AreCarriedVariables}
+use Rattle.il_rules.specs.Subset.{AreSupportedVariables}
 use Rattle.std.proofs.lemmas.List.{take_more, map-append}
 use Rattle.il_spec.specs.declared.tree.Form.TheVariants.{Scalar as OfScalar}
 use Rattle.il_found.specs.Least.{fault_of, earlier_of}
 use Rattle.il_decl.specs.Images.{writes}
 use Rattle.il_decl.specs.Parts.{AreVariables, forms_in, forms_of, is_taken_by, with_new}
 use Rattle.il_decl.proofs.Taken.{variables_none, variables_next}
-use Rattle.il_decl.proofs.Carried.{form_carried}
+use Rattle.il_decl.proofs.Supported.{form_supported}
 use Rattle.il_decl.proofs.variables.own_variables.Goals as goal
 
 pub declarations-init : goal.declarations-init
@@ -18,7 +18,7 @@ scalar_of-scalar-requires c =
     let items = c.as_slice-declaration-items.result.now in
     let low : c.declarations.declaration-index < length items = omega arith in
     let there = get_or_from_slice_get items c.declarations.declaration-index c.declaration-item.result c.declaration-item.result (slice_get_read _ _ _ _ refl low c.declaration-item.is) in
-    form_carried items (subst AreCarriedVariables (sym c.as_slice-declaration-items.ensures) c.requires) c.declaration-item.result (c.declarations.declaration-index, low, there)
+    form_supported items (subst AreSupportedVariables (sym c.as_slice-declaration-items.ensures) c.requires) c.declaration-item.result (c.declarations.declaration-index, low, there)
 
 pub names-preserved : goal.names-preserved
 names-preserved c =

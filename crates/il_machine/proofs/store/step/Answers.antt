@@ -9,14 +9,14 @@ exec-result-requires c =
     let below = step_below c.program-unit.result.now _ c.in-Some.at c.as_slice-steps.ensures c.if-at-steps.true in
     let stands = step_read c.program-unit.result.now _ c.in-Some.at _ c.as_slice-steps.ensures c.if-at-steps.true c.index-steps-at.is in
     let state = in_scan c.args.verified.now.config c.program-unit.result.now _ _ c.program-unit.ensures.is c.store.view_is c.requires.scan in
-    rw (← c.index-steps-at.is) (effect_there c.args.verified.now.config c.index-steps-at.result.instruction (seen c.store.inside.cells) c.store.inside.result _ (scan_does c.args.verified.now.config c.program-unit.result.now _ c.in-Some.at c.index-steps-at.result c.program-unit.ensures.is c.program-unit.ensures.carried state c.in-Some.is stands below).2.effect_is)
+    rw (← c.index-steps-at.is) (effect_there c.args.verified.now.config c.index-steps-at.result.instruction (seen c.store.inside.cells) c.store.inside.result _ (scan_does c.args.verified.now.config c.program-unit.result.now _ c.in-Some.at c.index-steps-at.result c.program-unit.ensures.is c.program-unit.ensures.supported state c.in-Some.is stands below).2.effect_is)
 
 pub returns-then-at-steps-clause-step : goal.returns-then-at-steps-clause-step
 returns-then-at-steps-clause-step c =
     let below = step_below c.program-unit.result.now _ c.in-Some.at c.as_slice-steps.ensures c.if-at-steps.true in
     let stands = step_read c.program-unit.result.now _ c.in-Some.at _ c.as_slice-steps.ensures c.if-at-steps.true c.index-steps-at.is in
     let state = in_scan c.args.verified.now.config c.program-unit.result.now _ _ c.program-unit.ensures.is c.store.view_is c.requires.scan in
-    rw (← c.store.view_is) (store_goes c.args.verified.now.config c.program-unit.result.now _ c.in-Some.at c.index-steps-at.result (seen c.exec-result.new.cells) c.exec-result.result c.program-unit.ensures.is c.program-unit.ensures.carried state c.in-Some.is stands below (rw (← c.index-steps-at.is) at c.exec-result.ensures.effect))
+    rw (← c.store.view_is) (store_goes c.args.verified.now.config c.program-unit.result.now _ c.in-Some.at c.index-steps-at.result (seen c.exec-result.new.cells) c.exec-result.result c.program-unit.ensures.is c.program-unit.ensures.supported state c.in-Some.is stands below (rw (← c.index-steps-at.is) at c.exec-result.ensures.effect))
 
 pub returns-then-at-steps-clause-scan : goal.returns-then-at-steps-clause-scan
 returns-then-at-steps-clause-scan c =
@@ -25,7 +25,7 @@ returns-then-at-steps-clause-scan c =
     let state = in_scan c.args.verified.now.config c.program-unit.result.now _ _ c.program-unit.ensures.is c.store.view_is c.requires.scan in (
       c.program-unit.result.now,
       c.program-unit.ensures.is,
-      next_state c.args.verified.now.config c.program-unit.result.now _ c.in-Some.at c.index-steps-at.result c.exec-result.new.cells.variables c.exec-result.new.cells.written c.exec-result.result c.program-unit.ensures.is c.program-unit.ensures.carried state c.in-Some.is stands below (rw (← c.index-steps-at.is) at c.exec-result.ensures.effect),
+      next_state c.args.verified.now.config c.program-unit.result.now _ c.in-Some.at c.index-steps-at.result c.exec-result.new.cells.variables c.exec-result.new.cells.written c.exec-result.result c.program-unit.ensures.is c.program-unit.ensures.supported state c.in-Some.is stands below (rw (← c.index-steps-at.is) at c.exec-result.ensures.effect),
     )
 
 pub returns-then-at-steps-clause-own : goal.returns-then-at-steps-clause-own
@@ -34,7 +34,7 @@ returns-then-at-steps-clause-own c = λ own v program.
     let below = step_below c.program-unit.result.now _ c.in-Some.at c.as_slice-steps.ensures c.if-at-steps.true in
     let stands = step_read u _ c.in-Some.at _ c.as_slice-steps.ensures c.if-at-steps.true c.index-steps-at.is in
     let state = in_scan c.args.verified.now.config u _ _ c.program-unit.ensures.is c.store.view_is c.requires.scan in
-    let next = next_state c.args.verified.now.config u _ c.in-Some.at c.index-steps-at.result c.exec-result.new.cells.variables c.exec-result.new.cells.written c.exec-result.result c.program-unit.ensures.is c.program-unit.ensures.carried state c.in-Some.is stands below (rw (← c.index-steps-at.is) at c.exec-result.ensures.effect) in
+    let next = next_state c.args.verified.now.config u _ c.in-Some.at c.index-steps-at.result c.exec-result.new.cells.variables c.exec-result.new.cells.written c.exec-result.result c.program-unit.ensures.is c.program-unit.ensures.supported state c.in-Some.is stands below (rw (← c.index-steps-at.is) at c.exec-result.ensures.effect) in
     subst (λ w. HoldsOwn w c.exec-result.new.cells.variables) (same_program c.args.verified.now.config u v c.program-unit.ensures.is program)
     (own_after c.args.verified.now.config u c.store.inside.cells.variables c.exec-result.new.cells.variables c.exec-result.new.cells.written next.declared c.exec-result.ensures.paths.variables (rw (← c.store.view_is) at (own u c.program-unit.ensures.is)))
 

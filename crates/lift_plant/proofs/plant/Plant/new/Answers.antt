@@ -1,7 +1,8 @@
-use Rattle.std.proofs.Common.{arith, ◌≡◌, ℕ, zero, suc, map, List, pos, replicate, refl}
+use Rattle.std.proofs.Common.{arith, ◌≡◌, ℕ, zero, suc, map, List, pos, replicate, refl, sym, subst}
 use Rattle.lift_plant.specs.declared.car.Car.{Car}
-use Rattle.lift_spec.specs.Plant.{PlantState, opening_plant}
+use Rattle.lift_spec.specs.Plant.{PlantState, IsPlantOf, opening_plant}
 use Rattle.lift_plant.specs.Cars.{placed}
+use Rattle.lift_plant.proofs.Safe.{opening_sized}
 use Rattle.lift_plant.proofs.plant.Plant.new.Goals as goal
 
 placed_alike : (n : ℕ) (car : Car) → map placed (replicate n car) ≡ replicate n (placed car)
@@ -13,5 +14,10 @@ opens : (cars floors n : ℕ) (made : List Car) → made ≡ replicate n (record
     → ◌≡◌ {A = PlantState} (record { floors = floors; time = 0; run_limit = cars; cars = map placed made }) (opening_plant cars floors)
 opens cars floors n made e f = cc (placed_alike n (record { place = pos 0; door = 0 }))
 
-pub returns : goal.returns
-returns c = opens _ _ _ _ c.loop.invariant (omega arith)
+pub returns-clause-plant : goal.returns-clause-plant
+returns-clause-plant c = opens _ _ _ _ c.loop.invariant (omega arith)
+
+pub returns-clause-sized : goal.returns-clause-sized
+returns-clause-sized c = λ slots.
+    let is = opens c.args.cars c.args.floors _ _ c.loop.invariant (omega arith) in
+    subst (IsPlantOf (record { cars = c.args.cars; floors = c.args.floors; slots = slots })) (sym is) (opening_sized c.args.cars c.args.floors slots)

@@ -1,16 +1,10 @@
-use Rattle.std.proofs.Common.{◌∙◌, ap, subst, [], ◌∷◌, ◌++◌}
-use Rattle.lift_spec.specs.Image.{opening_car, opening_outputs}
-use Rattle.il_machine.specs.Scanning.{Program, IsRunnable}
-use Rattle.lift_world.proofs.Modelling.{opening_keeps, opening_is}
+use Rattle.std.proofs.Common.{sym, subst}
+use Rattle.il_machine.specs.Scanning.{Program}
+use Rattle.lift_world.specs.Running.{world_of}
+use Rattle.lift_sound.specs.Runs.{IsReached}
+use Rattle.lift_world.proofs.Sound.{opening_reached}
 use Rattle.lift_world.proofs.world.World.new.Goals as goal
 
 pub invariant_of-result : goal.invariant_of-result
 invariant_of-result c =
-    let runs = subst (λ (p : Program). IsRunnable p.config) c.verified.view_is c.verified.invariant in
-    opening_keeps c.args.verified runs _ _ _ _ _ c.in_ok-store.ensures.scan c.in_ok-store.ensures.written c.in_ok-store.ensures.own (c.push.ensures ∙ ap (λ l. l ++ opening_car ∷ []) c.new-cars.ensures) (c.push-2.ensures ∙ ap (λ l. l ++ opening_outputs ∷ []) c.new-outputs.ensures)
-    (c.in_ok-try_copy.ensures ∙ c.variables.ensures) (c.in_ok-try_copy-2.ensures ∙ c.written.ensures)
-
-pub returns-clause-opening : goal.returns-clause-opening
-returns-clause-opening c =
-    let runs = subst (λ (p : Program). IsRunnable p.config) c.verified.view_is c.verified.invariant in
-    opening_is c.args.verified runs _ _ _ _ c.in_ok-store.ensures.variables (c.push.ensures ∙ ap (λ l. l ++ opening_car ∷ []) c.new-cars.ensures) (c.push-2.ensures ∙ ap (λ l. l ++ opening_outputs ∷ []) c.new-outputs.ensures) (c.in_ok-try_copy.ensures ∙ c.variables.ensures)
+    subst (λ (p : Program). IsReached p.config (world_of c.in_ok-group.group)) (sym c.in_ok-group.ensures.same) (opening_reached c.args.verified.config (world_of c.in_ok-group.group) c.in_ok-group.ensures.opening)

@@ -1,0 +1,5 @@
+mod Tokens
+mod Spelled
+pub mod DeclarationRows
+pub mod TypeRows
+pub mod FirstRows

@@ -1,0 +1,17 @@
+pub mod Lists
+pub mod Slots
+pub mod Sets
+pub mod Kept
+pub mod Steps
+pub mod Seats
+pub mod Events
+pub mod Openings
+pub mod Following
+pub mod Coming
+pub mod Seen
+pub mod Given
+pub mod Running
+pub mod Tasks
+pub mod Accepted
+pub mod Histories
+pub mod Witnesses

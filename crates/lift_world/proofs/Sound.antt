@@ -1,0 +1,132 @@
+-- What the machine runs is sound: no rule is broken, and each unit has an annotation.
+use Rattle.std.proofs.Common.{◌≡◌, ℕ, zero, suc, ◌≤◌, List, [], ◌∷◌, ◌++◌, Option, Some, None, refl, sym, ap, ◌∙◌, subst, arith, length, Ok}
+use Rattle.std.specs.Prelude.{Contains, codes, find, bytes_eq}
+use Rattle.il_spec.specs.declared.tree.Config.{Config}
+use Rattle.il_spec.specs.declared.tree.Unit.{Unit as Organized}
+use Rattle.il_spec.specs.declared.tree.Step.{Step}
+use Rattle.il_spec.specs.declared.tree.Place.{Place}
+use Rattle.il_spec.specs.declared.tree.Declaration.{Declaration}
+use Rattle.il_spec.specs.declared.tree.Form.TheVariants.{Block as OfBlock}
+use Rattle.il_spec.specs.declared.tree.Instruction.TheVariants.{Invoke}
+use Rattle.il_rules.specs.Names.{function_named}
+use Rattle.il_rules.specs.Faults.{Ordering, Broken, recursive as breaks_recursive, long_chain as breaks_chain, too_many_slots}
+use Rattle.il_rules.specs.Order.{Uses, calls, declares, IsRecursive, recursive, HasLongChain, long_chain}
+use Rattle.il_rules.specs.Subset.{IsSupported, IsSupportedProgram, IsSupportedInstruction, IsSupportedForm, AreSupportedSteps, AreSupportedVariables}
+use Rattle.il_rules.proofs.Straight.{only_unit}
+use Rattle.il_run.specs.Paths.{longest, IsLongest}
+use Rattle.lift_spec.specs.declared.event.Event.{Event as Happening}
+use Rattle.lift_spec.specs.declared.event.Reply.{Reply}
+use Rattle.lift_spec.specs.World.{World, run, opening, happens}
+use Rattle.il_spec.specs.declared.tree.ProgramLine.{ProgramLine}
+use Rattle.il_run.specs.Scan.{program_of as line_program}
+use Rattle.lift_spec.specs.Snapshot.{task_name, program_of}
+use Rattle.il_sound.specs.Accepted.{IsOrdered}
+use Rattle.lift_sound.specs.Accepted.{IsSound}
+use Rattle.lift_sound.specs.Tasks.{budget_of, budget_by}
+use Rattle.lift_sound.specs.Runs.{RunsWell, IsReached}
+use Rattle.lift_sound.specs.Histories.{CallGoesWell}
+use Rattle.lift_sound.proofs.Accepted.{accepted_runs_well}
+use Rattle.lift_sound.proofs.Histories.{accepted_calls_go_well, event_is_run}
+use Rattle.lift_sound.proofs.Following.{goes_on}
+use Rattle.il_machine.specs.Scanning.{Program, IsRunnable}
+use Rattle.il_machine.specs.Costs.{AreCosts}
+use Rattle.il_machine.specs.Listing.{TaskLine, task_line}
+use Rattle.il_machine.proofs.Budgets.{prints_budgets}
+use Rattle.il_costs.proofs.Accepted.{has_longest}
+use Rattle.il_sound.proofs.Named.{found_unit}
+use Rattle.il_sound.proofs.Meant.{program_is}
+use Rattle.lift_world.proofs.Accepting.{unbroken_is}
+use Rattle.lift_world.proofs.Costs.{limit_is_standard}
+
+-- ORDER
+
+-- an instruction of the subset calls no own function
+step_among : (steps : List Step) → AreSupportedSteps steps → (s : Step) → Contains steps s → IsSupportedInstruction s.instruction
+step_among [] h s (k, low, e) = absurd (omega arith)
+step_among (x ∷ xs) h s (zero, low, e) = subst (λ (y : Step). IsSupportedInstruction y.instruction) e h.1
+step_among (x ∷ xs) h s (suc k, low, e) = step_among xs h.2 s (k, omega arith, e)
+
+-- a variable of the subset is no instance
+form_among : (ds : List Declaration) → AreSupportedVariables ds → (d : Declaration) → Contains ds d → IsSupportedForm d.declared.form
+form_among [] h d (k, low, e) = absurd (omega arith)
+form_among (x ∷ xs) h d (zero, low, e) = subst (λ (y : Declaration). IsSupportedForm y.declared.form) e h.0
+form_among (x ∷ xs) h d (suc k, low, e) = form_among xs h.2 d (k, omega arith, e)
+
+no_some : {X : Type 0} (o : Option X) (x : X) → o ≡ None → o ≡ Some x → ⊥
+no_some o x a b = let bad : None ≡ Some x = sym a ∙ b in cc
+
+-- no unit of the subset uses another
+no_use : (c : Config) → IsSupported c → (unit used : Organized) → Contains c.units unit → Uses c unit used → ⊥
+no_use c supported unit used among (calls step function operands there is named) =
+    let same = only_unit c supported.program supported.alone unit among in
+    let h = subst IsSupportedInstruction is (step_among supported.program.body.steps supported.supported.steps step (subst (λ (u : Organized). Contains u.body.steps step) same there)) in
+    no_some (function_named c function.name) used (ap (function_named c) h.0 ∙ limit_is_standard c) named
+no_use c supported unit used among (declares d name there is named) =
+    let same = only_unit c supported.program supported.alone unit among in
+    subst IsSupportedForm is (form_among supported.program.variables supported.supported.variables d (subst (λ (u : Organized). Contains u.variables d) same there))
+
+not_recursive : (c : Config) → IsSupported c → (place : Place) → IsRecursive c place → ⊥
+not_recursive c supported place (recursive unit among ([], uses) at) = no_use c supported unit unit among uses
+not_recursive c supported place (recursive unit among (next ∷ between, uses) at) = no_use c supported unit next among uses.0
+
+no_long_chain : (c : Config) → IsSupported c → (place : Place) → HasLongChain c place → ⊥
+no_long_chain c supported place (long_chain unit [] among chain once long at) = omega (arith, long)
+no_long_chain c supported place (long_chain unit (next ∷ rest) among chain once long at) = no_use c supported unit next among chain.0
+
+ordered : (c : Config) → IsSupported c → IsOrdered c
+ordered c supported number place other (breaks_recursive is broken) = not_recursive c supported place broken
+ordered c supported number place other (breaks_chain is broken) = no_long_chain c supported place broken
+ordered c supported number place other (too_many_slots is broken) = other is
+
+-- SOUNDNESS
+
+pub sound_is : (c : Config) → IsRunnable c → IsSound c
+sound_is c runs = record {
+  written = runs.written;
+  declared = unbroken_is c runs.checked.resolved.declared;
+  typed = runs.checked.resolved.typed;
+  ordered = ordered c runs.supported;
+  annotated = runs.checked.annotated;
+}
+
+pub runs_well : (c : Config) → IsRunnable c → RunsWell c
+runs_well c runs = accepted_runs_well c (sound_is c runs)
+
+-- RUNS OF A WORLD
+
+-- a call goes well, whatever history led to the world
+pub call_goes_well : (c : Config) → IsRunnable c → (w : World) (events : List Happening) → CallGoesWell c w events
+call_goes_well c runs w events = accepted_calls_go_well c (sound_is c runs) w events
+
+-- the opening world has a history: nothing happened
+pub opening_reached : (c : Config) (w : World) → w ≡ opening c → IsReached c w
+opening_reached c w is = record { events = []; replies = []; is = ap (λ v. Ok (v, [])) (sym is) }
+
+-- one event keeps a history
+pub one_event : (c : Config) (w v : World) (e : Happening) (reply : Reply) → IsReached c w → happens c w e ≡ Ok (v, reply) → IsReached c v
+one_event c w v e reply reached is = goes_on c w v [] (reply ∷ []) (e ∷ []) reached (event_is_run c w v e reply [] is)
+
+-- and so does a run
+pub many_events : (c : Config) (w v : World) (events : List Happening) (earlier replies : List Reply) → IsReached c w → run c w earlier events ≡ Ok (v, replies) → IsReached c v
+many_events c w v events earlier replies reached is = goes_on c w v earlier replies events reached is
+
+-- BUDGETS
+
+-- a unit has one greatest cost
+one_longest : (c : Config) (u : Organized) (m n : ℕ) → IsLongest c u m → IsLongest c u n → m ≡ n
+one_longest c u m n a b = let low = b.greatest a.attained.0 m a.attained.1 in let high = a.greatest b.attained.0 n b.attained.1 in omega (arith, low, high)
+
+-- a task's program is a unit of the configuration
+program_among : (c : Config) (t : ℕ) (u : Organized) → program_of c t ≡ Some u → Contains c.units u
+program_among c t u e = by_line (find (λ l. bytes_eq (task_name t) l.task.name) c.programs) e
+  where
+    by_line : (o : Option ProgramLine) → line_program c o ≡ Some u → Contains c.units u
+    by_line None f = absurd (no_some {X = Organized} None u refl f)
+    by_line (Some l) f = found_unit c l.program.name u (program_is c l.program.name u f).0
+
+-- the budget that is printed of a task is that of the law
+pub printed_is : (p : Program) → IsRunnable p.config → AreCosts p.config p.config.units p.costs → (task : ℕ) (line : TaskLine) (u : Organized) → task_line p task ≡ Some line → program_of p.config task ≡ Some u → line.budget ≡ budget_of p.config task
+printed_is p runs costs task line u shown program =
+    let s = sound_is p.config runs in
+    one_longest p.config u line.budget (longest p.config u) (prints_budgets p costs task line u shown program) (has_longest p.config s.declared s.typed s.ordered u (program_among p.config task u program)).greatest
+    ∙ ap (budget_by p.config) (sym program)

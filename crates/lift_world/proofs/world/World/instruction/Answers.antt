@@ -1,6 +1,0 @@
-use Rattle.lift_world.specs.contracts.world.World.{the_view}
-use Rattle.lift_world.proofs.Modelling.{step_keeps}
-use Rattle.lift_world.proofs.world.World.instruction.Goals as goal
-
-pub invariant_of-self : goal.invariant_of-self
-invariant_of-self c = step_keeps (the_view c.self.inside) c.self.invariant c.step.new.store c.step.ensures.scan c.step.ensures.own c.step.ensures.variables c.step.ensures.written c.step.ensures.unseen
