@@ -5,8 +5,6 @@ mod cells;
 mod instruction;
 mod opening;
 pub mod store;
-#[cfg(test)]
-mod tests;
 pub mod verified;
 
 pub use il_run::value::Value;
