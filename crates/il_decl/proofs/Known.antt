@@ -195,7 +195,7 @@ seen_of_cars config unit task line f image is =
 
 -- MEANING
 
--- what a program of the subset needs to judge its instructions
+-- what a program of the subset needs to check its instructions
 pub record IsSetting (config : Config) (unit : ProgramUnit) (task : Task) (line : ProgramLine) (symbols : NameMap Symbol) : Type 0 where
   pub frame : IsFrame config unit task line
   pub knows : (name : Spelling) → is_some (get symbols name) ≡ is_own unit name

@@ -1,12 +1,10 @@
-//! Judges the declarations of a configuration of the subset, and says what the names of its program mean.
+//! Checks the declarations of a configuration of the subset, and says what the names of its program mean.
 #![tactic(auto)]
 
 mod body;
 mod image;
 mod names;
 mod structure;
-#[cfg(test)]
-mod tests;
 mod values;
 mod variables;
 
@@ -32,7 +30,7 @@ use il_spec::tree::{Config, ProgramLine, Task, Unit};
 use il_table::Table;
 use std::alloc::Global;
 
-/// Judges the declarations of a configuration of the subset (20 to 25), and gives what each scalar name of its program means.
+/// Checks the declarations of a configuration of the subset (20 to 25), and gives what each scalar name of its program means.
 /// Of the faults that are found the one at the earliest place is named, at one place the one with the lowest number.
 pub fn declare(alloc: Global, config: &Config) -> Result<Table<Symbol>, Refusal>
     requires supported { IsSupported config.now }
@@ -53,7 +51,7 @@ pub fn declare(alloc: Global, config: &Config) -> Result<Table<Symbol>, Refusal>
     declare_program(alloc, config, unit, task, line)
 }
 
-// Judges the one program with its task and PROGRAM line.
+// Checks the one program with its task and PROGRAM line.
 fn declare_program(
     alloc: Global,
     config: &Config,

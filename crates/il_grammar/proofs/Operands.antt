@@ -78,7 +78,7 @@ module _ (text : List ℕ) where
   member_one : (gap : Gap) → IsDeterministic (λ (x : List ℕ × List ℕ). SpellsReference text gap (reference.Member x.0 x.1))
   member_one gap = chain gap (name_one text) (behind gap (sign_sure Dot) (any_word_one text))
 
-  -- the first token tells whether an operand is a literal
+  -- the first token says whether an operand is a literal
   reference_tag : (gap : Gap) (a : Reference) (ts r : List Token) → SpellsReference text gap a ts r → is_literal_lead (lead text ts) ≡ is_literal a
   reference_tag gap (reference.Literal value) ts r p = begins_literal value ts r p
   reference_tag gap (reference.Variable n) ts r p = ap is_literal_lead (name_lead text n ts p.0 p.1)

@@ -1,6 +1,6 @@
 -- What the smallest readers read is spelled there, and what is spelled there they read.
 use Rattle.std.proofs.Common.{◌≡◌, ℕ, Bool, true, false, ◌&&◌, ◌||◌, not, cond, List, [], ◌∷◌, ◌++◌, eqb, Option, Some, None, refl, sym, ap, subst, ◌∙◌, inl, inr, ◌⊎◌, arith}
-use Rattle.std.specs.Prelude.{bytes_eq, ℤ, slice_range}
+use Rattle.std.specs.Prelude.{bytes_eq, ℤ, slice_range, if◌then◌else◌}
 use Rattle.std.specs.Str.{is_utf8}
 use Rattle.std.proofs.lemmas.Bool.{eqb-true}
 use Rattle.std.proofs.lemmas.Slice.Eq.{bytes_eq-Decides}
@@ -16,7 +16,7 @@ use Rattle.il_spec.specs.declared.tree.Literal.TheVariants as literal
 use Rattle.il_spec.specs.Text.{name_of, is_plain_decimal, entry_of}
 use Rattle.il_spec.specs.Words.{operator_words, instruction_words, type_words, declaration_words, unit_words, keyword_of, IsName}
 use Rattle.il_spec.specs.Grammar.{is_line_end, skip_line_ends, AfterLines, No, At, TheSign, TheLineEnd, ANumber, ATyped, TheWord, AWord, AName, TheName, SomeName, ADecimal}
-use Rattle.il_parse.specs.Reading.{◌>>=◌, place_of, is_word_kind, sign_number, is_sign, number_of, duration_of, is_there, is_among, is_reserved, first_at, first_is, sign_comes, sign_at, line_end_at, number_at, duration_at, is_word, comes_first, comes, placed_word_at, word_at, name_at, named_at, decimal_at}
+use Rattle.il_parse.specs.Reading.{◌>>=◌, place_of, is_word_kind, sign_number, is_sign, number_of, duration_of, is_there, is_same_word, is_among, is_reserved, first_at, first_is, sign_comes, sign_at, line_end_at, number_at, duration_at, is_word, comes_first, comes, placed_word_at, word_at, name_at, named_at, decimal_at}
 
 -- the parts of a step that gave something
 pub bind_some : {A B : Type 0} (r : Option A) (f : A → Option B) (y : B) → (r >>= f) ≡ Some y → (x : A) × (r ≡ Some x) × (f x ≡ Some y)
@@ -427,9 +427,22 @@ regroup_or false true c d e = refl
 regroup_or false false true d e = refl
 regroup_or false false false d e = refl
 
+-- what is found in a table is in it
+there_is : (table : List (List ℕ × Keyword)) (w : List ℕ) → is_there (entry_of table w) ≡ is_among table w
+unfolding entry_of is_same_word
+there_is [] w = refl
+there_is (entry ∷ entries) w = by (bytes_eq w entry.0) (there_is entries w)
+  where
+    by : (b : Bool) → is_there (entry_of entries w) ≡ is_among entries w → is_there (if b then Some entry.1 else entry_of entries w) ≡ (b || is_among entries w)
+    by true e = refl
+    by false e = e
+
+either_same : (a b c d : Bool) → a ≡ b → c ≡ d → (a || c) ≡ (b || d)
+either_same a b c d p q = ap (λ (x : Bool). x || c) p ∙ ap (λ (x : Bool). b || x) q
+
 -- the five tables are all reserved words
 reserved_all : (w : List ℕ) → is_there (keyword_of w) ≡ is_reserved w
-unfolding keyword_of is_reserved is_among
+unfolding keyword_of is_reserved
 reserved_all w =
     let a = entry_append (((operator_words ++ instruction_words) ++ type_words) ++ declaration_words) unit_words w in
     let b = entry_append ((operator_words ++ instruction_words) ++ type_words) declaration_words w in
@@ -440,6 +453,8 @@ reserved_all w =
     let t = is_there (entry_of type_words w) in
     a ∙ ap (λ (x : Bool). x || u) (b ∙ ap (λ (x : Bool). x || v) (c ∙ ap (λ (x : Bool). x || t) d))
     ∙ regroup_or (is_there (entry_of operator_words w)) (is_there (entry_of instruction_words w)) t v u
+    ∙ either_same _ _ _ _ (there_is operator_words w)
+    (either_same _ _ _ _ (there_is instruction_words w) (either_same _ _ _ _ (there_is type_words w) (either_same _ _ _ _ (there_is declaration_words w) (there_is unit_words w))))
 
 -- a word in no table is a name
 pub free_name : (w : List ℕ) → is_reserved w ≡ false → IsName w

@@ -128,9 +128,14 @@ abbrev pub is_there : {A : Type 0} → Option A → Bool
 is_there (Some x) = true
 is_there None = false
 
--- whether a table has the word
-unfoldable pub is_among : List (List ℕ × Keyword) → List ℕ → Bool
-is_among table w = is_there (entry_of table w)
+-- whether two words are one; callers of a comparison don't see the bytes
+unfoldable pub is_same_word : List ℕ → List ℕ → Bool
+is_same_word w word = bytes_eq w word
+
+-- whether a word is in a table of words
+abbrev pub is_among : List (List ℕ × Keyword) → List ℕ → Bool
+is_among [] w = false
+is_among (entry ∷ entries) w = is_same_word w entry.0 || is_among entries w
 
 -- whether a word is reserved
 unfoldable pub is_reserved : List ℕ → Bool

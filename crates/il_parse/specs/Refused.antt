@@ -6,7 +6,7 @@ use Rattle.il_spec.specs.declared.tree.Unit.{Unit as ProgramUnit}
 use Rattle.il_spec.specs.declared.tree.Config.{Config}
 use Rattle.il_spec.specs.Grammar.{greatest_depth}
 
--- a fault, and not want of memory
+-- a fault, and not out of memory
 abbrev pub IsFault : {A : Type 0} → Result A Refusal → Type 0
 IsFault (Ok x) = ⊥
 IsFault (Err (refusal.Fault number line)) = Unit {0}
@@ -16,7 +16,7 @@ IsFault (Err refusal.Memory) = ⊥
 abbrev pub IsNumberOfParser : ℕ → Type 0
 IsNumberOfParser number = (number ≡ 10) ⊎ (number ≡ 11) ⊎ (number ≡ 12)
 
--- a fault of the parser, or want of memory
+-- a fault of the parser, or out of memory
 abbrev pub IsOfParser : Refusal → Type 0
 IsOfParser (refusal.Fault number line) = IsNumberOfParser number
 IsOfParser refusal.Memory = Unit {0}

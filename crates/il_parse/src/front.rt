@@ -6,7 +6,7 @@ ghost use Rattle.std.specs.Char.{to_ascii_uppercase, is_ascii_digit};
 ghost use Rattle.il_spec.specs.Text.{is_grouped};
 ghost use Rattle.il_spec.specs.Words.{operator_words, instruction_words, type_words, declaration_words, unit_words};
 ghost use Rattle.il_spec.specs.Grammar.{skip_line_ends};
-ghost use Rattle.il_parse.specs.Reading.{Gives, place_of, first_at, is_word, comes, word_at, placed_word_at, sign_at, is_sign, first_is, sign_comes, line_end_at, number_at, name_at, named_at, decimal_at, duration_at, is_reserved, is_among};
+ghost use Rattle.il_parse.specs.Reading.{Gives, place_of, first_at, is_word, comes, word_at, placed_word_at, sign_at, is_sign, first_is, sign_comes, line_end_at, number_at, name_at, named_at, decimal_at, duration_at, is_reserved, is_among, is_same_word};
 
 use crate::stop::{Flaw, Stop, outside};
 use il_spec::name::Name;
@@ -309,92 +309,83 @@ pub fn is_reserved(word: &str) -> bool
 }
 
 // Whether it is an operator that takes an operand, but for loads and stores.
-#[tactic(auto, unfolding(crate::specs::Reading::is_among, il_spec::specs::Text::entry_of))]
 fn is_operator_word(word: &str) -> bool
     ensures { result ≡ is_among operator_words word.now }
 {
-    matches!(
-        word,
-        "AND"
-            | "ANDN"
-            | "OR"
-            | "ORN"
-            | "XOR"
-            | "XORN"
-            | "ADD"
-            | "SUB"
-            | "MUL"
-            | "DIV"
-            | "MOD"
-            | "GT"
-            | "GE"
-            | "EQ"
-            | "NE"
-            | "LE"
-            | "LT"
-    )
+    is_same_word(word, "AND")
+        || is_same_word(word, "ANDN")
+        || is_same_word(word, "OR")
+        || is_same_word(word, "ORN")
+        || is_same_word(word, "XOR")
+        || is_same_word(word, "XORN")
+        || is_same_word(word, "ADD")
+        || is_same_word(word, "SUB")
+        || is_same_word(word, "MUL")
+        || is_same_word(word, "DIV")
+        || is_same_word(word, "MOD")
+        || is_same_word(word, "GT")
+        || is_same_word(word, "GE")
+        || is_same_word(word, "EQ")
+        || is_same_word(word, "NE")
+        || is_same_word(word, "LE")
+        || is_same_word(word, "LT")
 }
 
 // Whether it is one of the other operators.
-#[tactic(auto, unfolding(crate::specs::Reading::is_among, il_spec::specs::Text::entry_of))]
 fn is_instruction_word(word: &str) -> bool
     ensures { result ≡ is_among instruction_words word.now }
 {
-    matches!(
-        word,
-        "LD" | "LDN"
-            | "ST"
-            | "STN"
-            | "S"
-            | "R"
-            | "NOT"
-            | "JMP"
-            | "JMPC"
-            | "JMPCN"
-            | "CAL"
-            | "CALC"
-            | "CALCN"
-            | "RET"
-            | "RETC"
-            | "RETCN"
-    )
+    is_same_word(word, "LD")
+        || is_same_word(word, "LDN")
+        || is_same_word(word, "ST")
+        || is_same_word(word, "STN")
+        || is_same_word(word, "S")
+        || is_same_word(word, "R")
+        || is_same_word(word, "NOT")
+        || is_same_word(word, "JMP")
+        || is_same_word(word, "JMPC")
+        || is_same_word(word, "JMPCN")
+        || is_same_word(word, "CAL")
+        || is_same_word(word, "CALC")
+        || is_same_word(word, "CALCN")
+        || is_same_word(word, "RET")
+        || is_same_word(word, "RETC")
+        || is_same_word(word, "RETCN")
 }
 
 // Whether it is an elementary type, ARRAY, OF, TRUE or FALSE.
-#[tactic(auto, unfolding(crate::specs::Reading::is_among, il_spec::specs::Text::entry_of))]
 fn is_type_word(word: &str) -> bool
     ensures { result ≡ is_among type_words word.now }
 {
-    matches!(
-        word,
-        "BOOL"
-            | "SINT"
-            | "INT"
-            | "DINT"
-            | "USINT"
-            | "UINT"
-            | "UDINT"
-            | "TIME"
-            | "ARRAY"
-            | "OF"
-            | "TRUE"
-            | "FALSE"
-    )
+    is_same_word(word, "BOOL")
+        || is_same_word(word, "SINT")
+        || is_same_word(word, "INT")
+        || is_same_word(word, "DINT")
+        || is_same_word(word, "USINT")
+        || is_same_word(word, "UINT")
+        || is_same_word(word, "UDINT")
+        || is_same_word(word, "TIME")
+        || is_same_word(word, "ARRAY")
+        || is_same_word(word, "OF")
+        || is_same_word(word, "TRUE")
+        || is_same_word(word, "FALSE")
 }
 
 // Whether it is a word of declarations.
-#[tactic(auto, unfolding(crate::specs::Reading::is_among, il_spec::specs::Text::entry_of))]
 fn is_declaration_word(word: &str) -> bool
     ensures { result ≡ is_among declaration_words word.now }
 {
-    matches!(
-        word,
-        "VAR" | "VAR_INPUT" | "VAR_OUTPUT" | "VAR_EXTERNAL" | "VAR_GLOBAL" | "CONSTANT" | "END_VAR"
-    )
+    is_same_word(word, "VAR")
+        || is_same_word(word, "VAR_INPUT")
+        || is_same_word(word, "VAR_OUTPUT")
+        || is_same_word(word, "VAR_EXTERNAL")
+        || is_same_word(word, "VAR_GLOBAL")
+        || is_same_word(word, "CONSTANT")
+        || is_same_word(word, "END_VAR")
 }
 
 // Whether it is a word of units or of the configuration.
-#[tactic(auto, unfolding(crate::specs::Reading::is_among, il_spec::specs::Text::entry_of))]
+#[tactic(auto, unfolding(crate::specs::Reading::is_same_word))]
 fn is_unit_word(word: &str) -> bool
     ensures { result ≡ is_among unit_words word.now }
 {
@@ -416,4 +407,12 @@ fn is_unit_word(word: &str) -> bool
             | "INTERVAL"
             | "PRIORITY"
     )
+}
+
+// Whether a word is this one: a function of its own, so that no caller's proof sees the bytes.
+#[tactic(auto, unfolding(crate::specs::Reading::is_same_word))]
+fn is_same_word(word: &str, other: &str) -> bool
+    ensures { result ≡ is_same_word word.now other.now }
+{
+    word == other
 }

@@ -32,7 +32,7 @@ impl Flaw {
 /// Why a reader gives nothing.
 #[derive(Clone, Copy)]
 pub enum Stop {
-    /// A growth was refused.
+    /// An allocation failed.
     Memory,
     /// A fault at the line, or at the end of the text.
     Fault { flaw: Flaw, line: Option<u32> },

@@ -231,7 +231,7 @@ abbrev pub agreement_numbers : Option Elementary → Option Elementary → List 
 agreement_numbers None found = []
 agreement_numbers (Some wanted) found = any_difference_numbers found wanted
 
--- what an input of SEL is judged as: a bare literal that fits no type as DINT, so that its kind is known (own rule)
+-- what an input of SEL is checked as: a bare literal that fits no type as DINT, so that its kind is known (own rule)
 abbrev pub selected_input_type : Config → ProgramUnit → Reference → Option Elementary
 selected_input_type config unit (OfLiteral (Bare n)) = or_else (literal_type (Bare n)) (Some Dint)
 selected_input_type config unit reference = loaded_type config unit reference

@@ -3,7 +3,7 @@ use Rattle.std.specs.Prelude.{◌≤◌, Result, Ok, Err}
 use Rattle.il_spec.specs.declared.fault.Refusal.{Refusal}
 use Rattle.il_spec.specs.declared.fault.Refusal.TheVariants.{Fault, Memory}
 
--- the text was refused, and not for want of memory
+-- the text was refused, and not because memory ran out
 abbrev pub IsFault : {X : Type 0} → Result X Refusal → Type 0
 IsFault (Ok x) = ⊥
 IsFault (Err (Fault number line)) = Unit {0}

@@ -185,7 +185,7 @@ pair_lowest config unit symbols means (a ∷ b ∷ rest) c wanted =
     lowest_both _ _ _ _ (wanted_lowest config unit symbols means a.reference c.0 wanted)
     (subst (λ l. IsLowest (wanted_of symbols b.reference wanted) l) (sym (append-nil (wanted_numbers config unit b.reference wanted))) (wanted_lowest config unit symbols means b.reference c.1.0 wanted))
 
--- all that is judged
+-- all that is checked
 arguments_lowest : (config : Config) (unit : ProgramUnit) (symbols : NameMap Symbol) → Means config unit symbols → (operands : List Operand) → AreSupportedOperands operands → (before : Option Elementary) → IsLowest (arguments_of symbols operands before) (uniform_numbers config unit Limited operands before)
 arguments_lowest config unit symbols means operands c None = lowest_none
 arguments_lowest config unit symbols means operands c (Some found) = lowest_by_not (is_same_type found Boolean) _ _ _ _ (lowest_one 30) (pair_lowest config unit symbols means operands c found)

@@ -64,7 +64,7 @@ names_fine config unit alone declared at s e = (
 
 -- THE LINE
 
--- what is known of a configuration that is judged
+-- what is known of a configuration that is checked
 pub record IsSetting (config : Config) (unit : ProgramUnit) (symbols : NameMap Symbol) : Type 0 where
   pub alone : config.units ≡ unit ∷ []
   pub supported : IsSupportedProgram unit

@@ -3,8 +3,6 @@
 
 mod instructions;
 mod operands;
-#[cfg(test)]
-mod tests;
 
 ghost use Rattle.std.specs.Prelude.{◌≡◌, ◌≢◌, [], ◌∷◌, length, IfOk, IfErr};
 ghost use Rattle.il_spec.specs.declared.tree.Unit.{Unit as ProgramUnit};
@@ -24,7 +22,7 @@ use il_spec::fault::Refusal;
 use il_spec::tree::{Config, Place, Step};
 use il_table::Table;
 
-/// Judges the types of the program's instructions (30 to 33, 37): the first fault in the text, at one instruction the lowest number.
+/// Checks the types of the program's instructions (30 to 33, 37): the first fault in the text, at one instruction the lowest number.
 pub fn check_types(config: &Config, symbols: &Table<Symbol>) -> Result<(), Refusal>
     requires supported { IsSupported config.now }
     requires declared { HasNoFault (BreaksInSubset config.now) }

@@ -193,12 +193,12 @@ pub record AreRanges (lookup : Spelling → Option Symbol) (r : Ranges) : Type 0
   pub variables : AreOperands lookup r.stored
   pub result : IsResultOperand r.result
 
--- a refusal by this number and line, for this reason; want of memory says nothing (own rule)
+-- a refusal by this number and line, for this reason; out of memory says nothing (own rule)
 abbrev pub IsRefusedWith : ℕ → ℕ → Type 0 → Refusal → Type 0
 IsRefusedWith wanted at reason (Fault number line) = reason × (number ≡ wanted) × (line ≡ at)
 IsRefusedWith wanted at reason Memory = Unit {0}
 
--- a refusal of an instruction, by its line; want of memory says nothing (own rule)
+-- a refusal of an instruction, by its line; out of memory says nothing (own rule)
 abbrev pub IsStopped : (Spelling → Option Symbol) → Step → Ranges → Refusal → Type 0
 IsStopped lookup s r (Fault number line) = (known_after lookup s.instruction r ≡ None) × (number ≡ range_fault s.instruction) × (line ≡ s.place.line)
 IsStopped lookup s r Memory = Unit {0}

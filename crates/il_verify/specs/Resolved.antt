@@ -44,7 +44,7 @@ pub record IsFirstUnannotated (c : Config) (u : ProgramUnit) (number : ℕ) (s :
   pub first : IsFirstWithout c u at
   pub number_is : number ≡ range_fault s.instruction
 
--- a refusal names its line; want of memory says nothing of the configuration
+-- a refusal names its line; out of memory says nothing of the configuration
 abbrev pub IsUnannotatedBy : Config → Refusal → Type 0
 IsUnannotatedBy c (Fault number line) = (u : ProgramUnit) × (s : Step) × IsProgram c u × IsFirstUnannotated c u number s × (line ≡ s.place.line)
 IsUnannotatedBy c Memory = Unit {0}

@@ -1,4 +1,4 @@
-//! The process image: what the plant tells, what is told to the cars, and which fields are in range.
+//! The process image: what the plant reports, the outputs of the cars, and which fields are in range.
 #![tactic(auto)]
 
 ghost use Rattle.std.specs.Prelude.{◌≡◌, ◌↔◌, IsTrue};
@@ -47,7 +47,7 @@ pub fn in_range(fields: &Fields, sizes: Sizes) -> bool
             && (fields.time <= LATEST && fields.run_limit <= sizes.cars))
 }
 
-/// A law: the test of fields tells whether they lie in their ranges.
+/// A law: the test of fields says whether they lie in their ranges.
 #[tactic(auto, using(lift_spec::proofs::Laws::range_test))]
 pub fn range_is_tested()
     ensures { (sizes : Sizes) (fields : Fields) → IsTrue (fields_in_range sizes fields) ↔ FieldsInRange sizes fields }

@@ -18,7 +18,7 @@ fn car(locked: bool) -> CarFields {
     }
 }
 
-// What is told to a car whose door is to stay shut.
+// The outputs of a car whose door is to stay shut.
 fn running(motor: Motor) -> CarOutputs {
     CarOutputs {
         motor,

@@ -1,4 +1,4 @@
--- A step of the plant under outputs that obey the interlock with what it tells.
+-- A step of the plant under outputs that obey the interlock with what it reports.
 use Rattle.std.proofs.Common.{◌≡◌, ◌≢◌, refl, sym, ap, ◌∙◌, subst, ℕ, zero, suc, ◌+◌, ◌-◌, ◌*◌, ◌≤◌, ◌<◌, min, Bool, true, false, List, [], ◌∷◌, length, replicate, Some, None, Option, ℤ, pos, negsuc, ◌+ℤ◌, ◌≤ℤ◌, ◌<ℤ◌, slice_get, All, arith}
 use Rattle.std.specs.Prelude.{int_lt, int_le, int_div, nat_abs, ◌==◌, if◌then◌else◌}
 use Rattle.std.proofs.lemmas.Int.{ints}

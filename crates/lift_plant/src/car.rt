@@ -58,7 +58,7 @@ pub fn moved_car(floors: u8, car: Car, outputs: CarOutputs) -> Car
     Car { place, door }
 }
 
-/// What the plant tells of a car.
+/// What the plant reports of a car.
 pub fn car_fields(floors: u8, car: Car) -> CarFields
     requires floors { (2 ≤ floors) × (floors ≤ 16) }
     requires car { IsPlaced floors car }

@@ -84,7 +84,7 @@ fn moved_cars(floors: u8, cars: &[Car], outputs: &[CarOutputs]) -> Row<Car, 8>
     moved
 }
 
-/// What the plant tells of its cars.
+/// What the plant reports of its cars.
 fn all_fields(floors: u8, cars: &[Car]) -> Row<CarFields, 8>
     requires floors { (2 ≤ floors) × (floors ≤ 16) }
     requires cars { All (IsPlaced floors) cars.now }
@@ -98,7 +98,7 @@ fn all_fields(floors: u8, cars: &[Car]) -> Row<CarFields, 8>
     fields
 }
 
-/// The plant 100 ms later, under the outputs of all its cars, and what it then tells.
+/// The plant 100 ms later, under the outputs of all its cars, and what it then reports.
 pub fn plant_step(plant: Plant, outputs: &Row<CarOutputs, 8>) -> (Plant, Fields)
     requires { length outputs.now ≡ length plant.cars }
     ensures plant { result.0 ≡ plant_after plant outputs.now }
@@ -121,8 +121,8 @@ pub fn plant_step(plant: Plant, outputs: &Row<CarOutputs, 8>) -> (Plant, Fields)
     (moved, fields)
 }
 
-/// A law: a step under outputs that obey the interlock with what the plant tells moves no car whose door isn't
-/// shut, keeps each car that is in its shaft there, and tells fields in range.
+/// A law: a step under outputs that obey the interlock with what the plant reports moves no car whose door isn't
+/// shut, keeps each car that is in its shaft there, and reports fields in range.
 pub fn step_is_safe()
     ensures { (sizes : Sizes) (plant : PlantState) (outputs : List CarOutputs) → IsSafeStep sizes plant outputs }
 {}

@@ -151,7 +151,7 @@ refusals :
 unfolding happens opening scan_begins begins step label_place opening_variables opening_globals get insert empty meaning image_name standard_function standard_block digits
 refusals = refl
 
--- LD TRUE, ST OPEN: the door is told to open at a level, and a refresh without LEVEL ends the command
+-- LD TRUE, ST OPEN: the door is asked to open at a level, and a refresh without LEVEL ends the command
 abbrev opens : Config
 opens = one_car [] (stores_one (Truth true) (Variable (codes "OPEN")))
 

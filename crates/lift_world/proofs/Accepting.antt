@@ -1,6 +1,6 @@
 -- Which texts are accepted.
-use Rattle.std.proofs.Common.{codes, ◌≡◌, ◌≢◌, refl, sym, ap, ◌∙◌, subst, ℕ, ◌+◌, ◌<◌, ◌≤◌, ◌⊎◌, inl, inr, ℤ, pos, negsuc, ◌≤ℤ◌, Bool, true, false, ◌&&◌, List, [], ◌∷◌, length, Some, Option, arith, zero, suc}
-use Rattle.std.specs.Prelude.{Contains, Ok, Err, Result, int_le, IsErrAnd}
+use Rattle.std.proofs.Common.{◌≡◌, ◌≢◌, refl, sym, ap, ◌∙◌, subst, ℕ, ◌+◌, ◌<◌, ◌≤◌, ◌⊎◌, inl, inr, ℤ, pos, negsuc, ◌≤ℤ◌, Bool, true, false, ◌&&◌, List, [], ◌∷◌, length, Some, Option, arith, zero, suc}
+use Rattle.std.specs.Prelude.{Contains, Ok, Err, Result, int_le, IsErrAnd, IfOk}
 use lib.Signed.{le_z_yes}
 use lib.Dec.{T}
 use Rattle.std.proofs.lemmas.Int.{ints}
@@ -26,7 +26,7 @@ use Rattle.il_rules.specs.Faults.{Declaring, Typing, initial_outside, bad_task, 
 use Rattle.il_machine.specs.Scanning.{IsRunnable, IsWithin, HasSizes}
 use Rattle.il_parse.specs.Refused.{HasFewInstructions, IsFault}
 use Rattle.lift_world.specs.Loading.{IsSpelled, IsAccepted, IsRefusedFor}
-use Rattle.lift_world.proofs.Tasking.{is_one, only_task, tasked, task_named}
+use Rattle.lift_world.proofs.Tasking.{is_one, only_task, tasked}
 
 -- SIZES
 
@@ -105,7 +105,7 @@ none_spelled text tokens only refused c a =
     refused c (subst (λ ts. AfterLines (SpellsConfig text c) ts []) (only a.spelled.0 a.spelled.1) a.spelled.2) a.supported a.limits.instructions
 
 -- what the parser gives is the only such configuration
-pub same_spelled : (text : List ℕ) (tokens : List Token) (found : Config) → ((ts : List Token) → AreTokens text 0 ts → ts ≡ tokens)
+same_spelled : (text : List ℕ) (tokens : List Token) (found : Config) → ((ts : List Token) → AreTokens text 0 ts → ts ≡ tokens)
     → ((d : Config) → AfterLines (SpellsConfig text d) tokens [] → IsSupported d → HasFewInstructions d → d ≡ found) → (c : Config) → IsSpelled text c → c ≡ found
 same_spelled text tokens found only unique c a =
     unique c (subst (λ ts. AfterLines (SpellsConfig text c) ts []) (only a.spelled.0 a.spelled.1) a.spelled.2) a.supported a.limits.instructions
@@ -126,13 +126,22 @@ named_judged {X} found e (Ok x) c is refused same = absurd same
 named_judged {X} found e (Err d) c is refused same = subst (λ f. IsRefusedFor f d) (sym is) (subst (IsRefusedFor found) (sym same) refused)
 
 -- what was parsed is spelled within the limits
-pub spelled_is : (text : List ℕ) (c : Config) → length text ≤ 262144 → Spells text c → (length text ≤ 262144 → IsWithinLimits text c) → IsSupported c → IsSpelled text c
+spelled_is : (text : List ℕ) (c : Config) → length text ≤ 262144 → Spells text c → (length text ≤ 262144 → IsWithinLimits text c) → IsSupported c → IsSpelled text c
 spelled_is text c short spelled limits supported = record { spelled = spelled; limits = limits short; supported = supported }
 
+-- the same of what a parser answers
+pub all_spelled : (text : List ℕ) (r : Result Config Refusal) → length text ≤ 262144 → IfOk r (Spells text) → IfOk r (λ c. length text ≤ 262144 → IsWithinLimits text c) → IfOk r IsSupported → IfOk r (IsSpelled text)
+all_spelled text (Ok c) short spelled limits supported = spelled_is text c short spelled limits supported
+all_spelled text (Err e) short spelled limits supported = tt
+
+pub all_same : (text : List ℕ) (tokens : List Token) (r : Result Config Refusal) → ((ts : List Token) → AreTokens text 0 ts → ts ≡ tokens)
+    → IfOk r (λ c. (d : Config) → AfterLines (SpellsConfig text d) tokens [] → IsSupported d → HasFewInstructions d → d ≡ c) → IfOk r (λ c. (d : Config) → IsSpelled text d → d ≡ c)
+all_same text tokens (Ok c) only unique = same_spelled text tokens c only unique
+all_same text tokens (Err e) only unique = tt
+
 -- what was parsed, judged and verified is accepted
-pub accepted_is : (text : List ℕ) (c : Config) → length text ≤ 262144 → Spells text c → (length text ≤ 262144 → IsWithinLimits text c) → IsSupported c → HasNoFault (BreaksInSubset c) → HasNoFault (Broken Typing c) → Annotated c → IsAccepted text c
-accepted_is text c short spelled limits supported declared typed annotated =
-    record { spelled = record { spelled = spelled; limits = limits short; supported = supported }; declared = declared; typed = typed; annotated = annotated }
+pub accepted_is : (text : List ℕ) (c checked : Config) → checked ≡ c → IsSpelled text c → HasNoFault (BreaksInSubset c) → HasNoFault (Broken Typing c) → Annotated checked → IsAccepted text checked
+accepted_is text c checked same spelled declared typed annotated = subst (IsAccepted text) (sym same) (record { spelled = spelled; declared = declared; typed = typed; annotated = subst Annotated same annotated })
 
 -- nothing of declarations is broken
 pub unbroken_is : (c : Config) → HasNoFault (BreaksInSubset c) → HasNoFault (Broken Declaring c)

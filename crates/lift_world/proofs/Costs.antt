@@ -1,5 +1,5 @@
 -- What a program on a straight line costs: it has one control path, over all its places.
-use Rattle.std.proofs.Common.{◌≡◌, ℕ, zero, suc, ◌+◌, ◌≤◌, Bool, true, false, List, [], ◌∷◌, ◌++◌, map, drop, length, Option, Some, None, refl, sym, ap, ◌∙◌, subst, slice_get, arith, add-one}
+use Rattle.std.proofs.Common.{◌≡◌, ℕ, zero, suc, ◌+◌, Bool, true, false, List, [], ◌∷◌, ◌++◌, map, drop, length, Option, Some, None, refl, sym, ap, ◌∙◌, subst, slice_get, arith, add-one}
 use Rattle.std.specs.Prelude.{codes}
 use Rattle.il_spec.specs.declared.tree.Config.{Config}
 use Rattle.il_spec.specs.declared.tree.Body.{Body}
@@ -12,7 +12,6 @@ use Rattle.il_rules.specs.Names.{image_name, standard_function, standard_block, 
 use Rattle.il_rules.specs.Subset.{IsSupported, IsSupportedInstruction, AreSupportedSteps}
 use Rattle.il_run.specs.Step.{instruction_at, instruction_or_return}
 use Rattle.il_run.specs.Paths.{Visit, visit, Onward, To, Ends, onward, is_possible, callee, callee_if, runs, IsPath, ends, goes, calls}
-use Rattle.il_machine.specs.declared.verified.UnitCost.{UnitCost}
 use Rattle.il_machine.specs.Costs.{line_or, line_at, IsCostOf, AreCosts}
 use Rattle.lift_world.specs.Loading.{cost_of}
 

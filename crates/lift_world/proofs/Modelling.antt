@@ -1,7 +1,7 @@
 -- Each event does what the definitions say.
-use Rattle.std.proofs.Common.{◌≡◌, ◌≢◌, ℕ, zero, suc, Bool, true, false, List, [], ◌∷◌, ◌++◌, map, refl, sym, ap, ◌∙◌, cond, subst, Some, None, Option, Result, Ok, pos, arith}
+use Rattle.std.proofs.Common.{◌≡◌, ◌≤◌, ◌≢◌, ℕ, zero, suc, Bool, true, false, List, [], ◌∷◌, ◌++◌, map, refl, sym, ap, ◌∙◌, cond, subst, Some, None, Option, Result, Ok, pos, arith}
 use Rattle.lift_spec.specs.declared.report.Report.{Report}
-use Rattle.std.specs.Prelude.{All, length, filter, is_some, codes, slice_set, replicate, nat_abs, if◌then◌else◌}
+use Rattle.std.specs.Prelude.{filter, is_some, codes, slice_set, replicate, nat_abs, if◌then◌else◌}
 use Rattle.std.specs.Ordering.{eq_by_cmp}
 use Rattle.std.specs.FinMap.Entries.{find}
 use Rattle.std.proofs.lemmas.List.Elements.{All-nil, All-cons}
@@ -28,6 +28,7 @@ use Rattle.lift_spec.specs.declared.image.Motor.TheVariants.{Still}
 use Rattle.lift_spec.specs.declared.event.Event.TheVariants.{Start, Instruction, Commit, Refresh}
 use Rattle.lift_spec.specs.declared.event.Reply.{Reply}
 use Rattle.lift_spec.specs.declared.event.Reply.TheVariants.{Started, More, End, Committed, Refused}
+use Rattle.lift_spec.specs.declared.image.Sizes.{Sizes}
 use Rattle.lift_spec.specs.Image.{sizes_of, opening_image, opening_car, opening_outputs, FieldsInRange, fields_in_range, IsFloor}
 use Rattle.lift_spec.specs.Calls.{opening_calls, ticket_of}
 use Rattle.lift_spec.specs.Settle.{settled_car, outputs_of, denials_of}
@@ -372,7 +373,7 @@ refresh_is_model w after inv reply fields same h unchanged = by (fields_in_range
 -- THE OPENING WORLD
 
 -- how a world opens
-pub opens_so : (c : Config) (runs : IsRunnable c) (i : Image) (variables : Values) (scan : Kept) → i ≡ opening_image (sizes_of c) → variables ≡ opening_variables c runs.checked.resolved.program → world_by c i variables scan false ≡ opening c
+opens_so : (c : Config) (runs : IsRunnable c) (i : Image) (variables : Values) (scan : Kept) → i ≡ opening_image (sizes_of c) → variables ≡ opening_variables c runs.checked.resolved.program → world_by c i variables scan false ≡ opening c
 unfolding world_by opening
 opens_so c runs i variables scan image is =
     let u = runs.checked.resolved.program in
@@ -385,40 +386,43 @@ opens_so c runs i variables scan image is =
     shape j tasks n = record { group = record { image = j; calls = opening_calls (sizes_of c); globals = opening_globals c; tasks = tasks }; scans = replicate (suc n) None; desk = []; hand = [] }
 
 -- the image of one car as it opens
-abbrev pub first_image : List CarFields → List CarOutputs → Image
-first_image cars told = record { fields = record { time = 0; run_limit = 1; cars = cars }; outputs = told }
+abbrev first_image : Image
+first_image = record { fields = record { time = 0; run_limit = 1; cars = opening_car ∷ [] }; outputs = opening_outputs ∷ [] }
 
-pub first_is : (c : Config) (cars : List CarFields) (told : List CarOutputs) → IsRunnable c → cars ≡ opening_car ∷ [] → told ≡ opening_outputs ∷ [] → first_image cars told ≡ opening_image (sizes_of c)
-first_is c cars told runs is_cars is_told =
-    ap (λ l. first_image l told) is_cars ∙ ap (λ l. first_image (opening_car ∷ []) l) is_told
-    ∙ ap (λ z. opening_image (record { cars = nat_abs z; floors = (sizes_of c).floors; slots = (sizes_of c).slots })) (sym runs.sizes.cars)
+first_is : (c : Config) → IsRunnable c → opening_image (sizes_of c) ≡ first_image
+first_is c runs = ap (λ z. opening_image (record { cars = nat_abs z; floors = (sizes_of c).floors; slots = (sizes_of c).slots })) runs.sizes.cars
 
-pub first_one : (cars : List CarFields) (told : List CarOutputs) → cars ≡ opening_car ∷ [] → told ≡ opening_outputs ∷ [] → IsOneCar (first_image cars told)
-first_one cars told is_cars is_told = record { fields = opening_car; cars = is_cars; outputs = opening_outputs; told = is_told; still = refl; opens = λ e. refl }
+first_one : IsOneCar first_image
+first_one = record { fields = opening_car; cars = refl; outputs = opening_outputs; told = refl; still = refl; opens = λ e. refl }
 
-pub first_in_range : (c : Config) (cars : List CarFields) (told : List CarOutputs) → IsRunnable c → cars ≡ opening_car ∷ [] → FieldsInRange (sizes_of c) (first_image cars told).fields
-first_in_range c cars told runs is =
+first_in_range : (c : Config) → IsRunnable c → FieldsInRange (sizes_of c) first_image.fields
+first_in_range c runs =
     let one : 1 ≡ (sizes_of c).cars = sym (ap nat_abs runs.sizes.cars) in
     let floors : (sizes_of c).floors ≡ runs.sizes.floors.number = ap nat_abs runs.sizes.floors.is in
     record {
-      cars = ap length is ∙ one;
-      positions = subst (All (λ car. IsFloor (sizes_of c) car.pos)) (sym is) (All-cons (λ (car : CarFields). IsFloor (sizes_of c) car.pos) opening_car [] (omega arith, omega (arith, floors, runs.sizes.floors.least)) (All-nil _));
+      cars = one;
+      positions = All-cons (λ (car : CarFields). IsFloor (sizes_of c) car.pos) opening_car [] (omega arith, omega (arith, floors, runs.sizes.floors.least)) (All-nil _);
       time = omega arith;
       run_limit = omega (arith, one);
     }
 
+-- such a group has no more cars than there can be
+pub few_cars : (c : Config) (sizes : Sizes) → IsRunnable c → sizes ≡ sizes_of c → sizes.cars ≤ 8
+few_cars c sizes runs is = let one = ap (λ (s : Sizes). s.cars) is ∙ ap nat_abs runs.sizes.cars in omega (arith, one)
+
 -- a world that opens is one
-pub opening_keeps : (p : Program) (runs : IsRunnable p.config) (store : Kept) (cars : List CarFields) (told : List CarOutputs) (variables shown : Values) → IsScanOf p.config store → store.written ≡ shown_of p.config (opening_image (sizes_of p.config))
-    → OwnsDeclared p.config store.variables → cars ≡ opening_car ∷ [] → told ≡ opening_outputs ∷ [] → variables ≡ store.variables → shown ≡ store.written
-    → IsWorldOf (record { program = p; image = first_image cars told; variables = variables; shown = shown; scan = store; busy = false })
-opening_keeps p runs store cars told variables shown scan written own is_cars is_told is_variables is_shown =
+pub opening_keeps : (p : Program) (runs : IsRunnable p.config) (store : Kept) (i : Image) (variables shown : Values) → IsScanOf p.config store → store.written ≡ shown_of p.config (opening_image (sizes_of p.config))
+    → OwnsDeclared p.config store.variables → i ≡ opening_image (sizes_of p.config) → variables ≡ store.variables → shown ≡ store.written
+    → IsWorldOf (record { program = p; image = i; variables = variables; shown = shown; scan = store; busy = false })
+opening_keeps p runs store i variables shown scan written own is is_variables is_shown =
     let c = p.config in
-    let first : store.written ≡ shown_of c (first_image cars told) = written ∙ ap (shown_of c) (sym (first_is c cars told runs is_cars is_told)) in
-    let quiet = begins_quiet c runs.checked.resolved.program (first_image cars told) opening_outputs store.written store.variables runs runs.checked.resolved.is (own runs.checked.resolved.program runs.checked.resolved.is) is_told refl first in
-    record {
+    let first : store.written ≡ shown_of c first_image = written ∙ ap (shown_of c) (first_is c runs) in
+    let quiet = begins_quiet c runs.checked.resolved.program first_image opening_outputs store.written store.variables runs runs.checked.resolved.is (own runs.checked.resolved.program runs.checked.resolved.is) refl refl first in
+    subst (λ j. IsWorldOf (record { program = p; image = j; variables = variables; shown = shown; scan = store; busy = false })) (sym (is ∙ first_is c runs))
+    (record {
       runnable = runs;
-      image = first_one cars told is_cars is_told;
-      ranges = first_in_range c cars told runs is_cars;
+      image = first_one;
+      ranges = first_in_range c runs;
       own = rw is_variables own;
       scan_own = own;
       variables_there = rw is_variables (λ q. refl);
@@ -427,9 +431,8 @@ opening_keeps p runs store cars told variables shown scan written own is_cars is
       sees = is_shown ∙ first;
       motor = quiet.0;
       serve = quiet.1;
-    }
+    })
 
-pub opening_is : (p : Program) (runs : IsRunnable p.config) (store : Kept) (cars : List CarFields) (told : List CarOutputs) (variables : Values) → ((u : Organized) → IsProgram p.config u → store.variables ≡ opening_variables p.config u)
-    → cars ≡ opening_car ∷ [] → told ≡ opening_outputs ∷ [] → variables ≡ store.variables → world_by p.config (first_image cars told) variables store false ≡ opening p.config
-opening_is p runs store cars told variables opens is_cars is_told is_variables =
-    opens_so p.config runs (first_image cars told) variables store (first_is p.config cars told runs is_cars is_told) (is_variables ∙ opens runs.checked.resolved.program runs.checked.resolved.is)
+pub opening_is : (p : Program) (runs : IsRunnable p.config) (store : Kept) (i : Image) (variables : Values) → ((u : Organized) → IsProgram p.config u → store.variables ≡ opening_variables p.config u)
+    → i ≡ opening_image (sizes_of p.config) → variables ≡ store.variables → world_by p.config i variables store false ≡ opening p.config
+opening_is p runs store i variables opens is is_variables = opens_so p.config runs i variables store is (is_variables ∙ opens runs.checked.resolved.program runs.checked.resolved.is)

@@ -1,17 +1,15 @@
 -- What the machine runs is sound: no rule is broken, and each unit has an annotation.
-use Rattle.std.proofs.Common.{◌≡◌, ℕ, zero, suc, ◌≤◌, List, [], ◌∷◌, ◌++◌, Option, Some, None, refl, sym, ap, ◌∙◌, subst, arith, length, Ok}
-use Rattle.std.specs.Prelude.{Contains, codes, find, bytes_eq}
+use Rattle.std.proofs.Common.{◌≡◌, ℕ, zero, suc, List, [], ◌∷◌, Option, Some, None, refl, sym, ap, ◌∙◌, subst, arith, Ok}
+use Rattle.std.specs.Prelude.{Contains, find, bytes_eq}
 use Rattle.il_spec.specs.declared.tree.Config.{Config}
 use Rattle.il_spec.specs.declared.tree.Unit.{Unit as Organized}
 use Rattle.il_spec.specs.declared.tree.Step.{Step}
 use Rattle.il_spec.specs.declared.tree.Place.{Place}
 use Rattle.il_spec.specs.declared.tree.Declaration.{Declaration}
-use Rattle.il_spec.specs.declared.tree.Form.TheVariants.{Block as OfBlock}
-use Rattle.il_spec.specs.declared.tree.Instruction.TheVariants.{Invoke}
 use Rattle.il_rules.specs.Names.{function_named}
-use Rattle.il_rules.specs.Faults.{Ordering, Broken, recursive as breaks_recursive, long_chain as breaks_chain, too_many_slots}
+use Rattle.il_rules.specs.Faults.{recursive as breaks_recursive, long_chain as breaks_chain, too_many_slots}
 use Rattle.il_rules.specs.Order.{Uses, calls, declares, IsRecursive, recursive, HasLongChain, long_chain}
-use Rattle.il_rules.specs.Subset.{IsSupported, IsSupportedProgram, IsSupportedInstruction, IsSupportedForm, AreSupportedSteps, AreSupportedVariables}
+use Rattle.il_rules.specs.Subset.{IsSupported, IsSupportedInstruction, IsSupportedForm, AreSupportedSteps, AreSupportedVariables}
 use Rattle.il_rules.proofs.Straight.{only_unit}
 use Rattle.il_run.specs.Paths.{longest, IsLongest}
 use Rattle.lift_spec.specs.declared.event.Event.{Event as Happening}

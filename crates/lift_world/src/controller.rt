@@ -2,7 +2,12 @@
 
 ghost use Rattle.il_spec.specs.declared.fault.Refusal.TheVariants.{Memory};
 ghost use Rattle.std.specs.Prelude.{◌≡◌, ◌≢◌, ℕ, ◌+◌, ◌≤◌, length, map, IfOk, IfErr, Ok, true, false, None};
-ghost use Rattle.lift_spec.specs.Image.{sizes_of, FieldsInRange, fields_in_range, Obeys};
+ghost use Rattle.il_spec.specs.declared.tree.Unit.{Unit as Organized};
+ghost use Rattle.il_rules.specs.Symbols.{IsProgram};
+ghost use Rattle.il_run.specs.Scan.{opening_variables};
+ghost use Rattle.il_machine.specs.Opening.{shown_of};
+ghost use Rattle.il_machine.specs.Scanning.{IsScanOf, OwnsDeclared};
+ghost use Rattle.lift_spec.specs.Image.{sizes_of, opening_image, FieldsInRange, fields_in_range, Obeys};
 ghost use Rattle.il_run.specs.NameMap as values;
 ghost use Rattle.lift_spec.specs.Snapshot.{truth_of};
 ghost use Rattle.lift_spec.specs.World as model;
@@ -10,28 +15,19 @@ ghost use Rattle.il_machine.specs.Costs.{AreCosts};
 ghost use Rattle.lift_world.specs.Running.{outputs_at, report_of, commit_report, after_commit, refresh_report, refreshed, RefusesUnchanged, IsWorldOf, IsStart, IsInstruction, IsCommit, IsRefresh, world_of, event_of};
 
 use crate::event::Event;
+use crate::opening::opening_image;
 use crate::replies::Replies;
 use crate::shown::show;
 use il_machine::{Begin, Stepped, Store, Value, Verified, step};
 use il_spec::fault::Refusal;
-use lift_image::{CarFields, CarOutputs, Fields, Image, Motor, Row, Sizes, in_range};
+use lift_image::{CarOutputs, Fields, Image, Motor, Row, Sizes, in_range};
 use lift_spec::event::Reply;
 use lift_spec::report::{Denial, Report, Rule};
-use std::alloc::Global;
+use std::alloc::{AllocError, Global};
 use std::marker::Model;
 
 /// The number of the only task so far, CAR1.
 const CAR: u8 = 1;
-
-/// How a car stands in the opening world: at floor 1, locked and still (own rule).
-const OPENING: CarFields = CarFields {
-    pos: 1,
-    level: true,
-    top: false,
-    bottom: true,
-    locked: true,
-    opened: false,
-};
 
 /// A lift group of one car, without its history.
 #[derive(Drop)]
@@ -98,6 +94,31 @@ fn report(asked: bool, level: bool) -> Report
     }
 }
 
+// A scan's start in the opening world, and the same to begin the next scans with.
+fn first_scan(alloc: Global, verified: &Verified) -> Result<(Store, Begin), Refusal>
+    ensures scan { IfOk result (λ s. IsScanOf verified.now.config s.0) }
+    ensures variables { IfOk result (λ s. (u : Organized) → IsProgram verified.now.config u → s.0.variables ≡ opening_variables verified.now.config u) }
+    ensures written { IfOk result (λ s. s.0.written ≡ shown_of verified.now.config (opening_image (sizes_of verified.now.config))) }
+    ensures own { IfOk result (λ s. OwnsDeclared verified.now.config s.0.variables) }
+    ensures begin { IfOk result (λ s. (s.1.variables ≡ s.0.variables) × (s.1.snapshot ≡ s.0.written)) }
+    ensures memory { IfErr result (λ e. e ≡ Memory) }
+{
+    let store = Store::new(alloc, verified, CAR)?;
+    let begin = begin_of(alloc, &store)?;
+    Ok((store, begin))
+}
+
+// What the next scan begins with, where it begins as the store stands.
+fn begin_of(alloc: Global, store: &Store) -> Result<Begin, AllocError>
+    ensures variables { IfOk result (λ b. b.variables ≡ store.now.variables) }
+    ensures snapshot { IfOk result (λ b. b.snapshot ≡ store.now.written) }
+{
+    Ok(Begin {
+        variables: store.variables().try_copy(alloc)?,
+        snapshot: store.written().try_copy(alloc)?,
+    })
+}
+
 impl Controller {
     /// The opening world of a configuration.
     pub fn new(alloc: Global, verified: Verified) -> Result<Controller, Refusal>
@@ -105,26 +126,8 @@ impl Controller {
         ensures opening { IfOk result (λ w. world_of w ≡ model.opening verified.config) }
         ensures memory { IfErr result (λ e. e ≡ Memory) }
     {
-        let store = Store::new(alloc, &verified, CAR)?;
-        let begin = Begin {
-            variables: store.variables().try_copy(alloc)?,
-            snapshot: store.written().try_copy(alloc)?,
-        };
-        let mut cars = Row::new();
-        cars.push(OPENING);
-        let mut outputs = Row::new();
-        outputs.push(CarOutputs {
-            motor: Motor::Still,
-            opens: false,
-        });
-        let image = Image {
-            fields: Fields {
-                time: 0,
-                run_limit: CAR,
-                cars,
-            },
-            outputs,
-        };
+        let (store, begin) = first_scan(alloc, &verified)?;
+        let image = opening_image(verified.sizes());
         Ok(Controller {
             verified,
             image,

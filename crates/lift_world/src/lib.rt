@@ -4,6 +4,7 @@
 mod controller;
 mod event;
 mod loader;
+mod opening;
 mod replies;
 mod shown;
 mod world;

@@ -3,16 +3,19 @@
 ghost use Rattle.std.specs.Prelude.{◌≡◌, ◌≤◌, IfOk, IfErr, IsErrAnd, length, map, All};
 ghost use Rattle.il_spec.specs.declared.tree.Config.{Config};
 ghost use Rattle.il_parse.specs.Refused.{IsFault};
+ghost use Rattle.il_rules.specs.Faults.{HasNoFault, Broken, Typing};
+ghost use Rattle.il_rules.specs.Subset.{IsSupported, BreaksInSubset};
+ghost use Rattle.il_run.specs.Annotation.{Annotated};
 ghost use Rattle.il_machine.specs.Costs.{AreCosts};
 ghost use Rattle.lift_sound.specs.Runs.{RunsWell};
-ghost use Rattle.lift_world.specs.Loading.{IsSpelled, IsAccepted, IsRefusedFor, IsExplained, cost_of};
+ghost use Rattle.lift_world.specs.Loading.{IsSpelled, IsAccepted, IsRefusedFor, IsExplained, SpellsNone, cost_of};
 
 use il_decl::declare;
-use il_machine::{UnitCost, Verified};
+use il_machine::{Checked, UnitCost, Verified};
 use il_parse::parse;
 use il_spec::fault::Refusal;
 use il_spec::list::Items;
-use il_spec::tree::Unit;
+use il_spec::tree::{Config, Unit};
 use il_text::tokens;
 use il_types::check_types;
 use il_verify::{Code, verify};
@@ -31,13 +34,46 @@ pub fn load(alloc: Global, text: &[u8]) -> Result<Verified, Refusal>
     ensures named { IsFault result → (c : Config) → IsSpelled text.now c → IsErrAnd result (IsRefusedFor c) }
     ensures number { IfErr result (IsExplained text.now) }
 {
-    let tokens = tokens(alloc, text)?;
-    let config = parse(alloc, text, &tokens)?;
-    let symbols = declare(alloc, &config)?;
-    check_types(&config, &symbols)?;
-    let checked = verify(alloc, Code::of(config, symbols))?;
+    let config = spelled(alloc, text)?;
+    let checked = checked(alloc, config)?;
     let costs = costs(alloc, checked.config().units.as_slice())?;
     Ok(Verified::of(checked, costs))
+}
+
+// The configuration that a text spells.
+fn spelled(alloc: Global, text: &[u8]) -> Result<Config, Refusal>
+    ensures spelled { IfOk result (IsSpelled text.now) }
+    ensures only { IfOk result (λ c. (d : Config) → IsSpelled text.now d → d ≡ c) }
+    ensures refused { IsFault result → SpellsNone text.now }
+    ensures number { IfErr result (IsExplained text.now) }
+{
+    let tokens = tokens(alloc, text)?;
+    parse(alloc, text, &tokens)
+}
+
+// A configuration of which no declaration, no type and no range is at fault.
+fn checked(alloc: Global, config: Config) -> Result<Checked, Refusal>
+    requires { IsSupported config }
+    ensures same { IfOk result (λ c. c ≡ config) }
+    ensures declared { IfOk result (λ _. HasNoFault (BreaksInSubset config)) }
+    ensures typed { IfOk result (λ _. HasNoFault (Broken Typing config)) }
+    ensures annotated { IfOk result (λ c. Annotated c) }
+    ensures refused { IfErr result (IsRefusedFor config) }
+{
+    verify(alloc, resolved(alloc, config)?)
+}
+
+// A configuration with the meanings of its names, where no declaration and no type is at fault.
+fn resolved(alloc: Global, config: Config) -> Result<Code, Refusal>
+    requires { IsSupported config }
+    ensures same { IfOk result (λ code. code ≡ config) }
+    ensures declared { IfOk result (λ _. HasNoFault (BreaksInSubset config)) }
+    ensures typed { IfOk result (λ _. HasNoFault (Broken Typing config)) }
+    ensures refused { IfErr result (IsRefusedFor config) }
+{
+    let symbols = declare(alloc, &config)?;
+    check_types(&config, &symbols)?;
+    Ok(Code::of(config, symbols))
 }
 
 // What the units cost.

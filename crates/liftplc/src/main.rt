@@ -2,21 +2,10 @@
 //! simulates the group that they control.
 #![tactic(auto)]
 
-mod check;
-mod command;
-mod files;
-mod program;
-mod sim;
-mod sink;
-mod status;
-#[cfg(test)]
-mod tests;
-mod trace;
-
-use crate::files::Disk;
-use crate::program::run;
-use crate::sink::Stream;
-use crate::status::{Fault, Status, show};
+use lift_command::files::Disk;
+use lift_command::program::run;
+use lift_command::sink::Stream;
+use lift_command::status::{Fault, show};
 use std::process::ExitCode;
 use std::{env, io};
 
@@ -28,7 +17,7 @@ fn words(rt: &HostRuntime) -> Result<Vec<String>, Fault> {
     }
 }
 
-/// Why words can't be read: a growth was refused, or one of them is no text.
+/// Why words can't be read: an allocation failed, or one of them is no text.
 fn unread(rt: &HostRuntime, kind: io::ErrorKind) -> Fault {
     match kind {
         io::ErrorKind::OutOfMemory => Fault::NoMemory,

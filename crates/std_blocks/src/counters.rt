@@ -80,7 +80,7 @@ impl DownCounter {
     }
 
     /// A call, once the inputs are assigned: LD makes CV PV, and else a rising edge of CD takes 1 down to -32768. Q
-    /// tells whether CV is at most 0 (own rule).
+    /// says whether CV is at most 0 (own rule).
     pub fn ctd(&mut self)
         ensures { self.new ≡ ctd self.old }
     {
@@ -129,7 +129,7 @@ impl UpDownCounter {
     }
 
     /// A call, once the inputs are assigned: R makes CV 0, else LD makes it PV, and else a rising edge of CU alone
-    /// adds 1 as CTU does, and one of CD alone takes 1 as CTD does. QU tells whether CV has reached PV, QD whether
+    /// adds 1 as CTU does, and one of CD alone takes 1 as CTD does. QU says whether CV has reached PV, QD whether
     /// it is at most 0 (own rule).
     pub fn ctud(&mut self)
         ensures { self.new ≡ ctud self.old }

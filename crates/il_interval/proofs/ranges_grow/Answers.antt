@@ -1,4 +1,4 @@
--- The laws of growth.
+-- Range operations are monotone.
 use Rattle.il_interval.proofs.Growth.{add_grows, sub_grows, mul_grows, div_grows, mod_grows, abs_grows, min_grows, max_grows, limit_grows, join_grows}
 use Rattle.il_interval.proofs.ranges_grow.Goals as goal
 

@@ -1,16 +1,18 @@
-use Rattle.std.proofs.Common.{◌∙◌, ap, subst, [], ◌∷◌, ◌++◌}
-use Rattle.lift_spec.specs.Image.{opening_car, opening_outputs}
+use Rattle.std.proofs.Common.{◌∙◌, ap, subst}
+use Rattle.lift_spec.specs.Image.{opening_image}
 use Rattle.il_machine.specs.Scanning.{Program, IsRunnable}
-use Rattle.lift_world.proofs.Modelling.{opening_keeps, opening_is}
+use Rattle.lift_world.proofs.Modelling.{few_cars, opening_keeps, opening_is}
 use Rattle.lift_world.proofs.controller.Controller.new.Goals as goal
+
+pub opening_image-image-requires : goal.opening_image-image-requires
+opening_image-image-requires c = few_cars c.args.verified.config _ (subst (λ (p : Program). IsRunnable p.config) c.verified.view_is c.verified.invariant.0) c.sizes.ensures
 
 pub invariant_of-result : goal.invariant_of-result
 invariant_of-result c =
     let runs = subst (λ (p : Program). IsRunnable p.config) c.verified.view_is c.verified.invariant.0 in
-    opening_keeps c.args.verified runs _ _ _ _ _ c.in_ok-store.ensures.scan c.in_ok-store.ensures.written c.in_ok-store.ensures.own (c.push.ensures ∙ ap (λ l. l ++ opening_car ∷ []) c.new-cars.ensures) (c.push-2.ensures ∙ ap (λ l. l ++ opening_outputs ∷ []) c.new-outputs.ensures)
-    (c.in_ok-try_copy.ensures ∙ c.variables.ensures) (c.in_ok-try_copy-2.ensures ∙ c.written.ensures)
+    opening_keeps c.args.verified runs _ _ _ _ c.in_ok-store.ensures.scan c.in_ok-store.ensures.written c.in_ok-store.ensures.own (c.opening_image-image.ensures ∙ ap opening_image c.sizes.ensures) c.in_ok-store.ensures.begin.0 c.in_ok-store.ensures.begin.1
 
 pub returns-clause-opening : goal.returns-clause-opening
 returns-clause-opening c =
     let runs = subst (λ (p : Program). IsRunnable p.config) c.verified.view_is c.verified.invariant.0 in
-    opening_is c.args.verified runs _ _ _ _ c.in_ok-store.ensures.variables (c.push.ensures ∙ ap (λ l. l ++ opening_car ∷ []) c.new-cars.ensures) (c.push-2.ensures ∙ ap (λ l. l ++ opening_outputs ∷ []) c.new-outputs.ensures) (c.in_ok-try_copy.ensures ∙ c.variables.ensures)
+    opening_is c.args.verified runs _ _ _ c.in_ok-store.ensures.variables (c.opening_image-image.ensures ∙ ap opening_image c.sizes.ensures) c.in_ok-store.ensures.begin.0

@@ -1,0 +1,76 @@
+-- How a run ends, by its outcome and how that was shown.
+use Rattle.std.proofs.Common.{◌≡◌, ◌⊎◌, ℕ, List, Bool, true, Result, Ok, Err, IfOk, IfErr, inl, inr, sym, refl, ◌∙◌, subst}
+use Rattle.std.specs.Prelude.{String}
+use Rattle.std.specs.Global.{Global}
+use Rattle.il_spec.specs.declared.fault.Refusal.{Refusal}
+use Rattle.il_spec.specs.declared.fault.Refusal.TheVariants as refusal
+use Rattle.il_machine.specs.Scanning.{Program}
+use Rattle.lift_command.specs.Messages.{status_of, message_of, fault_of, fault_of_reading}
+use Rattle.lift_command.specs.Runs.{Outcome, IsOutcome, unasked, asked, unread, refused, accepted}
+use Rattle.lift_command.specs.declared.files.ReadFault.{ReadFault}
+use Rattle.lift_command.specs.declared.files.ReadFault.TheVariants as read
+use Rattle.lift_command.specs.declared.status.Fault.{Fault}
+use Rattle.lift_command.specs.declared.status.Fault.TheVariants as fault
+use Rattle.lift_command.specs.declared.status.Status.{Status}
+use Rattle.lift_command.specs.declared.status.Status.TheVariants as status
+
+-- no fault ends as done
+never_done : (f : Fault) → status_of f ≡ status.Done → ⊥
+never_done (fault.Misuse text) e = cc
+never_done (fault.Refused number line) e = cc
+never_done (fault.Event number) e = cc
+never_done fault.CannotRead e = cc
+never_done fault.CannotWrite e = cc
+never_done fault.NoMemory e = cc
+
+-- one fault alone ends as an output that can't be written
+cannot_write_only : (f : Fault) → status_of f ≡ status.CannotWrite → f ≡ fault.CannotWrite
+cannot_write_only (fault.Misuse text) e = cc
+cannot_write_only (fault.Refused number line) e = cc
+cannot_write_only (fault.Event number) e = cc
+cannot_write_only fault.CannotRead e = cc
+cannot_write_only fault.CannotWrite e = refl
+cannot_write_only fault.NoMemory e = cc
+
+unread_is_other : (why : ReadFault) → fault_of_reading why ≡ fault.CannotWrite → ⊥
+unread_is_other read.CannotRead e = cc
+unread_is_other read.NoMemory e = cc
+
+refused_is_other : (why : Refusal) → fault_of why ≡ fault.CannotWrite → ⊥
+refused_is_other (refusal.Fault number line) e = cc
+refused_is_other refusal.Memory e = cc
+
+same_fault : (outcome : Outcome) (a b : Fault) → outcome ≡ Err a → outcome ≡ Err b → a ≡ b
+same_fault outcome a b e f = cc
+
+-- an output that can't be written is no outcome of words
+pub never_unwritten : (gives : List ℕ → ℕ → List ℕ → Type 0) (fails : List ℕ → ℕ → ReadFault → Type 0) (loads : List ℕ → Result Program Refusal → Type 0) (words : List (List ℕ)) → IsOutcome gives fails loads words (Err fault.CannotWrite) → ⊥
+never_unwritten gives fails loads words (unasked none h) = absurd h
+never_unwritten gives fails loads words (asked request asks (unread why h is)) = unread_is_other why (sym (same_fault _ _ _ refl is))
+never_unwritten gives fails loads words (asked request asks (refused text why h l is)) = refused_is_other why (sym (same_fault _ _ _ refl is))
+never_unwritten gives fails loads words (asked request asks (accepted text program h l p)) = absurd p
+
+-- where it is done, the outcome was an output, and it was written
+pub done_of : (M : Outcome → Type 0) (Written : String Global → Type 0) (outcome : Outcome) (result : Status)
+    → M outcome → IfOk outcome (λ text. result ≡ status.Done → Written text) → IfErr outcome (λ f. result ≡ status_of f)
+    → result ≡ status.Done → (text : String Global) × M (Ok text) × Written text
+done_of M Written (Ok text) result m shown ends e = (text, m, shown e)
+done_of M Written (Err f) result m shown ends e = absurd (never_done f (sym ends ∙ e))
+
+-- where the output can't be written, the outcome was one, and a front of it was written
+pub front_of : (M : Outcome → Type 0) (Begun : String Global → Type 0) (outcome : Outcome) (result : Status)
+    → (M (Err fault.CannotWrite) → ⊥) → M outcome → IfOk outcome (λ text. result ≡ status.CannotWrite → Begun text) → IfErr outcome (λ f. result ≡ status_of f)
+    → result ≡ status.CannotWrite → (text : String Global) × M (Ok text) × Begun text
+front_of M Begun (Ok text) result never m front ends e = (text, m, front e)
+front_of M Begun (Err f) result never m front ends e = absurd (never (subst (λ g. M (Err g)) (cannot_write_only f (sym ends ∙ e)) m))
+
+-- else the outcome was a fault, or the output failed, and the message was written
+pub told_of : (M : Outcome → Type 0) (Told : List ℕ → Type 0) (failed : Bool) (outcome : Outcome) (result : Status)
+    → M outcome
+    → IfOk outcome (λ _. (result ≡ status.Done) ⊎ ((result ≡ status.CannotWrite) × (failed ≡ true)))
+    → IfOk outcome (λ _. result ≡ status.CannotWrite → Told (message_of fault.CannotWrite))
+    → IfErr outcome (λ f. result ≡ status_of f) → IfErr outcome (λ f. Told (message_of f))
+    → (result ≡ status.Done) ⊎ ((f : Fault) × (M (Err f) ⊎ ((f ≡ fault.CannotWrite) × (failed ≡ true))) × (status_of f ≡ result) × Told (message_of f))
+told_of M Told failed (Ok text) result m (inl done) unwritten ends told = inl done
+told_of M Told failed (Ok text) result m (inr (is, fails)) unwritten ends told = inr (fault.CannotWrite, inr (refl, fails), sym is, unwritten is)
+told_of M Told failed (Err f) result m ok unwritten ends told = inr (f, inl m, sym ends, told)

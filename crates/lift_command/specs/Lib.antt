@@ -1,0 +1,5 @@
+pub mod Loaded
+pub mod Messages
+pub mod Requests
+pub mod Runs
+pub mod Writes

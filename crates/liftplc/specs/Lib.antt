@@ -1,3 +1,0 @@
-pub mod Messages
-pub mod Rounds
-pub mod Writes
