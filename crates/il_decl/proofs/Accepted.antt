@@ -18,7 +18,7 @@ use Rattle.il_found.specs.declared.found.Found.{Found}
 use Rattle.il_decl.specs.Images.{image_symbols}
 use Rattle.il_decl.specs.Parts.{AreVariables, IsFrame, forms_in, is_car, is_program_of, is_up_to, misses_car}
 use Rattle.il_decl.specs.Predeclared.{is_predeclared_name}
-use Rattle.il_decl.proofs.Declared.{Declares, to_broken}
+use Rattle.il_decl.proofs.Meant.{Declares, to_broken}
 use Rattle.il_decl.proofs.Judged.{setting_of}
 use Rattle.il_decl.proofs.Known.{IsSetting, is_own, own-one_of}
 use Rattle.il_decl.proofs.Lists.{one_of_in, or_left, split_at}

@@ -18,7 +18,7 @@ use Rattle.il_rules.specs.Subset.{BreaksInSubset}
 use Rattle.il_found.specs.declared.found.Found.{Found}
 use Rattle.il_found.specs.Least.{Below, IsLeast, earlier_of}
 use Rattle.il_decl.specs.Parts.{AreVariables, IsFrame, Misdeclared, TakenNames, UnknownName, forms_in, sees_image, structure_of}
-use Rattle.il_decl.proofs.Declared.{declared_least, found_least}
+use Rattle.il_decl.proofs.Meant.{declared_least, found_least}
 use Rattle.il_decl.proofs.Known.{IsSetting, names_are, own_symbol_is}
 
 -- what is known once the variables are

@@ -1,7 +1,7 @@
 pub mod Accepted
 pub mod Supported
 pub mod Decisions
-pub mod Declared
+pub mod Meant
 pub mod Digits
 pub mod Duplicates
 pub mod FirstValue

@@ -1,3 +1,4 @@
 pub mod Parts
 pub mod Predeclared
 pub mod Images
+pub mod Checked

@@ -2,6 +2,7 @@
 #![tactic(auto)]
 
 mod body;
+mod declared;
 mod image;
 mod names;
 mod structure;
@@ -18,6 +19,8 @@ ghost use Rattle.il_rules.specs.Symbols.{IsProgram, symbol_of};
 ghost use Rattle.il_found.specs.Least.{IsLeast};
 ghost use Rattle.il_decl.specs.Parts.{IsFrame, AreVariables, forms_in};
 
+pub use declared::Declared;
+
 use crate::body::names_fault;
 use crate::image::add_image;
 use crate::structure::{is_of_group, structure_fault};
@@ -32,7 +35,18 @@ use std::alloc::Global;
 
 /// Checks the declarations of a configuration of the subset (20 to 25), and gives what each scalar name of its program means.
 /// Of the faults that are found the one at the earliest place is named, at one place the one with the lowest number.
-pub fn declare(alloc: Global, config: &Config) -> Result<Table<Symbol>, Refusal>
+pub fn declare(alloc: Global, config: Config) -> Result<Declared, Refusal>
+    requires supported { IsSupported config }
+    ensures same { IfOk result (λ d. d ≡ config) }
+    ensures accepted { IfOk result (λ _. HasNoFault (BreaksInSubset config)) }
+    ensures refused { IfErr result (IsRefusedBy (BreaksInSubset config)) }
+{
+    let symbols = meanings(alloc, &config)?;
+    Ok(Declared::of(config, symbols))
+}
+
+// Checks the declarations, and gives what each scalar name of the program means.
+fn meanings(alloc: Global, config: &Config) -> Result<Table<Symbol>, Refusal>
     requires supported { IsSupported config.now }
     ensures accepted { IfOk result (λ _. HasNoFault (BreaksInSubset config.now)) }
     ensures program { IfOk result (λ _. (u : ProgramUnit) → config.now.units ≡ u ∷ [] → IsProgram config.now u) }

@@ -1,4 +1,4 @@
 pub mod Lowest
 pub mod Numbers
 pub mod Line
-pub mod Typed
+pub mod Straight

@@ -1,6 +1,7 @@
 //! The rules of instructions: types of operands, targets and arguments.
 #![tactic(auto)]
 
+mod checked;
 mod instructions;
 mod operands;
 
@@ -13,9 +14,13 @@ ghost use Rattle.il_rules.specs.Symbols.{symbol_of};
 ghost use Rattle.il_rules.specs.Faults.{IsRefusedBy, Typing, HasNoFault, Broken};
 ghost use Rattle.il_run.specs.NameMap as map;
 ghost use Rattle.il_found.specs.Least.{IsLeast, Below};
+ghost use Rattle.il_decl.specs.Checked.{IsDeclared, AreSymbols};
 ghost use Rattle.il_types.specs.Typing.{Mistyped, fault_at};
 
+pub use checked::Typed;
+
 use crate::instructions::{lowest_number, type_after};
+use il_decl::Declared;
 use il_found::{Found, earlier, refusal};
 use il_rules::symbol::Symbol;
 use il_spec::fault::Refusal;
@@ -23,10 +28,20 @@ use il_spec::tree::{Config, Place, Step};
 use il_table::Table;
 
 /// Checks the types of the program's instructions (30 to 33, 37): the first fault in the text, at one instruction the lowest number.
-pub fn check_types(config: &Config, symbols: &Table<Symbol>) -> Result<(), Refusal>
-    requires supported { IsSupported config.now }
-    requires declared { HasNoFault (BreaksInSubset config.now) }
-    requires symbols { (u : ProgramUnit) → config.now.units ≡ u ∷ [] → (name : Spelling) → map.get symbols.now name ≡ symbol_of config.now u name }
+pub fn typed(declared: Declared) -> Result<Typed, Refusal>
+    ensures same { IfOk result (λ t. t ≡ declared) }
+    ensures accepted { IfOk result (λ _. HasNoFault (Broken Typing declared)) }
+    ensures refused { IfErr result (IsRefusedBy (Broken Typing declared)) }
+    ensures fault { IfErr result (λ e. e ≢ Memory) }
+{
+    check_types(declared.config(), declared.symbols())?;
+    Ok(Typed::of(declared))
+}
+
+// Checks the types of the program's instructions.
+fn check_types(config: &Config, symbols: &Table<Symbol>) -> Result<(), Refusal>
+    requires declared { IsDeclared config.now }
+    requires symbols { AreSymbols config.now symbols.now }
     ensures accepted { IfOk result (λ _. HasNoFault (Broken Typing config.now)) }
     ensures refused { IfErr result (IsRefusedBy (Broken Typing config.now)) }
     ensures fault { IfErr result (λ e. e ≢ Memory) }

@@ -19,6 +19,8 @@ use Rattle.il_rules.specs.Subset.{IsSupported, IsSupportedProgram, broken, Break
 use Rattle.il_rules.specs.Straight.{line_type}
 use Rattle.il_rules.proofs.Straight.{step_supported, only_unit, among_units, no_jump, on_line, one_result, breaks_on_line}
 use Rattle.il_run.specs.NameMap.{NameMap}
+use Rattle.il_decl.specs.Checked.{IsDeclared}
+use Rattle.il_rules.specs.Symbols.{IsProgram}
 use Rattle.il_found.specs.declared.found.Found.{Found}
 use Rattle.il_found.specs.Least.{IsLeast, Below}
 use Rattle.il_found.proofs.Least.{Covered, least_wider}
@@ -147,3 +149,9 @@ typed_by config unit symbols setting steps same found l = typed_least config uni
 -- the refusal names it
 pub refused_by : (config : Config) (found : Option Found) (f : Found) (r : Refusal) → IsLeast found (λ n p. BreaksTypes config n p) → found ≡ Some f → r ≡ Fault f.number f.place.line → IsRefusedBy (Broken Typing config) r
 refused_by config found f r l is refuses = subst (IsRefusedBy (Broken Typing config)) (sym refuses) (f.place, record { broken = l.holds f is; first = l.first f is }, refl)
+
+-- the one unit is the program
+pub only_program : (c : Config) → IsDeclared c → (u : ProgramUnit) → c.units ≡ u ∷ [] → IsProgram c u
+only_program c declared u alone =
+    let same : ◌≡◌ {A = List ProgramUnit} (declared.supported.program ∷ []) (u ∷ []) = sym declared.supported.alone ∙ alone in
+    subst (IsProgram c) (let e : declared.supported.program ≡ u = cc in e) declared.program
