@@ -12,6 +12,7 @@ use Rattle.il_rules.specs.Names.{Spelling}
 use Rattle.il_rules.specs.Symbols.{IsProgram, symbol_of}
 use Rattle.il_rules.specs.Subset.{IsSupportedProgram, BreaksInSubset}
 use Rattle.il_rules.specs.Faults.{Typing, HasNoFault, Broken}
+use Rattle.il_order.specs.InOrder.{IsOrdered}
 use Rattle.il_run.specs.NameMap.{NameMap, get}
 use Rattle.il_run.specs.Annotation.{Annotated, IsFirstWithout}
 
@@ -30,6 +31,7 @@ AreSymbols c symbols = (u : ProgramUnit) → IsProgram c u → (name : Spelling)
 -- and its program has an annotation by ranges
 pub record IsChecked (c : Config) : Type 0 where
   pub resolved : IsResolved c
+  pub ordered : IsOrdered c
   pub annotated : Annotated c
 
 -- the fault of an instruction for which no ranges are found: 43 of a store, 40 of another

@@ -7,55 +7,52 @@ ghost use Rattle.il_rules.specs.Symbols.{IsProgram, symbol_of};
 ghost use Rattle.il_run.specs.Annotation.{Annotated};
 ghost use Rattle.il_run.specs.NameMap.{NameMap};
 ghost use Rattle.il_rules.specs.declared.symbol.Symbol.{Symbol};
+ghost use Rattle.il_order.specs.InOrder.{IsOrdered};
 ghost use Rattle.il_verify.specs.Resolved.{IsResolved, AreSymbols, IsChecked};
 
+use il_order::Ordered;
 use il_rules::symbol::Symbol;
-use il_spec::tree::{Config, Unit};
-use il_table::Table;
+use il_spec::tree::Config;
 use std::marker::Model;
 
 /// A configuration whose names are resolved: what each scalar name of its program means is at hand.
 #[derive(Drop)]
 pub struct Code {
-    config: Config,
-    symbols: Table<Symbol>,
+    ordered: Ordered,
 }
 
 impl Model for Code {
     ghost use Rattle.il_spec.specs.declared.tree.Config.{Config};
-    ghost use Rattle.il_verify.specs.Resolved.{IsResolved, AreSymbols};
 
     ghost Value = { Config };
 
-    ghost view = { λ c. c.config };
-
-    ghost invariant = { λ c. IsResolved c.config × AreSymbols c.config c.symbols };
+    ghost view = { λ c. c.ordered };
 }
 
 impl Code {
-    /// A configuration with the meanings of its program's names.
-    pub fn of(config: Config, symbols: Table<Symbol>) -> Code
-        requires resolved { IsResolved config }
-        requires symbols { AreSymbols config symbols }
-        ensures { result ≡ config }
+    /// A configuration of which no rule of declarations, types and order is broken.
+    pub fn of(ordered: Ordered) -> Code
+        ensures { result ≡ ordered }
     {
-        Code { config, symbols }
+        Code { ordered }
     }
 
     /// The configuration.
     pub fn config(&self) -> &Config
         ensures is { result.now ≡ self.now }
+        ensures ordered { IsOrdered self.now }
         ensures resolved { IsResolved self.now }
         ensures symbols { (symbols : NameMap Symbol) × AreSymbols self.now symbols }
     {
-        &self.config
+        let _symbols = self.ordered.symbols();
+        self.ordered.config()
     }
 
     /// What a name means in the program, if it is that of a scalar variable.
     pub fn symbol(&self, name: &str) -> Option<Symbol>
         ensures { (u : ProgramUnit) → IsProgram self.now u → result ≡ symbol_of self.now u name.now }
     {
-        self.symbols.get(name)
+        self.ordered.symbols().get(name)
     }
 }
 
