@@ -22,10 +22,10 @@ use Rattle.il_run.specs.Annotation.{Annotated}
 use Rattle.il_verify.specs.Resolved.{IsResolved, IsChecked}
 use Rattle.std.proofs.lemmas.Option.{slice_get_within}
 use Rattle.il_spec.specs.declared.tree.Unit.{Unit as Organized}
-use Rattle.il_rules.specs.Faults.{Declaring, Typing, initial_outside, bad_task, HasNoFault, Broken}
+use Rattle.il_rules.specs.Faults.{Declaring, Typing, Ordering, initial_outside, bad_task, HasNoFault, Broken}
 use Rattle.il_machine.specs.Scanning.{IsRunnable, IsWithin, HasSizes}
 use Rattle.il_parse.specs.Refused.{HasFewInstructions, IsFault}
-use Rattle.lift_world.specs.Loading.{IsSpelled, IsAccepted, IsRefusedFor}
+use Rattle.lift_world.specs.Loading.{IsSpelled, IsAccepted, IsRefusedFor, by_declarations, by_types, by_order, by_ranges}
 use Rattle.lift_world.proofs.Tasking.{is_one, only_task, tasked}
 
 -- SIZES
@@ -79,12 +79,13 @@ has_sizes c supported unbroken =
 -- REFUSALS
 
 -- what is named is broken, or has no ranges
-names_broken : (c : Config) (number line : ℕ) → IsRefusedFor c (Fault number line) → HasNoFault (BreaksInSubset c) → HasNoFault (Broken Typing c) → Annotated c → ⊥
-names_broken c number line (inl (place, first, at)) declared typed annotated = declared number place first.broken
-names_broken c number line (inr (inl (unbroken, (place, first, at)))) declared typed annotated = typed number place first.broken
-names_broken c number line (inr (inr (unbroken, fine, (u, s, program, first, at)))) declared typed annotated =
-    let a = annotated u (among_units c u program.alone) in
-    first.first.none a.0 (record { entry = a.1.entry; each = λ place k below is. a.1.each place k (within_body first.at (length u.body.steps) place (slice_get_within u.body.steps first.at s first.stands) below) is })
+names_broken : {text : List ℕ} (c : Config) (number line : ℕ) → IsRefusedFor c (Fault number line) → IsAccepted text c → ⊥
+names_broken c number line (by_declarations (place, first, at)) a = a.declared number place first.broken
+names_broken c number line (by_types unbroken (place, first, at)) a = a.typed number place first.broken
+names_broken c number line (by_order unbroken fine (place, first, at)) a = a.ordered number place first.broken
+names_broken c number line (by_ranges unbroken fine fit (u, s, program, first, at)) a =
+    let found = a.annotated u (among_units c u program.alone) in
+    first.first.none found.0 (record { entry = found.1.entry; each = λ place k below is. found.1.each place k (within_body first.at (length u.body.steps) place (slice_get_within u.body.steps first.at s first.stands) below) is })
   where
     within_body : (at n place : ℕ) → at < n → place < at + 1 → place < n + 1
     within_body at n place low below = omega (arith, low, below)
@@ -115,10 +116,7 @@ pub none_judged : (text : List ℕ) (found : Config) (e : Refusal) → ((c : Con
 none_judged text found e same refused fault c a =
     let named = number_of Config e fault in
     let is = same c a.spelled in
-    let declared : HasNoFault (BreaksInSubset found) = subst (λ (d : Config). HasNoFault (BreaksInSubset d)) is a.declared in
-    let typed : HasNoFault (Broken Typing found) = subst (λ (d : Config). HasNoFault (Broken Typing d)) is a.typed in
-    let annotated : Annotated found = subst Annotated is a.annotated in
-    names_broken found named.0 named.1 (subst (IsRefusedFor found) named.2 refused) declared typed annotated
+    names_broken found named.0 named.1 (subst (IsRefusedFor found) named.2 refused) (subst (IsAccepted text) is a)
 
 -- the fault that is handed on is the one that was named
 pub named_judged : {X : Type 0} (found : Config) (e : Refusal) (r : Result X Refusal) (c : Config) → c ≡ found → IsRefusedFor found e → IsErrAnd r (λ d. d ≡ e) → IsErrAnd r (IsRefusedFor c)
@@ -140,18 +138,14 @@ all_same text tokens (Ok c) only unique = same_spelled text tokens c only unique
 all_same text tokens (Err e) only unique = tt
 
 -- what was parsed, judged and verified is accepted
-pub accepted_is : (text : List ℕ) (c checked : Config) → checked ≡ c → IsSpelled text c → HasNoFault (BreaksInSubset c) → HasNoFault (Broken Typing c) → Annotated checked → IsAccepted text checked
-accepted_is text c checked same spelled declared typed annotated = subst (IsAccepted text) (sym same) (record { spelled = spelled; declared = declared; typed = typed; annotated = subst Annotated same annotated })
+pub accepted_is : (text : List ℕ) (c checked : Config) → checked ≡ c → IsSpelled text c → HasNoFault (BreaksInSubset c) → HasNoFault (Broken Typing c) → HasNoFault (Broken Ordering c) → Annotated checked → IsAccepted text checked
+accepted_is text c checked same spelled declared typed ordered annotated = subst (IsAccepted text) (sym same) (record { spelled = spelled; declared = declared; typed = typed; ordered = ordered; annotated = subst Annotated same annotated })
 
 -- nothing of declarations is broken
 pub unbroken_is : (c : Config) → HasNoFault (BreaksInSubset c) → HasNoFault (Broken Declaring c)
 unbroken_is c declared number place b = declared number place (broken b)
 
--- the names of the one program are resolved
-pub resolved_is : (c : Config) (supported : IsSupported c) → HasNoFault (BreaksInSubset c) → HasNoFault (Broken Typing c) → ((u : Organized) → c.units ≡ u ∷ [] → IsProgram c u) → IsResolved c
-resolved_is c supported declared typed program = record { program = supported.program; is = program supported.program supported.alone; supported = supported.supported; declared = declared; typed = typed }
-
--- and it runs
+-- what is checked runs
 pub runnable_is : (c : Config) → IsWritten c → IsSupported c → IsChecked c → IsRunnable c
 runnable_is c written supported checked =
     let declared = unbroken_is c checked.resolved.declared in

@@ -36,46 +36,6 @@ use Rattle.il_sound.proofs.Meant.{program_is}
 use Rattle.lift_world.proofs.Accepting.{unbroken_is}
 use Rattle.lift_world.proofs.Costs.{limit_is_standard}
 
--- ORDER
-
--- an instruction of the subset calls no own function
-step_among : (steps : List Step) → AreSupportedSteps steps → (s : Step) → Contains steps s → IsSupportedInstruction s.instruction
-step_among [] h s (k, low, e) = absurd (omega arith)
-step_among (x ∷ xs) h s (zero, low, e) = subst (λ (y : Step). IsSupportedInstruction y.instruction) e h.1
-step_among (x ∷ xs) h s (suc k, low, e) = step_among xs h.2 s (k, omega arith, e)
-
--- a variable of the subset is no instance
-form_among : (ds : List Declaration) → AreSupportedVariables ds → (d : Declaration) → Contains ds d → IsSupportedForm d.declared.form
-form_among [] h d (k, low, e) = absurd (omega arith)
-form_among (x ∷ xs) h d (zero, low, e) = subst (λ (y : Declaration). IsSupportedForm y.declared.form) e h.0
-form_among (x ∷ xs) h d (suc k, low, e) = form_among xs h.2 d (k, omega arith, e)
-
-no_some : {X : Type 0} (o : Option X) (x : X) → o ≡ None → o ≡ Some x → ⊥
-no_some o x a b = let bad : None ≡ Some x = sym a ∙ b in cc
-
--- no unit of the subset uses another
-no_use : (c : Config) → IsSupported c → (unit used : Organized) → Contains c.units unit → Uses c unit used → ⊥
-no_use c supported unit used among (calls step function operands there is named) =
-    let same = only_unit c supported.program supported.alone unit among in
-    let h = subst IsSupportedInstruction is (step_among supported.program.body.steps supported.supported.steps step (subst (λ (u : Organized). Contains u.body.steps step) same there)) in
-    no_some (function_named c function.name) used (ap (function_named c) h.0 ∙ limit_is_standard c) named
-no_use c supported unit used among (declares d name there is named) =
-    let same = only_unit c supported.program supported.alone unit among in
-    subst IsSupportedForm is (form_among supported.program.variables supported.supported.variables d (subst (λ (u : Organized). Contains u.variables d) same there))
-
-not_recursive : (c : Config) → IsSupported c → (place : Place) → IsRecursive c place → ⊥
-not_recursive c supported place (recursive unit among ([], uses) at) = no_use c supported unit unit among uses
-not_recursive c supported place (recursive unit among (next ∷ between, uses) at) = no_use c supported unit next among uses.0
-
-no_long_chain : (c : Config) → IsSupported c → (place : Place) → HasLongChain c place → ⊥
-no_long_chain c supported place (long_chain unit [] among chain once long at) = omega (arith, long)
-no_long_chain c supported place (long_chain unit (next ∷ rest) among chain once long at) = no_use c supported unit next among chain.0
-
-ordered : (c : Config) → IsSupported c → IsOrdered c
-ordered c supported number place other (breaks_recursive is broken) = not_recursive c supported place broken
-ordered c supported number place other (breaks_chain is broken) = no_long_chain c supported place broken
-ordered c supported number place other (too_many_slots is broken) = other is
-
 -- SOUNDNESS
 
 pub sound_is : (c : Config) → IsRunnable c → IsSound c
@@ -83,7 +43,7 @@ sound_is c runs = record {
   written = runs.written;
   declared = unbroken_is c runs.checked.resolved.declared;
   typed = runs.checked.resolved.typed;
-  ordered = ordered c runs.supported;
+  ordered = λ number place other. runs.checked.ordered.ordered number place;
   annotated = runs.checked.annotated;
 }
 
@@ -119,7 +79,7 @@ program_among : (c : Config) (t : ℕ) (u : Organized) → program_of c t ≡ So
 program_among c t u e = by_line (find (λ l. bytes_eq (task_name t) l.task.name) c.programs) e
   where
     by_line : (o : Option ProgramLine) → line_program c o ≡ Some u → Contains c.units u
-    by_line None f = absurd (no_some {X = Organized} None u refl f)
+    by_line None f = cc
     by_line (Some l) f = found_unit c l.program.name u (program_is c l.program.name u f).0
 
 -- the budget that is printed of a task is that of the law

@@ -5,7 +5,7 @@ use Rattle.il_spec.specs.declared.fault.Refusal.TheVariants.{Fault, Memory}
 use Rattle.il_spec.specs.declared.tree.Config.{Config}
 use Rattle.il_spec.specs.Grammar.{Spells, IsWithinLimits}
 use Rattle.il_rules.specs.Subset.{IsSupported, BreaksInSubset}
-use Rattle.il_rules.specs.Faults.{IsRefusedBy, Typing, HasNoFault, Broken}
+use Rattle.il_rules.specs.Faults.{IsRefusedBy, Typing, Ordering, HasNoFault, Broken}
 use Rattle.il_run.specs.Annotation.{Annotated}
 use Rattle.il_verify.specs.Resolved.{IsUnannotatedBy}
 use Rattle.il_spec.specs.declared.tree.Unit.{Unit as ProgramUnit}
@@ -22,13 +22,17 @@ pub record IsAccepted (text : List ℕ) (c : Config) : Type 0 where
   pub spelled : IsSpelled text c
   pub declared : HasNoFault (BreaksInSubset c)
   pub typed : HasNoFault (Broken Typing c)
+  pub ordered : HasNoFault (Broken Ordering c)
   pub annotated : Annotated c
 
--- The fault that is named: the first of declarations, or, where those break nothing, the first of types, or, where those break nothing, the first instruction without ranges.
-abbrev pub IsRefusedFor : Config → Refusal → Type 0
-IsRefusedFor c refusal = IsRefusedBy (BreaksInSubset c) refusal ⊎ ((HasNoFault (BreaksInSubset c) × IsRefusedBy (Broken Typing c) refusal) ⊎ (HasNoFault (BreaksInSubset c) × HasNoFault (Broken Typing c) × IsUnannotatedBy c refusal))
+-- The fault that is named: the first of declarations; where those break nothing, the first of types; then the first of order; and then the first instruction without ranges.
+pub data IsRefusedFor (c : Config) (refusal : Refusal) : Type 0 where
+  by_declarations : IsRefusedBy (BreaksInSubset c) refusal → IsRefusedFor c refusal
+  by_types : HasNoFault (BreaksInSubset c) → IsRefusedBy (Broken Typing c) refusal → IsRefusedFor c refusal
+  by_order : HasNoFault (BreaksInSubset c) → HasNoFault (Broken Typing c) → IsRefusedBy (Broken Ordering c) refusal → IsRefusedFor c refusal
+  by_ranges : HasNoFault (BreaksInSubset c) → HasNoFault (Broken Typing c) → HasNoFault (Broken Ordering c) → IsUnannotatedBy c refusal → IsRefusedFor c refusal
 
--- The text spells a configuration of the subset, and this is the fault of its declarations, types or ranges.
+-- The text spells a configuration of the subset, and this is the fault of its declarations, types, order or ranges.
 abbrev pub IsSpelledWith : List ℕ → Refusal → Type 0
 IsSpelledWith text refusal = (c : Config) × IsSpelled text c × IsRefusedFor c refusal
 

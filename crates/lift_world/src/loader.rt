@@ -3,7 +3,7 @@
 ghost use Rattle.std.specs.Prelude.{◌≡◌, ◌≤◌, IfOk, IfErr, IsErrAnd, length, map, All};
 ghost use Rattle.il_spec.specs.declared.tree.Config.{Config};
 ghost use Rattle.il_parse.specs.Refused.{IsFault};
-ghost use Rattle.il_rules.specs.Faults.{HasNoFault, Broken, Typing};
+ghost use Rattle.il_rules.specs.Faults.{HasNoFault, Broken, Typing, Ordering};
 ghost use Rattle.il_rules.specs.Subset.{IsSupported, BreaksInSubset};
 ghost use Rattle.il_run.specs.Annotation.{Annotated};
 ghost use Rattle.il_machine.specs.Costs.{AreCosts};
@@ -12,19 +12,20 @@ ghost use Rattle.lift_world.specs.Loading.{IsSpelled, IsAccepted, IsRefusedFor, 
 
 use il_decl::declare;
 use il_machine::{Checked, UnitCost, Verified};
+use il_order::{Ordered, ordered};
 use il_parse::parse;
 use il_spec::fault::Refusal;
 use il_spec::list::Items;
 use il_spec::tree::{Config, Unit};
 use il_text::tokens;
-use il_types::check_types;
+use il_types::typed;
 use il_verify::{Code, verify};
 use std::alloc::{AllocError, Global};
 
 /// The configuration that a text spells, verified.
 ///
 /// A text is refused with the first fault of these phases, in their order: tokens (1 to 6), grammar (10, 12),
-/// declarations (20 to 25), types (30 to 33, 37), ranges (40, 43). From 20 on it is the phase's fault at the earliest place,
+/// declarations (20 to 25), types (30 to 33, 37), order and slots (12), ranges (40, 43). From 20 on it is the phase's fault at the earliest place,
 /// at one place the one with the lowest number.
 pub fn load(alloc: Global, text: &[u8]) -> Result<Verified, Refusal>
     ensures found { IfOk result (λ v. IsAccepted text.now v.config) }
@@ -51,29 +52,31 @@ fn spelled(alloc: Global, text: &[u8]) -> Result<Config, Refusal>
     parse(alloc, text, &tokens)
 }
 
-// A configuration of which no declaration, no type and no range is at fault.
+// A configuration of which no declaration, no type, no order and no range is at fault.
 fn checked(alloc: Global, config: Config) -> Result<Checked, Refusal>
     requires { IsSupported config }
     ensures same { IfOk result (λ c. c ≡ config) }
     ensures declared { IfOk result (λ _. HasNoFault (BreaksInSubset config)) }
     ensures typed { IfOk result (λ _. HasNoFault (Broken Typing config)) }
+    ensures ordered { IfOk result (λ _. HasNoFault (Broken Ordering config)) }
     ensures annotated { IfOk result (λ c. Annotated c) }
     ensures refused { IfErr result (IsRefusedFor config) }
 {
-    verify(alloc, resolved(alloc, config)?)
+    verify(alloc, Code::of(resolved(alloc, config)?))
 }
 
-// A configuration with the meanings of its names, where no declaration and no type is at fault.
-fn resolved(alloc: Global, config: Config) -> Result<Code, Refusal>
+// A configuration of which no declaration, no type and no order is at fault.
+fn resolved(alloc: Global, config: Config) -> Result<Ordered, Refusal>
     requires { IsSupported config }
-    ensures same { IfOk result (λ code. code ≡ config) }
+    ensures same { IfOk result (λ o. o ≡ config) }
     ensures declared { IfOk result (λ _. HasNoFault (BreaksInSubset config)) }
     ensures typed { IfOk result (λ _. HasNoFault (Broken Typing config)) }
+    ensures ordered { IfOk result (λ _. HasNoFault (Broken Ordering config)) }
     ensures refused { IfErr result (IsRefusedFor config) }
 {
-    let symbols = declare(alloc, &config)?;
-    check_types(&config, &symbols)?;
-    Ok(Code::of(config, symbols))
+    let declared = declare(alloc, config)?;
+    let typed = typed(declared)?;
+    ordered(typed)
 }
 
 // What the units cost.

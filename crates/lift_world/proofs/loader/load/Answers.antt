@@ -53,7 +53,7 @@ of-requires-clause-costs c =
 pub returns-clause-found : goal.returns-clause-found
 returns-clause-found c =
     subst (IsAccepted c.args.text.now) (sym c.of.ensures.config)
-    (accepted_is c.args.text.now c.in_ok-config.config c.in_ok-checked.checked c.in_ok-checked.ensures.same c.in_ok-config.ensures.spelled c.in_ok-checked.ensures.declared c.in_ok-checked.ensures.typed c.in_ok-checked.ensures.annotated)
+    (accepted_is c.args.text.now c.in_ok-config.config c.in_ok-checked.checked c.in_ok-checked.ensures.same c.in_ok-config.ensures.spelled c.in_ok-checked.ensures.declared c.in_ok-checked.ensures.typed c.in_ok-checked.ensures.ordered c.in_ok-checked.ensures.annotated)
 
 pub returns-clause-runs : goal.returns-clause-runs
 returns-clause-runs c =
