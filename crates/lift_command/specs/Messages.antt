@@ -9,6 +9,7 @@ use Rattle.lift_command.specs.declared.sim.SimFault.TheVariants as sim
 use Rattle.lift_command.specs.declared.status.Status.{Status}
 use Rattle.lift_command.specs.declared.status.Status.TheVariants as status
 use Rattle.lift_command.specs.declared.status.Fault.{Fault}
+use Rattle.lift_spec.specs.EventFaults.{event_fault_number}
 use Rattle.lift_command.specs.declared.status.Fault.TheVariants.{Misuse, Refused, Event, CannotRead, CannotWrite, NoMemory}
 
 -- the exit status
@@ -49,5 +50,5 @@ fault_of_reading read.NoMemory = NoMemory
 
 -- the fault of a simulation that comes to no end
 abbrev pub fault_of_sim : SimFault → Fault
-fault_of_sim (sim.Event number) = Event number
+fault_of_sim (sim.Event fault) = Event (event_fault_number fault)
 fault_of_sim sim.NoMemory = NoMemory

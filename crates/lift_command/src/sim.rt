@@ -5,21 +5,15 @@ use il_machine::verified::is_task_name;
 use il_machine::{TaskInfo, Verified};
 use lift_image::Sizes;
 use lift_plant::plant::{Plant, plant_step};
-use lift_spec::event::Reply;
+use lift_spec::event::{EventFault, Reply};
 use lift_world::{Event, World};
 use std::alloc::{AllocError, AllocFailed, Global};
-
-/// The number of an event with fields out of range.
-const FIELDS_REFUSED: u8 = 60;
-
-/// The number of an event of a task that isn't there.
-const TASK_REFUSED: u8 = 64;
 
 /// Why a simulation comes to no end.
 #[derive(Clone, Copy, Debug, PartialEq, Eq)]
 pub enum SimFault {
-    /// The world refused an event with this number.
-    Event(u8),
+    /// The world refused an event.
+    Event(EventFault),
     /// An allocation failed.
     NoMemory,
 }
@@ -98,7 +92,7 @@ fn task_of(info: TaskInfo<'_>) -> Result<Task, SimFault> {
             number,
             budget: info.budget,
         }),
-        None => Err(SimFault::Event(TASK_REFUSED)),
+        None => Err(SimFault::Event(EventFault::NoSuchActor)),
     }
 }
 
@@ -106,7 +100,7 @@ fn task_of(info: TaskInfo<'_>) -> Result<Task, SimFault> {
 fn plant_of(sizes: Sizes) -> Result<Plant, SimFault> {
     let Sizes { cars, floors, .. } = sizes;
     if cars < 1 || cars > 8 || floors < 2 || floors > 16 {
-        return Err(SimFault::Event(FIELDS_REFUSED));
+        return Err(SimFault::Event(EventFault::FieldOutOfRange));
     }
     Ok(Plant::new(cars, floors))
 }
@@ -119,7 +113,7 @@ fn round(
 ) -> Result<Plant, SimFault> {
     let outputs = &world.image().outputs;
     if outputs.as_slice().len() != plant.cars() {
-        return Err(SimFault::Event(FIELDS_REFUSED));
+        return Err(SimFault::Event(EventFault::FieldOutOfRange));
     }
     let (plant, fields) = plant_step(plant, outputs);
     trace.refresh(&fields)?;
@@ -147,7 +141,7 @@ fn scan(world: &mut World, task: Task, trace: &mut Trace) -> Result<(), SimFault
 /// The reply to an event that the world takes.
 fn applied(world: &mut World, event: Event) -> Result<Reply, SimFault> {
     match world.apply(event) {
-        Reply::Refused(number) => Err(SimFault::Event(number)),
+        Reply::Refused(fault) => Err(SimFault::Event(fault)),
         reply => Ok(reply),
     }
 }

@@ -89,7 +89,7 @@ impl From<SimFault> for Fault {
 
     fn from(fault: SimFault) -> Fault {
         match fault {
-            SimFault::Event(number) => Fault::Event(number),
+            SimFault::Event(fault) => Fault::Event(fault.number()),
             SimFault::NoMemory => Fault::NoMemory,
         }
     }

@@ -9,6 +9,7 @@ use Rattle.il_run.specs.Ranges.{HoldsTask}
 use Rattle.lift_spec.specs.declared.event.Event.{Event}
 use Rattle.lift_spec.specs.declared.event.Event.TheVariants.{Start, Instruction}
 use Rattle.lift_spec.specs.declared.event.Reply.{Reply}
+use Rattle.lift_spec.specs.declared.event.EventFault.{EventFault}
 use Rattle.lift_spec.specs.declared.event.Reply.TheVariants.{Started, Refused}
 use Rattle.lift_spec.specs.Image.{sizes_of, Obeys}
 use Rattle.lift_spec.specs.Snapshot.{scan_begins}
@@ -85,7 +86,7 @@ EventKeeps = (c : Config) → IsSized c → ScansWell c → (steps : ℕ → ℕ
 
 -- an event that is refused changes nothing (own rule)
 abbrev pub RefusalChangesNothing : Type 0
-RefusalChangesNothing = (c : Config) (w v : World) (e : Event) (n : ℕ) → happens c w e ≡ Ok (v, Refused n) → v ≡ w
+RefusalChangesNothing = (c : Config) (w v : World) (e : Event) (fault : EventFault) → happens c w e ≡ Ok (v, Refused fault) → v ≡ w
 
 -- an Instruction of one task leaves the image and every other task as they were (own rule)
 abbrev pub InstructionChangesItsScan : Type 0

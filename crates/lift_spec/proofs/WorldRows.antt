@@ -41,6 +41,7 @@ use Rattle.lift_spec.specs.declared.report.Rule.TheVariants.{Crowded, NotLevel}
 use Rattle.lift_spec.specs.declared.event.Event.{Event}
 use Rattle.lift_spec.specs.declared.event.Event.TheVariants.{Start, Instruction, Commit, Refresh, Press, Gather}
 use Rattle.lift_spec.specs.declared.event.Reply.{Reply}
+use Rattle.lift_spec.specs.declared.event.EventFault.TheVariants.{FieldOutOfRange, NoOpenScan, AlreadyOpen, NotAtEnd, NoSuchActor, SameFloor}
 use Rattle.lift_spec.specs.declared.event.Reply.TheVariants.{Started, More, End, Committed, Refreshed, New, Already, Gathered, Held, Refused}
 use Rattle.lift_spec.specs.Image.{opening_outputs, opening_fields, opening_car}
 use Rattle.lift_spec.specs.Settle.{settled_car, settled_all}
@@ -147,7 +148,7 @@ empty_body = refl
 -- refused events: an instruction and a commit without a scan, actors that aren't there, a second start, a commit before the end, an instruction after it
 refusals :
     replies idle (Instruction 1 ∷ Commit 1 ∷ Start 5 ∷ Start 0 ∷ Start 1 ∷ Start 1 ∷ Commit 1 ∷ Instruction 1 ∷ Instruction 1 ∷ [])
-    ≡ Refused 61 ∷ Refused 61 ∷ Refused 64 ∷ Refused 64 ∷ Started ∷ Refused 62 ∷ Refused 63 ∷ End ∷ Refused 61 ∷ []
+    ≡ Refused NoOpenScan ∷ Refused NoOpenScan ∷ Refused NoSuchActor ∷ Refused NoSuchActor ∷ Started ∷ Refused AlreadyOpen ∷ Refused NotAtEnd ∷ End ∷ Refused NoOpenScan ∷ []
 unfolding happens opening scan_begins begins step label_place opening_variables opening_globals get insert empty meaning image_name standard_function standard_block digits
 refusals = refl
 
@@ -195,7 +196,7 @@ flips_twice = refl
 abbrev bad_fields : ℕ → ℕ → Fields
 bad_fields floor limit = record { time = 0; run_limit = limit; cars = record opening_car { pos = floor } ∷ [] }
 
-out_of_range : run idle (opening idle) [] (Refresh (bad_fields 3 1) ∷ Refresh (bad_fields 1 2) ∷ []) ≡ Ok (opening idle, Refused 60 ∷ Refused 60 ∷ [])
+out_of_range : run idle (opening idle) [] (Refresh (bad_fields 3 1) ∷ Refresh (bad_fields 1 2) ∷ []) ≡ Ok (opening idle, Refused FieldOutOfRange ∷ Refused FieldOutOfRange ∷ [])
 unfolding happens opening opening_variables opening_globals get insert empty digits
 out_of_range = refl
 
@@ -211,8 +212,8 @@ call from to = record { from = from; to = to }
 calls_of_floor_3 :
     replies eight_floors
     (Press (call 3 3) ∷ Press (call 3 5) ∷ Press (call 3 5) ∷ Gather 3 ∷ Press (call 3 5) ∷ Gather 3 ∷ Refresh (opening_fields (record { cars = 1; floors = 8; slots = 1 })) ∷ Gather 3 ∷ Press (call 3 9) ∷ [])
-    ≡ Refused 65 ∷ New ∷ Already ∷ Gathered 16 ∷ New ∷ Held
-    ∷ Refreshed (record { outputs = opening_outputs ∷ []; denials = []; answers = []; entered = record { slot = 1; ticket = 1; call = call 3 5 } ∷ [] }) ∷ Gathered 16 ∷ Refused 64 ∷ []
+    ≡ Refused SameFloor ∷ New ∷ Already ∷ Gathered 16 ∷ New ∷ Held
+    ∷ Refreshed (record { outputs = opening_outputs ∷ []; denials = []; answers = []; entered = record { slot = 1; ticket = 1; call = call 3 5 } ∷ [] }) ∷ Gathered 16 ∷ Refused NoSuchActor ∷ []
 unfolding happens opening opening_variables opening_globals settled_all refreshed_group get insert empty digits
 calls_of_floor_3 = refl
 

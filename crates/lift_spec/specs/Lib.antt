@@ -7,3 +7,4 @@ pub mod Snapshot
 pub mod World
 pub mod Plant
 pub mod Codes
+pub mod EventFaults

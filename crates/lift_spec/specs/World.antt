@@ -11,6 +11,8 @@ use Rattle.lift_spec.specs.declared.report.Report.{Report}
 use Rattle.lift_spec.specs.declared.event.Event.{Event}
 use Rattle.lift_spec.specs.declared.event.Event.TheVariants.{Start, Instruction, Commit, Refresh, Press, Gather}
 use Rattle.lift_spec.specs.declared.event.Reply.{Reply}
+use Rattle.lift_spec.specs.declared.event.EventFault.{EventFault}
+use Rattle.lift_spec.specs.declared.event.EventFault.TheVariants.{FieldOutOfRange, NoOpenScan, AlreadyOpen, NotAtEnd, NoSuchActor, SameFloor}
 use Rattle.lift_spec.specs.declared.event.Reply.TheVariants.{Started, More, End, Committed, Refreshed, New, Already, Gathered, Held, Refused}
 use Rattle.il_run.specs.NameMap.{empty}
 use Rattle.il_run.specs.State.{Values, State}
@@ -90,8 +92,8 @@ abbrev pub scan_at : World → ℕ → Option State
 scan_at w t = flat (slice_get w.scans t)
 
 -- an event that is refused changes nothing (own rule)
-abbrev pub refuses : World → ℕ → Next
-refuses w n = Ok (w, Refused n)
+abbrev pub refuses : World → EventFault → Next
+refuses w fault = Ok (w, Refused fault)
 
 -- Start: copies the image, the slots with their tickets, the globals and the task's variables.
 abbrev pub snapshot_of : Group → Snapshot
@@ -108,13 +110,13 @@ started_group g t task =
 
 -- Start where no scan is open, and 62 where one is (own rule)
 abbrev pub starts_from : Config → World → ℕ → TaskState → Option State → Next
-starts_from p w t task (Some s) = refuses w 62
+starts_from p w t task (Some s) = refuses w AlreadyOpen
 starts_from p w t task None =
     Ok (record w { group = started_group w.group t task; scans = slice_set w.scans t (Some (scan_begins p t (beginning_of w.group task))) }, Started)
 
 -- Start, and 64 where there is no such task (own rule)
 abbrev pub starts : Config → World → ℕ → Option TaskState → Next
-starts p w t None = refuses w 64
+starts p w t None = refuses w NoSuchActor
 starts p w t (Some task) = starts_from p w t task (scan_at w t)
 
 -- Instruction: one step of the task's own scan.
@@ -129,17 +131,17 @@ stepped w t (Goes s) = Ok (record w { scans = slice_set w.scans t (Some s) }, re
 
 -- Instruction behind the end of the scan, 61, or before it (own rule)
 abbrev pub instructs_scan : Config → World → ℕ → State → Bool → Next
-instructs_scan p w t scan true = refuses w 61
+instructs_scan p w t scan true = refuses w NoOpenScan
 instructs_scan p w t scan false = stepped w t (scan_step p scan)
 
 -- Instruction without an open scan, 61, or within one (own rule)
 abbrev pub instructs_in : Config → World → ℕ → Option State → Next
-instructs_in p w t None = refuses w 61
+instructs_in p w t None = refuses w NoOpenScan
 instructs_in p w t (Some scan) = instructs_scan p w t scan (has_ended scan)
 
 -- Instruction, and 64 where there is no such task (own rule)
 abbrev pub instructs : Config → World → ℕ → Option TaskState → Next
-instructs p w t None = refuses w 64
+instructs p w t None = refuses w NoSuchActor
 instructs p w t (Some task) = instructs_in p w t (scan_at w t)
 
 -- Commit: writes back the variables and the globals that the program writes; a car's outputs are settled and it may serve, the group tells.
@@ -213,19 +215,19 @@ tickets_or_none (Some tickets) = tickets
 
 -- Commit before the end of the scan, 63, or behind it (own rule)
 abbrev pub commits_ended : Config → World → ℕ → TaskState → State → Bool → Next
-commits_ended p w t task scan false = refuses w 63
+commits_ended p w t task scan false = refuses w NotAtEnd
 commits_ended p w t task scan true =
     let committed = committed_group p w.group t task (tickets_or_none task.tickets) scan.values in
     Ok (record w { group = committed.0; scans = slice_set w.scans t None }, Committed committed.1)
 
 -- Commit without an open scan, 61, or with one (own rule)
 abbrev pub commits_scan : Config → World → ℕ → TaskState → Option State → Next
-commits_scan p w t task None = refuses w 61
+commits_scan p w t task None = refuses w NoOpenScan
 commits_scan p w t task (Some scan) = commits_ended p w t task scan (has_ended scan)
 
 -- Commit, and 64 where there is no such task (own rule)
 abbrev pub commits : Config → World → ℕ → Option TaskState → Next
-commits p w t None = refuses w 64
+commits p w t None = refuses w NoSuchActor
 commits p w t (Some task) = commits_scan p w t task (scan_at w t)
 
 -- Refresh: the outputs are settled under the new fields, and then the calls of the hand enter.
@@ -245,7 +247,7 @@ refreshed_group g fields hand = refreshed_as g fields (settled_all g.image.outpu
 
 -- Refresh, and 60 where the fields are out of range (own rule)
 abbrev pub refreshes : World → Fields → Bool → Next
-refreshes w fields false = refuses w 60
+refreshes w fields false = refuses w FieldOutOfRange
 refreshes w fields true =
     let refreshed = refreshed_group w.group fields w.hand in
     Ok (record { group = refreshed.0; scans = w.scans; desk = w.desk; hand = (entered_from w.group w.hand).hand }, Refreshed refreshed.1)
@@ -257,12 +259,12 @@ presses_new w call false = Ok (record w { desk = with_call w.desk call }, New)
 
 -- Press from a floor to itself, 65, or to another (own rule)
 abbrev pub presses_floors : World → Call → Bool → Next
-presses_floors w call true = refuses w 65
+presses_floors w call true = refuses w SameFloor
 presses_floors w call false = presses_new w call (has_call w.desk call)
 
 -- Press, and 64 where there is no such floor (own rule)
 abbrev pub presses : World → Call → Bool → Next
-presses w call false = refuses w 64
+presses w call false = refuses w NoSuchActor
 presses w call true = presses_floors w call (call.from == call.to)
 
 -- Gather: the calls from a floor go from the desk to the hand, where the hand has none from there.
@@ -274,7 +276,7 @@ gathers_from w floor false =
 
 -- Gather, and 64 where there is no such floor (own rule)
 abbrev pub gathers : World → ℕ → Bool → Next
-gathers w floor false = refuses w 64
+gathers w floor false = refuses w NoSuchActor
 gathers w floor true = gathers_from w floor (has_from w.hand floor)
 
 -- one step for each event

@@ -27,6 +27,8 @@ use Rattle.lift_spec.specs.declared.image.CarOutputs.{CarOutputs}
 use Rattle.lift_spec.specs.declared.image.Motor.TheVariants.{Still}
 use Rattle.lift_spec.specs.declared.event.Event.TheVariants.{Start, Instruction, Commit, Refresh}
 use Rattle.lift_spec.specs.declared.event.Reply.{Reply}
+use Rattle.lift_spec.specs.declared.event.EventFault.{EventFault}
+use Rattle.lift_spec.specs.declared.event.EventFault.TheVariants.{FieldOutOfRange, NoOpenScan, AlreadyOpen, NotAtEnd, NoSuchActor}
 use Rattle.lift_spec.specs.declared.event.Reply.TheVariants.{Started, More, End, Committed, Refused}
 use Rattle.lift_spec.specs.declared.image.Sizes.{Sizes}
 use Rattle.lift_spec.specs.Image.{sizes_of, opening_image, opening_car, opening_outputs, FieldsInRange, fields_in_range, IsFloor}
@@ -114,7 +116,7 @@ begins_quiet c u i o shown variables runs program own told still is = (
 
 -- REFUSALS
 
-refused_is : (w after : Running) (reply : Reply) (n : ℕ) → reply ≡ Refused n → RefusesUnchanged w after reply → answers (world_of w) (Refused n) ≡ answers (world_of after) reply
+refused_is : (w after : Running) (reply : Reply) (n : EventFault) → reply ≡ Refused n → RefusesUnchanged w after reply → answers (world_of w) (Refused n) ≡ answers (world_of after) reply
 refused_is w after reply n is unchanged =
     ap (answers (world_of w)) (sym is) ∙ ap (λ v. answers (world_of v) reply) (sym (unchanged (subst IsRefusal (sym is) tt)))
 
@@ -181,7 +183,7 @@ abbrev world_if : Running → Bool → World
 world_if w busy = world_by w.program.config w.image w.variables w.scan busy
 
 -- what is refused, where a scan is open or none is
-refused_if : (w after : Running) (reply : Reply) (n : ℕ) (result : World → Result Answer Halt) (busy : Bool) → w.busy ≡ busy → result (world_if w busy) ≡ answers (world_if w busy) (Refused n) → reply ≡ Refused n → RefusesUnchanged w after reply
+refused_if : (w after : Running) (reply : Reply) (n : EventFault) (result : World → Result Answer Halt) (busy : Bool) → w.busy ≡ busy → result (world_if w busy) ≡ answers (world_if w busy) (Refused n) → reply ≡ Refused n → RefusesUnchanged w after reply
     → result (world_of w) ≡ answers (world_of after) reply
 refused_if w after reply n result busy is refuses replied unchanged =
     ap (λ b. result (world_if w b)) is ∙ refuses ∙ ap (λ b. answers (world_if w b) (Refused n)) (sym is) ∙ refused_is w after reply n replied unchanged
@@ -236,8 +238,8 @@ has_image w inv = subst (HasImage w.program.config) (sym inv.sees) (shown_has_im
 -- Start
 pub start_is : (w after : Running) (reply : Reply) (t : ℕ) → (t ≡ 1 → IsSound w) → IsStart w after reply t → RefusesUnchanged w after reply → happens w.program.config (world_of w) (Start t) ≡ answers (world_of after) reply
 unfolding happens world_by
-start_is w after reply zero world h unchanged = refused_is w after reply 64 (h.other (λ e. omega (arith, e))) unchanged
-start_is w after reply (suc (suc t)) world h unchanged = refused_is w after reply 64 (h.other (λ e. omega (arith, e))) unchanged
+start_is w after reply zero world h unchanged = refused_is w after reply NoSuchActor (h.other (λ e. omega (arith, e))) unchanged
+start_is w after reply (suc (suc t)) world h unchanged = refused_is w after reply NoSuchActor (h.other (λ e. omega (arith, e))) unchanged
 start_is w after reply (suc zero) world h unchanged = by w.busy refl
   where
     c : Config
@@ -253,7 +255,7 @@ start_is w after reply (suc zero) world h unchanged = by w.busy refl
         }
 
     by : (b : Bool) → w.busy ≡ b → happens c (world_of w) (Start 1) ≡ answers (world_of after) reply
-    by true is = refused_if w after reply 62 (λ v. happens c v (Start 1)) true is refl (h.busy refl is) unchanged
+    by true is = refused_if w after reply AlreadyOpen (λ v. happens c v (Start 1)) true is refl (h.busy refl is) unchanged
     by false is =
         let begins = h.begins refl is in
         ap (λ b. happens c (world_if w b) (Start 1)) is ∙ ap (λ s. answers (begun s) Started) (begins_is w (world refl) None) ∙ ap (answers (world_of (started w))) (sym begins.0) ∙ ap (λ v. answers (world_of v) reply) (sym begins.1)
@@ -261,8 +263,8 @@ start_is w after reply (suc zero) world h unchanged = by w.busy refl
 -- Instruction
 pub instruction_is : (w after : Running) (reply : Reply) (t : ℕ) → (t ≡ 1 → IsSound w) → IsInstruction w after reply t → RefusesUnchanged w after reply → happens w.program.config (world_of w) (Instruction t) ≡ answers (world_of after) reply
 unfolding happens world_by
-instruction_is w after reply zero world h unchanged = refused_is w after reply 64 (h.other (λ e. omega (arith, e))) unchanged
-instruction_is w after reply (suc (suc t)) world h unchanged = refused_is w after reply 64 (h.other (λ e. omega (arith, e))) unchanged
+instruction_is w after reply zero world h unchanged = refused_is w after reply NoSuchActor (h.other (λ e. omega (arith, e))) unchanged
+instruction_is w after reply (suc (suc t)) world h unchanged = refused_is w after reply NoSuchActor (h.other (λ e. omega (arith, e))) unchanged
 instruction_is w after reply (suc zero) world h unchanged = by w.busy refl w.scan.place refl
   where
     c : Config
@@ -279,8 +281,8 @@ instruction_is w after reply (suc zero) world h unchanged = by w.busy refl w.sca
     replied busy going (Some at) is = ap (λ b. if b then End else More) (ended_at after.scan (Some at) is) ∙ sym (h.more refl busy going (λ e. let bad : Some at ≡ None = sym is ∙ e in cc))
 
     by : (b : Bool) → w.busy ≡ b → (o : Option ℕ) → w.scan.place ≡ o → happens c (world_of w) (Instruction 1) ≡ answers (world_of after) reply
-    by false is o at = refused_if w after reply 61 (λ v. happens c v (Instruction 1)) false is refl (h.idle refl is) unchanged
-    by true is None at = refused_if w after reply 61 (λ v. happens c v (Instruction 1)) true is (ap (model.instructs_scan c (world_if w true) 1 (state_of w.scan)) (ended_at w.scan None at)) (h.ended refl is at) unchanged
+    by false is o at = refused_if w after reply NoOpenScan (λ v. happens c v (Instruction 1)) false is refl (h.idle refl is) unchanged
+    by true is None at = refused_if w after reply NoOpenScan (λ v. happens c v (Instruction 1)) true is (ap (model.instructs_scan c (world_if w true) 1 (state_of w.scan)) (ended_at w.scan None at)) (h.ended refl is at) unchanged
     by true is (Some k) at =
         let going : w.scan.place ≢ None = λ e. let bad : Some k ≡ None = sym at ∙ e in cc in
         ap (λ b. happens c (world_if w b) (Instruction 1)) is ∙ ap (model.instructs_scan c (world_if w true) 1 (state_of w.scan)) (ended_at w.scan (Some k) at)
@@ -334,8 +336,8 @@ commit_ends w = refl
 -- Commit
 pub commit_is_model : (w after : Running) (reply : Reply) (t : ℕ) → (t ≡ 1 → IsSound w) → IsCommit w after reply t → RefusesUnchanged w after reply → happens w.program.config (world_of w) (Commit t) ≡ answers (world_of after) reply
 unfolding happens world_by
-commit_is_model w after reply zero world h unchanged = refused_is w after reply 64 (h.other (λ e. omega (arith, e))) unchanged
-commit_is_model w after reply (suc (suc t)) world h unchanged = refused_is w after reply 64 (h.other (λ e. omega (arith, e))) unchanged
+commit_is_model w after reply zero world h unchanged = refused_is w after reply NoSuchActor (h.other (λ e. omega (arith, e))) unchanged
+commit_is_model w after reply (suc (suc t)) world h unchanged = refused_is w after reply NoSuchActor (h.other (λ e. omega (arith, e))) unchanged
 commit_is_model w after reply (suc zero) world h unchanged = by w.busy refl w.scan.place refl
   where
     c : Config
@@ -345,10 +347,10 @@ commit_is_model w after reply (suc zero) world h unchanged = by w.busy refl w.sc
     task = record { variables = w.variables; tickets = tickets_of c true }
 
     by : (b : Bool) → w.busy ≡ b → (o : Option ℕ) → w.scan.place ≡ o → happens c (world_of w) (Commit 1) ≡ answers (world_of after) reply
-    by false is o at = refused_if w after reply 61 (λ v. happens c v (Commit 1)) false is refl (h.idle refl is) unchanged
+    by false is o at = refused_if w after reply NoOpenScan (λ v. happens c v (Commit 1)) false is refl (h.idle refl is) unchanged
     by true is (Some k) at =
         let going : w.scan.place ≢ None = λ e. let bad : Some k ≡ None = sym at ∙ e in cc in
-        refused_if w after reply 63 (λ v. happens c v (Commit 1)) true is (ap (model.commits_ended c (world_if w true) 1 task (state_of w.scan)) (ended_at w.scan (Some k) at)) (h.going refl is going) unchanged
+        refused_if w after reply NotAtEnd (λ v. happens c v (Commit 1)) true is (ap (model.commits_ended c (world_if w true) 1 task (state_of w.scan)) (ended_at w.scan (Some k) at)) (h.going refl is going) unchanged
     by true is None at =
         let done = h.commits refl is at in
         ap (λ b. happens c (world_if w b) (Commit 1)) is ∙ ap (model.commits_ended c (world_if w true) 1 task (state_of w.scan)) (ended_at w.scan None at)
@@ -364,7 +366,7 @@ refresh_is_model w after inv reply fields same h unchanged = by (fields_in_range
     c = w.program.config
 
     by : (b : Bool) → fields_in_range (sizes_of c) fields ≡ b → happens c (world_of w) (Refresh fields) ≡ answers (world_of after) reply
-    by false is = ap (model.refreshes (world_of w) fields) is ∙ refused_is w after reply 60 (h.outside is) unchanged
+    by false is = ap (model.refreshes (world_of w) fields) is ∙ refused_is w after reply FieldOutOfRange (h.outside is) unchanged
     by true is =
         let done = h.refreshes is in
         ap (model.refreshes (world_of w) fields) is ∙ ap (answers (world_by c (refreshed w.image fields) w.variables w.scan w.busy)) (sym done.0)

@@ -26,6 +26,7 @@ use Rattle.il_machine.specs.Opening.{shown_of}
 use Rattle.lift_world.specs.declared.event.Event.{Event}
 use Rattle.lift_world.specs.declared.event.Event.TheVariants.{Start, Instruction, Commit, Refresh}
 use Rattle.lift_spec.specs.declared.event.Reply.{Reply}
+use Rattle.lift_spec.specs.declared.event.EventFault.TheVariants.{FieldOutOfRange, NoOpenScan, AlreadyOpen, NotAtEnd, NoSuchActor}
 use Rattle.lift_spec.specs.declared.event.Reply.TheVariants.{Started, More, End, Committed, Refreshed, Refused}
 use Rattle.lift_spec.specs.declared.report.Report.{Report}
 use Rattle.lift_spec.specs.declared.report.Rule.TheVariants.{NotLevel}
@@ -176,15 +177,15 @@ refresh_report i fields = record { outputs = (settled_all i.outputs fields).outp
 
 -- Start: 64 where there is no such task, 62 while a scan is open, and otherwise the scan begins
 pub record IsStart (before after : Running) (reply : Reply) (task : ℕ) : Type 0 where
-  pub other : task ≢ 1 → reply ≡ Refused 64
-  pub busy : task ≡ 1 → before.busy ≡ true → reply ≡ Refused 62
+  pub other : task ≢ 1 → reply ≡ Refused NoSuchActor
+  pub busy : task ≡ 1 → before.busy ≡ true → reply ≡ Refused AlreadyOpen
   pub begins : task ≡ 1 → before.busy ≡ false → (reply ≡ Started) × (after ≡ started before)
 
 -- Instruction: 64 where there is no such task, 61 without a scan or behind its end, and otherwise one step of the scan alone
 pub record IsInstruction (before after : Running) (reply : Reply) (task : ℕ) : Type 0 where
-  pub other : task ≢ 1 → reply ≡ Refused 64
-  pub idle : task ≡ 1 → before.busy ≡ false → reply ≡ Refused 61
-  pub ended : task ≡ 1 → before.busy ≡ true → before.scan.place ≡ None → reply ≡ Refused 61
+  pub other : task ≢ 1 → reply ≡ Refused NoSuchActor
+  pub idle : task ≡ 1 → before.busy ≡ false → reply ≡ Refused NoOpenScan
+  pub ended : task ≡ 1 → before.busy ≡ true → before.scan.place ≡ None → reply ≡ Refused NoOpenScan
   pub step : task ≡ 1 → before.busy ≡ true → before.scan.place ≢ None → step before.program.config (state_of before.scan) ≡ Next (state_of after.scan)
   pub more : task ≡ 1 → before.busy ≡ true → before.scan.place ≢ None → after.scan.place ≢ None → reply ≡ More
   pub end : task ≡ 1 → before.busy ≡ true → before.scan.place ≢ None → after.scan.place ≡ None → reply ≡ End
@@ -192,14 +193,14 @@ pub record IsInstruction (before after : Running) (reply : Reply) (task : ℕ) :
 
 -- Commit: 64 where there is no such task, 61 without a scan, 63 before its end, and otherwise the settled commit
 pub record IsCommit (before after : Running) (reply : Reply) (task : ℕ) : Type 0 where
-  pub other : task ≢ 1 → reply ≡ Refused 64
-  pub idle : task ≡ 1 → before.busy ≡ false → reply ≡ Refused 61
-  pub going : task ≡ 1 → before.busy ≡ true → before.scan.place ≢ None → reply ≡ Refused 63
+  pub other : task ≢ 1 → reply ≡ Refused NoSuchActor
+  pub idle : task ≡ 1 → before.busy ≡ false → reply ≡ Refused NoOpenScan
+  pub going : task ≡ 1 → before.busy ≡ true → before.scan.place ≢ None → reply ≡ Refused NotAtEnd
   pub commits : task ≡ 1 → before.busy ≡ true → before.scan.place ≡ None → (reply ≡ Committed (commit_report before)) × (after ≡ after_commit before)
 
 -- Refresh: 60 where the fields are out of range, and otherwise the settled refresh; no scan sees it before its next start
 pub record IsRefresh (before after : Running) (reply : Reply) (fields : Fields) : Type 0 where
-  pub outside : fields_in_range (sizes_of before.program.config) fields ≡ false → reply ≡ Refused 60
+  pub outside : fields_in_range (sizes_of before.program.config) fields ≡ false → reply ≡ Refused FieldOutOfRange
   pub refreshes : fields_in_range (sizes_of before.program.config) fields ≡ true → (reply ≡ Refreshed (refresh_report before.image fields)) × (after.image ≡ refreshed before.image fields)
   pub scan : (after.scan ≡ before.scan) × (after.busy ≡ before.busy)
   pub variables : after.variables ≡ before.variables

@@ -21,7 +21,7 @@ use crate::shown::show;
 use il_machine::{Begin, Stepped, Store, Value, Verified, step};
 use il_spec::fault::Refusal;
 use lift_image::{CarOutputs, Fields, Image, Motor, Row, Sizes, in_range};
-use lift_spec::event::Reply;
+use lift_spec::event::{EventFault, Reply};
 use lift_spec::report::{Denial, Report, Rule};
 use std::alloc::{AllocError, Global};
 use std::marker::Model;
@@ -144,10 +144,10 @@ impl Controller {
         ensures refused { RefusesUnchanged self.old self.new result }
     {
         if task != CAR {
-            return Reply::Refused(64);
+            return Reply::Refused(EventFault::NoSuchActor);
         }
         if self.busy {
-            return Reply::Refused(62);
+            return Reply::Refused(EventFault::AlreadyOpen);
         }
         self.store.restart(&self.verified, task, &self.begin);
         self.busy = true;
@@ -161,13 +161,13 @@ impl Controller {
         ensures refused { RefusesUnchanged self.old self.new result }
     {
         if task != CAR {
-            return Reply::Refused(64);
+            return Reply::Refused(EventFault::NoSuchActor);
         }
         if !self.busy {
-            return Reply::Refused(61);
+            return Reply::Refused(EventFault::NoOpenScan);
         }
         if self.store.has_ended() {
-            return Reply::Refused(61);
+            return Reply::Refused(EventFault::NoOpenScan);
         }
         match step(&self.verified, task, &mut self.store) {
             Stepped::More => Reply::More,
@@ -183,13 +183,13 @@ impl Controller {
         ensures refused { RefusesUnchanged self.old self.new result }
     {
         if task != CAR {
-            return Reply::Refused(64);
+            return Reply::Refused(EventFault::NoSuchActor);
         }
         if !self.busy {
-            return Reply::Refused(61);
+            return Reply::Refused(EventFault::NoOpenScan);
         }
         if !self.store.has_ended() {
-            return Reply::Refused(63);
+            return Reply::Refused(EventFault::NotAtEnd);
         }
         Reply::Committed(self.commit_scan())
     }
@@ -221,7 +221,7 @@ impl Controller {
         if in_range(fields, self.sizes()) {
             Reply::Refreshed(self.take(fields))
         } else {
-            Reply::Refused(60)
+            Reply::Refused(EventFault::FieldOutOfRange)
         }
     }
 

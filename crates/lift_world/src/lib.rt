@@ -13,7 +13,7 @@ pub use event::Event;
 pub use il_machine::Verified;
 pub use il_spec::fault::Refusal;
 pub use lift_image::{CarFields, CarOutputs, Fields, Image, Motor, Row, Sizes};
-pub use lift_spec::event::Reply;
+pub use lift_spec::event::{EventFault, Reply};
 pub use lift_spec::report::{Denial, Report, Rule};
 pub use loader::load;
 pub use replies::Replies;
