@@ -14,14 +14,14 @@ pub struct Cell {
 
 /// A place in the rows of values, counted from the base of the frame that runs: of a Boolean, or of a
 /// number of a type.
-#[derive(Clone, Copy, Debug, PartialEq, Eq)]
+#[derive(Clone, Copy)]
 pub enum Slot {
     Flag(usize),
     Number(Elementary, usize),
 }
 
 /// An operand with its names resolved.
-#[derive(Clone, Copy, Debug, PartialEq, Eq)]
+#[derive(Clone, Copy)]
 pub enum Operand {
     Constant(Content),
     /// A literal that takes the type of the current result.
@@ -39,21 +39,21 @@ pub enum Operand {
 }
 
 /// An input of a call: where it stands, and what it is given.
-#[derive(Clone, Copy, Debug, PartialEq, Eq)]
+#[derive(Clone, Copy)]
 pub struct Assignment {
     pub to: Slot,
     pub from: Operand,
 }
 
 /// An output of a call: where it stands, and where it is copied to.
-#[derive(Clone, Copy, Debug, PartialEq, Eq)]
+#[derive(Clone, Copy)]
 pub struct Copied {
     pub from: Slot,
     pub to: Slot,
 }
 
 /// A standard function (IEC 61131-3:2003, 2.5.1.5).
-#[derive(Clone, Copy, Debug, PartialEq, Eq)]
+#[derive(Clone, Copy)]
 pub enum Function {
     Limit,
 }
