@@ -1,7 +1,6 @@
 pub mod Budgets
-pub mod Over
 pub mod Listings
-pub mod Steps
+pub mod Slots
 pub mod Does
-pub mod Scans
-pub mod Openings
+pub mod Calls
+pub mod Steps
