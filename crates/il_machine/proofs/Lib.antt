@@ -4,3 +4,5 @@ pub mod Slots
 pub mod Does
 pub mod Calls
 pub mod Steps
+pub mod Over
+pub mod Scans

@@ -5,14 +5,15 @@ use Rattle.il_spec.specs.contracts.tree.Config as config
 use Rattle.il_machine.specs.contracts.verified.UnitCost as unit_cost
 use Rattle.il_spec.specs.declared.tree.Config.{Config}
 use Rattle.il_spec.specs.declared.tree.Unit.{Unit as Organized}
-use Rattle.il_rules.specs.declared.symbol.Symbol.{Symbol}
 use Rattle.il_rules.specs.Names.{own_variable, is_one_of}
-use Rattle.il_rules.specs.Symbols.{IsProgram, symbol_of}
+use Rattle.il_rules.specs.Symbols.{IsProgram}
 use Rattle.il_rules.specs.Written.{IsWritten}
 use Rattle.il_rules.specs.Subset.{IsSupported, supported_image_names}
 use Rattle.il_verify.specs.Resolved.{IsChecked}
 use Rattle.il_sound.specs.Accepted.{IsAccepted}
 use Rattle.il_sound.specs.Agreement.{Agrees}
+use Rattle.il_sound.specs.Listed.{seen_scalars}
+use Rattle.il_run.specs.Ranges.{HaveValues}
 use Rattle.il_machine.specs.declared.verified.UnitCost.{UnitCost}
 use Rattle.il_machine.specs.declared.frames.Frame.{Frame as FlatFrame}
 use Rattle.il_run.specs.declared.value.Content.{Content}
@@ -25,7 +26,7 @@ use Rattle.il_code.specs.Coded.{IsCode}
 use Rattle.il_code.specs.Whole.{number_in}
 use Rattle.il_code.specs.Program.{own_cells, seen_cells, program_cells, program_code}
 use Rattle.lift_spec.specs.Snapshot.{program_of}
-use Rattle.il_machine.specs.Held.{HasOf, HoldsOwn}
+use Rattle.il_machine.specs.Held.{HoldsOwn}
 use Rattle.il_machine.specs.Going.{Stored}
 
 -- A verified configuration as contracts see it: the tree, and what each unit costs.
@@ -69,7 +70,6 @@ pub record IsRunnable (c : Config) : Type 0 where
   pub tasked : IsTasked c checked.resolved.program
   pub sizes : HasSizes c
   pub accepted : IsAccepted c checked.resolved.program
-  pub code : HasCode c checked.resolved.program
 
 -- the frames of a scan of the unit: one at a place, none once the scan has ended
 abbrev pub frames_at : Text → Option ℕ → List Frame
@@ -107,13 +107,13 @@ own_count c None = 0
 own_count c (Some u) = length (own_cells c u)
 
 -- the variables that rows hold for a program, and what they hold of the image
-unfoldable pub own_values : Config → Option Organized → Rows → Values
-own_values c None r = empty
-own_values c (Some u) r = view (own_cells c u) r
+unfoldable pub own_view : Config → Option Organized → Rows → Values
+own_view c None r = empty
+own_view c (Some u) r = view (own_cells c u) r
 
-unfoldable pub seen_values : Config → Option Organized → Rows → Values
-seen_values c None r = empty
-seen_values c (Some u) r = view (seen_cells c u) r
+unfoldable pub seen_view : Config → Option Organized → Rows → Values
+seen_view c None r = empty
+seen_view c (Some u) r = view (seen_cells c u) r
 
 -- the name of a program
 abbrev pub name_of : Option Organized → Text
@@ -128,7 +128,7 @@ place_of (Some f) = Some f.place
 -- what a store keeps, by the program
 abbrev pub kept_by : Config → Option Organized → Stored → Kept
 kept_by c o s =
-    record { unit = name_of o; variables = own_values c o (front (own_count c o) s.rows); written = seen_values c o (behind (own_count c o) s.rows); place = place_of s.running; result = s.result }
+    record { unit = name_of o; variables = own_view c o (front (own_count c o) s.rows); written = seen_view c o (behind (own_count c o) s.rows); place = place_of s.running; result = s.result }
 
 -- what a store of a task keeps
 abbrev pub kept_of : Config → ℕ → Stored → Kept
@@ -155,11 +155,11 @@ IsScanOf c task s = (u : Organized) × (program_of c task ≡ Some u) × IsScanS
 
 -- what a scan is given of the image has a value of its declared set for each image name that the program sees
 abbrev pub HasImage : Config → Values → Type 0
-HasImage c image = (u : Organized) → IsProgram c u → (name : Text) (s : Symbol) → own_variable u name ≡ None → symbol_of c u name ≡ Some s → HasOf image name s.scalar
+HasImage c image = (u : Organized) → IsProgram c u → HaveValues image (seen_scalars c u)
 
 -- the variables of a task are those of the program, each with a value of its declared set
 abbrev pub OwnsDeclared : Config → Values → Type 0
-OwnsDeclared c variables = (u : Organized) → IsProgram c u → HoldsOwn u variables
+OwnsDeclared c variables = (u : Organized) → IsProgram c u → HoldsOwn c u variables
 
 -- a name that the program can't name so far has what it had
 abbrev pub KeepsUnseen : Config → Values → Values → Type 0

@@ -1,0 +1,348 @@
+-- A step of a program's scan.
+use Rattle.std.proofs.Common.{◌≡◌, ◌≢◌, ◌<◌, ◌≤◌, ℕ, zero, suc, ◌+◌, Bool, true, false, List, [], ◌∷◌, ◌++◌, map, take, length, slice_get, refl, sym, ap, ap₂, ◌∙◌, cond, Some, None, Option, subst, arith}
+use Rattle.std.proofs.lemmas.Option.{slice_get_within, get_or_from_slice_get}
+use Rattle.std.proofs.lemmas.List.Elements.{Contains-get_or}
+use Rattle.std.specs.Prelude.{not, is_some, IsSome, Contains, find, bytes_eq, if◌then◌else◌, option_map}
+use Rattle.std.specs.Ordering.{eq_by_cmp}
+use Rattle.il_spec.specs.declared.tree.Config.{Config}
+use Rattle.il_spec.specs.declared.tree.Unit.{Unit as Organized}
+use Rattle.il_spec.specs.declared.tree.Form.{Form}
+use Rattle.il_spec.specs.declared.tree.Form.TheVariants.{Scalar as ScalarForm, Array as ArrayForm, Block as BlockForm}
+use Rattle.il_spec.specs.declared.tree.Scalar.{Scalar}
+use Rattle.il_spec.specs.declared.tree.Elementary.TheVariants.{Bool as BoolType}
+use Rattle.il_spec.specs.declared.tree.Reference.{Reference}
+use Rattle.il_spec.specs.declared.tree.Reference.TheVariants.{Literal as OfLiteral, Variable as OfVariable, Element, Member}
+use Rattle.il_spec.specs.declared.tree.Step.{Step as BodyStep}
+use Rattle.il_spec.specs.declared.tree.Operand.{Operand as Written}
+use Rattle.il_spec.specs.declared.tree.Store.{Store as StoreKind}
+use Rattle.il_spec.specs.declared.tree.Store.TheVariants.{Plain, Negated, Set, Reset}
+use Rattle.il_spec.specs.declared.tree.Condition.TheVariants.{Always}
+use Rattle.il_spec.specs.declared.tree.Instruction.{Instruction}
+use Rattle.il_spec.specs.declared.tree.Instruction.TheVariants.{Load, Store, Not, Operate, Defer, Evaluate, Jump, Return, Call, Invoke}
+use Rattle.il_spec.specs.ElementaryTypes.{is_same_type}
+use Rattle.il_rules.specs.Names.{Limited, standard_function, is_one_of, is_predeclared, own_variable, form_named, unit_named}
+use Rattle.il_rules.specs.Faults.{HasNoFault}
+use Rattle.il_rules.specs.Symbols.{IsProgram}
+use Rattle.il_rules.specs.Subset.{IsSupportedProgram, IsSupportedInstruction, IsSupportedStore, IsSupportedPlace, supported_image_names, reference_names, instruction_names, unsupported, BreaksInSubset}
+use Rattle.il_rules.proofs.Straight.{step_supported, among_units}
+use Rattle.il_run.specs.declared.value.Value.{Value}
+use Rattle.il_run.specs.declared.value.Value.TheVariants.{Boolean, Integer}
+use Rattle.il_run.specs.declared.value.Content.{Content}
+use Rattle.il_run.specs.NameMap.{Text, order, get, insert, get-insert}
+use Rattle.il_run.specs.Values.{is_of}
+use Rattle.il_run.specs.State.{Values, Frame, State}
+use Rattle.il_run.specs.Meaning.{direct, denotation}
+use Rattle.il_run.specs.Scan.{HasEnded}
+use Rattle.il_run.specs.Step.{Outcome, Next, Trapped, Stuck, WrongKind, OutsideSubrange, Scene, at as at_path, truth, with_result, with_boolean, with_location, with_unit, stored as stored_at, stored_by, instruction_or_return, instruction_at, goes_on, executed, step_of, step}
+use Rattle.il_run.specs.Annotation.{Annotated}
+use Rattle.il_table.specs.ByText.{HaveSameNames}
+use Rattle.il_table.proofs.Copies.{same_text}
+use Rattle.il_sound.specs.Agreement.{Agrees, left}
+use Rattle.il_sound.specs.Accepted.{IsAccepted}
+use Rattle.il_sound.specs.Soundness.{StepsWell, StepIsSound}
+use Rattle.il_sound.proofs.Scanning.{step_sound}
+use Rattle.il_sound.proofs.Premises.{in_order}
+use Rattle.il_code.specs.declared.flat.UnitCode.{UnitCode}
+use Rattle.il_code.specs.declared.flat.Flat.{Flat}
+use Rattle.il_code.specs.Layout.{Rows, Fits, view}
+use Rattle.il_code.specs.Flattened.{Names, applies, flat, HasCells, IsPlaced}
+use Rattle.il_code.specs.Coded.{Code, IsRunnable, IsUnit}
+use Rattle.il_code.specs.Whole.{number_in, unit_code}
+use Rattle.il_code.specs.Program.{own_cells, seen_cells, program_cells, program_names, program_code}
+use Rattle.il_code.specs.Resolved.{IsFlattened}
+use Rattle.il_machine.specs.declared.frames.Frame.{Frame as FlatFrame}
+use Rattle.il_machine.specs.declared.frames.Pair.{Pair}
+use Rattle.il_machine.specs.declared.frames.Suspended.{Suspended}
+use Rattle.il_machine.specs.Effect.{with_some, gives, effect}
+use Rattle.il_machine.specs.Going.{Stored, going, forward, instruction_of, done, next}
+use Rattle.il_machine.specs.Framing.{name_of_code, frame_over, framed, all_frames, state_by, IsFramed}
+use Rattle.il_machine.specs.Scanning.{HasCode, KeepsUnseen, Kept, state_of, frames_at, over, front, behind, own_view, seen_view, kept_by, place_of, IsFrameOf, IsScanState}
+use Rattle.il_machine.proofs.Does.{test_holds, GoesOn, Does, does}
+use Rattle.il_machine.proofs.Steps.{cells_of, next_by}
+use Rattle.il_machine.proofs.Over.{parts_are}
+
+-- THE PROGRAM'S CODE
+
+-- the first unit of a name stands at its number
+numbered : (g : Organized → UnitCode) (us : List Organized) (name : Text) (v : Organized) → find (λ u. bytes_eq u.name.name name) us ≡ Some v → slice_get (map g us) (number_in us name) ≡ Some (g v)
+numbered g [] name v is = cc
+numbered g (u ∷ us) name v is = by_test (bytes_eq u.name.name name) is (numbered g us name v)
+  where
+    by_test : (b : Bool) → (if b then Some u else find (λ u. bytes_eq u.name.name name) us) ≡ Some v → (find (λ u. bytes_eq u.name.name name) us ≡ Some v → slice_get (map g us) (number_in us name) ≡ Some (g v))
+        → slice_get (g u ∷ map g us) (if b then 0 else suc (number_in us name)) ≡ Some (g v)
+    by_test true is more = let same : u ≡ v = cc in ap (λ w. Some (g w)) same
+    by_test false is more = more is
+
+found_by : (b : Bool) (o : Option Organized) (v : Organized) → (if b then None else o) ≡ Some v → o ≡ Some v
+found_by true o v is = cc
+found_by false o v is = is
+
+same_unit : (o : Option Organized) (a b : Organized) → o ≡ Some a → o ≡ Some b → a ≡ b
+same_unit o a b e g = cc
+
+-- the program of a configuration is one
+pub same_program : (c : Config) (u v : Organized) → IsProgram c u → IsProgram c v → u ≡ v
+same_program c u v a b = let same : u ∷ [] ≡ v ∷ [] = sym a.alone ∙ b.alone in cc
+
+same_next : (a b : State) → Next a ≡ Next b → a ≡ b
+same_next a b e = cc
+
+-- SOUNDNESS
+
+next_of : (c : Config) (u : Organized) (before : ℕ) (o : Outcome) → StepsWell c u before o → (t : State) × (o ≡ Next t) × Agrees c u t
+next_of c u before (Next t) well = (t, refl, well.0)
+next_of c u before (Trapped trap) well = absurd well
+next_of c u before Stuck well = absurd well
+
+-- NAMES THAT THE PROGRAM CAN'T NAME
+
+-- another name has what it had
+insert_apart : (values : Values) (name q : Text) (v : Value) → (q ≡ name → ⊥) → get (insert values name v) q ≡ get values q
+insert_apart values name q v apart =
+    get-insert values name v q ∙ by_test (eq_by_cmp order q name) refl
+  where
+    by_test : (b : Bool) → eq_by_cmp order q name ≡ b → cond (eq_by_cmp order q name) (Some v) (get values q) ≡ get values q
+    by_test true e = absurd (apart (same_text q name e))
+    by_test false e = ap (λ b. cond b (Some v) (get values q)) e
+
+module _ (c : Config) (u : Organized) (n : Text) (place : ℕ) (below : List Frame) (values : Values) (result : Option Content) where
+  abbrev at_place : Scene
+  at_place = record { config = c; unit = u; frame = record { unit = n; path = []; place = place; deferred = [] }; below = below; values = values; result = result }
+
+  -- a store into a name leaves another what it had
+  stored_apart : (name : Text) (sc : Scalar) (x : Content) (t : State) (q : Text) → stored_at values (at_path name sc) x (λ v. goes_on at_place v result) ≡ Next t → (q ≡ name → ⊥) → get t.values q ≡ get values q
+  stored_apart name sc x t q h apart =
+      let typed = test_holds (is_same_type sc.elementary x.elementary) WrongKind _ t h in
+      let ranged = test_holds (is_of sc x.value) OutsideSubrange _ t typed.1 in
+      ap (λ (v : State). get v.values q) (sym (same_next _ _ ranged.1)) ∙ insert_apart values name q x.value apart
+
+  negated_apart : (name : Text) (sc : Scalar) (v : Value) (t : State) (q : Text) → with_boolean v (λ b. stored_at values (at_path name sc) (truth (not b)) (λ w. goes_on at_place w result)) ≡ Next t → (q ≡ name → ⊥) → get t.values q ≡ get values q
+  negated_apart name sc (Boolean b) t q h apart = stored_apart name sc (truth (not b)) t q h apart
+  negated_apart name sc (Integer z) t q h apart = cc
+
+  kind_apart : (kind : StoreKind) → IsSupportedStore kind → (name : Text) (sc : Scalar) (x : Content) (t : State) (q : Text) → stored_by kind values (at_path name sc) x (λ v. goes_on at_place v result) ≡ Next t → (q ≡ name → ⊥) → get t.values q ≡ get values q
+  kind_apart Plain is name sc x t q h apart = stored_apart name sc x t q h apart
+  kind_apart Negated is name sc x t q h apart = negated_apart name sc x.value t q h apart
+  kind_apart Set is name sc x t q h apart = absurd is
+  kind_apart Reset is name sc x t q h apart = absurd is
+
+  name_apart : (kind : StoreKind) → IsSupportedStore kind → (name : Text) (o : Option Form) (x : Content) (t : State) (q : Text) → with_location [] values (direct name o) (λ l. stored_by kind values l x (λ v. goes_on at_place v result)) ≡ Next t → (q ≡ name → ⊥) → get t.values q ≡ get values q
+  name_apart kind is name None x t q h apart = cc
+  name_apart kind is name (Some (ArrayForm bounds element)) x t q h apart = cc
+  name_apart kind is name (Some (BlockForm block)) x t q h apart = cc
+  name_apart kind is name (Some (ScalarForm sc)) x t q h apart = kind_apart kind is name sc x t q h apart
+
+  -- an instruction of the subset stores into no other name than its own
+  reference_apart : (kind : StoreKind) → IsSupportedStore kind → (r : Reference) → IsSupportedPlace r → (x : Content) (t : State) (q : Text) → with_location [] values (denotation c u r) (λ l. stored_by kind values l x (λ v. goes_on at_place v result)) ≡ Next t
+      → ¬ Contains (reference_names r) q → get t.values q ≡ get values q
+  reference_apart kind is (OfLiteral l) place_is x t q h apart = absurd place_is
+  reference_apart kind is (Element name index) place_is x t q h apart = absurd place_is
+  reference_apart kind is (Member name word) place_is x t q h apart = absurd place_is
+  reference_apart kind is (OfVariable name) place_is x t q h apart = name_apart kind is name (form_named c u name) x t q h (λ same. apart (0, omega arith, sym same))
+
+  store_apart : (kind : StoreKind) (to : Written) → IsSupportedInstruction (Store kind to) → (o : Option Content) (t : State) (q : Text) → o ≡ result → with_result o (λ x. with_location [] values (denotation c u to.reference) (λ l. stored_by kind values l x (λ v. goes_on at_place v result))) ≡ Next t
+      → ¬ Contains (reference_names to.reference) q → get t.values q ≡ get values q
+  store_apart kind to is None t q same h apart = cc
+  store_apart kind to is (Some x) t q same h apart = reference_apart kind is.0 to.reference is.1 x t q h apart
+
+-- the rows stay
+same_rows : (r after : Rows) (o : Option Content) (l : Content) → gives r o ≡ Some (after, l) → r ≡ after
+same_rows r after None l e = cc
+same_rows r after (Some x) l e = let p : ◌≡◌ {A = Rows × Content} (r, x) (after, l) = cc in ap (λ p. p.0) p
+
+-- STEPS
+
+-- an instruction of the subset goes on
+goes_so : (c : Config) (u : Organized) (i : Instruction) → IsSupportedInstruction i → IsRunnable c u i → GoesOn i
+goes_so c u (Load negated o) is runs = tt
+goes_so c u (Store kind o) is runs = tt
+goes_so c u Not is runs = tt
+goes_so c u (Operate operator o) is runs = runs
+goes_so c u (Invoke function operands) is runs = runs
+goes_so c u (Defer operator first) is runs = absurd is
+goes_so c u Evaluate is runs = absurd is
+goes_so c u (Jump condition label) is runs = absurd is
+goes_so c u (Return condition) is runs = absurd is
+goes_so c u (Call condition instance arguments) is runs = absurd is
+
+-- so does its flat form
+straight : (n : Names) (c : Config) (u : Organized) (units : List UnitCode) (i : Instruction) → IsSupportedInstruction i → IsRunnable c u i → (r : Rows) (f : FlatFrame) (result : Option Content)
+    → done units (flat n c u i) r f [] [] result ≡ with_some (effect (flat n c u i) r f.base result) (λ e. Some (going e.0 (forward f) [] [] (Some e.1)))
+straight n c u units (Load negated o) is runs r f result = refl
+straight n c u units (Store kind o) is runs r f result = refl
+straight n c u units Not is runs r f result = refl
+straight n c u units (Operate operator o) is runs r f result = refl
+straight n c u units (Invoke function operands) is runs r f result =
+    ap (λ o. done units (applies n c u o operands) r f [] [] result) runs ∙ sym (ap (λ o. with_some (effect (applies n c u o operands) r f.base result) (λ e. Some (going e.0 (forward f) [] [] (Some e.1)))) runs)
+straight n c u units (Defer operator first) is runs r f result = absurd is
+straight n c u units Evaluate is runs r f result = absurd is
+straight n c u units (Jump condition label) is runs r f result = absurd is
+straight n c u units (Return condition) is runs r f result = absurd is
+straight n c u units (Call condition instance arguments) is runs r f result = absurd is
+
+-- what it leaves
+left_by : (o : Option (Rows × Content)) (f : FlatFrame) (after : Stored) → with_some o (λ e. Some (going e.0 (forward f) [] [] (Some e.1))) ≡ Some after → (r : Rows) × (l : Content) × (o ≡ Some (r, l)) × (going r (forward f) [] [] (Some l) ≡ after)
+left_by None f after e = cc
+left_by (Some p) f after e = (p.0, p.1, refl, let same : going p.0 (forward f) [] [] (Some p.1) ≡ after = cc in same)
+
+-- A step of a store on its slots, and of what it keeps.
+pub record Goes (c : Config) (u : Organized) (s : Stored) : Type 0 where
+  pub after : Stored
+  pub next_is : next (program_code c u).units s ≡ Some after
+  pub scan : IsScanState c u after
+  pub step_is : step c (state_of (kept_by c (Some u) s)) ≡ Next (state_of (kept_by c (Some u) after))
+  pub unseen : KeepsUnseen c (over (kept_by c (Some u) s).written (kept_by c (Some u) s).variables) (over (kept_by c (Some u) after).written (kept_by c (Some u) after).variables)
+
+contained : (steps : List BodyStep) (at : ℕ) (s : BodyStep) → slice_get steps at ≡ Some s → Contains steps s
+contained steps at s e = subst (Contains steps) (get_or_from_slice_get steps at s s e) (Contains-get_or steps at s (slice_get_within steps at s e))
+
+module _ (c : Config) (u : Organized) (program : IsProgram c u) (supported : IsSupportedProgram u) (declared : HasNoFault (BreaksInSubset c)) (has : HasCode c u) where
+  abbrev p : Code
+  p = program_code c u
+
+  abbrev code : UnitCode
+  code = unit_code (program_names c) c u
+
+  stands : slice_get p.units (number_in c.units u.name.name) ≡ Some code
+  stands = numbered (unit_code (program_names c) c) c.units u.name.name u (found_by (is_predeclared c u.name.name) _ u program.named)
+
+  is_unit : IsUnit c has.code.names code u
+  is_unit =
+      let v = has.code.units (number_in c.units u.name.name) code stands in
+      subst (λ w. IsUnit c has.code.names code w) (same_unit (unit_named c u.name.name) v.0 u v.1.found program.named) v.1
+
+  abbrev frame_is : (f : FlatFrame) → IsFrameOf c u (Some f) → IsFramed p has.code.names [] f
+  frame_is f is = record {
+    unit = u;
+    code = code;
+    stands = ap (slice_get p.units) is.0 ∙ stands;
+    is = is_unit;
+    placed_at = subst (λ b. IsPlaced c has.code.names (program_cells c u) u [] b) (sym is.1) has.placed;
+    within = is.2;
+  }
+
+  one_frame : (f : FlatFrame) → IsFrameOf c u (Some f) → (ps : List Pair) (cs : List Suspended) → ps ≡ [] → cs ≡ [] → framed c p.units (all_frames (Some f) ps cs) ≡ frames_at u.name.name (Some f.place)
+  one_frame f is ps cs no_pairs no_callers =
+      ap₂ (λ qs ds. framed c p.units (all_frames (Some f) qs ds)) no_pairs no_callers
+      ∙ ap (λ n. record { unit = n; path = []; place = f.place; deferred = [] } ∷ []) (ap name_of_code (ap (slice_get p.units) is.0 ∙ stands))
+
+  frames_are : (o : Option FlatFrame) → IsFrameOf c u o → (ps : List Pair) (cs : List Suspended) → ps ≡ [] → cs ≡ [] → framed c p.units (all_frames o ps cs) ≡ frames_at u.name.name (place_of o)
+  frames_are None is ps cs no_pairs no_callers = refl
+  frames_are (Some f) is ps cs no_pairs no_callers = one_frame f is ps cs no_pairs no_callers
+
+  -- the values of a store, by its slots
+  values_are : (r : Rows) → Fits (program_cells c u) r → over (seen_view c (Some u) (behind (length (own_cells c u)) r)) (own_view c (Some u) (front (length (own_cells c u)) r)) ≡ view (program_cells c u) r
+  unfolding own_view seen_view
+  values_are r fits = parts_are (own_cells c u) (seen_cells c u) r fits
+
+  -- what a store keeps is the state of its rows and frames
+  state_is : (s : Stored) → Fits (program_cells c u) s.rows → IsFrameOf c u s.running → s.pairs ≡ [] → s.callers ≡ [] → state_by p s ≡ state_of (kept_by c (Some u) s)
+  state_is s fits frame no_pairs no_callers =
+      ap (λ v. record { values = v; frames = framed c p.units (all_frames s.running s.pairs s.callers); result = s.result }) (sym (values_are s.rows fits))
+      ∙ ap (λ fs. record { values = over (kept_by c (Some u) s).written (kept_by c (Some u) s).variables; frames = fs; result = s.result }) (frames_are s.running frame s.pairs s.callers no_pairs no_callers)
+
+  module _ (r : Rows) (f : FlatFrame) (result : Option Content) (scan : IsScanState c u (going r f [] [] result)) (t : State) (leads : step c (state_of (kept_by c (Some u) (going r f [] [] result))) ≡ Next t) (well : Agrees c u t) where
+    abbrev own : IsFramed p has.code.names [] f
+    own = frame_is f scan.frame
+
+    abbrev frame : Frame
+    frame = frame_over c p.units f [] []
+
+    abbrev here : Scene
+    here = record { config = c; unit = u; frame = frame; below = []; values = view (program_cells c u) r; result = result }
+
+    high : has.code.height u.name.name + length {A = Suspended} [] ≤ 16
+    high = let low = has.high in omega (arith, low)
+
+    cells_here : HasCells c (has.code.names u.name.name) (program_cells c u) u [] f.base
+    cells_here = cells_of c has.code.names (program_cells c u) u [] f.base own.placed_at
+
+    name_is : name_of_code (slice_get p.units f.unit) ≡ u.name.name
+    name_is = ap name_of_code own.stands
+
+    -- the definition executes the instruction of the place
+    executes : executed here (instruction_at u.body f.place) ≡ Next t
+    unfolding step
+    executes =
+        ap (λ o. with_unit o (λ v. executed (record { config = c; unit = v; frame = frame; below = []; values = view (program_cells c u) r; result = result }) (instruction_at v.body f.place))) (sym (ap (unit_named c) name_is ∙ program.named))
+        ∙ ap (λ (s : State). step_of c s.values s.result s.frames) (state_is (going r f [] [] result) scan.fits scan.frame refl refl) ∙ leads
+
+    -- what is left is a scan's store again
+    finished : (after : Stored) → next p.units (going r f [] [] result) ≡ Some after → Fits (program_cells c u) after.rows → IsFrameOf c u after.running → after.pairs ≡ [] → after.callers ≡ [] → state_by p after ≡ t
+        → ((q : Text) → own_variable u q ≡ None → is_one_of supported_image_names q ≡ false → get t.values q ≡ get (view (program_cells c u) r) q) → Goes c u (going r f [] [] result)
+    finished after next_is fits frame_so no_pairs no_callers same unseen =
+        let kept = state_is after fits frame_so no_pairs no_callers in
+        record {
+          after = after;
+          next_is = next_is;
+          scan = record { fits = fits; frame = frame_so; callers = no_callers; pairs = no_pairs; agrees = subst (Agrees c u) (sym same ∙ kept) well };
+          step_is = leads ∙ ap Next (sym same ∙ kept);
+          unseen = λ v other q own_none none.
+              let before = ap (λ (m : Values). get m q) (values_are r scan.fits) in
+              let later = ap (λ (s : State). get s.values q) (sym kept ∙ same) in
+              later ∙ unseen q (ap (λ w. own_variable w q) (same_program c u v program other) ∙ own_none) none ∙ sym before;
+        }
+
+    -- behind the last instruction the scan ends
+    ends : slice_get u.body.steps f.place ≡ None → Goes c u (going r f [] [] result)
+    ends none =
+        let ended : Stored = record { rows = r; running = None; pairs = []; callers = []; result = None } in
+        let is : instruction_at u.body f.place ≡ Return Always = ap instruction_or_return none in
+        let same : state_by p ended ≡ t = same_next _ _ (ap (executed here) (sym is) ∙ executes) in
+        finished ended (next_by p has.code f [] [] own tt high tt r scan.fits (Return Always) is result) scan.fits tt refl refl same (λ q own_none unnamed. ap (λ (v : State). get v.values q) (sym same))
+
+    -- a name that an instruction does not name has what it had
+    keeps : (i : Instruction) → IsSupportedInstruction i → IsRunnable c u i → executed here i ≡ Next t → (d : Does c u (has.code.names u.name.name) (program_cells c u) has.code.once frame f.base cells_here [] r scan.fits i result t) → (q : Text) → ¬ Contains (instruction_names i) q
+        → get t.values q ≡ get (view (program_cells c u) r) q
+    keeps i is runs h d q apart = by_kind i is runs h d.after d.left d.effect_is (sym (ap (λ (v : State). get v.values q) (same_next _ _ d.goes))) apart
+      where
+        rows_stay : (after : Rows) → r ≡ after → get t.values q ≡ get (view (program_cells c u) after) q → get t.values q ≡ get (view (program_cells c u) r) q
+        rows_stay after same now = now ∙ ap (λ x. get (view (program_cells c u) x) q) (sym same)
+
+        by_kind : (i : Instruction) → IsSupportedInstruction i → IsRunnable c u i → executed here i ≡ Next t → (after : Rows) (l : Content) → effect (flat (has.code.names u.name.name) c u i) r f.base result ≡ Some (after, l) → get t.values q ≡ get (view (program_cells c u) after) q
+            → ¬ Contains (instruction_names i) q → get t.values q ≡ get (view (program_cells c u) r) q
+        by_kind (Load negated o) is runs h after l e now apart = rows_stay after (same_rows r after _ l e) now
+        by_kind (Store kind to) is runs h after l e now apart = store_apart c u frame.unit f.place [] (view (program_cells c u) r) result kind to is result t q refl h apart
+        by_kind Not is runs h after l e now apart = rows_stay after (same_rows r after _ l e) now
+        by_kind (Operate operator o) is runs h after l e now apart = rows_stay after (same_rows r after _ l e) now
+        by_kind (Invoke function os) is runs h after l e now apart = rows_stay after (same_rows r after _ l (ap (λ o. effect (applies (has.code.names u.name.name) c u o os) r f.base result) (sym runs) ∙ e)) now
+        by_kind (Defer operator first) is runs h after l e now apart = absurd is
+        by_kind Evaluate is runs h after l e now apart = absurd is
+        by_kind (Jump condition label) is runs h after l e now apart = absurd is
+        by_kind (Return condition) is runs h after l e now apart = absurd is
+        by_kind (Call condition instance arguments) is runs h after l e now apart = absurd is
+
+    -- an instruction goes on to the next
+    goes_at : (b : BodyStep) → slice_get u.body.steps f.place ≡ Some b → Goes c u (going r f [] [] result)
+    goes_at b at =
+        let i : Instruction = b.instruction in
+        let is : instruction_at u.body f.place ≡ i = ap instruction_or_return at in
+        let low = (step_supported u.body.steps supported.steps f.place b at).1 in
+        let runs : IsRunnable c u i = subst (IsRunnable c u) is (is_unit.runnable f.place) in
+        let h : executed here i ≡ Next t = ap (executed here) (sym is) ∙ executes in
+        let d = does c u (has.code.names u.name.name) (program_cells c u) has.code.once frame f.base cells_here [] r scan.fits i (goes_so c u i low runs) result t h in
+        let within = slice_get_within u.body.steps f.place b at in
+        finished (going d.after (forward f) [] [] (Some d.left))
+        (next_by p has.code f [] [] own tt high tt r scan.fits i is result ∙ straight (has.code.names u.name.name) c u p.units i low runs r f result ∙ ap (λ o. with_some o (λ e. Some (going e.0 (forward f) [] [] (Some e.1)))) d.effect_is)
+        d.fits_after (scan.frame.0, scan.frame.1, omega (arith, within)) refl refl (same_next _ _ d.goes)
+        (λ q own_none unnamed. keeps i low runs h d q (λ named. declared 21 b.place (unsupported refl (u, b, q, among_units c u program.alone, contained u.body.steps f.place b at, named, (own_none, unnamed), refl))))
+
+    goes_by : Goes c u (going r f [] [] result)
+    goes_by = by_step (slice_get u.body.steps f.place) refl
+      where
+        by_step : (o : Option BodyStep) → slice_get u.body.steps f.place ≡ o → Goes c u (going r f [] [] result)
+        by_step None at = ends at
+        by_step (Some b) at = goes_at b at
+
+  -- a store of a scan that has not ended goes on
+  pub goes : IsAccepted c u → Annotated c → (s : Stored) → IsScanState c u s → place_of s.running ≢ None → Goes c u s
+  goes accepted annotated s scan unended = by_frame s.running refl
+    where
+      by_frame : (o : Option FlatFrame) → s.running ≡ o → Goes c u s
+      by_frame None is = absurd (unended (ap place_of is))
+      by_frame (Some f) is =
+          let same : going s.rows f [] [] s.result ≡ s =
+          ap (λ o. record { rows = s.rows; running = o; pairs = []; callers = []; result = s.result }) (sym is) ∙ ap₂ (λ qs ds. record { rows = s.rows; running = s.running; pairs = qs; callers = ds; result = s.result }) (sym scan.pairs) (sym scan.callers) in
+          let here = subst (IsScanState c u) (sym same) scan in
+          let next = next_of c u _ _ (step_sound c u (in_order c u accepted) annotated (state_of (kept_by c (Some u) (going s.rows f [] [] s.result))) here.agrees (λ e. cc)) in
+          subst (Goes c u) same (goes_by s.rows f s.result here next.0 next.1 next.2)
