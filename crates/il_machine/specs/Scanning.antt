@@ -1,5 +1,5 @@
 -- Programs that run, and the states of their scans (own rules).
-use Rattle.std.specs.Prelude.{◌≡◌, ℕ, ◌≤◌, List, [], ◌∷◌, take, drop, length, ℤ, pos, Option, Some, None, refl, codes, false}
+use Rattle.std.specs.Prelude.{◌≡◌, ℕ, ◌≤◌, List, [], ◌∷◌, ◌++◌, take, drop, length, ℤ, pos, Option, Some, None, refl, codes, false}
 use Rattle.std.specs.Coded.{Coded, code_by, coded×, coded_list}
 use Rattle.il_spec.specs.contracts.tree.Config as config
 use Rattle.il_machine.specs.contracts.verified.UnitCost as unit_cost
@@ -133,6 +133,24 @@ kept_by c o s =
 -- what a store of a task keeps
 abbrev pub kept_of : Config → ℕ → Stored → Kept
 kept_of c task s = kept_by c (program_of c task) s
+
+-- the variables of a task that rows hold, and what rows hold of the image that it sees
+abbrev pub variables_in : Config → ℕ → Rows → Values
+variables_in c task r = own_view c (program_of c task) r
+
+abbrev pub image_in : Config → ℕ → Rows → Values
+image_in c task r = seen_view c (program_of c task) r
+
+-- a row for each slot of the task's variables, and for each of the image that it sees
+abbrev pub FitsOwn : Config → ℕ → Rows → Type 0
+FitsOwn c task r = (u : Organized) × (program_of c task ≡ Some u) × Fits (own_cells c u) r
+
+abbrev pub FitsSeen : Config → ℕ → Rows → Type 0
+FitsSeen c task r = (u : Organized) × (program_of c task ≡ Some u) × Fits (seen_cells c u) r
+
+-- some rows, and others behind them
+abbrev pub joined : Rows → Rows → Rows
+joined first others = rows (first.numbers ++ others.numbers) (first.flags ++ others.flags)
 
 -- WHAT HOLDS OF A SCAN
 
