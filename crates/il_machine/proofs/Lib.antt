@@ -6,3 +6,6 @@ pub mod Calls
 pub mod Steps
 pub mod Over
 pub mod Scans
+pub mod Codes
+pub mod Starts
+pub mod Stepping

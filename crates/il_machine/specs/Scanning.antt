@@ -1,5 +1,5 @@
 -- Programs that run, and the states of their scans (own rules).
-use Rattle.std.specs.Prelude.{◌≡◌, ℕ, ◌≤◌, List, [], ◌∷◌, ◌++◌, take, drop, length, ℤ, pos, Option, Some, None, refl, codes, false}
+use Rattle.std.specs.Prelude.{◌≡◌, ℕ, ◌≤◌, List, [], ◌∷◌, ◌++◌, map, take, drop, length, ℤ, pos, Option, Some, None, refl, codes, false}
 use Rattle.std.specs.Coded.{Coded, code_by, coded×, coded_list}
 use Rattle.il_spec.specs.contracts.tree.Config as config
 use Rattle.il_machine.specs.contracts.verified.UnitCost as unit_cost
@@ -21,10 +21,11 @@ use Rattle.il_run.specs.NameMap.{Text, get, empty, with_entries}
 use Rattle.il_run.specs.State.{Values, Frame, State}
 use Rattle.il_run.specs.Scan.{task_program}
 use Rattle.il_code.specs.Layout.{Rows, rows, Fits, view}
+use Rattle.il_code.specs.declared.flat.UnitCode.{UnitCode}
 use Rattle.il_code.specs.Flattened.{IsPlaced}
 use Rattle.il_code.specs.Coded.{IsCode}
-use Rattle.il_code.specs.Whole.{number_in}
-use Rattle.il_code.specs.Program.{own_cells, seen_cells, program_cells, program_code}
+use Rattle.il_code.specs.Whole.{number_in, unit_code}
+use Rattle.il_code.specs.Program.{own_cells, seen_cells, program_cells, program_names, program_code}
 use Rattle.lift_spec.specs.Snapshot.{program_of}
 use Rattle.il_machine.specs.Held.{HoldsOwn}
 use Rattle.il_machine.specs.Going.{Stored}
@@ -91,6 +92,10 @@ pub record Kept : Type 0 where
 -- the state of a scan that a store keeps
 abbrev pub state_of : Kept → State
 state_of k = record { values = over k.written k.variables; frames = frames_at k.unit k.place; result = k.result }
+
+-- the flat code of a configuration's units, in their order
+abbrev pub flat_units : Config → List UnitCode
+flat_units c = map (unit_code (program_names c) c) c.units
 
 -- THE ROWS OF A STORE
 

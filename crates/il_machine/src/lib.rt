@@ -9,5 +9,6 @@ pub mod verified;
 
 pub use il_run::value::Value;
 pub use il_verify::Checked;
-pub use store::{Stepped, Store};
+pub use rows::Rows;
+pub use store::{Begin, Stepped, Store, step};
 pub use verified::{TaskInfo, UnitCost, UnitInfo, Verified};
