@@ -259,7 +259,7 @@ ordered_short cars floors slots few less =
     (tt, (tt, (tt, (tt, (tt, (slot, (slot, (slot, (slot, (tt, (tt, (tt, (tt, (tt, (tt, (tt, (car, (car, (tt, (tt, (tt, (slot, tt))))))))))))))))))))))
 
 module _ (c : Config) (unbroken : HasNoFault (Broken Declaring c)) (u : ProgramUnit) where
-  image_apart : seen_among c u (ordered c.cars.value c.floors.value c.slots.value) ≡ seen_image c u
+  pub image_apart : seen_among c u (ordered c.cars.value c.floors.value c.slots.value) ≡ seen_image c u
   image_apart = seen-append c u (filter is_common (image_of c.cars.value c.floors.value c.slots.value)) (filter (λ i. not (is_common i)) (image_of c.cars.value c.floors.value c.slots.value))
 
   -- the names of the image stand once (own rule)

@@ -138,7 +138,7 @@ module _ (c : Config) (none : (name : Text) (v : ProgramUnit) → unit_named c n
 
 -- INSTRUCTIONS
 
-limit_is : standard_function (codes "LIMIT") ≡ Some Limited
+pub limit_is : standard_function (codes "LIMIT") ≡ Some Limited
 unfolding standard_function
 limit_is = refl
 
@@ -205,7 +205,7 @@ module _ (c : Config) (u : ProgramUnit) (is : IsFlattened c u) where
           let w = own c block v found in
           let wrong : false ≡ true = sym (ap is_function_block_kind supported.kind) ∙ ap is_function_block (sym (found_only block v w.found)) ∙ w.kind in cc
 
-  own_variables : own_entities u ≡ entities u.variables
+  pub own_variables : own_entities u ≡ entities u.variables
   own_variables = ap₂ (λ i o. entities i ++ entities o ++ entities u.variables) supported.inputs supported.outputs
 
   abbrev image : ProgramUnit → List Entity

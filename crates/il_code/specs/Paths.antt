@@ -109,6 +109,11 @@ car_cells cars floors slots =
 abbrev pub image_cells : Config → List Cell
 image_cells c = number_cells c.cars.value c.floors.value c.slots.value ++ (call_cells (width_of c.slots.value) c.cars.value c.floors.value ++ car_cells c.cars.value c.floors.value c.slots.value)
 
+-- the slots of the image, one part after another
+abbrev pub with_image : Slots → Config → Slots
+with_image s c =
+    with_cells (with_cells (with_cells s (number_cells c.cars.value c.floors.value c.slots.value)) (call_cells (width_of c.slots.value) c.cars.value c.floors.value)) (car_cells c.cars.value c.floors.value c.slots.value)
+
 -- THE CONTAINER
 
 -- What the container of a configuration keeps beside it belongs to its program.

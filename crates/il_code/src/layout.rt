@@ -3,15 +3,27 @@
 ghost use Rattle.std.specs.Prelude.{◌≡◌, ℕ, pos, map, option_map, IfOk, OnOk};
 ghost use Rattle.il_spec.specs.ElementaryTypes.{plain};
 ghost use Rattle.il_rules.specs.Names.{within};
-ghost use Rattle.il_run.specs.Meaning.{initial_value};
+ghost use Rattle.il_run.specs.Meaning.{initial_value, width_of};
 ghost use Rattle.il_code.specs.Cells.{element_cells};
 ghost use Rattle.il_code.specs.Layout.{cell};
-ghost use Rattle.il_code.specs.Paths.{with_cells, with_values, scalar_cells, scalar_values, with_variables, with_openings, number_cells, call_cells, car_cells};
+ghost use Rattle.il_code.specs.Paths.{with_cells, with_values, scalar_cells, scalar_values, with_variables, with_openings, number_cells, call_cells, car_cells, with_image};
+ghost use Rattle.il_code.specs.Making.{IsSmall, laid_out};
+ghost use Rattle.il_code.specs.Resolved.{IsResolved};
 
 use crate::slots::{FirstRows, Slots};
 use il_run::value::Value;
-use il_spec::tree::{Declaration, Elementary, Form, Initial, Literal, Named, Scalar, Subrange};
+use il_spec::tree::{
+    Config, Declaration, Elementary, Form, Initial, Literal, Named, Scalar, Subrange, Unit,
+};
 use std::alloc::{AllocError, Global};
+
+/// The slots of a task with the first rows, and how many of them are the program's own.
+#[derive(Drop)]
+pub struct Layout {
+    pub slots: Slots,
+    pub own: usize,
+    pub first: FirstRows,
+}
 
 // The initial value of a scalar (IEC 61131-3:2003, 2.4.3.2).
 fn initial_value(scalar: Scalar, initial: Option<Initial>) -> Value
@@ -69,8 +81,8 @@ fn add_declaration(
     }
 }
 
-/// The slots of scalar variables, with their initial values.
-pub fn add_variables(
+// The slots of scalar variables, with their initial values.
+fn add_variables(
     alloc: Global,
     slots: &mut Slots,
     first: &mut FirstRows,
@@ -123,8 +135,8 @@ fn add_row(
     Ok(())
 }
 
-/// The slots of the numbers that every program reads.
-pub fn add_numbers(
+// The slots of the numbers that every program reads.
+fn add_numbers(
     alloc: Global,
     slots: &mut Slots,
     cars: i64,
@@ -140,9 +152,9 @@ pub fn add_numbers(
     slots.push(alloc, "RUNLIMIT", within(0, cars))
 }
 
-/// The slots of the calls.
+// The slots of the calls.
 #[tactic(auto, using(crate::proofs::Paired::calls_laid))]
-pub fn add_calls(
+fn add_calls(
     alloc: Global,
     slots: &mut Slots,
     count: u8,
@@ -157,8 +169,8 @@ pub fn add_calls(
     add_row(alloc, slots, "CALLCAR", count, within(0, cars))
 }
 
-/// The slots of what a car's program sees of its car.
-pub fn add_car(
+// The slots of what a car's program sees of its car.
+fn add_car(
     alloc: Global,
     slots: &mut Slots,
     cars: i64,
@@ -178,4 +190,38 @@ pub fn add_car(
     slots.push(alloc, "MOTOR", within(-1, 1))?;
     slots.push(alloc, "OPEN", signal)?;
     slots.push(alloc, "SERVE", within(0, count))
+}
+
+// How many call slots the group has.
+fn slot_count(config: &Config) -> u8
+    requires { IsSmall config.now.slots.value }
+    ensures { result ≡ width_of config.now.slots.value }
+{
+    config.slots.value as u8
+}
+
+// The slots of the image that a car's program sees.
+#[tactic(auto, using(crate::proofs::Made::slots_fit))]
+fn add_image(alloc: Global, slots: &mut Slots, config: &Config) -> Result<(), AllocError>
+    requires { IsResolved config.now }
+    ensures { OnOk result (slots.new ≡ with_image slots.old config.now) }
+{
+    let (cars, floors) = (config.cars.value, config.floors.value);
+    let count = config.slots.value;
+    add_numbers(alloc, slots, cars, floors, count)?;
+    add_calls(alloc, slots, slot_count(config), cars, floors)?;
+    add_car(alloc, slots, cars, floors, count)
+}
+
+/// The slots of a program's task.
+pub fn lay_out(alloc: Global, config: &Config, unit: &Unit) -> Result<Layout, AllocError>
+    requires { IsResolved config.now }
+    ensures { IfOk result (λ l. l ≡ laid_out config.now unit.now) }
+{
+    let mut slots = Slots::new(alloc);
+    let mut first = FirstRows::new(alloc);
+    add_variables(alloc, &mut slots, &mut first, unit.variables.as_slice())?;
+    let own = slots.cells.as_slice().len();
+    add_image(alloc, &mut slots, config)?;
+    Ok(Layout { slots, own, first })
 }

@@ -3,6 +3,7 @@
 ghost use Rattle.std.specs.Prelude.{◌≡◌, [], OnOk};
 ghost use Rattle.il_code.specs.Layout.{rows};
 ghost use Rattle.il_code.specs.Paths.{pushed, with_value};
+ghost use Rattle.il_code.specs.Making.{no_slots};
 
 use crate::flat::Cell;
 use il_run::value::Value;
@@ -21,6 +22,16 @@ pub struct Slots {
 }
 
 impl Slots {
+    /// No slot.
+    pub fn new(alloc: Global) -> Slots
+        ensures { result ≡ no_slots }
+    {
+        Slots {
+            cells: Items::new(alloc),
+            paths: Table::new(alloc),
+        }
+    }
+
     /// Adds a slot at the end.
     pub fn push(&mut self, alloc: Global, path: &str, scalar: Scalar) -> Result<(), AllocError>
         ensures { OnOk result (self.new ≡ pushed self.old path.now scalar) }

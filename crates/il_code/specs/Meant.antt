@@ -1,0 +1,17 @@
+-- What the flat code and the slots of a program mean (own rules).
+use Rattle.std.specs.Prelude.{◌≡◌, []}
+use Rattle.il_spec.specs.declared.tree.Unit.{Unit as ProgramUnit}
+use Rattle.il_spec.specs.declared.tree.Config.{Config}
+use Rattle.il_run.specs.Scan.{opening_variables}
+use Rattle.il_code.specs.Layout.{AreOnce, view}
+use Rattle.il_code.specs.Flattened.{IsPlaced}
+use Rattle.il_code.specs.Coded.{IsCode}
+use Rattle.il_code.specs.Whole.{first_rows}
+use Rattle.il_code.specs.Program.{own_cells, program_cells, own_values, program_names, program_code}
+
+-- The code means the tree; names lead to their variables' slots; no two slots have one path; and the first rows show the variables as they open.
+pub record MeansTree (c : Config) (u : ProgramUnit) : Type 0 where
+  pub code : IsCode (program_code c u)
+  pub is_placed : IsPlaced c (program_names c) (program_cells c u) u [] 0
+  pub once : AreOnce (program_cells c u)
+  pub opening : view (own_cells c u) (first_rows (own_values c u)) ≡ opening_variables c u
