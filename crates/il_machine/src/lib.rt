@@ -7,8 +7,8 @@ pub mod rows;
 pub mod store;
 pub mod verified;
 
+pub use il_code::code::Code;
 pub use il_run::value::Value;
-pub use il_verify::Checked;
 pub use rows::Rows;
 pub use store::{Begin, Stepped, Store, step};
 pub use verified::{TaskInfo, UnitCost, UnitInfo, Verified};
