@@ -1,7 +1,11 @@
 pub mod Budgets
-pub mod Over
 pub mod Listings
-pub mod Steps
+pub mod Slots
 pub mod Does
+pub mod Calls
+pub mod Steps
+pub mod Over
 pub mod Scans
-pub mod Openings
+pub mod Codes
+pub mod Starts
+pub mod Stepping

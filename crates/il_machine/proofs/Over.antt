@@ -1,15 +1,19 @@
--- Values that stand over others.
-use Rattle.std.proofs.Common.{◌≡◌, Bool, true, false, List, [], ◌∷◌, refl, sym, ap, ◌∙◌, cond, Some, None, Option}
+-- Values that stand over others, and rows in two parts.
+use Rattle.std.proofs.Common.{◌≡◌, ℕ, zero, suc, ◌≤◌, Bool, true, false, List, [], ◌∷◌, ◌++◌, take, drop, length, refl, sym, ap, ◌∙◌, cond, Some, None, Option, ℤ, arith}
+use Rattle.std.proofs.lemmas.List.{length-take, length-append}
 use Rattle.std.specs.Prelude.{is_some}
 use Rattle.std.specs.Ordering.{eq_by_cmp}
 use Rattle.std.specs.FinMap.Entries.{find}
 use Rattle.il_rules.specs.Names.{or_else}
+use Rattle.il_rules.specs.Declarations.{declared_limits}
 use Rattle.il_run.specs.declared.value.Value.{Value}
-use Rattle.il_run.specs.NameMap.{Text, order, get, insert, with_entries, get-insert, same_map}
+use Rattle.il_run.specs.NameMap.{Text, order, get, insert, empty, from_entries, with_entries, get-empty, get-insert, same_map}
 use Rattle.il_run.specs.State.{Values}
 use Rattle.il_table.specs.ByText.{HaveSameNames}
-use Rattle.il_machine.specs.Scanning.{over}
 use Rattle.il_table.proofs.Copies.{same_text, same_names-insert}
+use Rattle.il_code.specs.declared.flat.Cell.{Cell}
+use Rattle.il_code.specs.Layout.{Rows, rows, Fits, value_by, view_of, view}
+use Rattle.il_machine.specs.Scanning.{over, front, behind}
 
 or_else_cond : (b : Bool) (v : Value) (o p : Option Value) → cond b (Some v) (or_else o p) ≡ or_else (cond b (Some v) o) p
 or_else_cond true v o p = refl
@@ -33,25 +37,70 @@ over-insert m s k v = same_map _ _ (λ q.
     get-over m (insert s k v) q ∙ ap (λ o. or_else o (get m q)) (get-insert s k v q)
     ∙ sym (or_else_cond (eq_by_cmp order q k) v (get s q) (get m q)) ∙ ap (λ o. cond (eq_by_cmp order q k) (Some v) o) (sym (get-over m s q)) ∙ sym (get-insert (over m s) k v q))
 
-none_of : (o : Option Value) → is_some o ≡ false → o ≡ None
-none_of None h = refl
-none_of (Some x) h = cc
-
-under_cond : (b : Bool) (v : Value) (o p : Option Value) → (b ≡ true → o ≡ None) → or_else o (cond b (Some v) p) ≡ cond b (Some v) (or_else o p)
-under_cond true v o p h = ap (λ x. or_else x (Some v)) (h refl)
-under_cond false v o p h = refl
-
--- a write below, at a path that nothing above has, is a write
-pub over-insert_under : (m s : Values) (k : Text) (v : Value) → is_some (get s k) ≡ false → over (insert m k v) s ≡ insert (over m s) k v
-over-insert_under m s k v none = same_map _ _ (λ q.
-    get-over (insert m k v) s q ∙ ap (λ o. or_else (get s q) o) (get-insert m k v q)
-    ∙ under_cond (eq_by_cmp order q k) v (get s q) (get m q) (λ b. ap (get s) (same_text q k b) ∙ none_of (get s k) none)
-    ∙ ap (λ o. cond (eq_by_cmp order q k) (Some v) o) (sym (get-over m s q)) ∙ sym (get-insert (over m s) k v q))
-
--- what nothing above has is found below
-pub there_under : (m s : Values) (k : Text) → is_some (get s k) ≡ false → is_some (get (over m s) k) ≡ true → is_some (get m k) ≡ true
-there_under m s k none there = ap is_some (sym (ap (λ o. or_else o (get m k)) (none_of (get s k) none)) ∙ sym (get-over m s k)) ∙ there
-
 -- a write at a path that is there keeps the paths
 pub keeps_paths : (m : Values) (k : Text) (v : Value) → is_some (get m k) ≡ true → HaveSameNames m (insert m k v)
 keeps_paths m k v there = λ q. sym (same_names-insert m m k v there (λ _. refl) q)
+
+or_none : (o : Option Value) → or_else o None ≡ o
+or_none None = refl
+or_none (Some v) = refl
+
+found_in : (es : List (Text × Value)) (q : Text) → get (from_entries es) q ≡ find order q es
+found_in [] q = get-empty q
+found_in (e ∷ es) q = get-insert (from_entries es) e.0 e.1 q ∙ ap (λ o. cond (eq_by_cmp order q e.0) (Some e.1) o) (found_in es q)
+
+found_is : (m : Values) (q : Text) → find order q m.list ≡ get m q
+unfolding get
+found_is m q = refl
+
+-- a map is that of its entries
+pub entries_are : (m : Values) → from_entries m.list ≡ m
+entries_are m = same_map _ _ (λ q. found_in m.list q ∙ found_is m q)
+
+-- ROWS IN TWO PARTS
+
+over_empty : (m : Values) → over m empty ≡ m
+unfolding empty
+over_empty m = refl
+
+view_parts : (own seen : List Cell) (zs : List ℤ) (bs : List Bool) → length zs ≡ length (own ++ seen) → length bs ≡ length (own ++ seen)
+    → over (view_of seen (drop (length own) zs) (drop (length own) bs)) (view_of own (take (length own) zs) (take (length own) bs)) ≡ view_of (own ++ seen) zs bs
+view_parts [] seen zs bs n f = over_empty (view_of seen zs bs)
+view_parts (c ∷ cs) seen [] bs n f = cc
+view_parts (c ∷ cs) seen (z ∷ zs) [] n f = cc
+view_parts (c ∷ cs) seen (z ∷ zs) (b ∷ bs) n f =
+    over-insert (view_of seen (drop (length cs) zs) (drop (length cs) bs)) (view_of cs (take (length cs) zs) (take (length cs) bs)) c.path (value_by (declared_limits c.scalar) z b)
+    ∙ ap (λ m. insert m c.path (value_by (declared_limits c.scalar) z b)) (view_parts cs seen zs bs (cc) (cc))
+
+-- the values of all slots are those of the first ones over those of the others
+pub parts_are : (own seen : List Cell) (r : Rows) → Fits (own ++ seen) r → over (view seen (behind (length own) r)) (view own (front (length own) r)) ≡ view (own ++ seen) r
+parts_are own seen r fits = view_parts own seen r.numbers r.flags fits.numbers fits.flags
+
+front_length : {A : Type 0} (n m : ℕ) (xs : List A) → n ≤ m → length xs ≡ m → length (take n xs) ≡ n
+front_length n m xs h is = let l = length-take n xs in omega (arith, is, l, h)
+
+-- the first rows fit the first slots
+pub front_fits : (own seen : List Cell) (r : Rows) → Fits (own ++ seen) r → Fits own (front (length own) r)
+front_fits own seen r fits =
+    let n = length-append own seen in
+    let low : length own ≤ length (own ++ seen) = omega (arith, n) in
+    record { numbers = front_length (length own) (length (own ++ seen)) r.numbers low fits.numbers; flags = front_length (length own) (length (own ++ seen)) r.flags low fits.flags }
+
+same_some : (b : Bool) (v w : Value) (o p : Option Value) → is_some o ≡ is_some p → is_some (cond b (Some v) o) ≡ is_some (cond b (Some w) p)
+same_some true v w o p h = refl
+same_some false v w o p h = h
+
+same_names_of : (cells : List Cell) (zs ys : List ℤ) (bs ds : List Bool) → length zs ≡ length cells → length bs ≡ length cells → length ys ≡ length cells → length ds ≡ length cells → HaveSameNames (view_of cells zs bs) (view_of cells ys ds)
+same_names_of [] zs ys bs ds n f m g = λ q. refl
+same_names_of (c ∷ cs) [] ys bs ds n f m g = cc
+same_names_of (c ∷ cs) (z ∷ zs) [] bs ds n f m g = cc
+same_names_of (c ∷ cs) (z ∷ zs) (y ∷ ys) [] ds n f m g = cc
+same_names_of (c ∷ cs) (z ∷ zs) (y ∷ ys) (b ∷ bs) [] n f m g = cc
+same_names_of (c ∷ cs) (z ∷ zs) (y ∷ ys) (b ∷ bs) (a ∷ ds) n f m g = λ q.
+    ap is_some (get-insert (view_of cs zs bs) c.path (value_by (declared_limits c.scalar) z b) q)
+    ∙ same_some (eq_by_cmp order q c.path) (value_by (declared_limits c.scalar) z b) (value_by (declared_limits c.scalar) y a) (get (view_of cs zs bs) q) (get (view_of cs ys ds) q) (same_names_of cs zs ys bs ds (cc) (cc) (cc) (cc) q)
+    ∙ ap is_some (sym (get-insert (view_of cs ys ds) c.path (value_by (declared_limits c.scalar) y a) q))
+
+-- rows of the same slots hold the same paths
+pub same_names : (cells : List Cell) (r s : Rows) → Fits cells r → Fits cells s → HaveSameNames (view cells r) (view cells s)
+same_names cells r s fits also = same_names_of cells r.numbers s.numbers r.flags s.flags fits.numbers fits.flags also.numbers also.flags

@@ -1,31 +1,34 @@
--- The states of a scan of one program on a straight line (own rules).
-use Rattle.std.specs.Prelude.{◌≡◌, ℕ, ◌≤◌, Bool, List, [], ◌∷◌, length, ℤ, pos, Option, Some, None, refl, codes, slice_get, false}
-use Rattle.std.specs.Coded.{Coded, code_by, coded×, coded_list, coded_ℕ, coded_option}
+-- Programs that run, and the states of their scans (own rules).
+use Rattle.std.specs.Prelude.{◌≡◌, ℕ, ◌≤◌, List, [], ◌∷◌, ◌++◌, map, take, drop, length, ℤ, pos, Option, Some, None, refl, codes, false}
+use Rattle.std.specs.Coded.{Coded, code_by, coded×, coded_list}
 use Rattle.il_spec.specs.contracts.tree.Config as config
 use Rattle.il_machine.specs.contracts.verified.UnitCost as unit_cost
-use Rattle.il_run.specs.contracts.value.Content as content_row
 use Rattle.il_spec.specs.declared.tree.Config.{Config}
 use Rattle.il_spec.specs.declared.tree.Unit.{Unit as Organized}
-use Rattle.il_interval.specs.Interval.{IsIn}
-use Rattle.il_interval.specs.declared.Interval.{Interval}
-use Rattle.il_rules.specs.declared.symbol.Symbol.{Symbol}
 use Rattle.il_rules.specs.Names.{own_variable, is_one_of}
-use Rattle.il_rules.specs.Symbols.{IsProgram, symbol_of}
+use Rattle.il_rules.specs.Symbols.{IsProgram}
 use Rattle.il_rules.specs.Written.{IsWritten}
 use Rattle.il_rules.specs.Subset.{IsSupported, supported_image_names}
 use Rattle.il_verify.specs.Resolved.{IsChecked}
+use Rattle.il_sound.specs.Accepted.{IsAccepted}
+use Rattle.il_sound.specs.Agreement.{Agrees}
+use Rattle.il_sound.specs.Listed.{seen_scalars}
+use Rattle.il_run.specs.Ranges.{HaveValues}
 use Rattle.il_machine.specs.declared.verified.UnitCost.{UnitCost}
-use Rattle.il_run.specs.declared.value.Value.TheVariants.{Integer}
+use Rattle.il_machine.specs.declared.frames.Frame.{Frame as FlatFrame}
 use Rattle.il_run.specs.declared.value.Content.{Content}
-use Rattle.il_run.specs.NameMap.{Text, get, with_entries}
-use Rattle.il_run.specs.State.{Values, Frame, State, values_code}
-use Rattle.il_run.specs.Step.{truth, content}
-use Rattle.il_run.specs.declared.known.Known.{Known}
-use Rattle.il_run.specs.declared.known.Known.TheVariants.{Flag, Ranged}
-use Rattle.il_run.specs.Annotation.{Knowledge, Annotation, IsAnnotated, Annotated}
+use Rattle.il_run.specs.NameMap.{Text, get, empty, with_entries}
+use Rattle.il_run.specs.State.{Values, Frame, State}
 use Rattle.il_run.specs.Scan.{task_program}
-use Rattle.il_opening.specs.Held.{HasOf, HoldsOwn}
-use Rattle.il_table.specs.ByText.{HaveSameNames}
+use Rattle.il_code.specs.Layout.{Rows, rows, Fits, view}
+use Rattle.il_code.specs.declared.flat.UnitCode.{UnitCode}
+use Rattle.il_code.specs.Flattened.{IsPlaced}
+use Rattle.il_code.specs.Coded.{IsCode}
+use Rattle.il_code.specs.Whole.{number_in, unit_code}
+use Rattle.il_code.specs.Program.{own_cells, seen_cells, program_cells, program_names, program_code}
+use Rattle.lift_spec.specs.Snapshot.{program_of}
+use Rattle.il_machine.specs.Held.{HoldsOwn}
+use Rattle.il_machine.specs.Going.{Stored}
 
 -- A verified configuration as contracts see it: the tree, and what each unit costs.
 pub record Program : Type 0 where
@@ -33,8 +36,8 @@ pub record Program : Type 0 where
   pub costs : List UnitCost
 
 -- its code
-abbrev pub program_code : Coded Program
-program_code = code_by (Config × List UnitCost) (coded× config.the_row.coded (coded_list unit_cost.the_row.coded)) (λ p. (p.config, p.costs)) (λ c. record { config = c.0; costs = c.1 }) (λ _. refl)
+abbrev pub verified_code : Coded Program
+verified_code = code_by (Config × List UnitCost) (coded× config.the_row.coded (coded_list unit_cost.the_row.coded)) (λ p. (p.config, p.costs)) (λ c. record { config = c.0; costs = c.1 }) (λ _. refl)
 
 -- a whole number in a range
 pub record IsWithin (lo hi : ℕ) (z : ℤ) : Type 0 where
@@ -54,13 +57,20 @@ pub record IsTasked (c : Config) (u : Organized) : Type 0 where
   pub car : task_program c (codes "CAR1") ≡ Some u
   pub group : task_program c (codes "GROUP") ≡ None
 
--- a configuration that the machine runs: it is as a text spells it, supported and checked, its program is that of its one task, and its group has one car
+-- The flat code means the tree, and the program's variables stand from the first slot on.
+pub record HasCode (c : Config) (u : Organized) : Type 0 where
+  pub code : IsCode (program_code c u)
+  pub placed : IsPlaced c code.names (program_cells c u) u [] 0
+  pub high : code.height u.name.name ≤ 16
+
+-- a configuration that the machine runs: it is as a text spells it, supported, accepted and checked, its program is that of its one task, and its group has one car
 pub record IsRunnable (c : Config) : Type 0 where
   pub written : IsWritten c
   pub supported : IsSupported c
   pub checked : IsChecked c
   pub tasked : IsTasked c checked.resolved.program
   pub sizes : HasSizes c
+  pub accepted : IsAccepted c checked.resolved.program
 
 -- the frames of a scan of the unit: one at a place, none once the scan has ended
 abbrev pub frames_at : Text → Option ℕ → List Frame
@@ -71,25 +81,7 @@ frames_at unit (Some place) = record { unit = unit; path = []; place = place; de
 abbrev pub over : Values → Values → Values
 over values above = with_entries values above.list
 
--- the two maps in which a scan's values stand: the task's variables, and the image under them
-pub record Cells : Type 0 where
-  pub variables : Values
-  pub written : Values
-
--- its code
-abbrev pub cells_code : Coded Cells
-cells_code = code_by (Values × Values) (coded× values_code values_code) (λ c. (c.variables, c.written)) (λ p. record { variables = p.0; written = p.1 }) (λ _. refl)
-
--- the values that a scan sees; a name of the program hides one of the image
-abbrev pub seen : Cells → Values
-seen c = over c.written c.variables
-
--- the same paths in both maps
-pub record KeepsPaths (a b : Cells) : Type 0 where
-  pub variables : HaveSameNames a.variables b.variables
-  pub written : HaveSameNames a.written b.written
-
--- What a store keeps: the program's name, the task's variables, the image as the scan sees it, the place and the current result.
+-- What a scan keeps, by names: the program's name, the task's variables, the image as the scan sees it, the place and the current result.
 pub record Kept : Type 0 where
   pub unit : Text
   pub variables : Values
@@ -97,64 +89,100 @@ pub record Kept : Type 0 where
   pub place : Option ℕ
   pub result : Option Content
 
--- its code
-abbrev pub kept_code : Coded Kept
-kept_code =
-    code_by (Text × ((Values × Values) × (Option ℕ × Option Content))) (coded× (coded_list coded_ℕ) (coded× (coded× values_code values_code) (coded× (coded_option coded_ℕ) (coded_option content_row.the_row.coded))))
-    (λ k. (k.unit, ((k.variables, k.written), (k.place, k.result)))) (λ c. record { unit = c.0; variables = c.1.0.0; written = c.1.0.1; place = c.1.1.0; result = c.1.1.1 }) (λ _. refl)
-
 -- the state of a scan that a store keeps
 abbrev pub state_of : Kept → State
 state_of k = record { values = over k.written k.variables; frames = frames_at k.unit k.place; result = k.result }
 
+-- the flat code of a configuration's units, in their order
+abbrev pub flat_units : Config → List UnitCode
+flat_units c = map (unit_code (program_names c) c) c.units
+
+-- THE ROWS OF A STORE
+
+-- the first rows, and those behind them
+abbrev pub front : ℕ → Rows → Rows
+front n r = rows (take n r.numbers) (take n r.flags)
+
+abbrev pub behind : ℕ → Rows → Rows
+behind n r = rows (drop n r.numbers) (drop n r.flags)
+
+-- how many slots a program's own variables take
+abbrev pub own_count : Config → Option Organized → ℕ
+own_count c None = 0
+own_count c (Some u) = length (own_cells c u)
+
+-- the variables that rows hold for a program, and what they hold of the image
+unfoldable pub own_view : Config → Option Organized → Rows → Values
+own_view c None r = empty
+own_view c (Some u) r = view (own_cells c u) r
+
+unfoldable pub seen_view : Config → Option Organized → Rows → Values
+seen_view c None r = empty
+seen_view c (Some u) r = view (seen_cells c u) r
+
+-- the name of a program
+abbrev pub name_of : Option Organized → Text
+name_of None = []
+name_of (Some u) = u.name.name
+
+-- the place of the frame that runs
+abbrev pub place_of : Option FlatFrame → Option ℕ
+place_of None = None
+place_of (Some f) = Some f.place
+
+-- what a store keeps, by the program
+abbrev pub kept_by : Config → Option Organized → Stored → Kept
+kept_by c o s =
+    record { unit = name_of o; variables = own_view c o (front (own_count c o) s.rows); written = seen_view c o (behind (own_count c o) s.rows); place = place_of s.running; result = s.result }
+
+-- what a store of a task keeps
+abbrev pub kept_of : Config → ℕ → Stored → Kept
+kept_of c task s = kept_by c (program_of c task) s
+
+-- the variables of a task that rows hold, and what rows hold of the image that it sees
+abbrev pub variables_in : Config → ℕ → Rows → Values
+variables_in c task r = own_view c (program_of c task) r
+
+abbrev pub image_in : Config → ℕ → Rows → Values
+image_in c task r = seen_view c (program_of c task) r
+
+-- a row for each slot of the task's variables, and for each of the image that it sees
+abbrev pub FitsOwn : Config → ℕ → Rows → Type 0
+FitsOwn c task r = (u : Organized) × (program_of c task ≡ Some u) × Fits (own_cells c u) r
+
+abbrev pub FitsSeen : Config → ℕ → Rows → Type 0
+FitsSeen c task r = (u : Organized) × (program_of c task ≡ Some u) × Fits (seen_cells c u) r
+
+-- some rows, and others behind them
+abbrev pub joined : Rows → Rows → Rows
+joined first others = rows (first.numbers ++ others.numbers) (first.flags ++ others.flags)
+
 -- WHAT HOLDS OF A SCAN
 
--- each scalar name of the program has a value of its declared set
-abbrev pub HasDeclared : Config → Organized → Values → Type 0
-HasDeclared c u values = (name : Text) (s : Symbol) → symbol_of c u name ≡ Some s → HasOf values name s.scalar
+-- the frame of a program: from the first slot, at a place within the body
+abbrev pub IsFrameOf : Config → Organized → Option FlatFrame → Type 0
+IsFrameOf c u None = Unit {0}
+IsFrameOf c u (Some f) = (f.unit ≡ number_in c.units u.name.name) × (f.base ≡ 0) × (f.place ≤ length u.body.steps)
 
--- the content is one that is known: a Boolean, or a number of the interval
-abbrev pub IsKnown : Known → Content → Type 0
-IsKnown Flag c = (b : Bool) × (c ≡ truth b)
-IsKnown (Ranged e i) c = (z : ℤ) × (c ≡ content e (Integer z)) × IsIn i z
+-- A store of a scan of a program: a row for each slot, its one frame, and a value of its declared set for each variable.
+pub record IsScanState (c : Config) (u : Organized) (s : Stored) : Type 0 where
+  pub fits : Fits (program_cells c u) s.rows
+  pub frame : IsFrameOf c u s.running
+  pub callers : s.callers ≡ []
+  pub pairs : s.pairs ≡ []
+  pub agrees : Agrees c u (state_of (kept_by c (Some u) s))
 
--- the current result is as is known of it
-abbrev pub IsKnownResult : Option Known → Option Content → Type 0
-IsKnownResult None result = Unit {0}
-IsKnownResult (Some k) result = (c : Content) × (result ≡ Some c) × IsKnown k c
-
--- values and result are as is known of them
-pub record Agrees (k : Knowledge) (values : Values) (result : Option Content) : Type 0 where
-  pub variables : (name : Text) (i : Interval) → get k.variables name ≡ Some i → (z : ℤ) × (get values name ≡ Some (Integer z)) × IsIn i z
-  pub left : IsKnownResult k.result result
-
--- at a place they are as an annotation of the program knows them
-pub record AgreesAt (c : Config) (u : Organized) (at : ℕ) (values : Values) (result : Option Content) : Type 0 where
-  pub annotation : Annotation
-  pub is : IsAnnotated c u annotation
-  pub known : Knowledge
-  pub stands : slice_get annotation at ≡ Some (Some known)
-  pub agrees : Agrees known values result
-
--- A store of a scan of an annotated unit: where it stands, a value of its declared set for each name, and what an annotation knows.
-pub record IsScanState (c : Config) (u : Organized) (k : Kept) : Type 0 where
-  pub annotated : Annotated c
-  pub unit : k.unit ≡ u.name.name
-  pub within : (at : ℕ) → k.place ≡ Some at → at ≤ length u.body.steps
-  pub declared : HasDeclared c u (over k.written k.variables)
-  pub agrees : (at : ℕ) → k.place ≡ Some at → AgreesAt c u at (over k.written k.variables) k.result
-
--- a store of a scan of the configuration's program
-abbrev pub IsScanOf : Config → Kept → Type 0
-IsScanOf c k = (u : Organized) × IsProgram c u × IsScanState c u k
+-- a store of a scan of a task's program
+abbrev pub IsScanOf : Config → ℕ → Stored → Type 0
+IsScanOf c task s = (u : Organized) × (program_of c task ≡ Some u) × IsScanState c u s
 
 -- what a scan is given of the image has a value of its declared set for each image name that the program sees
 abbrev pub HasImage : Config → Values → Type 0
-HasImage c image = (u : Organized) → IsProgram c u → (name : Text) (s : Symbol) → own_variable u name ≡ None → symbol_of c u name ≡ Some s → HasOf image name s.scalar
+HasImage c image = (u : Organized) → IsProgram c u → HaveValues image (seen_scalars c u)
 
 -- the variables of a task are those of the program, each with a value of its declared set
 abbrev pub OwnsDeclared : Config → Values → Type 0
-OwnsDeclared c variables = (u : Organized) → IsProgram c u → HoldsOwn u variables
+OwnsDeclared c variables = (u : Organized) → IsProgram c u → HoldsOwn c u variables
 
 -- a name that the program can't name so far has what it had
 abbrev pub KeepsUnseen : Config → Values → Values → Type 0

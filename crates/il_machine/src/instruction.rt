@@ -1,22 +1,15 @@
-// One instruction.
+// One instruction that goes on to the next.
 
-ghost use Rattle.std.specs.Prelude.{◌≡◌, IsSome, Some, ◌+ℤ◌};
+ghost use Rattle.std.specs.Prelude.{◌≡◌, IsSome, Some};
 ghost use Rattle.std.specs.Int.{int_min, int_max};
 ghost use Rattle.il_run.specs.Step.{logic, negated_if, truth, content};
 ghost use Rattle.il_run.specs.declared.value.Value.TheVariants.{Integer};
-ghost use Rattle.il_spec.specs.declared.tree.Reference.TheVariants.{Literal as OfLiteral};
-ghost use Rattle.il_machine.specs.Scanning.{seen, KeepsPaths};
-ghost use Rattle.il_run.specs.NameMap as map;
-ghost use Rattle.il_machine.specs.Effect.{symbol_in, name_content, with_some, boolean_of, number_of, literal_content, operand_content, loaded_as, loaded, put_down, stored, number_left, computed, operated, limited, invoked, effect};
+ghost use Rattle.il_machine.specs.Effect.{with_some, place, operand, number_left, computed, operated, limited, applied, loaded, stored, effect, from_base};
 
-use crate::cells::Cells;
-use crate::verified::Verified;
-use il_rules::elementary::has_value;
+use crate::rows::{Rows, boolean_of, number_of};
+use il_code::flat::{Flat, Function, Operand, Slot};
 use il_run::value::{Content, Value};
-use il_spec::tree::{
-    Arithmetic, Elementary, Instruction, Literal, Logic, Operand, Operator, Reference,
-    Store as StoreKind,
-};
+use il_spec::tree::{Arithmetic, Elementary, Logic, Operator, Store};
 
 // A Boolean with its type.
 fn truth(value: bool) -> Content
@@ -56,126 +49,6 @@ fn connected(kind: Logic, left: bool, right: bool) -> bool
     }
 }
 
-// The Boolean of a value.
-fn boolean_of(value: Value) -> bool
-    requires { IsSome (boolean_of value) }
-    ensures { boolean_of value ≡ Some result }
-{
-    match value {
-        Value::Boolean(truth) => truth,
-        Value::Integer(_) => unreachable!(),
-    }
-}
-
-// The number of a value.
-fn number_of(value: Value) -> i64
-    requires { IsSome (number_of value) }
-    ensures { number_of value ≡ Some result }
-{
-    match value {
-        Value::Boolean(_) => unreachable!(),
-        Value::Integer(number) => number,
-    }
-}
-
-// A literal; a bare one has the type that is wanted.
-fn literal(wanted: Elementary, literal: Literal) -> Content
-    requires { IsSome (literal_content wanted literal) }
-    ensures { literal_content wanted literal ≡ Some result }
-{
-    match literal {
-        Literal::Truth(value) => truth(value),
-        Literal::Bare(number) => content(wanted, number),
-        Literal::Whole(written, number) => content(written, number),
-        Literal::Time(_) => unreachable!(),
-    }
-}
-
-// The value of a variable, with its type.
-fn variable(verified: &Verified, cells: &Cells, name: &str) -> Content
-    requires { IsSome (name_content (symbol_in verified.now.config name.now) (map.get (seen cells.now) name.now)) }
-    ensures { name_content (symbol_in verified.now.config name.now) (map.get (seen cells.now) name.now) ≡ Some result }
-{
-    match (verified.symbol(name), cells.get(name)) {
-        (Some(symbol), Some(value)) => Content {
-            elementary: symbol.scalar.elementary,
-            value,
-        },
-        _ => unreachable!(),
-    }
-}
-
-// What an operand gives.
-fn operand(verified: &Verified, cells: &Cells, wanted: Elementary, reference: &Reference) -> Content
-    requires { IsSome (operand_content verified.now.config (seen cells.now) wanted reference.now) }
-    ensures { operand_content verified.now.config (seen cells.now) wanted reference.now ≡ Some result }
-{
-    match reference {
-        Reference::Literal(written) => literal(wanted, *written),
-        Reference::Variable(name) => variable(verified, cells, name.as_str()),
-        _ => unreachable!(),
-    }
-}
-
-// The type that a loaded literal has: a bare one INT where it fits, otherwise DINT.
-fn loaded_as(reference: &Reference) -> Elementary
-    ensures { result ≡ loaded_as reference.now }
-{
-    match reference {
-        Reference::Literal(literal) => type_of(*literal),
-        _ => Elementary::Int,
-    }
-}
-
-// The type of a literal.
-fn type_of(literal: Literal) -> Elementary
-    ensures { result ≡ loaded_as (OfLiteral literal) }
-{
-    match literal {
-        Literal::Truth(_) => Elementary::Bool,
-        Literal::Bare(number) if has_value(Elementary::Int, number) => Elementary::Int,
-        Literal::Bare(_) => Elementary::Dint,
-        Literal::Whole(written, _) => written,
-        Literal::Time(_) => Elementary::Time,
-    }
-}
-
-// What a load leaves of an operand.
-fn loaded(negated: bool, operand: Content) -> Content
-    requires { IsSome (loaded negated operand) }
-    ensures { loaded negated operand ≡ Some result }
-{
-    if negated {
-        truth(!boolean_of(operand.value))
-    } else {
-        operand
-    }
-}
-
-// What a store puts down of the current result.
-fn put_down(kind: StoreKind, before: Content) -> Content
-    requires { IsSome (put_down kind before) }
-    ensures { put_down kind before ≡ Some result }
-{
-    match kind {
-        StoreKind::Plain => before,
-        StoreKind::Negated => truth(!boolean_of(before.value)),
-        StoreKind::Set | StoreKind::Reset => unreachable!(),
-    }
-}
-
-// A store at a place.
-fn store(cells: &mut Cells, reference: &Reference, put: Content)
-    requires { IsSome (stored (seen cells.old) reference.now put) }
-    ensures stored { stored (seen cells.old) reference.now put ≡ Some (seen cells.new) }
-    ensures paths { KeepsPaths cells.old cells.new }
-{
-    match reference {
-        Reference::Variable(name) => cells.set(name.as_str(), put.value),
-        _ => unreachable!(),
-    }
-}
-
 // The sum or the difference of two numbers, in a type that has it.
 fn computed(kind: Arithmetic, elementary: Elementary, left: i64, right: i64) -> Content
     requires { IsSome (with_some (computed kind left right) (λ z. number_left elementary z)) }
@@ -189,7 +62,7 @@ fn computed(kind: Arithmetic, elementary: Elementary, left: i64, right: i64) -> 
 }
 
 // `left OP right`
-fn operated(operator: Operator, left: Content, right: Content) -> Content
+pub fn operated(operator: Operator, left: Content, right: Content) -> Content
     requires { IsSome (operated operator left right) }
     ensures { operated operator left right ≡ Some result }
 {
@@ -209,6 +82,18 @@ fn operated(operator: Operator, left: Content, right: Content) -> Content
     }
 }
 
+// What a load leaves of an operand.
+fn loaded(negated: bool, operand: Content) -> Content
+    requires { IsSome (loaded negated operand) }
+    ensures { loaded negated operand ≡ Some result }
+{
+    if negated {
+        truth(!boolean_of(operand.value))
+    } else {
+        operand
+    }
+}
+
 // LIMIT(MN, IN, MX) = MIN(MAX(IN, MN), MX)
 fn limited(least: Content, input: Content, most: Content) -> Content
     requires { IsSome (limited least input most) }
@@ -218,70 +103,118 @@ fn limited(least: Content, input: Content, most: Content) -> Content
     content(least.elementary, raised.min(number_of(most.value)))
 }
 
-// LIMIT of the current result and two operands.
-fn invoked(verified: &Verified, cells: &Cells, first: Content, operands: &[Operand]) -> Content
-    requires { IsSome (invoked verified.now.config (seen cells.now) first operands.now) }
-    ensures { invoked verified.now.config (seen cells.now) first operands.now ≡ Some result }
+// A standard function of the current result and further operands.
+fn applied(
+    function: Function,
+    rows: &Rows,
+    base: usize,
+    first: Content,
+    operands: &[Operand],
+) -> Content
+    requires { IsSome (applied function rows.now base first operands.now) }
+    ensures { applied function rows.now base first operands.now ≡ Some result }
 {
-    match operands {
-        [input, most] => {
-            let wanted = first.elementary;
-            limited(
-                first,
-                operand(verified, cells, wanted, &input.reference),
-                operand(verified, cells, wanted, &most.reference),
-            )
+    match (function, operands) {
+        (Function::Limit, [input, most]) => limited(
+            first,
+            operand(rows, base, first.elementary, input),
+            operand(rows, base, first.elementary, most),
+        ),
+        _ => unreachable!(),
+    }
+}
+
+/// What an operand gives.
+pub fn operand(rows: &Rows, base: usize, wanted: Elementary, from: &Operand) -> Content
+    requires { IsSome (operand rows.now base wanted from.now) }
+    ensures { operand rows.now base wanted from.now ≡ Some result }
+{
+    match *from {
+        Operand::Constant(constant) => constant,
+        Operand::Bare(number) => content(wanted, number),
+        Operand::At(slot) => rows.read(base, slot),
+        Operand::Element {
+            first,
+            bounds,
+            index,
+        } => rows.read(rows.element(base, bounds, index), first),
+        Operand::Outside => unreachable!(),
+    }
+}
+
+/// A store into the variable of an operand.
+pub fn store(rows: &mut Rows, base: usize, kind: Store, target: &Operand, put: Content)
+    requires { IsSome (with_some (place rows.old base target.now) (λ p. stored kind rows.old p put)) }
+    ensures { with_some (place rows.old base target.now) (λ p. stored kind rows.old p put) ≡ Some rows.new }
+{
+    match *target {
+        Operand::At(slot) => put_down(rows, base, slot, kind, put),
+        Operand::Element {
+            first,
+            bounds,
+            index,
+        } => {
+            let at = rows.element(base, bounds, index);
+            put_down(rows, at, first, kind, put);
         }
         _ => unreachable!(),
     }
 }
 
-/// What an instruction does to the values, and the current result that it leaves (IEC 61131-3:2003, 3.2.2).
-pub fn exec(
-    verified: &Verified,
-    cells: &mut Cells,
-    result_before: Option<Content>,
-    instruction: &Instruction,
-) -> Content
-    requires { IsSome (effect verified.now.config instruction.now (seen cells.old) result_before) }
-    ensures effect { effect verified.now.config instruction.now (seen cells.old) result_before ≡ Some (seen cells.new, result) }
-    ensures paths { KeepsPaths cells.old cells.new }
+// A store at a slot.
+fn put_down(rows: &mut Rows, base: usize, slot: Slot, kind: Store, put: Content)
+    requires { IsSome (stored kind rows.old (from_base base slot) put) }
+    ensures { stored kind rows.old (from_base base slot) put ≡ Some rows.new }
 {
-    match (instruction, result_before) {
+    match kind {
+        Store::Plain => rows.write(base, slot, put),
+        Store::Negated => rows.write(base, slot, truth(!boolean_of(put.value))),
+        Store::Set => {
+            if boolean_of(put.value) {
+                rows.write(base, slot, truth(true));
+            }
+        }
+        Store::Reset => {
+            if boolean_of(put.value) {
+                rows.write(base, slot, truth(false));
+            }
+        }
+    }
+}
+
+/// What an instruction does to the rows, and the current result that it leaves.
+pub fn exec(rows: &mut Rows, base: usize, before: Option<Content>, instruction: &Flat) -> Content
+    requires { IsSome (effect instruction.now rows.old base before) }
+    ensures { effect instruction.now rows.old base before ≡ Some (rows.new, result) }
+{
+    match (instruction, before) {
         (
-            Instruction::Load {
+            Flat::Load {
                 negated,
                 operand: from,
             },
             _,
-        ) => loaded(
-            *negated,
-            operand(verified, cells, loaded_as(&from.reference), &from.reference),
-        ),
+        ) => loaded(*negated, operand(rows, base, Elementary::Int, from)),
         (
-            Instruction::Store {
+            Flat::Store {
                 store: kind,
                 target,
             },
-            Some(before),
+            Some(left),
         ) => {
-            store(cells, &target.reference, put_down(*kind, before));
-            before
+            store(rows, base, *kind, target, left);
+            left
         }
-        (Instruction::Not, Some(before)) => loaded(true, before),
+        (Flat::Not, Some(left)) => loaded(true, left),
         (
-            Instruction::Operate {
+            Flat::Operate {
                 operator,
                 operand: from,
             },
-            Some(before),
-        ) => operated(
-            *operator,
-            before,
-            operand(verified, cells, before.elementary, &from.reference),
-        ),
-        (Instruction::Invoke { operands, .. }, Some(before)) => {
-            invoked(verified, cells, before, operands.as_slice())
+            Some(left),
+        ) => operated(*operator, left, operand(rows, base, left.elementary, from)),
+        (Flat::Apply { function, operands }, Some(left)) => {
+            applied(*function, rows, base, left, operands.as_slice())
         }
         _ => unreachable!(),
     }

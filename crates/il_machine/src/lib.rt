@@ -1,16 +1,14 @@
-//! The machine: it runs the tasks' programs, on ordered maps from paths to values.
+//! The machine: it runs the tasks' programs, as flat code on rows of slots.
 #![tactic(auto)]
 
-mod cells;
+pub mod frames;
 mod instruction;
-mod opening;
+pub mod rows;
 pub mod store;
 pub mod verified;
 
+pub use il_code::code::Code;
 pub use il_run::value::Value;
-pub use il_verify::Checked;
+pub use rows::Rows;
 pub use store::{Begin, Stepped, Store, step};
 pub use verified::{TaskInfo, UnitCost, UnitInfo, Verified};
-
-/// Values by path, as `V`.
-pub type Values = il_table::Table<Value>;

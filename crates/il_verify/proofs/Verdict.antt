@@ -22,7 +22,8 @@ use Rattle.il_run.specs.NameMap.{NameMap, Text, get, insert, empty, with_entries
 use Rattle.il_run.specs.Step.{instruction_at, instruction_or_return}
 use Rattle.il_run.specs.Annotation.{Knowledge, Annotation, knowledge, Passes, range, IsResultWithin, IsDeferredWithin, IsEntry, IsVariableWithin, IsAnnotatedBelow, IsAnnotated, Annotated, IsFirstWithout, places, declared_range}
 use Rattle.il_table.proofs.Copies.{same_text}
-use Rattle.il_verify.specs.Resolved.{IsResolved, AreSymbols, IsUnannotatedBy}
+use Rattle.il_code.specs.Resolved.{IsResolved, AreSymbols}
+use Rattle.il_verify.specs.Resolved.{IsUnannotatedBy}
 use Rattle.il_verify.specs.declared.known.Known.{Known}
 use Rattle.il_verify.specs.declared.known.Known.TheVariants.{Flag, Ranged}
 use Rattle.il_verify.specs.declared.ranges.Ranges.{Ranges}

@@ -12,23 +12,12 @@ use Rattle.il_rules.specs.Names.{Spelling}
 use Rattle.il_rules.specs.Symbols.{IsProgram, symbol_of}
 use Rattle.il_rules.specs.Subset.{IsSupportedProgram, BreaksInSubset}
 use Rattle.il_rules.specs.Faults.{Typing, HasNoFault, Broken}
+use Rattle.il_code.specs.Resolved.{IsResolved}
 use Rattle.il_order.specs.InOrder.{IsOrdered}
 use Rattle.il_run.specs.NameMap.{NameMap, get}
 use Rattle.il_run.specs.Annotation.{Annotated, IsFirstWithout}
 
--- A configuration with one program of the subset, of which no rule of declarations and of types is broken.
-pub record IsResolved (c : Config) : Type 0 where
-  pub program : ProgramUnit
-  pub is : IsProgram c program
-  pub supported : IsSupportedProgram program
-  pub declared : HasNoFault (BreaksInSubset c)
-  pub typed : HasNoFault (Broken Typing c)
-
--- each name of the program has its meaning in the table
-abbrev pub AreSymbols : Config → NameMap Symbol → Type 0
-AreSymbols c symbols = (u : ProgramUnit) → IsProgram c u → (name : Spelling) → get symbols name ≡ symbol_of c u name
-
--- and its program has an annotation by ranges
+-- A configuration of which no rule is broken, whose program has an annotation by ranges.
 pub record IsChecked (c : Config) : Type 0 where
   pub resolved : IsResolved c
   pub ordered : IsOrdered c

@@ -8,53 +8,13 @@ ghost use Rattle.il_run.specs.Annotation.{Annotated};
 ghost use Rattle.il_run.specs.NameMap.{NameMap};
 ghost use Rattle.il_rules.specs.declared.symbol.Symbol.{Symbol};
 ghost use Rattle.il_order.specs.InOrder.{IsOrdered};
-ghost use Rattle.il_verify.specs.Resolved.{IsResolved, AreSymbols, IsChecked};
+ghost use Rattle.il_code.specs.Resolved.{IsResolved, AreSymbols};
+ghost use Rattle.il_verify.specs.Resolved.{IsChecked};
 
-use il_order::Ordered;
+use il_code::code::Code;
 use il_rules::symbol::Symbol;
 use il_spec::tree::Config;
 use std::marker::Model;
-
-/// A configuration whose names are resolved: what each scalar name of its program means is at hand.
-#[derive(Drop)]
-pub struct Code {
-    ordered: Ordered,
-}
-
-impl Model for Code {
-    ghost use Rattle.il_spec.specs.declared.tree.Config.{Config};
-
-    ghost Value = { Config };
-
-    ghost view = { λ c. c.ordered };
-}
-
-impl Code {
-    /// A configuration of which no rule of declarations, types and order is broken.
-    pub fn of(ordered: Ordered) -> Code
-        ensures { result ≡ ordered }
-    {
-        Code { ordered }
-    }
-
-    /// The configuration.
-    pub fn config(&self) -> &Config
-        ensures is { result.now ≡ self.now }
-        ensures ordered { IsOrdered self.now }
-        ensures resolved { IsResolved self.now }
-        ensures symbols { (symbols : NameMap Symbol) × AreSymbols self.now symbols }
-    {
-        let _symbols = self.ordered.symbols();
-        self.ordered.config()
-    }
-
-    /// What a name means in the program, if it is that of a scalar variable.
-    pub fn symbol(&self, name: &str) -> Option<Symbol>
-        ensures { (u : ProgramUnit) → IsProgram self.now u → result ≡ symbol_of self.now u name.now }
-    {
-        self.ordered.symbols().get(name)
-    }
-}
 
 /// A configuration whose program has an annotation by ranges, so that none of its scans traps.
 #[derive(Drop)]
@@ -88,6 +48,15 @@ impl Checked {
         ensures checked { IsChecked self.now }
     {
         self.code.config()
+    }
+
+    /// The flat code.
+    pub fn code(&self) -> &Code
+        ensures is { result.now ≡ self.now }
+        ensures checked { IsChecked self.now }
+    {
+        let _config = self.config();
+        &self.code
     }
 
     /// What a name means in the program, if it is that of a scalar variable.

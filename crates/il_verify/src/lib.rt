@@ -6,5 +6,5 @@ mod known;
 mod ranges;
 mod verifier;
 
-pub use code::{Checked, Code};
+pub use code::Checked;
 pub use verifier::verify;

@@ -7,7 +7,7 @@ ghost use Rattle.il_run.specs.Annotation.{numbers_of};
 ghost use Rattle.il_verify.specs.Resolved.{range_fault};
 ghost use Rattle.il_verify.specs.Forward.{symbol_in, declared_of, natural_type, known_variable, known_operand, combined, within_type, summed, operated, limited_by, limited_known, with_result, stored_into, known_after, at_entry, IsKnownOperand, IsResultOperand, AreOperands, AreRanges, IsStopped, IsRefusedWith};
 
-use crate::code::Code;
+use il_code::code::Code;
 use crate::known::{Known, fits, known_literal, literal_type, numbers_of, range};
 use il_interval::Interval;
 use il_rules::symbol::Symbol;

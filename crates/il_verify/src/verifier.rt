@@ -4,8 +4,9 @@ ghost use Rattle.std.specs.Prelude.{◌≡◌, IfOk, IfErr};
 ghost use Rattle.il_run.specs.Annotation.{Annotated};
 ghost use Rattle.il_verify.specs.Resolved.{IsUnannotatedBy};
 
-use crate::code::{Checked, Code};
+use crate::code::Checked;
 use crate::ranges::Ranges;
+use il_code::code::Code;
 use il_spec::fault::Refusal;
 use std::alloc::Global;
 

@@ -1,16 +1,22 @@
-use Rattle.std.proofs.Common.{refl, ap, ◌∙◌}
-use Rattle.il_spec.specs.declared.tree.Unit.{Unit as Organized}
-use Rattle.il_machine.proofs.Scans.{starts, begins_with, same_program}
+use Rattle.std.proofs.Common.{◌≡◌, refl, sym, ap, ap₂, ◌∙◌, subst, Some, None, []}
+use Rattle.il_machine.specs.Going.{Stored, going}
+use Rattle.il_machine.specs.Scanning.{joined, kept_of, state_of, IsScanOf}
+use Rattle.il_machine.proofs.Starts.{first_frame, start_of, start_is, start_keeps, start_begins, start_scan}
 use Rattle.il_machine.proofs.store.Store.restart.Goals as goal
 
-pub returns-clause-scan : goal.returns-clause-scan
-returns-clause-scan c =
-    let scan = c.requires.scan in
-    let unit = ap (λ k. k.unit) c.self.view_is ∙ scan.2.unit in
-    (scan.0, scan.1, rw (c.copy_from.ensures.variables, c.copy_from.ensures.written) (starts c.args.verified.now.config scan.0 _ _ _ scan.1 scan.2.annotated unit (c.requires.own scan.0 scan.1) c.requires.image))
+pub returns-clause-start : goal.returns-clause-start
+returns-clause-start c =
+    let s = start_is _ c.args.self.now _ c.args.begin.now.variables c.args.begin.now.snapshot c.requires.scan.2 c.self.view_is c.join.ensures in
+    ap (kept_of c.args.verified.now.config c.args.task) s ∙ start_keeps c.args.verified.now.config c.args.task c.args.begin.now.variables c.args.begin.now.snapshot c.requires.variables
 
 pub returns-clause-begins : goal.returns-clause-begins
 returns-clause-begins c = λ u given program shown.
-    let scan = c.requires.scan in
-    let unit = ap (λ k. k.unit) c.self.view_is ∙ scan.2.unit ∙ ap (λ (v : Organized). v.name.name) (same_program c.args.verified.now.config scan.0 u scan.1 program) in
-    begins_with u c.self.inside.unit _ _ _ given unit c.copy_from.ensures.variables (c.copy_from.ensures.written ∙ shown)
+    let s = start_is _ c.args.self.now _ c.args.begin.now.variables c.args.begin.now.snapshot c.requires.scan.2 c.self.view_is c.join.ensures in
+    ap (λ k. state_of (kept_of c.args.verified.now.config c.args.task k)) s
+    ∙ start_begins c.args.verified.now.config c.config-config.ensures.runnable c.args.task c.args.begin.now.variables c.args.begin.now.snapshot c.requires.variables c.requires.snapshot u given program shown
+
+pub returns-clause-scan : goal.returns-clause-scan
+returns-clause-scan c =
+    let s = start_is _ c.args.self.now _ c.args.begin.now.variables c.args.begin.now.snapshot c.requires.scan.2 c.self.view_is c.join.ensures in
+    subst (IsScanOf c.args.verified.now.config c.args.task) (sym s)
+    (start_scan c.args.verified.now.config c.config-config.ensures.runnable c.args.task c.args.begin.now.variables c.args.begin.now.snapshot c.requires.variables c.requires.snapshot c.requires.own c.requires.image)
