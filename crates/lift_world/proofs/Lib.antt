@@ -1,6 +1,5 @@
 pub mod Explaining
 pub mod Costs
-pub mod Showing
 pub mod Settling
 pub mod Naming
 pub mod Accepting

@@ -1,5 +1,5 @@
 -- Each event does what the definitions say.
-use Rattle.std.proofs.Common.{◌≡◌, ◌≤◌, ◌≢◌, ℕ, zero, suc, Bool, true, false, List, [], ◌∷◌, ◌++◌, map, refl, sym, ap, ◌∙◌, cond, subst, Some, None, Option, Result, Ok, pos, arith}
+use Rattle.std.proofs.Common.{◌≡◌, ◌≤◌, ◌≢◌, ℕ, zero, suc, Bool, true, false, List, [], ◌∷◌, ◌++◌, map, length, refl, sym, ap, ◌∙◌, cond, subst, Some, None, Option, Result, Ok, pos, arith}
 use Rattle.lift_spec.specs.declared.report.Report.{Report}
 use Rattle.std.specs.Prelude.{filter, is_some, codes, slice_set, replicate, nat_abs, if◌then◌else◌}
 use Rattle.std.specs.Ordering.{eq_by_cmp}
@@ -12,7 +12,7 @@ use Rattle.il_spec.specs.declared.tree.Unit.{Unit as Organized}
 use Rattle.il_rules.specs.Names.{or_else}
 use Rattle.il_rules.specs.Subset.{IsSupportedProgram}
 use Rattle.il_rules.specs.Symbols.{IsProgram}
-use Rattle.il_opening.specs.Held.{HoldsOwn}
+use Rattle.il_machine.specs.Held.{HoldsOwn}
 use Rattle.lift_world.proofs.Naming.{no_motor, no_serve}
 use Rattle.il_run.specs.declared.value.Value.{Value}
 use Rattle.il_run.specs.NameMap.{Text, order, get, get-empty, get-insert, from_entries, with_entries, same_map}
@@ -38,7 +38,7 @@ use Rattle.lift_spec.specs.Snapshot.{whole_of, wishes_of, motor_of, scan_begins,
 use Rattle.lift_spec.specs.World.{World, Halt, happens, opening, opening_task, opening_tasks_from, committed_group, car_commits, refreshed_group}
 use Rattle.lift_spec.specs.World as model
 use Rattle.il_table.specs.ByText.{HaveSameNames}
-use Rattle.il_machine.specs.Scanning.{Program, OwnsDeclared, HasImage, KeepsUnseen, IsScanOf, IsRunnable, IsTasked, Kept, state_of, frames_at, over}
+use Rattle.il_machine.specs.Scanning.{Program, OwnsDeclared, HasImage, KeepsUnseen, IsRunnable, IsTasked, Kept, state_of, frames_at, over}
 use Rattle.il_machine.specs.Opening.{shown_of}
 use Rattle.il_table.proofs.Copies.{same_text}
 use Rattle.il_machine.proofs.Over.{get-over}
@@ -60,7 +60,7 @@ pub record IsSound (w : Running) : Type 0 where
   pub ranges : FieldsInRange (sizes_of w.program.config) w.image.fields
   pub own : OwnsDeclared w.program.config w.variables
   pub variables_there : HaveSameNames w.scan.variables w.variables
-  pub scan : IsScanOf w.program.config w.scan
+  pub unit : w.scan.unit ≡ runnable.checked.resolved.program.name.name
   pub sees : w.shown ≡ shown_of w.program.config w.image
   pub motor : whole_of (get (over w.scan.written w.scan.variables) (codes "MOTOR")) ≡ pos 0
   pub serve : whole_of (get (over w.scan.written w.scan.variables) (codes "SERVE")) ≡ pos 0
@@ -73,7 +73,7 @@ sound_of w inv =
       ranges = inv.ranges;
       own = inv.own;
       variables_there = inv.variables_there;
-      scan = inv.scan;
+      unit = inv.unit;
       sees = inv.sees;
       motor = inv.motor;
       serve = inv.serve;
@@ -107,7 +107,7 @@ shown_still c i o told still =
     ap whole_of (shown_motor c i) ∙ ap (λ (l : List CarOutputs). motor_number (outputs_of (record { fields = i.fields; outputs = l }) 1).motor) told ∙ ap motor_number still
 
 -- a scan that begins with the image wishes nothing
-pub begins_quiet : (c : Config) (u : Organized) (i : Image) (o : CarOutputs) (shown variables : Values) → IsRunnable c → IsProgram c u → HoldsOwn u variables → i.outputs ≡ o ∷ [] → o.motor ≡ Still → shown ≡ shown_of c i
+pub begins_quiet : (c : Config) (u : Organized) (i : Image) (o : CarOutputs) (shown variables : Values) → IsRunnable c → IsProgram c u → HoldsOwn c u variables → i.outputs ≡ o ∷ [] → o.motor ≡ Still → shown ≡ shown_of c i
     → (whole_of (get (over shown variables) (codes "MOTOR")) ≡ pos 0) × (whole_of (get (over shown variables) (codes "SERVE")) ≡ pos 0)
 begins_quiet c u i o shown variables runs program own told still is = (
   unhidden shown variables (codes "MOTOR") (own.paths (codes "MOTOR") ∙ ap is_some (no_motor c u runs program)) (ap (λ m. whole_of (get m (codes "MOTOR"))) is ∙ shown_still c i o told still),
@@ -172,11 +172,10 @@ begins_is w inv tickets =
     let u = inv.runnable.checked.resolved.program in
     let b = model.beginning_of (world_of w).group (record { variables = w.variables; tickets = tickets }) in
     let supported = ready_supported c inv.runnable in
-    let unit : w.scan.unit ≡ u.name.name = inv.scan.2.unit ∙ ap (λ (v : Organized). v.name.name) (same_ready c inv.scan.0 u inv.scan.1 inv.runnable.checked.resolved.is) in
     ap (begins_by c 1 b) (car_program c u inv.runnable.tasked)
     ∙ ap (λ (ex : List Declaration). begins u w.variables (entries_at b.snapshot.globals (paths_of (entities ex)) ++ image_entries (sizes_of c) 1 w.image (opening_calls (sizes_of c)).slots)) supported.externals
     ∙ ap (λ m. record { values = with_entries m w.variables.list; frames = frames_at u.name.name (Some 0); result = None }) (sym inv.sees)
-    ∙ ap (λ n. record { values = with_entries w.shown w.variables.list; frames = frames_at n (Some 0); result = None }) (sym unit)
+    ∙ ap (λ n. record { values = with_entries w.shown w.variables.list; frames = frames_at n (Some 0); result = None }) (sym inv.unit)
 
 -- the same world, by whether its scan is open
 abbrev world_if : Running → Bool → World
@@ -192,9 +191,9 @@ ended_at : (k : Kept) (place : Option ℕ) → k.place ≡ place → has_ended (
 ended_at k place is = ap (λ p. has_ended (state_of (record k { place = p }))) is
 
 -- a scan's start leaves a world
-pub start_keeps : (w : Running) (inv : IsWorldOf w) (scan : Kept) → scan ≡ record { unit = w.scan.unit; variables = w.variables; written = w.shown; place = Some 0; result = None } → IsScanOf w.program.config scan
+pub start_keeps : (w : Running) (inv : IsWorldOf w) (scan : Kept) → scan ≡ record { unit = w.scan.unit; variables = w.variables; written = w.shown; place = Some 0; result = None }
     → IsWorldOf (record { program = w.program; image = w.image; variables = w.variables; shown = w.shown; scan = scan; busy = true })
-start_keeps w inv scan is of_program =
+start_keeps w inv scan is =
     let quiet = begins_quiet w.program.config inv.runnable.checked.resolved.program w.image inv.image.outputs w.shown w.variables inv.runnable inv.runnable.checked.resolved.is (inv.own inv.runnable.checked.resolved.program inv.runnable.checked.resolved.is) inv.image.told inv.image.still inv.sees in
     record {
       runnable = inv.runnable;
@@ -203,18 +202,17 @@ start_keeps w inv scan is of_program =
       own = inv.own;
       scan_own = rw is inv.own;
       variables_there = rw is (λ q. refl);
-      shown_there = rw is (λ q. refl);
-      scan = of_program;
+      unit = ap (λ (k : Kept). k.unit) is ∙ inv.unit;
       sees = inv.sees;
       motor = rw is quiet.0;
       serve = rw is quiet.1;
     }
 
 -- a step leaves a world
-pub step_keeps : (w : Running) (inv : IsWorldOf w) (scan : Kept) → IsScanOf w.program.config scan → (OwnsDeclared w.program.config w.scan.variables → OwnsDeclared w.program.config scan.variables) → HaveSameNames w.scan.variables scan.variables
-    → HaveSameNames w.scan.written scan.written → KeepsUnseen w.program.config (over w.scan.written w.scan.variables) (over scan.written scan.variables)
+pub step_keeps : (w : Running) (inv : IsWorldOf w) (scan : Kept) → scan.unit ≡ w.scan.unit → (OwnsDeclared w.program.config w.scan.variables → OwnsDeclared w.program.config scan.variables) → HaveSameNames w.scan.variables scan.variables
+    → KeepsUnseen w.program.config (over w.scan.written w.scan.variables) (over scan.written scan.variables)
     → IsWorldOf (record { program = w.program; image = w.image; variables = w.variables; shown = w.shown; scan = scan; busy = w.busy })
-step_keeps w inv scan of_program own variables written unseen =
+step_keeps w inv scan unit own variables unseen =
     let c = w.program.config in
     let r = inv.runnable.checked.resolved in
     record {
@@ -224,16 +222,19 @@ step_keeps w inv scan of_program own variables written unseen =
       own = inv.own;
       scan_own = own inv.scan_own;
       variables_there = λ q. sym (variables q) ∙ inv.variables_there q;
-      shown_there = λ q. sym (written q) ∙ inv.shown_there q;
-      scan = of_program;
+      unit = unit ∙ inv.unit;
       sees = inv.sees;
       motor = ap whole_of (unseen r.program r.is (codes "MOTOR") (no_motor c r.program inv.runnable r.is) refl) ∙ inv.motor;
       serve = ap whole_of (unseen r.program r.is (codes "SERVE") (no_serve c r.program inv.runnable r.is) refl) ∙ inv.serve;
     }
 
+-- one car has one row of outputs
+one_told : (w : Running) → IsWorldOf w → length w.image.outputs ≡ (sizes_of w.program.config).cars
+one_told w inv = ap length inv.image.told ∙ sym (ap nat_abs inv.runnable.sizes.cars)
+
 -- what scans are shown has a value of its declared set for each name
 pub has_image : (w : Running) → IsWorldOf w → HasImage w.program.config w.shown
-has_image w inv = subst (HasImage w.program.config) (sym inv.sees) (shown_has_image w.program.config w.image inv.runnable.sizes inv.ranges)
+has_image w inv = subst (HasImage w.program.config) (sym inv.sees) (shown_has_image w.program.config inv.runnable w.image inv.ranges (one_told w inv))
 
 -- Start
 pub start_is : (w after : Running) (reply : Reply) (t : ℕ) → (t ≡ 1 → IsSound w) → IsStart w after reply t → RefusesUnchanged w after reply → happens w.program.config (world_of w) (Start t) ≡ answers (world_of after) reply
@@ -413,10 +414,10 @@ pub few_cars : (c : Config) (sizes : Sizes) → IsRunnable c → sizes ≡ sizes
 few_cars c sizes runs is = let one = ap (λ (s : Sizes). s.cars) is ∙ ap nat_abs runs.sizes.cars in omega (arith, one)
 
 -- a world that opens is one
-pub opening_keeps : (p : Program) (runs : IsRunnable p.config) (store : Kept) (i : Image) (variables shown : Values) → IsScanOf p.config store → store.written ≡ shown_of p.config (opening_image (sizes_of p.config))
+pub opening_keeps : (p : Program) (runs : IsRunnable p.config) (store : Kept) (i : Image) (variables shown : Values) → store.unit ≡ runs.checked.resolved.program.name.name → store.written ≡ shown_of p.config (opening_image (sizes_of p.config))
     → OwnsDeclared p.config store.variables → i ≡ opening_image (sizes_of p.config) → variables ≡ store.variables → shown ≡ store.written
     → IsWorldOf (record { program = p; image = i; variables = variables; shown = shown; scan = store; busy = false })
-opening_keeps p runs store i variables shown scan written own is is_variables is_shown =
+opening_keeps p runs store i variables shown unit written own is is_variables is_shown =
     let c = p.config in
     let first : store.written ≡ shown_of c first_image = written ∙ ap (shown_of c) (first_is c runs) in
     let quiet = begins_quiet c runs.checked.resolved.program first_image opening_outputs store.written store.variables runs runs.checked.resolved.is (own runs.checked.resolved.program runs.checked.resolved.is) refl refl first in
@@ -428,8 +429,7 @@ opening_keeps p runs store i variables shown scan written own is is_variables is
       own = rw is_variables own;
       scan_own = own;
       variables_there = rw is_variables (λ q. refl);
-      shown_there = rw is_shown (λ q. refl);
-      scan = scan;
+      unit = unit;
       sees = is_shown ∙ first;
       motor = quiet.0;
       serve = quiet.1;

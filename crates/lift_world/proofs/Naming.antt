@@ -7,16 +7,33 @@ use Rattle.il_spec.specs.declared.tree.Unit.{Unit as Organized}
 use Rattle.il_spec.specs.declared.tree.Declaration.{Declaration}
 use Rattle.il_spec.specs.declared.tree.Named.{Named}
 use Rattle.il_spec.specs.declared.tree.Form.{Form}
-use Rattle.il_rules.specs.Names.{Variable, own_variable, named_forms, is_predeclared, image_name, standard_function, standard_block}
+use Rattle.il_spec.specs.declared.tree.UnitKind.{UnitKind}
+use Rattle.il_spec.specs.declared.tree.UnitKind.TheVariants.{Program}
+use Rattle.il_rules.specs.Names.{Variable, AsInput, AsOutput, AsVariable, AsExternal, result_of, with_origin, variables_of, own_variable, named_forms, is_predeclared, image_name, standard_function, standard_block}
 use Rattle.il_rules.specs.Declarations.{names_in, unit_names, predeclared_variable}
 use Rattle.il_rules.specs.Faults.{duplicate, HasNoFault}
 use Rattle.il_rules.specs.Subset.{broken, IsSupportedProgram, BreaksInSubset}
 use Rattle.il_rules.specs.Symbols.{IsProgram}
 use Rattle.il_rules.proofs.Straight.{among_units}
 use Rattle.il_run.specs.NameMap.{Text}
-use Rattle.il_opening.proofs.Held.{as_variable, own_variables}
 use Rattle.il_machine.specs.Scanning.{IsRunnable}
 use Rattle.il_machine.proofs.Scans.{same_program}
+
+-- a variable of a VAR list
+abbrev as_variable : Text × Form → Variable
+as_variable v = record { name = v.0; form = v.1; origin = AsVariable }
+
+abbrev variables_by : UnitKind → Text → List Declaration → List Declaration → List Declaration → List Declaration → List Variable
+variables_by kind name ins outs vars exts = result_of kind name ++ with_origin AsInput ins ++ with_origin AsOutput outs ++ with_origin AsVariable vars ++ with_origin AsExternal exts
+
+-- a supported program has its VAR list alone
+own_variables : (u : Organized) → IsSupportedProgram u → variables_of u ≡ map as_variable (named_forms u.variables)
+own_variables u supported =
+    ap (λ k. variables_by k u.name.name u.inputs u.outputs u.variables u.externals) supported.kind
+    ∙ ap (λ x. variables_by Program u.name.name x u.outputs u.variables u.externals) supported.inputs
+    ∙ ap (λ x. variables_by Program u.name.name [] x u.variables u.externals) supported.outputs
+    ∙ ap (λ x. variables_by Program u.name.name [] [] u.variables x) supported.externals
+    ∙ append-nil (with_origin AsVariable u.variables)
 
 -- a name among some
 abbrev Named_so : List Named → Text → Type 0

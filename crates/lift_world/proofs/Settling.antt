@@ -19,7 +19,6 @@ use Rattle.lift_spec.specs.declared.image.Motor.TheVariants.{Still, Up, Down}
 use Rattle.lift_spec.specs.Settle.{settled_car, settled_all}
 use Rattle.lift_world.specs.Running.{Running, HasNames, IsOneCar, IsWorldOf, outputs_at, report_of, commit_report, committed, asks_open, after_commit, refreshed, refresh_report, with_fields}
 use Rattle.il_machine.specs.Opening.{shown_of}
-use Rattle.lift_world.proofs.Showing.{shown_names}
 use Rattle.lift_world.proofs.Seeing.{commit_shows, refresh_shows}
 
 commits_as : (w : Running) (car : CarFields) (asked level : Bool) → w.image.fields.cars ≡ car ∷ [] → asked ≡ asks_open w → car.level ≡ level → report_of asked level ≡ commit_report w
@@ -89,10 +88,6 @@ unfolding outputs_at
 one_car fields told car asked level cars is level_is =
     record { fields = car; cars = cars; outputs = record { motor = Still; opens = asked && level }; told = is; still = refl; opens = λ h. sym level_is ∙ open_at_level asked level h }
 
--- what scans are shown has the names
-pub names_of : (w : Running) → IsWorldOf w → HasNames w.shown
-names_of w inv = subst HasNames (sym inv.sees) (shown_names w.program.config w.image)
-
 -- a commit leaves a world
 pub commit_keeps : (w : Running) (inv : IsWorldOf w) (asked level : Bool) (told : List CarOutputs) (o : CarOutputs) (variables shown : Values) → told ≡ o ∷ [] → o ≡ outputs_at asked level → level ≡ inv.image.fields.level → variables ≡ w.scan.variables
     → shown ≡ insert w.shown (codes "OPEN") (Boolean o.opens) → IsWorldOf (record { program = w.program; image = record { fields = w.image.fields; outputs = told }; variables = variables; shown = shown; scan = w.scan; busy = false })
@@ -106,8 +101,7 @@ commit_keeps w inv asked level told o variables shown told_is is level_is copied
       own = subst (OwnsDeclared w.program.config) (sym copied) inv.scan_own;
       scan_own = inv.scan_own;
       variables_there = rw copied (λ q. refl);
-      shown_there = rw is_shown (λ q. inv.shown_there q ∙ keeps_paths w.shown (codes "OPEN") (Boolean o.opens) (names_of w inv).opens q);
-      scan = inv.scan;
+      unit = inv.unit;
       sees =
           is_shown ∙ commit_shows w.program.config w.image inv.image.fields inv.image.outputs o w.shown inv.image.cars inv.image.told inv.image.still still inv.sees
           ∙ ap (λ l. shown_of w.program.config (record { fields = w.image.fields; outputs = l })) (sym told_is);
@@ -132,10 +126,10 @@ one_of c fields one h = only fields.cars ((fields_in_range_means (sizes_of c) fi
 
 -- a refresh leaves a world
 pub refresh_keeps : (w : Running) (inv : IsWorldOf w) (fields : Fields) (car : CarFields) (asked level : Bool) (told : List CarOutputs) (o : CarOutputs) (shown : Values) → fields.cars ≡ car ∷ [] → told ≡ o ∷ [] → o ≡ outputs_at asked level → level ≡ car.level
-    → FieldsInRange (sizes_of w.program.config) fields → HaveSameNames w.shown shown → shown ≡ with_fields fields.time fields.run_limit car o.opens w.shown
+    → FieldsInRange (sizes_of w.program.config) fields → shown ≡ with_fields fields.time fields.run_limit car o.opens w.shown
     → IsWorldOf (record { program = w.program; image = record { fields = fields; outputs = told }; variables = w.variables; shown = shown; scan = w.scan; busy = w.busy })
 unfolding outputs_at
-refresh_keeps w inv fields car asked level told o shown cars told_is is level_is ranges paths shows =
+refresh_keeps w inv fields car asked level told o shown cars told_is is level_is ranges shows =
     let still : o.motor ≡ Still = ap (λ (x : CarOutputs). x.motor) is in
     record {
       runnable = inv.runnable;
@@ -144,8 +138,7 @@ refresh_keeps w inv fields car asked level told o shown cars told_is is level_is
       own = inv.own;
       scan_own = inv.scan_own;
       variables_there = inv.variables_there;
-      shown_there = λ q. inv.shown_there q ∙ paths q;
-      scan = inv.scan;
+      unit = inv.unit;
       sees =
           shows ∙ refresh_shows w.program.config w.image fields inv.image.fields car inv.image.outputs o w.shown inv.image.cars inv.image.told inv.image.still still cars inv.sees
           ∙ ap (λ l. shown_of w.program.config (record { fields = fields; outputs = l })) (sym told_is);

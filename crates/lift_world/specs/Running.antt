@@ -1,12 +1,17 @@
 -- What a world of one car keeps (own rules).
 use Rattle.std.specs.Prelude.{◌≡◌, ◌≢◌, ℕ, Bool, true, false, ◌&&◌, not, List, [], ◌∷◌, map, pos, codes, refl, if◌then◌else◌, Option, Some, None, IsSome}
-use Rattle.std.specs.Coded.{Coded, code_by, coded×, coded_bool}
+use Rattle.std.specs.Coded.{Coded, code_by, coded×, coded_bool, coded_list, coded_option, coded_ℕ}
 use Rattle.il_spec.specs.declared.tree.Config.{Config}
 use Rattle.il_run.specs.declared.value.Value.TheVariants.{Boolean, Integer}
 use Rattle.il_run.specs.NameMap.{insert, get}
 use Rattle.il_run.specs.State.{Values, values_code}
 use Rattle.il_table.specs.ByText.{HaveSameNames}
-use Rattle.il_machine.specs.Scanning.{Program, program_code, Kept, kept_code, IsRunnable, IsScanOf, OwnsDeclared, over, state_of}
+use Rattle.il_machine.specs.Scanning.{Program, verified_code, Kept, IsRunnable, IsScanOf, OwnsDeclared, FitsOwn, FitsSeen, variables_in, image_in, kept_of, over, state_of}
+use Rattle.il_machine.specs.Going.{Stored}
+use Rattle.il_machine.specs.declared.store.Begin.{Begin}
+use Rattle.il_run.specs.NameMap.{Text}
+use Rattle.il_run.specs.contracts.value.Content as content_row
+use Rattle.il_run.specs.declared.value.Content.{Content}
 use Rattle.lift_spec.specs.contracts.image.Image as image
 use Rattle.lift_spec.specs.declared.image.Image.{Image}
 use Rattle.lift_spec.specs.declared.image.CarFields.{CarFields}
@@ -51,6 +56,12 @@ unfoldable pub report_of : Bool → Bool → Report
 report_of asked level =
     record { outputs = outputs_at asked level ∷ []; denials = if asked && not level then record { car = 1; rule = NotLevel } ∷ [] else []; answers = []; entered = [] }
 
+-- the code of what a scan keeps
+abbrev pub kept_code : Coded Kept
+kept_code =
+    code_by (Text × ((Values × Values) × (Option ℕ × Option Content))) (coded× (coded_list coded_ℕ) (coded× (coded× values_code values_code) (coded× (coded_option coded_ℕ) (coded_option content_row.the_row.coded))))
+    (λ k. (k.unit, ((k.variables, k.written), (k.place, k.result)))) (λ c. record { unit = c.0; variables = c.1.0.0; written = c.1.0.1; place = c.1.1.0; result = c.1.1.1 }) (λ _. refl)
+
 -- A world of one car: the verified configuration, the image, the task's variables, what its scans are shown of the image, and where its scan stands, if one is open.
 pub record Running : Type 0 where
   pub program : Program
@@ -63,7 +74,7 @@ pub record Running : Type 0 where
 -- its code
 abbrev pub running_code : Coded Running
 running_code =
-    code_by ((Program × Image) × ((Values × Values) × (Kept × Bool))) (coded× (coded× program_code image.the_row.coded) (coded× (coded× values_code values_code) (coded× kept_code coded_bool)))
+    code_by ((Program × Image) × ((Values × Values) × (Kept × Bool))) (coded× (coded× verified_code image.the_row.coded) (coded× (coded× values_code values_code) (coded× kept_code coded_bool)))
     (λ w. ((w.program, w.image), ((w.variables, w.shown), (w.scan, w.busy)))) (λ c. record { program = c.0.0; image = c.0.1; variables = c.1.0.0; shown = c.1.0.1; scan = c.1.1.0; busy = c.1.1.1 }) (λ _. refl)
 
 -- the fields and outputs of one car, whose motor is still and which opens its door only at a level
@@ -75,17 +86,16 @@ pub record IsOneCar (i : Image) : Type 0 where
   pub still : outputs.motor ≡ Still
   pub opens : outputs.opens ≡ true → fields.level ≡ true
 
--- the names that a commit and a refresh write are there
-pub record HasNames (shown : Values) : Type 0 where
-  pub time : IsSome (get shown (codes "NOW"))
-  pub run_limit : IsSome (get shown (codes "RUNLIMIT"))
-  pub position : IsSome (get shown (codes "POS"))
-  pub level : IsSome (get shown (codes "LEVEL"))
-  pub top : IsSome (get shown (codes "TOP"))
-  pub bottom : IsSome (get shown (codes "BOTTOM"))
-  pub locked : IsSome (get shown (codes "LOCKED"))
-  pub opened : IsSome (get shown (codes "OPENED"))
-  pub opens : IsSome (get shown (codes "OPEN"))
+-- such a world by its rows: the named values are what the rows of the task hold
+abbrev pub running_of : Program → Image → Begin → Stored → Bool → Running
+running_of p i b s busy =
+    record { program = p; image = i; variables = variables_in p.config 1 b.variables; shown = image_in p.config 1 b.snapshot; scan = kept_of p.config 1 s; busy = busy }
+
+-- a row for each variable of the task and each of the image, and a store of a scan of the task
+pub record HasRows (c : Config) (b : Begin) (s : Stored) : Type 0 where
+  pub variables : FitsOwn c 1 b.variables
+  pub snapshot : FitsSeen c 1 b.snapshot
+  pub scan : IsScanOf c 1 s
 
 -- what holds of every world
 pub record IsWorldOf (w : Running) : Type 0 where
@@ -95,8 +105,7 @@ pub record IsWorldOf (w : Running) : Type 0 where
   pub own : OwnsDeclared w.program.config w.variables
   pub scan_own : OwnsDeclared w.program.config w.scan.variables
   pub variables_there : HaveSameNames w.scan.variables w.variables
-  pub shown_there : HaveSameNames w.scan.written w.shown
-  pub scan : IsScanOf w.program.config w.scan
+  pub unit : w.scan.unit ≡ runnable.checked.resolved.program.name.name
   -- what scans are shown is the image, under its names
   pub sees : w.shown ≡ shown_of w.program.config w.image
   -- no scan wishes a motor or a serve
