@@ -1,6 +1,6 @@
 -- Which texts are accepted.
 use Rattle.std.proofs.Common.{◌≡◌, ◌≢◌, refl, sym, ap, ◌∙◌, subst, ℕ, ◌+◌, ◌<◌, ◌≤◌, ◌⊎◌, inl, inr, ℤ, pos, negsuc, ◌≤ℤ◌, Bool, true, false, ◌&&◌, List, [], ◌∷◌, length, Some, Option, arith, zero, suc}
-use Rattle.std.specs.Prelude.{Contains, Ok, Err, Result, int_le, IsErrAnd, IfOk}
+use Rattle.std.specs.Prelude.{Contains, Ok, Err, Result, int_le, IsErrAnd, IfOk, None, option_and_then, if◌then◌else◌}
 use lib.Signed.{le_z_yes}
 use lib.Dec.{T}
 use Rattle.std.proofs.lemmas.Int.{ints}
@@ -12,7 +12,8 @@ use Rattle.il_spec.specs.declared.fault.Refusal.{Refusal}
 use Rattle.il_spec.specs.declared.fault.Refusal.TheVariants.{Fault, Memory}
 use Rattle.il_spec.specs.Text.{AreTokens}
 use Rattle.il_spec.specs.Grammar.{AfterLines, SpellsConfig, Spells, IsWithinLimits}
-use Rattle.il_rules.specs.Names.{car_number}
+use Rattle.il_rules.specs.Names.{car_number, is_program, is_program_kind, program_named}
+use Rattle.il_spec.specs.declared.tree.UnitKind.TheVariants.{Program}
 use Rattle.il_rules.specs.Declarations.{sizes_of, is_within, size_outside, missing_task}
 use Rattle.il_rules.specs.Written.{IsWritten}
 use Rattle.il_rules.specs.Subset.{IsSupported, broken, BreaksInSubset}
@@ -146,9 +147,27 @@ accepted_is text c checked same spelled declared typed ordered annotated = subst
 pub unbroken_is : (c : Config) → HasNoFault (BreaksInSubset c) → HasNoFault (Broken Declaring c)
 unbroken_is c declared number place b = declared number place (broken b)
 
+-- the program is found as one
+program_found : (c : Config) (u : Organized) → IsProgram c u → u.kind ≡ Program → program_named c u.name.name ≡ Some u
+program_found c u is kind =
+    ap (option_and_then (λ (v : Organized). if is_program v then Some v else None)) is.named ∙ ap (λ b. if b then Some u else None) (ap is_program_kind kind)
+
 -- what is checked runs
 pub runnable_is : (c : Config) → IsWritten c → IsSupported c → IsChecked c → IsRunnable c
 runnable_is c written supported checked =
     let declared = unbroken_is c checked.resolved.declared in
     let sizes = has_sizes c supported declared in
-    record { written = written; supported = supported; checked = checked; tasked = tasked c checked.resolved.program supported sizes.cars declared checked.resolved.is.alone; sizes = sizes }
+    record {
+      written = written;
+      supported = supported;
+      checked = checked;
+      tasked = tasked c checked.resolved.program supported sizes.cars declared checked.resolved.is.alone;
+      sizes = sizes;
+      accepted = record {
+        written = written;
+        declared = declared;
+        typed = checked.resolved.typed;
+        ordered = λ number place other. checked.ordered.ordered number place;
+        program = program_found c checked.resolved.program checked.resolved.is checked.resolved.supported.kind;
+      };
+    }

@@ -3,6 +3,7 @@
 ghost use Rattle.std.specs.Prelude.{◌≡◌, ◌≤◌, IfOk, IfErr, IsErrAnd, length, map, All};
 ghost use Rattle.il_spec.specs.declared.tree.Config.{Config};
 ghost use Rattle.il_parse.specs.Refused.{IsFault};
+ghost use Rattle.il_rules.specs.Written.{IsWritten};
 ghost use Rattle.il_rules.specs.Faults.{HasNoFault, Broken, Typing, Ordering};
 ghost use Rattle.il_rules.specs.Subset.{IsSupported, BreaksInSubset};
 ghost use Rattle.il_run.specs.Annotation.{Annotated};
@@ -10,8 +11,9 @@ ghost use Rattle.il_machine.specs.Costs.{AreCosts};
 ghost use Rattle.lift_sound.specs.Runs.{RunsWell};
 ghost use Rattle.lift_world.specs.Loading.{IsSpelled, IsAccepted, IsRefusedFor, IsExplained, SpellsNone, cost_of};
 
+use il_code::code::Code;
 use il_decl::declare;
-use il_machine::{Checked, UnitCost, Verified};
+use il_machine::{UnitCost, Verified};
 use il_order::{Ordered, ordered};
 use il_parse::parse;
 use il_spec::fault::Refusal;
@@ -19,7 +21,7 @@ use il_spec::list::Items;
 use il_spec::tree::{Config, Unit};
 use il_text::tokens;
 use il_types::typed;
-use il_verify::{Code, verify};
+use il_verify::{Checked, verify};
 use std::alloc::{AllocError, Global};
 
 /// The configuration that a text spells, verified.
@@ -54,7 +56,8 @@ fn spelled(alloc: Global, text: &[u8]) -> Result<Config, Refusal>
 
 // A configuration of which no declaration, no type, no order and no range is at fault.
 fn checked(alloc: Global, config: Config) -> Result<Checked, Refusal>
-    requires { IsSupported config }
+    requires supported { IsSupported config }
+    requires written { IsWritten config }
     ensures same { IfOk result (λ c. c ≡ config) }
     ensures declared { IfOk result (λ _. HasNoFault (BreaksInSubset config)) }
     ensures typed { IfOk result (λ _. HasNoFault (Broken Typing config)) }
@@ -62,7 +65,9 @@ fn checked(alloc: Global, config: Config) -> Result<Checked, Refusal>
     ensures annotated { IfOk result (λ c. Annotated c) }
     ensures refused { IfErr result (IsRefusedFor config) }
 {
-    verify(alloc, Code::of(resolved(alloc, config)?))
+    let ordered = resolved(alloc, config)?;
+    let code = Code::of(alloc, ordered)?;
+    verify(alloc, code)
 }
 
 // A configuration of which no declaration, no type and no order is at fault.
