@@ -27,17 +27,17 @@ use Rattle.il_run.specs.Meaning.{Denotation, Constant, Direct, Numbered, Indexed
 use Rattle.il_run.specs.declared.known.Known.{Known}
 use Rattle.il_run.specs.declared.known.Known.TheVariants.{Flag, Ranged}
 use Rattle.il_run.specs.declared.known.KnownDeferred.{KnownDeferred}
-use Rattle.il_run.specs.Annotation.{Knowledge, knowledge, Annotation, Spot, Passes, Leads, IsPart, IsKnownWithin, IsResultWithin, IsVariableWithin, interval, only, range, WithInterval, WithKnownResult, WithOperand, WithFlow, declared_known, WithOperated, WithTarget, Fits, FitsRange, IsLoaded, HasCondition, MayPass, LeadsTo, result_at_target, after_store, declared_range, IsDeferredWithin, WithStandardArguments, WithApplied, known_argument_type, IsInvoked}
+use Rattle.il_run.specs.Annotation.{Knowledge, knowledge, Annotation, Spot, Passes, Leads, IsPart, IsKnownWithin, IsResultWithin, IsVariableWithin, interval, only, range, WithInterval, WithKnownResult, WithOperand, WithFlow, declared_known, WithOperated, WithTarget, Fits, FitsRange, IsLoaded, HasCondition, MayPass, LeadsTo, result_at_target, after_store, IsDeferredWithin, WithStandardArguments, WithApplied, known_argument_type, IsInvoked}
 use Rattle.il_least.specs.Pass.{Moves}
 use Rattle.il_least.specs.declared.facts.Facts.{Facts}
-use Rattle.il_least.specs.Facts.{row_at, variables_of, IsRowOf, facts, with_result, shown, IsFineKnown, IsFineResult, IsFine}
+use Rattle.il_least.specs.Facts.{Names, row_at, variables_of, IsRowOf, facts, with_result, shown, IsFineKnown, IsFineResult, IsFine}
 use Rattle.il_least.specs.Found.{provided, is_part, there_fits, found_operand, found_operated, found_loaded, fits_range, fits_target, found_applied}
 use Rattle.il_least.specs.Steps.{to_next, flag_there, loaded_operand, stored_row, stored, taken_by, context, operated_by, aside, deferred, paired, has_flag, has_condition, passing, jumping_to, is_bare, found_arguments, applied_to, moves_of_standard, moves_of}
-use Rattle.il_least.specs.Prepared.{IsFineDenotation}
+use Rattle.il_least.specs.Prepared.{IsFineDenotation, HasNumber}
 use Rattle.il_least.proofs.Tests.{left_true, right_true, both_true, same_type, type_same, part_is, is_part_of, interval_trans}
 use Rattle.il_least.proofs.Least.{Over, OverNext, AllOver, HoldsOf, HoldsOfJump, same_some, mapped}
-use Rattle.il_least.proofs.Joins.{Under, known_itself, part_itself, part_trans, variable_itself, result_itself, deferred_itself, under_row, row_is}
-use Rattle.il_least.proofs.Rows.{IsAmong, put_fine, put_map}
+use Rattle.il_least.proofs.Joins.{Under, known_itself, part_itself, part_trans, result_itself, deferred_itself, under_row}
+use Rattle.il_least.proofs.Rows.{put_fine, put_map, row_is, variable_itself}
 use Rattle.il_least.proofs.Agree.{Agrees, Tests, agrees_some, agrees_is, agrees_test, agrees_if, agrees_then, provided_is, is_provided}
 use Rattle.il_least.proofs.Operations.{Knows, finds, finds_none, Variables, index_tests, operand_agrees, operated_agrees, AreWithin, AreFine, are_within_itself, applied_agrees}
 
@@ -46,30 +46,30 @@ spot c u a p k = record { config = c; unit = u; annotation = a; place = p; known
 
 -- LEADS
 
-lead : (names : List Text) (a : Annotation) (p : ℕ) (f : Facts) (k : Knowledge) → IsPart k (shown names f) → Over (Under names) a p f → Leads a p k
+lead : (names : Names) (a : Annotation) (p : ℕ) (f : Facts) (k : Knowledge) → IsPart k (shown names f) → Over (Under names) a p f → Leads a p k
 lead names a p f k part o = (o.wide, o.stands, part_trans k (shown names f) o.wide part o.under)
 
-over_lead : (names : List Text) (a : Annotation) (p : ℕ) (f : Facts) (k : Knowledge) → IsPart (shown names f) k → Leads a p k → Over (Under names) a p f
+over_lead : (names : Names) (a : Annotation) (p : ℕ) (f : Facts) (k : Knowledge) → IsPart (shown names f) k → Leads a p k → Over (Under names) a p f
 over_lead names a p f k part (next, stands, below) = record { wide = next; stands = stands; under = part_trans (shown names f) k next part below }
 
 -- what an instruction hands on is fine
-pub record AreFineMoves (names : List Text) (m : Moves Facts) : Type 0 where
+pub record AreFineMoves (names : Names) (m : Moves Facts) : Type 0 where
   pub next : HoldsOf (IsFine names) m.next
   pub jump : HoldsOfJump (IsFine names) m.jump
 
 -- the pass does right by an instruction
-pub record Works (names : List Text) (c : Config) (u : ProgramUnit) (f : Facts) (l : Knowledge) (i : Instruction) : Type 0 where
+pub record Works (names : Names) (c : Config) (u : ProgramUnit) (f : Facts) (l : Knowledge) (i : Instruction) : Type 0 where
   pub fine : (m : Moves Facts) → moves_of names c u f i ≡ Some m → AreFineMoves names m
   pub sound : (a : Annotation) (p : ℕ) (m : Moves Facts) → moves_of names c u f i ≡ Some m → AllOver (Under names) a p m → Passes (spot c u a p (shown names f)) i
   pub complete : (a : Annotation) (p : ℕ) → Passes (spot c u a p l) i → (m : Moves Facts) × (moves_of names c u f i ≡ Some m) × AllOver (Under names) a p m
 
 -- the same of what goes on to the next place alone
-pub record Nexts {X : Type 0} (names : List Text) (o : Option X) (made : X → Facts) (narrow wide : (X → Type 0) → Type 0) (then_narrow then_wide : X → Knowledge) : Type 0 where
+pub record Nexts {X : Type 0} (names : Names) (o : Option X) (made : X → Facts) (narrow wide : (X → Type 0) → Type 0) (then_narrow then_wide : X → Knowledge) : Type 0 where
   pub fine : (m : Moves Facts) → option_map (λ x. to_next (made x)) o ≡ Some m → AreFineMoves names m
   pub sound : (a : Annotation) (p : ℕ) (m : Moves Facts) → option_map (λ x. to_next (made x)) o ≡ Some m → AllOver (Under names) a p m → narrow (λ x. Leads a (p + 1) (then_narrow x))
   pub complete : (a : Annotation) (p : ℕ) → wide (λ x. Leads a (p + 1) (then_wide x)) → (m : Moves Facts) × (option_map (λ x. to_next (made x)) o ≡ Some m) × AllOver (Under names) a p m
 
-pub nexts : {X : Type 0} (Fine : X → Type 0) (Within : X → X → Type 0) (names : List Text) (o : Option X) (narrow wide : (X → Type 0) → Type 0) → Agrees Fine Within o narrow wide → (made : X → Facts) (then_narrow then_wide : X → Knowledge)
+pub nexts : {X : Type 0} (Fine : X → Type 0) (Within : X → X → Type 0) (names : Names) (o : Option X) (narrow wide : (X → Type 0) → Type 0) → Agrees Fine Within o narrow wide → (made : X → Facts) (then_narrow then_wide : X → Knowledge)
     → ((x : X) → Fine x → IsFine names (made x)) → ((x : X) → Fine x → IsPart (then_narrow x) (shown names (made x))) → ((x y : X) → Fine x → Within x y → IsPart (shown names (made x)) (then_wide y))
     → Nexts names o made narrow wide then_narrow then_wide
 nexts Fine Within names o narrow wide a made tn tw fine part_n part_w = record {
@@ -85,19 +85,18 @@ nexts Fine Within names o narrow wide a made tn tw fine part_n part_w = record {
 
 -- RESULTS
 
-pub record Stands (names : List Text) (c : Config) (u : ProgramUnit) (f : Facts) (l : Knowledge) : Type 0 where
+pub record Stands (names : Names) (c : Config) (u : ProgramUnit) (f : Facts) (l : Knowledge) : Type 0 where
   pub fine : IsFine names f
   pub under : Under names f l
   pub denotes : (r : Reference) → IsFineDenotation (denotation c u r)
-  pub named : (name : Text) (i : Interval) → declared_range c u name ≡ Some i → IsAmong names name
 
-variables_of_place : (names : List Text) (c : Config) (u : ProgramUnit) (f : Facts) (l : Knowledge) → Stands names c u f l → Variables names f.row l.variables
+variables_of_place : (names : Names) (c : Config) (u : ProgramUnit) (f : Facts) (l : Knowledge) → Stands names c u f l → Variables names f.row l.variables
 variables_of_place names c u f l s = record { fine = s.fine.row; within = under_row names f l s.under }
 
-with_result_fine : (names : List Text) (f : Facts) (k : Known) → IsFine names f → IsFineKnown k → IsFine names (with_result f k)
+with_result_fine : (names : Names) (f : Facts) (k : Known) → IsFine names f → IsFineKnown k → IsFine names (with_result f k)
 with_result_fine names f k h fk = record { row = h.row; result = fk; deferred = h.deferred }
 
-with_result_part : (names : List Text) (f : Facts) (l : Knowledge) (k w : Known) → Under names f l → IsKnownWithin k w → IsPart (shown names (with_result f k)) (knowledge l.variables (Some w) l.deferred)
+with_result_part : (names : Names) (f : Facts) (l : Knowledge) (k w : Known) → Under names f l → IsKnownWithin k w → IsPart (shown names (with_result f k)) (knowledge l.variables (Some w) l.deferred)
 with_result_part names f l k w u h = record { variables = u.variables; result = h; deferred = u.deferred }
 
 result_agrees : (o wide : Option Known) → IsFineResult o → IsResultWithin o wide → Knows o (WithKnownResult o) (WithKnownResult wide)
@@ -106,13 +105,13 @@ result_agrees None (Some k) f w = absurd w
 result_agrees (Some k) (Some l) f w = finds k l f w
 
 -- an instruction that gives a result
-gives : (names : List Text) (c : Config) (u : ProgramUnit) (f : Facts) (l : Knowledge) → Stands names c u f l → (o : Option Known) (narrow wide : (Known → Type 0) → Type 0) → Knows o narrow wide
+gives : (names : Names) (c : Config) (u : ProgramUnit) (f : Facts) (l : Knowledge) → Stands names c u f l → (o : Option Known) (narrow wide : (Known → Type 0) → Type 0) → Knows o narrow wide
     → Nexts names o (with_result f) narrow wide (λ k. knowledge (variables_of names f.row) (Some k) f.deferred) (λ k. knowledge l.variables (Some k) l.deferred)
 gives names c u f l s o narrow wide a =
     nexts IsFineKnown IsKnownWithin names o narrow wide a (with_result f) (λ k. knowledge (variables_of names f.row) (Some k) f.deferred) (λ k. knowledge l.variables (Some k) l.deferred)
     (λ k fk. with_result_fine names f k s.fine fk) (λ k fk. part_itself (shown names (with_result f k))) (λ k w fk h. with_result_part names f l k w s.under h)
 
-loaded_agrees : (names : List Text) (c : Config) (u : ProgramUnit) (f : Facts) (l : Knowledge) → Stands names c u f l → (r : Reference)
+loaded_agrees : (names : Names) (c : Config) (u : ProgramUnit) (f : Facts) (l : Knowledge) → Stands names c u f l → (r : Reference)
     → Knows (loaded_operand names f.row (denotation c u r)) (WithOperand (variables_of names f.row) (natural (denotation c u r)) (denotation c u r)) (WithOperand l.variables (natural (denotation c u r)) (denotation c u r))
 loaded_agrees names c u f l s r = operand_agrees names f.row l.variables (variables_of_place names c u f l s) (natural (denotation c u r)) (denotation c u r) (s.denotes r)
 
@@ -146,7 +145,7 @@ operand_map variables e (Indexed name bounds element variable s) g h f x = (x.0,
 operand_map variables e (Inside instance word s) g h f x = f (declared_known s) x
 operand_map variables e Unknown g h f x = x
 
-pub works_load : (names : List Text) (c : Config) (u : ProgramUnit) (f : Facts) (l : Knowledge) → Stands names c u f l → (negated : Bool) (operand : Operand) → Works names c u f l (Load negated operand)
+pub works_load : (names : Names) (c : Config) (u : ProgramUnit) (f : Facts) (l : Knowledge) → Stands names c u f l → (negated : Bool) (operand : Operand) → Works names c u f l (Load negated operand)
 works_load names c u f l s false operand = record { fine = g.fine; sound = g.sound; complete = g.complete }
   where
     d : Denotation
@@ -196,7 +195,7 @@ flag_agrees : (o wide : Option Known) → IsResultWithin o wide → Knows (flag_
 flag_agrees o wide w =
     agrees_is IsFineKnown IsKnownWithin _ _ _ _ (flag_is o) (agrees_if IsFineKnown IsKnownWithin (has_flag o) (o ≡ Some Flag) (wide ≡ Some Flag) (Some Flag) (λ go. go Flag) (λ go. go Flag) (flag_tests o wide w) (finds Flag Flag tt tt))
 
-pub works_not : (names : List Text) (c : Config) (u : ProgramUnit) (f : Facts) (l : Knowledge) → Stands names c u f l → Works names c u f l Not
+pub works_not : (names : Names) (c : Config) (u : ProgramUnit) (f : Facts) (l : Knowledge) → Stands names c u f l → Works names c u f l Not
 works_not names c u f l s = let g = gives names c u f l s (flag_there f.result) _ _ (flag_agrees f.result l.result s.under.result) in record { fine = g.fine; sound = g.sound; complete = g.complete }
 
 -- OPERATORS
@@ -204,7 +203,7 @@ works_not names c u f l s = let g = gives names c u f l s (flag_there f.result) 
 abbrev IsOperatedBy : NameMap Interval → Operator → Denotation → Known → (Known → Type 0) → Type 0
 IsOperatedBy variables operator d left go = WithOperand variables (context d left) d (λ right. WithOperated operator left right go)
 
-operator_agrees : (names : List Text) (c : Config) (u : ProgramUnit) (f : Facts) (l : Knowledge) → Stands names c u f l → (operator : Operator) (r : Reference) (left wide : Known) → IsFineKnown left → IsKnownWithin left wide
+operator_agrees : (names : Names) (c : Config) (u : ProgramUnit) (f : Facts) (l : Knowledge) → Stands names c u f l → (operator : Operator) (r : Reference) (left wide : Known) → IsFineKnown left → IsKnownWithin left wide
     → Knows (operated_by names f.row operator (denotation c u r) left) (IsOperatedBy (variables_of names f.row) operator (denotation c u r) left) (IsOperatedBy l.variables operator (denotation c u r) wide)
 operator_agrees names c u f l s operator r left wide fl within =
     agrees_then IsFineKnown IsKnownWithin IsFineKnown IsKnownWithin _ _ _ (operand left wide within) known_itself (found_operated operator left) (WithOperated operator left) (WithOperated operator wide) (λ x y fx h. operated_agrees operator left x wide y fl fx within h)
@@ -218,7 +217,7 @@ operator_agrees names c u f l s operator r left wide fl within =
     operand Flag (Ranged g j) h = absurd h
     operand (Ranged e i) Flag h = absurd h
 
-pub works_operate : (names : List Text) (c : Config) (u : ProgramUnit) (f : Facts) (l : Knowledge) → Stands names c u f l → (operator : Operator) (operand : Operand) → Works names c u f l (Operate operator operand)
+pub works_operate : (names : Names) (c : Config) (u : ProgramUnit) (f : Facts) (l : Knowledge) → Stands names c u f l → (operator : Operator) (operand : Operand) → Works names c u f l (Operate operator operand)
 works_operate names c u f l s operator operand =
     let a = agrees_then IsFineKnown IsKnownWithin IsFineKnown IsKnownWithin f.result (WithKnownResult f.result) (WithKnownResult l.result) (result_agrees f.result l.result s.fine.result s.under.result) known_itself
     (operated_by names f.row operator (denotation c u operand.reference)) (IsOperatedBy (variables_of names f.row) operator (denotation c u operand.reference)) (IsOperatedBy l.variables operator (denotation c u operand.reference))
@@ -242,7 +241,7 @@ fits_tests e declared (Ranged g i) Flag h = absurd h
 there_tests : (row narrow wide : Option Interval) (bounds : Interval) → narrow ≡ row → IsVariableWithin row wide → Tests (there_fits row bounds) (WithInterval narrow (λ i. IsWithin i bounds)) (WithInterval wide (λ i. IsWithin i bounds))
 there_tests = index_tests
 
-target_tests : (names : List Text) (row : List Interval) (wide : NameMap Interval) → Variables names row wide → (d : Denotation) (k w : Known) → IsKnownWithin k w
+target_tests : (names : Names) (row : List Interval) (wide : NameMap Interval) → Variables names row wide → (d : Denotation) (k w : Known) → IsKnownWithin k w
     → Tests (fits_target names row d k) (WithTarget (variables_of names row) d (λ scalar. Fits scalar k)) (WithTarget wide d (λ scalar. Fits scalar w))
 target_tests names row wide v (Constant l) k w h = record { holds = λ x. let bad : false ≡ true = x in cc; follows = λ x. absurd x }
 target_tests names row wide v (Direct name s) k w h = fits_tests s.elementary (range s) k w h
@@ -263,27 +262,22 @@ target_tests names row wide v (Inside instance word s) k w h = fits_tests s.elem
 target_tests names row wide v Unknown k w h = record { holds = λ x. let bad : false ≡ true = x in cc; follows = λ x. absurd x }
 
 -- a result that its target takes
-pub record IsTaken (names : List Text) (f : Facts) (d : Denotation) (k : Known) : Type 0 where
+pub record IsTaken (names : Names) (f : Facts) (d : Denotation) (k : Known) : Type 0 where
   pub fine : IsFineKnown k
   pub fits : fits_target names f.row d k ≡ true
 
-taken_agrees : (names : List Text) (c : Config) (u : ProgramUnit) (f : Facts) (l : Knowledge) → Stands names c u f l → (d : Denotation) (k w : Known) → IsFineKnown k → IsKnownWithin k w
+taken_agrees : (names : Names) (c : Config) (u : ProgramUnit) (f : Facts) (l : Knowledge) → Stands names c u f l → (d : Denotation) (k w : Known) → IsFineKnown k → IsKnownWithin k w
     → Agrees (IsTaken names f d) IsKnownWithin (taken_by names f d k) (λ go. WithTarget (variables_of names f.row) d (λ scalar. Fits scalar k) × go k) (λ go. WithTarget l.variables d (λ scalar. Fits scalar w) × go w)
 taken_agrees names c u f l s d k w fk h =
     let t = target_tests names f.row l.variables (variables_of_place names c u f l s) d k w h in
     let a = λ (e : fits_target names f.row d k ≡ true). agrees_some (IsTaken names f d) IsKnownWithin k w (record { fine = fk; fits = e }) h in
     agrees_test (IsTaken names f d) IsKnownWithin (fits_target names f.row d k) (WithTarget (variables_of names f.row) d (λ scalar. Fits scalar k)) (WithTarget l.variables d (λ scalar. Fits scalar w)) (Some k) (λ go. go k) (λ go. go w) t (λ q. a (t.follows q)) a
 
--- a ranged scalar has a number
-abbrev pub HasNumber : List Text → Denotation → Type 0
-HasNumber names (Direct name s) = (i : Interval) → range s ≡ Some i → IsAmong names name
-HasNumber names _ = Unit {0}
-
 ranged_fits : (e : Elementary) (declared : Option Interval) (g : Elementary) (i : Interval) → fits_range e declared (Ranged g i) ≡ true → (j : Interval) × (declared ≡ Some j)
 ranged_fits e None g i x = absurd (let bad : false ≡ true = x in cc)
 ranged_fits e (Some j) g i x = (j, refl)
 
-stored_fine : (names : List Text) (f : Facts) (d : Denotation) (k : Known) → IsFine names f → IsFineKnown k → IsFine names (stored names f d k)
+stored_fine : (names : Names) (f : Facts) (d : Denotation) (k : Known) → IsFine names f → IsFineKnown k → IsFine names (stored names f d k)
 stored_fine names f d k h fk = record { row = by_target d k fk; result = h.result; deferred = h.deferred }
   where
     by_target : (d : Denotation) (k : Known) → IsFineKnown k → IsRowOf names (stored_row names d k f.row)
@@ -296,7 +290,7 @@ stored_fine names f d k h fk = record { row = by_target d k fk; result = h.resul
     by_target Unknown k fk = h.row
 
 -- the map after a store, in facts
-stored_same : (names : List Text) (f : Facts) (d : Denotation) (k : Known) → IsRowOf names f.row → HasNumber names d → fits_target names f.row d k ≡ true → (q : Text) → get (after_store d k (variables_of names f.row)) q ≡ get (variables_of names (stored_row names d k f.row)) q
+stored_same : (names : Names) (f : Facts) (d : Denotation) (k : Known) → IsRowOf names f.row → HasNumber names d → fits_target names f.row d k ≡ true → (q : Text) → get (after_store d k (variables_of names f.row)) q ≡ get (variables_of names (stored_row names d k f.row)) q
 stored_same names f (Direct name s) (Ranged e i) fr n fits q = let d = ranged_fits s.elementary (range s) e i fits in put_map names f.row name i fr (n d.0 d.1) q
 stored_same names f (Direct name s) Flag fr n fits q = refl
 stored_same names f (Constant l) k fr n fits q = refl
@@ -325,7 +319,7 @@ store_grows Unknown k w m n h v q = v q
 same_part : (o p : Option Interval) → o ≡ p → IsVariableWithin o p
 same_part o p e = subst (IsVariableWithin o) e (variable_itself o)
 
-pub works_store_plain : (names : List Text) (c : Config) (u : ProgramUnit) (f : Facts) (l : Knowledge) → Stands names c u f l → (to : Operand) → HasNumber names (denotation c u to.reference) → Works names c u f l (Store Plain to)
+pub works_store_plain : (names : Names) (c : Config) (u : ProgramUnit) (f : Facts) (l : Knowledge) → Stands names c u f l → (to : Operand) → HasNumber names (denotation c u to.reference) → Works names c u f l (Store Plain to)
 works_store_plain names c u f l s to n = record { fine = g.fine; sound = g.sound; complete = g.complete }
   where
     d : Denotation
@@ -359,7 +353,7 @@ works_store_plain names c u f l s to n = record { fine = g.fine; sound = g.sound
         (λ k t. stored_fine names f (denotation c u to.reference) k s.fine t.fine) made_part wide_part
 
 -- STN, S and R: a Boolean
-flag_stores : (names : List Text) (c : Config) (u : ProgramUnit) (f : Facts) (l : Knowledge) → Stands names c u f l → (d : Denotation)
+flag_stores : (names : Names) (c : Config) (u : ProgramUnit) (f : Facts) (l : Knowledge) → Stands names c u f l → (d : Denotation)
     → Nexts names (option_and_then (taken_by names f d) (flag_there f.result)) (λ k. f) (λ go. (f.result ≡ Some Flag) × (WithTarget (variables_of names f.row) d (λ scalar. Fits scalar Flag) × go Flag)) (λ go. (l.result ≡ Some Flag) × (WithTarget l.variables d (λ scalar. Fits scalar Flag) × go Flag))
     (λ k. shown names f) (λ k. l)
 flag_stores names c u f l s d =
@@ -421,14 +415,14 @@ passes_stored c u Reset fk to a p variables None ds h = h
 passes_stored c u Reset fk to a p variables (Some Flag) ds h = h
 passes_stored c u Reset fk to a p variables (Some (Ranged e i)) ds h = h
 
-flag_moves : (names : List Text) (c : Config) (u : ProgramUnit) (f : Facts) (kind : StoreKind) → IsFlagKind kind → (to : Operand) → moves_of names c u f (Store kind to) ≡ option_map (λ k. to_next f) (option_and_then (taken_by names f (denotation c u to.reference)) (flag_there f.result))
+flag_moves : (names : Names) (c : Config) (u : ProgramUnit) (f : Facts) (kind : StoreKind) → IsFlagKind kind → (to : Operand) → moves_of names c u f (Store kind to) ≡ option_map (λ k. to_next f) (option_and_then (taken_by names f (denotation c u to.reference)) (flag_there f.result))
 unfolding IsFlagKind
 flag_moves names c u f Plain fk to = absurd fk
 flag_moves names c u f Negated fk to = refl
 flag_moves names c u f Set fk to = refl
 flag_moves names c u f Reset fk to = refl
 
-pub works_store_flag : (names : List Text) (c : Config) (u : ProgramUnit) (f : Facts) (l : Knowledge) → Stands names c u f l → (kind : StoreKind) → IsFlagKind kind → (to : Operand) → Works names c u f l (Store kind to)
+pub works_store_flag : (names : Names) (c : Config) (u : ProgramUnit) (f : Facts) (l : Knowledge) → Stands names c u f l → (kind : StoreKind) → IsFlagKind kind → (to : Operand) → Works names c u f l (Store kind to)
 works_store_flag names c u f l s kind fk to =
     let d = denotation c u to.reference in
     let g = flag_stores names c u f l s d in
@@ -442,7 +436,7 @@ works_store_flag names c u f l s kind fk to =
     }
 
 -- a store of any kind
-pub works_store : (names : List Text) (c : Config) (u : ProgramUnit) (f : Facts) (l : Knowledge) → Stands names c u f l → (kind : StoreKind) (to : Operand) → HasNumber names (denotation c u to.reference) → Works names c u f l (Store kind to)
+pub works_store : (names : Names) (c : Config) (u : ProgramUnit) (f : Facts) (l : Knowledge) → Stands names c u f l → (kind : StoreKind) (to : Operand) → HasNumber names (denotation c u to.reference) → Works names c u f l (Store kind to)
 unfolding IsFlagKind
 works_store names c u f l s Plain to n = works_store_plain names c u f l s to n
 works_store names c u f l s Negated to n = works_store_flag names c u f l s Negated tt to
@@ -463,7 +457,7 @@ then_pair : (x : Known) (o : Option Known) → option_and_then {U = Known × Kno
 then_pair x None = refl
 then_pair x (Some y) = refl
 
-pub works_defer : (names : List Text) (c : Config) (u : ProgramUnit) (f : Facts) (l : Knowledge) → Stands names c u f l → (operator : Operator) (first : Option Operand) → Works names c u f l (Defer operator first)
+pub works_defer : (names : Names) (c : Config) (u : ProgramUnit) (f : Facts) (l : Knowledge) → Stands names c u f l → (operator : Operator) (first : Option Operand) → Works names c u f l (Defer operator first)
 works_defer names c u f l s operator None = record { fine = g.fine; sound = g.sound; complete = g.complete }
   where
     g : Nexts names f.result (λ left. aside f operator left None) (WithKnownResult f.result) (WithKnownResult l.result) (λ left. knowledge (variables_of names f.row) None (deferred operator left ∷ f.deferred)) (λ left. knowledge l.variables None (deferred operator left ∷ l.deferred))
@@ -489,7 +483,7 @@ works_defer names c u f l s operator (Some o) = record { fine = g.fine; sound = 
         (λ p fp. record { row = s.fine.row; result = fp.second; deferred = (fp.first, s.fine.deferred) }) (λ p fp. part_itself (shown names (aside f operator p.0 (Some p.1)))) (λ p w fp h. record { variables = s.under.variables; result = h.second; deferred = (refl, h.first, s.under.deferred) })
 
 -- `)`, by what is set aside in the facts and in the annotation
-pub works_evaluate : (names : List Text) (c : Config) (u : ProgramUnit) (row : List Interval) (result : Option Known) (ds : List KnownDeferred) (variables : NameMap Interval) (wide : Option Known) (es : List KnownDeferred)
+pub works_evaluate : (names : Names) (c : Config) (u : ProgramUnit) (row : List Interval) (result : Option Known) (ds : List KnownDeferred) (variables : NameMap Interval) (wide : Option Known) (es : List KnownDeferred)
     → Stands names c u (facts row result ds) (knowledge variables wide es) → Works names c u (facts row result ds) (knowledge variables wide es) Evaluate
 works_evaluate names c u row result [] variables wide [] s = record {
   fine = λ m e. absurd (let bad : None ≡ Some m = e in cc);
@@ -518,22 +512,22 @@ condition_tests Always o wide w = record { holds = λ e. tt; follows = λ h. ref
 condition_tests WhenTrue o wide w = flag_tests o wide w
 condition_tests WhenFalse o wide w = flag_tests o wide w
 
-passing_fine : (names : List Text) (condition : Condition) (f : Facts) → IsFine names f → HoldsOf (IsFine names) (passing condition f)
+passing_fine : (names : Names) (condition : Condition) (f : Facts) → IsFine names f → HoldsOf (IsFine names) (passing condition f)
 passing_fine names Always f h = tt
 passing_fine names WhenTrue f h = h
 passing_fine names WhenFalse f h = h
 
-may_pass : (names : List Text) (c : Config) (u : ProgramUnit) (a : Annotation) (p : ℕ) (condition : Condition) (f : Facts) → OverNext (Under names) a p (passing condition f) → MayPass (spot c u a p (shown names f)) condition f.result
+may_pass : (names : Names) (c : Config) (u : ProgramUnit) (a : Annotation) (p : ℕ) (condition : Condition) (f : Facts) → OverNext (Under names) a p (passing condition f) → MayPass (spot c u a p (shown names f)) condition f.result
 may_pass names c u a p Always f o = tt
 may_pass names c u a p WhenTrue f o = lead names a (p + 1) f (shown names f) (part_itself (shown names f)) o
 may_pass names c u a p WhenFalse f o = lead names a (p + 1) f (shown names f) (part_itself (shown names f)) o
 
-over_pass : (names : List Text) (c : Config) (u : ProgramUnit) (a : Annotation) (p : ℕ) (condition : Condition) (f : Facts) (l : Knowledge) → Under names f l → MayPass (spot c u a p l) condition l.result → OverNext (Under names) a p (passing condition f)
+over_pass : (names : Names) (c : Config) (u : ProgramUnit) (a : Annotation) (p : ℕ) (condition : Condition) (f : Facts) (l : Knowledge) → Under names f l → MayPass (spot c u a p l) condition l.result → OverNext (Under names) a p (passing condition f)
 over_pass names c u a p Always f l under h = tt
 over_pass names c u a p WhenTrue f l under h = over_lead names a (p + 1) f l under h
 over_pass names c u a p WhenFalse f l under h = over_lead names a (p + 1) f l under h
 
-pub works_return : (names : List Text) (c : Config) (u : ProgramUnit) (f : Facts) (l : Knowledge) → Stands names c u f l → (condition : Condition) → Works names c u f l (Return condition)
+pub works_return : (names : Names) (c : Config) (u : ProgramUnit) (f : Facts) (l : Knowledge) → Stands names c u f l → (condition : Condition) → Works names c u f l (Return condition)
 works_return names c u f l s condition = record {
   fine = λ m e. subst (AreFineMoves names) (gives m e) (record { next = passing_fine names condition f s.fine; jump = tt });
   sound = λ a p m e over.
@@ -551,25 +545,25 @@ works_return names c u f l s condition = record {
     gives : (m : Moves Facts) → provided (has_condition condition f.result) (Some (record { next = passing condition f; jump = None })) ≡ Some m → record { next = passing condition f; jump = None } ≡ m
     gives m e = same_some _ m (provided_is (has_condition condition f.result) (Some (record { next = passing condition f; jump = None })) m e).is
 
-target_fine : (names : List Text) (condition : Condition) (f : Facts) → IsFine names f → IsFine names (facts f.row (result_at_target condition f.result) f.deferred)
+target_fine : (names : Names) (condition : Condition) (f : Facts) → IsFine names f → IsFine names (facts f.row (result_at_target condition f.result) f.deferred)
 target_fine names Always f h = record { row = h.row; result = tt; deferred = h.deferred }
 target_fine names WhenTrue f h = h
 target_fine names WhenFalse f h = h
 
-target_part : (names : List Text) (condition : Condition) (f : Facts) (l : Knowledge) → Under names f l → IsPart (shown names (facts f.row (result_at_target condition f.result) f.deferred)) (knowledge l.variables (result_at_target condition l.result) l.deferred)
+target_part : (names : Names) (condition : Condition) (f : Facts) (l : Knowledge) → Under names f l → IsPart (shown names (facts f.row (result_at_target condition f.result) f.deferred)) (knowledge l.variables (result_at_target condition l.result) l.deferred)
 target_part names Always f l h = record { variables = h.variables; result = tt; deferred = h.deferred }
 target_part names WhenTrue f l h = h
 target_part names WhenFalse f l h = h
 
 -- a jump, by the place of its label
-pub record Jumps (names : List Text) (c : Config) (u : ProgramUnit) (f : Facts) (l : Knowledge) (condition : Condition) (at : Option ℕ) : Type 0 where
+pub record Jumps (names : Names) (c : Config) (u : ProgramUnit) (f : Facts) (l : Knowledge) (condition : Condition) (at : Option ℕ) : Type 0 where
   pub fine : (m : Moves Facts) → provided (has_condition condition f.result) (jumping_to condition f at) ≡ Some m → AreFineMoves names m
   pub sound : (a : Annotation) (p : ℕ) (m : Moves Facts) → provided (has_condition condition f.result) (jumping_to condition f at) ≡ Some m → AllOver (Under names) a p m
       → HasCondition condition f.result × LeadsTo (spot c u a p (shown names f)) at (knowledge (variables_of names f.row) (result_at_target condition f.result) f.deferred) × MayPass (spot c u a p (shown names f)) condition f.result
   pub complete : (a : Annotation) (p : ℕ) → HasCondition condition l.result × LeadsTo (spot c u a p l) at (knowledge l.variables (result_at_target condition l.result) l.deferred) × MayPass (spot c u a p l) condition l.result
       → (m : Moves Facts) × (provided (has_condition condition f.result) (jumping_to condition f at) ≡ Some m) × AllOver (Under names) a p m
 
-pub jumps : (names : List Text) (c : Config) (u : ProgramUnit) (f : Facts) (l : Knowledge) → Stands names c u f l → (condition : Condition) (at : Option ℕ) → Jumps names c u f l condition at
+pub jumps : (names : Names) (c : Config) (u : ProgramUnit) (f : Facts) (l : Knowledge) → Stands names c u f l → (condition : Condition) (at : Option ℕ) → Jumps names c u f l condition at
 jumps names c u f l s condition None = record {
   fine = λ m e. absurd (nothing m e);
   sound = λ a p m e over. absurd (nothing m e);
@@ -612,7 +606,7 @@ bare_tests (d ∷ ds) (e ∷ es) w = record { holds = λ h. absurd (let bad : fa
 bare_tests [] (e ∷ es) w = absurd w
 bare_tests (d ∷ ds) [] w = absurd w
 
-pub works_jump : (names : List Text) (c : Config) (u : ProgramUnit) (f : Facts) (l : Knowledge) → Stands names c u f l → (condition : Condition) (label : Named) → Works names c u f l (Jump condition label)
+pub works_jump : (names : Names) (c : Config) (u : ProgramUnit) (f : Facts) (l : Knowledge) → Stands names c u f l → (condition : Condition) (label : Named) → Works names c u f l (Jump condition label)
 works_jump names c u f l s condition label =
     let g = jumps names c u f l s condition (label_place u.body label.name) in
     let b = bare_tests f.deferred l.deferred s.under.deferred in
@@ -660,7 +654,7 @@ then_cons : (k : Known) (o : Option (List Known)) → option_and_then (λ ks. So
 then_cons k None = refl
 then_cons k (Some ks) = refl
 
-arguments_agree : (names : List Text) (c : Config) (u : ProgramUnit) (f : Facts) (l : Knowledge) → Stands names c u f l → (function : StandardFunction) (first wide : Known) → IsKnownWithin first wide → (os : List Operand)
+arguments_agree : (names : Names) (c : Config) (u : ProgramUnit) (f : Facts) (l : Knowledge) → Stands names c u f l → (function : StandardFunction) (first wide : Known) → IsKnownWithin first wide → (os : List Operand)
     → Agrees AreFine AreWithin (found_arguments names f.row c u function first os) (WithArguments (variables_of names f.row) c u function first os) (WithArguments l.variables c u function wide os)
 unfolding WithArguments
 arguments_agree names c u f l s function first wide h [] = agrees_some AreFine AreWithin [] [] tt tt
@@ -684,7 +678,7 @@ IsAppliedTo : NameMap Interval → Config → ProgramUnit → StandardFunction �
 IsAppliedTo variables c u f operands first go = WithArguments variables c u f first operands (λ ks. WithApplied f first ks go)
 
 -- a call of a standard function, by which it is
-pub record Applies (names : List Text) (c : Config) (u : ProgramUnit) (f : Facts) (l : Knowledge) (function : StandardFunction) (operands : List Operand) : Type 0 where
+pub record Applies (names : Names) (c : Config) (u : ProgramUnit) (f : Facts) (l : Knowledge) (function : StandardFunction) (operands : List Operand) : Type 0 where
   pub fine : (m : Moves Facts) → moves_of_standard names c u f (Some function) operands ≡ Some m → AreFineMoves names m
   pub sound : (own : Option ProgramUnit) (a : Annotation) (p : ℕ) (m : Moves Facts) → moves_of_standard names c u f (Some function) operands ≡ Some m → AllOver (Under names) a p m
       → WithKnownResult f.result (λ first. IsInvoked (spot c u a p (shown names f)) (Some function) own operands first)
@@ -695,7 +689,7 @@ result_map : (o : Option Known) (g h : Known → Type 0) → ((k : Known) → g 
 result_map None g h map x = x
 result_map (Some k) g h map x = map k x
 
-pub applies : (names : List Text) (c : Config) (u : ProgramUnit) (f : Facts) (l : Knowledge) → Stands names c u f l → (function : StandardFunction) (operands : List Operand) → Applies names c u f l function operands
+pub applies : (names : Names) (c : Config) (u : ProgramUnit) (f : Facts) (l : Knowledge) → Stands names c u f l → (function : StandardFunction) (operands : List Operand) → Applies names c u f l function operands
 unfolding IsAppliedTo
 applies names c u f l s function operands = record {
   fine = g.fine;
@@ -715,7 +709,7 @@ applies names c u f l s function operands = record {
         (λ k. knowledge (variables_of names f.row) (Some k) f.deferred) (λ k. knowledge l.variables (Some k) l.deferred)
     g = gives names c u f l s _ _ _ calls
 
-pub works_invoke : (names : List Text) (c : Config) (u : ProgramUnit) (f : Facts) (l : Knowledge) → Stands names c u f l → (function : Named) (operands : List Operand) (standard : StandardFunction) → standard_function function.name ≡ Some standard → Works names c u f l (Invoke function operands)
+pub works_invoke : (names : Names) (c : Config) (u : ProgramUnit) (f : Facts) (l : Knowledge) → Stands names c u f l → (function : Named) (operands : List Operand) (standard : StandardFunction) → standard_function function.name ≡ Some standard → Works names c u f l (Invoke function operands)
 works_invoke names c u f l s function operands standard is = record {
   fine = λ m e. g.fine m (sym same ∙ e);
   sound = λ a p m e over. subst (λ o. WithKnownResult f.result (λ first. IsInvoked (spot c u a p (shown names f)) o (function_named c function.name) operands first)) (sym is) (g.sound (function_named c function.name) a p m (sym same ∙ e) over);

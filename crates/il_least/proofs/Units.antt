@@ -1,21 +1,13 @@
 -- The laws of a unit: where the pass goes over all of its instructions there is an annotation, and where it is refused there is none.
 use Rattle.std.proofs.Common.{◌≡◌, ℕ, suc, ◌+◌, ◌<◌, ◌≤◌, Bool, true, false, List, [], ◌∷◌, length, Option, Some, None, option_map, refl, sym, ap, ◌∙◌, subst, slice_get, arith, map, inl, inr}
-use Rattle.std.specs.Prelude.{option_and_then, if◌then◌else◌}
+use Rattle.std.specs.Prelude.{if◌then◌else◌}
 use Rattle.std.proofs.lemmas.Option.{slice_get_cases}
 use Rattle.il_interval.specs.declared.Interval.{Interval}
 use Rattle.il_spec.specs.declared.tree.Config.{Config}
 use Rattle.il_spec.specs.declared.tree.Unit.{Unit as ProgramUnit}
 use Rattle.il_spec.specs.declared.tree.Body.{Body}
 use Rattle.il_spec.specs.declared.tree.Step.{Step}
-use Rattle.il_spec.specs.declared.tree.Form.{Form}
-use Rattle.il_spec.specs.declared.tree.Form.TheVariants.{Scalar as ScalarForm, Array as ArrayForm, Block as BlockForm}
-use Rattle.il_spec.specs.declared.tree.Scalar.{Scalar}
-use Rattle.il_spec.specs.declared.tree.Index.{Index}
-use Rattle.il_spec.specs.declared.tree.Index.TheVariants.{Number, Variable as ByVariable}
-use Rattle.il_spec.specs.declared.tree.Subrange.{Subrange}
 use Rattle.il_spec.specs.declared.tree.Named.{Named}
-use Rattle.il_spec.specs.declared.tree.Reference.{Reference}
-use Rattle.il_spec.specs.declared.tree.Reference.TheVariants.{Literal as LiteralReference, Variable, Element, Member}
 use Rattle.il_spec.specs.declared.tree.Store.{Store as StoreKind}
 use Rattle.il_spec.specs.declared.tree.Store.TheVariants.{Plain, Negated, Set, Reset}
 use Rattle.il_spec.specs.declared.tree.Operator.{Operator}
@@ -24,76 +16,37 @@ use Rattle.il_spec.specs.declared.tree.Condition.{Condition}
 use Rattle.il_spec.specs.declared.tree.Condition.TheVariants.{Always, WhenTrue, WhenFalse}
 use Rattle.il_spec.specs.declared.tree.Instruction.{Instruction}
 use Rattle.il_spec.specs.declared.tree.Instruction.TheVariants.{Load, Store, Not, Operate, Defer, Evaluate, Jump, Return, Call, Invoke}
-use Rattle.il_rules.specs.Names.{Spelling, form_named, is_one_of}
+use Rattle.il_rules.specs.Names.{Spelling, is_one_of}
 use Rattle.il_rules.specs.Types.{label_from, label_place, StandsAt}
-use Rattle.il_run.specs.NameMap.{Text, get}
-use Rattle.il_run.specs.Meaning.{Denotation, denotation, direct, indexed_by, element_of, inside, member_of}
+use Rattle.il_run.specs.NameMap.{get}
+use Rattle.il_run.specs.Meaning.{Denotation, denotation}
 use Rattle.il_run.specs.Step.{instruction_at, instruction_or_return}
 use Rattle.il_run.specs.declared.known.Known.{Known}
 use Rattle.il_run.specs.declared.known.KnownDeferred.{KnownDeferred}
-use Rattle.il_run.specs.Annotation.{Knowledge, Annotation, Passes, IsVariableWithin, IsResultWithin, IsDeferredWithin, form_range, declared_range, IsEntry, IsAnnotatedBelow, IsAnnotated}
+use Rattle.il_run.specs.Annotation.{Knowledge, Annotation, Passes, IsVariableWithin, IsResultWithin, IsDeferredWithin, declared_range, IsEntry, IsAnnotatedBelow, IsAnnotated}
 use Rattle.il_least.specs.Pass.{Moves, Arrived, advance}
 use Rattle.il_least.specs.declared.facts.Facts.{Facts}
-use Rattle.il_least.specs.Facts.{facts, facts_join, shown, IsFine}
+use Rattle.il_least.specs.Facts.{Names, facts, facts_join, shown, IsFine}
 use Rattle.il_least.specs.Steps.{to_next, stored, aside, moves_of_store, moves_of_defer, moves_of_evaluate, has_condition, passing, jumping_to, is_bare, moves_of_standard, moves_of, moves}
-use Rattle.il_least.specs.Prepared.{IsWithoutCall, IsPrepared, entry, went_over}
+use Rattle.il_least.specs.Prepared.{IsReady, IsPrepared, entry, went_over}
 use Rattle.il_least.specs.Refused.{IsRefusedWith}
 use Rattle.il_least.proofs.Least.{Over, IsInside, IsAhead, IsPass, Settled, settled, annotation, annotation_at, annotates, lies_below, refused, refused_with, same_some, mapped}
-use Rattle.il_least.proofs.Joins.{Under, part_itself, part_trans, row_is, facts_joined, facts_least, variable_itself}
-use Rattle.il_least.proofs.Rows.{is_among}
+use Rattle.il_least.proofs.Joins.{Under, part_itself, part_trans, facts_joined, facts_least}
+use Rattle.il_least.proofs.Rows.{row_is, variable_itself}
 use Rattle.il_least.proofs.Agree.{provided_is}
-use Rattle.il_least.proofs.Instructions.{spot, Works, Stands, HasNumber, works_load, works_store, works_not, works_operate, works_defer, works_evaluate, works_return, works_jump, works_invoke}
-
--- NUMBERS OF NAMES
-
-has_number : (c : Config) (u : ProgramUnit) (names : List Text) (declared : List Interval) → IsPrepared c u names declared → (r : Reference) → HasNumber names (denotation c u r)
-has_number c u names declared j (LiteralReference l) = tt
-has_number c u names declared j (Variable name) = by_form (form_named c u name) refl
-  where
-    by_form : (o : Option Form) → form_named c u name ≡ o → HasNumber names (direct name o)
-    by_form None is = tt
-    by_form (Some (ScalarForm s)) is = λ i e. is_among names declared name i (j.each name ∙ ap (option_and_then form_range) is ∙ e)
-    by_form (Some (ArrayForm bounds element)) is = tt
-    by_form (Some (BlockForm block)) is = tt
-has_number c u names declared j (Element name index) = by_form (form_named c u name) index
-  where
-    by_variable : (bounds : Subrange) (element : Scalar) (v : Text) (o : Option Form) → HasNumber names (indexed_by name bounds element v o)
-    by_variable bounds element v None = tt
-    by_variable bounds element v (Some (ScalarForm s)) = tt
-    by_variable bounds element v (Some (ArrayForm b e)) = tt
-    by_variable bounds element v (Some (BlockForm block)) = tt
-
-    by_form : (o : Option Form) (index : Index) → HasNumber names (element_of (form_named c u) name index o)
-    by_form None index = tt
-    by_form (Some (ScalarForm s)) index = tt
-    by_form (Some (ArrayForm bounds element)) (Number z) = tt
-    by_form (Some (ArrayForm bounds element)) (ByVariable v) = by_variable bounds element v (form_named c u v)
-    by_form (Some (BlockForm block)) index = tt
-has_number c u names declared j (Member instance word) = by_form (form_named c u instance)
-  where
-    by_word : (o : Option Form) → HasNumber names (inside instance word o)
-    by_word None = tt
-    by_word (Some (ScalarForm s)) = tt
-    by_word (Some (ArrayForm bounds element)) = tt
-    by_word (Some (BlockForm block)) = tt
-
-    by_form : (o : Option Form) → HasNumber names (member_of c instance word o)
-    by_form None = tt
-    by_form (Some (ScalarForm s)) = tt
-    by_form (Some (ArrayForm bounds element)) = tt
-    by_form (Some (BlockForm block)) = by_word _
+use Rattle.il_least.proofs.Instructions.{spot, Works, Stands, works_load, works_store, works_not, works_operate, works_defer, works_evaluate, works_return, works_jump, works_invoke}
 
 -- EACH INSTRUCTION
 
-works : (c : Config) (u : ProgramUnit) (names : List Text) (declared : List Interval) → IsPrepared c u names declared → (f : Facts) (l : Knowledge) → IsFine names f → Under names f l → (i : Instruction) → IsWithoutCall i → Works names c u f l i
+works : (c : Config) (u : ProgramUnit) (names : Names) (declared : List Interval) → IsPrepared c u names declared → (f : Facts) (l : Knowledge) → IsFine names f → Under names f l → (i : Instruction) → IsReady names c u i → Works names c u f l i
 works c u names declared j f l fine under i allowed = by_kind i allowed
   where
     s : Stands names c u f l
-    s = record { fine = fine; under = under; denotes = j.denotes; named = λ name i e. is_among names declared name i (j.each name ∙ e) }
+    s = record { fine = fine; under = under; denotes = j.denotes }
 
-    by_kind : (i : Instruction) → IsWithoutCall i → Works names c u f l i
+    by_kind : (i : Instruction) → IsReady names c u i → Works names c u f l i
     by_kind (Load negated operand) h = works_load names c u f l s negated operand
-    by_kind (Store kind to) h = works_store names c u f l s kind to (has_number c u names declared j to.reference)
+    by_kind (Store kind to) h = works_store names c u f l s kind to h
     by_kind Not h = works_not names c u f l s
     by_kind (Operate operator operand) h = works_operate names c u f l s operator operand
     by_kind (Defer operator first) h = works_defer names c u f l s operator first
@@ -114,18 +67,18 @@ pub record OnlyNext (m : Moves Facts) : Type 0 where
 only_next : {X : Type 0} (made : X → Facts) (o : Option X) (m : Moves Facts) → option_map (λ x. to_next (made x)) o ≡ Some m → OnlyNext m
 only_next made o m e = let h = mapped (λ x. to_next (made x)) o m e in subst OnlyNext h.gives (record { f = made h.from; next = refl; jump = refl })
 
-pub data Kind (names : List Text) (c : Config) (u : ProgramUnit) (f : Facts) (m : Moves Facts) : Instruction → Type 0 where
+pub data Kind (names : Names) (c : Config) (u : ProgramUnit) (f : Facts) (m : Moves Facts) : Instruction → Type 0 where
   plain : (i : Instruction) → OnlyNext m → Kind names c u f m i
   returns : (condition : Condition) → m ≡ record { next = passing condition f; jump = None } → Kind names c u f m (Return condition)
   jumps : (condition : Condition) (label : Named) (to : ℕ) (g : Facts) → label_place u.body label.name ≡ Some to → m ≡ record { next = passing condition f; jump = Some (to, g) } → Kind names c u f m (Jump condition label)
 
-store_next : (names : List Text) (f : Facts) (kind : StoreKind) (d : Denotation) (m : Moves Facts) → moves_of_store names f kind d ≡ Some m → OnlyNext m
+store_next : (names : Names) (f : Facts) (kind : StoreKind) (d : Denotation) (m : Moves Facts) → moves_of_store names f kind d ≡ Some m → OnlyNext m
 store_next names f Plain d m e = only_next (stored names f d) _ m e
 store_next names f Negated d m e = only_next (λ k. f) _ m e
 store_next names f Set d m e = only_next (λ k. f) _ m e
 store_next names f Reset d m e = only_next (λ k. f) _ m e
 
-defer_next : (names : List Text) (c : Config) (u : ProgramUnit) (f : Facts) (operator : Operator) (first : Option Operand) (m : Moves Facts) → moves_of_defer names c u f operator first ≡ Some m → OnlyNext m
+defer_next : (names : Names) (c : Config) (u : ProgramUnit) (f : Facts) (operator : Operator) (first : Option Operand) (m : Moves Facts) → moves_of_defer names c u f operator first ≡ Some m → OnlyNext m
 defer_next names c u f operator None m e = only_next (λ left. aside f operator left None) _ m e
 defer_next names c u f operator (Some o) m e = only_next {X = Known × Known} (λ p. aside f operator p.0 (Some p.1)) _ m e
 
@@ -133,7 +86,7 @@ evaluate_next : (f : Facts) (ds : List KnownDeferred) (m : Moves Facts) → move
 evaluate_next f [] m e = absurd (let bad : None ≡ Some m = e in cc)
 evaluate_next f (d ∷ ds) m e = only_next (λ k. facts f.row (Some k) ds) _ m e
 
-kind_of : (names : List Text) (c : Config) (u : ProgramUnit) (f : Facts) (i : Instruction) (m : Moves Facts) → IsWithoutCall i → moves_of names c u f i ≡ Some m → Kind names c u f m i
+kind_of : (names : Names) (c : Config) (u : ProgramUnit) (f : Facts) (i : Instruction) (m : Moves Facts) → IsReady names c u i → moves_of names c u f i ≡ Some m → Kind names c u f m i
 kind_of names c u f (Load negated operand) m allowed e = plain (Load negated operand) (only_next (λ k. facts f.row (Some k) f.deferred) _ m e)
 kind_of names c u f (Store kind to) m allowed e = plain (Store kind to) (store_next names f kind (denotation c u to.reference) m e)
 kind_of names c u f Not m allowed e = plain Not (only_next (λ k. facts f.row (Some k) f.deferred) _ m e)
@@ -194,7 +147,7 @@ next_inside : (o : Option Facts) (total place : ℕ) → place + 1 < total → I
 next_inside None total place h = tt
 next_inside (Some f) total place h = h
 
-good_of : (c : Config) (u : ProgramUnit) (names : List Text) (f : Facts) (i : Instruction) (m : Moves Facts) (place : ℕ) → place < length u.body.steps → ((label : Named) (condition : Condition) (to : ℕ) → i ≡ Jump condition label → label_place u.body label.name ≡ Some to → place < to) → Kind names c u f m i → IsAhead (length u.body.steps + 1) place m.jump
+good_of : (c : Config) (u : ProgramUnit) (names : Names) (f : Facts) (i : Instruction) (m : Moves Facts) (place : ℕ) → place < length u.body.steps → ((label : Named) (condition : Condition) (to : ℕ) → i ≡ Jump condition label → label_place u.body label.name ≡ Some to → place < to) → Kind names c u f m i → IsAhead (length u.body.steps + 1) place m.jump
 good_of c u names f i m place low ahead (plain _ only) = subst (IsAhead (length u.body.steps + 1) place) (sym only.jump) tt
 good_of c u names f (Return condition) m place low ahead (returns _ is) = subst (λ x. IsAhead (length u.body.steps + 1) place x.jump) (sym is) tt
 good_of c u names f (Jump condition label) m place low ahead (jumps _ _ to g there is) =
@@ -203,21 +156,21 @@ good_of c u names f (Jump condition label) m place low ahead (jumps _ _ to g the
 abbrev pub PassesAt : Config → ProgramUnit → Annotation → ℕ → Knowledge → Type 0
 PassesAt c u a p l = Passes (spot c u a p l) (instruction_at u.body p)
 
-works_at : (c : Config) (u : ProgramUnit) (names : List Text) (declared : List Interval) → IsPrepared c u names declared → (f : Facts) (l : Knowledge) → IsFine names f → Under names f l → (place : ℕ) → place < length u.body.steps → Works names c u f l (instruction_at u.body place)
+works_at : (c : Config) (u : ProgramUnit) (names : Names) (declared : List Interval) → IsPrepared c u names declared → (f : Facts) (l : Knowledge) → IsFine names f → Under names f l → (place : ℕ) → place < length u.body.steps → Works names c u f l (instruction_at u.body place)
 works_at c u names declared j f l fine under place low =
     let a = at u.body place low in
-    subst (Works names c u f l) (sym a.is) (works c u names declared j f l fine under a.step.instruction (j.without_call place a.step a.stands))
+    subst (Works names c u f l) (sym a.is) (works c u names declared j f l fine under a.step.instruction (j.ready place a.step a.stands))
 
-kind_at : (c : Config) (u : ProgramUnit) (names : List Text) (declared : List Interval) → IsPrepared c u names declared → (f : Facts) (m : Moves Facts) (place : ℕ) → place < length u.body.steps → moves names c u place f ≡ Some m → Kind names c u f m (instruction_at u.body place)
+kind_at : (c : Config) (u : ProgramUnit) (names : Names) (declared : List Interval) → IsPrepared c u names declared → (f : Facts) (m : Moves Facts) (place : ℕ) → place < length u.body.steps → moves names c u place f ≡ Some m → Kind names c u f m (instruction_at u.body place)
 kind_at c u names declared j f m place low e =
     let a = at u.body place low in
-    kind_of names c u f (instruction_at u.body place) m (subst IsWithoutCall (sym a.is) (j.without_call place a.step a.stands)) e
+    kind_of names c u f (instruction_at u.body place) m (subst (IsReady names c u) (sym a.is) (j.ready place a.step a.stands)) e
 
-ahead_at : (c : Config) (u : ProgramUnit) (names : List Text) (declared : List Interval) → IsPrepared c u names declared → (place : ℕ) → place < length u.body.steps → (label : Named) (condition : Condition) (to : ℕ) → instruction_at u.body place ≡ Jump condition label → label_place u.body label.name ≡ Some to → place < to
+ahead_at : (c : Config) (u : ProgramUnit) (names : Names) (declared : List Interval) → IsPrepared c u names declared → (place : ℕ) → place < length u.body.steps → (label : Named) (condition : Condition) (to : ℕ) → instruction_at u.body place ≡ Jump condition label → label_place u.body label.name ≡ Some to → place < to
 ahead_at c u names declared j place low label condition to is there =
     let a = at u.body place low in j.forward place to a.step label (record { stands = a.stands; condition = condition; jumps = sym a.is ∙ is }) there
 
-pub unit_pass : (c : Config) (u : ProgramUnit) (names : List Text) (declared : List Interval) → IsPrepared c u names declared → IsPass facts_join (moves names c u) (shown names) (Under names) (IsFine names) (PassesAt c u) (length u.body.steps) (length u.body.steps + 1)
+pub unit_pass : (c : Config) (u : ProgramUnit) (names : Names) (declared : List Interval) → IsPrepared c u names declared → IsPass facts_join (moves names c u) (shown names) (Under names) (IsFine names) (PassesAt c u) (length u.body.steps) (length u.body.steps + 1)
 unit_pass c u names declared j = record {
   room = omega arith;
   itself = λ k. part_itself (shown names k);
@@ -238,13 +191,13 @@ unit_pass c u names declared j = record {
 
 -- THE ENTRY
 
-fine_entry : (c : Config) (u : ProgramUnit) (names : List Text) (declared : List Interval) → IsPrepared c u names declared → IsFine names (entry declared)
+fine_entry : (c : Config) (u : ProgramUnit) (names : Names) (declared : List Interval) → IsPrepared c u names declared → IsFine names (entry declared)
 fine_entry c u names declared j = record { row = j.row; result = tt; deferred = tt }
 
-entry_is : (c : Config) (u : ProgramUnit) (names : List Text) (declared : List Interval) → IsPrepared c u names declared → IsEntry c u (shown names (entry declared))
+entry_is : (c : Config) (u : ProgramUnit) (names : Names) (declared : List Interval) → IsPrepared c u names declared → IsEntry c u (shown names (entry declared))
 entry_is c u names declared j = record { variables = λ q. subst (IsVariableWithin (declared_range c u q)) (sym (row_is names declared q ∙ j.each q)) (variable_itself (declared_range c u q)); result = refl; deferred = refl }
 
-entry_over : (c : Config) (u : ProgramUnit) (names : List Text) (declared : List Interval) → IsPrepared c u names declared → (a : Annotation) → (first : Knowledge) × (slice_get a 0 ≡ Some (Some first)) × IsEntry c u first → Over (Under names) a 0 (entry declared)
+entry_over : (c : Config) (u : ProgramUnit) (names : Names) (declared : List Interval) → IsPrepared c u names declared → (a : Annotation) → (first : Knowledge) × (slice_get a 0 ≡ Some (Some first)) × IsEntry c u first → Over (Under names) a 0 (entry declared)
 entry_over c u names declared j a (first, stands, e) = record {
   wide = first;
   stands = stands;
@@ -255,7 +208,7 @@ entry_over c u names declared j a (first, stands, e) = record {
   };
 }
 
-module _ (c : Config) (u : ProgramUnit) (names : List Text) (declared : List Interval) (ready : IsPrepared c u names declared) where
+module _ (c : Config) (u : ProgramUnit) (names : Names) (declared : List Interval) (ready : IsPrepared c u names declared) where
   -- what arrived, after so many places
   settled_at : (n : ℕ) (arrived : Arrived Facts) → n ≤ length u.body.steps → went_over c u names declared n ≡ Some arrived
       → Settled facts_join (moves names c u) (shown names) (Under names) (IsFine names) (PassesAt c u) (length u.body.steps) (length u.body.steps + 1) (unit_pass c u names declared ready) (entry declared) n arrived

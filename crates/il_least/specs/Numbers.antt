@@ -1,5 +1,5 @@
 -- The number of a refusal, by what is known at the place (own rules).
-use Rattle.std.specs.Prelude.{ℕ, Bool, true, false, ◌&&◌, if◌then◌else◌, List, [], ◌∷◌, Option, Some, None, pos}
+use Rattle.std.specs.Prelude.{ℕ, Bool, true, if◌then◌else◌, List, [], ◌∷◌, Option, Some, None, pos}
 use Rattle.il_interval.specs.declared.Interval.{Interval}
 use Rattle.il_spec.specs.declared.tree.Operand.{Operand}
 use Rattle.il_spec.specs.declared.tree.Operator.{Operator}

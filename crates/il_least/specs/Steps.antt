@@ -14,7 +14,6 @@ use Rattle.il_spec.specs.declared.tree.Unit.{Unit as ProgramUnit}
 use Rattle.il_spec.specs.declared.tree.Config.{Config}
 use Rattle.il_rules.specs.Names.{StandardFunction, standard_function}
 use Rattle.il_rules.specs.Types.{label_place}
-use Rattle.il_run.specs.NameMap.{Text}
 use Rattle.il_run.specs.Meaning.{Denotation, Direct, denotation, natural}
 use Rattle.il_run.specs.Step.{instruction_at}
 use Rattle.il_run.specs.declared.known.Known.{Known}
@@ -23,7 +22,7 @@ use Rattle.il_run.specs.declared.known.KnownDeferred.{KnownDeferred}
 use Rattle.il_run.specs.Annotation.{result_at_target, known_argument_type}
 use Rattle.il_least.specs.Pass.{Moves}
 use Rattle.il_least.specs.declared.facts.Facts.{Facts}
-use Rattle.il_least.specs.Facts.{facts, with_result, row_at, row_put}
+use Rattle.il_least.specs.Facts.{Names, facts, with_result, row_at, row_put}
 use Rattle.il_least.specs.Found.{provided, found_operand, found_operated, found_loaded, fits_target, found_applied}
 
 -- to the next place with these facts
@@ -39,22 +38,22 @@ flag_there None = None
 flag_there (Some Flag) = Some Flag
 flag_there (Some (Ranged e i)) = None
 
-abbrev pub loaded_operand : List Text → List Interval → Denotation → Option Known
+abbrev pub loaded_operand : Names → List Interval → Denotation → Option Known
 loaded_operand names row d = found_operand (row_at names row) (natural d) d
 
 -- the row after a store
-abbrev pub stored_row : List Text → Denotation → Known → List Interval → List Interval
+abbrev pub stored_row : Names → Denotation → Known → List Interval → List Interval
 stored_row names (Direct name s) (Ranged e i) row = row_put names row name i
 stored_row names _ _ row = row
 
-abbrev pub stored : List Text → Facts → Denotation → Known → Facts
+abbrev pub stored : Names → Facts → Denotation → Known → Facts
 stored names f d k = facts (stored_row names d k f.row) f.result f.deferred
 
 -- a result that its target takes
-abbrev pub taken_by : List Text → Facts → Denotation → Known → Option Known
+abbrev pub taken_by : Names → Facts → Denotation → Known → Option Known
 taken_by names f d k = provided (fits_target names f.row d k) (Some k)
 
-abbrev pub moves_of_store : List Text → Facts → StoreKind → Denotation → Option (Moves Facts)
+abbrev pub moves_of_store : Names → Facts → StoreKind → Denotation → Option (Moves Facts)
 moves_of_store names f Plain d = option_map (λ k. to_next (stored names f d k)) (option_and_then (taken_by names f d) f.result)
 moves_of_store names f _ d = option_map (λ k. to_next f) (option_and_then (taken_by names f d) (flag_there f.result))
 
@@ -62,7 +61,7 @@ abbrev pub context : Denotation → Known → Elementary
 context d Flag = natural d
 context d (Ranged e i) = e
 
-abbrev pub operated_by : List Text → List Interval → Operator → Denotation → Known → Option Known
+abbrev pub operated_by : Names → List Interval → Operator → Denotation → Known → Option Known
 operated_by names row operator d left = option_and_then (found_operated operator left) (found_operand (row_at names row) (context d left) d)
 
 abbrev pub deferred : Operator → Known → KnownDeferred
@@ -74,7 +73,7 @@ aside f operator left result = facts f.row result (deferred operator left ∷ f.
 abbrev pub paired : Option Known → Option Known → Option (Known × Known)
 paired o p = option_and_then (λ x. option_map (λ y. (x, y)) p) o
 
-abbrev pub moves_of_defer : List Text → Config → ProgramUnit → Facts → Operator → Option Operand → Option (Moves Facts)
+abbrev pub moves_of_defer : Names → Config → ProgramUnit → Facts → Operator → Option Operand → Option (Moves Facts)
 moves_of_defer names c u f operator None = option_map (λ left. to_next (aside f operator left None)) f.result
 moves_of_defer names c u f operator (Some o) =
     option_map (λ p. to_next (aside f operator p.0 (Some p.1))) (paired f.result (loaded_operand names f.row (denotation c u o.reference)))
@@ -106,21 +105,21 @@ is_bare [] = true
 is_bare (d ∷ ds) = false
 
 -- the further arguments of a standard function
-abbrev pub found_arguments : List Text → List Interval → Config → ProgramUnit → StandardFunction → Known → List Operand → Option (List Known)
+abbrev pub found_arguments : Names → List Interval → Config → ProgramUnit → StandardFunction → Known → List Operand → Option (List Known)
 found_arguments names row c u f first [] = Some []
 found_arguments names row c u f first (o ∷ os) =
     option_and_then (λ k. option_map (λ ks. k ∷ ks) (found_arguments names row c u f first os)) (found_operand (row_at names row) (known_argument_type f first (denotation c u o.reference)) (denotation c u o.reference))
 
-abbrev pub applied_to : List Text → List Interval → Config → ProgramUnit → StandardFunction → List Operand → Known → Option Known
+abbrev pub applied_to : Names → List Interval → Config → ProgramUnit → StandardFunction → List Operand → Known → Option Known
 applied_to names row c u f operands first = option_and_then (found_applied f first) (found_arguments names row c u f first operands)
 
 -- a call of a standard function
-abbrev pub moves_of_standard : List Text → Config → ProgramUnit → Facts → Option StandardFunction → List Operand → Option (Moves Facts)
+abbrev pub moves_of_standard : Names → Config → ProgramUnit → Facts → Option StandardFunction → List Operand → Option (Moves Facts)
 moves_of_standard names c u f None operands = None
 moves_of_standard names c u f (Some function) operands = giving f (option_and_then (applied_to names f.row c u function operands) f.result)
 
 -- the moves of an instruction; none where it is refused
-abbrev pub moves_of : List Text → Config → ProgramUnit → Facts → Instruction → Option (Moves Facts)
+abbrev pub moves_of : Names → Config → ProgramUnit → Facts → Instruction → Option (Moves Facts)
 moves_of names c u f (Load negated operand) = giving f (option_and_then (found_loaded negated) (loaded_operand names f.row (denotation c u operand.reference)))
 moves_of names c u f (Store kind to) = moves_of_store names f kind (denotation c u to.reference)
 moves_of names c u f Not = giving f (flag_there f.result)
@@ -133,5 +132,5 @@ moves_of names c u f (Call condition instance arguments) = None
 moves_of names c u f (Invoke function operands) = moves_of_standard names c u f (standard_function function.name) operands
 
 -- the moves of a place
-abbrev pub moves : List Text → Config → ProgramUnit → ℕ → Facts → Option (Moves Facts)
+abbrev pub moves : Names → Config → ProgramUnit → ℕ → Facts → Option (Moves Facts)
 moves names c u place f = moves_of names c u f (instruction_at u.body place)
