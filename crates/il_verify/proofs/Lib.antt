@@ -1,8 +1,7 @@
-pub mod Tests
-pub mod Meanings
+pub mod Tables
+pub mod Joins
 pub mod Proper
-pub mod Operands
-pub mod Places
-pub mod Instructions
-pub mod Works
+pub mod Meanings
+pub mod Numbers
+
 pub mod Verdict

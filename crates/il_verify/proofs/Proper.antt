@@ -16,17 +16,28 @@ use Rattle.il_spec.specs.declared.tree.Scalar.{Scalar}
 use Rattle.il_spec.specs.declared.tree.Subrange.{Subrange}
 use Rattle.il_spec.specs.declared.tree.Elementary.{Elementary}
 use Rattle.il_spec.specs.declared.tree.Elementary.TheVariants.{Bool as Boolean, Int, Time}
+use Rattle.il_spec.specs.declared.tree.Index.{Index}
+use Rattle.il_spec.specs.declared.tree.Index.TheVariants.{Number, Variable as ByVariable}
+use Rattle.il_spec.specs.declared.tree.Reference.{Reference}
+use Rattle.il_spec.specs.declared.tree.Reference.TheVariants.{Literal as OfLiteral, Variable as OfVariable, Element as OfElement, Member as OfMember}
 use Rattle.il_interval.specs.declared.Interval.{Interval}
-use Rattle.il_rules.specs.declared.symbol.Symbol.{Symbol}
-use Rattle.il_rules.specs.Names.{Spelling, Origin, AsVariable, Variable, ImageName, image_of, image_name, is_predeclared, unit_named, own_variable, variables_of, with_origin, named_forms, sees, Meaning, MeansVariable, MeansUnit, MeansStandard, meaning, meant_variable, global_meaning, outer_meaning, or_else}
+use Rattle.il_interval.specs.Interval.{IsOrdered, IsOperand}
+use Rattle.il_rules.specs.Names.{Spelling, Origin, AsVariable, Variable, ImageName, image_of, image_name, is_predeclared, unit_named, own_variable, variables_of, with_origin, named_forms, sees, Meaning, MeansVariable, MeansUnit, MeansStandard, meaning, meant_variable, form_named, global_meaning, outer_meaning, or_else}
 use Rattle.il_rules.specs.Declarations.{has_value, is_within, unless, Admitted, AllForms, ScalarsAlone, ScalarsAndArrays, types_in, unit_types, written_types, type_numbers, subrange_numbers, admitted_variables, result_types, sizes_of, size_outside}
 use Rattle.il_rules.specs.Faults.{empty_range, initial_outside, HasNoFault}
 use Rattle.il_rules.specs.Subset.{broken, IsSupportedProgram, AreSupportedVariables, IsSupportedForm, IsSupportedScalar, BreaksInSubset}
-use Rattle.il_rules.specs.Symbols.{symbol_by, symbol_of}
-use Rattle.il_run.specs.Annotation.{interval, range}
-use Rattle.il_verify.proofs.Tests.{left_true, right_true, le_is, IsRange}
+use Rattle.il_run.specs.Meaning.{denotation, direct, indexed_by, element_of, member_of}
+use Rattle.il_run.specs.Annotation.{interval, range, FitsType, known_by, form_range, declared_range}
+use Rattle.il_least.specs.Facts.{IsFineKnown}
+use Rattle.il_least.specs.Prepared.{IsFineDenotation}
+use Rattle.il_least.proofs.Tests.{left_true, right_true, le_is, type_operand}
 
 -- PROPER TYPES
+
+-- a range that has a number, and lies in the numbers of a type
+pub record IsRange (e : Elementary) (i : Interval) : Type 0 where
+  pub ordered : IsOrdered i
+  pub fits : FitsType e i
 
 -- a BOOL, or a type with a range that has a number and lies in it
 abbrev pub IsProperRange : Elementary → Option Interval → Type 0
@@ -37,15 +48,11 @@ IsProperRange e (Some declared) = IsRange e declared
 abbrev pub IsProper : Scalar → Type 0
 IsProper s = IsProperRange s.elementary (range s)
 
--- the same of a form, if it is scalar
+-- the same of a form, of an array's elements; no form is that of a block
 abbrev pub IsProperForm : Form → Type 0
 IsProperForm (OfScalar s) = IsProper s
-IsProperForm _ = Unit {0}
-
--- the same of what a name means
-abbrev pub IsProperSymbol : Option Symbol → Type 0
-IsProperSymbol None = Unit {0}
-IsProperSymbol (Some s) = IsProper s.scalar
+IsProperForm (OfArray bounds element) = IsProper element
+IsProperForm (OfBlock name) = ⊥
 
 -- VARIABLES OF THE PROGRAM
 
@@ -103,8 +110,8 @@ supported_proper c (OfScalar s) supported h = by_parts s.elementary s.subrange s
     by_parts Int None k h = whole_int
     by_parts Int (Some sub) k h = int_range sub h
     by_parts _ _ k h = absurd k
-supported_proper c (OfArray bounds element) supported h = tt
-supported_proper c (OfBlock name) supported h = tt
+supported_proper c (OfArray bounds element) supported h = absurd supported
+supported_proper c (OfBlock name) supported h = absurd supported
 
 -- a declaration of the program is supported
 declared_supported : (ds : List Declaration) → AreSupportedVariables ds → (d : Declaration) → Contains ds d → IsSupportedForm d.declared.form
@@ -192,70 +199,8 @@ time_proper : IsProper (record { elementary = Time; subrange = None })
 time_proper = record { ordered = omega (arith, ints); fits = (omega (arith, ints), omega (arith, ints)) }
 
 images_proper : (cars floors slots : ℤ) → AreSizes cars floors slots → AllImages (image_of cars floors slots)
-images_proper cars floors slots s = (
-  small cars cars (omega (arith, ints)) (omega (arith, ints)) (omega (arith, ints)),
-  (
-    small floors floors (omega (arith, ints)) (omega (arith, ints)) (omega (arith, ints)),
-    (
-      small slots slots (omega (arith, ints)) (omega (arith, ints)) (omega (arith, ints)),
-      (
-        time_proper,
-        (
-          small (pos 0) cars (omega (arith, ints)) (omega (arith, ints)) (omega (arith, ints)),
-          (
-            small (pos 1) cars (omega (arith, ints)) (omega (arith, ints)) (omega (arith, ints)),
-            (
-              small (pos 1) floors (omega (arith, ints)) (omega (arith, ints)) (omega (arith, ints)),
-              (
-                refl,
-                (
-                  refl,
-                  (
-                    refl,
-                    (
-                      refl,
-                      (
-                        refl,
-                        (
-                          tt,
-                          (
-                            tt,
-                            (
-                              tt,
-                              (
-                                tt,
-                                (
-                                  tt,
-                                  (
-                                    tt,
-                                    (
-                                      small (negsuc 0) (pos 1) (omega (arith, ints)) (omega (arith, ints)) (omega (arith, ints)),
-                                      (
-                                        refl,
-                                        (
-                                          small (pos 0) slots (omega (arith, ints)) (omega (arith, ints)) (omega (arith, ints)),
-                                          (tt, tt),
-                                        ),
-                                      ),
-                                    ),
-                                  ),
-                                ),
-                              ),
-                            ),
-                          ),
-                        ),
-                      ),
-                    ),
-                  ),
-                ),
-              ),
-            ),
-          ),
-        ),
-      ),
-    ),
-  ),
-)
+images_proper cars floors slots s =
+    (small cars cars (omega (arith, ints)) (omega (arith, ints)) (omega (arith, ints)), (small floors floors (omega (arith, ints)) (omega (arith, ints)) (omega (arith, ints)), (small slots slots (omega (arith, ints)) (omega (arith, ints)) (omega (arith, ints)), (time_proper, (small (pos 0) cars (omega (arith, ints)) (omega (arith, ints)) (omega (arith, ints)), (small (pos 1) cars (omega (arith, ints)) (omega (arith, ints)) (omega (arith, ints)), (small (pos 1) floors (omega (arith, ints)) (omega (arith, ints)) (omega (arith, ints)), (refl, (refl, (refl, (refl, (refl, (small (pos 1) floors (omega (arith, ints)) (omega (arith, ints)) (omega (arith, ints)), (small (negsuc 0) (pos 1) (omega (arith, ints)) (omega (arith, ints)) (omega (arith, ints)), (refl, (small (pos 0) floors (omega (arith, ints)) (omega (arith, ints)) (omega (arith, ints)), (small (pos 0) floors (omega (arith, ints)) (omega (arith, ints)) (omega (arith, ints)), (small (pos 0) cars (omega (arith, ints)) (omega (arith, ints)) (omega (arith, ints)), (small (negsuc 0) (pos 1) (omega (arith, ints)) (omega (arith, ints)) (omega (arith, ints)), (refl, (small (pos 0) slots (omega (arith, ints)) (omega (arith, ints)) (omega (arith, ints)), (small (pos 0) cars (omega (arith, ints)) (omega (arith, ints)) (omega (arith, ints)), tt))))))))))))))))))))))
 
 image_proper : (c : Config) → HasNoFault (BreaksInSubset c) → (name : Spelling) (i : ImageName) → image_name c name ≡ Some i → IsProperForm i.variable.form
 unfolding image_name
@@ -293,18 +238,62 @@ unfolding meaning
 meaning_proper c u alone supported declared name =
     means_proper (own_variable u name) (outer_meaning c u name (image_name c name)) (own_proper c u alone supported declared name) (outer_proper c u name (image_name c name) (image_proper c declared name))
 
-symbol_proper_by : (origin : Origin) (f : Form) → IsProperForm f → IsProperSymbol (symbol_by origin f)
-symbol_proper_by origin (OfScalar s) p = p
-symbol_proper_by origin (OfArray bounds element) p = tt
-symbol_proper_by origin (OfBlock name) p = tt
+by_meaning : (m : Option Meaning) (f : Form) → IsProperMeaning m → option_map (λ (v : Variable). v.form) (meant_variable m) ≡ Some f → IsProperForm f
+by_meaning (Some (MeansVariable v)) f p e = let same : v.form ≡ f = cc in subst IsProperForm same p
+by_meaning (Some (MeansUnit u)) f p e = cc
+by_meaning (Some MeansStandard) f p e = cc
+by_meaning None f p e = cc
 
-by_meaning : (m : Option Meaning) → IsProperMeaning m → IsProperSymbol (option_and_then (λ v. symbol_by v.origin v.form) (meant_variable m))
-by_meaning (Some (MeansVariable v)) p = symbol_proper_by v.origin v.form p
-by_meaning (Some (MeansUnit u)) p = tt
-by_meaning (Some MeansStandard) p = tt
-by_meaning None p = tt
+-- the type of a name is proper
+form_proper : (c : Config) (u : ProgramUnit) → c.units ≡ u ∷ [] → IsSupportedProgram u → HasNoFault (BreaksInSubset c) → (name : Spelling) (f : Form) → form_named c u name ≡ Some f → IsProperForm f
+form_proper c u alone supported declared name f e = by_meaning (meaning c u name) f (meaning_proper c u alone supported declared name) e
 
--- the declared range of a name has a number, and lies in its type
-pub symbol_proper : (c : Config) (u : ProgramUnit) → c.units ≡ u ∷ [] → IsSupportedProgram u → HasNoFault (BreaksInSubset c) → (name : Spelling) → IsProperSymbol (symbol_of c u name)
-unfolding symbol_of
-symbol_proper c u alone supported declared name = by_meaning (meaning c u name) (meaning_proper c u alone supported declared name)
+known_fine : (e : Elementary) (o : Option Interval) → IsProperRange e o → IsFineKnown (known_by e o)
+known_fine e None p = tt
+known_fine e (Some i) p = type_operand e i p.ordered p.fits
+
+-- the declared range of a name is one that operations take
+pub declared_operand : (c : Config) (u : ProgramUnit) → c.units ≡ u ∷ [] → IsSupportedProgram u → HasNoFault (BreaksInSubset c) → (name : Spelling) (i : Interval) → declared_range c u name ≡ Some i → IsOperand i
+declared_operand c u alone supported declared name i e = by_form (form_named c u name) refl e
+  where
+    by_range : (t : Elementary) (o : Option Interval) → IsProperRange t o → o ≡ Some i → IsOperand i
+    by_range t None p e = cc
+    by_range t (Some j) p e = let same : j ≡ i = cc in subst IsOperand same (type_operand t j p.ordered p.fits)
+
+    by_form : (o : Option Form) → form_named c u name ≡ o → option_and_then form_range o ≡ Some i → IsOperand i
+    by_form None is e = cc
+    by_form (Some (OfScalar s)) is e = by_range s.elementary (range s) (form_proper c u alone supported declared name (OfScalar s) is) e
+    by_form (Some (OfArray bounds element)) is e = cc
+    by_form (Some (OfBlock name)) is e = cc
+
+-- so is what an operand declares
+pub denotes_fine : (c : Config) (u : ProgramUnit) → c.units ≡ u ∷ [] → IsSupportedProgram u → HasNoFault (BreaksInSubset c) → (r : Reference) → IsFineDenotation (denotation c u r)
+denotes_fine c u alone supported declared (OfLiteral l) = tt
+denotes_fine c u alone supported declared (OfVariable name) = by_form (form_named c u name)
+  where
+    by_form : (o : Option Form) → IsFineDenotation (direct name o)
+    by_form None = tt
+    by_form (Some (OfScalar s)) = tt
+    by_form (Some (OfArray bounds element)) = tt
+    by_form (Some (OfBlock block)) = tt
+denotes_fine c u alone supported declared (OfElement name index) = by_form (form_named c u name) refl index
+  where
+    by_variable : (bounds : Subrange) (element : Scalar) (v : Spelling) (o : Option Form) → IsProper element → IsFineDenotation (indexed_by name bounds element v o)
+    by_variable bounds element v None p = tt
+    by_variable bounds element v (Some (OfScalar s)) p = known_fine element.elementary (range element) p
+    by_variable bounds element v (Some (OfArray b e)) p = tt
+    by_variable bounds element v (Some (OfBlock block)) p = tt
+
+    by_form : (o : Option Form) → form_named c u name ≡ o → (index : Index) → IsFineDenotation (element_of (form_named c u) name index o)
+    by_form None is index = tt
+    by_form (Some (OfScalar s)) is index = tt
+    by_form (Some (OfArray bounds element)) is (Number z) = known_fine element.elementary (range element) (form_proper c u alone supported declared name (OfArray bounds element) is)
+    by_form (Some (OfArray bounds element)) is (ByVariable v) = by_variable bounds element v (form_named c u v) (form_proper c u alone supported declared name (OfArray bounds element) is)
+    by_form (Some (OfBlock block)) is index = tt
+denotes_fine c u alone supported declared (OfMember instance word) = by_form (form_named c u instance) refl
+  where
+    by_form : (o : Option Form) → form_named c u instance ≡ o → IsFineDenotation (member_of c instance word o)
+    by_form None is = tt
+    by_form (Some (OfScalar s)) is = tt
+    by_form (Some (OfArray bounds element)) is = tt
+    by_form (Some (OfBlock block)) is = absurd (form_proper c u alone supported declared instance (OfBlock block) is)

@@ -1,2 +1,3 @@
 pub mod Resolved
-pub mod Forward
+pub mod Tables
+pub mod Program

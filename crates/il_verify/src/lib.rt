@@ -1,9 +1,12 @@
-//! The verifier: it finds ranges for each instruction, by one pass from the first to the last.
+//! The verifier: it finds ranges for each instruction, by one forward pass with joins where paths meet.
 #![tactic(auto)]
 
 mod code;
+mod join;
 mod known;
-mod ranges;
+mod numbering;
+mod pass;
+mod program;
 mod verifier;
 
 pub use code::Checked;

@@ -1,0 +1,136 @@
+-- Where each instruction leads, and with which facts (own rules). Calls of own units and of blocks are not there yet.
+use Rattle.std.specs.Prelude.{ℕ, Bool, false, true, List, [], ◌∷◌, Option, Some, None, option_map, option_and_then}
+use Rattle.il_interval.specs.declared.Interval.{Interval}
+use Rattle.il_spec.specs.declared.tree.Elementary.{Elementary}
+use Rattle.il_spec.specs.declared.tree.Operand.{Operand}
+use Rattle.il_spec.specs.declared.tree.Operator.{Operator}
+use Rattle.il_spec.specs.declared.tree.Store.{Store as StoreKind}
+use Rattle.il_spec.specs.declared.tree.Store.TheVariants.{Plain}
+use Rattle.il_spec.specs.declared.tree.Condition.{Condition}
+use Rattle.il_spec.specs.declared.tree.Condition.TheVariants.{Always}
+use Rattle.il_spec.specs.declared.tree.Instruction.{Instruction}
+use Rattle.il_spec.specs.declared.tree.Instruction.TheVariants.{Load, Store, Not, Operate, Defer, Evaluate, Jump, Return, Call, Invoke}
+use Rattle.il_spec.specs.declared.tree.Unit.{Unit as ProgramUnit}
+use Rattle.il_spec.specs.declared.tree.Config.{Config}
+use Rattle.il_rules.specs.Names.{StandardFunction, standard_function}
+use Rattle.il_rules.specs.Types.{label_place}
+use Rattle.il_run.specs.Meaning.{Denotation, Direct, denotation, natural}
+use Rattle.il_run.specs.Step.{instruction_at}
+use Rattle.il_run.specs.declared.known.Known.{Known}
+use Rattle.il_run.specs.declared.known.Known.TheVariants.{Flag, Ranged}
+use Rattle.il_run.specs.declared.known.KnownDeferred.{KnownDeferred}
+use Rattle.il_run.specs.Annotation.{result_at_target, known_argument_type}
+use Rattle.il_least.specs.Pass.{Moves}
+use Rattle.il_least.specs.declared.facts.Facts.{Facts}
+use Rattle.il_least.specs.Facts.{Names, facts, with_result, row_at, row_put}
+use Rattle.il_least.specs.Found.{provided, found_operand, found_operated, found_loaded, fits_target, found_applied}
+
+-- to the next place with these facts
+abbrev pub to_next : Facts → Moves Facts
+to_next f = record { next = Some f; jump = None }
+
+-- to the next place with this result
+abbrev pub giving : Facts → Option Known → Option (Moves Facts)
+giving f = option_map (λ k. to_next (with_result f k))
+
+abbrev pub flag_there : Option Known → Option Known
+flag_there None = None
+flag_there (Some Flag) = Some Flag
+flag_there (Some (Ranged e i)) = None
+
+abbrev pub loaded_operand : Names → List Interval → Denotation → Option Known
+loaded_operand names row d = found_operand (row_at names row) (natural d) d
+
+-- the row after a store
+abbrev pub stored_row : Names → Denotation → Known → List Interval → List Interval
+stored_row names (Direct name s) (Ranged e i) row = row_put names row name i
+stored_row names _ _ row = row
+
+abbrev pub stored : Names → Facts → Denotation → Known → Facts
+stored names f d k = facts (stored_row names d k f.row) f.result f.deferred
+
+-- a result that its target takes
+abbrev pub taken_by : Names → Facts → Denotation → Known → Option Known
+taken_by names f d k = provided (fits_target names f.row d k) (Some k)
+
+abbrev pub moves_of_store : Names → Facts → StoreKind → Denotation → Option (Moves Facts)
+moves_of_store names f Plain d = option_map (λ k. to_next (stored names f d k)) (option_and_then (taken_by names f d) f.result)
+moves_of_store names f _ d = option_map (λ k. to_next f) (option_and_then (taken_by names f d) (flag_there f.result))
+
+abbrev pub context : Denotation → Known → Elementary
+context d Flag = natural d
+context d (Ranged e i) = e
+
+abbrev pub operated_by : Names → List Interval → Operator → Denotation → Known → Option Known
+operated_by names row operator d left = option_and_then (found_operated operator left) (found_operand (row_at names row) (context d left) d)
+
+abbrev pub deferred : Operator → Known → KnownDeferred
+deferred operator left = record { operator = operator; left = left }
+
+abbrev pub aside : Facts → Operator → Known → Option Known → Facts
+aside f operator left result = facts f.row result (deferred operator left ∷ f.deferred)
+
+abbrev pub paired : Option Known → Option Known → Option (Known × Known)
+paired o p = option_and_then (λ x. option_map (λ y. (x, y)) p) o
+
+abbrev pub moves_of_defer : Names → Config → ProgramUnit → Facts → Operator → Option Operand → Option (Moves Facts)
+moves_of_defer names c u f operator None = option_map (λ left. to_next (aside f operator left None)) f.result
+moves_of_defer names c u f operator (Some o) =
+    option_map (λ p. to_next (aside f operator p.0 (Some p.1))) (paired f.result (loaded_operand names f.row (denotation c u o.reference)))
+
+abbrev pub moves_of_evaluate : Facts → List KnownDeferred → Option (Moves Facts)
+moves_of_evaluate f [] = None
+moves_of_evaluate f (d ∷ ds) = option_map (λ k. to_next (facts f.row (Some k) ds)) (option_and_then (found_operated d.operator d.left) f.result)
+
+abbrev pub has_flag : Option Known → Bool
+has_flag None = false
+has_flag (Some Flag) = true
+has_flag (Some (Ranged e i)) = false
+
+abbrev pub has_condition : Condition → Option Known → Bool
+has_condition Always result = true
+has_condition _ result = has_flag result
+
+abbrev pub passing : Condition → Facts → Option Facts
+passing Always f = None
+passing _ f = Some f
+
+abbrev pub jumping_to : Condition → Facts → Option ℕ → Option (Moves Facts)
+jumping_to condition f None = None
+jumping_to condition f (Some to) = Some (record { next = passing condition f; jump = Some (to, facts f.row (result_at_target condition f.result) f.deferred) })
+
+-- nothing is set aside
+abbrev pub is_bare : List KnownDeferred → Bool
+is_bare [] = true
+is_bare (d ∷ ds) = false
+
+-- the further arguments of a standard function
+abbrev pub found_arguments : Names → List Interval → Config → ProgramUnit → StandardFunction → Known → List Operand → Option (List Known)
+found_arguments names row c u f first [] = Some []
+found_arguments names row c u f first (o ∷ os) =
+    option_and_then (λ k. option_map (λ ks. k ∷ ks) (found_arguments names row c u f first os)) (found_operand (row_at names row) (known_argument_type f first (denotation c u o.reference)) (denotation c u o.reference))
+
+abbrev pub applied_to : Names → List Interval → Config → ProgramUnit → StandardFunction → List Operand → Known → Option Known
+applied_to names row c u f operands first = option_and_then (found_applied f first) (found_arguments names row c u f first operands)
+
+-- a call of a standard function
+abbrev pub moves_of_standard : Names → Config → ProgramUnit → Facts → Option StandardFunction → List Operand → Option (Moves Facts)
+moves_of_standard names c u f None operands = None
+moves_of_standard names c u f (Some function) operands = giving f (option_and_then (applied_to names f.row c u function operands) f.result)
+
+-- the moves of an instruction; none where it is refused
+abbrev pub moves_of : Names → Config → ProgramUnit → Facts → Instruction → Option (Moves Facts)
+moves_of names c u f (Load negated operand) = giving f (option_and_then (found_loaded negated) (loaded_operand names f.row (denotation c u operand.reference)))
+moves_of names c u f (Store kind to) = moves_of_store names f kind (denotation c u to.reference)
+moves_of names c u f Not = giving f (flag_there f.result)
+moves_of names c u f (Operate operator operand) = giving f (option_and_then (operated_by names f.row operator (denotation c u operand.reference)) f.result)
+moves_of names c u f (Defer operator first) = moves_of_defer names c u f operator first
+moves_of names c u f Evaluate = moves_of_evaluate f f.deferred
+moves_of names c u f (Jump condition label) = provided (is_bare f.deferred) (provided (has_condition condition f.result) (jumping_to condition f (label_place u.body label.name)))
+moves_of names c u f (Return condition) = provided (has_condition condition f.result) (Some (record { next = passing condition f; jump = None }))
+moves_of names c u f (Call condition instance arguments) = None
+moves_of names c u f (Invoke function operands) = moves_of_standard names c u f (standard_function function.name) operands
+
+-- the moves of a place
+abbrev pub moves : Names → Config → ProgramUnit → ℕ → Facts → Option (Moves Facts)
+moves names c u place f = moves_of names c u f (instruction_at u.body place)
