@@ -6,24 +6,23 @@ ghost use Rattle.il_spec.specs.declared.tree.Unit.{Unit as Organized};
 ghost use Rattle.il_rules.specs.Symbols.{IsProgram};
 ghost use Rattle.il_run.specs.Scan.{opening_variables};
 ghost use Rattle.il_machine.specs.Opening.{shown_of};
-ghost use Rattle.il_machine.specs.Scanning.{IsScanOf, OwnsDeclared};
+ghost use Rattle.il_machine.specs.Scanning.{OwnsDeclared, variables_in, image_in, kept_of};
 ghost use Rattle.lift_spec.specs.Image.{sizes_of, opening_image, FieldsInRange, fields_in_range, Obeys};
 ghost use Rattle.il_run.specs.NameMap as values;
-ghost use Rattle.lift_spec.specs.Snapshot.{truth_of};
 ghost use Rattle.lift_spec.specs.World as model;
 ghost use Rattle.il_machine.specs.Costs.{AreCosts};
-ghost use Rattle.lift_world.specs.Running.{outputs_at, report_of, commit_report, after_commit, refresh_report, refreshed, RefusesUnchanged, IsWorldOf, IsStart, IsInstruction, IsCommit, IsRefresh, world_of, event_of};
+ghost use Rattle.lift_world.specs.Running.{HasRows, outputs_at, report_of, commit_report, after_commit, refresh_report, refreshed, RefusesUnchanged, IsWorldOf, IsStart, IsInstruction, IsCommit, IsRefresh, world_of, event_of};
 
 use crate::event::Event;
 use crate::opening::opening_image;
 use crate::replies::Replies;
 use crate::shown::show;
-use il_machine::{Begin, Stepped, Store, Value, Verified, step};
+use il_machine::{Begin, ImageFlag, Stepped, Store, Value, Verified, step};
 use il_spec::fault::Refusal;
 use lift_image::{CarOutputs, Fields, Image, Motor, Row, Sizes, in_range};
 use lift_spec::event::{EventFault, Reply};
 use lift_spec::report::{Denial, Report, Rule};
-use std::alloc::{AllocError, Global};
+use std::alloc::Global;
 use std::marker::Model;
 
 /// The number of the only task so far, CAR1.
@@ -40,25 +39,15 @@ pub struct Controller {
 }
 
 impl Model for Controller {
-    ghost use Rattle.lift_world.specs.Running.{Running, running_code, IsWorldOf};
+    ghost use Rattle.lift_world.specs.Running.{Running, running_code, running_of, IsWorldOf, HasRows};
 
     ghost Value = { Running };
 
     ghost coded = { running_code };
 
-    ghost view = { λ w. record { program = w.verified; image = w.image; variables = w.begin.variables; shown = w.begin.snapshot; scan = w.store; busy = w.busy } };
+    ghost view = { λ w. running_of w.verified w.image w.begin w.store w.busy };
 
-    ghost invariant = { λ w. IsWorldOf (record { program = w.verified; image = w.image; variables = w.begin.variables; shown = w.begin.snapshot; scan = w.store; busy = w.busy }) };
-}
-
-// Whether a value is TRUE.
-fn is_true(value: Option<Value>) -> bool
-    ensures { result ≡ truth_of value }
-{
-    match value {
-        Some(Value::Boolean(truth)) => truth,
-        _ => false,
-    }
+    ghost invariant = { λ w. IsWorldOf (running_of w.verified w.image w.begin w.store w.busy) × HasRows w.verified.config w.begin w.store };
 }
 
 // The car's outputs, where its door is asked to be open: it is so only at a level.
@@ -96,27 +85,16 @@ fn report(asked: bool, level: bool) -> Report
 
 // A scan's start in the opening world, and the same to begin the next scans with.
 fn first_scan(alloc: Global, verified: &Verified) -> Result<(Store, Begin), Refusal>
-    ensures scan { IfOk result (λ s. IsScanOf verified.now.config s.0) }
-    ensures variables { IfOk result (λ s. (u : Organized) → IsProgram verified.now.config u → s.0.variables ≡ opening_variables verified.now.config u) }
-    ensures written { IfOk result (λ s. s.0.written ≡ shown_of verified.now.config (opening_image (sizes_of verified.now.config))) }
-    ensures own { IfOk result (λ s. OwnsDeclared verified.now.config s.0.variables) }
-    ensures begin { IfOk result (λ s. (s.1.variables ≡ s.0.variables) × (s.1.snapshot ≡ s.0.written)) }
+    ensures rows { IfOk result (λ s. HasRows verified.now.config s.1 s.0) }
+    ensures variables { IfOk result (λ s. (u : Organized) → IsProgram verified.now.config u → (kept_of verified.now.config 1 s.0).variables ≡ opening_variables verified.now.config u) }
+    ensures written { IfOk result (λ s. (kept_of verified.now.config 1 s.0).written ≡ shown_of verified.now.config (opening_image (sizes_of verified.now.config))) }
+    ensures own { IfOk result (λ s. OwnsDeclared verified.now.config (kept_of verified.now.config 1 s.0).variables) }
+    ensures begin { IfOk result (λ s. (variables_in verified.now.config 1 s.1.variables ≡ (kept_of verified.now.config 1 s.0).variables) × (image_in verified.now.config 1 s.1.snapshot ≡ (kept_of verified.now.config 1 s.0).written)) }
     ensures memory { IfErr result (λ e. e ≡ Memory) }
 {
     let store = Store::new(alloc, verified, CAR)?;
-    let begin = begin_of(alloc, &store)?;
+    let begin = Begin::of(alloc, verified, CAR, &store)?;
     Ok((store, begin))
-}
-
-// What the next scan begins with, where it begins as the store stands.
-fn begin_of(alloc: Global, store: &Store) -> Result<Begin, AllocError>
-    ensures variables { IfOk result (λ b. b.variables ≡ store.now.variables) }
-    ensures snapshot { IfOk result (λ b. b.snapshot ≡ store.now.written) }
-{
-    Ok(Begin {
-        variables: store.variables().try_copy(alloc)?,
-        snapshot: store.written().try_copy(alloc)?,
-    })
 }
 
 impl Controller {
@@ -200,13 +178,13 @@ impl Controller {
         ensures report { result ≡ commit_report self.old }
         ensures world { self.new ≡ after_commit self.old }
     {
-        let asked = is_true(self.store.value("OPEN"));
+        let asked = self.store.flag(&self.verified, CAR, ImageFlag::Open);
         let level = self.image.fields.cars.as_slice()[0].level;
         let outputs = outputs_at(asked, level);
-        self.begin.variables.copy_from(self.store.variables());
+        self.store
+            .copy_variables(&self.verified, CAR, &mut self.begin.variables);
         self.begin
-            .snapshot
-            .set("OPEN", Value::Boolean(outputs.opens));
+            .show_flag(&self.verified, CAR, ImageFlag::Open, outputs.opens);
         self.image.outputs.set(0, outputs);
         self.busy = false;
         report(asked, level)
@@ -236,7 +214,8 @@ impl Controller {
         let car = fields.cars.as_slice()[0];
         let outputs = outputs_at(asked, car.level);
         show(
-            &mut self.begin.snapshot,
+            &mut self.begin,
+            &self.verified,
             fields.time,
             fields.run_limit,
             car,
@@ -311,7 +290,7 @@ impl Controller {
         ensures other { task ≢ 1 → result ≡ None }
     {
         if task == CAR {
-            self.begin.variables.get(path)
+            self.begin.variable(&self.verified, CAR, path)
         } else {
             None
         }
