@@ -16,14 +16,14 @@ use std::marker::Model;
 
 /// What each slot keeps, and the slot of each path.
 #[derive(Drop)]
-pub struct Slots {
-    pub cells: Items<Cell>,
-    pub paths: Table<usize>,
+pub(crate) struct Slots {
+    pub(crate) cells: Items<Cell>,
+    pub(crate) paths: Table<usize>,
 }
 
 impl Slots {
     /// No slot.
-    pub fn new(alloc: Global) -> Slots
+    pub(crate) fn new(alloc: Global) -> Slots
         ensures { result ≡ no_slots }
     {
         Slots {
@@ -33,7 +33,12 @@ impl Slots {
     }
 
     /// Adds a slot at the end.
-    pub fn push(&mut self, alloc: Global, path: &str, scalar: Scalar) -> Result<(), AllocError>
+    pub(crate) fn push(
+        &mut self,
+        alloc: Global,
+        path: &str,
+        scalar: Scalar,
+    ) -> Result<(), AllocError>
         ensures { OnOk result (self.new ≡ pushed self.old path.now scalar) }
     {
         let slot = self.cells.as_slice().len();
