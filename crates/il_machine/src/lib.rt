@@ -3,6 +3,7 @@
 
 pub mod frames;
 mod instruction;
+mod opening;
 pub mod rows;
 pub mod store;
 pub mod verified;
