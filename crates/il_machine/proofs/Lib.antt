@@ -12,3 +12,4 @@ pub mod Stepping
 pub mod Openings
 pub mod Opened
 pub mod Opens
+pub mod Images

@@ -144,7 +144,7 @@ are_calls n cars floors =
 are_car : (cars floors slots : ℤ) → AreOf (car_cells cars floors slots) (car_entries 1 opening_car opening_outputs)
 are_car cars floors slots = ((refl, refl, (refl, refl, (refl, refl, (refl, refl, (refl, refl, (refl, refl, (refl, refl, (refl, refl, (refl, refl, (refl, refl, tt)))))))))))
 
-width_is : (c : Config) → HasSizes c → width_of c.slots.value ≡ (sizes_of c).slots
+pub width_is : (c : Config) → HasSizes c → width_of c.slots.value ≡ (sizes_of c).slots
 width_is c s = ap width_of s.slots.is ∙ ap nat_abs (sym s.slots.is)
 
 are_image : (c : Config) → HasSizes c → AreOf (image_cells c) (opening_entries c)

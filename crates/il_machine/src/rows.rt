@@ -3,7 +3,7 @@
 ghost use Rattle.std.specs.Prelude.{◌≡◌, ◌+◌, ◌≤◌, ◌<◌, ◌++◌, IsSome, Some, IfOk, OnOk, length, take, set, slice_get};
 ghost use Rattle.il_code.specs.Layout.{rows};
 ghost use Rattle.il_code.specs.Paths.{with_value};
-ghost use Rattle.il_machine.specs.Scanning.{joined};
+ghost use Rattle.il_machine.specs.Scanning.{joined, front, behind};
 ghost use Rattle.il_machine.specs.Effect.{read, write, element_base, boolean_of, number_of};
 
 use il_code::flat::Slot;
@@ -103,6 +103,19 @@ impl Rows {
         );
     }
 
+    /// The first values, and those behind them.
+    pub fn parts(&self, alloc: Global, own: usize) -> Result<(Rows, Rows), AllocError>
+        requires numbers { own ≤ length self.now.numbers }
+        requires flags { own ≤ length self.now.flags }
+        ensures first { IfOk result (λ p. p.0 ≡ front own self.now) }
+        ensures others { IfOk result (λ p. p.1 ≡ behind own self.now) }
+    {
+        let (numbers, more_numbers) = self.numbers.split_at(own);
+        let (flags, more_flags) = self.flags.split_at(own);
+        let first = Rows::of(alloc, numbers, flags)?;
+        Ok((first, Rows::of(alloc, more_numbers, more_flags)?))
+    }
+
     /// Takes the first values of others.
     pub fn copy_front(&mut self, others: &Rows)
         requires numbers { length self.old.numbers ≤ length others.now.numbers }
@@ -116,11 +129,12 @@ impl Rows {
     }
 
     /// The Boolean of a slot.
-    pub fn flag(&self, at: usize) -> bool
-        requires { at < length self.now.flags }
-        ensures { slice_get self.now.flags at ≡ Some result }
+    pub fn flag(&self, base: usize, offset: usize) -> bool
+        requires { base + offset < length self.now.flags }
+        ensures { slice_get self.now.flags (base + offset) ≡ Some result }
     {
-        self.flags[at]
+        let _room = self.flags.len();
+        self.flags[base + offset]
     }
 
     /// Gives a slot a Boolean.
