@@ -9,3 +9,7 @@ pub mod Scans
 pub mod Codes
 pub mod Starts
 pub mod Stepping
+pub mod Openings
+pub mod Opened
+pub mod Opens
+pub mod Images

@@ -3,6 +3,7 @@ pub mod Going
 pub mod Framing
 pub mod Held
 pub mod Scanning
+pub mod Image
 pub mod Opening
 pub mod Listing
 pub mod Costs

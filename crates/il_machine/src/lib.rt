@@ -2,13 +2,15 @@
 #![tactic(auto)]
 
 pub mod frames;
+pub mod image;
 mod instruction;
+mod opening;
 pub mod rows;
 pub mod store;
 pub mod verified;
 
-pub use il_code::code::Code;
 pub use il_run::value::Value;
+pub use image::{ImageFlag, ImageNumber};
 pub use rows::Rows;
 pub use store::{Begin, Stepped, Store, step};
 pub use verified::{TaskInfo, UnitCost, UnitInfo, Verified};

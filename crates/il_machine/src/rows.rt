@@ -1,13 +1,15 @@
 // The rows of values.
 
-ghost use Rattle.std.specs.Prelude.{◌≡◌, ◌+◌, ◌≤◌, ◌<◌, ◌++◌, IsSome, Some, length, take, set, slice_get};
+ghost use Rattle.std.specs.Prelude.{◌≡◌, ◌+◌, ◌≤◌, ◌<◌, ◌++◌, IsSome, Some, IfOk, OnOk, length, take, set, slice_get};
 ghost use Rattle.il_code.specs.Layout.{rows};
-ghost use Rattle.il_machine.specs.Scanning.{joined};
+ghost use Rattle.il_code.specs.Paths.{with_value};
+ghost use Rattle.il_machine.specs.Scanning.{joined, front, behind};
 ghost use Rattle.il_machine.specs.Effect.{read, write, element_base, boolean_of, number_of};
 
 use il_code::flat::Slot;
 use il_run::value::{Content, Value};
 use il_spec::tree::{Elementary, Subrange};
+use std::alloc::{AllocError, Global};
 use std::marker::Model;
 
 /// A number and a Boolean for each slot.
@@ -60,6 +62,29 @@ fn join<T: Copy>(row: &mut [T], first: &[T], behind: &[T])
 }
 
 impl Rows {
+    /// The rows of these numbers and Booleans.
+    pub fn of(alloc: Global, numbers: &[i64], flags: &[bool]) -> Result<Rows, AllocError>
+        ensures { IfOk result (λ r. r ≡ rows numbers.now flags.now) }
+    {
+        Ok(Rows {
+            numbers: Vec::from_slice(alloc, numbers)?,
+            flags: Vec::from_slice(alloc, flags)?,
+        })
+    }
+
+    /// Adds a slot with a value.
+    pub fn push(&mut self, value: Value) -> Result<(), AllocError>
+        ensures { OnOk result (self.new ≡ with_value self.old value) }
+    {
+        let (number, flag) = match value {
+            Value::Boolean(flag) => (0, flag),
+            Value::Integer(number) => (number, false),
+        };
+        self.numbers.push(number)?;
+        self.flags.push(flag)?;
+        Ok(())
+    }
+
     /// Takes the values of two, those of the second behind those of the first.
     pub fn join(&mut self, first: &Rows, behind: &Rows)
         requires numbers { length self.old.numbers ≡ length first.now.numbers + length behind.now.numbers }
@@ -78,6 +103,19 @@ impl Rows {
         );
     }
 
+    /// The first values, and those behind them.
+    pub fn parts(&self, alloc: Global, own: usize) -> Result<(Rows, Rows), AllocError>
+        requires numbers { own ≤ length self.now.numbers }
+        requires flags { own ≤ length self.now.flags }
+        ensures first { IfOk result (λ p. p.0 ≡ front own self.now) }
+        ensures others { IfOk result (λ p. p.1 ≡ behind own self.now) }
+    {
+        let (numbers, more_numbers) = self.numbers.split_at(own);
+        let (flags, more_flags) = self.flags.split_at(own);
+        let first = Rows::of(alloc, numbers, flags)?;
+        Ok((first, Rows::of(alloc, more_numbers, more_flags)?))
+    }
+
     /// Takes the first values of others.
     pub fn copy_front(&mut self, others: &Rows)
         requires numbers { length self.old.numbers ≤ length others.now.numbers }
@@ -91,11 +129,12 @@ impl Rows {
     }
 
     /// The Boolean of a slot.
-    pub fn flag(&self, at: usize) -> bool
-        requires { at < length self.now.flags }
-        ensures { slice_get self.now.flags at ≡ Some result }
+    pub fn flag(&self, base: usize, offset: usize) -> bool
+        requires { base + offset < length self.now.flags }
+        ensures { slice_get self.now.flags (base + offset) ≡ Some result }
     {
-        self.flags[at]
+        let _room = self.flags.len();
+        self.flags[base + offset]
     }
 
     /// Gives a slot a Boolean.

@@ -1,0 +1,302 @@
+-- The rows of the opening world show it.
+use Rattle.std.proofs.Common.{◌≡◌, ℕ, zero, suc, ◌+◌, ◌-◌, ◌<◌, ◌≤◌, Bool, true, false, List, [], ◌∷◌, ◌++◌, map, length, refl, sym, ap, ap₂, ◌∙◌, cond, Some, None, Option, ℤ, pos, ◌+ℤ◌, subst, arith, append_assoc, append-nil}
+use Rattle.std.specs.Prelude.{Contains, replicate, nat_abs, is_some, bytes_eq, if◌then◌else◌, codes, option_map}
+use Rattle.std.specs.Ordering.{eq_by_cmp}
+use Rattle.std.specs.Fmt.{digits}
+use Rattle.std.proofs.lemmas.Slice.Eq.{bytes_eq-Decides}
+use Rattle.il_spec.specs.declared.tree.Config.{Config}
+use Rattle.il_spec.specs.declared.tree.Unit.{Unit as Organized}
+use Rattle.il_spec.specs.declared.tree.Scalar.{Scalar}
+use Rattle.il_spec.specs.declared.tree.Declaration.{Declaration}
+use Rattle.il_spec.specs.declared.tree.Named.{Named}
+use Rattle.il_spec.specs.declared.tree.Form.{Form}
+use Rattle.il_spec.specs.declared.tree.Form.TheVariants.{Scalar as ScalarForm, Array as ArrayForm, Block as BlockForm}
+use Rattle.il_rules.specs.Names.{or_else, own_variable, is_function_kind}
+use Rattle.il_rules.specs.Declarations.{declared_limits}
+use Rattle.il_rules.specs.Subset.{IsSupportedForm, AreSupportedVariables}
+use Rattle.il_rules.specs.Symbols.{IsProgram}
+use Rattle.il_run.specs.declared.value.Value.{Value}
+use Rattle.il_run.specs.declared.value.Value.TheVariants.{Boolean, Integer}
+use Rattle.il_run.specs.NameMap.{Text, order, empty, get, insert, get-insert, from_entries}
+use Rattle.il_run.specs.State.{Values}
+use Rattle.il_run.specs.Meaning.{Entity, element_path, entities, own_entities, block_entities, instance_values, entity_values, depth, width_of}
+use Rattle.il_run.specs.Ranges.{HoldsTask}
+use Rattle.il_run.specs.Scan.{opening_variables, opening_globals, task_program}
+use Rattle.il_table.proofs.Copies.{same_text}
+use Rattle.il_sound.specs.Listed.{seen_scalars}
+use Rattle.il_sound.proofs.Listing.{keeps_listed}
+use Rattle.il_sound.proofs.Opening.{globals_open, variables_open}
+use Rattle.il_sound.proofs.Named.{found_unit}
+use Rattle.il_sound.proofs.Lists.{at_head}
+use Rattle.il_code.specs.declared.flat.Cell.{Cell}
+use Rattle.il_code.specs.Layout.{cell, Rows, rows, Fits, value_by, view_of, view}
+use Rattle.il_code.specs.Cells.{form_in, element_cells, cells_at, entity_cells, instance_cells}
+use Rattle.il_code.specs.Whole.{HasKind, AreOf, number_part, flag_part, first_rows}
+use Rattle.il_code.specs.Program.{own_cells, seen_cells, own_values}
+use Rattle.il_code.specs.Paths.{with_value, with_values, number_cells, call_cells, car_cells, image_cells}
+use Rattle.il_code.proofs.Kept.{itself}
+use Rattle.il_code.proofs.Declared.{own_same}
+use Rattle.il_code.proofs.Opening.{shown, entities_of}
+use Rattle.il_code.proofs.Begins.{own_initial, blocks_initial}
+use Rattle.il_code.proofs.Program.{own_opening}
+use Rattle.il_code.proofs.Made.{image_laid}
+use Rattle.lift_spec.specs.declared.image.Image.{Image}
+use Rattle.lift_spec.specs.declared.image.CarFields.{CarFields}
+use Rattle.lift_spec.specs.declared.image.CarOutputs.{CarOutputs}
+use Rattle.lift_spec.specs.declared.calls.Slot.{Slot}
+use Rattle.lift_spec.specs.declared.calls.Slot.TheVariants.{Free}
+use Rattle.lift_spec.specs.Image.{sizes_of, opening_image, opening_car, opening_outputs}
+use Rattle.lift_spec.specs.Settle.{fields_of, outputs_of}
+use Rattle.lift_spec.specs.Calls.{opening_calls}
+use Rattle.lift_spec.specs.Snapshot.{task_name, program_of, number, elements_of, waits, from_of, to_of, car_of, common_entries, car_entries, image_entries}
+use Rattle.il_machine.specs.Held.{HoldsOwn}
+use Rattle.il_machine.specs.Scanning.{IsRunnable, IsWithin, HasSizes, FitsOwn, FitsSeen, OwnsDeclared, own_view, seen_view, variables_in, image_in, joined}
+use Rattle.il_machine.specs.Opening.{shown_of, size_entries, row_entries, with_row, with_free, with_image}
+use Rattle.il_machine.proofs.Codes.{flattened}
+use Rattle.il_machine.proofs.Scans.{same_program}
+
+-- ROWS OF VALUES
+
+values_joined : (r : Rows) (vs : List (Text × Value)) → with_values r vs ≡ joined r (first_rows vs)
+values_joined r [] = ap₂ rows (sym (append-nil r.numbers)) (sym (append-nil r.flags))
+values_joined r (v ∷ vs) =
+    values_joined (with_value r v.1) vs
+    ∙ ap₂ rows (append_assoc r.numbers (number_part v.1 ∷ []) (map (λ w. number_part w.1) vs)) (append_assoc r.flags (flag_part v.1 ∷ []) (map (λ w. flag_part w.1) vs))
+
+values_append : (r : Rows) (vs ws : List (Text × Value)) → with_values r (vs ++ ws) ≡ with_values (with_values r vs) ws
+values_append r [] ws = refl
+values_append r (v ∷ vs) ws = values_append (with_value r v.1) vs ws
+
+row_is : (r : Rows) (name : Text) (k n : ℕ) (v : Value) → with_row r n v ≡ with_values r (elements_of name k (replicate n v))
+row_is r name k zero v = refl
+row_is r name k (suc n) v = row_is (with_value r v) name (k + 1) n v
+
+-- the calls of a group where none waits
+abbrev free_entries : ℕ → List (Text × Value)
+free_entries n = row_entries (codes "CALLWAITS") n (Boolean false) ++ (row_entries (codes "CALLFROM") n (number 0) ++ (row_entries (codes "CALLTO") n (number 0) ++ row_entries (codes "CALLCAR") n (number 0)))
+
+free_is : (r : Rows) (n : ℕ) → with_free r n ≡ with_values r (free_entries n)
+free_is r n =
+    row_is (with_row (with_row (with_row r n (Boolean false)) n (number 0)) n (number 0)) (codes "CALLCAR") 1 n (number 0)
+    ∙ ap (λ x. with_values x (row_entries (codes "CALLCAR") n (number 0))) (row_is (with_row (with_row r n (Boolean false)) n (number 0)) (codes "CALLTO") 1 n (number 0))
+    ∙ ap (λ x. with_values (with_values x (row_entries (codes "CALLTO") n (number 0))) (row_entries (codes "CALLCAR") n (number 0))) (row_is (with_row r n (Boolean false)) (codes "CALLFROM") 1 n (number 0))
+    ∙ ap (λ x. with_values (with_values (with_values x (row_entries (codes "CALLFROM") n (number 0))) (row_entries (codes "CALLTO") n (number 0))) (row_entries (codes "CALLCAR") n (number 0))) (row_is r (codes "CALLWAITS") 1 n (Boolean false))
+    ∙ sym (values_append r (row_entries (codes "CALLWAITS") n (Boolean false)) (row_entries (codes "CALLFROM") n (number 0) ++ (row_entries (codes "CALLTO") n (number 0) ++ row_entries (codes "CALLCAR") n (number 0)))
+    ∙ values_append (with_values r (row_entries (codes "CALLWAITS") n (Boolean false))) (row_entries (codes "CALLFROM") n (number 0)) (row_entries (codes "CALLTO") n (number 0) ++ row_entries (codes "CALLCAR") n (number 0))
+    ∙ values_append (with_values (with_values r (row_entries (codes "CALLWAITS") n (Boolean false))) (row_entries (codes "CALLFROM") n (number 0))) (row_entries (codes "CALLTO") n (number 0)) (row_entries (codes "CALLCAR") n (number 0)))
+
+-- what the opening world is shown by
+abbrev pub opening_entries : Config → List (Text × Value)
+opening_entries c = size_entries c ++ (free_entries (sizes_of c).slots ++ car_entries 1 opening_car opening_outputs)
+
+image_is : (c : Config) (r : Rows) → with_image c r ≡ joined r (first_rows (opening_entries c))
+image_is c r =
+    ap (λ x. with_values x (car_entries 1 opening_car opening_outputs)) (free_is (with_values r (size_entries c)) (sizes_of c).slots)
+    ∙ sym (values_append r (size_entries c) (free_entries (sizes_of c).slots ++ car_entries 1 opening_car opening_outputs) ∙ values_append (with_values r (size_entries c)) (free_entries (sizes_of c).slots) (car_entries 1 opening_car opening_outputs))
+    ∙ values_joined r (opening_entries c)
+
+-- THE IMAGE
+
+mapped : {A B : Type 0} (f : A → B) (n : ℕ) (x : A) → map f (replicate n x) ≡ replicate n (f x)
+mapped f zero x = refl
+mapped f (suc n) x = ap (λ ys. f x ∷ ys) (mapped f n x)
+
+counted : (n : ℕ) (x : Slot) → length (replicate n x) ≡ n
+counted zero x = refl
+counted (suc n) x = ap suc (counted n x)
+
+as_number : (lo hi : ℕ) (z : ℤ) → IsWithin lo hi z → Integer z ≡ number (nat_abs z)
+as_number lo hi z w = ap Integer (w.is ∙ ap (λ y. pos (nat_abs y)) (sym w.is))
+
+first_car : (c : Config) → HasSizes c → fields_of (opening_image (sizes_of c)) 1 ≡ opening_car
+first_car c s = ap (λ z. fields_of (opening_image (record { cars = nat_abs z; floors = (sizes_of c).floors; slots = (sizes_of c).slots })) 1) s.cars
+
+first_outputs : (c : Config) → HasSizes c → outputs_of (opening_image (sizes_of c)) 1 ≡ opening_outputs
+first_outputs c s = ap (λ z. outputs_of (opening_image (record { cars = nat_abs z; floors = (sizes_of c).floors; slots = (sizes_of c).slots })) 1) s.cars
+
+regroup : (a b d e r : List (Text × Value)) → ((a ++ b) ++ d) ++ e ++ r ≡ (a ++ (b ++ (d ++ e))) ++ r
+regroup a b d e r = simp append_assoc
+
+entries_are : (c : Config) → HasSizes c → image_entries (sizes_of c) 1 (opening_image (sizes_of c)) (opening_calls (sizes_of c)).slots ≡ opening_entries c
+entries_are c s =
+    let n = (sizes_of c).slots in
+    let cars : Integer c.cars.value ≡ number (sizes_of c).cars = ap Integer (s.cars ∙ ap (λ y. pos (nat_abs y)) (sym s.cars)) in
+    rw (cars, as_number 2 16 c.floors.value s.floors, as_number 1 64 c.slots.value s.slots, mapped (λ x. Boolean (waits x)) n Free, mapped (λ x. number (from_of x)) n Free, mapped (λ x. number (to_of x)) n Free, mapped (λ x. number (car_of x)) n Free, first_car c s, first_outputs c s)
+    (ap (λ es. (codes "CARS", number (sizes_of c).cars) ∷ (codes "FLOORS", number (sizes_of c).floors) ∷ (codes "SLOTS", number (sizes_of c).slots) ∷ (codes "NOW", number 0) ∷ (codes "RUNLIMIT", number (sizes_of c).cars) ∷ es)
+    (regroup (row_entries (codes "CALLWAITS") n (Boolean false)) (row_entries (codes "CALLFROM") n (number 0)) (row_entries (codes "CALLTO") n (number 0)) (row_entries (codes "CALLCAR") n (number 0)) (car_entries 1 opening_car opening_outputs)))
+
+are_append : (xs ys : List Cell) (vs ws : List (Text × Value)) → AreOf xs vs → AreOf ys ws → AreOf (xs ++ ys) (vs ++ ws)
+are_append [] ys [] ws all more = more
+are_append [] ys (v ∷ vs) ws all more = absurd all
+are_append (x ∷ xs) ys [] ws all more = absurd all
+are_append (x ∷ xs) ys (v ∷ vs) ws all more = (all.0, all.1, are_append xs ys vs ws all.2 more)
+
+are_elements : (n : ℕ) (name : Text) (k : ℕ) (s : Scalar) (v : Value) → HasKind s v → AreOf (element_cells n name (pos k) s) (elements_of name k (replicate n v))
+are_elements zero name k s v kind = tt
+are_elements (suc n) name k s v kind = (refl, kind, are_elements n name (k + 1) s v kind)
+
+are_calls : (n : ℕ) (cars floors : ℤ) → AreOf (call_cells n cars floors) (free_entries n)
+are_calls n cars floors =
+    are_append (element_cells n (codes "CALLWAITS") (pos 1) _) _ (row_entries (codes "CALLWAITS") n (Boolean false)) _ (are_elements n (codes "CALLWAITS") 1 _ (Boolean false) refl)
+    (are_append (element_cells n (codes "CALLFROM") (pos 1) _) _ (row_entries (codes "CALLFROM") n (number 0)) _ (are_elements n (codes "CALLFROM") 1 _ (number 0) refl)
+    (are_append (element_cells n (codes "CALLTO") (pos 1) _) _ (row_entries (codes "CALLTO") n (number 0)) _ (are_elements n (codes "CALLTO") 1 _ (number 0) refl) (are_elements n (codes "CALLCAR") 1 _ (number 0) refl)))
+
+are_car : (cars floors slots : ℤ) → AreOf (car_cells cars floors slots) (car_entries 1 opening_car opening_outputs)
+are_car cars floors slots = ((refl, refl, (refl, refl, (refl, refl, (refl, refl, (refl, refl, (refl, refl, (refl, refl, (refl, refl, (refl, refl, (refl, refl, tt)))))))))))
+
+pub width_is : (c : Config) → HasSizes c → width_of c.slots.value ≡ (sizes_of c).slots
+width_is c s = ap width_of s.slots.is ∙ ap nat_abs (sym s.slots.is)
+
+are_image : (c : Config) → HasSizes c → AreOf (image_cells c) (opening_entries c)
+are_image c s =
+    (refl, refl, (refl, refl, (refl, refl, (refl, refl, (refl, refl,
+    are_append (call_cells (width_of c.slots.value) c.cars.value c.floors.value) (car_cells c.cars.value c.floors.value c.slots.value) (free_entries (sizes_of c).slots) (car_entries 1 opening_car opening_outputs)
+    (subst (λ n. AreOf (call_cells n c.cars.value c.floors.value) (free_entries (sizes_of c).slots)) (sym (width_is c s)) (are_calls (sizes_of c).slots c.cars.value c.floors.value)) (are_car c.cars.value c.floors.value c.slots.value))))))
+
+-- rows of values fit the slots of their paths
+fits_of : (xs : List Cell) (vs : List (Text × Value)) → AreOf xs vs → Fits xs (first_rows vs)
+fits_of [] [] all = record { numbers = refl; flags = refl }
+fits_of [] (v ∷ vs) all = absurd all
+fits_of (x ∷ xs) [] all = absurd all
+fits_of (x ∷ xs) (v ∷ vs) all = let rest = fits_of xs vs all.2 in record { numbers = ap suc rest.numbers; flags = ap suc rest.flags }
+
+-- THE PROGRAM'S VARIABLES
+
+same_test : (q k : Text) → eq_by_cmp order q k ≡ bytes_eq k q
+same_test q k = by (eq_by_cmp order q k) refl (bytes_eq k q) refl
+  where
+    by : (a : Bool) → eq_by_cmp order q k ≡ a → (b : Bool) → bytes_eq k q ≡ b → a ≡ b
+    by true p true r = refl
+    by false p false r = refl
+    by true p false r = sym ((bytes_eq-Decides k q).1 (sym (same_text q k p))) ∙ r
+    by false p true r = sym p ∙ ap (eq_by_cmp order q) ((bytes_eq-Decides k q).0 r) ∙ itself q
+
+abbrev IsScalarForm : Form → Type 0
+IsScalarForm (ScalarForm s) = Unit {0}
+IsScalarForm _ = ⊥
+
+abbrev AllScalar : List Entity → Type 0
+AllScalar [] = Unit {0}
+AllScalar (e ∷ es) = IsScalarForm e.form × AllScalar es
+
+supported_scalar : (f : Form) → IsSupportedForm f → IsScalarForm f
+supported_scalar (ScalarForm s) is = tt
+supported_scalar (ArrayForm bounds element) is = absurd is
+supported_scalar (BlockForm block) is = absurd is
+
+scalar_names : (d : Declaration) (ns : List Named) (rest : List Entity) → IsScalarForm d.declared.form → AllScalar rest → AllScalar (map (λ n. record { name = n.name; form = d.declared.form; initial = option_map (λ i. i.literal) d.initial }) ns ++ rest)
+scalar_names d [] rest is more = more
+scalar_names d (n ∷ ns) rest is more = (is, scalar_names d ns rest is more)
+
+all_scalar : (ds : List Declaration) → AreSupportedVariables ds → AllScalar (entities ds)
+all_scalar [] all = tt
+all_scalar (d ∷ ds) all = scalar_names d d.names (entities ds) (supported_scalar d.declared.form all.0) (all_scalar ds all.2)
+
+some_if : (b : Bool) (v : Value) (o : Option Value) (f : Form) (p : Option Form) → is_some o ≡ is_some p → is_some (cond b (Some v) o) ≡ is_some (if b then Some f else p)
+some_if true v o f p is = refl
+some_if false v o f p is = is
+
+module _ (inner : Text → Text → List Cell) (q : Text) where
+  one_more : (name : Text) (f : Form) → IsScalarForm f → (es : List Entity) (zs : List ℤ) (bs : List Bool) → length zs ≡ length (cells_at inner name f ++ entity_cells inner [] es) → length bs ≡ length (cells_at inner name f ++ entity_cells inner [] es)
+      → ((zs : List ℤ) (bs : List Bool) → length zs ≡ length (entity_cells inner [] es) → length bs ≡ length (entity_cells inner [] es) → is_some (get (view_of (entity_cells inner [] es) zs bs) q) ≡ is_some (form_in es q))
+      → is_some (get (view_of (cells_at inner name f ++ entity_cells inner [] es) zs bs) q) ≡ is_some (if bytes_eq name q then Some f else form_in es q)
+  one_more name (ArrayForm bounds element) is es zs bs n m more = absurd is
+  one_more name (BlockForm block) is es zs bs n m more = absurd is
+  one_more name (ScalarForm s) is es [] bs n m more = cc
+  one_more name (ScalarForm s) is es (z ∷ zs) [] n m more = cc
+  one_more name (ScalarForm s) is es (z ∷ zs) (b ∷ bs) n m more =
+      ap is_some (get-insert (view_of (entity_cells inner [] es) zs bs) name (value_by (declared_limits s) z b) q)
+      ∙ ap (λ t. is_some (cond t (Some (value_by (declared_limits s) z b)) (get (view_of (entity_cells inner [] es) zs bs) q))) (same_test q name)
+      ∙ some_if (bytes_eq name q) (value_by (declared_limits s) z b) (get (view_of (entity_cells inner [] es) zs bs) q) (ScalarForm s) (form_in es q) (more zs bs (cc) (cc))
+
+  view_has : (es : List Entity) → AllScalar es → (zs : List ℤ) (bs : List Bool) → length zs ≡ length (entity_cells inner [] es) → length bs ≡ length (entity_cells inner [] es) → is_some (get (view_of (entity_cells inner [] es) zs bs) q) ≡ is_some (form_in es q)
+  unfolding get empty
+  view_has [] all zs bs n m = refl
+  view_has (e ∷ es) all zs bs n m = one_more e.name e.form all.0 es zs bs n m (view_has es all.1)
+
+-- one value more of a row
+pub next_row : (r s initial : Rows) (slot slots : ℕ) (v : Value) → slot < slots → s ≡ with_value r v → with_row r (slots - slot) v ≡ with_row initial slots v → with_row s (slots - (slot + 1)) v ≡ with_row initial slots v
+next_row r s initial slot slots v low is rest =
+    ap (λ x. with_row x (slots - (slot + 1)) v) is ∙ (let more : suc (slots - (slot + 1)) ≡ slots - slot = omega (arith, low) in ap (λ n. with_row r n v) more) ∙ rest
+
+some_form : {A B : Type 0} (f : A → B) (o : Option A) → is_some (option_map f o) ≡ is_some o
+some_form f None = refl
+some_form f (Some x) = refl
+
+or_none : (o : Option Form) → or_else o None ≡ o
+or_none None = refl
+or_none (Some f) = refl
+
+car_name : task_name 1 ≡ codes "CAR1"
+unfolding digits
+car_name = refl
+
+module _ (c : Config) (runs : IsRunnable c) where
+  abbrev u : Organized
+  u = runs.checked.resolved.program
+
+  abbrev first : Rows
+  first = first_rows (own_values c u)
+
+  abbrev image : Rows
+  image = first_rows (opening_entries c)
+
+  pub program : program_of c 1 ≡ Some u
+  program = ap (task_program c) car_name ∙ runs.tasked.car
+
+  pub opened_rows : with_image c first ≡ joined first image
+  opened_rows = image_is c first
+
+  instances_are : (n : ℕ) (path block : Text) → AreOf (instance_cells n c path block) (instance_values n c path block)
+  instances_are zero path block = tt
+  instances_are (suc n) path block = entities_of (instance_cells n c) (instance_values n c) (instances_are n) path (block_entities c block) (blocks_initial c runs.accepted.declared block)
+
+  among : Contains c.units u
+  among = subst (λ us. Contains us u) (sym runs.checked.resolved.is.alone) (at_head u [])
+
+  first_fits : Fits (own_cells c u) first
+  first_fits = fits_of (own_cells c u) (own_values c u) (entities_of (instance_cells depth c) (instance_values depth c) (instances_are depth) [] (own_entities u) (own_initial c runs.accepted.declared u among))
+
+  image_fits : Fits (seen_cells c u) image
+  image_fits = subst (λ xs. Fits xs image) (sym (image_laid c u (flattened c runs))) (fits_of (image_cells c) (opening_entries c) (are_image c runs.sizes))
+
+  pub opened_own : FitsOwn c 1 first
+  opened_own = (u, program, first_fits)
+
+  pub opened_seen : FitsSeen c 1 image
+  opened_seen = (u, program, image_fits)
+
+  -- the first rows show the variables
+  opens_variables : own_view c (Some u) first ≡ opening_variables c u
+  unfolding own_view
+  opens_variables = own_opening c u (flattened c runs)
+
+  -- and the image
+  opens_image : seen_view c (Some u) image ≡ shown_of c (opening_image (sizes_of c))
+  unfolding seen_view shown_of
+  opens_image = ap (λ xs. view xs image) (image_laid c u (flattened c runs)) ∙ shown (image_cells c) (opening_entries c) (are_image c runs.sizes) ∙ ap from_entries (sym (entries_are c runs.sizes))
+
+  pub variables_open_so : variables_in c 1 first ≡ opening_variables c u
+  variables_open_so = ap (λ o. own_view c o first) program ∙ opens_variables
+
+  pub image_opens_so : image_in c 1 image ≡ shown_of c (opening_image (sizes_of c))
+  image_opens_so = ap (λ o. seen_view c o image) program ∙ opens_image
+
+  scalars : AllScalar (own_entities u)
+  scalars =
+      let s = runs.checked.resolved.supported in
+      subst (λ i. AllScalar (entities i ++ entities u.outputs ++ entities u.variables)) (sym s.inputs) (subst (λ o. AllScalar ([] ++ entities o ++ entities u.variables)) (sym s.outputs) (all_scalar u.variables s.variables))
+
+  -- rows that fit hold the program's variables, and no others
+  pub paths_are : (r : Rows) → Fits (own_cells c u) r → (q : Text) → is_some (get (own_view c (Some u) r) q) ≡ is_some (own_variable u q)
+  unfolding own_view
+  paths_are r fits q =
+      let s = runs.checked.resolved.supported in
+      view_has (instance_cells depth c) q (own_entities u) scalars r.numbers r.flags fits.numbers fits.flags
+      ∙ ap is_some (sym (own_same u (ap is_function_kind s.kind) q ∙ ap (λ ds. or_else (form_in (own_entities u) q) (form_in (entities ds) q)) s.externals ∙ or_none (form_in (own_entities u) q)))
+      ∙ some_form (λ v. v.form) (own_variable u q)
+
+  pub opened_declared : OwnsDeclared c (variables_in c 1 first)
+  opened_declared = λ v is.
+      subst (λ o. HoldsOwn c v (own_view c o first)) (sym program) (subst (λ w. HoldsOwn c w (own_view c (Some u) first)) (same_program c u v runs.checked.resolved.is is)
+      (record { paths = paths_are first first_fits; each = subst (HoldsTask c u) (sym opens_variables) (variables_open c u runs.accepted) }))
