@@ -177,7 +177,11 @@ module _ (c : Config) (runs : IsRunnable c) where
     behind_length xs n m is = let l = length-drop n xs in omega (arith, l, is)
 
     pub part_seen : FitsSeen c task (behind own s.rows)
-    part_seen = (u, (both task s scan).0, subst (λ n. Fits (seen_cells c u) (behind n s.rows)) (sym own_is) (record {
-      numbers = behind_length s.rows.numbers (length (own_cells c u)) (length (seen_cells c u)) ((both task s scan).1.fits.numbers ∙ length-append (own_cells c u) (seen_cells c u));
-      flags = behind_length s.rows.flags (length (own_cells c u)) (length (seen_cells c u)) ((both task s scan).1.fits.flags ∙ length-append (own_cells c u) (seen_cells c u));
-    }))
+    part_seen = (
+      u,
+      (both task s scan).0,
+      subst (λ n. Fits (seen_cells c u) (behind n s.rows)) (sym own_is) (record {
+        numbers = behind_length s.rows.numbers (length (own_cells c u)) (length (seen_cells c u)) ((both task s scan).1.fits.numbers ∙ length-append (own_cells c u) (seen_cells c u));
+        flags = behind_length s.rows.flags (length (own_cells c u)) (length (seen_cells c u)) ((both task s scan).1.fits.flags ∙ length-append (own_cells c u) (seen_cells c u));
+      }),
+    )

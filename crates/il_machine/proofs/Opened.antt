@@ -148,10 +148,28 @@ pub width_is : (c : Config) → HasSizes c → width_of c.slots.value ≡ (sizes
 width_is c s = ap width_of s.slots.is ∙ ap nat_abs (sym s.slots.is)
 
 are_image : (c : Config) → HasSizes c → AreOf (image_cells c) (opening_entries c)
-are_image c s =
-    (refl, refl, (refl, refl, (refl, refl, (refl, refl, (refl, refl,
-    are_append (call_cells (width_of c.slots.value) c.cars.value c.floors.value) (car_cells c.cars.value c.floors.value c.slots.value) (free_entries (sizes_of c).slots) (car_entries 1 opening_car opening_outputs)
-    (subst (λ n. AreOf (call_cells n c.cars.value c.floors.value) (free_entries (sizes_of c).slots)) (sym (width_is c s)) (are_calls (sizes_of c).slots c.cars.value c.floors.value)) (are_car c.cars.value c.floors.value c.slots.value))))))
+are_image c s = (
+  refl,
+  refl,
+  (
+    refl,
+    refl,
+    (
+      refl,
+      refl,
+      (
+        refl,
+        refl,
+        (
+          refl,
+          refl,
+          are_append (call_cells (width_of c.slots.value) c.cars.value c.floors.value) (car_cells c.cars.value c.floors.value c.slots.value) (free_entries (sizes_of c).slots) (car_entries 1 opening_car opening_outputs)
+              (subst (λ n. AreOf (call_cells n c.cars.value c.floors.value) (free_entries (sizes_of c).slots)) (sym (width_is c s)) (are_calls (sizes_of c).slots c.cars.value c.floors.value)) (are_car c.cars.value c.floors.value c.slots.value),
+        ),
+      ),
+    ),
+  ),
+)
 
 -- rows of values fit the slots of their paths
 fits_of : (xs : List Cell) (vs : List (Text × Value)) → AreOf xs vs → Fits xs (first_rows vs)
