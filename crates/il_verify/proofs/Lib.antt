@@ -3,5 +3,4 @@ pub mod Joins
 pub mod Proper
 pub mod Meanings
 pub mod Numbers
-
 pub mod Verdict

@@ -61,7 +61,6 @@ pub declared_is : (c : Config) (u : ProgramUnit) (name : Spelling) → declared_
 unfolding symbol_of
 declared_is c u name = range_by_variable (variable_named c u name)
 
-
 -- OPERANDS
 
 -- what a name denotes, by its meaning

@@ -134,8 +134,7 @@ module _ (c : Config) (u : ProgramUnit) (numbers : NameMap ℕ) (declared : List
   unannotated Memory p = tt
   unannotated (Fault number line) p =
       let w = first_without c u (names c u numbers (length declared)) declared (prepared c u numbers declared s) p.place p.arrived (subst (λ n. p.place < n) count_is p.inside) (from_entry p.place p.arrived p.before) p.none in
-      let same : w.facts ≡ p.facts = same_some w.facts p.facts (sym w.arrived_is ∙ p.arrived_is) in
-      (
+      let same : w.facts ≡ p.facts = same_some w.facts p.facts (sym w.arrived_is ∙ p.arrived_is) in (
         u,
         p.refused.step,
         s.is,
