@@ -13,3 +13,4 @@ pub mod Openings
 pub mod Opened
 pub mod Opens
 pub mod Images
+pub mod Reading

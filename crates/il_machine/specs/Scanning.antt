@@ -1,5 +1,5 @@
 -- Programs that run, and the states of their scans (own rules).
-use Rattle.std.specs.Prelude.{◌≡◌, ℕ, ◌≤◌, List, [], ◌∷◌, ◌++◌, map, take, drop, length, ℤ, pos, Option, Some, None, refl, codes, false}
+use Rattle.std.specs.Prelude.{◌≡◌, ℕ, ◌≤◌, List, [], ◌∷◌, ◌++◌, map, take, drop, length, ℤ, pos, Option, Some, None, refl, codes, false, slice_get}
 use Rattle.std.specs.Coded.{Coded, code_by, coded×, coded_list}
 use Rattle.il_spec.specs.contracts.tree.Config as config
 use Rattle.il_machine.specs.contracts.verified.UnitCost as unit_cost
@@ -20,7 +20,11 @@ use Rattle.il_run.specs.declared.value.Content.{Content}
 use Rattle.il_run.specs.NameMap.{Text, get, empty, with_entries}
 use Rattle.il_run.specs.State.{Values, Frame, State}
 use Rattle.il_run.specs.Scan.{task_program}
-use Rattle.il_code.specs.Layout.{Rows, rows, Fits, view}
+use Rattle.il_code.specs.Layout.{Rows, rows, Fits, view, value_by}
+use Rattle.il_code.specs.declared.flat.Cell.{Cell}
+use Rattle.il_rules.specs.Declarations.{declared_limits}
+use Rattle.il_run.specs.declared.value.Value.{Value}
+use Rattle.il_machine.specs.Effect.{with_some}
 use Rattle.il_code.specs.declared.flat.UnitCode.{UnitCode}
 use Rattle.il_code.specs.Flattened.{IsPlaced}
 use Rattle.il_code.specs.Coded.{IsCode}
@@ -152,6 +156,10 @@ FitsOwn c task r = (u : Organized) × (program_of c task ≡ Some u) × Fits (ow
 
 abbrev pub FitsSeen : Config → ℕ → Rows → Type 0
 FitsSeen c task r = (u : Organized) × (program_of c task ≡ Some u) × Fits (seen_cells c u) r
+
+-- the value at a slot, if rows reach so far
+abbrev pub value_at : List Cell → Rows → ℕ → Option Value
+value_at cells r slot = with_some (slice_get cells slot) (λ c. with_some (slice_get r.numbers slot) (λ z. with_some (slice_get r.flags slot) (λ b. Some (value_by (declared_limits c.scalar) z b))))
 
 -- some rows, and others behind them
 abbrev pub joined : Rows → Rows → Rows

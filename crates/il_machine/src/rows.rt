@@ -3,10 +3,11 @@
 ghost use Rattle.std.specs.Prelude.{◌≡◌, ◌+◌, ◌≤◌, ◌<◌, ◌++◌, IsSome, Some, IfOk, OnOk, length, take, set, slice_get};
 ghost use Rattle.il_code.specs.Layout.{rows};
 ghost use Rattle.il_code.specs.Paths.{with_value};
-ghost use Rattle.il_machine.specs.Scanning.{joined, front, behind};
+ghost use Rattle.il_machine.specs.Scanning.{joined, front, behind, value_at};
 ghost use Rattle.il_machine.specs.Effect.{read, write, element_base, boolean_of, number_of};
 
-use il_code::flat::Slot;
+use il_code::flat::{Cell, Slot};
+use il_rules::elementary::declared_limits;
 use il_run::value::{Content, Value};
 use il_spec::tree::{Elementary, Subrange};
 use std::alloc::{AllocError, Global};
@@ -151,6 +152,19 @@ impl Rows {
         ensures { self.new ≡ rows (set self.old.numbers at number) self.old.flags }
     {
         self.numbers[at] = number;
+    }
+
+    /// The value at a slot of these cells, if the rows reach so far.
+    pub fn value(&self, cells: &[Cell], slot: usize) -> Option<Value>
+        ensures { result ≡ value_at cells.now self.now slot }
+    {
+        let cell = cells.get(slot)?;
+        let number = *self.numbers.get(slot)?;
+        let flag = *self.flags.get(slot)?;
+        match declared_limits(cell.scalar) {
+            None => Some(Value::Boolean(flag)),
+            Some(_) => Some(Value::Integer(number)),
+        }
     }
 
     /// The base of an instance, which stands within the rows.
