@@ -8,3 +8,4 @@ pub mod Tasking
 pub mod Seeing
 pub mod Modelling
 pub mod Sound
+pub mod Rows

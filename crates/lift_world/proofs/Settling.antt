@@ -17,7 +17,7 @@ use Rattle.lift_spec.specs.declared.image.Image.{Image}
 use Rattle.lift_spec.specs.declared.image.Motor.{Motor}
 use Rattle.lift_spec.specs.declared.image.Motor.TheVariants.{Still, Up, Down}
 use Rattle.lift_spec.specs.Settle.{settled_car, settled_all}
-use Rattle.lift_world.specs.Running.{Running, HasNames, IsOneCar, IsWorldOf, outputs_at, report_of, commit_report, committed, asks_open, after_commit, refreshed, refresh_report, with_fields}
+use Rattle.lift_world.specs.Running.{Running, IsOneCar, IsWorldOf, outputs_at, report_of, commit_report, committed, asks_open, after_commit, refreshed, refresh_report, with_fields}
 use Rattle.il_machine.specs.Opening.{shown_of}
 use Rattle.lift_world.proofs.Seeing.{commit_shows, refresh_shows}
 

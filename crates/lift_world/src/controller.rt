@@ -127,7 +127,7 @@ impl Controller {
         if self.busy {
             return Reply::Refused(EventFault::AlreadyOpen);
         }
-        self.store.restart(&self.verified, task, &self.begin);
+        self.store.restart(&self.verified, CAR, &self.begin);
         self.busy = true;
         Reply::Started
     }
@@ -147,7 +147,7 @@ impl Controller {
         if self.store.has_ended() {
             return Reply::Refused(EventFault::NoOpenScan);
         }
-        match step(&self.verified, task, &mut self.store) {
+        match step(&self.verified, CAR, &mut self.store) {
             Stepped::More => Reply::More,
             Stepped::End => Reply::End,
         }

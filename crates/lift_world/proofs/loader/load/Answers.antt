@@ -61,3 +61,6 @@ returns-clause-runs c =
     let spelled = c.in_ok-config.ensures.spelled in
     subst RunsWell (sym c.of.ensures.config)
     (runs_well c.in_ok-checked.checked (runnable_is c.in_ok-checked.checked (subst IsWritten same (spelled_written c.args.text.now c.in_ok-config.config spelled.spelled)) (subst IsSupported same spelled.supported) c.config.ensures.checked))
+
+pub checked-requires-clause-written : goal.checked-requires-clause-written
+checked-requires-clause-written c = spelled_written c.args.text.now c.in_ok-config.config c.in_ok-config.ensures.spelled.spelled
