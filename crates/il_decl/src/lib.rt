@@ -19,13 +19,12 @@ ghost use Rattle.il_rules.specs.Symbols.{IsProgram, symbol_of};
 ghost use Rattle.il_found.specs.Least.{IsLeast};
 ghost use Rattle.il_decl.specs.Parts.{IsFrame, AreVariables, forms_in};
 
-pub use declared::Declared;
-
 use crate::body::names_fault;
 use crate::image::add_image;
 use crate::structure::{is_of_group, structure_fault};
 use crate::values::values_fault;
 use crate::variables::{Variables, own_variables};
+pub use declared::Declared;
 use il_found::{Found, earlier, refusal};
 use il_rules::symbol::Symbol;
 use il_spec::fault::Refusal;

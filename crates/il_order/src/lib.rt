@@ -10,7 +10,6 @@ ghost use Rattle.il_types.specs.WellTyped.{IsTyped};
 ghost use Rattle.il_order.specs.Counted.{count_names};
 
 pub use checked::Ordered;
-
 use il_spec::fault::Refusal;
 use il_spec::tree::{Config, Declaration};
 use il_types::Typed;

@@ -17,9 +17,8 @@ ghost use Rattle.il_found.specs.Least.{IsLeast, Below};
 ghost use Rattle.il_decl.specs.Checked.{IsDeclared, AreSymbols};
 ghost use Rattle.il_types.specs.Typing.{Mistyped, fault_at};
 
-pub use checked::Typed;
-
 use crate::instructions::{lowest_number, type_after};
+pub use checked::Typed;
 use il_decl::Declared;
 use il_found::{Found, earlier, refusal};
 use il_rules::symbol::Symbol;

@@ -9,10 +9,11 @@ use Rattle.lift_world.proofs.controller.Controller.commit_scan.Goals as goal
 
 pub invariant_of-self : goal.invariant_of-self
 invariant_of-self c =
-    let inv = c.self.invariant.0 in
-    (rw c.show_flag.ensures.variables (commit_keeps (the_view c.self.inside) inv c.flag-asked.result _ c.set.new.self c.outputs_at-outputs.result (variables_in c.self.inside.verified.config 1 c.copy_variables.new.variables) (image_in c.self.inside.verified.config 1 c.show_flag.new.self.snapshot)
-    (told_is _ _ _ _ c.set.ensures inv.image.told) c.outputs_at-outputs.ensures (level_of _ _ inv.image.fields _ c.as_slice.ensures inv.image.cars) c.copy_variables.ensures.variables c.show_flag.ensures.value),
-    record { variables = rw c.show_flag.ensures.variables c.copy_variables.ensures.fits; snapshot = c.show_flag.ensures.fits; scan = c.self.invariant.1.scan })
+    let inv = c.self.invariant.0 in (
+      rw c.show_flag.ensures.variables (commit_keeps (the_view c.self.inside) inv c.flag-asked.result _ c.set.new.self c.outputs_at-outputs.result (variables_in c.self.inside.verified.config 1 c.copy_variables.new.variables) (image_in c.self.inside.verified.config 1 c.show_flag.new.self.snapshot)
+          (told_is _ _ _ _ c.set.ensures inv.image.told) c.outputs_at-outputs.ensures (level_of _ _ inv.image.fields _ c.as_slice.ensures inv.image.cars) c.copy_variables.ensures.variables c.show_flag.ensures.value),
+      record { variables = rw c.show_flag.ensures.variables c.copy_variables.ensures.fits; snapshot = c.show_flag.ensures.fits; scan = c.self.invariant.1.scan },
+    )
 
 pub returns-clause-report : goal.returns-clause-report
 unfolding asks_open
