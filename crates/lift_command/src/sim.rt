@@ -40,13 +40,6 @@ impl<T: Drop> From<AllocFailed<T>> for SimFault {
     }
 }
 
-/// A task: its number, 0 for GROUP and k for CARk, and the most instructions of one scan.
-#[derive(Clone, Copy)]
-struct Task {
-    number: u8,
-    budget: u32,
-}
-
 /// The trace of so many rounds. In each round the plant goes one step under the outputs of the
 /// image, the image is refreshed, and each task then runs one scan.
 pub fn sim_text(alloc: Global, verified: Verified, rounds: u16) -> Result<String, SimFault> {
@@ -66,7 +59,7 @@ fn traced(alloc: Global, world: &mut World, rounds: u16) -> Result<String, SimFa
 
 fn run_rounds(
     world: &mut World,
-    tasks: &[Task],
+    tasks: &[u8],
     trace: &mut Trace,
     rounds: u16,
 ) -> Result<(), SimFault> {
@@ -77,8 +70,8 @@ fn run_rounds(
     Ok(())
 }
 
-/// The tasks, in the order in which they run.
-fn tasks_of(alloc: Global, verified: &Verified) -> Result<Vec<Task>, SimFault> {
+/// The numbers of the tasks, in the order in which they run.
+fn tasks_of(alloc: Global, verified: &Verified) -> Result<Vec<u8>, SimFault> {
     let mut tasks = Vec::new(alloc);
     for info in verified.tasks() {
         tasks.push(task_of(info)?)?;
@@ -86,12 +79,10 @@ fn tasks_of(alloc: Global, verified: &Verified) -> Result<Vec<Task>, SimFault> {
     Ok(tasks)
 }
 
-fn task_of(info: TaskInfo<'_>) -> Result<Task, SimFault> {
+/// The number of a task, 0 for GROUP and k for CARk.
+fn task_of(info: TaskInfo<'_>) -> Result<u8, SimFault> {
     match (0..=8).find(|number| is_task_name(info.name, *number)) {
-        Some(number) => Ok(Task {
-            number,
-            budget: info.budget,
-        }),
+        Some(number) => Ok(number),
         None => Err(SimFault::Event(EventFault::NoSuchActor)),
     }
 }
@@ -108,7 +99,7 @@ fn plant_of(sizes: Sizes) -> Result<Plant, SimFault> {
 fn round(
     world: &mut World,
     plant: Plant,
-    tasks: &[Task],
+    tasks: &[u8],
     trace: &mut Trace,
 ) -> Result<Plant, SimFault> {
     let outputs = &world.image().outputs;
@@ -125,23 +116,26 @@ fn round(
 }
 
 /// One scan of a task.
-fn scan(world: &mut World, task: Task, trace: &mut Trace) -> Result<(), SimFault> {
-    trace.start(task.number)?;
-    applied(world, Event::Start(task.number))?;
-    for _ in 0..task.budget {
-        if let Reply::End = applied(world, Event::Instruction(task.number))? {
-            break;
-        }
-    }
-    trace.commit(task.number)?;
-    applied(world, Event::Commit(task.number))?;
-    Ok(())
+fn scan(world: &mut World, task: u8, trace: &mut Trace) -> Result<(), SimFault> {
+    trace.start(task)?;
+    applied(world, Event::Start(task))?;
+    finished(world, task)?;
+    trace.commit(task)?;
+    applied(world, Event::Commit(task))
 }
 
-/// The reply to an event that the world takes.
-fn applied(world: &mut World, event: Event) -> Result<Reply, SimFault> {
+/// The open scan of a task runs to its end.
+fn finished(world: &mut World, task: u8) -> Result<(), SimFault> {
+    match world.finish(task) {
+        Ok(()) => Ok(()),
+        Err(fault) => Err(SimFault::Event(fault)),
+    }
+}
+
+/// An event that the world takes.
+fn applied(world: &mut World, event: Event) -> Result<(), SimFault> {
     match world.apply(event) {
         Reply::Refused(fault) => Err(SimFault::Event(fault)),
-        reply => Ok(reply),
+        _ => Ok(()),
     }
 }

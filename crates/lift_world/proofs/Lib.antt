@@ -9,3 +9,4 @@ pub mod Seeing
 pub mod Modelling
 pub mod Sound
 pub mod Rows
+pub mod Finishing

@@ -187,7 +187,7 @@ refused_if : (w after : Running) (reply : Reply) (n : EventFault) (result : Worl
 refused_if w after reply n result busy is refuses replied unchanged =
     ap (λ b. result (world_if w b)) is ∙ refuses ∙ ap (λ b. answers (world_if w b) (Refused n)) (sym is) ∙ refused_is w after reply n replied unchanged
 
-ended_at : (k : Kept) (place : Option ℕ) → k.place ≡ place → has_ended (state_of k) ≡ has_ended (state_of (record k { place = place }))
+pub ended_at : (k : Kept) (place : Option ℕ) → k.place ≡ place → has_ended (state_of k) ≡ has_ended (state_of (record k { place = place }))
 ended_at k place is = ap (λ p. has_ended (state_of (record k { place = p }))) is
 
 -- a scan's start leaves a world

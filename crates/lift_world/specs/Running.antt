@@ -1,5 +1,5 @@
 -- What a world of one car keeps (own rules).
-use Rattle.std.specs.Prelude.{◌≡◌, ◌≢◌, ℕ, Bool, true, false, ◌&&◌, not, List, [], ◌∷◌, map, pos, codes, refl, if◌then◌else◌, Option, Some, None, IsSome}
+use Rattle.std.specs.Prelude.{◌≡◌, ◌≢◌, ℕ, zero, suc, Bool, true, false, ◌&&◌, not, List, [], ◌∷◌, map, pos, codes, refl, if◌then◌else◌, Option, Some, None, IsSome}
 use Rattle.std.specs.Coded.{Coded, code_by, coded×, coded_bool, coded_list, coded_option, coded_ℕ}
 use Rattle.il_spec.specs.declared.tree.Config.{Config}
 use Rattle.il_run.specs.declared.value.Value.TheVariants.{Boolean, Integer}
@@ -213,3 +213,16 @@ pub record IsRefresh (before after : Running) (reply : Reply) (fields : Fields) 
   pub refreshes : fields_in_range (sizes_of before.program.config) fields ≡ true → (reply ≡ Refreshed (refresh_report before.image fields)) × (after.image ≡ refreshed before.image fields)
   pub scan : (after.scan ≡ before.scan) × (after.busy ≡ before.busy)
   pub variables : after.variables ≡ before.variables
+
+-- RUNS TO THE END OF A SCAN
+
+-- so many instructions of a task
+abbrev pub instructions : ℕ → ℕ → List Happening
+instructions task zero = []
+instructions task (suc n) = Instructs task ∷ instructions task n
+
+-- the replies to so many, of which the last ends the scan
+abbrev pub up_to_end : ℕ → List Reply
+up_to_end zero = []
+up_to_end (suc zero) = End ∷ []
+up_to_end (suc (suc n)) = More ∷ up_to_end (suc n)

@@ -1,7 +1,7 @@
 // The controller of a group: its image, its task's variables, and where the scan stands.
 
 ghost use Rattle.il_spec.specs.declared.fault.Refusal.TheVariants.{Memory};
-ghost use Rattle.std.specs.Prelude.{◌≡◌, ◌≢◌, ℕ, ◌+◌, ◌≤◌, length, map, IfOk, IfErr, Ok, true, false, None};
+ghost use Rattle.std.specs.Prelude.{◌≡◌, ◌≢◌, ℕ, [], OnOk, ◌+◌, ◌≤◌, length, map, IfOk, IfErr, Ok, true, false, None};
 ghost use Rattle.il_spec.specs.declared.tree.Unit.{Unit as Organized};
 ghost use Rattle.il_rules.specs.Symbols.{IsProgram};
 ghost use Rattle.il_run.specs.Scan.{opening_variables};
@@ -11,13 +11,15 @@ ghost use Rattle.lift_spec.specs.Image.{sizes_of, opening_image, FieldsInRange, 
 ghost use Rattle.il_run.specs.NameMap as values;
 ghost use Rattle.lift_spec.specs.World as model;
 ghost use Rattle.il_machine.specs.Costs.{AreCosts};
-ghost use Rattle.lift_world.specs.Running.{HasRows, outputs_at, report_of, commit_report, after_commit, refresh_report, refreshed, RefusesUnchanged, IsWorldOf, IsStart, IsInstruction, IsCommit, IsRefresh, world_of, event_of};
+ghost use Rattle.lift_world.specs.Running.{HasRows, outputs_at, report_of, commit_report, after_commit, refresh_report, refreshed, RefusesUnchanged, IsWorldOf, IsStart, IsInstruction, IsCommit, IsRefresh, world_of, event_of, instructions, up_to_end};
+ghost use Rattle.lift_spec.specs.declared.event.Event.TheVariants.{Instruction as Instructs};
+ghost use Rattle.lift_spec.specs.declared.event.Reply.TheVariants.{Refused};
 
 use crate::event::Event;
 use crate::opening::opening_image;
 use crate::replies::Replies;
 use crate::shown::show;
-use il_machine::{Begin, ImageFlag, Stepped, Store, Value, Verified, step};
+use il_machine::{Begin, ImageFlag, Stepped, Store, Value, Verified, scan, step};
 use il_spec::fault::Refusal;
 use lift_image::{CarOutputs, Fields, Image, Motor, Row, Sizes, in_range};
 use lift_spec::event::{EventFault, Reply};
@@ -241,6 +243,28 @@ impl Controller {
             Event::Commit(task) => self.commit(*task),
             Event::Refresh(fields) => self.refresh(fields),
         }
+    }
+
+    /// The open scan of a task runs to its end, or the answer is why there is none to run.
+    pub fn finish(&mut self, task: u8) -> Result<(), EventFault>
+        ensures world { IsWorldOf self.old }
+        ensures model { OnOk result ((n : ℕ) × (model.run self.old.program.config (world_of self.old) [] (instructions task n) ≡ Ok (world_of self.new, up_to_end n))) }
+        ensures refused { IfErr result (λ fault. (self.new ≡ self.old) × (model.happens self.old.program.config (world_of self.old) (Instructs task) ≡ Ok (world_of self.old, Refused fault))) }
+        ensures same { self.new.program ≡ self.old.program }
+    {
+        let _image = &self.image;
+        if task != CAR {
+            return Err(EventFault::NoSuchActor);
+        }
+        if !self.busy {
+            return Err(EventFault::NoOpenScan);
+        }
+        let is_over = self.store.has_ended();
+        if is_over {
+            return Err(EventFault::NoOpenScan);
+        }
+        scan(&self.verified, CAR, &mut self.store);
+        Ok(())
     }
 
     /// A run over a list of events, with a reply for each.

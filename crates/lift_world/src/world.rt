@@ -1,7 +1,7 @@
 // The world.
 
 ghost use Rattle.il_spec.specs.declared.fault.Refusal.TheVariants.{Memory};
-ghost use Rattle.std.specs.Prelude.{◌≡◌, ◌≢◌, ℕ, ◌+◌, ◌≤◌, [], ◌∷◌, length, map, IfOk, IfErr, Ok, None, Some};
+ghost use Rattle.std.specs.Prelude.{◌≡◌, ◌≢◌, ℕ, ◌+◌, ◌≤◌, [], ◌∷◌, length, map, IfOk, IfErr, OnOk, Ok, None, Some};
 ghost use Rattle.il_spec.specs.declared.tree.Unit.{Unit as Organized};
 ghost use Rattle.il_run.specs.NameMap as values;
 ghost use Rattle.il_machine.specs.Listing.{TaskLine, task_line};
@@ -11,7 +11,9 @@ ghost use Rattle.lift_spec.specs.World as model;
 ghost use Rattle.lift_sound.specs.Tasks.{budget_of};
 ghost use Rattle.lift_sound.specs.Runs.{IsReached};
 ghost use Rattle.lift_sound.specs.Histories.{CallGoesWell};
-ghost use Rattle.lift_world.specs.Running.{world_of, event_of};
+ghost use Rattle.lift_world.specs.Running.{world_of, event_of, instructions, up_to_end};
+ghost use Rattle.lift_spec.specs.declared.event.Event.TheVariants.{Instruction as Instructs};
+ghost use Rattle.lift_spec.specs.declared.event.Reply.TheVariants.{Refused};
 
 use crate::controller::Controller;
 use crate::event::Event;
@@ -19,7 +21,7 @@ use crate::replies::Replies;
 use il_machine::{Value, Verified};
 use il_spec::fault::Refusal;
 use lift_image::{Image, Sizes};
-use lift_spec::event::Reply;
+use lift_spec::event::{EventFault, Reply};
 use std::alloc::Global;
 use std::marker::Model;
 
@@ -79,6 +81,16 @@ impl World {
         ensures printed { (task : ℕ) (line : TaskLine) (u : Organized) → task_line self.old.program task ≡ Some line → program_of self.old.program.config task ≡ Some u → line.budget ≡ budget_of self.old.program.config task }
     {
         self.group.run(events, replies);
+    }
+
+    /// The open scan of a task runs to its end, in as many instructions as it takes, or the answer is why there is none to run.
+    pub fn finish(&mut self, task: u8) -> Result<(), EventFault>
+        ensures model { OnOk result ((n : ℕ) × (model.run self.old.program.config (world_of self.old) [] (instructions task n) ≡ Ok (world_of self.new, up_to_end n))) }
+        ensures refused { IfErr result (λ fault. (self.new ≡ self.old) × (model.happens self.old.program.config (world_of self.old) (Instructs task) ≡ Ok (world_of self.old, Refused fault))) }
+        ensures same { self.new.program ≡ self.old.program }
+        ensures well { (n : ℕ) → CallGoesWell self.old.program.config (world_of self.old) (instructions task n) }
+    {
+        self.group.finish(task)
     }
 
     /// The image. It lies in its ranges and obeys the interlock.
