@@ -7,9 +7,6 @@ ghost use Rattle.il_interval.specs.declared.Interval.{Interval};
 ghost use Rattle.il_interval.specs.Interval.{IsIn, IsWithin, IsOrdered, IsWithoutZero, IsEnd, IsOperand, interval_add, interval_sub, span, interval_mul, interval_div, greatest_remainder, interval_mod, interval_abs, interval_min, interval_max, interval_limit, interval_join};
 ghost use Rattle.il_interval.specs.Held.{absolute, limited, Holds1, Holds, Holds3, IsLeast1, IsLeast, IsLeast3, Grows1, Grows, GrowsWithoutZero, Grows3};
 
-#[cfg(test)]
-mod tests;
-
 /// The integers from `lo` to `hi`, both included: none where `lo` is above `hi` (own rule). An operand has a number, and
 /// its ends lie from -2147483648, the least DINT, to 4294967295, the greatest UDINT.
 #[derive(Clone, Copy, PartialEq, Eq, Debug)]

@@ -5,9 +5,6 @@ ghost use Rattle.std.specs.Prelude.{◌≡◌, IfOk, IsSome, OnOk, OnErr};
 ghost use Rattle.il_run.specs.NameMap as map;
 ghost use Rattle.il_table.specs.ByText.{HaveSameNames, by_text};
 
-#[cfg(test)]
-mod tests;
-
 use std::alloc::{AllocError, Global};
 use std::collections::BTreeMap;
 use std::marker::Model;

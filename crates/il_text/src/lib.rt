@@ -19,8 +19,6 @@ mod literal;
 mod number;
 mod piece;
 mod sign;
-#[cfg(test)]
-mod tests;
 
 use crate::bytes::line_feeds;
 use crate::flaw::{Misread, TEXT_TOO_LONG};

@@ -6,6 +6,3 @@ pub mod book;
 pub use lift_spec::calls::{Answer, Call, Entering, Slot};
 pub use lift_spec::hand::Hand;
 pub use lift_spec::image::Sizes;
-
-#[cfg(test)]
-mod tests;

@@ -5,14 +5,14 @@ use Rattle.std.specs.Global.{Global}
 use Rattle.il_spec.specs.declared.fault.Refusal.{Refusal}
 use Rattle.il_spec.specs.declared.fault.Refusal.TheVariants as refusal
 use Rattle.il_machine.specs.Scanning.{Program}
-use Rattle.lift_command.specs.Messages.{status_of, message_of, fault_of, fault_of_reading}
+use Rattle.lift_host.specs.Messages.{status_of, message_of, fault_of, fault_of_reading}
 use Rattle.lift_command.specs.Runs.{Outcome, IsOutcome, unasked, asked, unread, refused, accepted}
-use Rattle.lift_command.specs.declared.files.ReadFault.{ReadFault}
-use Rattle.lift_command.specs.declared.files.ReadFault.TheVariants as read
-use Rattle.lift_command.specs.declared.status.Fault.{Fault}
-use Rattle.lift_command.specs.declared.status.Fault.TheVariants as fault
-use Rattle.lift_command.specs.declared.status.Status.{Status}
-use Rattle.lift_command.specs.declared.status.Status.TheVariants as status
+use Rattle.lift_host.specs.declared.files.ReadFault.{ReadFault}
+use Rattle.lift_host.specs.declared.files.ReadFault.TheVariants as read
+use Rattle.lift_host.specs.declared.status.Fault.{Fault}
+use Rattle.lift_host.specs.declared.status.Fault.TheVariants as fault
+use Rattle.lift_host.specs.declared.status.Status.{Status}
+use Rattle.lift_host.specs.declared.status.Status.TheVariants as status
 
 -- no fault ends as done
 never_done : (f : Fault) → status_of f ≡ status.Done → ⊥

@@ -2,12 +2,12 @@
 use Rattle.std.proofs.Common.{◌≡◌, ◌⊎◌, ℕ, List, Result, Ok, Err, inl, inr, ◌∙◌, ap, subst}
 use Rattle.il_spec.specs.declared.fault.Refusal.{Refusal}
 use Rattle.il_machine.specs.Scanning.{Program}
-use Rattle.lift_command.specs.Messages.{fault_of, fault_of_reading}
-use Rattle.lift_command.specs.Requests.{name_of}
+use Rattle.lift_host.specs.Messages.{fault_of, fault_of_reading}
+use Rattle.lift_host.specs.Requests.{name_of}
 use Rattle.lift_command.specs.Runs.{Outcome, IsFileOutcome, unread, refused, accepted, IsProgramOutcome, most_bytes}
-use Rattle.lift_command.specs.declared.files.ReadFault.{ReadFault}
-use Rattle.lift_command.specs.declared.request.Request.{Request}
-use Rattle.lift_command.specs.declared.status.Fault.{Fault}
+use Rattle.lift_host.specs.declared.files.ReadFault.{ReadFault}
+use Rattle.lift_host.specs.declared.request.Request.{Request}
+use Rattle.lift_host.specs.declared.status.Fault.{Fault}
 
 -- the fault of a file that gives nothing, or whose text is refused
 pub failed_follows : (gives : List ℕ → ℕ → List ℕ → Type 0) (fails : List ℕ → ℕ → ReadFault → Type 0) (loads : List ℕ → Result Program Refusal → Type 0) (request : Request) (outcome : Outcome) (fault : Fault) (name : List ℕ)

@@ -3,13 +3,13 @@ use Rattle.std.specs.Prelude.{◌≡◌, ◌⊎◌, ℕ, List, Bool, true, Resul
 use Rattle.std.specs.Global.{Global}
 use Rattle.il_spec.specs.declared.fault.Refusal.{Refusal}
 use Rattle.il_machine.specs.Scanning.{Program}
-use Rattle.lift_command.specs.declared.files.ReadFault.{ReadFault}
-use Rattle.lift_command.specs.declared.request.Request.{Request}
-use Rattle.lift_command.specs.declared.status.Fault.{Fault}
-use Rattle.lift_command.specs.declared.status.Fault.TheVariants as fault
-use Rattle.lift_command.specs.declared.status.Status.{Status}
-use Rattle.lift_command.specs.Messages.{fault_of, fault_of_reading, message_of, status_of}
-use Rattle.lift_command.specs.Requests.{Asks, name_of}
+use Rattle.lift_host.specs.declared.files.ReadFault.{ReadFault}
+use Rattle.lift_host.specs.declared.request.Request.{Request}
+use Rattle.lift_host.specs.declared.status.Fault.{Fault}
+use Rattle.lift_host.specs.declared.status.Fault.TheVariants as fault
+use Rattle.lift_host.specs.declared.status.Status.{Status}
+use Rattle.lift_host.specs.Messages.{fault_of, fault_of_reading, message_of, status_of}
+use Rattle.lift_host.specs.Requests.{Asks, name_of}
 
 -- the bytes of a file that are read: one more than a text may have
 abbrev pub most_bytes : ℕ

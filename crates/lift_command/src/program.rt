@@ -4,20 +4,20 @@ ghost use Rattle.std.specs.Prelude.{◌≡◌, ◌⊎◌, ℕ, List, Ok, Err, tr
 ghost use Rattle.std.specs.Io.KnownBytes.{Appends, Keeps};
 ghost use Rattle.il_spec.specs.declared.fault.Refusal.{Refusal};
 ghost use Rattle.lift_command.specs.Loaded.{IsLoaded};
-ghost use Rattle.lift_command.specs.Messages.{fault_of, fault_of_reading};
+ghost use Rattle.lift_host.specs.Messages.{fault_of, fault_of_reading};
 ghost use Rattle.lift_command.specs.Runs.{IsOutcome, IsFileOutcome, IsWordsOutcome, IsProgramOutcome, HasWritten, HasTold};
-ghost use Rattle.lift_command.specs.Writes.{Writes, AppendsFront};
-ghost use Rattle.lift_command.specs.declared.files.ReadFault.{ReadFault};
+ghost use Rattle.lift_host.specs.Writes.{Writes, AppendsFront};
+ghost use Rattle.lift_host.specs.declared.files.ReadFault.{ReadFault};
 
-use crate::check::check_text;
-use crate::command::{Answer, answer_of};
-use crate::files::TextFiles;
 use crate::loader::{Loader, Verifier};
-use crate::request::{Request, asked};
-use crate::sim::sim_text;
-use crate::sink::Sink;
-use crate::status::{Fault, Status, show};
 use il_machine::Verified;
+use lift_help::command::{Answer, answer_of};
+use lift_host::files::TextFiles;
+use lift_host::request::{Request, asked};
+use lift_host::sink::Sink;
+use lift_host::status::{Fault, Status, show};
+use lift_output::check::check_text;
+use lift_output::sim::sim_text;
 use std::alloc::Global;
 
 /// The most bytes of FILE that are read: one more than a text may have.
@@ -124,15 +124,15 @@ fn outcome_of_program(
     ensures { IsProgramOutcome result }
 {
     match request {
-        Request::Check { .. } => checked(alloc, &verified),
+        Request::Check { .. } => checked(alloc, verified),
         Request::Sim { rounds, .. } => simulated(alloc, verified, rounds),
     }
 }
 
-fn checked(alloc: Global, verified: &Verified) -> Result<String, Fault>
+fn checked(alloc: Global, verified: Verified) -> Result<String, Fault>
     ensures { IsProgramOutcome result }
 {
-    Ok(check_text(alloc, verified)?)
+    Ok(check_text(alloc, &verified)?)
 }
 
 fn simulated(alloc: Global, verified: Verified, rounds: u16) -> Result<String, Fault>

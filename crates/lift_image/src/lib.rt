@@ -9,9 +9,6 @@ ghost use Rattle.lift_spec.specs.Image.{is_floor, positions_in_range, fields_in_
 pub use lift_spec::image::{CarFields, CarOutputs, Fields, Image, Motor, Sizes};
 pub use lift_spec::row::Row;
 
-#[cfg(test)]
-mod tests;
-
 /// The greatest NOW, in milliseconds (own rule).
 const LATEST: u32 = 2_147_483_647;
 

@@ -9,8 +9,6 @@ mod laws;
 mod motor;
 mod refresh;
 mod settled;
-#[cfg(test)]
-mod tests;
 
 pub use commit::settle_car;
 pub use laws::{commit_keeps_obeying, refresh_gives_obeying};

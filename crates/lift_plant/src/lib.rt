@@ -3,5 +3,3 @@
 
 mod car;
 pub mod plant;
-#[cfg(test)]
-mod tests;

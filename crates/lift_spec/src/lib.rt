@@ -8,5 +8,3 @@ pub mod hand;
 pub mod image;
 pub mod report;
 pub mod row;
-#[cfg(test)]
-mod tests;

@@ -2,10 +2,10 @@
 //! simulates the group that they control.
 #![tactic(auto)]
 
-use lift_command::files::Disk;
 use lift_command::program::run;
-use lift_command::sink::Stream;
-use lift_command::status::{Fault, show};
+use lift_host::files::Disk;
+use lift_host::sink::Stream;
+use lift_host::status::{Fault, show};
 use std::process::ExitCode;
 use std::{env, io};
 

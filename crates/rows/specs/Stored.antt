@@ -1,8 +1,8 @@
 -- What a shelf gives of its files.
 use Rattle.std.specs.Prelude.{◌≡◌, ℕ, List, take, Option, Some, None, string_bytes, bytes_eq}
 use Rattle.std.specs.List.{find}
-use Rattle.lift_command.specs.declared.files.ReadFault.{ReadFault}
-use Rattle.lift_command.specs.declared.files.ReadFault.TheVariants.{CannotRead, NoMemory}
+use Rattle.lift_host.specs.declared.files.ReadFault.{ReadFault}
+use Rattle.lift_host.specs.declared.files.ReadFault.TheVariants.{CannotRead, NoMemory}
 use Rattle.rows.specs.declared.shelf.Stored.{Stored}
 
 -- the first file of a name

@@ -2,11 +2,11 @@
 
 ghost use Rattle.std.specs.Prelude.{◌≡◌, ℕ, List, Option, Some, None, ⊤, length, take, IfOk, IfErr};
 ghost use Rattle.std.specs.Option.{option_copied};
-ghost use Rattle.lift_command.specs.declared.files.ReadFault.{ReadFault};
+ghost use Rattle.lift_host.specs.declared.files.ReadFault.{ReadFault};
 ghost use Rattle.rows.specs.Stored.{file_named, GivesBytes, FailsFor};
 
 use crate::escape::add_bytes;
-use lift_command::files::{ReadFault, TextFiles};
+use lift_host::files::{ReadFault, TextFiles};
 use std::alloc::{AllocError, Global};
 use std::io;
 

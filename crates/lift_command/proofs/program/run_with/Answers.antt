@@ -1,7 +1,7 @@
 use Rattle.std.proofs.Common.{map, string_bytes}
 use Rattle.std.specs.Io.KnownBytes.{Appends}
 use Rattle.lift_command.specs.Runs.{IsOutcome}
-use Rattle.lift_command.specs.Writes.{Writes, AppendsFront}
+use Rattle.lift_host.specs.Writes.{Writes, AppendsFront}
 use Rattle.lift_command.proofs.Ending.{done_of, front_of, told_of, never_unwritten}
 use Rattle.lift_command.proofs.program.run_with.Goals as goal
 

@@ -1,0 +1,161 @@
+// Help, the version, and what is wrong with words that ask for nothing.
+
+use clap::error::ErrorKind;
+use clap::{Arg, Command};
+use lift_host::request::{MOST_ROUNDS, is_option};
+use std::alloc::{AllocError, Global};
+
+const VERSION: &str = "0.1.0";
+
+const AFTER_HELP: &str = "\
+Exit status:
+  0  done
+  2  the command line or FILE is refused
+  3  FILE can't be read, or standard output can't be written
+  4  out of memory
+
+A refused FILE prints `refused NUMBER at line LINE`: docs/FAULTS.md explains each number.";
+
+/// What words say that ask for nothing.
+#[derive(Debug, Drop)]
+pub enum Answer {
+    /// Help or the version was asked for: its text.
+    Help(String),
+    /// The words are wrong: what the parser of the command line says.
+    Misuse(String),
+    NoMemory,
+}
+
+/// What is wrong with words that the parser takes.
+#[derive(Drop)]
+enum Misuse<'w> {
+    /// A word begins with `-`.
+    Option(&'w str),
+    /// ROUNDS is no decimal in its range.
+    Rounds(&'w str),
+    /// A command or its FILE is missing.
+    Missing,
+}
+
+/// The argument FILE.
+fn file<'a>(alloc: Global) -> Arg<'a> {
+    Arg::new(alloc, "FILE")
+        .required(true)
+        .help("A configuration in Instruction List")
+}
+
+/// The command that checks.
+fn check_command<'a>(alloc: Global) -> Result<Command<'a>, AllocError> {
+    Command::new(alloc, "check")
+        .about("Verifies FILE and shows its tasks and units")
+        .arg(file(alloc))
+}
+
+/// The argument ROUNDS.
+fn rounds<'a>(alloc: Global) -> Arg<'a> {
+    Arg::new(alloc, "ROUNDS")
+        .required(true)
+        .help("How many rounds of 100 ms, from 1 to 50000")
+}
+
+/// The command that simulates.
+fn sim_command<'a>(alloc: Global) -> Result<Command<'a>, AllocError> {
+    Command::new(alloc, "sim")
+        .about("Runs FILE on a simulated plant and prints the trace")
+        .arg(file(alloc))?
+        .arg(rounds(alloc))
+}
+
+/// The program without its commands.
+fn bare<'a>(alloc: Global) -> Result<Command<'a>, AllocError> {
+    Command::new(alloc, "liftplc")
+        .version(VERSION)
+        .about("Runs lift groups on programs in Instruction List")
+        .after_help(AFTER_HELP)
+        .no_binary_name(true)
+        .subcommand_required(true)
+        .bin_name("liftplc")
+}
+
+/// The program with its commands.
+fn commands<'a>(alloc: Global) -> Result<Command<'a>, AllocError> {
+    let sim = sim_command(alloc)?;
+    with_check(alloc)?.subcommand(sim)
+}
+
+fn with_check<'a>(alloc: Global) -> Result<Command<'a>, AllocError> {
+    let check = check_command(alloc)?;
+    bare(alloc)?.subcommand(check)
+}
+
+/// What is wrong with words that ask for nothing, though the parser takes them.
+fn misuse_of(words: &[String]) -> Misuse<'_> {
+    if let Some(word) = words.iter().find(|word| is_option(word)) {
+        return Misuse::Option(word);
+    }
+    match words {
+        [_, _, rounds] => Misuse::Rounds(rounds),
+        _ => Misuse::Missing,
+    }
+}
+
+/// What the parser would say of the misuse.
+fn error_of(
+    alloc: Global,
+    command: &mut Command<'_>,
+    misuse: Misuse<'_>,
+) -> Result<clap::Error, AllocError> {
+    match misuse {
+        Misuse::Option(word) => {
+            let text = format!(in alloc; "unexpected argument '{word}' found")?;
+            command.error(ErrorKind::UnknownArgument, &text)
+        }
+        Misuse::Rounds(word) => {
+            let text = format!(in alloc;
+                "invalid value '{word}' for '<ROUNDS>': not a decimal from 1 to {MOST_ROUNDS}"
+            )?;
+            command.error(ErrorKind::ValueValidation, &text)
+        }
+        Misuse::Missing => command.error(
+            ErrorKind::MissingRequiredArgument,
+            "a required argument was not provided",
+        ),
+    }
+}
+
+/// What comes of the parser's error.
+fn answer_to(alloc: Global, error: clap::Error) -> Answer {
+    if let ErrorKind::OutOfMemory = error.kind() {
+        return Answer::NoMemory;
+    }
+    match format!(in alloc; "{error}") {
+        Ok(text) if error.use_stderr() => Answer::Misuse(text),
+        Ok(text) => Answer::Help(text),
+        Err(_) => Answer::NoMemory,
+    }
+}
+
+/// The parser's error.
+fn parsed<'w>(
+    alloc: Global,
+    command: &mut Command<'w>,
+    words: &'w [String],
+) -> Result<clap::Error, AllocError> {
+    match command.try_get_matches_from_mut(words) {
+        Ok(_) => error_of(alloc, command, misuse_of(words)),
+        Err(error) => Ok(error),
+    }
+}
+
+fn error_in(alloc: Global, words: &[String]) -> Result<clap::Error, AllocError> {
+    let mut command = commands(alloc)?;
+    parsed(alloc, &mut command, words)
+}
+
+/// What the program prints of words that ask for nothing.
+pub fn answer_of(alloc: Global, words: &[String]) -> Answer {
+    match error_in(alloc, words) {
+        Ok(error) => answer_to(alloc, error),
+        Err(_) => Answer::NoMemory,
+    }
+}

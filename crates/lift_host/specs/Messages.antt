@@ -1,0 +1,46 @@
+-- What the program says of a fault, and how it then ends (own rules).
+use Rattle.std.specs.Prelude.{ℕ, List, ◌++◌, codes, decimal, string_bytes}
+use Rattle.il_spec.specs.declared.fault.Refusal.{Refusal}
+use Rattle.il_spec.specs.declared.fault.Refusal.TheVariants as refusal
+use Rattle.lift_host.specs.declared.files.ReadFault.{ReadFault}
+use Rattle.lift_host.specs.declared.files.ReadFault.TheVariants as read
+use Rattle.lift_host.specs.declared.status.Status.{Status}
+use Rattle.lift_host.specs.declared.status.Status.TheVariants as status
+use Rattle.lift_host.specs.declared.status.Fault.{Fault}
+use Rattle.lift_host.specs.declared.status.Fault.TheVariants.{Misuse, Refused, Event, CannotRead, CannotWrite, NoMemory}
+
+-- the exit status
+abbrev pub code_of : Status → ℕ
+code_of status.Done = 0
+code_of status.Refused = 2
+code_of status.CannotRead = 3
+code_of status.CannotWrite = 3
+code_of status.NoMemory = 4
+
+-- the status of a fault
+abbrev pub status_of : Fault → Status
+status_of (Misuse text) = status.Refused
+status_of (Refused number line) = status.Refused
+status_of (Event number) = status.Refused
+status_of CannotRead = status.CannotRead
+status_of CannotWrite = status.CannotWrite
+status_of NoMemory = status.NoMemory
+
+-- the one line that the standard error shows, or what the parser of the words says
+abbrev pub message_of : Fault → List ℕ
+message_of (Misuse text) = string_bytes text
+message_of (Refused number line) = codes "refused " ++ (decimal number ++ (codes " at line " ++ (decimal line ++ codes "\n")))
+message_of (Event number) = codes "refused " ++ (decimal number ++ codes "\n")
+message_of CannotRead = codes "cannot read\n"
+message_of CannotWrite = codes "cannot write\n"
+message_of NoMemory = codes "no memory\n"
+
+-- the fault of a refusal of a text
+abbrev pub fault_of : Refusal → Fault
+fault_of (refusal.Fault number line) = Refused number line
+fault_of refusal.Memory = NoMemory
+
+-- the fault of a file that can't be read
+abbrev pub fault_of_reading : ReadFault → Fault
+fault_of_reading read.CannotRead = CannotRead
+fault_of_reading read.NoMemory = NoMemory

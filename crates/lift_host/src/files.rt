@@ -1,0 +1,79 @@
+// Where the program reads its files.
+
+ghost use Rattle.std.specs.Prelude.{◌≤◌, ℕ, List, length, IfOk, IfErr, ⊤};
+ghost use Rattle.lift_host.specs.declared.files.ReadFault.{ReadFault};
+
+use std::alloc::{AllocError, Global};
+use std::fs::File;
+use std::io;
+use std::io::Read;
+use std::rt::Files;
+
+/// Why a file gives no bytes.
+#[derive(Clone, Copy, Debug, PartialEq, Eq)]
+pub enum ReadFault {
+    /// It is missing, is a directory, or can't be read.
+    CannotRead,
+    /// An allocation failed.
+    NoMemory,
+}
+
+impl From<io::Error> for ReadFault {
+    ghost use Rattle.std.specs.Prelude.{◌≡◌, ◌↔◌};
+    ghost use Rattle.std.specs.IoError.{error_kind};
+    ghost use Rattle.std.specs.declared.io.ErrorKind.TheVariants.{OutOfMemory};
+    ghost use Rattle.lift_host.specs.declared.files.ReadFault.TheVariants.{NoMemory};
+
+    ghost from_gives = { λ e f. (f ≡ NoMemory) ↔ (error_kind e ≡ OutOfMemory) };
+
+    fn from(error: io::Error) -> ReadFault {
+        match error.kind() {
+            io::ErrorKind::OutOfMemory => ReadFault::NoMemory,
+            _ => ReadFault::CannotRead,
+        }
+    }
+}
+
+impl From<AllocError> for ReadFault {
+    ghost use Rattle.std.specs.Prelude.{◌≡◌};
+    ghost use Rattle.lift_host.specs.declared.files.ReadFault.TheVariants.{NoMemory};
+
+    ghost from_gives = { λ _ f. f ≡ NoMemory };
+
+    fn from(_error: AllocError) -> ReadFault {
+        ReadFault::NoMemory
+    }
+}
+
+/// A reader of files by name.
+pub trait TextFiles {
+    // What the file of a name may give to a reading of at most so many bytes.
+    ghost gives: { Self → List ℕ → ℕ → List ℕ → Type 0 };
+
+    // Why such a reading may fail.
+    ghost fails: { Self → List ℕ → ℕ → ReadFault → Type 0 };
+
+    /// The first bytes of a file, at most `limit` of them.
+    fn read(&self, alloc: Global, name: &str, limit: usize) -> Result<Vec<u8>, ReadFault>
+        ensures within { IfOk result (λ text. length text.items ≤ limit) }
+        ensures gives { IfOk result (λ text. gives self.now name.now limit text.items) }
+        ensures fails { IfErr result (fails self.now name.now limit) };
+}
+
+/// The files of the process, of which no contract can say more than how many bytes were read.
+#[derive(Drop)]
+pub struct Disk<'r, R: Files>(pub &'r R);
+
+impl<R: Files> TextFiles for Disk<'_, R> {
+    ghost gives = { λ _ _ limit text. length text ≤ limit };
+
+    ghost fails = { λ _ _ _ _. ⊤ };
+
+    fn read(&self, alloc: Global, name: &str, limit: usize) -> Result<Vec<u8>, ReadFault> {
+        let file = File::open(self.0, name)?;
+        let mut text = Vec::new(alloc);
+        file.take(limit as u64).read_to_end(&mut text)?;
+        text.truncate(limit);
+        Ok(text)
+    }
+}

@@ -1,0 +1,8 @@
+//! What a program is given and how it ends: its words, readers of its files, sinks for what it prints, exit statuses
+//! and messages.
+#![tactic(auto)]
+
+pub mod files;
+pub mod request;
+pub mod sink;
+pub mod status;

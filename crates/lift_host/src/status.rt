@@ -1,0 +1,185 @@
+// How a program ends, and what it then says.
+
+ghost use Rattle.std.specs.Prelude.{◌≡◌, ◌⊎◌, ◌++◌, true, IfOk, IfErr, OnOk, OnErr, decimal, string_bytes};
+ghost use Rattle.std.specs.Io.KnownBytes.{Appends, Keeps};
+ghost use Rattle.lift_host.specs.Writes.{Writes, AppendsFront};
+ghost use Rattle.lift_host.specs.Messages.{message_of, status_of, code_of};
+
+use crate::files::ReadFault;
+use crate::sink::{Sink, SinkFault, put_all};
+use il_spec::fault::Refusal;
+use itoa::Buffer;
+use std::alloc::AllocError;
+
+/// How a program ends.
+#[derive(Clone, Copy, Debug, PartialEq, Eq)]
+pub enum Status {
+    /// It has written its output.
+    Done,
+    /// The words, the text or an event were refused.
+    Refused,
+    /// The file can't be read.
+    CannotRead,
+    /// The standard output can't be written.
+    CannotWrite,
+    /// An allocation failed.
+    NoMemory,
+}
+
+/// Why a program has no output.
+#[derive(Debug, Drop)]
+pub enum Fault {
+    /// The words are wrong: what the parser says.
+    Misuse(String),
+    /// The text is refused with the number at the line, counted from 1.
+    Refused { number: u16, line: u32 },
+    /// The world refused an event that the program made.
+    Event(u8),
+    CannotRead,
+    CannotWrite,
+    NoMemory,
+}
+
+impl Status {
+    /// The process's exit status.
+    pub fn code(self) -> u8
+        ensures { result ≡ code_of self }
+    {
+        match self {
+            Status::Done => 0,
+            Status::Refused => 2,
+            Status::CannotRead => 3,
+            Status::CannotWrite => 3,
+            Status::NoMemory => 4,
+        }
+    }
+}
+
+impl From<Refusal> for Fault {
+    ghost use Rattle.lift_host.specs.Messages.{fault_of};
+
+    ghost from_gives = { λ r f. f ≡ fault_of r };
+
+    fn from(refusal: Refusal) -> Fault {
+        match refusal {
+            Refusal::Fault { number, line } => Fault::Refused { number, line },
+            Refusal::Memory => Fault::NoMemory,
+        }
+    }
+}
+
+impl From<ReadFault> for Fault {
+    ghost use Rattle.lift_host.specs.Messages.{fault_of_reading};
+
+    ghost from_gives = { λ r f. f ≡ fault_of_reading r };
+
+    fn from(fault: ReadFault) -> Fault {
+        match fault {
+            ReadFault::CannotRead => Fault::CannotRead,
+            ReadFault::NoMemory => Fault::NoMemory,
+        }
+    }
+}
+
+impl From<AllocError> for Fault {
+    ghost use Rattle.std.specs.Prelude.{◌≡◌};
+    ghost use Rattle.lift_host.specs.declared.status.Fault.TheVariants.{NoMemory};
+
+    ghost from_gives = { λ _ f. f ≡ NoMemory };
+
+    fn from(_error: AllocError) -> Fault {
+        Fault::NoMemory
+    }
+}
+
+impl Fault {
+    /// How the program ends.
+    pub fn status(&self) -> Status
+        ensures { result ≡ status_of self.now }
+    {
+        match self {
+            Fault::Misuse(_) => Status::Refused,
+            Fault::Refused { .. } => Status::Refused,
+            Fault::Event(_) => Status::Refused,
+            Fault::CannotRead => Status::CannotRead,
+            Fault::CannotWrite => Status::CannotWrite,
+            Fault::NoMemory => Status::NoMemory,
+        }
+    }
+
+    /// Writes what the program says of it.
+    fn put<S: Sink>(&self, sink: &mut S) -> Result<(), SinkFault>
+        ensures ok { OnOk result (Appends (S.contents sink.old) (S.contents sink.new) (message_of self.now)) }
+        ensures failed { OnErr result (S.has_failed sink.new ≡ true) }
+    {
+        match self {
+            Fault::Misuse(text) => put_all(sink, text.as_bytes()),
+            Fault::Refused { number, line } => put_refusal(sink, *number, *line),
+            Fault::Event(number) => put_event(sink, *number),
+            Fault::CannotRead => put_all(sink, b"cannot read\n"),
+            Fault::CannotWrite => put_all(sink, b"cannot write\n"),
+            Fault::NoMemory => put_all(sink, b"no memory\n"),
+        }
+    }
+}
+
+/// Writes that a text is refused.
+fn put_refusal<S: Sink>(sink: &mut S, number: u16, line: u32) -> Result<(), SinkFault>
+    ensures ok { OnOk result (Appends (S.contents sink.old) (S.contents sink.new) (message_of (Fault.Refused number line))) }
+    ensures failed { OnErr result (S.has_failed sink.new ≡ true) }
+{
+    put_numbered(sink, b"refused ", u32::from(number))?;
+    put_numbered(sink, b" at line ", line)?;
+    put_all(sink, b"\n")
+}
+
+/// Writes that an event is refused.
+fn put_event<S: Sink>(sink: &mut S, number: u8) -> Result<(), SinkFault>
+    ensures ok { OnOk result (Appends (S.contents sink.old) (S.contents sink.new) (message_of (Fault.Event number))) }
+    ensures failed { OnErr result (S.has_failed sink.new ≡ true) }
+{
+    put_numbered(sink, b"refused ", u32::from(number))?;
+    put_all(sink, b"\n")
+}
+
+/// Writes a text and a number behind it.
+fn put_numbered<S: Sink>(sink: &mut S, text: &[u8], number: u32) -> Result<(), SinkFault>
+    ensures ok { OnOk result (Appends (S.contents sink.old) (S.contents sink.new) (text.now ++ decimal number)) }
+    ensures failed { OnErr result (S.has_failed sink.new ≡ true) }
+{
+    put_all(sink, text)?;
+    put_number(sink, number)
+}
+
+/// Writes a decimal, without sign or leading zeros.
+fn put_number<S: Sink>(sink: &mut S, number: u32) -> Result<(), SinkFault>
+    ensures ok { OnOk result (Appends (S.contents sink.old) (S.contents sink.new) (decimal number)) }
+    ensures failed { OnErr result (S.has_failed sink.new ≡ true) }
+{
+    let mut buffer = Buffer::new();
+    put_all(sink, buffer.format(number).as_bytes())
+}
+
+/// Writes the output of the program, or what it says of its fault. A standard error that fails
+/// changes nothing.
+pub fn show<O: Sink, E: Sink>(outcome: Result<String, Fault>, out: &mut O, err: &mut E) -> Status
+    ensures ends { IfOk outcome (λ _. (result ≡ Status.Done) ⊎ ((result ≡ Status.CannotWrite) × (O.has_failed out.new ≡ true))) }
+    ensures shown { IfOk outcome (λ text. result ≡ Status.Done → Appends (O.contents out.old) (O.contents out.new) (string_bytes text)) }
+    ensures front { IfOk outcome (λ text. result ≡ Status.CannotWrite → AppendsFront (O.contents out.old) (O.contents out.new) (string_bytes text)) }
+    ensures silent { result ≡ Status.Done → Keeps (E.contents err.old) (E.contents err.new) }
+    ensures cannot_write { IfOk outcome (λ _. result ≡ Status.CannotWrite → Writes (E.contents err.old) (E.contents err.new) (E.has_failed err.new) (message_of Fault.CannotWrite)) }
+
+    ensures fault { IfErr outcome (λ fault. result ≡ status_of fault) }
+    ensures nothing { IfErr outcome (λ _. Keeps (O.contents out.old) (O.contents out.new)) }
+    ensures told { IfErr outcome (λ fault. Writes (E.contents err.old) (E.contents err.new) (E.has_failed err.new) (message_of fault)) }
+{
+    let fault = match outcome {
+        Ok(text) => match put_all(out, text.as_bytes()) {
+            Ok(()) => return Status::Done,
+            Err(_) => Fault::CannotWrite,
+        },
+        Err(fault) => fault,
+    };
+    let _ = fault.put(err);
+    fault.status()
+}

@@ -1,0 +1,6 @@
+//! What `check` and `sim` print.
+#![tactic(auto)]
+
+pub mod check;
+pub mod sim;
+pub mod trace;

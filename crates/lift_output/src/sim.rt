@@ -1,0 +1,156 @@
+// What `sim` prints.
+
+use crate::trace::Trace;
+use il_machine::verified::is_task_name;
+use il_machine::{TaskInfo, Verified};
+use lift_host::status::Fault;
+use lift_image::Sizes;
+use lift_plant::plant::{Plant, plant_step};
+use lift_spec::event::{EventFault, Reply};
+use lift_world::{Event, World};
+use std::alloc::{AllocError, AllocFailed, Global};
+
+/// Why a simulation comes to no end.
+#[derive(Clone, Copy, Debug, PartialEq, Eq)]
+pub enum SimFault {
+    /// The world refused an event.
+    Event(EventFault),
+    /// An allocation failed.
+    NoMemory,
+}
+
+impl From<AllocError> for SimFault {
+    ghost use Rattle.std.specs.Prelude.{◌≡◌};
+    ghost use Rattle.lift_output.specs.declared.sim.SimFault.TheVariants.{NoMemory};
+
+    ghost from_gives = { λ _ f. f ≡ NoMemory };
+
+    fn from(_error: AllocError) -> SimFault {
+        SimFault::NoMemory
+    }
+}
+
+impl<T: Drop> From<AllocFailed<T>> for SimFault {
+    ghost use Rattle.std.specs.Prelude.{◌≡◌};
+    ghost use Rattle.lift_output.specs.declared.sim.SimFault.TheVariants.{NoMemory};
+
+    ghost from_gives = { λ _ f. f ≡ NoMemory };
+
+    fn from(_error: AllocFailed<T>) -> SimFault {
+        SimFault::NoMemory
+    }
+}
+
+impl From<SimFault> for Fault {
+    ghost use Rattle.std.specs.Prelude.{◌≡◌};
+    ghost use Rattle.lift_output.specs.Ends.{fault_of_sim};
+
+    ghost from_gives = { λ s f. f ≡ fault_of_sim s };
+
+    fn from(fault: SimFault) -> Fault {
+        match fault {
+            SimFault::Event(fault) => Fault::Event(fault.number()),
+            SimFault::NoMemory => Fault::NoMemory,
+        }
+    }
+}
+
+/// The trace of so many rounds. In each round the plant goes one step under the outputs of the
+/// image, the image is refreshed, and each task then runs one scan.
+pub fn sim_text(alloc: Global, verified: Verified, rounds: u16) -> Result<String, SimFault> {
+    match World::new(alloc, verified) {
+        Ok(mut world) => traced(alloc, &mut world, rounds),
+        Err(_) => Err(SimFault::NoMemory),
+    }
+}
+
+/// The trace of so many rounds of a world.
+fn traced(alloc: Global, world: &mut World, rounds: u16) -> Result<String, SimFault> {
+    let tasks = tasks_of(alloc, world.verified())?;
+    let mut trace = Trace::new(alloc)?;
+    run_rounds(world, &tasks, &mut trace, rounds)?;
+    Ok(trace.finish()?)
+}
+
+fn run_rounds(
+    world: &mut World,
+    tasks: &[u8],
+    trace: &mut Trace,
+    rounds: u16,
+) -> Result<(), SimFault> {
+    let mut plant = plant_of(world.sizes())?;
+    for _ in 0..rounds {
+        plant = round(world, plant, tasks, trace)?;
+    }
+    Ok(())
+}
+
+/// The numbers of the tasks, in the order in which they run.
+fn tasks_of(alloc: Global, verified: &Verified) -> Result<Vec<u8>, SimFault> {
+    let mut tasks = Vec::new(alloc);
+    for info in verified.tasks() {
+        tasks.push(task_of(info)?)?;
+    }
+    Ok(tasks)
+}
+
+/// The number of a task, 0 for GROUP and k for CARk.
+fn task_of(info: TaskInfo<'_>) -> Result<u8, SimFault> {
+    match (0..=8).find(|number| is_task_name(info.name, *number)) {
+        Some(number) => Ok(number),
+        None => Err(SimFault::Event(EventFault::NoSuchActor)),
+    }
+}
+
+/// The plant as it opens. No group has other numbers of cars and floors.
+fn plant_of(sizes: Sizes) -> Result<Plant, SimFault> {
+    let Sizes { cars, floors, .. } = sizes;
+    if cars < 1 || cars > 8 || floors < 2 || floors > 16 {
+        return Err(SimFault::Event(EventFault::FieldOutOfRange));
+    }
+    Ok(Plant::new(cars, floors))
+}
+
+fn round(
+    world: &mut World,
+    plant: Plant,
+    tasks: &[u8],
+    trace: &mut Trace,
+) -> Result<Plant, SimFault> {
+    let outputs = &world.image().outputs;
+    if outputs.as_slice().len() != plant.cars() {
+        return Err(SimFault::Event(EventFault::FieldOutOfRange));
+    }
+    let (plant, fields) = plant_step(plant, outputs);
+    trace.refresh(&fields)?;
+    applied(world, Event::Refresh(fields))?;
+    for task in tasks {
+        scan(world, *task, trace)?;
+    }
+    Ok(plant)
+}
+
+/// One scan of a task.
+fn scan(world: &mut World, task: u8, trace: &mut Trace) -> Result<(), SimFault> {
+    trace.start(task)?;
+    applied(world, Event::Start(task))?;
+    finished(world, task)?;
+    trace.commit(task)?;
+    applied(world, Event::Commit(task))
+}
+
+/// The open scan of a task runs to its end.
+fn finished(world: &mut World, task: u8) -> Result<(), SimFault> {
+    match world.finish(task) {
+        Ok(()) => Ok(()),
+        Err(fault) => Err(SimFault::Event(fault)),
+    }
+}
+
+/// An event that the world takes.
+fn applied(world: &mut World, event: Event) -> Result<(), SimFault> {
+    match world.apply(event) {
+        Reply::Refused(fault) => Err(SimFault::Event(fault)),
+        _ => Ok(()),
+    }
+}

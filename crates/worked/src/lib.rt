@@ -1,0 +1,21 @@
+//! Worked rows of the lower crates: calls whose answers were found by hand, which no command shows.
+#![tactic(auto)]
+
+#[cfg(test)]
+mod block_calls;
+#[cfg(test)]
+mod book_answers;
+#[cfg(test)]
+mod call_sets;
+#[cfg(test)]
+mod field_ranges;
+#[cfg(test)]
+mod interlock_rows;
+#[cfg(test)]
+mod plant_steps;
+#[cfg(test)]
+mod range_rows;
+#[cfg(test)]
+mod table_entries;
+#[cfg(test)]
+mod token_places;

@@ -1,0 +1,17 @@
+// A table of numbers.
+
+use il_table::Table;
+use std::test::Fail;
+
+#[test]
+fn keeps_entries(rt: HostRuntime) -> Result<(), Fail> {
+    let alloc = rt.alloc();
+    let mut table = Table::new(alloc);
+    table.put(alloc, "A", 1u8)?;
+    table.put(alloc, "POS", 2u8)?;
+    let mut copy = table.try_copy(alloc)?;
+    copy.put(alloc, "A", 3u8)?;
+    assert!(rt; copy.get("POS") == Some(2) && copy.get("B").is_none());
+    assert!(rt; copy.get("A") == Some(3) && table.get("A") == Some(1));
+    Ok(())
+}
