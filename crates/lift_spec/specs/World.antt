@@ -10,10 +10,10 @@ use Rattle.lift_spec.specs.declared.calls.Answer.TheVariants.{Stale}
 use Rattle.lift_spec.specs.declared.report.Report.{Report}
 use Rattle.lift_spec.specs.declared.event.Event.{Event}
 use Rattle.lift_spec.specs.declared.event.Event.TheVariants.{Start, Instruction, Commit, Refresh, Press, Gather}
-use Rattle.lift_spec.specs.declared.event.Reply.{Reply}
+use Rattle.lift_spec.specs.Replies.{Reply}
 use Rattle.lift_spec.specs.declared.event.EventFault.{EventFault}
 use Rattle.lift_spec.specs.declared.event.EventFault.TheVariants.{FieldOutOfRange, NoOpenScan, AlreadyOpen, NotAtEnd, NoSuchActor, SameFloor}
-use Rattle.lift_spec.specs.declared.event.Reply.TheVariants.{Started, More, End, Committed, Refreshed, New, Already, Gathered, Held, Refused}
+use Rattle.lift_spec.specs.Replies.{Started, More, End, Committed, Refreshed, New, Already, Gathered, Held, Refused}
 use Rattle.il_run.specs.NameMap.{empty}
 use Rattle.il_run.specs.State.{Values, State}
 use Rattle.il_run.specs.Step.{Trap, Outcome, Next as Goes, Trapped, Stuck, step as scan_step}

@@ -26,10 +26,10 @@ use Rattle.lift_spec.specs.declared.image.CarFields.{CarFields}
 use Rattle.lift_spec.specs.declared.image.CarOutputs.{CarOutputs}
 use Rattle.lift_spec.specs.declared.image.Motor.TheVariants.{Still}
 use Rattle.lift_spec.specs.declared.event.Event.TheVariants.{Start, Instruction, Commit, Refresh}
-use Rattle.lift_spec.specs.declared.event.Reply.{Reply}
+use Rattle.lift_spec.specs.Replies.{Reply}
 use Rattle.lift_spec.specs.declared.event.EventFault.{EventFault}
 use Rattle.lift_spec.specs.declared.event.EventFault.TheVariants.{FieldOutOfRange, NoOpenScan, AlreadyOpen, NotAtEnd, NoSuchActor}
-use Rattle.lift_spec.specs.declared.event.Reply.TheVariants.{Started, More, End, Committed, Refused}
+use Rattle.lift_spec.specs.Replies.{Started, More, End, Committed, Refused}
 use Rattle.lift_spec.specs.declared.image.Sizes.{Sizes}
 use Rattle.lift_spec.specs.Image.{sizes_of, opening_image, opening_car, opening_outputs, FieldsInRange, fields_in_range, IsFloor}
 use Rattle.lift_spec.specs.Calls.{opening_calls, ticket_of}

@@ -30,9 +30,9 @@ use Rattle.lift_spec.specs.World.{World}
 use Rattle.il_machine.specs.Opening.{shown_of}
 use Rattle.lift_world.specs.declared.event.Event.{Event}
 use Rattle.lift_world.specs.declared.event.Event.TheVariants.{Start, Instruction, Commit, Refresh}
-use Rattle.lift_spec.specs.declared.event.Reply.{Reply}
+use Rattle.lift_spec.specs.Replies.{Reply}
 use Rattle.lift_spec.specs.declared.event.EventFault.TheVariants.{FieldOutOfRange, NoOpenScan, AlreadyOpen, NotAtEnd, NoSuchActor}
-use Rattle.lift_spec.specs.declared.event.Reply.TheVariants.{Started, More, End, Committed, Refreshed, Refused}
+use Rattle.lift_spec.specs.Replies.{Started, More, End, Committed, Refreshed, Refused}
 use Rattle.lift_spec.specs.declared.report.Report.{Report}
 use Rattle.lift_spec.specs.declared.report.Rule.TheVariants.{NotLevel}
 
