@@ -19,11 +19,11 @@ use Rattle.il_machine.specs.Listing.{UnitLine, unit_line, unit_lines, TaskLine, 
 same_some : {X : Type 0} (x y : X) → Some x ≡ Some y → x ≡ y
 same_some x y e = cc
 
-none_some : {X : Type 0} (o : Option X) (x : X) → o ≡ None → o ≡ Some x → ⊥
+pub none_some : {X : Type 0} (o : Option X) (x : X) → o ≡ None → o ≡ Some x → ⊥
 none_some o x a b = let bad : None ≡ Some x = sym a ∙ b in cc
 
 -- the two spellings of one search
-found_alike : {X : Type 0} (p q : X → Bool) → ((x : X) → p x ≡ q x) → (xs : List X) → find p xs ≡ find q xs
+pub found_alike : {X : Type 0} (p q : X → Bool) → ((x : X) → p x ≡ q x) → (xs : List X) → find p xs ≡ find q xs
 found_alike p q same [] = refl
 found_alike p q same (x ∷ xs) = by (p x) (q x) (same x) (found_alike p q same xs)
   where
@@ -73,7 +73,7 @@ program_is_first c name u e = by_reserved (is_predeclared c name) e
     by_reserved false f = by_unit (find (λ w. bytes_eq w.name.name name) c.units) f
 
 -- the two searches of a task's PROGRAM line are one
-lines_alike : (n : ℕ) → nat_le n 8 ≡ true → (l : ProgramLine) → is_task_name l.task.name n ≡ bytes_eq (task_name n) l.task.name
+pub lines_alike : (n : ℕ) → nat_le n 8 ≡ true → (l : ProgramLine) → is_task_name l.task.name n ≡ bytes_eq (task_name n) l.task.name
 lines_alike n low l = ap (λ b. b && bytes_eq l.task.name (task_name n)) low ∙ names_alike l.task.name (task_name n)
 
 -- a task whose TASK line is found has a number up to 8

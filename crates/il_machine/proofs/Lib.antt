@@ -1,4 +1,5 @@
 pub mod Budgets
+pub mod Tasked
 pub mod Listings
 pub mod Slots
 pub mod Does

@@ -12,5 +12,5 @@ pub mod verified;
 pub use il_run::value::Value;
 pub use image::{ImageFlag, ImageNumber};
 pub use rows::Rows;
-pub use store::{Begin, Stepped, Store, step};
+pub use store::{Stepped, Store, scan, step};
 pub use verified::{TaskInfo, UnitCost, UnitInfo, Verified};

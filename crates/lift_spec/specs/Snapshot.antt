@@ -12,6 +12,7 @@ use Rattle.lift_spec.specs.declared.image.Sizes.{Sizes}
 use Rattle.lift_spec.specs.declared.image.Motor.{Motor}
 use Rattle.lift_spec.specs.declared.image.Motor.TheVariants.{Up, Down, Still}
 use Rattle.lift_spec.specs.declared.image.CarFields.{CarFields}
+use Rattle.lift_spec.specs.declared.image.Wishes.{Wishes}
 use Rattle.lift_spec.specs.declared.image.CarOutputs.{CarOutputs}
 use Rattle.lift_spec.specs.declared.image.Image.{Image}
 use Rattle.lift_spec.specs.declared.calls.Slot.{Slot}
@@ -149,12 +150,6 @@ abbrev pub motor_of : ℤ → Motor
 motor_of (pos zero) = Still
 motor_of (pos (suc n)) = Up
 motor_of (negsuc n) = Down
-
--- MOTOR, OPEN and SERVE, as a scan's values hold them at its end (own rule)
-pub record Wishes : Type 0 where
-  pub motor : Motor
-  pub opens : Bool
-  pub serve : ℕ
 
 -- the wishes of a car's scan (own rule)
 unfoldable pub wishes_of : Values → Wishes
