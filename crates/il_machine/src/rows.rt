@@ -3,9 +3,11 @@
 ghost use Rattle.std.specs.Prelude.{◌≡◌, ◌+◌, ◌≤◌, ◌<◌, ◌++◌, IsSome, Some, IfOk, OnOk, length, take, set, slice_get};
 ghost use Rattle.il_code.specs.Layout.{rows};
 ghost use Rattle.il_code.specs.Paths.{with_value};
-ghost use Rattle.il_machine.specs.Scanning.{joined, front, behind, value_at};
+ghost use Rattle.il_machine.specs.Scanning.{joined, front, behind, value_at, variables_in, FitsOwn};
+ghost use Rattle.il_run.specs.NameMap.{get};
 ghost use Rattle.il_machine.specs.Effect.{read, write, element_base, boolean_of, number_of};
 
+use crate::verified::Verified;
 use il_code::flat::{Cell, Slot};
 use il_rules::elementary::declared_limits;
 use il_run::value::{Content, Value};
@@ -165,6 +167,15 @@ impl Rows {
             None => Some(Value::Boolean(flag)),
             Some(_) => Some(Value::Integer(number)),
         }
+    }
+
+    /// The value of a variable of a task, by its path.
+    pub fn variable(&self, verified: &Verified, task: u8, path: &str) -> Option<Value>
+        requires stub { ⊥ }
+        requires fits { FitsOwn verified.now.config task self.now }
+        ensures { result ≡ get (variables_in verified.now.config task self.now) path.now }
+    {
+        unreachable!()
     }
 
     /// The base of an instance, which stands within the rows.

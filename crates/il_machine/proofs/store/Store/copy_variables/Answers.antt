@@ -1,4 +1,0 @@
-use Rattle.il_machine.proofs.store.Store.copy_variables.Goals as goal
-
-pub unreachable-requires : goal.unreachable-requires
-unreachable-requires c = ?
