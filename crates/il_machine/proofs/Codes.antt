@@ -1,6 +1,6 @@
 -- That a runnable configuration has flat code.
-use Rattle.std.proofs.Common.{◌≡◌, ℕ, zero, suc, ◌<◌, ◌≤◌, ◌^◌, Bool, true, false, List, [], ◌∷◌, ◌++◌, map, slice_get, refl, sym, ap, ◌∙◌, Some, None, Option, subst, arith}
-use Rattle.std.specs.Prelude.{Contains, find, bytes_eq, if◌then◌else◌, codes}
+use Rattle.std.proofs.Common.{◌≡◌, ℕ, zero, suc, ◌<◌, ◌^◌, Bool, true, false, List, [], ◌∷◌, ◌++◌, map, slice_get, refl, sym, ap, ◌∙◌, Some, None, Option, subst, arith}
+use Rattle.std.specs.Prelude.{find, bytes_eq, if◌then◌else◌, codes}
 use Rattle.std.specs.Fmt.{decimal, digits}
 use Rattle.std.proofs.lemmas.Fmt.{decimal_injective}
 use Rattle.std.proofs.lemmas.List.{append_cancel_left}
@@ -20,10 +20,10 @@ use Rattle.lift_spec.specs.Snapshot.{task_name, program_of}
 use Rattle.il_code.specs.declared.flat.UnitCode.{UnitCode}
 use Rattle.il_code.specs.Coded.{IsUnit, IsRunnable as IsRunnableInstruction}
 use Rattle.il_code.specs.Whole.{number_in, unit_code}
-use Rattle.il_code.specs.Program.{program_names, program_cells, program_code}
+use Rattle.il_code.specs.Program.{program_names, program_code}
 use Rattle.il_code.specs.Resolved.{IsFlattened}
 use Rattle.il_code.proofs.Declared.{own}
-use Rattle.il_code.proofs.Program.{supported, cells_once, program_is_code, program_is_placed}
+use Rattle.il_code.proofs.Program.{cells_once, program_is_code, program_is_placed}
 use Rattle.il_machine.specs.Scanning.{HasCode, IsRunnable}
 
 -- the only unit stands first

@@ -1,5 +1,5 @@
 -- What a scan is given of an image in its ranges has values of the declared sets.
-use Rattle.std.proofs.Common.{◌≡◌, ℕ, suc, ◌≤◌, List, [], length, refl, sym, ap, subst, arith}
+use Rattle.std.proofs.Common.{◌≡◌, ℕ, ◌≤◌, List, [], length, sym, ap, subst, arith}
 use Rattle.std.specs.Prelude.{All, Contains, nat_abs}
 use Rattle.std.proofs.lemmas.List.{length-replicate}
 use Rattle.std.proofs.lemmas.List.Elements.{All-replicate, Contains-append_right}
@@ -19,7 +19,6 @@ use Rattle.lift_spec.specs.declared.calls.Slot.TheVariants.{Free}
 use Rattle.lift_spec.specs.Image.{sizes_of, FieldsInRange, IsFloor, opening_image, opening_car, opening_outputs}
 use Rattle.lift_spec.specs.Calls.{SlotInRange, opening_calls}
 use Rattle.lift_spec.specs.Snapshot.{image_entries}
-use Rattle.lift_spec.specs.World.{Group}
 use Rattle.lift_sound.specs.Tasks.{IsSized}
 use Rattle.lift_sound.specs.Seeing.{image_scalars}
 use Rattle.lift_sound.specs.Accepted.{IsSound}

@@ -1,5 +1,5 @@
 -- What the rows of a scan hold of the image, and of the task's variables.
-use Rattle.std.proofs.Common.{◌≡◌, ℕ, zero, suc, ◌+◌, ◌*◌, ◌<◌, ◌≤◌, Bool, List, [], ◌∷◌, ◌++◌, length, take, slice_get, refl, sym, ap, ap₂, ◌∙◌, Some, None, Option, ℤ, pos, negsuc, ◌+ℤ◌, ◌≤ℤ◌, subst, arith}
+use Rattle.std.proofs.Common.{◌≡◌, ℕ, zero, suc, ◌+◌, ◌*◌, ◌<◌, ◌≤◌, Bool, List, [], ◌∷◌, ◌++◌, length, take, slice_get, refl, sym, ap, ap₂, ◌∙◌, Some, ℤ, pos, negsuc, ◌+ℤ◌, ◌≤ℤ◌, subst, arith}
 use Rattle.std.specs.Prelude.{codes, nat_abs, is_some}
 use Rattle.std.proofs.lemmas.Int.{ints}
 use Rattle.std.proofs.lemmas.List.{length-append}
@@ -12,7 +12,7 @@ use Rattle.il_spec.specs.ElementaryTypes.{plain}
 use Rattle.il_rules.specs.Names.{within}
 use Rattle.il_rules.specs.Declarations.{declared_limits}
 use Rattle.il_run.specs.declared.value.Value.{Value}
-use Rattle.il_run.specs.declared.value.Value.TheVariants.{Boolean, Integer}
+use Rattle.il_run.specs.declared.value.Value.TheVariants.{Integer}
 use Rattle.il_run.specs.NameMap.{Text, get}
 use Rattle.il_run.specs.Meaning.{width_of}
 use Rattle.il_run.specs.Values.{IsOf}
@@ -32,14 +32,13 @@ use Rattle.il_code.specs.Paths.{number_cells, call_cells, car_cells, image_cells
 use Rattle.il_code.proofs.Kept.{Has, has}
 use Rattle.il_code.proofs.Program.{cells_once}
 use Rattle.il_code.proofs.Made.{image_laid}
-use Rattle.lift_spec.specs.declared.image.Wishes.{Wishes}
 use Rattle.lift_spec.specs.Image.{sizes_of}
 use Rattle.lift_spec.specs.Snapshot.{program_of, motor_of, whole_of, truth_of, wishes_of}
 use Rattle.lift_sound.specs.Tasks.{output_scalars}
 use Rattle.lift_sound.proofs.Given.{outputs_have}
 use Rattle.il_machine.specs.Image.{car_slot}
 use Rattle.il_machine.specs.Going.{Stored}
-use Rattle.il_machine.specs.Scanning.{IsRunnable, IsScanOf, IsScanState, FitsOwn, OwnsDeclared, front, own_count, variables_in, over, own_view, seen_view, kept_by, kept_of, state_of}
+use Rattle.il_machine.specs.Scanning.{IsRunnable, IsScanOf, IsScanState, FitsOwn, OwnsDeclared, front, own_count, variables_in, own_view, seen_view, kept_by, kept_of, state_of}
 use Rattle.il_machine.proofs.Codes.{task_is, car_program, flattened}
 use Rattle.il_machine.proofs.Opened.{width_is, first_fits, opened_declared}
 use Rattle.il_machine.proofs.Over.{parts_are, front_fits, same_names, restricted_is}

@@ -1,8 +1,7 @@
 -- The rows of the image, and those of the variables in the opening world.
-use Rattle.std.proofs.Common.{◌≡◌, ℕ, zero, suc, ◌+◌, ◌-◌, ◌<◌, ◌≤◌, Bool, true, false, List, [], ◌∷◌, ◌++◌, map, length, refl, sym, ap, ap₂, ◌∙◌, cond, Some, None, Option, ℤ, pos, ◌+ℤ◌, subst, arith, append_assoc, append-nil}
-use Rattle.std.specs.Prelude.{Contains, replicate, nat_abs, is_some, bytes_eq, if◌then◌else◌, codes, option_map}
+use Rattle.std.proofs.Common.{◌≡◌, ℕ, zero, suc, ◌+◌, Bool, true, false, List, [], ◌∷◌, ◌++◌, map, length, refl, sym, ap, ◌∙◌, cond, Some, None, Option, ℤ, pos, subst}
+use Rattle.std.specs.Prelude.{Contains, nat_abs, is_some, bytes_eq, if◌then◌else◌, codes, option_map}
 use Rattle.std.specs.Ordering.{eq_by_cmp}
-use Rattle.std.specs.Fmt.{digits}
 use Rattle.std.proofs.lemmas.Slice.Eq.{bytes_eq-Decides}
 use Rattle.il_spec.specs.declared.tree.Config.{Config}
 use Rattle.il_spec.specs.declared.tree.Unit.{Unit as Organized}
@@ -14,41 +13,34 @@ use Rattle.il_spec.specs.declared.tree.Form.TheVariants.{Scalar as ScalarForm, A
 use Rattle.il_rules.specs.Names.{or_else, own_variable, is_function_kind}
 use Rattle.il_rules.specs.Declarations.{declared_limits}
 use Rattle.il_rules.specs.Subset.{IsSupportedForm, AreSupportedVariables}
-use Rattle.il_rules.specs.Symbols.{IsProgram}
 use Rattle.il_run.specs.declared.value.Value.{Value}
-use Rattle.il_run.specs.declared.value.Value.TheVariants.{Boolean, Integer}
-use Rattle.il_run.specs.NameMap.{Text, order, empty, get, insert, get-insert, from_entries}
-use Rattle.il_run.specs.State.{Values}
-use Rattle.il_run.specs.Meaning.{Entity, element_path, entities, own_entities, block_entities, instance_values, entity_values, depth, width_of}
+use Rattle.il_run.specs.declared.value.Value.TheVariants.{Boolean}
+use Rattle.il_run.specs.NameMap.{Text, order, empty, get, get-insert}
+use Rattle.il_run.specs.Meaning.{Entity, entities, own_entities, block_entities, instance_values, depth, width_of}
 use Rattle.il_run.specs.Ranges.{HoldsTask}
-use Rattle.il_run.specs.Scan.{opening_variables, opening_globals, task_program}
+use Rattle.il_run.specs.Scan.{opening_variables}
 use Rattle.il_table.proofs.Copies.{same_text}
-use Rattle.il_sound.specs.Listed.{seen_scalars}
-use Rattle.il_sound.proofs.Listing.{keeps_listed}
-use Rattle.il_sound.proofs.Opening.{globals_open, variables_open}
-use Rattle.il_sound.proofs.Named.{found_unit}
+use Rattle.il_sound.proofs.Opening.{variables_open}
 use Rattle.il_sound.proofs.Lists.{at_head}
 use Rattle.il_code.specs.declared.flat.Cell.{Cell}
-use Rattle.il_code.specs.Layout.{cell, Rows, rows, Fits, value_by, view_of, view}
+use Rattle.il_code.specs.Layout.{Rows, Fits, value_by, view_of}
 use Rattle.il_code.specs.Cells.{form_in, element_cells, cells_at, entity_cells, instance_cells}
-use Rattle.il_code.specs.Whole.{HasKind, AreOf, number_part, flag_part, first_rows}
-use Rattle.il_code.specs.Program.{own_cells, seen_cells, own_values}
+use Rattle.il_code.specs.Whole.{HasKind, AreOf, first_rows}
+use Rattle.il_code.specs.Program.{own_cells, own_values}
 use Rattle.lift_spec.specs.declared.image.Sizes.{Sizes}
 use Rattle.il_code.specs.Paths.{number_cells, call_cells, car_cells, image_cells}
 use Rattle.il_code.proofs.Kept.{itself}
 use Rattle.il_code.proofs.Declared.{own_same}
-use Rattle.il_code.proofs.Opening.{shown, entities_of}
+use Rattle.il_code.proofs.Opening.{entities_of}
 use Rattle.il_code.proofs.Begins.{own_initial, blocks_initial}
 use Rattle.il_code.proofs.Program.{own_opening}
-use Rattle.il_code.proofs.Made.{image_laid}
 use Rattle.lift_spec.specs.declared.image.Image.{Image}
 use Rattle.lift_spec.specs.declared.image.CarFields.{CarFields}
 use Rattle.lift_spec.specs.declared.image.CarOutputs.{CarOutputs}
 use Rattle.lift_spec.specs.declared.calls.Slot.{Slot}
-use Rattle.lift_spec.specs.Image.{sizes_of, opening_image, opening_car, opening_outputs}
+use Rattle.lift_spec.specs.Image.{sizes_of}
 use Rattle.lift_spec.specs.Settle.{fields_of, outputs_of}
-use Rattle.lift_spec.specs.Calls.{opening_calls}
-use Rattle.lift_spec.specs.Snapshot.{task_name, program_of, number, elements_of, waits, from_of, to_of, car_of, common_entries, car_entries, image_entries}
+use Rattle.lift_spec.specs.Snapshot.{number, elements_of, waits, from_of, to_of, car_of, car_entries, image_entries}
 use Rattle.il_machine.specs.Held.{HoldsOwn}
 use Rattle.il_machine.specs.Scanning.{IsRunnable, HasSizes, FitsOwn, OwnsDeclared, own_view, variables_in}
 use Rattle.il_machine.proofs.Codes.{flattened, car_program}

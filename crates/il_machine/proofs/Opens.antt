@@ -1,19 +1,16 @@
 -- A task's first scan.
-use Rattle.std.proofs.Common.{◌≡◌, ℕ, List, [], ◌+◌, ◌*◌, ◌≤◌, ◌++◌, length, refl, sym, ap, ap₂, ◌∙◌, Some, None, Option, subst, arith}
-use Rattle.std.specs.Prelude.{replicate, nat_abs, false}
-use Rattle.std.proofs.lemmas.List.{length-append, length-replicate, length-map}
+use Rattle.std.proofs.Common.{◌≡◌, ℕ, List, [], ◌+◌, ◌*◌, ◌++◌, length, refl, sym, ap, ap₂, ◌∙◌, None, subst, arith}
+use Rattle.std.specs.Prelude.{false}
+use Rattle.std.proofs.lemmas.List.{length-replicate, length-map}
 use Rattle.il_spec.specs.declared.tree.Config.{Config}
 use Rattle.il_spec.specs.declared.tree.Unit.{Unit as Organized}
 use Rattle.il_rules.specs.Symbols.{IsProgram}
-use Rattle.il_run.specs.declared.value.Value.{Value}
 use Rattle.il_run.specs.declared.value.Value.TheVariants.{Boolean}
-use Rattle.il_run.specs.NameMap.{Text}
 use Rattle.il_run.specs.Scan.{opening_variables, opening_globals}
 use Rattle.il_code.specs.Layout.{Rows, rows}
 use Rattle.il_code.specs.Whole.{first_rows}
 use Rattle.il_code.specs.Program.{own_values}
 use Rattle.lift_spec.specs.declared.calls.Slot.{Slot}
-use Rattle.lift_spec.specs.declared.calls.Slot.TheVariants.{Free}
 use Rattle.lift_spec.specs.Image.{sizes_of, opening_image}
 use Rattle.lift_spec.specs.Calls.{opening_calls}
 use Rattle.lift_spec.specs.Snapshot.{scan_begins, image_entries}
@@ -22,7 +19,6 @@ use Rattle.il_machine.specs.Image.{filled, image_values}
 use Rattle.il_machine.specs.Opening.{shown_of, opening_snapshot, opening_entries, opening_rows, with_row}
 use Rattle.il_machine.specs.Scanning.{IsRunnable, OwnsDeclared, IsScanOf, state_of, kept_of, variables_in}
 use Rattle.il_machine.proofs.Scans.{same_program}
-use Rattle.il_machine.proofs.Codes.{car_program}
 use Rattle.il_machine.proofs.Starts.{first_frame, start_of, start_keeps}
 use Rattle.il_machine.proofs.Opened.{opened_own, opened_declared, variables_open_so}
 use Rattle.il_machine.proofs.Given.{opening_given}

@@ -1,5 +1,5 @@
 -- Values that stand over others, and rows in two parts.
-use Rattle.std.proofs.Common.{◌≡◌, ℕ, zero, suc, ◌≤◌, Bool, true, false, List, [], ◌∷◌, ◌++◌, map, take, drop, length, refl, sym, ap, ◌∙◌, cond, Some, None, Option, ℤ, arith}
+use Rattle.std.proofs.Common.{◌≡◌, ℕ, ◌≤◌, Bool, true, false, List, [], ◌∷◌, ◌++◌, map, take, drop, length, refl, sym, ap, ◌∙◌, cond, Some, None, Option, ℤ, arith}
 use Rattle.std.proofs.lemmas.List.{length-take, length-append}
 use Rattle.std.specs.Prelude.{is_some}
 use Rattle.std.specs.Ordering.{eq_by_cmp}
@@ -13,7 +13,7 @@ use Rattle.il_run.specs.Scan.{entries_at, restricted}
 use Rattle.il_table.specs.ByText.{HaveSameNames}
 use Rattle.il_table.proofs.Copies.{same_text, same_names-insert}
 use Rattle.il_code.specs.declared.flat.Cell.{Cell}
-use Rattle.il_code.specs.Layout.{Rows, rows, Fits, value_by, view_of, view}
+use Rattle.il_code.specs.Layout.{Rows, Fits, value_by, view_of, view}
 use Rattle.il_machine.specs.Scanning.{over, front, behind}
 
 or_else_cond : (b : Bool) (v : Value) (o p : Option Value) → cond b (Some v) (or_else o p) ≡ or_else (cond b (Some v) o) p

@@ -1,5 +1,5 @@
 -- A task's scan starts with its variables and an image.
-use Rattle.std.proofs.Common.{◌≡◌, ℕ, suc, ◌+◌, ◌*◌, ◌^◌, ◌<◌, ◌≤◌, List, [], ◌∷◌, ◌++◌, drop, length, refl, sym, ap, ap₂, ◌∙◌, Some, None, Option, subst, arith}
+use Rattle.std.proofs.Common.{◌≡◌, ℕ, ◌+◌, ◌*◌, ◌^◌, ◌<◌, ◌≤◌, List, ◌++◌, drop, length, refl, sym, ap, ◌∙◌, Some, subst, arith}
 use Rattle.std.proofs.lemmas.List.{length-append, length-drop, length-map}
 use Rattle.il_spec.specs.declared.tree.Config.{Config}
 use Rattle.il_spec.specs.declared.tree.Unit.{Unit as Organized}
@@ -17,10 +17,10 @@ use Rattle.lift_spec.specs.declared.image.Image.{Image}
 use Rattle.lift_spec.specs.declared.calls.Slot.{Slot}
 use Rattle.lift_spec.specs.Image.{sizes_of}
 use Rattle.lift_spec.specs.Settle.{fields_of, outputs_of}
-use Rattle.lift_spec.specs.Snapshot.{Beginning, program_of, scan_begins, begins_by, image_entries, car_entries}
+use Rattle.lift_spec.specs.Snapshot.{program_of, scan_begins, begins_by, image_entries}
 use Rattle.il_machine.specs.Going.{Stored}
 use Rattle.il_machine.specs.Image.{filled, image_values, group_values, call_values, car_values}
-use Rattle.il_machine.specs.Scanning.{IsRunnable, HasImage, OwnsDeclared, FitsOwn, FitsSeen, IsScanOf, IsScanState, state_of, joined, seen_view, kept_of, variables_in, image_in}
+use Rattle.il_machine.specs.Scanning.{IsRunnable, HasImage, OwnsDeclared, FitsOwn, FitsSeen, IsScanOf, state_of, joined, seen_view, kept_of, variables_in, image_in}
 use Rattle.il_machine.proofs.Codes.{task_is, task_one, flattened}
 use Rattle.il_machine.proofs.Starts.{start_of, start_begins, start_scan}
 use Rattle.il_machine.proofs.Writing.{filled_behind, image_parts, calls_long}

@@ -1,63 +1,41 @@
 -- A step of a program's scan.
-use Rattle.std.proofs.Common.{◌≡◌, ◌≢◌, ◌<◌, ◌≤◌, ℕ, zero, suc, ◌+◌, Bool, true, false, List, [], ◌∷◌, ◌++◌, map, take, length, slice_get, refl, sym, ap, ap₂, ◌∙◌, cond, Some, None, Option, subst, arith}
-use Rattle.std.proofs.lemmas.Option.{slice_get_within, get_or_from_slice_get}
-use Rattle.std.proofs.lemmas.List.Elements.{Contains-get_or}
-use Rattle.std.specs.Prelude.{not, is_some, IsSome, Contains, find, bytes_eq, if◌then◌else◌, option_map}
-use Rattle.std.specs.Ordering.{eq_by_cmp}
+use Rattle.std.proofs.Common.{◌≡◌, ◌≢◌, ◌<◌, ◌≤◌, ℕ, suc, ◌+◌, Bool, true, false, List, [], ◌∷◌, map, length, slice_get, refl, sym, ap, ap₂, ◌∙◌, Some, None, Option, subst, arith}
+use Rattle.std.proofs.lemmas.Option.{slice_get_within}
+use Rattle.std.specs.Prelude.{find, bytes_eq, if◌then◌else◌}
 use Rattle.il_spec.specs.declared.tree.Config.{Config}
 use Rattle.il_spec.specs.declared.tree.Unit.{Unit as Organized}
-use Rattle.il_spec.specs.declared.tree.Form.{Form}
-use Rattle.il_spec.specs.declared.tree.Form.TheVariants.{Scalar as ScalarForm, Array as ArrayForm, Block as BlockForm}
-use Rattle.il_spec.specs.declared.tree.Scalar.{Scalar}
-use Rattle.il_spec.specs.declared.tree.Elementary.TheVariants.{Bool as BoolType}
-use Rattle.il_spec.specs.declared.tree.Reference.{Reference}
-use Rattle.il_spec.specs.declared.tree.Reference.TheVariants.{Literal as OfLiteral, Variable as OfVariable, Element, Member}
 use Rattle.il_spec.specs.declared.tree.Step.{Step as BodyStep}
-use Rattle.il_spec.specs.declared.tree.Operand.{Operand as Written}
-use Rattle.il_spec.specs.declared.tree.Store.{Store as StoreKind}
-use Rattle.il_spec.specs.declared.tree.Store.TheVariants.{Plain, Negated, Set, Reset}
 use Rattle.il_spec.specs.declared.tree.Condition.TheVariants.{Always}
 use Rattle.il_spec.specs.declared.tree.Instruction.{Instruction}
 use Rattle.il_spec.specs.declared.tree.Instruction.TheVariants.{Load, Store, Not, Operate, Defer, Evaluate, Jump, Return, Call, Invoke}
-use Rattle.il_spec.specs.ElementaryTypes.{is_same_type}
-use Rattle.il_rules.specs.Names.{Limited, standard_function, is_one_of, is_predeclared, own_variable, form_named, unit_named}
-use Rattle.il_rules.specs.Faults.{HasNoFault}
+use Rattle.il_rules.specs.Names.{is_predeclared, unit_named}
 use Rattle.il_rules.specs.Symbols.{IsProgram}
-use Rattle.il_rules.specs.Subset.{IsSupportedProgram, IsSupportedInstruction, IsSupportedStore, IsSupportedPlace, supported_image_names, reference_names, instruction_names, unsupported, BreaksInSubset}
-use Rattle.il_rules.proofs.Straight.{step_supported, among_units}
-use Rattle.il_run.specs.declared.value.Value.{Value}
-use Rattle.il_run.specs.declared.value.Value.TheVariants.{Boolean, Integer}
+use Rattle.il_rules.specs.Subset.{IsSupportedProgram, IsSupportedInstruction}
+use Rattle.il_rules.proofs.Straight.{step_supported}
 use Rattle.il_run.specs.declared.value.Content.{Content}
-use Rattle.il_run.specs.NameMap.{Text, order, get, insert, get-insert}
-use Rattle.il_run.specs.Values.{is_of}
-use Rattle.il_run.specs.State.{Values, Frame, State}
-use Rattle.il_run.specs.Meaning.{direct, denotation}
-use Rattle.il_run.specs.Scan.{HasEnded}
-use Rattle.il_run.specs.Step.{Outcome, Next, Trapped, Stuck, WrongKind, OutsideSubrange, Scene, at as at_path, truth, with_result, with_boolean, with_location, with_unit, stored as stored_at, stored_by, instruction_or_return, instruction_at, goes_on, executed, step_of, step}
+use Rattle.il_run.specs.NameMap.{Text}
+use Rattle.il_run.specs.State.{Frame, State}
+use Rattle.il_run.specs.Step.{Outcome, Next, Trapped, Stuck, Scene, with_unit, instruction_or_return, instruction_at, executed, step_of, step}
 use Rattle.il_run.specs.Annotation.{Annotated}
-use Rattle.il_table.specs.ByText.{HaveSameNames}
-use Rattle.il_table.proofs.Copies.{same_text}
 use Rattle.il_sound.specs.Agreement.{Agrees, left}
 use Rattle.il_sound.specs.Accepted.{IsAccepted}
-use Rattle.il_sound.specs.Soundness.{StepsWell, StepIsSound}
+use Rattle.il_sound.specs.Soundness.{StepsWell}
 use Rattle.il_sound.proofs.Scanning.{step_sound}
 use Rattle.il_sound.proofs.Premises.{in_order}
 use Rattle.il_code.specs.declared.flat.UnitCode.{UnitCode}
-use Rattle.il_code.specs.declared.flat.Flat.{Flat}
 use Rattle.il_code.specs.Layout.{Rows, Fits, view}
 use Rattle.il_code.specs.Flattened.{Names, applies, flat, HasCells, IsPlaced}
 use Rattle.il_code.specs.Coded.{Code, IsRunnable, IsUnit}
 use Rattle.il_code.specs.Whole.{number_in, unit_code}
 use Rattle.il_code.specs.Program.{own_cells, seen_cells, program_cells, program_names, program_code}
-use Rattle.il_code.specs.Resolved.{IsFlattened}
 use Rattle.il_machine.specs.declared.frames.Frame.{Frame as FlatFrame}
 use Rattle.il_machine.specs.declared.frames.Pair.{Pair}
 use Rattle.il_machine.specs.declared.frames.Suspended.{Suspended}
-use Rattle.il_machine.specs.Effect.{with_some, gives, effect}
-use Rattle.il_machine.specs.Going.{Stored, going, forward, instruction_of, done, next}
+use Rattle.il_machine.specs.Effect.{with_some, effect}
+use Rattle.il_machine.specs.Going.{Stored, going, forward, done, next}
 use Rattle.il_machine.specs.Framing.{name_of_code, frame_over, framed, all_frames, state_by, IsFramed}
-use Rattle.il_machine.specs.Scanning.{HasCode, Kept, state_of, frames_at, over, front, behind, own_view, seen_view, kept_by, place_of, IsFrameOf, IsScanState}
-use Rattle.il_machine.proofs.Does.{test_holds, GoesOn, Does, does}
+use Rattle.il_machine.specs.Scanning.{HasCode, state_of, frames_at, over, front, behind, own_view, seen_view, kept_by, place_of, IsFrameOf, IsScanState}
+use Rattle.il_machine.proofs.Does.{GoesOn, does}
 use Rattle.il_machine.proofs.Steps.{cells_of, next_by}
 use Rattle.il_machine.proofs.Over.{parts_are}
 

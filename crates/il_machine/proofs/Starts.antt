@@ -1,12 +1,12 @@
 -- Where a program's scan starts.
-use Rattle.std.proofs.Common.{◌≡◌, ℕ, zero, suc, ◌+◌, ◌≤◌, List, [], ◌∷◌, ◌++◌, take, drop, length, refl, sym, ap, ap₂, ◌∙◌, Some, None, Option, subst, arith}
+use Rattle.std.proofs.Common.{◌≡◌, ℕ, zero, ◌+◌, ◌≤◌, List, [], ◌∷◌, ◌++◌, take, drop, length, refl, sym, ap, ap₂, ◌∙◌, Some, None, Option, subst, arith}
 use Rattle.std.proofs.lemmas.List.{length-append}
 use Rattle.il_spec.specs.declared.tree.Config.{Config}
 use Rattle.il_spec.specs.declared.tree.Unit.{Unit as Organized}
 use Rattle.il_rules.specs.Symbols.{IsProgram}
 use Rattle.il_run.specs.declared.value.Value.{Value}
-use Rattle.il_run.specs.NameMap.{Text, from_entries, with_entries}
-use Rattle.il_run.specs.State.{Values, Frame, State}
+use Rattle.il_run.specs.NameMap.{Text, from_entries}
+use Rattle.il_run.specs.State.{Values, State}
 use Rattle.il_run.specs.Meaning.{entities}
 use Rattle.il_run.specs.Ranges.{entity_scalars, instance_scalars, HaveValues, HoldsTask}
 use Rattle.il_run.specs.Scan.{begins}

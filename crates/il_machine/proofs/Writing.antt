@@ -15,7 +15,7 @@ use Rattle.lift_spec.specs.declared.image.CarOutputs.{CarOutputs}
 use Rattle.lift_spec.specs.declared.image.Image.{Image}
 use Rattle.lift_spec.specs.declared.calls.Slot.{Slot}
 use Rattle.lift_spec.specs.Settle.{fields_of, outputs_of}
-use Rattle.lift_spec.specs.Snapshot.{number, waits, from_of, to_of, car_of, elements_of, common_entries, car_entries, image_entries}
+use Rattle.lift_spec.specs.Snapshot.{number, waits, from_of, to_of, car_of, elements_of, car_entries}
 use Rattle.il_machine.specs.declared.image.Column.TheVariants.{Waits, From, To, Car}
 use Rattle.il_machine.specs.Scanning.{joined}
 use Rattle.il_machine.specs.Opening.{with_row}

@@ -2,7 +2,6 @@
 use Rattle.std.specs.Prelude.{ℕ, ◌+◌, ◌*◌, List, [], ◌∷◌, ◌++◌, map, set}
 use Rattle.il_run.specs.declared.value.Value.{Value}
 use Rattle.il_run.specs.declared.value.Value.TheVariants.{Boolean, Integer}
-use Rattle.il_run.specs.NameMap.{Text}
 use Rattle.il_code.specs.Layout.{Rows, rows}
 use Rattle.il_code.specs.Whole.{number_part, flag_part}
 use Rattle.lift_spec.specs.declared.image.Sizes.{Sizes}

@@ -1,14 +1,13 @@
 -- Programs that run, and the states of their scans (own rules).
-use Rattle.std.specs.Prelude.{◌≡◌, ℕ, ◌≤◌, List, [], ◌∷◌, ◌++◌, map, take, drop, length, ℤ, pos, Option, Some, None, refl, codes, false, slice_get}
+use Rattle.std.specs.Prelude.{◌≡◌, ℕ, ◌≤◌, List, [], ◌∷◌, ◌++◌, map, take, drop, length, ℤ, pos, Option, Some, None, refl, codes, slice_get}
 use Rattle.std.specs.Coded.{Coded, code_by, coded×, coded_list}
 use Rattle.il_spec.specs.contracts.tree.Config as config
 use Rattle.il_machine.specs.contracts.verified.UnitCost as unit_cost
 use Rattle.il_spec.specs.declared.tree.Config.{Config}
 use Rattle.il_spec.specs.declared.tree.Unit.{Unit as Organized}
-use Rattle.il_rules.specs.Names.{own_variable, is_one_of}
 use Rattle.il_rules.specs.Symbols.{IsProgram}
 use Rattle.il_rules.specs.Written.{IsWritten}
-use Rattle.il_rules.specs.Subset.{IsSupported, supported_image_names}
+use Rattle.il_rules.specs.Subset.{IsSupported}
 use Rattle.il_verify.specs.Resolved.{IsChecked}
 use Rattle.il_sound.specs.Accepted.{IsAccepted}
 use Rattle.il_sound.specs.Agreement.{Agrees, left}
@@ -18,7 +17,7 @@ use Rattle.il_run.specs.Ranges.{HaveValues}
 use Rattle.il_machine.specs.declared.verified.UnitCost.{UnitCost}
 use Rattle.il_machine.specs.declared.frames.Frame.{Frame as FlatFrame}
 use Rattle.il_run.specs.declared.value.Content.{Content}
-use Rattle.il_run.specs.NameMap.{Text, get, empty, with_entries}
+use Rattle.il_run.specs.NameMap.{Text, empty, with_entries}
 use Rattle.il_run.specs.State.{Values, Frame, State}
 use Rattle.il_run.specs.Scan.{task_program}
 use Rattle.il_code.specs.Layout.{Rows, rows, Fits, view, value_by}

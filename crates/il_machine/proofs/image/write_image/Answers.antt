@@ -1,5 +1,4 @@
-use Rattle.std.proofs.Common.{arith, ap, ◌∙◌, ◌+◌, refl, get_or}
-use Rattle.lift_spec.specs.Settle.{fields_of, outputs_of}
+use Rattle.std.proofs.Common.{arith, ◌+◌}
 use Rattle.il_machine.specs.Image.{group_values, call_values}
 use Rattle.il_machine.proofs.Writing.{same_numbers, same_flags, image_written}
 use Rattle.il_machine.proofs.image.write_image.Goals as goal

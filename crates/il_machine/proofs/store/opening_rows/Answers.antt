@@ -1,5 +1,5 @@
-use Rattle.std.proofs.Common.{◌≡◌, ◌∙◌, ap, ap₂, sym, subst, length, ℕ, arith, false, ◌+◌, ◌*◌}
-use Rattle.il_code.specs.Layout.{Rows, rows}
+use Rattle.std.proofs.Common.{◌≡◌, ◌∙◌, ap, ap₂, sym, length, arith, false, ◌+◌, ◌*◌}
+use Rattle.il_code.specs.Layout.{rows}
 use Rattle.il_code.specs.Whole.{first_rows}
 use Rattle.il_code.specs.Program.{own_values}
 use Rattle.il_run.specs.declared.value.Value.TheVariants.{Boolean}

@@ -1,4 +1,4 @@
-use Rattle.std.proofs.Common.{◌≡◌, ◌+◌, zero, suc, refl, ap, sym, ◌∙◌, subst, arith}
+use Rattle.std.proofs.Common.{◌≡◌, ◌+◌, suc, refl, sym, ◌∙◌, subst, arith}
 use Rattle.il_run.specs.Scan.{Reaches}
 use Rattle.lift_sound.proofs.Steps.{reaches_more}
 use Rattle.il_machine.specs.declared.store.Stepped.TheVariants.{More, End}

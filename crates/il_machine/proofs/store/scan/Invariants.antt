@@ -1,4 +1,4 @@
-use Rattle.std.proofs.Common.{◌≡◌, ◌≢◌, ◌+◌, ◌≤◌, None}
+use Rattle.std.proofs.Common.{◌≢◌, ◌+◌, ◌≤◌, None}
 use Rattle.il_run.specs.Scan.{Reaches}
 use Rattle.il_sound.specs.Agreement.{left}
 use Rattle.il_machine.specs.Scanning.{IsScanOf, OwnsDeclared, kept_of, state_of}

@@ -1,4 +1,4 @@
-use Rattle.std.proofs.Common.{◌≡◌, ◌≤◌, ◌∙◌, ◌+◌, ap, ap₂, sym, subst, length, slice_get, Some, ℕ, arith}
+use Rattle.std.proofs.Common.{◌≤◌, ◌∙◌, ap, sym, subst, length}
 use Rattle.il_code.specs.Program.{own_cells}
 use Rattle.il_machine.specs.Going.{Stored}
 use Rattle.il_machine.specs.Scanning.{front, FitsOwn, variables_in}

@@ -1,5 +1,5 @@
 use Rattle.std.proofs.lemmas.Int.{to_z-of_z}
-use Rattle.std.proofs.Common.{rules, SFits, w64, ◌≡◌, ◌≤◌, ◌∙◌, ◌+◌, ap, ap₂, sym, subst, length, slice_get, Some, ℕ, arith}
+use Rattle.std.proofs.Common.{rules, SFits, w64, ◌∙◌, ◌+◌, ap, ap₂, sym, length, slice_get, ℕ, arith}
 use Rattle.il_code.specs.Program.{own_cells}
 use Rattle.std.specs.Prelude.{nat_abs}
 use Rattle.lift_spec.specs.Snapshot.{motor_of}
