@@ -6,15 +6,15 @@ use Rattle.il_spec.specs.declared.tree.Config.{Config}
 use Rattle.il_spec.specs.declared.tree.Unit.{Unit as Organized}
 use Rattle.il_spec.specs.declared.tree.Task.{Task}
 use Rattle.il_spec.specs.declared.tree.ProgramLine.{ProgramLine}
-use Rattle.il_rules.specs.Names.{is_predeclared, is_program, unit_named, program_named}
+use Rattle.il_rules.specs.Names.{is_predeclared, is_program, program_named}
 use Rattle.il_run.specs.NameMap.{Text}
-use Rattle.il_run.specs.Scan.{program_of as program_by, task_program}
+use Rattle.il_run.specs.Scan.{program_of as program_by}
 use Rattle.il_run.specs.Paths.{IsLongest}
-use Rattle.lift_spec.specs.Snapshot.{task_name, program_of}
+use Rattle.lift_spec.specs.Snapshot.{task_name}
 use Rattle.il_machine.specs.declared.verified.UnitCost.{UnitCost}
 use Rattle.il_machine.specs.Scanning.{Program}
-use Rattle.il_machine.specs.Costs.{IsCostOf, AreCosts}
-use Rattle.il_machine.specs.Listing.{UnitLine, unit_line, unit_lines, TaskLine, task_by, task_of, program_line_of, unit_of, is_task_name, task_among, task_line, PrintsBudgets}
+use Rattle.il_machine.specs.Costs.{AreCosts}
+use Rattle.il_machine.specs.Listing.{UnitLine, unit_line, unit_lines, TaskLine, task_by, task_of, program_line_of, unit_of, is_task_name, task_among, PrintsBudgets}
 
 same_some : {X : Type 0} (x y : X) → Some x ≡ Some y → x ≡ y
 same_some x y e = cc

@@ -10,8 +10,11 @@ pub mod Scans
 pub mod Codes
 pub mod Starts
 pub mod Stepping
-pub mod Openings
+pub mod Writing
+pub mod Given
 pub mod Opened
+pub mod Restarts
 pub mod Opens
 pub mod Images
+pub mod Ending
 pub mod Reading

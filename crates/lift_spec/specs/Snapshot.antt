@@ -12,9 +12,9 @@ use Rattle.lift_spec.specs.declared.image.Sizes.{Sizes}
 use Rattle.lift_spec.specs.declared.image.Motor.{Motor}
 use Rattle.lift_spec.specs.declared.image.Motor.TheVariants.{Up, Down, Still}
 use Rattle.lift_spec.specs.declared.image.CarFields.{CarFields}
-use Rattle.lift_spec.specs.declared.image.Wishes.{Wishes}
 use Rattle.lift_spec.specs.declared.image.CarOutputs.{CarOutputs}
 use Rattle.lift_spec.specs.declared.image.Image.{Image}
+use Rattle.lift_spec.specs.declared.image.Wishes.{Wishes}
 use Rattle.lift_spec.specs.declared.calls.Slot.{Slot}
 use Rattle.lift_spec.specs.declared.calls.Slot.TheVariants.{Free, Waiting, Told}
 use Rattle.lift_spec.specs.Image.{sizes_of}
@@ -151,7 +151,7 @@ motor_of (pos zero) = Still
 motor_of (pos (suc n)) = Up
 motor_of (negsuc n) = Down
 
--- the wishes of a car's scan (own rule)
+-- MOTOR, OPEN and SERVE, as a scan's values hold them at its end: the wishes of a car's scan (own rule)
 unfoldable pub wishes_of : Values → Wishes
 wishes_of values =
     record {

@@ -3,7 +3,6 @@
 
 mod controller;
 mod loader;
-mod opening;
 mod replies;
 mod shared;
 mod world;

@@ -14,8 +14,7 @@ ghost use Rattle.lift_spec.specs.Snapshot.{scan_begins, program_of};
 ghost use Rattle.lift_spec.specs.World.{InRanges, flat, opening_task, opening_tasks_from, opening_group, beginning_of, committed_group, refreshed_group, serve_wish};
 ghost use Rattle.lift_world.specs.Running.{seat_at, task_in, seated, tasks_in, group_in, is_open, SeatsFit, with_seat};
 
-use crate::opening::opening_image;
-use il_machine::{Rows, Store, Value, Verified};
+use il_machine::{Rows, Store, Value, Verified, opening_image};
 use il_spec::fault::Refusal;
 use lift_calls::book::CallBook;
 use lift_image::{Fields, Image, Row};
