@@ -7,3 +7,4 @@ pub mod Tasking
 pub mod Sound
 pub mod Views
 pub mod Events
+pub mod Sharing

@@ -93,6 +93,7 @@ fn serve(calls: &mut CallBook, car: u8, tickets: &[Option<u64>], slot: u8) -> Ro
 fn enter_all(calls: &mut CallBook, hand: &mut Hand) -> Row<EnteredCall, 64>
     ensures { enter_all calls.old [] hand.old ≡ record { calls = calls.new; hand = hand.new; done = result } }
 {
+    let _slots = calls.slots();
     let mut done = Row::new();
     'calls: while let Some(call) = hand.first() {
         let Entering::Done { slot, ticket } = calls.enter(call) else {
