@@ -8,3 +8,4 @@ pub mod Sound
 pub mod Views
 pub mod Events
 pub mod Sharing
+pub mod Opening

@@ -41,6 +41,7 @@ fn opening_store(alloc: Global, verified: &Verified, task: u8) -> Result<Option<
     ensures scan { IfOk result (λ o. (s : Stored) → o ≡ Some s → IsScanOf verified.now.config task s) }
     ensures memory { IfErr result (λ e. e ≡ Memory) }
 {
+    let _config = verified.config();
     if !verified.has_task(task) {
         return Ok(None);
     }

@@ -112,6 +112,7 @@ fn opening_seat(alloc: Global, verified: &Verified, task: u8) -> Result<Option<S
     ensures fits { IfOk result (λ o. (s : SeatOf) → o ≡ Some s → FitsOwn verified.now.config task s.variables × OwnsDeclared verified.now.config (variables_in verified.now.config task s.variables)) }
     ensures memory { IfErr result (λ e. e ≡ Memory) }
 {
+    let _config = verified.config();
     if !verified.has_task(task) {
         return Ok(None);
     }
