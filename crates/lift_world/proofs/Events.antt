@@ -23,7 +23,7 @@ use Rattle.lift_spec.specs.Snapshot.{scan_begins}
 use Rattle.lift_spec.specs.World.{World, Group, TaskState, Halt, flat, task_at, scan_at, happens, starts, starts_from, instructs, instructs_in, instructs_scan, stepped, commits, commits_scan, commits_ended, reply_to, beginning_of, started_group, committed_group, refreshes, refreshed_group}
 use Rattle.lift_world.specs.declared.shared.Seat.{Seat}
 use Rattle.lift_world.specs.Running.{task_in, seated, scanned, group_by, world_by}
-use Rattle.lift_world.proofs.Views.{task_get, task_set, scan_get, scan_set, set_same, flat_some}
+use Rattle.lift_world.proofs.Views.{task_here, task_put, scan_here, scan_put, set_same, flat_some}
 
 -- WHERE A SCAN STANDS
 
@@ -45,10 +45,10 @@ module _ (c : Config) (i : Image) (k : Calls) (seats : List (Option Seat)) (stor
   -- NO SUCH TASK
 
   no_task : (t : ℕ) → flat (slice_get seats t) ≡ None → task_at (group_by c i k seats) t ≡ None
-  no_task t none = task_get c 0 seats t ∙ ap (seated c t) none
+  no_task t none = task_here c seats t ∙ ap (seated c t) none
 
   the_task : (t : ℕ) (s : Seat) → flat (slice_get seats t) ≡ Some s → task_at (group_by c i k seats) t ≡ Some (task_in c t s)
-  the_task t s there = task_get c 0 seats t ∙ ap (seated c t) there
+  the_task t s there = task_here c seats t ∙ ap (seated c t) there
 
   pub start_nowhere : (t : ℕ) → flat (slice_get seats t) ≡ None → happens c here (Start t) ≡ Ok (here, Refused NoSuchActor)
   unfolding happens
@@ -66,7 +66,7 @@ module _ (c : Config) (i : Image) (k : Calls) (seats : List (Option Seat)) (stor
 
   module _ (t : ℕ) (s : Seat) (st : Stored) (many : length stores ≡ length seats) (there : flat (slice_get seats t) ≡ Some s) (kept : flat (slice_get stores t) ≡ Some st) where
     scan_is : scan_at here t ≡ (if is_some s.tickets then Some (state_of (kept_of c t st)) else None)
-    scan_is = scan_get c 0 seats stores t many ∙ ap (λ o. scanned c t o (flat (slice_get stores t))) there ∙ ap (scanned c t (Some s)) kept
+    scan_is = scan_here c seats stores t many ∙ ap (λ o. scanned c t o (flat (slice_get stores t))) there ∙ ap (scanned c t (Some s)) kept
 
     open_scan : is_some s.tickets ≡ true → scan_at here t ≡ Some (state_of (kept_of c t st))
     open_scan is = scan_is ∙ ap (λ b. if b then Some (state_of (kept_of c t st)) else None) is
@@ -102,9 +102,9 @@ module _ (c : Config) (i : Image) (k : Calls) (seats : List (Option Seat)) (stor
     unfolding happens
     start_is new is begins =
         ap (starts c here t) (the_task t s there) ∙ ap (starts_from c here t (task_in c t s)) (no_scan is)
-        ∙ ap (λ ts. left ts (slice_set here.scans t (Some (scan_begins c t (beginning_of (group_by c i k seats) (task_in c t s)))))) (sym (task_set c 0 seats t seat))
+        ∙ ap (λ ts. left ts (slice_set here.scans t (Some (scan_begins c t (beginning_of (group_by c i k seats) (task_in c t s)))))) (sym (task_put c seats t seat))
         ∙ ap (λ scan. left (tasks_now) (slice_set here.scans t (Some scan))) (sym begins)
-        ∙ ap (left tasks_now) (sym (scan_set c 0 seats stores t seat new many))
+        ∙ ap (left tasks_now) (sym (scan_put c seats stores t seat new many))
       where
         seat : Seat
         seat = record { variables = s.variables; tickets = Some (map ticket_of k.slots) }
@@ -126,7 +126,7 @@ module _ (c : Config) (i : Image) (k : Calls) (seats : List (Option Seat)) (stor
         scans_now : (world_by c i k seats (slice_set stores t (Some new)) desk hand).scans ≡ slice_set here.scans t (Some (state_of (kept_of c t new)))
         scans_now =
             ap (λ ss. (world_by c i k ss (slice_set stores t (Some new)) desk hand).scans) (sym (set_same seats t (Some s) (flat_some _ s there)))
-            ∙ scan_set c 0 seats stores t s new many ∙ ap (λ b. slice_set here.scans t (if b then Some (state_of (kept_of c t new)) else None)) is
+            ∙ scan_put c seats stores t s new many ∙ ap (λ b. slice_set here.scans t (if b then Some (state_of (kept_of c t new)) else None)) is
 
     -- Commit
     pub commit_is : (tickets : List (Option ℕ)) (v : Rows) (image : Image) (calls : Calls) (report : Report) → s.tickets ≡ Some tickets → has_ended (state_of (kept_of c t st)) ≡ true
@@ -151,7 +151,7 @@ module _ (c : Config) (i : Image) (k : Calls) (seats : List (Option Seat)) (stor
         scans_now : (world_by c image calls (slice_set seats t (Some (record { variables = v; tickets = None }))) stores desk hand).scans ≡ slice_set here.scans t None
         scans_now =
             ap (λ ss. (world_by c image calls (slice_set seats t (Some (record { variables = v; tickets = None }))) ss desk hand).scans) (sym (set_same stores t (Some st) (flat_some _ st kept)))
-            ∙ scan_set c 0 seats stores t (record { variables = v; tickets = None }) st many
+            ∙ scan_put c seats stores t (record { variables = v; tickets = None }) st many
 
   -- Refresh
   pub refresh_is : (fields : Fields) (image : Image) (calls : Calls) (after : List Call) (report : Report) → fields_in_range (sizes_of c) fields ≡ true

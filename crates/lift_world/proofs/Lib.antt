@@ -9,3 +9,4 @@ pub mod Views
 pub mod Events
 pub mod Sharing
 pub mod Opening
+pub mod Committing

@@ -1,6 +1,6 @@
 -- The tasks and scans of a world, by their numbers.
-use Rattle.std.proofs.Common.{◌≡◌, ℕ, zero, suc, ◌+◌, ◌⊎◌, inl, inr, Bool, true, false, List, [], ◌∷◌, length, Option, Some, None, refl, sym, ap, ap₂, ◌∙◌, arith}
-use Rattle.std.specs.Prelude.{slice_get, slice_set, is_some}
+use Rattle.std.proofs.Common.{◌≡◌, ℕ, zero, suc, ◌+◌, ◌<◌, ◌⊎◌, inl, inr, Bool, true, false, List, [], ◌∷◌, length, Option, Some, None, refl, sym, ap, ap₂, ◌∙◌, arith}
+use Rattle.std.specs.Prelude.{slice_get, slice_set, slice_index_or, is_some}
 use Rattle.il_spec.specs.declared.tree.Config.{Config}
 use Rattle.il_run.specs.State.{State}
 use Rattle.il_machine.specs.Going.{Stored}
@@ -99,3 +99,44 @@ scan_set c n (x ∷ seats) (y ∷ stores) zero s t h = let e : n ≡ n + 0 = ome
 scan_set c n (x ∷ seats) (y ∷ stores) (suc k) s t h =
     let e : (n + 1) + k ≡ n + suc k = omega arith in
     ap (λ ts. scanned c n x y ∷ ts) (scan_set c (n + 1) seats stores k s t (omega (arith, h)) ∙ ap (λ m. slice_set (scans_in c (n + 1) seats stores) k (scanned c m (Some s) (Some t))) e)
+
+-- what stands at an index
+pub stands_at : {X : Type 0} (xs : List (Option X)) (k : ℕ) (d : Option X) (x : X) → slice_index_or xs k d ≡ Some x → k < length xs → flat (slice_get xs k) ≡ Some x
+stands_at [] k d x e below = absurd (omega (arith, below))
+stands_at (None ∷ xs) zero d x e below = let bad : ◌≡◌ {A = Option _} None (Some x) = e in cc
+stands_at (Some y ∷ xs) zero d x e below = e
+stands_at (y ∷ xs) (suc k) d x e below = stands_at xs k d x e (omega (arith, below))
+
+-- the value that is found is the one that stands there
+pub the_seat : {X : Type 0} (o : Option X) (x y : X) → o ≡ Some x → o ≡ Some y → x ≡ y
+the_seat o x y a b = let both : Some x ≡ Some y = sym a ∙ b in cc
+
+-- what an index lends is what stands there
+lent : {X : Type 0} (xs : List (Option X)) (k : ℕ) (o : Option X) → o ≡ slice_index_or xs k o → is_some (flat (slice_get xs k)) ≡ true → flat (slice_get xs k) ≡ o
+lent [] zero o e there = let bad : false ≡ true = there in cc
+lent [] (suc k) o e there = let bad : false ≡ true = there in cc
+lent (x ∷ xs) zero o e there = flat_of x ∙ sym e
+lent (x ∷ xs) (suc k) o e there = lent xs k o e there
+
+pub here : {X : Type 0} (xs : List (Option X)) (i k : ℕ) (o : Option X) → i ≡ k → o ≡ slice_index_or xs i o → is_some (flat (slice_get xs k)) ≡ true → flat (slice_get xs k) ≡ o
+here xs i k o same e there = lent xs k o (e ∙ ap (λ n. slice_index_or xs n o) same) there
+
+-- what is there
+pub some_of : {X : Type 0} (o : Option X) → is_some o ≡ true → (x : X) × (o ≡ Some x)
+some_of None e = cc
+some_of (Some x) e = (x, refl)
+
+-- THE SAME FROM THE FIRST ON
+
+pub task_here : (c : Config) (seats : List (Option Seat)) (k : ℕ) → flat (slice_get (tasks_in c 0 seats) k) ≡ seated c k (flat (slice_get seats k))
+task_here c seats k = let e : 0 + k ≡ k = omega arith in task_get c 0 seats k ∙ ap (λ m. seated c m (flat (slice_get seats k))) e
+
+pub task_put : (c : Config) (seats : List (Option Seat)) (k : ℕ) (s : Seat) → tasks_in c 0 (slice_set seats k (Some s)) ≡ slice_set (tasks_in c 0 seats) k (Some (task_in c k s))
+task_put c seats k s = let e : 0 + k ≡ k = omega arith in task_set c 0 seats k s ∙ ap (λ m. slice_set (tasks_in c 0 seats) k (Some (task_in c m s))) e
+
+pub scan_here : (c : Config) (seats : List (Option Seat)) (stores : List (Option Stored)) (k : ℕ) → length stores ≡ length seats → flat (slice_get (scans_in c 0 seats stores) k) ≡ scanned c k (flat (slice_get seats k)) (flat (slice_get stores k))
+scan_here c seats stores k many = let e : 0 + k ≡ k = omega arith in scan_get c 0 seats stores k many ∙ ap (λ m. scanned c m (flat (slice_get seats k)) (flat (slice_get stores k))) e
+
+pub scan_put : (c : Config) (seats : List (Option Seat)) (stores : List (Option Stored)) (k : ℕ) (s : Seat) (t : Stored) → length stores ≡ length seats
+    → scans_in c 0 (slice_set seats k (Some s)) (slice_set stores k (Some t)) ≡ slice_set (scans_in c 0 seats stores) k (scanned c k (Some s) (Some t))
+scan_put c seats stores k s t many = let e : 0 + k ≡ k = omega arith in scan_set c 0 seats stores k s t many ∙ ap (λ m. slice_set (scans_in c 0 seats stores) k (scanned c m (Some s) (Some t))) e

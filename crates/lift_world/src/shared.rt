@@ -1,6 +1,6 @@
 // What the tasks share, and the work of the events on it.
 
-ghost use Rattle.std.specs.Prelude.{◌≡◌, ℕ, suc, ◌≤◌, ◌∷◌, [], List, Option, length, map, slice_get, slice_set, Some, None, IfOk, IfErr, IsSome, option_and_then, option_copied};
+ghost use Rattle.std.specs.Prelude.{◌≡◌, ℕ, suc, ◌≤◌, ◌∷◌, [], All, List, Option, length, map, slice_get, slice_set, Some, None, IfOk, IfErr, IsSome, option_and_then, option_copied};
 ghost use Rattle.il_spec.specs.declared.fault.Refusal.TheVariants.{Memory};
 ghost use Rattle.il_spec.specs.declared.tree.Config.{Config as ConfigOf};
 ghost use Rattle.il_run.specs.NameMap as values;
@@ -8,7 +8,9 @@ ghost use Rattle.il_run.specs.Scan.{restricted};
 ghost use Rattle.lift_world.specs.declared.shared.Seat.{Seat as SeatOf};
 ghost use Rattle.il_code.specs.Layout.{Rows as RowsOf};
 ghost use Rattle.il_machine.specs.Scanning.{IsScanOf, FitsOwn, OwnsDeclared, variables_in, kept_of, state_of};
-ghost use Rattle.lift_spec.specs.Calls.{ticket_of, enter_all};
+ghost use Rattle.il_run.specs.State.{Values};
+ghost use Rattle.lift_spec.specs.Image.{sizes_of, FieldsInRange};
+ghost use Rattle.lift_spec.specs.Calls.{ticket_of, enter_all, SlotInRange};
 ghost use Rattle.lift_spec.specs.Settle.{denials_of};
 ghost use Rattle.lift_spec.specs.Snapshot.{scan_begins, program_of};
 ghost use Rattle.lift_spec.specs.World.{InRanges, flat, opening_task, opening_tasks_from, opening_group, beginning_of, committed_group, refreshed_group, serve_wish};
@@ -138,6 +140,75 @@ fn opening_seats(alloc: Global, verified: &Verified, cars: u8) -> Result<Vec<Opt
     Ok(seats)
 }
 
+// A task's scan begins, and the task holds the tickets of the slots.
+fn start_seat(
+    seat: &mut Option<Seat>,
+    verified: &Verified,
+    task: u8,
+    image: &Image,
+    slots: &[Slot],
+    store: &mut Store,
+)
+    requires there { IsSome seat.old }
+    requires few { length slots.now ≤ 64 }
+    requires variables { (s : SeatOf) → seat.old ≡ Some s → FitsOwn verified.now.config task s.variables × OwnsDeclared verified.now.config (variables_in verified.now.config task s.variables) }
+    requires fields { FieldsInRange (sizes_of verified.now.config) image.now.fields }
+    requires outputs { length image.now.outputs ≡ (sizes_of verified.now.config).cars }
+    requires slots { length slots.now ≡ (sizes_of verified.now.config).slots }
+    requires each { (last : ℕ) × All (SlotInRange (sizes_of verified.now.config) last) slots.now }
+    requires scan { IsScanOf verified.now.config task store.old }
+    ensures seat { (s : SeatOf) → seat.old ≡ Some s → seat.new ≡ Some (record { variables = s.variables; tickets = Some (map ticket_of slots.now) }) }
+    ensures begins { (s : SeatOf) (globals : Values) → seat.old ≡ Some s → state_of (kept_of verified.now.config task store.new) ≡ scan_begins verified.now.config task (record { variables = variables_in verified.now.config task s.variables; snapshot = record { image = image.now; slots = slots.now; globals = globals } }) }
+    ensures scan { IsScanOf verified.now.config task store.new }
+{
+    if let Some(seat) = seat {
+        store.restart(verified, task, &seat.variables, image, slots);
+        seat.tickets = Some(tickets_of(slots));
+    }
+}
+
+// A task between scans, with what its scan left of its variables, and what it served.
+fn close_seat(
+    seat: &mut Option<Seat>,
+    calls: &mut CallBook,
+    verified: &Verified,
+    task: u8,
+    store: &Store,
+    serves: u8,
+) -> Row<Answer, 64>
+    requires open { (s : SeatOf) × (tickets : List (Option ℕ)) × (seat.old ≡ Some s) × (s.tickets ≡ Some tickets) }
+    requires variables { (s : SeatOf) → seat.old ≡ Some s → FitsOwn verified.now.config task s.variables }
+    requires scan { IsScanOf verified.now.config task store.now }
+    ensures calls { (s : SeatOf) (tickets : List (Option ℕ)) → seat.old ≡ Some s → s.tickets ≡ Some tickets → serve_wish calls.old task tickets serves ≡ (calls.new, result) }
+    ensures seat { (s : SeatOf) → seat.old ≡ Some s → (v : RowsOf) × (seat.new ≡ Some (record { variables = v; tickets = None })) × FitsOwn verified.now.config task v × OwnsDeclared verified.now.config (variables_in verified.now.config task v) × (variables_in verified.now.config task v ≡ restricted (variables_in verified.now.config task s.variables) (state_of (kept_of verified.now.config task store.now)).values) }
+{
+    match seat {
+        Some(seat) => {
+            let answers = serve_saw(calls, task, &seat.tickets, serves);
+            store.copy_variables(verified, task, &mut seat.variables);
+            seat.tickets = None;
+            answers
+        }
+        None => unreachable!(),
+    }
+}
+
+// What a car serves, by the tickets that its open scan saw.
+fn serve_saw(
+    calls: &mut CallBook,
+    car: u8,
+    tickets: &Option<Row<Option<u64>, 64>>,
+    slot: u8,
+) -> Row<Answer, 64>
+    requires { IsSome tickets.now }
+    ensures { (ts : List (Option ℕ)) → tickets.now ≡ Some ts → serve_wish calls.old car ts slot ≡ (calls.new, result) }
+{
+    match tickets {
+        Some(tickets) => serve(calls, car, tickets.as_slice(), slot),
+        None => unreachable!(),
+    }
+}
+
 impl Core {
     /// What the tasks share as the group opens, and the tasks (own rule).
     pub fn new(alloc: Global, verified: &Verified) -> Result<Core, Refusal>
@@ -145,6 +216,7 @@ impl Core {
         ensures fits { IfOk result (SeatsFit verified.now.config) }
         ensures memory { IfErr result (λ e. e ≡ Memory) }
     {
+        let _config = verified.config();
         let sizes = verified.sizes();
         let seats = opening_seats(alloc, verified, sizes.cars)?;
         Ok(Core {
@@ -206,11 +278,14 @@ impl Core {
         ensures scan { IsScanOf verified.now.config task store.new }
     {
         let slots = self.calls.slots();
-        let Some(Some(seat)) = self.seats.as_mut_slice().get_mut(usize::from(task)) else {
-            unreachable!()
-        };
-        store.restart(verified, task, &seat.variables, &self.image, slots);
-        seat.tickets = Some(tickets_of(slots));
+        start_seat(
+            &mut self.seats[usize::from(task)],
+            verified,
+            task,
+            &self.image,
+            slots,
+            store,
+        );
     }
 
     /// A car's scan, which has ended, hands over its variables; its outputs are settled, and it may serve a call.
@@ -224,6 +299,7 @@ impl Core {
         ensures closed { (v : RowsOf) × (self.new.seats.items ≡ with_seat self.old task v None) }
         ensures fits { SeatsFit verified.now.config self.new }
     {
+        let _config = verified.config();
         let wishes = store.wishes(verified, task);
         let settled = settle_car(&self.image, task, wishes.motor, wishes.opens);
         self.image.outputs.set(usize::from(task - 1), settled.outputs);
@@ -246,16 +322,14 @@ impl Core {
         ensures calls { (s : SeatOf) (tickets : List (Option ℕ)) → seat_at self.old task ≡ Some s → s.tickets ≡ Some tickets → serve_wish self.old.calls task tickets serves ≡ (self.new.calls, result) }
         ensures closed { (s : SeatOf) → seat_at self.old task ≡ Some s → (v : RowsOf) × (self.new.seats.items ≡ with_seat self.old task v None) × FitsOwn verified.now.config task v × OwnsDeclared verified.now.config (variables_in verified.now.config task v) × (variables_in verified.now.config task v ≡ restricted (variables_in verified.now.config task s.variables) (state_of (kept_of verified.now.config task store.now)).values) }
     {
-        let Some(Some(seat)) = self.seats.as_mut_slice().get_mut(usize::from(task)) else {
-            unreachable!()
-        };
-        let Some(tickets) = &seat.tickets else {
-            unreachable!()
-        };
-        let answers = serve(&mut self.calls, task, tickets.as_slice(), serves);
-        store.copy_variables(verified, task, &mut seat.variables);
-        seat.tickets = None;
-        answers
+        close_seat(
+            &mut self.seats[usize::from(task)],
+            &mut self.calls,
+            verified,
+            task,
+            store,
+            serves,
+        )
     }
 
     /// The image takes fields of as many cars, the outputs are settled under them, and the calls of the hand enter.
