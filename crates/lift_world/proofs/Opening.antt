@@ -1,5 +1,5 @@
 -- The opening tasks and stores.
-use Rattle.std.proofs.Common.{◌≡◌, ℕ, zero, suc, ◌+◌, ◌⊎◌, inl, inr, ap₂, ◌≤◌, ℤ, pos, Bool, true, false, List, [], ◌∷◌, ◌++◌, length, Option, Some, None, refl, sym, ap, ◌∙◌, subst, arith}
+use Rattle.std.proofs.Common.{◌≡◌, ℕ, zero, suc, ◌+◌, ◌⊎◌, inl, inr, ap₂, ◌≤◌, ◌<◌, ℤ, pos, Bool, true, false, List, [], ◌∷◌, ◌++◌, length, Option, Some, None, refl, sym, ap, ◌∙◌, subst, arith}
 use Rattle.std.specs.Prelude.{slice_get, slice_set, is_some, nat_abs}
 use Rattle.il_spec.specs.declared.tree.Config.{Config}
 use Rattle.il_spec.specs.declared.tree.Unit.{Unit as Organized}
@@ -13,6 +13,7 @@ use Rattle.lift_spec.specs.Image.{sizes_of}
 use Rattle.lift_spec.specs.Snapshot.{program_of, has_task}
 use Rattle.lift_spec.specs.World.{flat, opening_task, opening_tasks_from}
 use Rattle.std.proofs.lemmas.List.{length-append}
+use Rattle.std.proofs.lemmas.Bool.{cases_eq}
 use Rattle.lift_world.specs.declared.shared.Seat.{Seat}
 use Rattle.lift_world.specs.Running.{task_in, seated, tasks_in}
 use Rattle.lift_world.proofs.Views.{after_set}
@@ -100,4 +101,32 @@ fits_set c seats k v before fits own t s there =
     elim (after_set seats k t (record { variables = v; tickets = None }) s there) [
       | inl now ↦ subst (λ (x : Seat). FitsOwn c t x.variables × OwnsDeclared c (variables_in c t x.variables)) now.1 (subst (λ n. FitsOwn c n v × OwnsDeclared c (variables_in c n v)) (sym now.0) (fits, own))
       | inr was ↦ before t s was
+    ]
+
+-- STORES
+
+pub holds_more : {X : Type 0} (P : ℕ → X → Type 0) (xs : List (Option X)) (o : Option X) (n : ℕ) → length xs ≡ n → ((t : ℕ) (x : X) → flat (slice_get xs t) ≡ Some x → P t x) → ((x : X) → o ≡ Some x → P n x)
+    → (t : ℕ) (x : X) → flat (slice_get (xs ++ o ∷ []) t) ≡ Some x → P t x
+holds_more P xs o n many so_far next t x e =
+    elim (last_or_before xs o t x e) [
+      | inl before ↦ so_far t x before
+      | inr here ↦ subst (λ k. P k x) (sym (here.0 ∙ many)) (next x here.1)
+    ]
+
+front_is : {X : Type 0} (xs : List (Option X)) (o : Option X) (t : ℕ) → t < length xs → flat (slice_get (xs ++ o ∷ []) t) ≡ flat (slice_get xs t)
+front_is [] o t below = absurd (omega (arith, below))
+front_is (x ∷ xs) o zero below = refl
+front_is (x ∷ xs) o (suc t) below = front_is xs o t (omega (arith, below))
+
+last_is : {X : Type 0} (xs : List (Option X)) (o : Option X) → flat (slice_get (xs ++ o ∷ []) (length xs)) ≡ o
+last_is [] None = refl
+last_is [] (Some x) = refl
+last_is (x ∷ xs) o = last_is xs o
+
+pub there_more : {X : Type 0} (Q : ℕ → Bool) (xs : List (Option X)) (o : Option X) (n : ℕ) → length xs ≡ n → ((t : ℕ) → t < n → is_some (flat (slice_get xs t)) ≡ Q t) → is_some o ≡ Q n
+    → (t : ℕ) → t < n + 1 → is_some (flat (slice_get (xs ++ o ∷ []) t)) ≡ Q t
+there_more Q xs o n many so_far next t below =
+    elim (cases_eq t n) [
+      | inl same ↦ ap (λ k. is_some (flat (slice_get (xs ++ o ∷ []) k))) (same ∙ sym many) ∙ ap is_some (last_is xs o) ∙ next ∙ ap Q (sym same)
+      | inr other ↦ ap is_some (front_is xs o t (omega (arith, below, other, many))) ∙ so_far t (omega (arith, below, other))
     ]

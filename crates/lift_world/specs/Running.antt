@@ -1,9 +1,10 @@
 -- What a world keeps, as rows and as the world of the definitions (own rules).
-use Rattle.std.specs.Prelude.{◌≡◌, ℕ, zero, suc, ◌+◌, Bool, false, List, [], ◌∷◌, map, length, slice_get, slice_set, if◌then◌else◌, Option, Some, None, is_some}
+use Rattle.std.specs.Prelude.{◌≡◌, ◌≢◌, ℕ, zero, suc, ◌≤◌, ◌+◌, Bool, false, List, [], ◌∷◌, map, length, slice_get, slice_set, if◌then◌else◌, Option, Some, None, is_some}
 use Rattle.il_spec.specs.declared.tree.Config.{Config}
 use Rattle.il_run.specs.State.{State}
-use Rattle.il_run.specs.Scan.{opening_globals}
-use Rattle.il_machine.specs.Scanning.{ IsScanOf, OwnsDeclared, FitsOwn, variables_in, kept_of, state_of}
+use Rattle.il_run.specs.Scan.{Reaches, opening_globals}
+use Rattle.il_machine.specs.Scanning.{IsScanOf, OwnsDeclared, FitsOwn, variables_in, kept_of, place_of, state_of}
+use Rattle.il_run.specs.Step.{step, Next}
 use Rattle.il_code.specs.Layout.{Rows}
 use Rattle.il_machine.specs.Going.{Stored}
 use Rattle.lift_spec.specs.World.{World, Group, TaskState, flat}
@@ -164,3 +165,23 @@ abbrev pub up_to_end : ℕ → List Reply
 up_to_end zero = []
 up_to_end (suc zero) = End ∷ []
 up_to_end (suc (suc n)) = More ∷ up_to_end (suc n)
+
+-- WHAT A STEP LEAVES OF A STORE
+
+-- one step of a task's scan, and its answer
+pub record Steps (c : Config) (t : ℕ) (before : Stored) (after : Option Stored) (reply : Answer) : Type 0 where
+  pub store : Stored
+  pub is : after ≡ Some store
+  pub scan : IsScanOf c t store
+  pub step : step c (state_of (kept_of c t before)) ≡ Next (state_of (kept_of c t store))
+  pub more : place_of store.running ≢ None → reply ≡ answer.More
+  pub end : place_of store.running ≡ None → reply ≡ answer.End
+
+-- so many steps to the end of a task's scan
+pub record RunsOut (c : Config) (t : ℕ) (before : Stored) (after : Option Stored) (n : ℕ) : Type 0 where
+  pub store : Stored
+  pub is : after ≡ Some store
+  pub scan : IsScanOf c t store
+  pub some : 1 ≤ n
+  pub steps : Reaches c n (state_of (kept_of c t before)) (state_of (kept_of c t store))
+  pub ended : place_of store.running ≡ None

@@ -1,15 +1,18 @@
 // A lift group, without its history: what the tasks share, and where their scans stand.
 
-ghost use Rattle.std.specs.Prelude.{◌≡◌, ℕ, suc, ◌+◌, ◌≤◌, [], length, slice_get, is_some, Some, Ok, IfOk, IfErr};
+ghost use Rattle.std.specs.Prelude.{◌≡◌, ◌≢◌, ℕ, suc, ◌+◌, ◌≤◌, [], length, map, slice_get, is_some, None, Some, Ok, IfOk, IfErr, IsSome};
 ghost use Rattle.il_spec.specs.declared.fault.Refusal.TheVariants.{Memory};
 ghost use Rattle.il_machine.specs.Going.{Stored};
-ghost use Rattle.il_machine.specs.Scanning.{IsScanOf};
-ghost use Rattle.lift_spec.specs.Snapshot.{program_of};
+ghost use Rattle.il_machine.specs.Scanning.{IsScanOf, kept_of, place_of, state_of};
+ghost use Rattle.lift_spec.specs.Calls.{ticket_of};
+ghost use Rattle.lift_spec.specs.declared.event.EventFault.TheVariants.{NoOpenScan};
+ghost use Rattle.lift_world.specs.declared.shared.Seat.{Seat as SeatOf};
+ghost use Rattle.lift_spec.specs.Snapshot.{program_of, scan_begins};
 ghost use Rattle.lift_spec.specs.declared.report.Report.{Report as ReportOf};
 ghost use Rattle.lift_spec.specs.Replies.{reply_with};
 ghost use Rattle.lift_spec.specs.Replies as replies;
 ghost use Rattle.lift_spec.specs.World as model;
-ghost use Rattle.lift_world.specs.Running.{world_of, IsWorldOf, SeatsFit, StoresFit, reporting, instructions, up_to_end};
+ghost use Rattle.lift_world.specs.Running.{seat_at, task_in, group_in, with_seat, Steps, RunsOut, world_of, IsWorldOf, SeatsFit, StoresFit, reporting, instructions, up_to_end};
 ghost use Rattle.lift_spec.specs.declared.event.Event.TheVariants as event;
 
 use crate::replies::Replies;
@@ -63,6 +66,61 @@ fn opening_stores(alloc: Global, verified: &Verified, cars: u8) -> Result<Vec<Op
     Ok(stores)
 }
 
+// The task's scan begins.
+fn begin(core: &mut Core, verified: &Verified, task: u8, store: &mut Option<Store>)
+    requires there { IsSome (seat_at core.old task) }
+    requires kept { IsSome store.old }
+    requires fits { SeatsFit verified.now.config core.old }
+    requires ranges { model.InRanges verified.now.config (group_in verified.now.config core.old) }
+    requires scan { (st : Stored) → store.old ≡ Some st → IsScanOf verified.now.config task st }
+    ensures shared { (core.new.image ≡ core.old.image) × (core.new.calls ≡ core.old.calls) }
+    ensures seats { (s : SeatOf) → seat_at core.old task ≡ Some s → core.new.seats.items ≡ with_seat core.old task s.variables (Some (map ticket_of core.old.calls.slots)) }
+    ensures store { (s : SeatOf) → seat_at core.old task ≡ Some s → (st : Stored) × (store.new ≡ Some st) × IsScanOf verified.now.config task st × (state_of (kept_of verified.now.config task st) ≡ scan_begins verified.now.config task (model.beginning_of (group_in verified.now.config core.old) (task_in verified.now.config task s))) }
+{
+    if let Some(store) = store {
+        core.start(verified, task, store);
+    }
+}
+
+// One step of a task's scan, if it has not ended.
+fn advance(verified: &Verified, task: u8, store: &mut Option<Store>) -> Reply
+    requires kept { IsSome store.old }
+    requires scan { (st : Stored) → store.old ≡ Some st → IsScanOf verified.now.config task st }
+    ensures ended { (st : Stored) → store.old ≡ Some st → place_of st.running ≡ None → (result ≡ Reply.Refused NoOpenScan) × (store.new ≡ store.old) }
+    ensures step { (st : Stored) → store.old ≡ Some st → place_of st.running ≢ None → Steps verified.now.config task st store.new result }
+{
+    match store {
+        Some(store) => {
+            if store.has_ended() {
+                return Reply::Refused(EventFault::NoOpenScan);
+            }
+            match step(verified, task, store) {
+                Stepped::More => Reply::More,
+                Stepped::End => Reply::End,
+            }
+        }
+        None => unreachable!(),
+    }
+}
+
+// The rest of a task's scan, if it has not ended.
+fn run_out(verified: &Verified, task: u8, store: &mut Option<Store>) -> Result<u32, EventFault>
+    requires kept { IsSome store.old }
+    requires scan { (st : Stored) → store.old ≡ Some st → IsScanOf verified.now.config task st }
+    ensures ended { IfErr result (λ fault. (fault ≡ NoOpenScan) × (store.new ≡ store.old) × ((st : Stored) → store.old ≡ Some st → place_of st.running ≡ None)) }
+    ensures steps { IfOk result (λ n. (st : Stored) → store.old ≡ Some st → RunsOut verified.now.config task st store.new n) }
+{
+    match store {
+        Some(store) => {
+            if store.has_ended() {
+                return Err(EventFault::NoOpenScan);
+            }
+            Ok(scan(verified, task, store))
+        }
+        None => unreachable!(),
+    }
+}
+
 impl Controller {
     /// The group as it opens: no scan is open, and no call waits.
     pub fn new(alloc: Global, verified: Verified) -> Result<Controller, Refusal>
@@ -91,13 +149,18 @@ impl Controller {
         ensures seats { SeatsFit self.new.verified.config self.new.core }
         ensures stores { StoresFit self.new.verified.config self.new.core self.new.stores.items }
     {
-        let Some(Some(store)) = self.stores.as_mut_slice().get_mut(usize::from(task)) else {
+        if self.core.seat(task).is_none() {
             return Reply::Refused(EventFault::NoSuchActor);
-        };
+        }
         if self.core.is_open(task) {
             return Reply::Refused(EventFault::AlreadyOpen);
         }
-        self.core.start(&self.verified, task, store);
+        begin(
+            &mut self.core,
+            &self.verified,
+            task,
+            &mut self.stores[usize::from(task)],
+        );
         Reply::Started
     }
 
@@ -109,19 +172,13 @@ impl Controller {
         ensures seats { SeatsFit self.new.verified.config self.new.core }
         ensures stores { StoresFit self.new.verified.config self.new.core self.new.stores.items }
     {
-        let Some(Some(store)) = self.stores.as_mut_slice().get_mut(usize::from(task)) else {
+        if self.core.seat(task).is_none() {
             return Reply::Refused(EventFault::NoSuchActor);
-        };
+        }
         if !self.core.is_open(task) {
             return Reply::Refused(EventFault::NoOpenScan);
         }
-        if store.has_ended() {
-            return Reply::Refused(EventFault::NoOpenScan);
-        }
-        match step(&self.verified, task, store) {
-            Stepped::More => Reply::More,
-            Stepped::End => Reply::End,
-        }
+        advance(&self.verified, task, &mut self.stores[usize::from(task)])
     }
 
     // Commit: the task's scan, which has ended, hands over what it left.
@@ -132,12 +189,15 @@ impl Controller {
         ensures seats { SeatsFit self.new.verified.config self.new.core }
         ensures stores { StoresFit self.new.verified.config self.new.core self.new.stores.items }
     {
-        let Some(Some(store)) = self.stores.as_slice().get(usize::from(task)) else {
+        if self.core.seat(task).is_none() {
             return Reply::Refused(EventFault::NoSuchActor);
-        };
+        }
         if !self.core.is_open(task) {
             return Reply::Refused(EventFault::NoOpenScan);
         }
+        let Some(store) = &self.stores[usize::from(task)] else {
+            unreachable!()
+        };
         if !store.has_ended() {
             return Reply::Refused(EventFault::NotAtEnd);
         }
@@ -240,15 +300,12 @@ impl Controller {
         ensures same { self.new.verified ≡ self.old.verified }
         ensures world { IsWorldOf self.new }
     {
-        let Some(Some(store)) = self.stores.as_mut_slice().get_mut(usize::from(task)) else {
+        if self.core.seat(task).is_none() {
             return Err(EventFault::NoSuchActor);
-        };
+        }
         if !self.core.is_open(task) {
             return Err(EventFault::NoOpenScan);
         }
-        if store.has_ended() {
-            return Err(EventFault::NoOpenScan);
-        }
-        Ok(scan(&self.verified, task, store))
+        run_out(&self.verified, task, &mut self.stores[usize::from(task)])
     }
 }
