@@ -2,5 +2,7 @@
 #![tactic(auto)]
 
 mod bodies;
+mod lists;
 
 pub use bodies::{Entry, body};
+pub use lists::{externals, filled_list, no_list, optional_list};
