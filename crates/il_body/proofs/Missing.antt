@@ -6,7 +6,8 @@ use Rattle.il_spec.specs.declared.keyword.Keyword.TheVariants as word
 use Rattle.il_spec.specs.declared.tree.Declaration.{Declaration}
 use Rattle.il_spec.specs.Grammar.{Front, ◌⋯◌, skip_line_ends, Repeats, TheWord, SpellsDeclaration, SpellsList, SpellsFilledList, SpellsOptionalList}
 use Rattle.il_grammar.proofs.Leads.{word_sure, word_lead}
-use Rattle.il_grammar.proofs.Types.{declaration_lead}
+use Rattle.il_grammar.specs.One.{IsDeterministic}
+use Rattle.il_grammar.proofs.Types.{declaration_lead, declarations_one}
 use Rattle.il_read.specs.Reads.{IsFault, Reads, Refuses, Stands}
 use Rattle.il_read.specs.Settings.{StandsThere}
 use Rattle.il_read.specs.declared.stop.Stop.{Stop}
@@ -79,3 +80,7 @@ module _ (text : List ℕ) where
 pub it_stands : (F : Front) (ts : List Token) (b : Bool) → StandsThere F ts b → b ≡ true → (rest : List Token) × F ts rest
 it_stands F ts true h e = h
 it_stands F ts false h e = absurd cc
+
+-- a list that isn't empty is one
+pub full_one : (text : List ℕ) (k : Keyword) → IsDeterministic (SpellsFull text k)
+full_one text k = record { only = λ a b ts r s p q. (declarations_one text k).only a b ts r s p.1 q.1 }

@@ -2,7 +2,9 @@
 #![tactic(auto)]
 
 mod bodies;
+mod insides;
 mod lists;
 
 pub use bodies::{Entry, body};
-pub use lists::{externals, filled_list, no_list, optional_list};
+pub use insides::{block_inside, function_inside, program_inside};
+pub use lists::{externals, filled_list, full_list, no_list, optional_list};

@@ -47,8 +47,8 @@ fn list(source: &Source, tokens: &mut Tokens, keyword: Keyword) -> Result<Items<
     Ok(source.declarations(tokens)?)
 }
 
-// A list of this word, with one declaration at least.
-fn full_list(
+/// A list of this word, with one declaration at least.
+pub fn full_list(
     source: &Source,
     tokens: &mut Tokens,
     keyword: Keyword,
