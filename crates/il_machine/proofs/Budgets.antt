@@ -6,24 +6,24 @@ use Rattle.il_spec.specs.declared.tree.Config.{Config}
 use Rattle.il_spec.specs.declared.tree.Unit.{Unit as Organized}
 use Rattle.il_spec.specs.declared.tree.Task.{Task}
 use Rattle.il_spec.specs.declared.tree.ProgramLine.{ProgramLine}
-use Rattle.il_rules.specs.Names.{is_predeclared, is_program, unit_named, program_named}
+use Rattle.il_rules.specs.Names.{is_predeclared, is_program, program_named}
 use Rattle.il_run.specs.NameMap.{Text}
-use Rattle.il_run.specs.Scan.{program_of as program_by, task_program}
+use Rattle.il_run.specs.Scan.{program_of as program_by}
 use Rattle.il_run.specs.Paths.{IsLongest}
-use Rattle.lift_spec.specs.Snapshot.{task_name, program_of}
+use Rattle.lift_spec.specs.Snapshot.{task_name}
 use Rattle.il_machine.specs.declared.verified.UnitCost.{UnitCost}
 use Rattle.il_machine.specs.Scanning.{Program}
-use Rattle.il_machine.specs.Costs.{IsCostOf, AreCosts}
-use Rattle.il_machine.specs.Listing.{UnitLine, unit_line, unit_lines, TaskLine, task_by, task_of, program_line_of, unit_of, is_task_name, task_among, task_line, PrintsBudgets}
+use Rattle.il_machine.specs.Costs.{AreCosts}
+use Rattle.il_machine.specs.Listing.{UnitLine, unit_line, unit_lines, TaskLine, task_by, task_of, program_line_of, unit_of, is_task_name, task_among, PrintsBudgets}
 
 same_some : {X : Type 0} (x y : X) → Some x ≡ Some y → x ≡ y
 same_some x y e = cc
 
-none_some : {X : Type 0} (o : Option X) (x : X) → o ≡ None → o ≡ Some x → ⊥
+pub none_some : {X : Type 0} (o : Option X) (x : X) → o ≡ None → o ≡ Some x → ⊥
 none_some o x a b = let bad : None ≡ Some x = sym a ∙ b in cc
 
 -- the two spellings of one search
-found_alike : {X : Type 0} (p q : X → Bool) → ((x : X) → p x ≡ q x) → (xs : List X) → find p xs ≡ find q xs
+pub found_alike : {X : Type 0} (p q : X → Bool) → ((x : X) → p x ≡ q x) → (xs : List X) → find p xs ≡ find q xs
 found_alike p q same [] = refl
 found_alike p q same (x ∷ xs) = by (p x) (q x) (same x) (found_alike p q same xs)
   where
@@ -73,7 +73,7 @@ program_is_first c name u e = by_reserved (is_predeclared c name) e
     by_reserved false f = by_unit (find (λ w. bytes_eq w.name.name name) c.units) f
 
 -- the two searches of a task's PROGRAM line are one
-lines_alike : (n : ℕ) → nat_le n 8 ≡ true → (l : ProgramLine) → is_task_name l.task.name n ≡ bytes_eq (task_name n) l.task.name
+pub lines_alike : (n : ℕ) → nat_le n 8 ≡ true → (l : ProgramLine) → is_task_name l.task.name n ≡ bytes_eq (task_name n) l.task.name
 lines_alike n low l = ap (λ b. b && bytes_eq l.task.name (task_name n)) low ∙ names_alike l.task.name (task_name n)
 
 -- a task whose TASK line is found has a number up to 8

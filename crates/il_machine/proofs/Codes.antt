@@ -1,6 +1,9 @@
 -- That a runnable configuration has flat code.
-use Rattle.std.proofs.Common.{◌≡◌, ℕ, zero, suc, ◌<◌, ◌≤◌, Bool, true, false, List, [], ◌∷◌, map, slice_get, refl, sym, ap, ◌∙◌, Some, None, Option, subst, arith}
-use Rattle.std.specs.Prelude.{Contains, find, bytes_eq, if◌then◌else◌}
+use Rattle.std.proofs.Common.{◌≡◌, ℕ, zero, suc, ◌<◌, ◌^◌, Bool, true, false, List, [], ◌∷◌, ◌++◌, map, slice_get, refl, sym, ap, ◌∙◌, Some, None, Option, subst, arith}
+use Rattle.std.specs.Prelude.{find, bytes_eq, if◌then◌else◌, codes}
+use Rattle.std.specs.Fmt.{decimal, digits}
+use Rattle.std.proofs.lemmas.Fmt.{decimal_injective}
+use Rattle.std.proofs.lemmas.List.{append_cancel_left}
 use Rattle.std.proofs.lemmas.Slice.Eq.{bytes_eq-Decides}
 use Rattle.il_spec.specs.declared.tree.Config.{Config}
 use Rattle.il_spec.specs.declared.tree.Unit.{Unit as Organized}
@@ -9,7 +12,7 @@ use Rattle.il_rules.specs.Names.{function_block_named, is_function_block, is_fun
 use Rattle.il_rules.specs.Symbols.{IsProgram}
 use Rattle.il_rules.proofs.Straight.{only_unit}
 use Rattle.il_run.specs.NameMap.{Text}
-use Rattle.il_run.specs.Scan.{program_of as line_program}
+use Rattle.il_run.specs.Scan.{program_of as line_program, task_program}
 use Rattle.il_run.specs.Step.{instruction_at}
 use Rattle.il_sound.proofs.Named.{found_unit}
 use Rattle.il_sound.proofs.Meant.{program_is}
@@ -17,10 +20,10 @@ use Rattle.lift_spec.specs.Snapshot.{task_name, program_of}
 use Rattle.il_code.specs.declared.flat.UnitCode.{UnitCode}
 use Rattle.il_code.specs.Coded.{IsUnit, IsRunnable as IsRunnableInstruction}
 use Rattle.il_code.specs.Whole.{number_in, unit_code}
-use Rattle.il_code.specs.Program.{program_names, program_cells, program_code}
+use Rattle.il_code.specs.Program.{program_names, program_code}
 use Rattle.il_code.specs.Resolved.{IsFlattened}
 use Rattle.il_code.proofs.Declared.{own}
-use Rattle.il_code.proofs.Program.{supported, cells_once, program_is_code, program_is_placed}
+use Rattle.il_code.proofs.Program.{cells_once, program_is_code, program_is_placed}
 use Rattle.il_machine.specs.Scanning.{HasCode, IsRunnable}
 
 -- the only unit stands first
@@ -38,6 +41,31 @@ task_is c u program t v is = by_line (find (λ l. bytes_eq (task_name t) l.task.
     by_line : (o : Option ProgramLine) → line_program c o ≡ Some v → v ≡ u
     by_line None e = cc
     by_line (Some l) e = only_unit c u program.alone v (found_unit c l.program.name v (program_is c l.program.name v e).0)
+
+-- the only PROGRAM line names its task
+line_names : (c : Config) (line : ProgramLine) (name : Text) (v : Organized) → c.programs ≡ line ∷ [] → task_program c name ≡ Some v → name ≡ line.task.name
+line_names c line name v is found = by_test (bytes_eq name line.task.name) refl (sym (ap (λ ls. line_program c (find (λ l. bytes_eq name l.task.name) ls)) is) ∙ found)
+  where
+    by_test : (b : Bool) → bytes_eq name line.task.name ≡ b → line_program c (if b then Some line else None) ≡ Some v → name ≡ line.task.name
+    by_test true same e = (bytes_eq-Decides name line.task.name).0 same
+    by_test false same e = cc
+
+car_one : codes "CAR1" ≡ codes "CAR" ++ decimal 1
+unfolding digits
+car_one = refl
+
+car_named : (t : ℕ) → t < 2 ^ 64 → task_name t ≡ codes "CAR1" → t ≡ 1
+car_named zero low e = let wrong : ◌≡◌ {A = List ℕ} (codes "GROUP") (codes "CAR1") = e in cc
+car_named (suc k) low e = decimal_injective (suc k) 1 low (omega arith) (append_cancel_left (codes "CAR") (decimal (suc k)) (decimal 1) (e ∙ car_one))
+
+-- the program is that of CAR1
+pub car_program : (c : Config) (runs : IsRunnable c) → program_of c 1 ≡ Some runs.checked.resolved.program
+car_program c runs = ap (task_program c) (sym car_one) ∙ runs.tasked.car
+
+-- the only task is CAR1
+pub task_one : (c : Config) → IsRunnable c → (t : ℕ) (v : Organized) → t < 2 ^ 64 → program_of c t ≡ Some v → t ≡ 1
+task_one c runs t v low is =
+    car_named t low (line_names c runs.supported.line (task_name t) v runs.supported.lines is ∙ sym (line_names c runs.supported.line (codes "CAR1") runs.checked.resolved.program runs.supported.lines runs.tasked.car))
 
 module _ (c : Config) (runs : IsRunnable c) where
   abbrev u : Organized

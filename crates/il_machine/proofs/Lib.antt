@@ -1,4 +1,5 @@
 pub mod Budgets
+pub mod Tasked
 pub mod Listings
 pub mod Slots
 pub mod Does
@@ -9,8 +10,11 @@ pub mod Scans
 pub mod Codes
 pub mod Starts
 pub mod Stepping
-pub mod Openings
+pub mod Writing
+pub mod Given
 pub mod Opened
+pub mod Restarts
 pub mod Opens
 pub mod Images
+pub mod Ending
 pub mod Reading

@@ -1,8 +1,7 @@
--- The rows of the opening world show it.
-use Rattle.std.proofs.Common.{◌≡◌, ℕ, zero, suc, ◌+◌, ◌-◌, ◌<◌, ◌≤◌, Bool, true, false, List, [], ◌∷◌, ◌++◌, map, length, refl, sym, ap, ap₂, ◌∙◌, cond, Some, None, Option, ℤ, pos, ◌+ℤ◌, subst, arith, append_assoc, append-nil}
-use Rattle.std.specs.Prelude.{Contains, replicate, nat_abs, is_some, bytes_eq, if◌then◌else◌, codes, option_map}
+-- The rows of the image, and those of the variables in the opening world.
+use Rattle.std.proofs.Common.{◌≡◌, ℕ, zero, suc, ◌+◌, Bool, true, false, List, [], ◌∷◌, ◌++◌, map, length, refl, sym, ap, ◌∙◌, cond, Some, None, Option, ℤ, pos, subst}
+use Rattle.std.specs.Prelude.{Contains, nat_abs, is_some, bytes_eq, if◌then◌else◌, codes, option_map}
 use Rattle.std.specs.Ordering.{eq_by_cmp}
-use Rattle.std.specs.Fmt.{digits}
 use Rattle.std.proofs.lemmas.Slice.Eq.{bytes_eq-Decides}
 use Rattle.il_spec.specs.declared.tree.Config.{Config}
 use Rattle.il_spec.specs.declared.tree.Unit.{Unit as Organized}
@@ -14,116 +13,57 @@ use Rattle.il_spec.specs.declared.tree.Form.TheVariants.{Scalar as ScalarForm, A
 use Rattle.il_rules.specs.Names.{or_else, own_variable, is_function_kind}
 use Rattle.il_rules.specs.Declarations.{declared_limits}
 use Rattle.il_rules.specs.Subset.{IsSupportedForm, AreSupportedVariables}
-use Rattle.il_rules.specs.Symbols.{IsProgram}
 use Rattle.il_run.specs.declared.value.Value.{Value}
-use Rattle.il_run.specs.declared.value.Value.TheVariants.{Boolean, Integer}
-use Rattle.il_run.specs.NameMap.{Text, order, empty, get, insert, get-insert, from_entries}
-use Rattle.il_run.specs.State.{Values}
-use Rattle.il_run.specs.Meaning.{Entity, element_path, entities, own_entities, block_entities, instance_values, entity_values, depth, width_of}
+use Rattle.il_run.specs.declared.value.Value.TheVariants.{Boolean}
+use Rattle.il_run.specs.NameMap.{Text, order, empty, get, get-insert}
+use Rattle.il_run.specs.Meaning.{Entity, entities, own_entities, block_entities, instance_values, depth, width_of}
 use Rattle.il_run.specs.Ranges.{HoldsTask}
-use Rattle.il_run.specs.Scan.{opening_variables, opening_globals, task_program}
+use Rattle.il_run.specs.Scan.{opening_variables}
 use Rattle.il_table.proofs.Copies.{same_text}
-use Rattle.il_sound.specs.Listed.{seen_scalars}
-use Rattle.il_sound.proofs.Listing.{keeps_listed}
-use Rattle.il_sound.proofs.Opening.{globals_open, variables_open}
-use Rattle.il_sound.proofs.Named.{found_unit}
+use Rattle.il_sound.proofs.Opening.{variables_open}
 use Rattle.il_sound.proofs.Lists.{at_head}
 use Rattle.il_code.specs.declared.flat.Cell.{Cell}
-use Rattle.il_code.specs.Layout.{cell, Rows, rows, Fits, value_by, view_of, view}
+use Rattle.il_code.specs.Layout.{Rows, Fits, value_by, view_of}
 use Rattle.il_code.specs.Cells.{form_in, element_cells, cells_at, entity_cells, instance_cells}
-use Rattle.il_code.specs.Whole.{HasKind, AreOf, number_part, flag_part, first_rows}
-use Rattle.il_code.specs.Program.{own_cells, seen_cells, own_values}
-use Rattle.il_code.specs.Paths.{with_value, with_values, number_cells, call_cells, car_cells, image_cells}
+use Rattle.il_code.specs.Whole.{HasKind, AreOf, first_rows}
+use Rattle.il_code.specs.Program.{own_cells, own_values}
+use Rattle.lift_spec.specs.declared.image.Sizes.{Sizes}
+use Rattle.il_code.specs.Paths.{number_cells, call_cells, car_cells, image_cells}
 use Rattle.il_code.proofs.Kept.{itself}
 use Rattle.il_code.proofs.Declared.{own_same}
-use Rattle.il_code.proofs.Opening.{shown, entities_of}
+use Rattle.il_code.proofs.Opening.{entities_of}
 use Rattle.il_code.proofs.Begins.{own_initial, blocks_initial}
 use Rattle.il_code.proofs.Program.{own_opening}
-use Rattle.il_code.proofs.Made.{image_laid}
 use Rattle.lift_spec.specs.declared.image.Image.{Image}
 use Rattle.lift_spec.specs.declared.image.CarFields.{CarFields}
 use Rattle.lift_spec.specs.declared.image.CarOutputs.{CarOutputs}
 use Rattle.lift_spec.specs.declared.calls.Slot.{Slot}
-use Rattle.lift_spec.specs.declared.calls.Slot.TheVariants.{Free}
-use Rattle.lift_spec.specs.Image.{sizes_of, opening_image, opening_car, opening_outputs}
+use Rattle.lift_spec.specs.Image.{sizes_of}
 use Rattle.lift_spec.specs.Settle.{fields_of, outputs_of}
-use Rattle.lift_spec.specs.Calls.{opening_calls}
-use Rattle.lift_spec.specs.Snapshot.{task_name, program_of, number, elements_of, waits, from_of, to_of, car_of, common_entries, car_entries, image_entries}
+use Rattle.lift_spec.specs.Snapshot.{number, elements_of, waits, from_of, to_of, car_of, car_entries, image_entries}
 use Rattle.il_machine.specs.Held.{HoldsOwn}
-use Rattle.il_machine.specs.Scanning.{IsRunnable, IsWithin, HasSizes, FitsOwn, FitsSeen, OwnsDeclared, own_view, seen_view, variables_in, image_in, joined}
-use Rattle.il_machine.specs.Opening.{shown_of, size_entries, row_entries, with_row, with_free, with_image}
-use Rattle.il_machine.proofs.Codes.{flattened}
+use Rattle.il_machine.specs.Scanning.{IsRunnable, HasSizes, FitsOwn, OwnsDeclared, own_view, variables_in}
+use Rattle.il_machine.proofs.Codes.{flattened, car_program}
+use Rattle.il_machine.proofs.Writing.{regroup}
 use Rattle.il_machine.proofs.Scans.{same_program}
-
--- ROWS OF VALUES
-
-values_joined : (r : Rows) (vs : List (Text × Value)) → with_values r vs ≡ joined r (first_rows vs)
-values_joined r [] = ap₂ rows (sym (append-nil r.numbers)) (sym (append-nil r.flags))
-values_joined r (v ∷ vs) =
-    values_joined (with_value r v.1) vs
-    ∙ ap₂ rows (append_assoc r.numbers (number_part v.1 ∷ []) (map (λ w. number_part w.1) vs)) (append_assoc r.flags (flag_part v.1 ∷ []) (map (λ w. flag_part w.1) vs))
-
-values_append : (r : Rows) (vs ws : List (Text × Value)) → with_values r (vs ++ ws) ≡ with_values (with_values r vs) ws
-values_append r [] ws = refl
-values_append r (v ∷ vs) ws = values_append (with_value r v.1) vs ws
-
-row_is : (r : Rows) (name : Text) (k n : ℕ) (v : Value) → with_row r n v ≡ with_values r (elements_of name k (replicate n v))
-row_is r name k zero v = refl
-row_is r name k (suc n) v = row_is (with_value r v) name (k + 1) n v
-
--- the calls of a group where none waits
-abbrev free_entries : ℕ → List (Text × Value)
-free_entries n = row_entries (codes "CALLWAITS") n (Boolean false) ++ (row_entries (codes "CALLFROM") n (number 0) ++ (row_entries (codes "CALLTO") n (number 0) ++ row_entries (codes "CALLCAR") n (number 0)))
-
-free_is : (r : Rows) (n : ℕ) → with_free r n ≡ with_values r (free_entries n)
-free_is r n =
-    row_is (with_row (with_row (with_row r n (Boolean false)) n (number 0)) n (number 0)) (codes "CALLCAR") 1 n (number 0)
-    ∙ ap (λ x. with_values x (row_entries (codes "CALLCAR") n (number 0))) (row_is (with_row (with_row r n (Boolean false)) n (number 0)) (codes "CALLTO") 1 n (number 0))
-    ∙ ap (λ x. with_values (with_values x (row_entries (codes "CALLTO") n (number 0))) (row_entries (codes "CALLCAR") n (number 0))) (row_is (with_row r n (Boolean false)) (codes "CALLFROM") 1 n (number 0))
-    ∙ ap (λ x. with_values (with_values (with_values x (row_entries (codes "CALLFROM") n (number 0))) (row_entries (codes "CALLTO") n (number 0))) (row_entries (codes "CALLCAR") n (number 0))) (row_is r (codes "CALLWAITS") 1 n (Boolean false))
-    ∙ sym (values_append r (row_entries (codes "CALLWAITS") n (Boolean false)) (row_entries (codes "CALLFROM") n (number 0) ++ (row_entries (codes "CALLTO") n (number 0) ++ row_entries (codes "CALLCAR") n (number 0)))
-    ∙ values_append (with_values r (row_entries (codes "CALLWAITS") n (Boolean false))) (row_entries (codes "CALLFROM") n (number 0)) (row_entries (codes "CALLTO") n (number 0) ++ row_entries (codes "CALLCAR") n (number 0))
-    ∙ values_append (with_values (with_values r (row_entries (codes "CALLWAITS") n (Boolean false))) (row_entries (codes "CALLFROM") n (number 0))) (row_entries (codes "CALLTO") n (number 0)) (row_entries (codes "CALLCAR") n (number 0)))
-
--- what the opening world is shown by
-abbrev pub opening_entries : Config → List (Text × Value)
-opening_entries c = size_entries c ++ (free_entries (sizes_of c).slots ++ car_entries 1 opening_car opening_outputs)
-
-image_is : (c : Config) (r : Rows) → with_image c r ≡ joined r (first_rows (opening_entries c))
-image_is c r =
-    ap (λ x. with_values x (car_entries 1 opening_car opening_outputs)) (free_is (with_values r (size_entries c)) (sizes_of c).slots)
-    ∙ sym (values_append r (size_entries c) (free_entries (sizes_of c).slots ++ car_entries 1 opening_car opening_outputs) ∙ values_append (with_values r (size_entries c)) (free_entries (sizes_of c).slots) (car_entries 1 opening_car opening_outputs))
-    ∙ values_joined r (opening_entries c)
 
 -- THE IMAGE
 
-mapped : {A B : Type 0} (f : A → B) (n : ℕ) (x : A) → map f (replicate n x) ≡ replicate n (f x)
-mapped f zero x = refl
-mapped f (suc n) x = ap (λ ys. f x ∷ ys) (mapped f n x)
+-- the entries of the image, in the order of its slots
+abbrev call_entries : List Slot → List (Text × Value)
+call_entries slots =
+    elements_of (codes "CALLWAITS") 1 (map (λ s. Boolean (waits s)) slots)
+    ++ (elements_of (codes "CALLFROM") 1 (map (λ s. number (from_of s)) slots) ++ (elements_of (codes "CALLTO") 1 (map (λ s. number (to_of s)) slots) ++ elements_of (codes "CALLCAR") 1 (map (λ s. number (car_of s)) slots)))
 
-counted : (n : ℕ) (x : Slot) → length (replicate n x) ≡ n
-counted zero x = refl
-counted (suc n) x = ap suc (counted n x)
+abbrev first_entries : Sizes → Image → List (Text × Value)
+first_entries sizes image =
+    (codes "CARS", number sizes.cars) ∷ (codes "FLOORS", number sizes.floors) ∷ (codes "SLOTS", number sizes.slots) ∷ (codes "NOW", number image.fields.time) ∷ (codes "RUNLIMIT", number image.fields.run_limit) ∷ []
 
-as_number : (lo hi : ℕ) (z : ℤ) → IsWithin lo hi z → Integer z ≡ number (nat_abs z)
-as_number lo hi z w = ap Integer (w.is ∙ ap (λ y. pos (nat_abs y)) (sym w.is))
-
-first_car : (c : Config) → HasSizes c → fields_of (opening_image (sizes_of c)) 1 ≡ opening_car
-first_car c s = ap (λ z. fields_of (opening_image (record { cars = nat_abs z; floors = (sizes_of c).floors; slots = (sizes_of c).slots })) 1) s.cars
-
-first_outputs : (c : Config) → HasSizes c → outputs_of (opening_image (sizes_of c)) 1 ≡ opening_outputs
-first_outputs c s = ap (λ z. outputs_of (opening_image (record { cars = nat_abs z; floors = (sizes_of c).floors; slots = (sizes_of c).slots })) 1) s.cars
-
-regroup : (a b d e r : List (Text × Value)) → ((a ++ b) ++ d) ++ e ++ r ≡ (a ++ (b ++ (d ++ e))) ++ r
-regroup a b d e r = simp append_assoc
-
-entries_are : (c : Config) → HasSizes c → image_entries (sizes_of c) 1 (opening_image (sizes_of c)) (opening_calls (sizes_of c)).slots ≡ opening_entries c
-entries_are c s =
-    let n = (sizes_of c).slots in
-    let cars : Integer c.cars.value ≡ number (sizes_of c).cars = ap Integer (s.cars ∙ ap (λ y. pos (nat_abs y)) (sym s.cars)) in
-    rw (cars, as_number 2 16 c.floors.value s.floors, as_number 1 64 c.slots.value s.slots, mapped (λ x. Boolean (waits x)) n Free, mapped (λ x. number (from_of x)) n Free, mapped (λ x. number (to_of x)) n Free, mapped (λ x. number (car_of x)) n Free, first_car c s, first_outputs c s)
-    (ap (λ es. (codes "CARS", number (sizes_of c).cars) ∷ (codes "FLOORS", number (sizes_of c).floors) ∷ (codes "SLOTS", number (sizes_of c).slots) ∷ (codes "NOW", number 0) ∷ (codes "RUNLIMIT", number (sizes_of c).cars) ∷ es)
-    (regroup (row_entries (codes "CALLWAITS") n (Boolean false)) (row_entries (codes "CALLFROM") n (number 0)) (row_entries (codes "CALLTO") n (number 0)) (row_entries (codes "CALLCAR") n (number 0)) (car_entries 1 opening_car opening_outputs)))
+entries_are : (sizes : Sizes) (image : Image) (slots : List Slot) → image_entries sizes 1 image slots ≡ first_entries sizes image ++ (call_entries slots ++ car_entries 1 (fields_of image 1) (outputs_of image 1))
+entries_are sizes image slots =
+    ap (λ l. first_entries sizes image ++ l)
+    (regroup (elements_of (codes "CALLWAITS") 1 (map (λ s. Boolean (waits s)) slots)) (elements_of (codes "CALLFROM") 1 (map (λ s. number (from_of s)) slots)) (elements_of (codes "CALLTO") 1 (map (λ s. number (to_of s)) slots))
+    (elements_of (codes "CALLCAR") 1 (map (λ s. number (car_of s)) slots)) (car_entries 1 (fields_of image 1) (outputs_of image 1)))
 
 are_append : (xs ys : List Cell) (vs ws : List (Text × Value)) → AreOf xs vs → AreOf ys ws → AreOf (xs ++ ys) (vs ++ ws)
 are_append [] ys [] ws all more = more
@@ -131,48 +71,36 @@ are_append [] ys (v ∷ vs) ws all more = absurd all
 are_append (x ∷ xs) ys [] ws all more = absurd all
 are_append (x ∷ xs) ys (v ∷ vs) ws all more = (all.0, all.1, are_append xs ys vs ws all.2 more)
 
-are_elements : (n : ℕ) (name : Text) (k : ℕ) (s : Scalar) (v : Value) → HasKind s v → AreOf (element_cells n name (pos k) s) (elements_of name k (replicate n v))
-are_elements zero name k s v kind = tt
-are_elements (suc n) name k s v kind = (refl, kind, are_elements n name (k + 1) s v kind)
+are_elements : (n : ℕ) (name : Text) (k : ℕ) (s : Scalar) (f : Slot → Value) (slots : List Slot) → length slots ≡ n → ((x : Slot) → HasKind s (f x)) → AreOf (element_cells n name (pos k) s) (elements_of name k (map f slots))
+are_elements zero name k s f [] is kind = tt
+are_elements zero name k s f (x ∷ slots) is kind = cc
+are_elements (suc n) name k s f [] is kind = cc
+are_elements (suc n) name k s f (x ∷ slots) is kind = (refl, kind x, are_elements n name (k + 1) s f slots (cc) kind)
 
-are_calls : (n : ℕ) (cars floors : ℤ) → AreOf (call_cells n cars floors) (free_entries n)
-are_calls n cars floors =
-    are_append (element_cells n (codes "CALLWAITS") (pos 1) _) _ (row_entries (codes "CALLWAITS") n (Boolean false)) _ (are_elements n (codes "CALLWAITS") 1 _ (Boolean false) refl)
-    (are_append (element_cells n (codes "CALLFROM") (pos 1) _) _ (row_entries (codes "CALLFROM") n (number 0)) _ (are_elements n (codes "CALLFROM") 1 _ (number 0) refl)
-    (are_append (element_cells n (codes "CALLTO") (pos 1) _) _ (row_entries (codes "CALLTO") n (number 0)) _ (are_elements n (codes "CALLTO") 1 _ (number 0) refl) (are_elements n (codes "CALLCAR") 1 _ (number 0) refl)))
+are_calls : (n : ℕ) (cars floors : ℤ) (slots : List Slot) → length slots ≡ n → AreOf (call_cells n cars floors) (call_entries slots)
+are_calls n cars floors slots is =
+    are_append (element_cells n (codes "CALLWAITS") (pos 1) _) _ (elements_of (codes "CALLWAITS") 1 (map (λ s. Boolean (waits s)) slots)) _ (are_elements n (codes "CALLWAITS") 1 _ (λ s. Boolean (waits s)) slots is (λ x. refl))
+    (are_append (element_cells n (codes "CALLFROM") (pos 1) _) _ (elements_of (codes "CALLFROM") 1 (map (λ s. number (from_of s)) slots)) _ (are_elements n (codes "CALLFROM") 1 _ (λ s. number (from_of s)) slots is (λ x. refl))
+    (are_append (element_cells n (codes "CALLTO") (pos 1) _) _ (elements_of (codes "CALLTO") 1 (map (λ s. number (to_of s)) slots)) _ (are_elements n (codes "CALLTO") 1 _ (λ s. number (to_of s)) slots is (λ x. refl))
+    (are_elements n (codes "CALLCAR") 1 _ (λ s. number (car_of s)) slots is (λ x. refl))))
 
-are_car : (cars floors slots : ℤ) → AreOf (car_cells cars floors slots) (car_entries 1 opening_car opening_outputs)
-are_car cars floors slots = ((refl, refl, (refl, refl, (refl, refl, (refl, refl, (refl, refl, (refl, refl, (refl, refl, (refl, refl, (refl, refl, (refl, refl, tt)))))))))))
+are_car : (cars floors slots : ℤ) (fields : CarFields) (outputs : CarOutputs) → AreOf (car_cells cars floors slots) (car_entries 1 fields outputs)
+are_car cars floors slots fields outputs = ((refl, refl, (refl, refl, (refl, refl, (refl, refl, (refl, refl, (refl, refl, (refl, refl, (refl, refl, (refl, refl, (refl, refl, tt)))))))))))
 
 pub width_is : (c : Config) → HasSizes c → width_of c.slots.value ≡ (sizes_of c).slots
 width_is c s = ap width_of s.slots.is ∙ ap nat_abs (sym s.slots.is)
 
-are_image : (c : Config) → HasSizes c → AreOf (image_cells c) (opening_entries c)
-are_image c s = (
-  refl,
-  refl,
-  (
-    refl,
-    refl,
-    (
-      refl,
-      refl,
-      (
-        refl,
-        refl,
-        (
-          refl,
-          refl,
-          are_append (call_cells (width_of c.slots.value) c.cars.value c.floors.value) (car_cells c.cars.value c.floors.value c.slots.value) (free_entries (sizes_of c).slots) (car_entries 1 opening_car opening_outputs)
-              (subst (λ n. AreOf (call_cells n c.cars.value c.floors.value) (free_entries (sizes_of c).slots)) (sym (width_is c s)) (are_calls (sizes_of c).slots c.cars.value c.floors.value)) (are_car c.cars.value c.floors.value c.slots.value),
-        ),
-      ),
-    ),
-  ),
-)
+-- the image has a value for each of its slots, of its kind
+pub are_image : (c : Config) → HasSizes c → (image : Image) (slots : List Slot) → length slots ≡ (sizes_of c).slots → AreOf (image_cells c) (image_entries (sizes_of c) 1 image slots)
+are_image c s image slots long =
+    subst (AreOf (image_cells c)) (sym (entries_are (sizes_of c) image slots))
+    (are_append (number_cells c.cars.value c.floors.value c.slots.value) (call_cells (width_of c.slots.value) c.cars.value c.floors.value ++ car_cells c.cars.value c.floors.value c.slots.value) (first_entries (sizes_of c) image)
+    (call_entries slots ++ car_entries 1 (fields_of image 1) (outputs_of image 1)) (refl, refl, (refl, refl, (refl, refl, (refl, refl, (refl, refl, tt)))))
+    (are_append (call_cells (width_of c.slots.value) c.cars.value c.floors.value) (car_cells c.cars.value c.floors.value c.slots.value) (call_entries slots) (car_entries 1 (fields_of image 1) (outputs_of image 1))
+    (are_calls (width_of c.slots.value) c.cars.value c.floors.value slots (long ∙ sym (width_is c s))) (are_car c.cars.value c.floors.value c.slots.value (fields_of image 1) (outputs_of image 1))))
 
 -- rows of values fit the slots of their paths
-fits_of : (xs : List Cell) (vs : List (Text × Value)) → AreOf xs vs → Fits xs (first_rows vs)
+pub fits_of : (xs : List Cell) (vs : List (Text × Value)) → AreOf xs vs → Fits xs (first_rows vs)
 fits_of [] [] all = record { numbers = refl; flags = refl }
 fits_of [] (v ∷ vs) all = absurd all
 fits_of (x ∷ xs) [] all = absurd all
@@ -232,11 +160,6 @@ module _ (inner : Text → Text → List Cell) (q : Text) where
   view_has [] all zs bs n m = refl
   view_has (e ∷ es) all zs bs n m = one_more e.name e.form all.0 es zs bs n m (view_has es all.1)
 
--- one value more of a row
-pub next_row : (r s initial : Rows) (slot slots : ℕ) (v : Value) → slot < slots → s ≡ with_value r v → with_row r (slots - slot) v ≡ with_row initial slots v → with_row s (slots - (slot + 1)) v ≡ with_row initial slots v
-next_row r s initial slot slots v low is rest =
-    ap (λ x. with_row x (slots - (slot + 1)) v) is ∙ (let more : suc (slots - (slot + 1)) ≡ slots - slot = omega (arith, low) in ap (λ n. with_row r n v) more) ∙ rest
-
 some_form : {A B : Type 0} (f : A → B) (o : Option A) → is_some (option_map f o) ≡ is_some o
 some_form f None = refl
 some_form f (Some x) = refl
@@ -245,25 +168,12 @@ or_none : (o : Option Form) → or_else o None ≡ o
 or_none None = refl
 or_none (Some f) = refl
 
-car_name : task_name 1 ≡ codes "CAR1"
-unfolding digits
-car_name = refl
-
 module _ (c : Config) (runs : IsRunnable c) where
   abbrev u : Organized
   u = runs.checked.resolved.program
 
   abbrev first : Rows
   first = first_rows (own_values c u)
-
-  abbrev image : Rows
-  image = first_rows (opening_entries c)
-
-  pub program : program_of c 1 ≡ Some u
-  program = ap (task_program c) car_name ∙ runs.tasked.car
-
-  pub opened_rows : with_image c first ≡ joined first image
-  opened_rows = image_is c first
 
   instances_are : (n : ℕ) (path block : Text) → AreOf (instance_cells n c path block) (instance_values n c path block)
   instances_are zero path block = tt
@@ -272,33 +182,19 @@ module _ (c : Config) (runs : IsRunnable c) where
   among : Contains c.units u
   among = subst (λ us. Contains us u) (sym runs.checked.resolved.is.alone) (at_head u [])
 
-  first_fits : Fits (own_cells c u) first
+  pub first_fits : Fits (own_cells c u) first
   first_fits = fits_of (own_cells c u) (own_values c u) (entities_of (instance_cells depth c) (instance_values depth c) (instances_are depth) [] (own_entities u) (own_initial c runs.accepted.declared u among))
 
-  image_fits : Fits (seen_cells c u) image
-  image_fits = subst (λ xs. Fits xs image) (sym (image_laid c u (flattened c runs))) (fits_of (image_cells c) (opening_entries c) (are_image c runs.sizes))
-
   pub opened_own : FitsOwn c 1 first
-  opened_own = (u, program, first_fits)
-
-  pub opened_seen : FitsSeen c 1 image
-  opened_seen = (u, program, image_fits)
+  opened_own = (u, car_program c runs, first_fits)
 
   -- the first rows show the variables
   opens_variables : own_view c (Some u) first ≡ opening_variables c u
   unfolding own_view
   opens_variables = own_opening c u (flattened c runs)
 
-  -- and the image
-  opens_image : seen_view c (Some u) image ≡ shown_of c (opening_image (sizes_of c))
-  unfolding seen_view shown_of
-  opens_image = ap (λ xs. view xs image) (image_laid c u (flattened c runs)) ∙ shown (image_cells c) (opening_entries c) (are_image c runs.sizes) ∙ ap from_entries (sym (entries_are c runs.sizes))
-
   pub variables_open_so : variables_in c 1 first ≡ opening_variables c u
-  variables_open_so = ap (λ o. own_view c o first) program ∙ opens_variables
-
-  pub image_opens_so : image_in c 1 image ≡ shown_of c (opening_image (sizes_of c))
-  image_opens_so = ap (λ o. seen_view c o image) program ∙ opens_image
+  variables_open_so = ap (λ o. own_view c o first) (car_program c runs) ∙ opens_variables
 
   scalars : AllScalar (own_entities u)
   scalars =
@@ -316,5 +212,5 @@ module _ (c : Config) (runs : IsRunnable c) where
 
   pub opened_declared : OwnsDeclared c (variables_in c 1 first)
   opened_declared = λ v is.
-      subst (λ o. HoldsOwn c v (own_view c o first)) (sym program) (subst (λ w. HoldsOwn c w (own_view c (Some u) first)) (same_program c u v runs.checked.resolved.is is)
+      subst (λ o. HoldsOwn c v (own_view c o first)) (sym (car_program c runs)) (subst (λ w. HoldsOwn c w (own_view c (Some u) first)) (same_program c u v runs.checked.resolved.is is)
       (record { paths = paths_are first first_fits; each = subst (HoldsTask c u) (sym opens_variables) (variables_open c u runs.accepted) }))

@@ -1,5 +1,5 @@
 -- Values that stand over others, and rows in two parts.
-use Rattle.std.proofs.Common.{◌≡◌, ℕ, zero, suc, ◌≤◌, Bool, true, false, List, [], ◌∷◌, ◌++◌, take, drop, length, refl, sym, ap, ◌∙◌, cond, Some, None, Option, ℤ, arith}
+use Rattle.std.proofs.Common.{◌≡◌, ℕ, ◌≤◌, Bool, true, false, List, [], ◌∷◌, ◌++◌, map, take, drop, length, refl, sym, ap, ◌∙◌, cond, Some, None, Option, ℤ, arith}
 use Rattle.std.proofs.lemmas.List.{length-take, length-append}
 use Rattle.std.specs.Prelude.{is_some}
 use Rattle.std.specs.Ordering.{eq_by_cmp}
@@ -9,10 +9,11 @@ use Rattle.il_rules.specs.Declarations.{declared_limits}
 use Rattle.il_run.specs.declared.value.Value.{Value}
 use Rattle.il_run.specs.NameMap.{Text, order, get, insert, empty, from_entries, with_entries, get-empty, get-insert, same_map}
 use Rattle.il_run.specs.State.{Values}
+use Rattle.il_run.specs.Scan.{entries_at, restricted}
 use Rattle.il_table.specs.ByText.{HaveSameNames}
 use Rattle.il_table.proofs.Copies.{same_text, same_names-insert}
 use Rattle.il_code.specs.declared.flat.Cell.{Cell}
-use Rattle.il_code.specs.Layout.{Rows, rows, Fits, value_by, view_of, view}
+use Rattle.il_code.specs.Layout.{Rows, Fits, value_by, view_of, view}
 use Rattle.il_machine.specs.Scanning.{over, front, behind}
 
 or_else_cond : (b : Bool) (v : Value) (o p : Option Value) → cond b (Some v) (or_else o p) ≡ or_else (cond b (Some v) o) p
@@ -104,3 +105,36 @@ same_names_of (c ∷ cs) (z ∷ zs) (y ∷ ys) (b ∷ bs) (a ∷ ds) n f m g = �
 -- rows of the same slots hold the same paths
 pub same_names : (cells : List Cell) (r s : Rows) → Fits cells r → Fits cells s → HaveSameNames (view cells r) (view cells s)
 same_names cells r s fits also = same_names_of cells r.numbers s.numbers r.flags s.flags fits.numbers fits.flags also.numbers also.flags
+
+-- WHAT A SCAN LEAVES
+
+none_cond : (b : Bool) → ◌≡◌ {A = Option Value} (cond b None None) None
+none_cond true = refl
+none_cond false = refl
+
+-- what is left of the entries of a map's paths
+get_entries_at : (end : Values) (es : List (Text × Value)) (q : Text) → get (from_entries (entries_at end (map (λ e. e.0) es))) q ≡ cond (is_some (find order q es)) (get end q) None
+get_entries_at end [] q = get-empty q
+get_entries_at end (e ∷ es) q = by (get_entries_at end es q) (get end e.0) refl
+  where
+    by : (get (from_entries (entries_at end (map (λ e. e.0) es))) q ≡ cond (is_some (find order q es)) (get end q) None) → (o : Option Value) → get end e.0 ≡ o
+        → get (from_entries (entries_at end (map (λ e. e.0) (e ∷ es)))) q ≡ cond (is_some (cond (eq_by_cmp order q e.0) (Some e.1) (find order q es))) (get end q) None
+    by rest None is = rw is (rest ∙ elim (eq_by_cmp order q e.0) as (λ b. eq_by_cmp order q e.0 ≡ b → cond (is_some (find order q es)) (get end q) None ≡ cond (is_some (cond b (Some e.1) (find order q es))) (get end q) None) [
+      | true ↦ λ same. ap (λ x. cond (is_some (find order q es)) x None) (ap (get end) (same_text q e.0 same) ∙ is) ∙ none_cond (is_some (find order q es)) ∙ sym (ap (get end) (same_text q e.0 same) ∙ is)
+      | false ↦ λ _. refl
+    ] refl)
+    by rest (Some v) is = rw is (get-insert (from_entries (entries_at end (map (λ e. e.0) es))) e.0 v q ∙ elim (eq_by_cmp order q e.0) as (λ b. eq_by_cmp order q e.0 ≡ b → cond b (Some v) (get (from_entries (entries_at end (map (λ e. e.0) es))) q) ≡ cond (is_some (cond b (Some e.1) (find order q es))) (get end q) None) [
+      | true ↦ λ same. sym (ap (get end) (same_text q e.0 same) ∙ is)
+      | false ↦ λ _. rest
+    ] refl)
+
+-- a commit keeps the variables that the scan left
+pub restricted_is : (start left written : Values) → HaveSameNames left start → restricted start (over written left) ≡ left
+unfolding restricted get
+restricted_is start left written same = same_map _ _ (λ q. get_entries_at (over written left) start.list q ∙ ap (λ o. cond (is_some (get start q)) o None) (get-over written left q) ∙ by q (get left q) refl (is_some (get start q)) refl)
+  where
+    by : (q : Text) (o : Option Value) → get left q ≡ o → (b : Bool) → is_some (get start q) ≡ b → cond b (or_else o (get written q)) None ≡ o
+    by q None is true there = let bad : false ≡ true = sym (ap is_some is) ∙ same q ∙ there in cc
+    by q None is false there = refl
+    by q (Some v) is true there = refl
+    by q (Some v) is false there = let bad : true ≡ false = sym (ap is_some is) ∙ same q ∙ there in cc

@@ -1,5 +1,5 @@
 -- What rows hold of a variable is what its slot holds.
-use Rattle.std.proofs.Common.{◌≡◌, ℕ, zero, suc, Bool, true, false, List, [], ◌∷◌, ◌++◌, length, slice_get, refl, sym, ap, ◌∙◌, cond, Some, None, Option, ℤ}
+use Rattle.std.proofs.Common.{◌≡◌, ℕ, suc, Bool, true, false, List, [], ◌∷◌, ◌++◌, length, slice_get, refl, sym, ap, ◌∙◌, cond, Some, None, Option, ℤ}
 use Rattle.std.specs.Prelude.{option_map, option_and_then, bytes_eq, if◌then◌else◌}
 use Rattle.std.specs.Ordering.{eq_by_cmp}
 use Rattle.std.proofs.lemmas.Slice.Eq.{bytes_eq-Decides}
@@ -8,7 +8,7 @@ use Rattle.il_run.specs.declared.value.Value.{Value}
 use Rattle.il_run.specs.NameMap.{Text, order, get, get-empty, get-insert}
 use Rattle.il_table.proofs.Copies.{same_text}
 use Rattle.il_code.specs.declared.flat.Cell.{Cell}
-use Rattle.il_code.specs.Layout.{Rows, rows, Fits, view_of, value_by}
+use Rattle.il_code.specs.Layout.{Rows, rows, view_of, value_by}
 use Rattle.il_code.specs.Paths.{slot_at}
 use Rattle.il_code.proofs.Kept.{itself}
 use Rattle.il_machine.specs.Effect.{with_some}

@@ -1,63 +1,41 @@
 -- A step of a program's scan.
-use Rattle.std.proofs.Common.{◌≡◌, ◌≢◌, ◌<◌, ◌≤◌, ℕ, zero, suc, ◌+◌, Bool, true, false, List, [], ◌∷◌, ◌++◌, map, take, length, slice_get, refl, sym, ap, ap₂, ◌∙◌, cond, Some, None, Option, subst, arith}
-use Rattle.std.proofs.lemmas.Option.{slice_get_within, get_or_from_slice_get}
-use Rattle.std.proofs.lemmas.List.Elements.{Contains-get_or}
-use Rattle.std.specs.Prelude.{not, is_some, IsSome, Contains, find, bytes_eq, if◌then◌else◌, option_map}
-use Rattle.std.specs.Ordering.{eq_by_cmp}
+use Rattle.std.proofs.Common.{◌≡◌, ◌≢◌, ◌<◌, ◌≤◌, ℕ, suc, ◌+◌, Bool, true, false, List, [], ◌∷◌, map, length, slice_get, refl, sym, ap, ap₂, ◌∙◌, Some, None, Option, subst, arith}
+use Rattle.std.proofs.lemmas.Option.{slice_get_within}
+use Rattle.std.specs.Prelude.{find, bytes_eq, if◌then◌else◌}
 use Rattle.il_spec.specs.declared.tree.Config.{Config}
 use Rattle.il_spec.specs.declared.tree.Unit.{Unit as Organized}
-use Rattle.il_spec.specs.declared.tree.Form.{Form}
-use Rattle.il_spec.specs.declared.tree.Form.TheVariants.{Scalar as ScalarForm, Array as ArrayForm, Block as BlockForm}
-use Rattle.il_spec.specs.declared.tree.Scalar.{Scalar}
-use Rattle.il_spec.specs.declared.tree.Elementary.TheVariants.{Bool as BoolType}
-use Rattle.il_spec.specs.declared.tree.Reference.{Reference}
-use Rattle.il_spec.specs.declared.tree.Reference.TheVariants.{Literal as OfLiteral, Variable as OfVariable, Element, Member}
 use Rattle.il_spec.specs.declared.tree.Step.{Step as BodyStep}
-use Rattle.il_spec.specs.declared.tree.Operand.{Operand as Written}
-use Rattle.il_spec.specs.declared.tree.Store.{Store as StoreKind}
-use Rattle.il_spec.specs.declared.tree.Store.TheVariants.{Plain, Negated, Set, Reset}
 use Rattle.il_spec.specs.declared.tree.Condition.TheVariants.{Always}
 use Rattle.il_spec.specs.declared.tree.Instruction.{Instruction}
 use Rattle.il_spec.specs.declared.tree.Instruction.TheVariants.{Load, Store, Not, Operate, Defer, Evaluate, Jump, Return, Call, Invoke}
-use Rattle.il_spec.specs.ElementaryTypes.{is_same_type}
-use Rattle.il_rules.specs.Names.{Limited, standard_function, is_one_of, is_predeclared, own_variable, form_named, unit_named}
-use Rattle.il_rules.specs.Faults.{HasNoFault}
+use Rattle.il_rules.specs.Names.{is_predeclared, unit_named}
 use Rattle.il_rules.specs.Symbols.{IsProgram}
-use Rattle.il_rules.specs.Subset.{IsSupportedProgram, IsSupportedInstruction, IsSupportedStore, IsSupportedPlace, supported_image_names, reference_names, instruction_names, unsupported, BreaksInSubset}
-use Rattle.il_rules.proofs.Straight.{step_supported, among_units}
-use Rattle.il_run.specs.declared.value.Value.{Value}
-use Rattle.il_run.specs.declared.value.Value.TheVariants.{Boolean, Integer}
+use Rattle.il_rules.specs.Subset.{IsSupportedProgram, IsSupportedInstruction}
+use Rattle.il_rules.proofs.Straight.{step_supported}
 use Rattle.il_run.specs.declared.value.Content.{Content}
-use Rattle.il_run.specs.NameMap.{Text, order, get, insert, get-insert}
-use Rattle.il_run.specs.Values.{is_of}
-use Rattle.il_run.specs.State.{Values, Frame, State}
-use Rattle.il_run.specs.Meaning.{direct, denotation}
-use Rattle.il_run.specs.Scan.{HasEnded}
-use Rattle.il_run.specs.Step.{Outcome, Next, Trapped, Stuck, WrongKind, OutsideSubrange, Scene, at as at_path, truth, with_result, with_boolean, with_location, with_unit, stored as stored_at, stored_by, instruction_or_return, instruction_at, goes_on, executed, step_of, step}
+use Rattle.il_run.specs.NameMap.{Text}
+use Rattle.il_run.specs.State.{Frame, State}
+use Rattle.il_run.specs.Step.{Outcome, Next, Trapped, Stuck, Scene, with_unit, instruction_or_return, instruction_at, executed, step_of, step}
 use Rattle.il_run.specs.Annotation.{Annotated}
-use Rattle.il_table.specs.ByText.{HaveSameNames}
-use Rattle.il_table.proofs.Copies.{same_text}
 use Rattle.il_sound.specs.Agreement.{Agrees, left}
 use Rattle.il_sound.specs.Accepted.{IsAccepted}
-use Rattle.il_sound.specs.Soundness.{StepsWell, StepIsSound}
+use Rattle.il_sound.specs.Soundness.{StepsWell}
 use Rattle.il_sound.proofs.Scanning.{step_sound}
 use Rattle.il_sound.proofs.Premises.{in_order}
 use Rattle.il_code.specs.declared.flat.UnitCode.{UnitCode}
-use Rattle.il_code.specs.declared.flat.Flat.{Flat}
 use Rattle.il_code.specs.Layout.{Rows, Fits, view}
 use Rattle.il_code.specs.Flattened.{Names, applies, flat, HasCells, IsPlaced}
 use Rattle.il_code.specs.Coded.{Code, IsRunnable, IsUnit}
 use Rattle.il_code.specs.Whole.{number_in, unit_code}
 use Rattle.il_code.specs.Program.{own_cells, seen_cells, program_cells, program_names, program_code}
-use Rattle.il_code.specs.Resolved.{IsFlattened}
 use Rattle.il_machine.specs.declared.frames.Frame.{Frame as FlatFrame}
 use Rattle.il_machine.specs.declared.frames.Pair.{Pair}
 use Rattle.il_machine.specs.declared.frames.Suspended.{Suspended}
-use Rattle.il_machine.specs.Effect.{with_some, gives, effect}
-use Rattle.il_machine.specs.Going.{Stored, going, forward, instruction_of, done, next}
+use Rattle.il_machine.specs.Effect.{with_some, effect}
+use Rattle.il_machine.specs.Going.{Stored, going, forward, done, next}
 use Rattle.il_machine.specs.Framing.{name_of_code, frame_over, framed, all_frames, state_by, IsFramed}
-use Rattle.il_machine.specs.Scanning.{HasCode, KeepsUnseen, Kept, state_of, frames_at, over, front, behind, own_view, seen_view, kept_by, place_of, IsFrameOf, IsScanState}
-use Rattle.il_machine.proofs.Does.{test_holds, GoesOn, Does, does}
+use Rattle.il_machine.specs.Scanning.{HasCode, state_of, frames_at, over, front, behind, own_view, seen_view, kept_by, place_of, IsFrameOf, IsScanState}
+use Rattle.il_machine.proofs.Does.{GoesOn, does}
 use Rattle.il_machine.proofs.Steps.{cells_of, next_by}
 use Rattle.il_machine.proofs.Over.{parts_are}
 
@@ -89,66 +67,10 @@ same_next a b e = cc
 
 -- SOUNDNESS
 
-next_of : (c : Config) (u : Organized) (before : ℕ) (o : Outcome) → StepsWell c u before o → (t : State) × (o ≡ Next t) × Agrees c u t
-next_of c u before (Next t) well = (t, refl, well.0)
+next_of : (c : Config) (u : Organized) (before : ℕ) (o : Outcome) → StepsWell c u before o → (t : State) × (o ≡ Next t) × Agrees c u t × (left c t.frames < before)
+next_of c u before (Next t) well = (t, refl, well.0, well.1)
 next_of c u before (Trapped trap) well = absurd well
 next_of c u before Stuck well = absurd well
-
--- NAMES THAT THE PROGRAM CAN'T NAME
-
--- another name has what it had
-insert_apart : (values : Values) (name q : Text) (v : Value) → (q ≡ name → ⊥) → get (insert values name v) q ≡ get values q
-insert_apart values name q v apart =
-    get-insert values name v q ∙ by_test (eq_by_cmp order q name) refl
-  where
-    by_test : (b : Bool) → eq_by_cmp order q name ≡ b → cond (eq_by_cmp order q name) (Some v) (get values q) ≡ get values q
-    by_test true e = absurd (apart (same_text q name e))
-    by_test false e = ap (λ b. cond b (Some v) (get values q)) e
-
-module _ (c : Config) (u : Organized) (n : Text) (place : ℕ) (below : List Frame) (values : Values) (result : Option Content) where
-  abbrev at_place : Scene
-  at_place = record { config = c; unit = u; frame = record { unit = n; path = []; place = place; deferred = [] }; below = below; values = values; result = result }
-
-  -- a store into a name leaves another what it had
-  stored_apart : (name : Text) (sc : Scalar) (x : Content) (t : State) (q : Text) → stored_at values (at_path name sc) x (λ v. goes_on at_place v result) ≡ Next t → (q ≡ name → ⊥) → get t.values q ≡ get values q
-  stored_apart name sc x t q h apart =
-      let typed = test_holds (is_same_type sc.elementary x.elementary) WrongKind _ t h in
-      let ranged = test_holds (is_of sc x.value) OutsideSubrange _ t typed.1 in
-      ap (λ (v : State). get v.values q) (sym (same_next _ _ ranged.1)) ∙ insert_apart values name q x.value apart
-
-  negated_apart : (name : Text) (sc : Scalar) (v : Value) (t : State) (q : Text) → with_boolean v (λ b. stored_at values (at_path name sc) (truth (not b)) (λ w. goes_on at_place w result)) ≡ Next t → (q ≡ name → ⊥) → get t.values q ≡ get values q
-  negated_apart name sc (Boolean b) t q h apart = stored_apart name sc (truth (not b)) t q h apart
-  negated_apart name sc (Integer z) t q h apart = cc
-
-  kind_apart : (kind : StoreKind) → IsSupportedStore kind → (name : Text) (sc : Scalar) (x : Content) (t : State) (q : Text) → stored_by kind values (at_path name sc) x (λ v. goes_on at_place v result) ≡ Next t → (q ≡ name → ⊥) → get t.values q ≡ get values q
-  kind_apart Plain is name sc x t q h apart = stored_apart name sc x t q h apart
-  kind_apart Negated is name sc x t q h apart = negated_apart name sc x.value t q h apart
-  kind_apart Set is name sc x t q h apart = absurd is
-  kind_apart Reset is name sc x t q h apart = absurd is
-
-  name_apart : (kind : StoreKind) → IsSupportedStore kind → (name : Text) (o : Option Form) (x : Content) (t : State) (q : Text) → with_location [] values (direct name o) (λ l. stored_by kind values l x (λ v. goes_on at_place v result)) ≡ Next t → (q ≡ name → ⊥) → get t.values q ≡ get values q
-  name_apart kind is name None x t q h apart = cc
-  name_apart kind is name (Some (ArrayForm bounds element)) x t q h apart = cc
-  name_apart kind is name (Some (BlockForm block)) x t q h apart = cc
-  name_apart kind is name (Some (ScalarForm sc)) x t q h apart = kind_apart kind is name sc x t q h apart
-
-  -- an instruction of the subset stores into no other name than its own
-  reference_apart : (kind : StoreKind) → IsSupportedStore kind → (r : Reference) → IsSupportedPlace r → (x : Content) (t : State) (q : Text) → with_location [] values (denotation c u r) (λ l. stored_by kind values l x (λ v. goes_on at_place v result)) ≡ Next t
-      → ¬ Contains (reference_names r) q → get t.values q ≡ get values q
-  reference_apart kind is (OfLiteral l) place_is x t q h apart = absurd place_is
-  reference_apart kind is (Element name index) place_is x t q h apart = absurd place_is
-  reference_apart kind is (Member name word) place_is x t q h apart = absurd place_is
-  reference_apart kind is (OfVariable name) place_is x t q h apart = name_apart kind is name (form_named c u name) x t q h (λ same. apart (0, omega arith, sym same))
-
-  store_apart : (kind : StoreKind) (to : Written) → IsSupportedInstruction (Store kind to) → (o : Option Content) (t : State) (q : Text) → o ≡ result → with_result o (λ x. with_location [] values (denotation c u to.reference) (λ l. stored_by kind values l x (λ v. goes_on at_place v result))) ≡ Next t
-      → ¬ Contains (reference_names to.reference) q → get t.values q ≡ get values q
-  store_apart kind to is None t q same h apart = cc
-  store_apart kind to is (Some x) t q same h apart = reference_apart kind is.0 to.reference is.1 x t q h apart
-
--- the rows stay
-same_rows : (r after : Rows) (o : Option Content) (l : Content) → gives r o ≡ Some (after, l) → r ≡ after
-same_rows r after None l e = cc
-same_rows r after (Some x) l e = let p : ◌≡◌ {A = Rows × Content} (r, x) (after, l) = cc in ap (λ p. p.0) p
 
 -- STEPS
 
@@ -191,12 +113,8 @@ pub record Goes (c : Config) (u : Organized) (s : Stored) : Type 0 where
   pub next_is : next (program_code c u).units s ≡ Some after
   pub scan : IsScanState c u after
   pub step_is : step c (state_of (kept_by c (Some u) s)) ≡ Next (state_of (kept_by c (Some u) after))
-  pub unseen : KeepsUnseen c (over (kept_by c (Some u) s).written (kept_by c (Some u) s).variables) (over (kept_by c (Some u) after).written (kept_by c (Some u) after).variables)
 
-contained : (steps : List BodyStep) (at : ℕ) (s : BodyStep) → slice_get steps at ≡ Some s → Contains steps s
-contained steps at s e = subst (Contains steps) (get_or_from_slice_get steps at s s e) (Contains-get_or steps at s (slice_get_within steps at s e))
-
-module _ (c : Config) (u : Organized) (program : IsProgram c u) (supported : IsSupportedProgram u) (declared : HasNoFault (BreaksInSubset c)) (has : HasCode c u) where
+module _ (c : Config) (u : Organized) (program : IsProgram c u) (supported : IsSupportedProgram u) (has : HasCode c u) where
   abbrev p : Code
   p = program_code c u
 
@@ -241,7 +159,7 @@ module _ (c : Config) (u : Organized) (program : IsProgram c u) (supported : IsS
       ap (λ v. record { values = v; frames = framed c p.units (all_frames s.running s.pairs s.callers); result = s.result }) (sym (values_are s.rows fits))
       ∙ ap (λ fs. record { values = over (kept_by c (Some u) s).written (kept_by c (Some u) s).variables; frames = fs; result = s.result }) (frames_are s.running frame s.pairs s.callers no_pairs no_callers)
 
-  module _ (r : Rows) (f : FlatFrame) (result : Option Content) (scan : IsScanState c u (going r f [] [] result)) (t : State) (leads : step c (state_of (kept_by c (Some u) (going r f [] [] result))) ≡ Next t) (well : Agrees c u t) where
+  module _ (r : Rows) (f : FlatFrame) (result : Option Content) (scan : IsScanState c u (going r f [] [] result)) (t : State) (leads : step c (state_of (kept_by c (Some u) (going r f [] [] result))) ≡ Next t) (well : Agrees c u t) (fewer : left c t.frames < left c (frames_at u.name.name (Some f.place))) where
     abbrev own : IsFramed p has.code.names [] f
     own = frame_is f scan.frame
 
@@ -268,19 +186,16 @@ module _ (c : Config) (u : Organized) (program : IsProgram c u) (supported : IsS
         ∙ ap (λ (s : State). step_of c s.values s.result s.frames) (state_is (going r f [] [] result) scan.fits scan.frame refl refl) ∙ leads
 
     -- what is left is a scan's store again
-    finished : (after : Stored) → next p.units (going r f [] [] result) ≡ Some after → Fits (program_cells c u) after.rows → IsFrameOf c u after.running → after.pairs ≡ [] → after.callers ≡ [] → state_by p after ≡ t
-        → ((q : Text) → own_variable u q ≡ None → is_one_of supported_image_names q ≡ false → get t.values q ≡ get (view (program_cells c u) r) q) → Goes c u (going r f [] [] result)
-    finished after next_is fits frame_so no_pairs no_callers same unseen =
+    finished : (after : Stored) → next p.units (going r f [] [] result) ≡ Some after → Fits (program_cells c u) after.rows → IsFrameOf c u after.running → after.pairs ≡ [] → after.callers ≡ [] → state_by p after ≡ t → Goes c u (going r f [] [] result)
+    finished after next_is fits frame_so no_pairs no_callers same =
         let kept = state_is after fits frame_so no_pairs no_callers in
+        let frames = ap (λ (x : State). left c x.frames) (sym same ∙ kept) in
+        let before = scan.budget in
         record {
           after = after;
           next_is = next_is;
-          scan = record { fits = fits; frame = frame_so; callers = no_callers; pairs = no_pairs; agrees = subst (Agrees c u) (sym same ∙ kept) well };
+          scan = record { fits = fits; frame = frame_so; callers = no_callers; pairs = no_pairs; agrees = subst (Agrees c u) (sym same ∙ kept) well; budget = omega (arith, frames, before, fewer) };
           step_is = leads ∙ ap Next (sym same ∙ kept);
-          unseen = λ v other q own_none none.
-              let before = ap (λ (m : Values). get m q) (values_are r scan.fits) in
-              let later = ap (λ (s : State). get s.values q) (sym kept ∙ same) in
-              later ∙ unseen q (ap (λ w. own_variable w q) (same_program c u v program other) ∙ own_none) none ∙ sym before;
         }
 
     -- behind the last instruction the scan ends
@@ -289,28 +204,7 @@ module _ (c : Config) (u : Organized) (program : IsProgram c u) (supported : IsS
         let ended : Stored = record { rows = r; running = None; pairs = []; callers = []; result = None } in
         let is : instruction_at u.body f.place ≡ Return Always = ap instruction_or_return none in
         let same : state_by p ended ≡ t = same_next _ _ (ap (executed here) (sym is) ∙ executes) in
-        finished ended (next_by p has.code f [] [] own tt high tt r scan.fits (Return Always) is result) scan.fits tt refl refl same (λ q own_none unnamed. ap (λ (v : State). get v.values q) (sym same))
-
-    -- a name that an instruction does not name has what it had
-    keeps : (i : Instruction) → IsSupportedInstruction i → IsRunnable c u i → executed here i ≡ Next t → (d : Does c u (has.code.names u.name.name) (program_cells c u) has.code.once frame f.base cells_here [] r scan.fits i result t) → (q : Text) → ¬ Contains (instruction_names i) q
-        → get t.values q ≡ get (view (program_cells c u) r) q
-    keeps i is runs h d q apart = by_kind i is runs h d.after d.left d.effect_is (sym (ap (λ (v : State). get v.values q) (same_next _ _ d.goes))) apart
-      where
-        rows_stay : (after : Rows) → r ≡ after → get t.values q ≡ get (view (program_cells c u) after) q → get t.values q ≡ get (view (program_cells c u) r) q
-        rows_stay after same now = now ∙ ap (λ x. get (view (program_cells c u) x) q) (sym same)
-
-        by_kind : (i : Instruction) → IsSupportedInstruction i → IsRunnable c u i → executed here i ≡ Next t → (after : Rows) (l : Content) → effect (flat (has.code.names u.name.name) c u i) r f.base result ≡ Some (after, l) → get t.values q ≡ get (view (program_cells c u) after) q
-            → ¬ Contains (instruction_names i) q → get t.values q ≡ get (view (program_cells c u) r) q
-        by_kind (Load negated o) is runs h after l e now apart = rows_stay after (same_rows r after _ l e) now
-        by_kind (Store kind to) is runs h after l e now apart = store_apart c u frame.unit f.place [] (view (program_cells c u) r) result kind to is result t q refl h apart
-        by_kind Not is runs h after l e now apart = rows_stay after (same_rows r after _ l e) now
-        by_kind (Operate operator o) is runs h after l e now apart = rows_stay after (same_rows r after _ l e) now
-        by_kind (Invoke function os) is runs h after l e now apart = rows_stay after (same_rows r after _ l (ap (λ o. effect (applies (has.code.names u.name.name) c u o os) r f.base result) (sym runs) ∙ e)) now
-        by_kind (Defer operator first) is runs h after l e now apart = absurd is
-        by_kind Evaluate is runs h after l e now apart = absurd is
-        by_kind (Jump condition label) is runs h after l e now apart = absurd is
-        by_kind (Return condition) is runs h after l e now apart = absurd is
-        by_kind (Call condition instance arguments) is runs h after l e now apart = absurd is
+        finished ended (next_by p has.code f [] [] own tt high tt r scan.fits (Return Always) is result) scan.fits tt refl refl same
 
     -- an instruction goes on to the next
     goes_at : (b : BodyStep) → slice_get u.body.steps f.place ≡ Some b → Goes c u (going r f [] [] result)
@@ -325,7 +219,6 @@ module _ (c : Config) (u : Organized) (program : IsProgram c u) (supported : IsS
         finished (going d.after (forward f) [] [] (Some d.left))
         (next_by p has.code f [] [] own tt high tt r scan.fits i is result ∙ straight (has.code.names u.name.name) c u p.units i low runs r f result ∙ ap (λ o. with_some o (λ e. Some (going e.0 (forward f) [] [] (Some e.1)))) d.effect_is)
         d.fits_after (scan.frame.0, scan.frame.1, omega (arith, within)) refl refl (same_next _ _ d.goes)
-        (λ q own_none unnamed. keeps i low runs h d q (λ named. declared 21 b.place (unsupported refl (u, b, q, among_units c u program.alone, contained u.body.steps f.place b at, named, (own_none, unnamed), refl))))
 
     goes_by : Goes c u (going r f [] [] result)
     goes_by = by_step (slice_get u.body.steps f.place) refl
@@ -345,4 +238,4 @@ module _ (c : Config) (u : Organized) (program : IsProgram c u) (supported : IsS
           ap (λ o. record { rows = s.rows; running = o; pairs = []; callers = []; result = s.result }) (sym is) ∙ ap₂ (λ qs ds. record { rows = s.rows; running = s.running; pairs = qs; callers = ds; result = s.result }) (sym scan.pairs) (sym scan.callers) in
           let here = subst (IsScanState c u) (sym same) scan in
           let next = next_of c u _ _ (step_sound c u (in_order c u accepted) annotated (state_of (kept_by c (Some u) (going s.rows f [] [] s.result))) here.agrees (λ e. cc)) in
-          subst (Goes c u) same (goes_by s.rows f s.result here next.0 next.1 next.2)
+          subst (Goes c u) same (goes_by s.rows f s.result here next.0 next.1 next.2 next.3)

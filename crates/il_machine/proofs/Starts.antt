@@ -1,18 +1,20 @@
 -- Where a program's scan starts.
-use Rattle.std.proofs.Common.{◌≡◌, ℕ, zero, suc, ◌+◌, ◌≤◌, List, [], ◌∷◌, ◌++◌, take, drop, length, refl, sym, ap, ap₂, ◌∙◌, Some, None, Option, subst, arith}
+use Rattle.std.proofs.Common.{◌≡◌, ℕ, zero, ◌+◌, ◌≤◌, List, [], ◌∷◌, ◌++◌, take, drop, length, refl, sym, ap, ap₂, ◌∙◌, Some, None, Option, subst, arith}
 use Rattle.std.proofs.lemmas.List.{length-append}
 use Rattle.il_spec.specs.declared.tree.Config.{Config}
 use Rattle.il_spec.specs.declared.tree.Unit.{Unit as Organized}
 use Rattle.il_rules.specs.Symbols.{IsProgram}
 use Rattle.il_run.specs.declared.value.Value.{Value}
-use Rattle.il_run.specs.NameMap.{Text, from_entries, with_entries}
-use Rattle.il_run.specs.State.{Values, Frame, State}
+use Rattle.il_run.specs.NameMap.{Text, from_entries}
+use Rattle.il_run.specs.State.{Values, State}
 use Rattle.il_run.specs.Meaning.{entities}
 use Rattle.il_run.specs.Ranges.{entity_scalars, instance_scalars, HaveValues, HoldsTask}
 use Rattle.il_run.specs.Scan.{begins}
 use Rattle.il_run.specs.Annotation.{Annotated}
 use Rattle.il_sound.specs.Accepted.{IsAccepted}
-use Rattle.il_sound.specs.Agreement.{Agrees}
+use Rattle.il_run.specs.Paths.{longest}
+use Rattle.il_sound.specs.Soundness.{StartsWell}
+use Rattle.il_sound.specs.Agreement.{Agrees, left}
 use Rattle.il_sound.specs.Listed.{seen_scalars, given_scalars}
 use Rattle.il_sound.proofs.Scanning.{starts as scan_starts}
 use Rattle.il_sound.proofs.Starting.{starts_in_sets}
@@ -77,19 +79,24 @@ pub start_keeps : (c : Config) (task : ℕ) (v s : Rows) → FitsOwn c task v �
 start_keeps c task v s fits =
     start_by c (program_of c task) v s (fits.2.numbers ∙ ap (own_count c) (sym fits.1)) (fits.2.flags ∙ ap (own_count c) (sym fits.1))
 
--- values of the declared sets agree with the entry of a scan
+-- where a scan begins
+abbrev entry : Organized → Values → Values → State
+entry u variables image = record { values = over image variables; frames = frames_at u.name.name (Some 0); result = None }
+
+-- values of the declared sets agree with it, and the greatest cost of a scan is left
 start_agrees : (c : Config) (u : Organized) → IsAccepted c u → Annotated c → u.externals ≡ [] → (variables image : Values) → HoldsTask c u variables → HaveValues image (seen_scalars c u)
-    → Agrees c u (record { values = over image variables; frames = frames_at u.name.name (Some 0); result = None })
+    → Agrees c u (entry u variables image) × (left c (frames_at u.name.name (Some 0)) ≤ longest c u)
 unfolding begins
-start_agrees c u accepted annotated none variables image holds have =
-    subst (λ m. Agrees c u (record { values = over m variables; frames = frames_at u.name.name (Some 0); result = None })) (entries_are image)
-    (scan_starts c u annotated (in_order c u accepted) variables image.list (starts_in_sets c u accepted variables image.list holds given)).agrees
+start_agrees c u accepted annotated none variables image holds have = (subst (λ m. Agrees c u (entry u variables m)) (entries_are image) well.agrees, let all = well.budget in omega (arith, all))
   where
     listed : HaveValues image (given_scalars c u)
     listed = subst (λ ds. HaveValues image (entity_scalars (instance_scalars zero c) [] (entities ds) ++ seen_scalars c u)) (sym none) have
 
     given : HaveValues (from_entries image.list) (given_scalars c u)
     given = subst (λ m. HaveValues m (given_scalars c u)) (sym (entries_are image)) listed
+
+    well : StartsWell c u variables image.list
+    well = scan_starts c u annotated (in_order c u accepted) variables image.list (starts_in_sets c u accepted variables image.list holds given)
 
 module _ (c : Config) (runs : IsRunnable c) (task : ℕ) (v s : Rows) (own : FitsOwn c task v) (seen : FitsSeen c task s) where
   abbrev u : Organized
@@ -106,19 +113,20 @@ module _ (c : Config) (runs : IsRunnable c) (task : ℕ) (v s : Rows) (own : Fit
 
   -- it is a store of a scan
   pub start_scan : OwnsDeclared c (variables_in c task v) → HasImage c (image_in c task s) → IsScanOf c task (start_of v s)
-  start_scan holds have = (
-    u,
-    program,
-    record {
-      fits = joined_fits c u v s own_fits seen_fits;
-      frame = (sym (number_is c u runs.checked.resolved.is), refl, omega arith);
-      callers = refl;
-      pairs = refl;
-      agrees = subst (λ k. Agrees c u (state_of k)) (sym (start_by c (Some u) v s own_fits.numbers own_fits.flags))
-          (start_agrees c u runs.accepted runs.checked.annotated runs.checked.resolved.supported.externals (own_view c (Some u) v) (seen_view c (Some u) s)
-          (subst (λ o. OwnsDeclared c (own_view c o v)) program holds u runs.checked.resolved.is).each (subst (λ o. HasImage c (seen_view c o s)) program have u runs.checked.resolved.is));
-    },
-  )
+  start_scan holds have =
+      let at = start_agrees c u runs.accepted runs.checked.annotated runs.checked.resolved.supported.externals (own_view c (Some u) v) (seen_view c (Some u) s)
+      (subst (λ o. OwnsDeclared c (own_view c o v)) program holds u runs.checked.resolved.is).each (subst (λ o. HasImage c (seen_view c o s)) program have u runs.checked.resolved.is) in (
+        u,
+        program,
+        record {
+          fits = joined_fits c u v s own_fits seen_fits;
+          frame = (sym (number_is c u runs.checked.resolved.is), refl, omega arith);
+          callers = refl;
+          pairs = refl;
+          agrees = subst (λ k. Agrees c u (state_of k)) (sym (start_by c (Some u) v s own_fits.numbers own_fits.flags)) at.0;
+          budget = at.1;
+        },
+      )
 
   -- as the definitions begin it
   pub start_begins : (w : Organized) (given : List (Text × Value)) → IsProgram c w → image_in c task s ≡ from_entries given → state_of (kept_of c task (start_of v s)) ≡ begins w (variables_in c task v) given

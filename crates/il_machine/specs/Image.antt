@@ -1,38 +1,51 @@
--- Where the names of the image stand that a world reads and sets (own rules).
-use Rattle.std.specs.Prelude.{ℕ, ◌+◌, ◌*◌, codes}
-use Rattle.il_run.specs.NameMap.{Text}
-use Rattle.il_machine.specs.declared.image.ImageFlag.{ImageFlag}
-use Rattle.il_machine.specs.declared.image.ImageFlag.TheVariants.{Level, Top, Bottom, Locked, Opened, Open}
-use Rattle.il_machine.specs.declared.image.ImageNumber.{ImageNumber}
-use Rattle.il_machine.specs.declared.image.ImageNumber.TheVariants.{Now, RunLimit, Position}
+-- The image in the rows, as a car's program sees it (own rules).
+use Rattle.std.specs.Prelude.{ℕ, ◌+◌, ◌*◌, List, [], ◌∷◌, ◌++◌, map, set}
+use Rattle.il_run.specs.declared.value.Value.{Value}
+use Rattle.il_run.specs.declared.value.Value.TheVariants.{Boolean, Integer}
+use Rattle.il_code.specs.Layout.{Rows, rows}
+use Rattle.il_code.specs.Whole.{number_part, flag_part}
+use Rattle.lift_spec.specs.declared.image.Sizes.{Sizes}
+use Rattle.lift_spec.specs.declared.image.CarFields.{CarFields}
+use Rattle.lift_spec.specs.declared.image.CarOutputs.{CarOutputs}
+use Rattle.lift_spec.specs.declared.image.Image.{Image}
+use Rattle.lift_spec.specs.declared.calls.Slot.{Slot}
+use Rattle.lift_spec.specs.Snapshot.{number, motor_number, waits, from_of, to_of, car_of, image_entries}
+use Rattle.il_machine.specs.declared.image.Column.{Column}
+use Rattle.il_machine.specs.declared.image.Column.TheVariants.{Waits, From, To, Car}
 
--- the names
-abbrev pub flag_name : ImageFlag → Text
-flag_name Level = codes "LEVEL"
-flag_name Top = codes "TOP"
-flag_name Bottom = codes "BOTTOM"
-flag_name Locked = codes "LOCKED"
-flag_name Opened = codes "OPENED"
-flag_name Open = codes "OPEN"
-
-abbrev pub number_name : ImageNumber → Text
-number_name Now = codes "NOW"
-number_name RunLimit = codes "RUNLIMIT"
-number_name Position = codes "POS"
-
--- how many slots stand before them, where the group has so many call slots
+-- how many slots stand before one of the car's, where the group has so many call slots
 abbrev pub car_slot : ℕ → ℕ → ℕ
 car_slot slots offset = 5 + (4 * slots + offset)
 
-abbrev pub flag_slot : ℕ → ImageFlag → ℕ
-flag_slot slots Level = car_slot slots 2
-flag_slot slots Top = car_slot slots 3
-flag_slot slots Bottom = car_slot slots 4
-flag_slot slots Locked = car_slot slots 5
-flag_slot slots Opened = car_slot slots 6
-flag_slot slots Open = car_slot slots 8
+-- rows with a value at a slot
+abbrev pub with_slot : Rows → ℕ → Value → Rows
+with_slot r at v = rows (set r.numbers at (number_part v)) (set r.flags at (flag_part v))
 
-abbrev pub number_slot : ℕ → ImageNumber → ℕ
-number_slot slots Now = 3
-number_slot slots RunLimit = 4
-number_slot slots Position = car_slot slots 1
+-- with values from a slot on
+abbrev pub filled : Rows → ℕ → List Value → Rows
+filled r at [] = r
+filled r at (v ∷ vs) = filled (with_slot r at v) (at + 1) vs
+
+-- what a column shows of a call slot
+abbrev pub call_value : Column → Slot → Value
+call_value Waits s = Boolean (waits s)
+call_value From s = number (from_of s)
+call_value To s = number (to_of s)
+call_value Car s = number (car_of s)
+
+-- all columns
+abbrev pub call_values : List Slot → List Value
+call_values slots = map (call_value Waits) slots ++ (map (call_value From) slots ++ (map (call_value To) slots ++ map (call_value Car) slots))
+
+-- what each program sees of the group
+abbrev pub group_values : Sizes → ℕ → ℕ → List Value
+group_values sizes time run_limit = number sizes.cars ∷ number sizes.floors ∷ number sizes.slots ∷ number time ∷ number run_limit ∷ []
+
+-- what a car's program sees of its car
+abbrev pub car_values : ℕ → CarFields → CarOutputs → List Value
+car_values car fields outputs =
+    number car ∷ number fields.pos ∷ Boolean fields.level ∷ Boolean fields.top ∷ Boolean fields.bottom ∷ Boolean fields.locked ∷ Boolean fields.opened ∷ Integer (motor_number outputs.motor) ∷ Boolean outputs.opens ∷ number 0 ∷ []
+
+-- the values of the image as a task sees it
+abbrev pub image_values : Sizes → ℕ → Image → List Slot → List Value
+image_values sizes task image slots = map (λ e. e.1) (image_entries sizes task image slots)

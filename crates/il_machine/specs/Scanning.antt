@@ -1,23 +1,23 @@
 -- Programs that run, and the states of their scans (own rules).
-use Rattle.std.specs.Prelude.{◌≡◌, ℕ, ◌≤◌, List, [], ◌∷◌, ◌++◌, map, take, drop, length, ℤ, pos, Option, Some, None, refl, codes, false, slice_get}
+use Rattle.std.specs.Prelude.{◌≡◌, ℕ, ◌≤◌, List, [], ◌∷◌, ◌++◌, map, take, drop, length, ℤ, pos, Option, Some, None, refl, codes, slice_get}
 use Rattle.std.specs.Coded.{Coded, code_by, coded×, coded_list}
 use Rattle.il_spec.specs.contracts.tree.Config as config
 use Rattle.il_machine.specs.contracts.verified.UnitCost as unit_cost
 use Rattle.il_spec.specs.declared.tree.Config.{Config}
 use Rattle.il_spec.specs.declared.tree.Unit.{Unit as Organized}
-use Rattle.il_rules.specs.Names.{own_variable, is_one_of}
 use Rattle.il_rules.specs.Symbols.{IsProgram}
 use Rattle.il_rules.specs.Written.{IsWritten}
-use Rattle.il_rules.specs.Subset.{IsSupported, supported_image_names}
+use Rattle.il_rules.specs.Subset.{IsSupported}
 use Rattle.il_verify.specs.Resolved.{IsChecked}
 use Rattle.il_sound.specs.Accepted.{IsAccepted}
-use Rattle.il_sound.specs.Agreement.{Agrees}
+use Rattle.il_sound.specs.Agreement.{Agrees, left}
+use Rattle.il_run.specs.Paths.{longest}
 use Rattle.il_sound.specs.Listed.{seen_scalars}
 use Rattle.il_run.specs.Ranges.{HaveValues}
 use Rattle.il_machine.specs.declared.verified.UnitCost.{UnitCost}
 use Rattle.il_machine.specs.declared.frames.Frame.{Frame as FlatFrame}
 use Rattle.il_run.specs.declared.value.Content.{Content}
-use Rattle.il_run.specs.NameMap.{Text, get, empty, with_entries}
+use Rattle.il_run.specs.NameMap.{Text, empty, with_entries}
 use Rattle.il_run.specs.State.{Values, Frame, State}
 use Rattle.il_run.specs.Scan.{task_program}
 use Rattle.il_code.specs.Layout.{Rows, rows, Fits, view, value_by}
@@ -172,13 +172,15 @@ abbrev pub IsFrameOf : Config → Organized → Option FlatFrame → Type 0
 IsFrameOf c u None = Unit {0}
 IsFrameOf c u (Some f) = (f.unit ≡ number_in c.units u.name.name) × (f.base ≡ 0) × (f.place ≤ length u.body.steps)
 
--- A store of a scan of a program: a row for each slot, its one frame, and a value of its declared set for each variable.
+-- A store of a scan of a program: a row for each slot, its one frame, a value of its declared set for each variable, and the budget.
 pub record IsScanState (c : Config) (u : Organized) (s : Stored) : Type 0 where
   pub fits : Fits (program_cells c u) s.rows
   pub frame : IsFrameOf c u s.running
   pub callers : s.callers ≡ []
   pub pairs : s.pairs ≡ []
   pub agrees : Agrees c u (state_of (kept_by c (Some u) s))
+  -- no more steps are left than the greatest cost of a scan
+  pub budget : left c (frames_at u.name.name (place_of s.running)) ≤ longest c u
 
 -- a store of a scan of a task's program
 abbrev pub IsScanOf : Config → ℕ → Stored → Type 0
@@ -191,7 +193,3 @@ HasImage c image = (u : Organized) → IsProgram c u → HaveValues image (seen_
 -- the variables of a task are those of the program, each with a value of its declared set
 abbrev pub OwnsDeclared : Config → Values → Type 0
 OwnsDeclared c variables = (u : Organized) → IsProgram c u → HoldsOwn c u variables
-
--- a name that the program can't name so far has what it had
-abbrev pub KeepsUnseen : Config → Values → Values → Type 0
-KeepsUnseen c before after = (u : Organized) → IsProgram c u → (name : Text) → own_variable u name ≡ None → is_one_of supported_image_names name ≡ false → get after name ≡ get before name

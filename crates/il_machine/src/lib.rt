@@ -2,7 +2,7 @@
 #![tactic(auto)]
 
 pub mod frames;
-pub mod image;
+mod image;
 mod instruction;
 mod opening;
 pub mod rows;
@@ -10,7 +10,7 @@ pub mod store;
 pub mod verified;
 
 pub use il_run::value::Value;
-pub use image::{ImageFlag, ImageNumber};
+pub use opening::opening_image;
 pub use rows::Rows;
-pub use store::{Begin, Stepped, Store, scan, step};
+pub use store::{Stepped, Store, scan, step};
 pub use verified::{TaskInfo, UnitCost, UnitInfo, Verified};

@@ -1,72 +1,62 @@
-// The rows of the image in the opening world.
+// The image of the opening world.
 
-ghost use Rattle.std.specs.Prelude.{◌≡◌, OnOk};
-ghost use Rattle.il_code.specs.Paths.{with_values};
-ghost use Rattle.il_machine.specs.Scanning.{HasSizes};
-ghost use Rattle.il_machine.specs.Opening.{size_entries, with_row, with_image};
-ghost use Rattle.lift_spec.specs.Image.{sizes_of, opening_car, opening_outputs};
-ghost use Rattle.lift_spec.specs.Snapshot.{car_entries};
+ghost use Rattle.std.specs.Prelude.{◌≡◌, ◌≤◌, replicate};
+ghost use Rattle.lift_spec.specs.Image.{opening_car, opening_outputs, opening_image};
 
-use crate::rows::Rows;
-use il_run::value::Value;
-use il_spec::tree::Config;
-use std::alloc::AllocError;
+use lift_spec::image::{CarFields, CarOutputs, Fields, Image, Motor, Sizes};
+use lift_spec::row::Row;
 
-/// Adds the image as CAR1 sees it in the opening world (own rule).
-pub fn add_image(rows: &mut Rows, config: &Config) -> Result<(), AllocError>
-    requires { HasSizes config.now }
-    ensures { OnOk result (rows.new ≡ with_image config.now rows.old) }
+/// How a car stands in the opening world: at floor 1, locked (own rule).
+const OPENING: CarFields = CarFields {
+    pos: 1,
+    level: true,
+    top: false,
+    bottom: true,
+    locked: true,
+    opened: false,
+};
+
+/// What a car is told in the opening world: to stand still with its door shut (own rule).
+const QUIET: CarOutputs = CarOutputs {
+    motor: Motor::Still,
+    opens: false,
+};
+
+/// The image of the opening world, in which as many cars may run as there are.
+pub fn opening_image(sizes: Sizes) -> Image
+    requires { sizes.cars ≤ 8 }
+    ensures { result ≡ opening_image sizes }
 {
-    let slots = slots_of(config);
-    add_group(rows, config)?;
-    add_row(rows, slots, Value::Boolean(false))?;
-    add_row(rows, slots, Value::Integer(0))?;
-    add_row(rows, slots, Value::Integer(0))?;
-    add_row(rows, slots, Value::Integer(0))?;
-    add_car(rows)
-}
-
-// How many call slots the group has.
-fn slots_of(config: &Config) -> u8
-    requires { HasSizes config.now }
-    ensures { result ≡ (sizes_of config.now).slots }
-{
-    config.slots.value as u8
-}
-
-// What every program sees of the group.
-fn add_group(rows: &mut Rows, config: &Config) -> Result<(), AllocError>
-    ensures { OnOk result (rows.new ≡ with_values rows.old (size_entries config.now)) }
-{
-    rows.push(Value::Integer(config.cars.value))?;
-    rows.push(Value::Integer(config.floors.value))?;
-    rows.push(Value::Integer(config.slots.value))?;
-    rows.push(Value::Integer(0))?;
-    rows.push(Value::Integer(config.cars.value))
-}
-
-// A value for each call slot.
-fn add_row(rows: &mut Rows, slots: u8, value: Value) -> Result<(), AllocError>
-    ensures { OnOk result (rows.new ≡ with_row rows.old slots value) }
-{
-    'slots: for _slot in 0..slots {
-        rows.push(value)?;
+    Image {
+        fields: Fields {
+            time: 0,
+            run_limit: sizes.cars,
+            cars: opening_cars(sizes.cars),
+        },
+        outputs: opening_outputs(sizes.cars),
     }
-    Ok(())
 }
 
-// What a car's program sees of its car.
-fn add_car(rows: &mut Rows) -> Result<(), AllocError>
-    ensures { OnOk result (rows.new ≡ with_values rows.old (car_entries 1 opening_car opening_outputs)) }
+// How the cars stand.
+fn opening_cars(count: u8) -> Row<CarFields, 8>
+    requires { count ≤ 8 }
+    ensures { result ≡ replicate count opening_car }
 {
-    rows.push(Value::Integer(1))?;
-    rows.push(Value::Integer(1))?;
-    rows.push(Value::Boolean(true))?;
-    rows.push(Value::Boolean(false))?;
-    rows.push(Value::Boolean(true))?;
-    rows.push(Value::Boolean(true))?;
-    rows.push(Value::Boolean(false))?;
-    rows.push(Value::Integer(0))?;
-    rows.push(Value::Boolean(false))?;
-    rows.push(Value::Integer(0))
+    let mut cars = Row::new();
+    for _ in 0..count {
+        cars.push(OPENING);
+    }
+    cars
+}
+
+// What the cars are told.
+fn opening_outputs(count: u8) -> Row<CarOutputs, 8>
+    requires { count ≤ 8 }
+    ensures { result ≡ replicate count opening_outputs }
+{
+    let mut outputs = Row::new();
+    for _ in 0..count {
+        outputs.push(QUIET);
+    }
+    outputs
 }

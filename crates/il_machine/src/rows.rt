@@ -1,11 +1,16 @@
 // The rows of values.
 
-ghost use Rattle.std.specs.Prelude.{◌≡◌, ◌+◌, ◌≤◌, ◌<◌, ◌++◌, IsSome, Some, IfOk, OnOk, length, take, set, slice_get};
+ghost use Rattle.std.specs.Prelude.{◌≡◌, ◌+◌, ◌≤◌, ◌<◌, ◌++◌, IsSome, Some, IfOk, OnOk, length, take, drop, set, slice_get};
+ghost use Rattle.il_run.specs.NameMap.{get};
 ghost use Rattle.il_code.specs.Layout.{rows};
+ghost use Rattle.il_code.specs.Whole.{number_part, flag_part};
 ghost use Rattle.il_code.specs.Paths.{with_value};
-ghost use Rattle.il_machine.specs.Scanning.{joined, front, behind, value_at};
+ghost use Rattle.il_machine.specs.Scanning.{front, value_at, variables_in, FitsOwn};
+ghost use Rattle.il_machine.specs.Opening.{with_row};
+ghost use Rattle.il_machine.specs.Image.{with_slot, filled};
 ghost use Rattle.il_machine.specs.Effect.{read, write, element_base, boolean_of, number_of};
 
+use crate::verified::Verified;
 use il_code::flat::{Cell, Slot};
 use il_rules::elementary::declared_limits;
 use il_run::value::{Content, Value};
@@ -52,14 +57,33 @@ pub fn number_of(value: Value) -> i64
     }
 }
 
-// Copies two rows into one, the second behind the first.
-fn join<T: Copy>(row: &mut [T], first: &[T], behind: &[T])
-    requires { length row.old ≡ length first.now + length behind.now }
-    ensures { row.new ≡ first.now ++ behind.now }
+// What the row of numbers keeps of a value.
+fn number_part(value: Value) -> i64
+    ensures { result ≡ number_part value }
 {
-    let (front, back) = row.split_at_mut(first.len());
+    match value {
+        Value::Boolean(_) => 0,
+        Value::Integer(number) => number,
+    }
+}
+
+// What the row of Booleans keeps of a value.
+fn flag_part(value: Value) -> bool
+    ensures { result ≡ flag_part value }
+{
+    match value {
+        Value::Boolean(truth) => truth,
+        Value::Integer(_) => false,
+    }
+}
+
+// Copies a row to the front of another.
+fn copy_to_front<T: Copy>(row: &mut [T], first: &[T])
+    requires { length first.now ≤ length row.old }
+    ensures { row.new ≡ first.now ++ drop (length first.now) row.old }
+{
+    let (front, _) = row.split_at_mut(first.len());
     front.copy_from_slice(first);
-    back.copy_from_slice(behind);
 }
 
 impl Rows {
@@ -73,48 +97,75 @@ impl Rows {
         })
     }
 
-    /// Adds a slot with a value.
-    pub fn push(&mut self, value: Value) -> Result<(), AllocError>
+    /// How many slots there are.
+    pub fn len(&self) -> usize
+        ensures { result ≡ length self.now.numbers }
+    {
+        self.numbers.len()
+    }
+
+    // Adds a slot with a value.
+    fn push(&mut self, value: Value) -> Result<(), AllocError>
         ensures { OnOk result (self.new ≡ with_value self.old value) }
     {
-        let (number, flag) = match value {
-            Value::Boolean(flag) => (0, flag),
-            Value::Integer(number) => (number, false),
-        };
-        self.numbers.push(number)?;
-        self.flags.push(flag)?;
+        self.numbers.push(number_part(value))?;
+        self.flags.push(flag_part(value))?;
         Ok(())
     }
 
-    /// Takes the values of two, those of the second behind those of the first.
-    pub fn join(&mut self, first: &Rows, behind: &Rows)
-        requires numbers { length self.old.numbers ≡ length first.now.numbers + length behind.now.numbers }
-        requires flags { length self.old.flags ≡ length first.now.flags + length behind.now.flags }
-        ensures { self.new ≡ joined first.now behind.now }
+    /// Adds so many slots with a value.
+    pub fn grow(&mut self, count: usize, value: Value) -> Result<(), AllocError>
+        ensures { OnOk result (self.new ≡ with_row self.old count value) }
     {
-        join(
-            self.numbers.as_mut_slice(),
-            first.numbers.as_slice(),
-            behind.numbers.as_slice(),
-        );
-        join(
-            self.flags.as_mut_slice(),
-            first.flags.as_slice(),
-            behind.flags.as_slice(),
-        );
+        'slots: for _slot in 0..count {
+            self.push(value)?;
+        }
+        Ok(())
     }
 
-    /// The first values, and those behind them.
-    pub fn parts(&self, alloc: Global, own: usize) -> Result<(Rows, Rows), AllocError>
-        requires numbers { own ≤ length self.now.numbers }
-        requires flags { own ≤ length self.now.flags }
-        ensures first { IfOk result (λ p. p.0 ≡ front own self.now) }
-        ensures others { IfOk result (λ p. p.1 ≡ behind own self.now) }
+    /// The first slots.
+    pub fn front(&self, alloc: Global, count: usize) -> Result<Rows, AllocError>
+        requires numbers { count ≤ length self.now.numbers }
+        requires flags { count ≤ length self.now.flags }
+        ensures { IfOk result (λ r. r ≡ front count self.now) }
     {
-        let (numbers, more_numbers) = self.numbers.split_at(own);
-        let (flags, more_flags) = self.flags.split_at(own);
-        let first = Rows::of(alloc, numbers, flags)?;
-        Ok((first, Rows::of(alloc, more_numbers, more_flags)?))
+        let (numbers, _) = self.numbers.split_at(count);
+        let (flags, _) = self.flags.split_at(count);
+        Rows::of(alloc, numbers, flags)
+    }
+
+    /// Takes the values of others, the others' slots first.
+    pub fn take_front(&mut self, first: &Rows)
+        requires numbers { length first.now.numbers ≤ length self.old.numbers }
+        requires flags { length first.now.flags ≤ length self.old.flags }
+        ensures { self.new ≡ rows (first.now.numbers ++ drop (length first.now.numbers) self.old.numbers) (first.now.flags ++ drop (length first.now.flags) self.old.flags) }
+    {
+        copy_to_front(self.numbers.as_mut_slice(), first.numbers.as_slice());
+        copy_to_front(self.flags.as_mut_slice(), first.flags.as_slice());
+    }
+
+    /// Gives a slot a value.
+    pub fn put(&mut self, at: usize, value: Value)
+        requires numbers { at < length self.old.numbers }
+        requires flags { at < length self.old.flags }
+        ensures { self.new ≡ with_slot self.old at value }
+    {
+        self.numbers[at] = number_part(value);
+        self.flags[at] = flag_part(value);
+    }
+
+    /// Gives slots from one on values.
+    pub fn put_all(&mut self, at: usize, values: &[Value])
+        requires numbers { at + length values.now ≤ length self.old.numbers }
+        requires flags { at + length values.now ≤ length self.old.flags }
+        ensures { self.new ≡ filled self.old at values.now }
+    {
+        let _room = self.len();
+        let mut place = at;
+        'values: for value in values {
+            self.put(place, *value);
+            place += 1;
+        }
     }
 
     /// Takes the first values of others.
@@ -138,20 +189,25 @@ impl Rows {
         self.flags[base + offset]
     }
 
-    /// Gives a slot a Boolean.
-    pub fn set_flag(&mut self, at: usize, flag: bool)
-        requires { at < length self.old.flags }
-        ensures { self.new ≡ rows self.old.numbers (set self.old.flags at flag) }
+    /// The number of a slot.
+    pub fn number(&self, base: usize, offset: usize) -> i64
+        requires { base + offset < length self.now.numbers }
+        ensures { slice_get self.now.numbers (base + offset) ≡ Some result }
     {
-        self.flags[at] = flag;
+        let _room = self.numbers.len();
+        self.numbers[base + offset]
     }
 
-    /// Gives a slot a number.
-    pub fn set_number(&mut self, at: usize, number: i64)
-        requires { at < length self.old.numbers }
-        ensures { self.new ≡ rows (set self.old.numbers at number) self.old.flags }
+    /// The value of a variable of a task, by its path.
+    pub fn variable(&self, verified: &Verified, task: u8, path: &str) -> Option<Value>
+        requires fits { FitsOwn verified.now.config task self.now }
+        ensures { result ≡ get (variables_in verified.now.config task self.now) path.now }
     {
-        self.numbers[at] = number;
+        let _config = verified.config();
+        let _task = task;
+        let code = verified.code();
+        let slot = code.slot_of(path)?;
+        self.value(code.cells(), slot)
     }
 
     /// The value at a slot of these cells, if the rows reach so far.

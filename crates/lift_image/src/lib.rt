@@ -15,8 +15,8 @@ const LATEST: u32 = 2_147_483_647;
 /// The outputs of all cars, car 1 first.
 pub type Outputs = Row<CarOutputs, 8>;
 
-// Whether a number is that of a floor of the group.
-fn is_floor(floor: u8, sizes: Sizes) -> bool
+/// Whether a number is that of a floor of the group (own rule).
+pub fn is_floor(floor: u8, sizes: Sizes) -> bool
     ensures { result ≡ is_floor sizes floor }
 {
     1 <= floor && floor <= sizes.floors

@@ -3,7 +3,7 @@ use Rattle.std.proofs.Common.{◌≡◌, List, [], ◌∷◌, ◌++◌, refl, sy
 use Rattle.std.specs.Prelude.{IsOk, flat_map}
 use Rattle.il_spec.specs.declared.tree.Config.{Config}
 use Rattle.lift_spec.specs.declared.event.Event.{Event}
-use Rattle.lift_spec.specs.declared.event.Reply.{Reply}
+use Rattle.lift_spec.specs.Replies.{Reply}
 use Rattle.lift_spec.specs.World.{World, Next, run, and_then, opening}
 use Rattle.lift_sound.specs.Histories.{IsHistory, RunsGoOn, CallGoesWell, CallsGoWell, EventIsRun, run_calls, CallsAreOneRun, IsCut, RunsAreCut}
 use Rattle.lift_sound.specs.Accepted.{IsSound}

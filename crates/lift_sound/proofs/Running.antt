@@ -7,8 +7,8 @@ use Rattle.il_run.specs.Step.{step, Next as Goes}
 use Rattle.il_run.specs.Scan.{Reaches, has_ended}
 use Rattle.lift_spec.specs.declared.event.Event.{Event}
 use Rattle.lift_spec.specs.declared.event.Event.TheVariants.{Start}
-use Rattle.lift_spec.specs.declared.event.Reply.TheVariants.{Started}
-use Rattle.lift_spec.specs.declared.event.Reply.{Reply}
+use Rattle.lift_spec.specs.Replies.{Started}
+use Rattle.lift_spec.specs.Replies.{Reply}
 use Rattle.lift_spec.specs.Snapshot.{program_of, scan_begins}
 use Rattle.lift_spec.specs.World.{Next, World, TaskState, happens, run, and_then, opening, task_at, scan_at, beginning_of, counted, answered}
 use Rattle.lift_sound.specs.Tasks.{IsTaskOf, budget_of}

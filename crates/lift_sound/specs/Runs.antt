@@ -8,9 +8,9 @@ use Rattle.il_run.specs.Scan.{Reaches, has_ended}
 use Rattle.il_run.specs.Ranges.{HoldsTask}
 use Rattle.lift_spec.specs.declared.event.Event.{Event}
 use Rattle.lift_spec.specs.declared.event.Event.TheVariants.{Start, Instruction}
-use Rattle.lift_spec.specs.declared.event.Reply.{Reply}
+use Rattle.lift_spec.specs.Replies.{Reply}
 use Rattle.lift_spec.specs.declared.event.EventFault.{EventFault}
-use Rattle.lift_spec.specs.declared.event.Reply.TheVariants.{Started, Refused}
+use Rattle.lift_spec.specs.Replies.{Started, Refused}
 use Rattle.lift_spec.specs.Image.{sizes_of, Obeys}
 use Rattle.lift_spec.specs.Snapshot.{scan_begins}
 use Rattle.lift_spec.specs.World.{World, TaskState, happens, run, and_then, opening, answered, beginning_of, task_at, scan_at, InRanges, ChangesScanOnly}

@@ -5,11 +5,12 @@ use Rattle.std.proofs.lemmas.Bool.{cond_both, cond-true, cond-false, and_left, a
 use Rattle.std.proofs.lemmas.Nat.Bits.{bit_at_lowest, bit_at-suc, bit_at-lt, bit_at_set_same, bit_at_set_other, bit_at_clear_same, bit_at_clear_other, bit_at-trailing_zeros}
 use Rattle.std.proofs.lemmas.Nat.{pow_pos}
 use Rattle.std.proofs.lemmas.List.Sums.{sum_by-cons}
+use Rattle.std.proofs.lemmas.List.Elements.{filter-append}
 use Rattle.std.specs.Int.{bit_at, bit_not, w16, trailing_zeros}
 use Rattle.std.specs.Int.RustNames.{bit_or}
 use Rattle.std.specs.Prelude.{bit_and}
 use Rattle.lift_spec.specs.declared.calls.Call.{Call}
-use Rattle.lift_spec.specs.Hands.{same_call, is_before, has_call, with_call, is_from, has_from, calls_from, mask_of, calls_of_bits, calls_of_words_from, calls_of_words, IsWords, HasWord, IsBlankBefore, IsLowestBit}
+use Rattle.lift_spec.specs.Hands.{same_call, is_before, has_call, with_call, is_from, has_from, calls_from, calls_not_from, with_calls, mask_of, calls_of_bits, calls_of_words_from, calls_of_words, IsWords, HasWord, IsBlankBefore, IsLowestBit}
 use Rattle.lift_spec.specs.Words.{call, Every, every_bits, every_word, calls_from_words}
 
 -- SETS IN PARTS
@@ -281,3 +282,44 @@ first_is words index bit found ok low from to =
 
 pub blank_is : (words : List ℕ) → IsBlankBefore words (length words) → calls_of_words words ≡ []
 blank_is words blank = words_none 1 words blank
+
+-- MOVING
+
+-- one bit more of a word
+pub one_bit_more : (set : List Call) (count floor to word : ℕ) → eqb (word % 2) 1 ≡ true → with_calls set (calls_of_bits (suc count) floor to word) ≡ with_calls (with_call set (call floor to)) (calls_of_bits count floor (to + 1) (word / 2))
+unfolding calls_of_bits
+one_bit_more set count floor to word h = ap (with_calls set) (cond-true _ _ _ h)
+
+pub no_bit_more : (set : List Call) (count floor to word : ℕ) → eqb (word % 2) 1 ≡ false → with_calls set (calls_of_bits (suc count) floor to word) ≡ with_calls set (calls_of_bits count floor (to + 1) (word / 2))
+unfolding calls_of_bits
+no_bit_more set count floor to word h = ap (with_calls set) (cond-false _ _ _ h)
+
+pub no_bits : (set : List Call) (floor to word : ℕ) → with_calls set (calls_of_bits 0 floor to word) ≡ set
+unfolding calls_of_bits
+no_bits set floor to word = refl
+
+-- calls from a floor that are none stay out
+others_all : (floor : ℕ) (calls : List Call) → Every (λ member. is_from floor member ≡ false) calls → calls_not_from floor calls ≡ calls
+others_all floor [] h = refl
+others_all floor (member ∷ calls) h = cond-true _ _ _ (ap not h.0) ∙ ap (λ rest. member ∷ rest) (others_all floor calls h.1)
+
+others_none : (floor : ℕ) (calls : List Call) → Every (λ member. is_from floor member ≡ true) calls → calls_not_from floor calls ≡ []
+others_none floor [] h = refl
+others_none floor (member ∷ calls) h = cond-false _ _ _ (ap not h.0) ∙ others_none floor calls h.1
+
+-- a word that is blank holds the other floors' calls
+pub without_word :
+    (from : ℕ) (words : List ℕ) (k floor : ℕ) → floor ≡ from + k → k < length words →
+    calls_not_from floor (calls_of_words_from from words) ≡ calls_of_words_from from (set words k 0)
+unfolding calls_of_words_from
+without_word from [] k floor same below = absurd (omega arith)
+without_word from (word ∷ words) zero floor same below =
+    let first : from ≡ floor = omega arith in
+    let own = others_none floor (calls_of_bits 16 from 1 word) (every_bits (λ member. is_from floor member ≡ true) 16 from 1 word (λ k above. eq-eqb from floor first)) in
+    let rest = others_all floor (calls_of_words_from (from + 1) words) (every_word (λ member. is_from floor member ≡ false) (from + 1) words (λ f t above. ne_eqb f floor (λ e. omega arith))) in
+    filter-append (λ member. not (is_from floor member)) (calls_of_bits 16 from 1 word) (calls_of_words_from (from + 1) words) ∙ ap (λ calls. calls ++ calls_not_from floor (calls_of_words_from (from + 1) words)) own
+    ∙ rest ∙ ap (λ calls. calls ++ calls_of_words_from (from + 1) words) (sym (bits_none 16 from 1))
+without_word from (word ∷ words) (suc k) floor same below =
+    let own = others_all floor (calls_of_bits 16 from 1 word) (every_bits (λ member. is_from floor member ≡ false) 16 from 1 word (λ k above. ne_eqb from floor (λ e. omega arith))) in
+    filter-append (λ member. not (is_from floor member)) (calls_of_bits 16 from 1 word) (calls_of_words_from (from + 1) words) ∙ ap (λ calls. calls ++ calls_not_from floor (calls_of_words_from (from + 1) words)) own
+    ∙ ap (λ calls. calls_of_bits 16 from 1 word ++ calls) (without_word (from + 1) words k floor (omega arith) (omega arith))

@@ -11,7 +11,7 @@ use Rattle.il_spec.specs.declared.tree.Config.{Config}
 use Rattle.lift_spec.specs.declared.image.Motor.TheVariants.{Up, Down, Still}
 use Rattle.lift_spec.specs.declared.image.CarOutputs.{CarOutputs}
 use Rattle.lift_spec.specs.declared.event.Event.TheVariants.{Instruction}
-use Rattle.lift_spec.specs.declared.event.Reply.{Reply}
+use Rattle.lift_spec.specs.Replies.{Reply}
 use Rattle.il_run.specs.Step.{Outcome, Next as Goes, Trapped, Stuck, step as scan_step}
 use Rattle.il_run.specs.State.{State}
 use Rattle.il_run.specs.Scan.{has_ended}

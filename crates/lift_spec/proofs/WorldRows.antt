@@ -40,9 +40,9 @@ use Rattle.lift_spec.specs.declared.report.Report.{Report}
 use Rattle.lift_spec.specs.declared.report.Rule.TheVariants.{Crowded, NotLevel}
 use Rattle.lift_spec.specs.declared.event.Event.{Event}
 use Rattle.lift_spec.specs.declared.event.Event.TheVariants.{Start, Instruction, Commit, Refresh, Press, Gather}
-use Rattle.lift_spec.specs.declared.event.Reply.{Reply}
+use Rattle.lift_spec.specs.Replies.{Reply}
 use Rattle.lift_spec.specs.declared.event.EventFault.TheVariants.{FieldOutOfRange, NoOpenScan, AlreadyOpen, NotAtEnd, NoSuchActor, SameFloor}
-use Rattle.lift_spec.specs.declared.event.Reply.TheVariants.{Started, More, End, Committed, Refreshed, New, Already, Gathered, Held, Refused}
+use Rattle.lift_spec.specs.Replies.{Started, More, End, Committed, Refreshed, New, Already, Gathered, Held, Refused}
 use Rattle.lift_spec.specs.Image.{opening_outputs, opening_fields, opening_car}
 use Rattle.lift_spec.specs.Settle.{settled_car, settled_all}
 use Rattle.lift_spec.specs.Calls.{tell, serve}

@@ -4,6 +4,7 @@ pub mod Hands
 pub mod Words
 pub mod Calls
 pub mod Snapshot
+pub mod Replies
 pub mod World
 pub mod Plant
 pub mod Codes

@@ -14,6 +14,7 @@ use Rattle.lift_spec.specs.declared.image.Motor.TheVariants.{Up, Down, Still}
 use Rattle.lift_spec.specs.declared.image.CarFields.{CarFields}
 use Rattle.lift_spec.specs.declared.image.CarOutputs.{CarOutputs}
 use Rattle.lift_spec.specs.declared.image.Image.{Image}
+use Rattle.lift_spec.specs.declared.image.Wishes.{Wishes}
 use Rattle.lift_spec.specs.declared.calls.Slot.{Slot}
 use Rattle.lift_spec.specs.declared.calls.Slot.TheVariants.{Free, Waiting, Told}
 use Rattle.lift_spec.specs.Image.{sizes_of}
@@ -150,13 +151,7 @@ motor_of (pos zero) = Still
 motor_of (pos (suc n)) = Up
 motor_of (negsuc n) = Down
 
--- MOTOR, OPEN and SERVE, as a scan's values hold them at its end (own rule)
-pub record Wishes : Type 0 where
-  pub motor : Motor
-  pub opens : Bool
-  pub serve : ℕ
-
--- the wishes of a car's scan (own rule)
+-- MOTOR, OPEN and SERVE, as a scan's values hold them at its end: the wishes of a car's scan (own rule)
 unfoldable pub wishes_of : Values → Wishes
 wishes_of values =
     record {

@@ -5,15 +5,16 @@ use Rattle.il_spec.specs.declared.tree.Unit.{Unit as Organized}
 use Rattle.lift_spec.specs.declared.image.Fields.{Fields}
 use Rattle.lift_spec.specs.declared.image.Image.{Image}
 use Rattle.lift_spec.specs.declared.calls.Call.{Call}
+use Rattle.lift_spec.specs.declared.image.Wishes.{Wishes}
 use Rattle.lift_spec.specs.declared.calls.Answer.{Answer}
 use Rattle.lift_spec.specs.declared.calls.Answer.TheVariants.{Stale}
 use Rattle.lift_spec.specs.declared.report.Report.{Report}
 use Rattle.lift_spec.specs.declared.event.Event.{Event}
 use Rattle.lift_spec.specs.declared.event.Event.TheVariants.{Start, Instruction, Commit, Refresh, Press, Gather}
-use Rattle.lift_spec.specs.declared.event.Reply.{Reply}
+use Rattle.lift_spec.specs.Replies.{Reply}
 use Rattle.lift_spec.specs.declared.event.EventFault.{EventFault}
 use Rattle.lift_spec.specs.declared.event.EventFault.TheVariants.{FieldOutOfRange, NoOpenScan, AlreadyOpen, NotAtEnd, NoSuchActor, SameFloor}
-use Rattle.lift_spec.specs.declared.event.Reply.TheVariants.{Started, More, End, Committed, Refreshed, New, Already, Gathered, Held, Refused}
+use Rattle.lift_spec.specs.Replies.{Started, More, End, Committed, Refreshed, New, Already, Gathered, Held, Refused}
 use Rattle.il_run.specs.NameMap.{empty}
 use Rattle.il_run.specs.State.{Values, State}
 use Rattle.il_run.specs.Step.{Trap, Outcome, Next as Goes, Trapped, Stuck, step as scan_step}
@@ -23,7 +24,7 @@ use Rattle.lift_spec.specs.Image.{sizes_of, is_floor, FieldsInRange, fields_in_r
 use Rattle.lift_spec.specs.Settle.{settled_car, with_outputs, AllSettled, settled_all, denials_of}
 use Rattle.lift_spec.specs.Hands.{has_call, with_call, with_calls, has_from, calls_from, calls_not_from, mask_of}
 use Rattle.lift_spec.specs.Calls.{Calls, opening_calls, SlotInRange, ticket_of, Entered, enter_all, tell, serve}
-use Rattle.lift_spec.specs.Snapshot.{program_of, Snapshot, Beginning, scan_begins, Wishes, wishes_of, assigned, written_globals}
+use Rattle.lift_spec.specs.Snapshot.{program_of, Snapshot, Beginning, scan_begins, wishes_of, assigned, written_globals}
 
 -- a task: its variables, and the tickets of the slots in the snapshot of its open scan, if it has one
 pub record TaskState : Type 0 where

@@ -1,12 +1,12 @@
 pub mod Explaining
 pub mod Costs
-pub mod Settling
 pub mod Naming
 pub mod Accepting
 pub mod Runs
 pub mod Tasking
-pub mod Seeing
-pub mod Modelling
 pub mod Sound
-pub mod Rows
-pub mod Finishing
+pub mod Views
+pub mod Events
+pub mod Sharing
+pub mod Opening
+pub mod Committing

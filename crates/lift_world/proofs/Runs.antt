@@ -1,20 +1,19 @@
 -- Runs over lists of events.
-use Rattle.std.proofs.Common.{◌≡◌, ◌<◌, ◌≤◌, ◌+◌, ◌-◌, ℕ, ◌∙◌, sym, ap, List, [], ◌∷◌, ◌++◌, map, length, drop, Ok, arith}
+use Rattle.std.proofs.Common.{◌≡◌, ◌<◌, ◌≤◌, ◌+◌, ◌-◌, ℕ, suc, zero, ◌∙◌, sym, ap, refl, List, [], ◌∷◌, ◌++◌, length, drop, Ok, arith}
 use Rattle.std.specs.Prelude.{slice_index_or}
 use Rattle.std.proofs.lemmas.List.{drop_more, length-append}
 use Rattle.il_spec.specs.declared.tree.Config.{Config}
-use Rattle.lift_spec.specs.declared.event.Reply.{Reply}
+use Rattle.lift_spec.specs.declared.event.Event.{Event}
+use Rattle.lift_spec.specs.Replies.{Reply}
 use Rattle.lift_spec.specs.World.{World, happens, run, and_then}
-use Rattle.lift_world.specs.declared.event.Event.{Event}
-use Rattle.lift_world.specs.Running.{event_of}
 
 -- a run of what is left takes one event
-pub one_more : (p q : Config) (events : List Event) (at : ℕ) (e : Event) (w next : World) (reply : Reply) (so_far then : List Reply) → q ≡ p → at < length events → e ≡ slice_index_or events at e → happens q w (event_of e) ≡ Ok (next, reply) → then ≡ so_far ++ reply ∷ []
-    → run p w so_far (map event_of (drop at events)) ≡ run p next then (map event_of (drop (at + 1) events))
+pub one_more : (p q : Config) (events : List Event) (at : ℕ) (e : Event) (w next : World) (reply : Reply) (so_far then : List Reply) → q ≡ p → at < length events → e ≡ slice_index_or events at e → happens q w e ≡ Ok (next, reply) → then ≡ so_far ++ reply ∷ []
+    → run p w so_far (drop at events) ≡ run p next then (drop (at + 1) events)
 one_more p q events at e w next reply so_far then same below is happened more =
-    ap (λ es. run p w so_far (map event_of es)) (drop_more events at e below ∙ ap (λ d. d ∷ drop (at + 1) events) (sym is))
-    ∙ ap (λ r. and_then r (λ n. run p n.0 (so_far ++ n.1 ∷ []) (map event_of (drop (at + 1) events)))) (ap (λ d. happens d w (event_of e)) (sym same) ∙ happened)
-    ∙ ap (λ items. run p next items (map event_of (drop (at + 1) events))) (sym more)
+    ap (λ es. run p w so_far es) (drop_more events at e below ∙ ap (λ d. d ∷ drop (at + 1) events) (sym is))
+    ∙ ap (λ r. and_then r (λ n. run p n.0 (so_far ++ n.1 ∷ []) (drop (at + 1) events))) (ap (λ d. happens d w e) (sym same) ∙ happened)
+    ∙ ap (λ items. run p next items (drop (at + 1) events)) (sym more)
 
 -- and there is room for the rest
 pub room_left : (items then : List Reply) (reply : Reply) (total at before after : ℕ) → at < total → then ≡ items ++ reply ∷ [] → length items + (total - at) ≤ before → before ≤ after → length then + (total - (at + 1)) ≤ after

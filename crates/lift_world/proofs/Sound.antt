@@ -13,7 +13,7 @@ use Rattle.il_rules.specs.Subset.{IsSupported, IsSupportedInstruction, IsSupport
 use Rattle.il_rules.proofs.Straight.{only_unit}
 use Rattle.il_run.specs.Paths.{longest, IsLongest}
 use Rattle.lift_spec.specs.declared.event.Event.{Event as Happening}
-use Rattle.lift_spec.specs.declared.event.Reply.{Reply}
+use Rattle.lift_spec.specs.Replies.{Reply}
 use Rattle.lift_spec.specs.World.{World, run, opening, happens}
 use Rattle.il_spec.specs.declared.tree.ProgramLine.{ProgramLine}
 use Rattle.il_run.specs.Scan.{program_of as line_program}

@@ -1,228 +1,187 @@
--- What a world of one car keeps (own rules).
-use Rattle.std.specs.Prelude.{◌≡◌, ◌≢◌, ℕ, zero, suc, Bool, true, false, ◌&&◌, not, List, [], ◌∷◌, map, pos, codes, refl, if◌then◌else◌, Option, Some, None, IsSome}
-use Rattle.std.specs.Coded.{Coded, code_by, coded×, coded_bool, coded_list, coded_option, coded_ℕ}
+-- What a world keeps, as rows and as the world of the definitions (own rules).
+use Rattle.std.specs.Prelude.{◌≡◌, ◌≢◌, ℕ, zero, suc, ◌≤◌, ◌+◌, Bool, false, List, [], ◌∷◌, map, length, slice_get, slice_set, if◌then◌else◌, Option, Some, None, is_some}
 use Rattle.il_spec.specs.declared.tree.Config.{Config}
-use Rattle.il_run.specs.declared.value.Value.TheVariants.{Boolean, Integer}
-use Rattle.il_run.specs.NameMap.{insert, get}
-use Rattle.il_run.specs.State.{Values, values_code}
-use Rattle.il_table.specs.ByText.{HaveSameNames}
-use Rattle.il_machine.specs.Scanning.{Program, verified_code, Kept, IsRunnable, IsScanOf, OwnsDeclared, FitsOwn, FitsSeen, variables_in, image_in, kept_of, over, state_of}
-use Rattle.il_machine.specs.Going.{Stored}
-use Rattle.il_machine.specs.declared.store.Begin.{Begin}
-use Rattle.il_run.specs.NameMap.{Text}
-use Rattle.il_run.specs.contracts.value.Content as content_row
-use Rattle.il_run.specs.declared.value.Content.{Content}
-use Rattle.lift_spec.specs.contracts.image.Image as image
-use Rattle.lift_spec.specs.declared.image.Image.{Image}
-use Rattle.lift_spec.specs.declared.image.CarFields.{CarFields}
-use Rattle.lift_spec.specs.declared.image.CarOutputs.{CarOutputs}
-use Rattle.lift_spec.specs.declared.image.Motor.TheVariants.{Still}
-use Rattle.lift_spec.specs.declared.image.Fields.{Fields}
-use Rattle.lift_spec.specs.Settle.{Settled, settled_car, settled_all, denials_of}
-use Rattle.lift_spec.specs.Snapshot.{truth_of, whole_of}
-use Rattle.lift_spec.specs.Image.{sizes_of, FieldsInRange, fields_in_range}
+use Rattle.il_run.specs.State.{State}
+use Rattle.il_run.specs.Scan.{Reaches, opening_globals}
+use Rattle.il_machine.specs.Scanning.{IsScanOf, OwnsDeclared, FitsOwn, variables_in, kept_of, place_of, state_of}
 use Rattle.il_run.specs.Step.{step, Next}
-use Rattle.il_run.specs.Scan.{opening_globals}
-use Rattle.lift_spec.specs.declared.event.Event.{Event as Happening}
-use Rattle.lift_spec.specs.declared.event.Event.TheVariants.{Start as Starts, Instruction as Instructs, Commit as Commits, Refresh as Refreshes}
-use Rattle.lift_spec.specs.Calls.{opening_calls, ticket_of}
-use Rattle.lift_spec.specs.World.{World}
-use Rattle.il_machine.specs.Opening.{shown_of}
-use Rattle.lift_world.specs.declared.event.Event.{Event}
-use Rattle.lift_world.specs.declared.event.Event.TheVariants.{Start, Instruction, Commit, Refresh}
-use Rattle.lift_spec.specs.declared.event.Reply.{Reply}
-use Rattle.lift_spec.specs.declared.event.EventFault.TheVariants.{FieldOutOfRange, NoOpenScan, AlreadyOpen, NotAtEnd, NoSuchActor}
-use Rattle.lift_spec.specs.declared.event.Reply.TheVariants.{Started, More, End, Committed, Refreshed, Refused}
+use Rattle.il_code.specs.Layout.{Rows}
+use Rattle.il_machine.specs.Going.{Stored}
+use Rattle.lift_spec.specs.World.{World, Group, TaskState, flat}
+use Rattle.lift_spec.specs.declared.image.Image.{Image}
+use Rattle.lift_spec.specs.declared.calls.Call.{Call}
+use Rattle.lift_spec.specs.declared.calls.Slot.{Slot}
+use Rattle.lift_spec.specs.declared.calls.Slot.TheVariants.{Free, Waiting, Told}
+use Rattle.lift_spec.specs.Calls.{Calls}
+use Rattle.lift_spec.specs.Replies.{Reply, Started, More, End, Committed, Refreshed, New, Already, Gathered, Held, Refused}
 use Rattle.lift_spec.specs.declared.report.Report.{Report}
-use Rattle.lift_spec.specs.declared.report.Rule.TheVariants.{NotLevel}
+use Rattle.lift_spec.specs.declared.event.Reply.{Reply as Answer}
+use Rattle.lift_spec.specs.declared.event.Reply.TheVariants as answer
+use Rattle.lift_spec.specs.declared.event.Event.{Event}
+use Rattle.lift_spec.specs.declared.event.Event.TheVariants.{Start, Instruction, Commit, Refresh, Press, Gather}
+use Rattle.lift_sound.specs.Runs.{IsReached}
+use Rattle.lift_world.specs.declared.controller.Controller.{Controller}
+use Rattle.lift_world.specs.declared.shared.Core.{Core}
+use Rattle.lift_world.specs.declared.shared.Seat.{Seat}
 
 -- the replies so far, and how many there is room for in all
 pub record Answers : Type 0 where
   pub items : List Reply
   pub room : ℕ
+  pub reports : ℕ
+  pub report_room : ℕ
 
--- with the time, RUNLIMIT, a car's fields and its open command
-abbrev pub with_fields : ℕ → ℕ → CarFields → Bool → Values → Values
-with_fields time run_limit car opens m =
-    insert (insert (insert (insert (insert (insert (insert (insert (insert m (codes "NOW") (Integer (pos time))) (codes "RUNLIMIT") (Integer (pos run_limit))) (codes "POS") (Integer (pos car.pos)))
-    (codes "LEVEL") (Boolean car.level)) (codes "TOP") (Boolean car.top)) (codes "BOTTOM") (Boolean car.bottom)) (codes "LOCKED") (Boolean car.locked)) (codes "OPENED") (Boolean car.opened)) (codes "OPEN") (Boolean opens)
+-- REPLIES
 
--- the outputs of a car whose motor is still, where its door is asked to be open
-unfoldable pub outputs_at : Bool → Bool → CarOutputs
-outputs_at asked level = record { motor = Still; opens = asked && level }
+-- a reply, and the replies to come, where the reports of those with one are told in their order
+abbrev pub replies_of : List Answer → List Report → List Reply
+replies_of [] reports = []
+replies_of (answer.Committed ∷ answers) [] = []
+replies_of (answer.Committed ∷ answers) (r ∷ reports) = Committed r ∷ replies_of answers reports
+replies_of (answer.Refreshed ∷ answers) [] = []
+replies_of (answer.Refreshed ∷ answers) (r ∷ reports) = Refreshed r ∷ replies_of answers reports
+replies_of (answer.Started ∷ answers) reports = Started ∷ replies_of answers reports
+replies_of (answer.More ∷ answers) reports = More ∷ replies_of answers reports
+replies_of (answer.End ∷ answers) reports = End ∷ replies_of answers reports
+replies_of (answer.New ∷ answers) reports = New ∷ replies_of answers reports
+replies_of (answer.Already ∷ answers) reports = Already ∷ replies_of answers reports
+replies_of (answer.Gathered mask ∷ answers) reports = Gathered mask ∷ replies_of answers reports
+replies_of (answer.Held ∷ answers) reports = Held ∷ replies_of answers reports
+replies_of (answer.Refused fault ∷ answers) reports = Refused fault ∷ replies_of answers reports
 
--- what a commit and a refresh report of one such car
-unfoldable pub report_of : Bool → Bool → Report
-report_of asked level =
-    record { outputs = outputs_at asked level ∷ []; denials = if asked && not level then record { car = 1; rule = NotLevel } ∷ [] else []; answers = []; entered = [] }
+-- how many of the answers have a report
+abbrev pub reports_of : List Answer → ℕ
+reports_of [] = 0
+reports_of (answer.Committed ∷ answers) = suc (reports_of answers)
+reports_of (answer.Refreshed ∷ answers) = suc (reports_of answers)
+reports_of (_ ∷ answers) = reports_of answers
 
--- the code of what a scan keeps
-abbrev pub kept_code : Coded Kept
-kept_code =
-    code_by (Text × ((Values × Values) × (Option ℕ × Option Content))) (coded× (coded_list coded_ℕ) (coded× (coded× values_code values_code) (coded× (coded_option coded_ℕ) (coded_option content_row.the_row.coded))))
-    (λ k. (k.unit, ((k.variables, k.written), (k.place, k.result)))) (λ c. record { unit = c.0; variables = c.1.0.0; written = c.1.0.1; place = c.1.1.0; result = c.1.1.1 }) (λ _. refl)
+-- a report for each answer that has one, and no more
+abbrev pub AreReports : List Answer → List Report → Type 0
+AreReports answers reports = length reports ≡ reports_of answers
 
--- A world of one car: the verified configuration, the image, the task's variables, what its scans are shown of the image, and where its scan stands, if one is open.
-pub record Running : Type 0 where
-  pub program : Program
-  pub image : Image
-  pub variables : Values
-  pub shown : Values
-  pub scan : Kept
-  pub busy : Bool
+-- how many of the events may have a report
+abbrev pub reporting : List Event → ℕ
+reporting [] = 0
+reporting (Commit t ∷ events) = suc (reporting events)
+reporting (Refresh fields ∷ events) = suc (reporting events)
+reporting (_ ∷ events) = reporting events
 
--- its code
-abbrev pub running_code : Coded Running
-running_code =
-    code_by ((Program × Image) × ((Values × Values) × (Kept × Bool))) (coded× (coded× verified_code image.the_row.coded) (coded× (coded× values_code values_code) (coded× kept_code coded_bool)))
-    (λ w. ((w.program, w.image), ((w.variables, w.shown), (w.scan, w.busy)))) (λ c. record { program = c.0.0; image = c.0.1; variables = c.1.0.0; shown = c.1.0.1; scan = c.1.1.0; busy = c.1.1.1 }) (λ _. refl)
+-- TASKS
 
--- the fields and outputs of one car, whose motor is still and which opens its door only at a level
-pub record IsOneCar (i : Image) : Type 0 where
-  pub fields : CarFields
-  pub cars : i.fields.cars ≡ fields ∷ []
-  pub outputs : CarOutputs
-  pub told : i.outputs ≡ outputs ∷ []
-  pub still : outputs.motor ≡ Still
-  pub opens : outputs.opens ≡ true → fields.level ≡ true
+-- the task of a number, if it is there
+abbrev pub seat_at : Core → ℕ → Option Seat
+seat_at k t = flat (slice_get k.seats.items t)
 
--- such a world by its rows: the named values are what the rows of the task hold
-abbrev pub running_of : Program → Image → Begin → Stored → Bool → Running
-running_of p i b s busy =
-    record { program = p; image = i; variables = variables_in p.config 1 b.variables; shown = image_in p.config 1 b.snapshot; scan = kept_of p.config 1 s; busy = busy }
+-- whether a scan of the task is open
+abbrev pub open_by : Option Seat → Bool
+open_by None = false
+open_by (Some s) = is_some s.tickets
 
--- a row for each variable of the task and each of the image, and a store of a scan of the task
-pub record HasRows (c : Config) (b : Begin) (s : Stored) : Type 0 where
-  pub variables : FitsOwn c 1 b.variables
-  pub snapshot : FitsSeen c 1 b.snapshot
-  pub scan : IsScanOf c 1 s
+abbrev pub is_open : Core → ℕ → Bool
+is_open k t = open_by (seat_at k t)
 
--- what holds of every world
-pub record IsWorldOf (w : Running) : Type 0 where
-  pub runnable : IsRunnable w.program.config
-  pub image : IsOneCar w.image
-  pub ranges : FieldsInRange (sizes_of w.program.config) w.image.fields
-  pub own : OwnsDeclared w.program.config w.variables
-  pub scan_own : OwnsDeclared w.program.config w.scan.variables
-  pub variables_there : HaveSameNames w.scan.variables w.variables
-  pub unit : w.scan.unit ≡ runnable.checked.resolved.program.name.name
-  -- what scans are shown is the image, under its names
-  pub sees : w.shown ≡ shown_of w.program.config w.image
-  -- no scan wishes a motor or a serve
-  pub motor : whole_of (get (over w.scan.written w.scan.variables) (codes "MOTOR")) ≡ pos 0
-  pub serve : whole_of (get (over w.scan.written w.scan.variables) (codes "SERVE")) ≡ pos 0
+-- a task with its variables by name
+abbrev pub task_in : Config → ℕ → Seat → TaskState
+task_in c t s = record { variables = variables_in c t s.variables; tickets = s.tickets }
 
--- THE WORLD OF THE DEFINITIONS
+abbrev pub seated : Config → ℕ → Option Seat → Option TaskState
+seated c t None = None
+seated c t (Some s) = Some (task_in c t s)
 
--- the tickets that an open scan of such a group saw: no call waits
-abbrev pub tickets_of : Config → Bool → Option (List (Option ℕ))
-tickets_of c busy = if busy then Some (map ticket_of (opening_calls (sizes_of c)).slots) else None
+-- the tasks, of which the first has this number
+abbrev pub tasks_in : Config → ℕ → List (Option Seat) → List (Option TaskState)
+tasks_in c t [] = []
+tasks_in c t (s ∷ seats) = seated c t s ∷ tasks_in c (t + 1) seats
 
--- the world of a configuration with one car, from its image, the car's variables, and where its scan stands, if one is open: GROUP has no program, and no call waits
-unfoldable pub world_by : Config → Image → Values → Kept → Bool → World
-world_by c i variables scan busy =
-    record {
-      group = record { image = i; calls = opening_calls (sizes_of c); globals = opening_globals c; tasks = None ∷ Some (record { variables = variables; tickets = tickets_of c busy }) ∷ [] };
-      scans = None ∷ (if busy then Some (state_of scan) else None) ∷ [];
-      desk = [];
-      hand = [];
-    }
+-- the group of the definitions, by its parts
+abbrev pub group_by : Config → Image → Calls → List (Option Seat) → Group
+group_by c image calls seats = record { image = image; calls = calls; globals = opening_globals c; tasks = tasks_in c 0 seats }
 
--- the world of the definitions that such a world is
-abbrev pub world_of : Running → World
-world_of w = world_by w.program.config w.image w.variables w.scan w.busy
+abbrev pub group_in : Config → Core → Group
+group_in c k = group_by c k.image k.calls k.seats.items
 
--- an event as one of the definitions
-abbrev pub event_of : Event → Happening
-event_of (Start task) = Starts task
-event_of (Instruction task) = Instructs task
-event_of (Commit task) = Commits task
-event_of (Refresh fields) = Refreshes fields
+-- SCANS
 
--- WHAT EACH EVENT DOES
+-- where the scan of a task stands: it is open while the task has the tickets that it saw
+abbrev pub scanned : Config → ℕ → Option Seat → Option Stored → Option State
+scanned c t None o = None
+scanned c t (Some s) None = None
+scanned c t (Some s) (Some k) = if is_some s.tickets then Some (state_of (kept_of c t k)) else None
 
--- the reply to an event that did not happen
-abbrev pub IsRefusal : Reply → Type 0
-IsRefusal (Refused fault) = Unit {0}
-IsRefusal _ = ⊥
+-- the scans, of which the first is that of the task of this number
+abbrev pub scans_in : Config → ℕ → List (Option Seat) → List (Option Stored) → List (Option State)
+scans_in c t [] stores = []
+scans_in c t (s ∷ seats) [] = []
+scans_in c t (s ∷ seats) (k ∷ stores) = scanned c t s k ∷ scans_in c (t + 1) seats stores
 
--- an event that is refused changes nothing
-abbrev pub RefusesUnchanged : Running → Running → Reply → Type 0
-RefusesUnchanged before after reply = IsRefusal reply → after ≡ before
+-- THE WORLD
 
--- a scan's start: the task's variables and the image as they are now, at the first instruction, with no current result
-abbrev pub started : Running → Running
-started w = record w { scan = record { unit = w.scan.unit; variables = w.variables; written = w.shown; place = Some 0; result = None }; busy = true }
+-- the world of the definitions, by its parts
+abbrev pub world_by : Config → Image → Calls → List (Option Seat) → List (Option Stored) → List Call → List Call → World
+world_by c image calls seats stores desk hand = record { group = group_by c image calls seats; scans = scans_in c 0 seats stores; desk = desk; hand = hand }
 
--- whether the scan of a world has asked that the door be open
-unfoldable pub asks_open : Running → Bool
-asks_open w = truth_of (get (over w.scan.written w.scan.variables) (codes "OPEN"))
+abbrev pub world_of : Controller → World
+world_of w = world_by w.verified.config w.core.image w.core.calls w.core.seats.items w.stores.items w.desk w.hand
 
--- what a commit of CAR1 leaves of its outputs, and what it denies
-unfoldable pub committed : Running → Settled
-committed w = settled_car w.image 1 Still (asks_open w)
+-- WHAT HOLDS OF IT
 
--- a commit: the outputs are settled under the fields, and the task has the variables that its scan left
-unfoldable pub after_commit : Running → Running
-after_commit w =
-    record w {
-      image = record { fields = w.image.fields; outputs = (committed w).outputs ∷ [] };
-      variables = w.scan.variables;
-      shown = insert w.shown (codes "OPEN") (Boolean (committed w).outputs.opens);
-      busy = false;
-    }
+-- each task that is there has a row for each of its variables, each with a value of its declared set
+abbrev pub SeatsFit : Config → Core → Type 0
+SeatsFit c k = (t : ℕ) (s : Seat) → seat_at k t ≡ Some s → FitsOwn c t s.variables × OwnsDeclared c (variables_in c t s.variables)
 
--- what a commit reports
-unfoldable pub commit_report : Running → Report
-commit_report w = record { outputs = (committed w).outputs ∷ []; denials = denials_of 1 (committed w).denials; answers = []; entered = [] }
+-- there is a store for each task, of a scan of it
+pub record StoresFit (c : Config) (k : Core) (stores : List (Option Stored)) : Type 0 where
+  pub as_many : length stores ≡ length k.seats.items
+  pub there : (t : ℕ) → is_some (flat (slice_get stores t)) ≡ is_some (seat_at k t)
+  pub each : (t : ℕ) (s : Stored) → flat (slice_get stores t) ≡ Some s → IsScanOf c t s
 
--- the image after a refresh
-unfoldable pub refreshed : Image → Fields → Image
-refreshed i fields = record { fields = fields; outputs = (settled_all i.outputs fields).outputs }
+-- what holds of every world: some history of events has led to it from the opening world, and its rows fit
+pub record IsWorldOf (w : Controller) : Type 0 where
+  pub seats : SeatsFit w.verified.config w.core
+  pub stores : StoresFit w.verified.config w.core w.stores.items
+  pub reached : IsReached w.verified.config (world_of w)
 
--- what a refresh reports
-unfoldable pub refresh_report : Image → Fields → Report
-refresh_report i fields = record { outputs = (settled_all i.outputs fields).outputs; denials = (settled_all i.outputs fields).denials; answers = []; entered = [] }
+-- the tasks once one has another variables and tickets
+abbrev pub with_seat : Core → ℕ → Rows → Option (List (Option ℕ)) → List (Option Seat)
+with_seat k t v tickets = slice_set k.seats.items t (Some (record { variables = v; tickets = tickets }))
 
--- Start: 64 where there is no such task, 62 while a scan is open, and otherwise the scan begins
-pub record IsStart (before after : Running) (reply : Reply) (task : ℕ) : Type 0 where
-  pub other : task ≢ 1 → reply ≡ Refused NoSuchActor
-  pub busy : task ≡ 1 → before.busy ≡ true → reply ≡ Refused AlreadyOpen
-  pub begins : task ≡ 1 → before.busy ≡ false → (reply ≡ Started) × (after ≡ started before)
-
--- Instruction: 64 where there is no such task, 61 without a scan or behind its end, and otherwise one step of the scan alone
-pub record IsInstruction (before after : Running) (reply : Reply) (task : ℕ) : Type 0 where
-  pub other : task ≢ 1 → reply ≡ Refused NoSuchActor
-  pub idle : task ≡ 1 → before.busy ≡ false → reply ≡ Refused NoOpenScan
-  pub ended : task ≡ 1 → before.busy ≡ true → before.scan.place ≡ None → reply ≡ Refused NoOpenScan
-  pub step : task ≡ 1 → before.busy ≡ true → before.scan.place ≢ None → step before.program.config (state_of before.scan) ≡ Next (state_of after.scan)
-  pub more : task ≡ 1 → before.busy ≡ true → before.scan.place ≢ None → after.scan.place ≢ None → reply ≡ More
-  pub end : task ≡ 1 → before.busy ≡ true → before.scan.place ≢ None → after.scan.place ≡ None → reply ≡ End
-  pub only : after ≡ record before { scan = after.scan }
-
--- Commit: 64 where there is no such task, 61 without a scan, 63 before its end, and otherwise the settled commit
-pub record IsCommit (before after : Running) (reply : Reply) (task : ℕ) : Type 0 where
-  pub other : task ≢ 1 → reply ≡ Refused NoSuchActor
-  pub idle : task ≡ 1 → before.busy ≡ false → reply ≡ Refused NoOpenScan
-  pub going : task ≡ 1 → before.busy ≡ true → before.scan.place ≢ None → reply ≡ Refused NotAtEnd
-  pub commits : task ≡ 1 → before.busy ≡ true → before.scan.place ≡ None → (reply ≡ Committed (commit_report before)) × (after ≡ after_commit before)
-
--- Refresh: 60 where the fields are out of range, and otherwise the settled refresh; no scan sees it before its next start
-pub record IsRefresh (before after : Running) (reply : Reply) (fields : Fields) : Type 0 where
-  pub outside : fields_in_range (sizes_of before.program.config) fields ≡ false → reply ≡ Refused FieldOutOfRange
-  pub refreshes : fields_in_range (sizes_of before.program.config) fields ≡ true → (reply ≡ Refreshed (refresh_report before.image fields)) × (after.image ≡ refreshed before.image fields)
-  pub scan : (after.scan ≡ before.scan) × (after.busy ≡ before.busy)
-  pub variables : after.variables ≡ before.variables
+-- how many slots are free
+abbrev pub free_count : List Slot → ℕ
+free_count [] = 0
+free_count (Free ∷ slots) = suc (free_count slots)
+free_count (Waiting ticket call ∷ slots) = free_count slots
+free_count (Told ticket call car ∷ slots) = free_count slots
 
 -- RUNS TO THE END OF A SCAN
 
 -- so many instructions of a task
-abbrev pub instructions : ℕ → ℕ → List Happening
-instructions task zero = []
-instructions task (suc n) = Instructs task ∷ instructions task n
+abbrev pub instructions : ℕ → ℕ → List Event
+instructions t zero = []
+instructions t (suc n) = Instruction t ∷ instructions t n
 
 -- the replies to so many, of which the last ends the scan
 abbrev pub up_to_end : ℕ → List Reply
 up_to_end zero = []
 up_to_end (suc zero) = End ∷ []
 up_to_end (suc (suc n)) = More ∷ up_to_end (suc n)
+
+-- WHAT A STEP LEAVES OF A STORE
+
+-- one step of a task's scan, and its answer
+pub record Steps (c : Config) (t : ℕ) (before : Stored) (after : Option Stored) (reply : Answer) : Type 0 where
+  pub store : Stored
+  pub is : after ≡ Some store
+  pub scan : IsScanOf c t store
+  pub step : step c (state_of (kept_of c t before)) ≡ Next (state_of (kept_of c t store))
+  pub more : place_of store.running ≢ None → reply ≡ answer.More
+  pub end : place_of store.running ≡ None → reply ≡ answer.End
+
+-- so many steps to the end of a task's scan
+pub record RunsOut (c : Config) (t : ℕ) (before : Stored) (after : Option Stored) (n : ℕ) : Type 0 where
+  pub store : Stored
+  pub is : after ≡ Some store
+  pub scan : IsScanOf c t store
+  pub some : 1 ≤ n
+  pub steps : Reaches c n (state_of (kept_of c t before)) (state_of (kept_of c t store))
+  pub ended : place_of store.running ≡ None

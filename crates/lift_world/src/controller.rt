@@ -1,322 +1,311 @@
-// The controller of a group: its image, its task's variables, and where the scan stands.
+// A lift group, without its history: what the tasks share, and where their scans stand.
 
+ghost use Rattle.std.specs.Prelude.{◌≡◌, ◌≢◌, ℕ, suc, ◌+◌, ◌≤◌, [], length, map, slice_get, is_some, None, Some, Ok, IfOk, IfErr, IsSome};
 ghost use Rattle.il_spec.specs.declared.fault.Refusal.TheVariants.{Memory};
-ghost use Rattle.std.specs.Prelude.{◌≡◌, ◌≢◌, ℕ, [], OnOk, ◌+◌, ◌≤◌, length, map, IfOk, IfErr, Ok, true, false, None};
-ghost use Rattle.il_spec.specs.declared.tree.Unit.{Unit as Organized};
-ghost use Rattle.il_rules.specs.Symbols.{IsProgram};
-ghost use Rattle.il_run.specs.Scan.{opening_variables};
-ghost use Rattle.il_machine.specs.Opening.{shown_of};
-ghost use Rattle.il_machine.specs.Scanning.{OwnsDeclared, variables_in, image_in, kept_of};
-ghost use Rattle.lift_spec.specs.Image.{sizes_of, opening_image, FieldsInRange, fields_in_range, Obeys};
-ghost use Rattle.il_run.specs.NameMap as values;
+ghost use Rattle.il_machine.specs.Going.{Stored};
+ghost use Rattle.il_machine.specs.Scanning.{IsScanOf, kept_of, place_of, state_of};
+ghost use Rattle.lift_spec.specs.Calls.{ticket_of};
+ghost use Rattle.lift_spec.specs.declared.event.EventFault.TheVariants.{NoOpenScan};
+ghost use Rattle.lift_world.specs.declared.shared.Seat.{Seat as SeatOf};
+ghost use Rattle.lift_spec.specs.Snapshot.{program_of, scan_begins};
+ghost use Rattle.lift_spec.specs.declared.report.Report.{Report as ReportOf};
+ghost use Rattle.lift_spec.specs.Replies.{reply_with};
+ghost use Rattle.lift_spec.specs.Replies as replies;
 ghost use Rattle.lift_spec.specs.World as model;
-ghost use Rattle.il_machine.specs.Costs.{AreCosts};
-ghost use Rattle.lift_world.specs.Running.{HasRows, outputs_at, report_of, commit_report, after_commit, refresh_report, refreshed, RefusesUnchanged, IsWorldOf, IsStart, IsInstruction, IsCommit, IsRefresh, world_of, event_of, instructions, up_to_end};
-ghost use Rattle.lift_spec.specs.declared.event.Event.TheVariants.{Instruction as Instructs};
-ghost use Rattle.lift_spec.specs.declared.event.Reply.TheVariants.{Refused};
+ghost use Rattle.lift_world.specs.Running.{seat_at, task_in, group_in, with_seat, Steps, RunsOut, world_of, IsWorldOf, SeatsFit, StoresFit, reporting, instructions, up_to_end};
+ghost use Rattle.lift_spec.specs.declared.event.Event.TheVariants as event;
 
-use crate::event::Event;
-use crate::opening::opening_image;
 use crate::replies::Replies;
-use crate::shown::show;
-use il_machine::{Begin, ImageFlag, Stepped, Store, Value, Verified, scan, step};
+use crate::shared::Core;
+use il_machine::{Stepped, Store, Verified, scan, step};
 use il_spec::fault::Refusal;
-use lift_image::{CarOutputs, Fields, Image, Motor, Row, Sizes, in_range};
-use lift_spec::event::{EventFault, Reply};
-use lift_spec::report::{Denial, Report, Rule};
+use lift_image::{Fields, in_range, is_floor};
+use lift_spec::calls::Call;
+use lift_spec::event::{Event, EventFault, Reply};
+use lift_spec::hand::Hand;
+use lift_spec::report::Report;
 use std::alloc::Global;
-use std::marker::Model;
 
-/// The number of the only task so far, CAR1.
-const CAR: u8 = 1;
-
-/// A lift group of one car, without its history.
+/// A lift group: its verified configuration, what its tasks share, where each task's scan stands, the calls on the desk and those
+/// in the hand.
 #[derive(Drop)]
 pub struct Controller {
-    verified: Verified,
-    image: Image,
-    begin: Begin,
-    store: Store,
-    busy: bool,
+    pub verified: Verified,
+    pub core: Core,
+    pub stores: Vec<Option<Store>>,
+    pub desk: Hand,
+    pub hand: Hand,
 }
 
-impl Model for Controller {
-    ghost use Rattle.lift_world.specs.Running.{Running, running_code, running_of, IsWorldOf, HasRows};
-
-    ghost Value = { Running };
-
-    ghost coded = { running_code };
-
-    ghost view = { λ w. running_of w.verified w.image w.begin w.store w.busy };
-
-    ghost invariant = { λ w. IsWorldOf (running_of w.verified w.image w.begin w.store w.busy) × HasRows w.verified.config w.begin w.store };
-}
-
-// The car's outputs, where its door is asked to be open: it is so only at a level.
-#[tactic(auto, unfolding(crate::specs::Running::outputs_at))]
-fn outputs_at(asked: bool, level: bool) -> CarOutputs
-    ensures { result ≡ outputs_at asked level }
-{
-    CarOutputs {
-        motor: Motor::Still,
-        opens: asked && level,
-    }
-}
-
-// What a commit and a refresh report: the outputs, and a denial of rule 4 where the door was asked for away from a level.
-#[tactic(auto, unfolding(crate::specs::Running::report_of))]
-fn report(asked: bool, level: bool) -> Report
-    ensures { result ≡ report_of asked level }
-{
-    let mut outputs = Row::new();
-    outputs.push(outputs_at(asked, level));
-    let mut denials = Row::new();
-    if asked && !level {
-        denials.push(Denial {
-            car: CAR,
-            rule: Rule::NotLevel,
-        });
-    }
-    Report {
-        outputs,
-        denials,
-        answers: Row::new(),
-        entered: Row::new(),
-    }
-}
-
-// A scan's start in the opening world, and the same to begin the next scans with.
-fn first_scan(alloc: Global, verified: &Verified) -> Result<(Store, Begin), Refusal>
-    ensures rows { IfOk result (λ s. HasRows verified.now.config s.1 s.0) }
-    ensures variables { IfOk result (λ s. (u : Organized) → IsProgram verified.now.config u → (kept_of verified.now.config 1 s.0).variables ≡ opening_variables verified.now.config u) }
-    ensures written { IfOk result (λ s. (kept_of verified.now.config 1 s.0).written ≡ shown_of verified.now.config (opening_image (sizes_of verified.now.config))) }
-    ensures own { IfOk result (λ s. OwnsDeclared verified.now.config (kept_of verified.now.config 1 s.0).variables) }
-    ensures begin { IfOk result (λ s. (variables_in verified.now.config 1 s.1.variables ≡ (kept_of verified.now.config 1 s.0).variables) × (image_in verified.now.config 1 s.1.snapshot ≡ (kept_of verified.now.config 1 s.0).written)) }
+// A store for a task, if the group has it.
+fn opening_store(alloc: Global, verified: &Verified, task: u8) -> Result<Option<Store>, Refusal>
+    requires { task ≤ 8 }
+    ensures there { IfOk result (λ o. is_some o ≡ is_some (program_of verified.now.config task)) }
+    ensures scan { IfOk result (λ o. (s : Stored) → o ≡ Some s → IsScanOf verified.now.config task s) }
     ensures memory { IfErr result (λ e. e ≡ Memory) }
 {
-    let store = Store::new(alloc, verified, CAR)?;
-    let begin = Begin::of(alloc, verified, CAR, &store)?;
-    Ok((store, begin))
+    let _config = verified.config();
+    if !verified.has_task(task) {
+        return Ok(None);
+    }
+    Ok(Some(Store::new(alloc, verified, task)?))
+}
+
+// A store for each task: GROUP, and then the cars.
+fn opening_stores(alloc: Global, verified: &Verified, cars: u8) -> Result<Vec<Option<Store>>, Refusal>
+    requires { cars ≤ 8 }
+    ensures as_many { IfOk result (λ ss. length ss.items ≡ suc cars) }
+    ensures there { IfOk result (λ ss. (t : ℕ) → t ≤ cars → is_some (model.flat (slice_get ss.items t)) ≡ is_some (program_of verified.now.config t)) }
+    ensures each { IfOk result (λ ss. (t : ℕ) (s : Stored) → model.flat (slice_get ss.items t) ≡ Some s → IsScanOf verified.now.config t s) }
+    ensures memory { IfErr result (λ e. e ≡ Memory) }
+{
+    let mut stores = Vec::new(alloc);
+    for task in 0..cars + 1 {
+        stores.push(opening_store(alloc, verified, task)?)?;
+    }
+    Ok(stores)
+}
+
+// The task's scan begins.
+fn begin(core: &mut Core, verified: &Verified, task: u8, store: &mut Option<Store>)
+    requires there { IsSome (seat_at core.old task) }
+    requires kept { IsSome store.old }
+    requires fits { SeatsFit verified.now.config core.old }
+    requires ranges { model.InRanges verified.now.config (group_in verified.now.config core.old) }
+    requires scan { (st : Stored) → store.old ≡ Some st → IsScanOf verified.now.config task st }
+    ensures shared { (core.new.image ≡ core.old.image) × (core.new.calls ≡ core.old.calls) }
+    ensures seats { (s : SeatOf) → seat_at core.old task ≡ Some s → core.new.seats.items ≡ with_seat core.old task s.variables (Some (map ticket_of core.old.calls.slots)) }
+    ensures store { (s : SeatOf) → seat_at core.old task ≡ Some s → (st : Stored) × (store.new ≡ Some st) × IsScanOf verified.now.config task st × (state_of (kept_of verified.now.config task st) ≡ scan_begins verified.now.config task (model.beginning_of (group_in verified.now.config core.old) (task_in verified.now.config task s))) }
+{
+    if let Some(store) = store {
+        core.start(verified, task, store);
+    }
+}
+
+// One step of a task's scan, if it has not ended.
+fn advance(verified: &Verified, task: u8, store: &mut Option<Store>) -> Reply
+    requires kept { IsSome store.old }
+    requires scan { (st : Stored) → store.old ≡ Some st → IsScanOf verified.now.config task st }
+    ensures ended { (st : Stored) → store.old ≡ Some st → place_of st.running ≡ None → (result ≡ Reply.Refused NoOpenScan) × (store.new ≡ store.old) }
+    ensures step { (st : Stored) → store.old ≡ Some st → place_of st.running ≢ None → Steps verified.now.config task st store.new result }
+{
+    match store {
+        Some(store) => {
+            if store.has_ended() {
+                return Reply::Refused(EventFault::NoOpenScan);
+            }
+            match step(verified, task, store) {
+                Stepped::More => Reply::More,
+                Stepped::End => Reply::End,
+            }
+        }
+        None => unreachable!(),
+    }
+}
+
+// The rest of a task's scan, if it has not ended.
+fn run_out(verified: &Verified, task: u8, store: &mut Option<Store>) -> Result<u32, EventFault>
+    requires kept { IsSome store.old }
+    requires scan { (st : Stored) → store.old ≡ Some st → IsScanOf verified.now.config task st }
+    ensures ended { IfErr result (λ fault. (fault ≡ NoOpenScan) × (store.new ≡ store.old) × ((st : Stored) → store.old ≡ Some st → place_of st.running ≡ None)) }
+    ensures steps { IfOk result (λ n. (st : Stored) → store.old ≡ Some st → RunsOut verified.now.config task st store.new n) }
+{
+    match store {
+        Some(store) => {
+            if store.has_ended() {
+                return Err(EventFault::NoOpenScan);
+            }
+            Ok(scan(verified, task, store))
+        }
+        None => unreachable!(),
+    }
 }
 
 impl Controller {
-    /// The opening world of a configuration.
+    /// The group as it opens: no scan is open, and no call waits.
     pub fn new(alloc: Global, verified: Verified) -> Result<Controller, Refusal>
-        ensures same { IfOk result (λ w. w.program ≡ verified) }
+        ensures same { IfOk result (λ w. w.verified ≡ verified) }
         ensures opening { IfOk result (λ w. world_of w ≡ model.opening verified.config) }
+        ensures seats { IfOk result (λ w. SeatsFit verified.config w.core) }
+        ensures stores { IfOk result (λ w. StoresFit verified.config w.core w.stores.items) }
         ensures memory { IfErr result (λ e. e ≡ Memory) }
     {
-        let (store, begin) = first_scan(alloc, &verified)?;
-        let image = opening_image(verified.sizes());
+        let core = Core::new(alloc, &verified)?;
+        let stores = opening_stores(alloc, &verified, verified.sizes().cars)?;
         Ok(Controller {
             verified,
-            image,
-            begin,
-            store,
-            busy: false,
+            core,
+            stores,
+            desk: Hand::new(),
+            hand: Hand::new(),
         })
     }
 
+    // Start: the task's scan begins.
     fn start(&mut self, task: u8) -> Reply
-        ensures world { task ≡ 1 → IsWorldOf self.old }
-        ensures start { IsStart self.old self.new result task }
-        ensures same { self.new.program ≡ self.old.program }
-        ensures refused { RefusesUnchanged self.old self.new result }
+        requires { IsWorldOf self.old }
+        ensures model { (r : ReportOf) → model.happens self.old.verified.config (world_of self.old) (event.Start task) ≡ Ok (world_of self.new, reply_with result r) }
+        ensures same { self.new.verified ≡ self.old.verified }
+        ensures seats { SeatsFit self.new.verified.config self.new.core }
+        ensures stores { StoresFit self.new.verified.config self.new.core self.new.stores.items }
     {
-        if task != CAR {
+        if self.core.seat(task).is_none() {
             return Reply::Refused(EventFault::NoSuchActor);
         }
-        if self.busy {
+        if self.core.is_open(task) {
             return Reply::Refused(EventFault::AlreadyOpen);
         }
-        self.store.restart(&self.verified, CAR, &self.begin);
-        self.busy = true;
+        begin(
+            &mut self.core,
+            &self.verified,
+            task,
+            &mut self.stores[usize::from(task)],
+        );
         Reply::Started
     }
 
+    // Instruction: one step of the task's open scan.
     fn instruction(&mut self, task: u8) -> Reply
-        ensures world { task ≡ 1 → IsWorldOf self.old }
-        ensures instruction { IsInstruction self.old self.new result task }
-        ensures same { self.new.program ≡ self.old.program }
-        ensures refused { RefusesUnchanged self.old self.new result }
+        requires { IsWorldOf self.old }
+        ensures model { (r : ReportOf) → model.happens self.old.verified.config (world_of self.old) (event.Instruction task) ≡ Ok (world_of self.new, reply_with result r) }
+        ensures same { self.new.verified ≡ self.old.verified }
+        ensures seats { SeatsFit self.new.verified.config self.new.core }
+        ensures stores { StoresFit self.new.verified.config self.new.core self.new.stores.items }
     {
-        if task != CAR {
+        if self.core.seat(task).is_none() {
             return Reply::Refused(EventFault::NoSuchActor);
         }
-        if !self.busy {
+        if !self.core.is_open(task) {
             return Reply::Refused(EventFault::NoOpenScan);
         }
-        if self.store.has_ended() {
-            return Reply::Refused(EventFault::NoOpenScan);
-        }
-        match step(&self.verified, CAR, &mut self.store) {
-            Stepped::More => Reply::More,
-            Stepped::End => Reply::End,
-        }
+        advance(&self.verified, task, &mut self.stores[usize::from(task)])
     }
 
-    #[tactic(auto, unfolding(crate::specs::Running::after_commit))]
-    fn commit(&mut self, task: u8) -> Reply
-        ensures world { task ≡ 1 → IsWorldOf self.old }
-        ensures commit { IsCommit self.old self.new result task }
-        ensures same { self.new.program ≡ self.old.program }
-        ensures refused { RefusesUnchanged self.old self.new result }
+    // Commit: the task's scan, which has ended, hands over what it left.
+    fn commit(&mut self, task: u8, report: &mut Report) -> Reply
+        requires { IsWorldOf self.old }
+        ensures model { model.happens self.old.verified.config (world_of self.old) (event.Commit task) ≡ Ok (world_of self.new, reply_with result report.new) }
+        ensures same { self.new.verified ≡ self.old.verified }
+        ensures seats { SeatsFit self.new.verified.config self.new.core }
+        ensures stores { StoresFit self.new.verified.config self.new.core self.new.stores.items }
     {
-        if task != CAR {
+        if self.core.seat(task).is_none() {
             return Reply::Refused(EventFault::NoSuchActor);
         }
-        if !self.busy {
+        if !self.core.is_open(task) {
             return Reply::Refused(EventFault::NoOpenScan);
         }
-        if !self.store.has_ended() {
+        let Some(store) = &self.stores[usize::from(task)] else {
+            unreachable!()
+        };
+        if !store.has_ended() {
             return Reply::Refused(EventFault::NotAtEnd);
         }
-        Reply::Committed(self.commit_scan())
+        *report = self.core.commit(&self.verified, task, store);
+        Reply::Committed
     }
 
-    // The scan hands over what it left.
-    fn commit_scan(&mut self) -> Report
-        requires ended { self.old.scan.place ≡ None }
-        ensures report { result ≡ commit_report self.old }
-        ensures world { self.new ≡ after_commit self.old }
+    // Refresh: the image takes the plant's fields, and the calls of the hand enter.
+    fn refresh(&mut self, fields: &Fields, report: &mut Report) -> Reply
+        requires { IsWorldOf self.old }
+        ensures model { model.happens self.old.verified.config (world_of self.old) (event.Refresh fields.now) ≡ Ok (world_of self.new, reply_with result report.new) }
+        ensures same { self.new.verified ≡ self.old.verified }
+        ensures seats { SeatsFit self.new.verified.config self.new.core }
+        ensures stores { StoresFit self.new.verified.config self.new.core self.new.stores.items }
     {
-        let asked = self.store.flag(&self.verified, CAR, ImageFlag::Open);
-        let level = self.image.fields.cars.as_slice()[0].level;
-        let outputs = outputs_at(asked, level);
-        self.store
-            .copy_variables(&self.verified, CAR, &mut self.begin.variables);
-        self.begin
-            .show_flag(&self.verified, CAR, ImageFlag::Open, outputs.opens);
-        self.image.outputs.set(0, outputs);
-        self.busy = false;
-        report(asked, level)
-    }
-
-    fn refresh(&mut self, fields: &Fields) -> Reply
-        ensures world { IsWorldOf self.old }
-        ensures refresh { IsRefresh self.old self.new result fields.now }
-        ensures same { self.new.program ≡ self.old.program }
-        ensures refused { RefusesUnchanged self.old self.new result }
-    {
-        if in_range(fields, self.sizes()) {
-            Reply::Refreshed(self.take(fields))
-        } else {
-            Reply::Refused(EventFault::FieldOutOfRange)
+        if !in_range(fields, self.verified.sizes()) {
+            return Reply::Refused(EventFault::FieldOutOfRange);
         }
+        *report = self.core.refresh(fields, &mut self.hand);
+        Reply::Refreshed
     }
 
-    // Takes fields that are in range.
-    fn take(&mut self, fields: &Fields) -> Report
-        requires { fields_in_range (sizes_of self.old.program.config) fields.now ≡ true }
-        ensures report { result ≡ refresh_report self.old.image fields.now }
-        ensures image { self.new.image ≡ refreshed self.old.image fields.now }
-        ensures others { self.new ≡ record self.old { image = self.new.image; shown = self.new.shown } }
+    // Press: the call is put on the desk.
+    fn press(&mut self, call: Call) -> Reply
+        requires { IsWorldOf self.old }
+        ensures model { (r : ReportOf) → model.happens self.old.verified.config (world_of self.old) (event.Press call) ≡ Ok (world_of self.new, reply_with result r) }
+        ensures same { self.new.verified ≡ self.old.verified }
+        ensures seats { SeatsFit self.new.verified.config self.new.core }
+        ensures stores { StoresFit self.new.verified.config self.new.core self.new.stores.items }
     {
-        let asked = self.image.outputs.as_slice()[0].opens;
-        let car = fields.cars.as_slice()[0];
-        let outputs = outputs_at(asked, car.level);
-        show(
-            &mut self.begin,
-            &self.verified,
-            fields.time,
-            fields.run_limit,
-            car,
-            outputs.opens,
-        );
-        self.image.fields.time = fields.time;
-        self.image.fields.run_limit = fields.run_limit;
-        self.image.fields.cars.set(0, car);
-        self.image.outputs.set(0, outputs);
-        report(asked, car.level)
+        let sizes = self.verified.sizes();
+        if !is_floor(call.from, sizes) || !is_floor(call.to, sizes) {
+            return Reply::Refused(EventFault::NoSuchActor);
+        }
+        if call.from == call.to {
+            return Reply::Refused(EventFault::SameFloor);
+        }
+        if self.desk.has(call) {
+            return Reply::Already;
+        }
+        self.desk.insert(call);
+        Reply::New
     }
 
-    /// One event.
-    pub fn happen(&mut self, event: &Event) -> Reply
-        ensures world { IsWorldOf self.old }
-        ensures model { model.happens self.old.program.config (world_of self.old) (event_of event.now) ≡ Ok (world_of self.new, result) }
-        ensures same { self.new.program ≡ self.old.program }
+    // Gather: the calls from a floor go from the desk to the hand, where the hand has none from there.
+    fn gather(&mut self, floor: u8) -> Reply
+        requires { IsWorldOf self.old }
+        ensures model { (r : ReportOf) → model.happens self.old.verified.config (world_of self.old) (event.Gather floor) ≡ Ok (world_of self.new, reply_with result r) }
+        ensures same { self.new.verified ≡ self.old.verified }
+        ensures seats { SeatsFit self.new.verified.config self.new.core }
+        ensures stores { StoresFit self.new.verified.config self.new.core self.new.stores.items }
     {
-        let _image = &self.image;
+        if !is_floor(floor, self.verified.sizes()) {
+            return Reply::Refused(EventFault::NoSuchActor);
+        }
+        if self.hand.has_from(floor) {
+            return Reply::Held;
+        }
+        Reply::Gathered(self.desk.move_from(floor, &mut self.hand))
+    }
+
+    /// One event. The report is written by a commit and by a refresh alone.
+    pub fn happen(&mut self, event: &Event, report: &mut Report) -> Reply
+        requires { IsWorldOf self.old }
+        ensures model { model.happens self.old.verified.config (world_of self.old) event.now ≡ Ok (world_of self.new, reply_with result report.new) }
+        ensures same { self.new.verified ≡ self.old.verified }
+        ensures world { IsWorldOf self.new }
+    {
         match event {
             Event::Start(task) => self.start(*task),
             Event::Instruction(task) => self.instruction(*task),
-            Event::Commit(task) => self.commit(*task),
-            Event::Refresh(fields) => self.refresh(fields),
+            Event::Commit(task) => self.commit(*task, report),
+            Event::Refresh(fields) => self.refresh(fields, report),
+            Event::Press(call) => self.press(*call),
+            Event::Gather(floor) => self.gather(*floor),
         }
-    }
-
-    /// The open scan of a task runs to its end, or the answer is why there is none to run.
-    pub fn finish(&mut self, task: u8) -> Result<(), EventFault>
-        ensures world { IsWorldOf self.old }
-        ensures model { OnOk result ((n : ℕ) × (model.run self.old.program.config (world_of self.old) [] (instructions task n) ≡ Ok (world_of self.new, up_to_end n))) }
-        ensures refused { IfErr result (λ fault. (self.new ≡ self.old) × (model.happens self.old.program.config (world_of self.old) (Instructs task) ≡ Ok (world_of self.old, Refused fault))) }
-        ensures same { self.new.program ≡ self.old.program }
-    {
-        let _image = &self.image;
-        if task != CAR {
-            return Err(EventFault::NoSuchActor);
-        }
-        if !self.busy {
-            return Err(EventFault::NoOpenScan);
-        }
-        let is_over = self.store.has_ended();
-        if is_over {
-            return Err(EventFault::NoOpenScan);
-        }
-        scan(&self.verified, CAR, &mut self.store);
-        Ok(())
     }
 
     /// A run over a list of events, with a reply for each.
     pub fn run(&mut self, events: &[Event], replies: &mut Replies)
+        requires world { IsWorldOf self.old }
         requires room { length replies.old.items + length events.now ≤ replies.old.room }
-        ensures model { model.run self.old.program.config (world_of self.old) replies.old.items (map event_of events.now) ≡ Ok (world_of self.new, replies.new.items) }
-        ensures same { self.new.program ≡ self.old.program }
-        ensures world { IsWorldOf self.old }
-        ensures costs { AreCosts self.old.program.config self.old.program.config.units self.old.program.costs }
+        requires report_room { replies.old.reports + reporting events.now ≤ replies.old.report_room }
+        ensures model { model.run self.old.verified.config (world_of self.old) replies.old.items events.now ≡ Ok (world_of self.new, replies.new.items) }
+        ensures same { self.new.verified ≡ self.old.verified }
+        ensures world { IsWorldOf self.new }
     {
-        let _image = &self.image;
-        let _costs = self.verified.costs();
+        let mut report = Report::new();
         'events: for event in events {
-            let reply = self.happen(event);
-            replies.push(reply);
+            let reply = self.happen(event, &mut report);
+            replies.push(reply, &mut report);
         }
     }
 
-    /// The image. It lies in its ranges and obeys the interlock.
-    pub fn image(&self) -> &Image
-        ensures image { result.now ≡ self.now.image }
-        ensures ranges { FieldsInRange (sizes_of self.now.program.config) self.now.image.fields }
-        ensures obeys { Obeys self.now.image }
+    /// The open scan of a task runs to its end. The answer is how many instructions that took, or why there is nothing to run.
+    pub fn finish(&mut self, task: u8) -> Result<u32, EventFault>
+        requires { IsWorldOf self.old }
+        ensures model { IfOk result (λ n. model.run self.old.verified.config (world_of self.old) [] (instructions task n) ≡ Ok (world_of self.new, up_to_end n)) }
+        ensures refused { IfErr result (λ fault. (self.new ≡ self.old) × (model.happens self.old.verified.config (world_of self.old) (event.Instruction task) ≡ Ok (world_of self.old, replies.Refused fault))) }
+        ensures same { self.new.verified ≡ self.old.verified }
+        ensures world { IsWorldOf self.new }
     {
-        &self.image
-    }
-
-    /// The program.
-    pub fn verified(&self) -> &Verified
-        ensures { result.now ≡ self.now.program }
-    {
-        &self.verified
-    }
-
-    /// How many cars, floors and slots the group has.
-    pub fn sizes(&self) -> Sizes
-        ensures sizes { result ≡ sizes_of self.now.program.config }
-        ensures world { IsWorldOf self.now }
-    {
-        let _image = &self.image;
-        self.verified.sizes()
-    }
-
-    /// The value of a variable of a task, as its last commit left it.
-    pub fn variable(&self, task: u8, path: &str) -> Option<Value>
-        ensures car { task ≡ 1 → result ≡ values.get self.now.variables path.now }
-        ensures other { task ≢ 1 → result ≡ None }
-    {
-        if task == CAR {
-            self.begin.variable(&self.verified, CAR, path)
-        } else {
-            None
+        if self.core.seat(task).is_none() {
+            return Err(EventFault::NoSuchActor);
         }
+        if !self.core.is_open(task) {
+            return Err(EventFault::NoOpenScan);
+        }
+        run_out(&self.verified, task, &mut self.stores[usize::from(task)])
     }
 }

@@ -2,19 +2,18 @@
 #![tactic(auto)]
 
 mod controller;
-mod event;
 mod loader;
-mod opening;
 mod replies;
-mod shown;
+mod shared;
 mod world;
 
-pub use event::Event;
 pub use il_machine::Verified;
 pub use il_spec::fault::Refusal;
 pub use lift_image::{CarFields, CarOutputs, Fields, Image, Motor, Row, Sizes};
-pub use lift_spec::event::{EventFault, Reply};
+pub use lift_spec::calls::{Answer, Call, Slot};
+pub use lift_spec::event::{Event, EventFault, Reply};
 pub use lift_spec::report::{Denial, Report, Rule};
 pub use loader::load;
 pub use replies::Replies;
+pub use shared::Core;
 pub use world::World;

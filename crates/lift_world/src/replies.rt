@@ -1,50 +1,76 @@
 // Replies, with room for them.
 
-ghost use Rattle.std.specs.Prelude.{◌≡◌, ◌≤◌, ◌<◌, [], ◌++◌, ◌∷◌, length, IfOk};
+ghost use Rattle.std.specs.Prelude.{◌≡◌, ◌≤◌, ◌+◌, ◌<◌, [], ◌++◌, ◌∷◌, length, IfOk};
+ghost use Rattle.lift_spec.specs.Replies.{reply_with, HasReport};
 
 use lift_spec::event::Reply;
+use lift_spec::report::Report;
 use std::alloc::{AllocError, Global};
 use std::marker::Model;
+use std::mem;
 
-/// Replies, with room for them.
+/// Replies, with room for them. The reports of commits and refreshes are kept apart, in the same order.
 #[derive(Drop)]
 pub struct Replies {
     replies: Vec<Reply>,
+    reports: Vec<Report>,
 }
 
 impl Model for Replies {
     ghost use Rattle.std.specs.Vec.{vec_capacity};
-    ghost use Rattle.lift_world.specs.Running.{Answers};
+    ghost use Rattle.std.specs.Prelude.{length};
+    ghost use Rattle.lift_world.specs.Running.{Answers, replies_of, AreReports};
 
     ghost Value = { Answers };
 
-    ghost view = { λ r. record { items = r.replies.items; room = vec_capacity r.replies } };
+    ghost view = { λ r. record { items = replies_of r.replies.items r.reports.items; room = vec_capacity r.replies; reports = length r.reports.items; report_room = vec_capacity r.reports } };
+
+    ghost invariant = { λ r. AreReports r.replies.items r.reports.items };
 }
 
 impl Replies {
-    /// Room for so many replies.
-    pub fn with_room(alloc: Global, room: usize) -> Result<Replies, AllocError>
-        ensures empty { IfOk result (λ r. r.items ≡ []) }
-        ensures room { IfOk result (λ r. room ≤ r.room) }
+    /// Room for so many replies, and for so many reports.
+    pub fn with_room(alloc: Global, replies: usize, reports: usize) -> Result<Replies, AllocError>
+        ensures empty { IfOk result (λ r. (r.items ≡ []) × (r.reports ≡ 0)) }
+        ensures room { IfOk result (λ r. replies ≤ r.room) }
+        ensures report_room { IfOk result (λ r. reports ≤ r.report_room) }
     {
         Ok(Replies {
-            replies: Vec::with_capacity(alloc, room)?,
+            replies: Vec::with_capacity(alloc, replies)?,
+            reports: Vec::with_capacity(alloc, reports)?,
         })
     }
 
-    /// The replies.
+    /// The replies. Where one is Committed or Refreshed, its report is the next of `reports`.
     pub fn as_slice(&self) -> &[Reply]
-        ensures { result.now ≡ self.now.items }
+        ensures { length result.now ≡ length self.now.items }
     {
         self.replies.as_slice()
     }
 
-    /// Adds a reply, for which there is room.
-    pub fn push(&mut self, reply: Reply)
-        requires { length self.old.items < self.old.room }
-        ensures items { self.new.items ≡ self.old.items ++ reply ∷ [] }
-        ensures room { self.old.room ≤ self.new.room }
+    /// The reports of the commits and refreshes, in their order.
+    pub fn reports(&self) -> &[Report]
+        ensures { length result.now ≡ self.now.reports }
     {
+        self.reports.as_slice()
+    }
+
+    /// Adds a reply, for which there is room; where it has a report, that is taken, and there is room for it.
+    pub fn push(&mut self, reply: Reply, report: &mut Report)
+        requires room { length self.old.items < self.old.room }
+        requires report_room { HasReport reply → self.old.reports < self.old.report_room }
+        ensures items { self.new.items ≡ self.old.items ++ reply_with reply report.old ∷ [] }
+        ensures room { self.old.room ≤ self.new.room }
+        ensures reports { self.new.reports ≤ self.old.reports + 1 }
+        ensures report_room { self.old.report_room ≤ self.new.report_room }
+    {
+        match reply {
+            Reply::Committed | Reply::Refreshed => self
+                .reports
+                .push(mem::replace(report, Report::new()))
+                .unwrap(),
+            _ => {}
+        }
         self.replies.push(reply).unwrap()
     }
 }

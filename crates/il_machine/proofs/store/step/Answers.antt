@@ -1,4 +1,4 @@
-use Rattle.il_machine.proofs.Stepping.{step_there, step_is, step_scan, step_own, step_unseen}
+use Rattle.il_machine.proofs.Stepping.{step_there, step_is, step_scan, step_own}
 use Rattle.il_machine.proofs.store.step.Goals as goal
 
 pub advance-requires : goal.advance-requires
@@ -12,6 +12,3 @@ returns-clause-scan c = step_scan c.args.verified.now.config c.code-code.ensures
 
 pub returns-clause-own : goal.returns-clause-own
 returns-clause-own c = step_own c.args.verified.now.config c.code-code.ensures.runnable c.args.task c.args.store.now c.advance.new.self c.requires.scan c.requires.going (rw (c.units.ensures, c.code-code.ensures.same) at c.advance.ensures)
-
-pub returns-clause-unseen : goal.returns-clause-unseen
-returns-clause-unseen c = step_unseen c.args.verified.now.config c.code-code.ensures.runnable c.args.task c.args.store.now c.advance.new.self c.requires.scan c.requires.going (rw (c.units.ensures, c.code-code.ensures.same) at c.advance.ensures)

@@ -1,0 +1,142 @@
+-- The tasks and scans of a world, by their numbers.
+use Rattle.std.proofs.Common.{◌≡◌, ℕ, zero, suc, ◌+◌, ◌<◌, ◌⊎◌, inl, inr, Bool, true, false, List, [], ◌∷◌, length, Option, Some, None, refl, sym, ap, ap₂, ◌∙◌, arith}
+use Rattle.std.specs.Prelude.{slice_get, slice_set, slice_index_or, is_some}
+use Rattle.il_spec.specs.declared.tree.Config.{Config}
+use Rattle.il_run.specs.State.{State}
+use Rattle.il_machine.specs.Going.{Stored}
+use Rattle.lift_spec.specs.World.{TaskState, flat}
+use Rattle.lift_world.specs.declared.shared.Seat.{Seat}
+use Rattle.lift_world.specs.Running.{task_in, seated, tasks_in, scanned, scans_in}
+
+-- OPTIONS IN LISTS
+
+pub flat_of : {X : Type 0} (o : Option X) → flat (Some o) ≡ o
+flat_of None = refl
+flat_of (Some x) = refl
+
+pub flat_some : {X : Type 0} (o : Option (Option X)) (x : X) → flat o ≡ Some x → o ≡ Some (Some x)
+flat_some None x e = let bad : ◌≡◌ {A = Option _} None (Some x) = e in cc
+flat_some (Some None) x e = let bad : ◌≡◌ {A = Option _} None (Some x) = e in cc
+flat_some (Some (Some y)) x e = ap Some e
+
+pub length_set : {X : Type 0} (xs : List X) (k : ℕ) (v : X) → length (slice_set xs k v) ≡ length xs
+length_set [] zero v = refl
+length_set [] (suc k) v = refl
+length_set (x ∷ xs) zero v = refl
+length_set (x ∷ xs) (suc k) v = ap suc (length_set xs k v)
+
+pub set_same : {X : Type 0} (xs : List X) (k : ℕ) (v : X) → slice_get xs k ≡ Some v → slice_set xs k v ≡ xs
+set_same [] zero v e = refl
+set_same [] (suc k) v e = refl
+set_same (x ∷ xs) zero v e = let same : Some x ≡ Some v = e in let is : x ≡ v = cc in ap (λ y. y ∷ xs) (sym is)
+set_same (x ∷ xs) (suc k) v e = ap (λ ys. x ∷ ys) (set_same xs k v e)
+
+pub set_again : {X : Type 0} (xs : List X) (k : ℕ) (u v : X) → slice_set (slice_set xs k u) k v ≡ slice_set xs k v
+set_again [] zero u v = refl
+set_again [] (suc k) u v = refl
+set_again (x ∷ xs) zero u v = refl
+set_again (x ∷ xs) (suc k) u v = ap (λ ys. x ∷ ys) (set_again xs k u v)
+
+-- what stands in a list in which one place was set
+pub after_set : {X : Type 0} (xs : List (Option X)) (k j : ℕ) (v x : X) → flat (slice_get (slice_set xs k (Some v)) j) ≡ Some x → ((j ≡ k) × (v ≡ x)) ⊎ (flat (slice_get xs j) ≡ Some x)
+after_set [] zero j v x e = inr e
+after_set [] (suc k) j v x e = inr e
+after_set (y ∷ ys) zero zero v x e = let same : Some v ≡ Some x = e in inl (refl, cc)
+after_set (y ∷ ys) zero (suc j) v x e = inr e
+after_set (y ∷ ys) (suc k) zero v x e = inr e
+after_set (y ∷ ys) (suc k) (suc j) v x e =
+    elim (after_set ys k j v x e) [
+      | inl found ↦ inl (ap suc found.0, found.1)
+      | inr found ↦ inr found
+    ]
+
+pub there_set : {X : Type 0} (xs : List (Option X)) (k j : ℕ) (v x : X) → flat (slice_get xs k) ≡ Some x → is_some (flat (slice_get (slice_set xs k (Some v)) j)) ≡ is_some (flat (slice_get xs j))
+there_set [] zero j v x e = refl
+there_set [] (suc k) j v x e = refl
+there_set (y ∷ ys) zero zero v x e = sym (ap is_some e)
+there_set (y ∷ ys) zero (suc j) v x e = refl
+there_set (y ∷ ys) (suc k) zero v x e = refl
+there_set (y ∷ ys) (suc k) (suc j) v x e = there_set ys k j v x e
+
+-- TASKS
+
+pub task_get : (c : Config) (n : ℕ) (seats : List (Option Seat)) (k : ℕ) → flat (slice_get (tasks_in c n seats) k) ≡ seated c (n + k) (flat (slice_get seats k))
+task_get c n [] zero = refl
+task_get c n [] (suc k) = refl
+task_get c n (None ∷ seats) zero = refl
+task_get c n (Some s ∷ seats) zero = let e : n ≡ n + 0 = omega arith in ap (λ m. Some (task_in c m s)) e
+task_get c n (s ∷ seats) (suc k) = let e : (n + 1) + k ≡ n + suc k = omega arith in task_get c (n + 1) seats k ∙ ap (λ m. seated c m (flat (slice_get seats k))) e
+
+pub task_set : (c : Config) (n : ℕ) (seats : List (Option Seat)) (k : ℕ) (s : Seat) → tasks_in c n (slice_set seats k (Some s)) ≡ slice_set (tasks_in c n seats) k (Some (task_in c (n + k) s))
+task_set c n [] zero s = refl
+task_set c n [] (suc k) s = refl
+task_set c n (x ∷ seats) zero s = let e : n ≡ n + 0 = omega arith in ap (λ m. Some (task_in c m s) ∷ tasks_in c (n + 1) seats) e
+task_set c n (x ∷ seats) (suc k) s =
+    let e : (n + 1) + k ≡ n + suc k = omega arith in
+    ap (λ ts. seated c n x ∷ ts) (task_set c (n + 1) seats k s ∙ ap (λ m. slice_set (tasks_in c (n + 1) seats) k (Some (task_in c m s))) e)
+
+-- SCANS
+
+pub scan_get : (c : Config) (n : ℕ) (seats : List (Option Seat)) (stores : List (Option Stored)) (k : ℕ) → length stores ≡ length seats → flat (slice_get (scans_in c n seats stores) k) ≡ scanned c (n + k) (flat (slice_get seats k)) (flat (slice_get stores k))
+scan_get c n [] [] zero h = refl
+scan_get c n [] [] (suc k) h = refl
+scan_get c n [] (t ∷ stores) k h = absurd (omega (arith, h))
+scan_get c n (s ∷ seats) [] k h = absurd (omega (arith, h))
+scan_get c n (s ∷ seats) (t ∷ stores) zero h =
+    let e : n ≡ n + 0 = omega arith in
+    flat_of (scanned c n s t) ∙ ap (λ m. scanned c m s t) e ∙ ap₂ (scanned c (n + 0)) (sym (flat_of s)) (sym (flat_of t))
+scan_get c n (s ∷ seats) (t ∷ stores) (suc k) h =
+    let e : (n + 1) + k ≡ n + suc k = omega arith in
+    scan_get c (n + 1) seats stores k (omega (arith, h)) ∙ ap (λ m. scanned c m (flat (slice_get seats k)) (flat (slice_get stores k))) e
+
+pub scan_set : (c : Config) (n : ℕ) (seats : List (Option Seat)) (stores : List (Option Stored)) (k : ℕ) (s : Seat) (t : Stored) → length stores ≡ length seats
+    → scans_in c n (slice_set seats k (Some s)) (slice_set stores k (Some t)) ≡ slice_set (scans_in c n seats stores) k (scanned c (n + k) (Some s) (Some t))
+scan_set c n [] [] zero s t h = refl
+scan_set c n [] [] (suc k) s t h = refl
+scan_set c n [] (y ∷ stores) k s t h = absurd (omega (arith, h))
+scan_set c n (x ∷ seats) [] k s t h = absurd (omega (arith, h))
+scan_set c n (x ∷ seats) (y ∷ stores) zero s t h = let e : n ≡ n + 0 = omega arith in ap (λ m. scanned c m (Some s) (Some t) ∷ scans_in c (n + 1) seats stores) e
+scan_set c n (x ∷ seats) (y ∷ stores) (suc k) s t h =
+    let e : (n + 1) + k ≡ n + suc k = omega arith in
+    ap (λ ts. scanned c n x y ∷ ts) (scan_set c (n + 1) seats stores k s t (omega (arith, h)) ∙ ap (λ m. slice_set (scans_in c (n + 1) seats stores) k (scanned c m (Some s) (Some t))) e)
+
+-- what stands at an index
+pub stands_at : {X : Type 0} (xs : List (Option X)) (k : ℕ) (d : Option X) (x : X) → slice_index_or xs k d ≡ Some x → k < length xs → flat (slice_get xs k) ≡ Some x
+stands_at [] k d x e below = absurd (omega (arith, below))
+stands_at (None ∷ xs) zero d x e below = let bad : ◌≡◌ {A = Option _} None (Some x) = e in cc
+stands_at (Some y ∷ xs) zero d x e below = e
+stands_at (y ∷ xs) (suc k) d x e below = stands_at xs k d x e (omega (arith, below))
+
+-- the value that is found is the one that stands there
+pub the_seat : {X : Type 0} (o : Option X) (x y : X) → o ≡ Some x → o ≡ Some y → x ≡ y
+the_seat o x y a b = let both : Some x ≡ Some y = sym a ∙ b in cc
+
+-- what an index lends is what stands there
+lent : {X : Type 0} (xs : List (Option X)) (k : ℕ) (o : Option X) → o ≡ slice_index_or xs k o → is_some (flat (slice_get xs k)) ≡ true → flat (slice_get xs k) ≡ o
+lent [] zero o e there = let bad : false ≡ true = there in cc
+lent [] (suc k) o e there = let bad : false ≡ true = there in cc
+lent (x ∷ xs) zero o e there = flat_of x ∙ sym e
+lent (x ∷ xs) (suc k) o e there = lent xs k o e there
+
+pub here : {X : Type 0} (xs : List (Option X)) (i k : ℕ) (o : Option X) → i ≡ k → o ≡ slice_index_or xs i o → is_some (flat (slice_get xs k)) ≡ true → flat (slice_get xs k) ≡ o
+here xs i k o same e there = lent xs k o (e ∙ ap (λ n. slice_index_or xs n o) same) there
+
+-- what is there
+pub some_of : {X : Type 0} (o : Option X) → is_some o ≡ true → (x : X) × (o ≡ Some x)
+some_of None e = cc
+some_of (Some x) e = (x, refl)
+
+-- THE SAME FROM THE FIRST ON
+
+pub task_here : (c : Config) (seats : List (Option Seat)) (k : ℕ) → flat (slice_get (tasks_in c 0 seats) k) ≡ seated c k (flat (slice_get seats k))
+task_here c seats k = let e : 0 + k ≡ k = omega arith in task_get c 0 seats k ∙ ap (λ m. seated c m (flat (slice_get seats k))) e
+
+pub task_put : (c : Config) (seats : List (Option Seat)) (k : ℕ) (s : Seat) → tasks_in c 0 (slice_set seats k (Some s)) ≡ slice_set (tasks_in c 0 seats) k (Some (task_in c k s))
+task_put c seats k s = let e : 0 + k ≡ k = omega arith in task_set c 0 seats k s ∙ ap (λ m. slice_set (tasks_in c 0 seats) k (Some (task_in c m s))) e
+
+pub scan_here : (c : Config) (seats : List (Option Seat)) (stores : List (Option Stored)) (k : ℕ) → length stores ≡ length seats → flat (slice_get (scans_in c 0 seats stores) k) ≡ scanned c k (flat (slice_get seats k)) (flat (slice_get stores k))
+scan_here c seats stores k many = let e : 0 + k ≡ k = omega arith in scan_get c 0 seats stores k many ∙ ap (λ m. scanned c m (flat (slice_get seats k)) (flat (slice_get stores k))) e
+
+pub scan_put : (c : Config) (seats : List (Option Seat)) (stores : List (Option Stored)) (k : ℕ) (s : Seat) (t : Stored) → length stores ≡ length seats
+    → scans_in c 0 (slice_set seats k (Some s)) (slice_set stores k (Some t)) ≡ slice_set (scans_in c 0 seats stores) k (scanned c k (Some s) (Some t))
+scan_put c seats stores k s t many = let e : 0 + k ≡ k = omega arith in scan_set c 0 seats stores k s t many ∙ ap (λ m. slice_set (scans_in c 0 seats stores) k (scanned c m (Some s) (Some t))) e

@@ -1,0 +1,15 @@
+use Rattle.std.proofs.Common.{◌≡◌, ℕ, ◌<◌, length, Some}
+use Rattle.std.specs.Prelude.{slice_get, is_some}
+use Rattle.il_machine.specs.Going.{Stored}
+use Rattle.il_machine.specs.Scanning.{IsScanOf}
+use Rattle.lift_spec.specs.Snapshot.{program_of}
+use Rattle.lift_spec.specs.World.{flat}
+use Rattle.lift_world.proofs.controller.opening_stores.Given as goal
+
+-- the stores up to here are those of the opening
+abbrev pub invariant-loop-task : goal.invariant-loop-task
+invariant-loop-task l = record {
+  many : length l.stores.items ≡ l.task;
+  there : (t : ℕ) → t < l.task → is_some (flat (slice_get l.stores.items t)) ≡ is_some (program_of l.verified.config t);
+  each : (t : ℕ) (s : Stored) → flat (slice_get l.stores.items t) ≡ Some s → IsScanOf l.verified.config t s;
+}

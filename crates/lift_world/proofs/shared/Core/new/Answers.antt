@@ -1,0 +1,19 @@
+use Rattle.std.proofs.Common.{◌≡◌, ◌≤◌, ℕ, sym, subst, ap}
+use Rattle.lift_spec.specs.declared.image.Sizes.{Sizes}
+use Rattle.lift_world.proofs.Opening.{sizes_fit}
+use Rattle.lift_world.proofs.shared.Core.new.Goals as goal
+
+pub opening_seats-requires : goal.opening_seats-requires
+opening_seats-requires c = subst (λ (s : Sizes). s.cars ≤ 8) (sym c.sizes-sizes.ensures) (sizes_fit _ c.config-config.ensures.runnable).0.1
+
+pub opening_image-requires : goal.opening_image-requires
+opening_image-requires c = subst (λ (s : Sizes). s.cars ≤ 8) (sym c.sizes-sizes.ensures) (sizes_fit _ c.config-config.ensures.runnable).0.1
+
+pub new-requires-clause-cars : goal.new-requires-clause-cars
+new-requires-clause-cars c = rw c.sizes-sizes.ensures (sizes_fit _ c.config-config.ensures.runnable).0
+
+pub new-requires-clause-floors : goal.new-requires-clause-floors
+new-requires-clause-floors c = rw c.sizes-sizes.ensures (sizes_fit _ c.config-config.ensures.runnable).1
+
+pub new-requires-clause-slots : goal.new-requires-clause-slots
+new-requires-clause-slots c = rw c.sizes-sizes.ensures (sizes_fit _ c.config-config.ensures.runnable).2
