@@ -7,6 +7,7 @@ use lift_host::status::Fault;
 use lift_image::Sizes;
 use lift_plant::plant::{Plant, plant_step};
 use lift_spec::event::{EventFault, Reply};
+use lift_spec::report::Report;
 use lift_world::{Event, World};
 use std::alloc::{AllocError, AllocFailed, Global};
 
@@ -142,14 +143,14 @@ fn scan(world: &mut World, task: u8, trace: &mut Trace) -> Result<(), SimFault> 
 /// The open scan of a task runs to its end.
 fn finished(world: &mut World, task: u8) -> Result<(), SimFault> {
     match world.finish(task) {
-        Ok(()) => Ok(()),
+        Ok(_) => Ok(()),
         Err(fault) => Err(SimFault::Event(fault)),
     }
 }
 
 /// An event that the world takes.
 fn applied(world: &mut World, event: Event) -> Result<(), SimFault> {
-    match world.apply(event) {
+    match world.apply(&event, &mut Report::new()) {
         Reply::Refused(fault) => Err(SimFault::Event(fault)),
         _ => Ok(()),
     }
