@@ -1,6 +1,6 @@
 -- What each event does, by the parts of a world.
 use Rattle.std.proofs.Common.{◌≡◌, ◌≢◌, ℕ, ◌+◌, Bool, true, false, ◌&&◌, List, [], ◌∷◌, ◌++◌, map, length, Option, Some, None, Ok, refl, sym, ap, ◌∙◌, subst, if◌then◌else◌}
-use Rattle.std.specs.Prelude.{Result, slice_get, slice_set, is_some}
+use Rattle.std.specs.Prelude.{Result, slice_get, slice_set, is_some, ◌==◌}
 use Rattle.il_spec.specs.declared.tree.Config.{Config}
 use Rattle.il_run.specs.State.{State}
 use Rattle.il_run.specs.Step.{step, Next}
@@ -13,14 +13,15 @@ use Rattle.lift_spec.specs.declared.image.Fields.{Fields}
 use Rattle.lift_spec.specs.declared.calls.Call.{Call}
 use Rattle.lift_spec.specs.declared.report.Report.{Report}
 use Rattle.lift_spec.specs.declared.event.Event.{Event}
-use Rattle.lift_spec.specs.declared.event.Event.TheVariants.{Start, Instruction, Commit, Refresh}
+use Rattle.lift_spec.specs.declared.event.Event.TheVariants.{Start, Instruction, Commit, Refresh, Press, Gather}
 use Rattle.lift_spec.specs.declared.event.EventFault.{EventFault}
-use Rattle.lift_spec.specs.declared.event.EventFault.TheVariants.{NoOpenScan, AlreadyOpen, NotAtEnd, NoSuchActor}
-use Rattle.lift_spec.specs.Replies.{Reply, Started, More, End, Committed, Refreshed, Refused}
+use Rattle.lift_spec.specs.declared.event.EventFault.TheVariants.{FieldOutOfRange, NoOpenScan, AlreadyOpen, NotAtEnd, NoSuchActor, SameFloor}
+use Rattle.lift_spec.specs.Replies.{Reply, Started, More, End, Committed, Refreshed, New, Already, Gathered, Held, Refused}
 use Rattle.lift_spec.specs.Calls.{Calls, ticket_of, enter_all}
-use Rattle.lift_spec.specs.Image.{sizes_of, fields_in_range}
+use Rattle.lift_spec.specs.Image.{sizes_of, fields_in_range, is_floor}
+use Rattle.lift_spec.specs.Hands.{with_call, with_calls, has_call, has_from, calls_from, calls_not_from, mask_of}
 use Rattle.lift_spec.specs.Snapshot.{scan_begins}
-use Rattle.lift_spec.specs.World.{World, Group, TaskState, Halt, flat, task_at, scan_at, happens, starts, starts_from, instructs, instructs_in, instructs_scan, stepped, commits, commits_scan, commits_ended, reply_to, beginning_of, started_group, committed_group, refreshes, refreshed_group}
+use Rattle.lift_spec.specs.World.{World, Group, TaskState, Halt, flat, task_at, scan_at, happens, starts, starts_from, instructs, instructs_in, instructs_scan, stepped, commits, commits_scan, commits_ended, reply_to, beginning_of, started_group, committed_group, refreshes, refreshed_group, presses, presses_floors, presses_new, gathers, gathers_from}
 use Rattle.lift_world.specs.declared.shared.Seat.{Seat}
 use Rattle.lift_world.specs.Running.{task_in, seated, scanned, group_by, world_by}
 use Rattle.lift_world.proofs.Views.{task_here, task_put, scan_here, scan_put, set_same, flat_some}
@@ -47,7 +48,7 @@ module _ (c : Config) (i : Image) (k : Calls) (seats : List (Option Seat)) (stor
   no_task : (t : ℕ) → flat (slice_get seats t) ≡ None → task_at (group_by c i k seats) t ≡ None
   no_task t none = task_here c seats t ∙ ap (seated c t) none
 
-  the_task : (t : ℕ) (s : Seat) → flat (slice_get seats t) ≡ Some s → task_at (group_by c i k seats) t ≡ Some (task_in c t s)
+  pub the_task : (t : ℕ) (s : Seat) → flat (slice_get seats t) ≡ Some s → task_at (group_by c i k seats) t ≡ Some (task_in c t s)
   the_task t s there = task_here c seats t ∙ ap (seated c t) there
 
   pub start_nowhere : (t : ℕ) → flat (slice_get seats t) ≡ None → happens c here (Start t) ≡ Ok (here, Refused NoSuchActor)
@@ -162,3 +163,40 @@ module _ (c : Config) (i : Image) (k : Calls) (seats : List (Option Seat)) (stor
       ap (refreshes here fields) inside
       ∙ ap (λ (r : Group × Report). Ok (record { group = r.0; scans = here.scans; desk = desk; hand = (enter_all k [] hand).hand }, Refreshed r.1)) refreshed
       ∙ ap (λ h. Ok (record { group = group_by c image calls seats; scans = here.scans; desk = desk; hand = h }, Refreshed report)) (sym left)
+
+-- ANY WORLD
+
+module _ (c : Config) (w : World) where
+  pub refresh_outside : (fields : Fields) → fields_in_range (sizes_of c) fields ≡ false → happens c w (Refresh fields) ≡ Ok (w, Refused FieldOutOfRange)
+  unfolding happens
+  refresh_outside fields out = ap (refreshes w fields) out
+
+  pub press_nowhere : (call : Call) → (is_floor (sizes_of c) call.from && is_floor (sizes_of c) call.to) ≡ false → happens c w (Press call) ≡ Ok (w, Refused NoSuchActor)
+  unfolding happens
+  press_nowhere call none = ap (presses w call) none
+
+  pub press_same : (call : Call) → (is_floor (sizes_of c) call.from && is_floor (sizes_of c) call.to) ≡ true → (call.from == call.to) ≡ true → happens c w (Press call) ≡ Ok (w, Refused SameFloor)
+  unfolding happens
+  press_same call floors same = ap (presses w call) floors ∙ ap (presses_floors w call) same
+
+  module _ (call : Call) (floors : (is_floor (sizes_of c) call.from && is_floor (sizes_of c) call.to) ≡ true) (other : (call.from == call.to) ≡ false) where
+    pub press_again : has_call w.desk call ≡ true → happens c w (Press call) ≡ Ok (w, Already)
+    unfolding happens
+    press_again there = ap (presses w call) floors ∙ ap (presses_floors w call) other ∙ ap (presses_new w call) there
+
+    pub press_new : has_call w.desk call ≡ false → happens c w (Press call) ≡ Ok (record w { desk = with_call w.desk call }, New)
+    unfolding happens
+    press_new none = ap (presses w call) floors ∙ ap (presses_floors w call) other ∙ ap (presses_new w call) none
+
+  pub gather_nowhere : (floor : ℕ) → is_floor (sizes_of c) floor ≡ false → happens c w (Gather floor) ≡ Ok (w, Refused NoSuchActor)
+  unfolding happens
+  gather_nowhere floor none = ap (gathers w floor) none
+
+  pub gather_held : (floor : ℕ) → is_floor (sizes_of c) floor ≡ true → has_from w.hand floor ≡ true → happens c w (Gather floor) ≡ Ok (w, Held)
+  unfolding happens
+  gather_held floor there held = ap (gathers w floor) there ∙ ap (gathers_from w floor) held
+
+  pub gather_moves : (floor : ℕ) → is_floor (sizes_of c) floor ≡ true → has_from w.hand floor ≡ false
+      → happens c w (Gather floor) ≡ Ok (record w { desk = calls_not_from floor w.desk; hand = with_calls w.hand (calls_from floor w.desk) }, Gathered (mask_of (calls_from floor w.desk)))
+  unfolding happens
+  gather_moves floor there free = ap (gathers w floor) there ∙ ap (gathers_from w floor) free

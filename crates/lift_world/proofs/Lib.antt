@@ -10,3 +10,7 @@ pub mod Events
 pub mod Sharing
 pub mod Opening
 pub mod Committing
+pub mod Keeping
+pub mod Finishing
+pub mod Replying
+pub mod Happening

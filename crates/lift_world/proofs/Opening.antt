@@ -1,22 +1,24 @@
 -- The opening tasks and stores.
-use Rattle.std.proofs.Common.{◌≡◌, ℕ, zero, suc, ◌+◌, ◌⊎◌, inl, inr, ap₂, ◌≤◌, ◌<◌, ℤ, pos, Bool, true, false, List, [], ◌∷◌, ◌++◌, length, Option, Some, None, refl, sym, ap, ◌∙◌, subst, arith}
-use Rattle.std.specs.Prelude.{slice_get, slice_set, is_some, nat_abs}
+use Rattle.std.proofs.Common.{◌≡◌, ℕ, zero, suc, ◌+◌, ◌⊎◌, inl, inr, ap₂, ◌≤◌, ◌<◌, ℤ, pos, Bool, true, false, List, [], ◌∷◌, ◌++◌, length, Option, Some, None, refl, sym, ap, ◌∙◌, subst, arith, if◌then◌else◌}
+use Rattle.std.specs.Prelude.{slice_get, slice_set, is_some, nat_abs, replicate}
 use Rattle.il_spec.specs.declared.tree.Config.{Config}
 use Rattle.il_spec.specs.declared.tree.Unit.{Unit as Organized}
 use Rattle.il_rules.specs.Symbols.{IsProgram}
 use Rattle.il_run.specs.State.{Values}
 use Rattle.il_run.specs.Scan.{opening_variables}
 use Rattle.il_code.specs.Layout.{Rows}
-use Rattle.il_machine.specs.Scanning.{IsRunnable, IsWithin, FitsOwn, OwnsDeclared, variables_in}
+use Rattle.il_machine.specs.Going.{Stored}
+use Rattle.il_machine.specs.Scanning.{IsRunnable, IsWithin, IsScanOf, FitsOwn, OwnsDeclared, variables_in, kept_of, state_of}
 use Rattle.il_machine.proofs.Codes.{task_is}
 use Rattle.lift_spec.specs.Image.{sizes_of}
 use Rattle.lift_spec.specs.Snapshot.{program_of, has_task}
-use Rattle.lift_spec.specs.World.{flat, opening_task, opening_tasks_from}
+use Rattle.lift_spec.specs.World.{Group, TaskState, flat, opening, opening_group, opening_task, opening_tasks_from}
 use Rattle.std.proofs.lemmas.List.{length-append}
-use Rattle.std.proofs.lemmas.Bool.{cases_eq}
+use Rattle.std.proofs.lemmas.Bool.{cases_eq, cases_lt}
 use Rattle.lift_world.specs.declared.shared.Seat.{Seat}
-use Rattle.lift_world.specs.Running.{task_in, seated, tasks_in}
-use Rattle.lift_world.proofs.Views.{after_set}
+use Rattle.lift_world.specs.declared.shared.Core.{Core}
+use Rattle.lift_world.specs.Running.{seat_at, task_in, seated, tasks_in, scanned, scans_in, group_in, world_by, StoresFit}
+use Rattle.lift_world.proofs.Views.{after_set, flat_of, task_here, beyond}
 
 -- a task that is there has a program
 there_is : {X : Type 0} (o : Option X) → is_some o ≡ true → (x : X) × (o ≡ Some x)
@@ -130,3 +132,80 @@ there_more Q xs o n many so_far next t below =
       | inl same ↦ ap (λ k. is_some (flat (slice_get (xs ++ o ∷ []) k))) (same ∙ sym many) ∙ ap is_some (last_is xs o) ∙ next ∙ ap Q (sym same)
       | inr other ↦ ap is_some (front_is xs o t (omega (arith, below, other, many))) ∙ so_far t (omega (arith, below, other))
     ]
+
+-- NO SCAN IS OPEN
+
+idle : (c : Config) (t : ℕ) (s : Option Seat) (o : Option Organized) (st : Option Stored) → seated c t s ≡ opening_task c o → scanned c t s st ≡ None
+idle c t None o st e = refl
+idle c t (Some s) o None e = refl
+idle c t (Some s) None (Some st) e = let bad : ◌≡◌ {A = Option TaskState} (Some (task_in c t s)) None = e in cc
+idle c t (Some s) (Some u) (Some st) e =
+    let tickets : s.tickets ≡ None = ap (λ o. tickets_by o) e in
+    ap (λ o. if is_some o then Some (state_of (kept_of c t st)) else None) tickets
+  where
+    tickets_by : Option TaskState → Option (List (Option ℕ))
+    tickets_by None = None
+    tickets_by (Some task) = task.tickets
+
+all_idle : (c : Config) (n k : ℕ) (seats : List (Option Seat)) (stores : List (Option Stored)) → tasks_in c n seats ≡ opening_tasks_from c n k → length stores ≡ k → scans_in c n seats stores ≡ replicate k None
+all_idle c n zero [] [] e many = refl
+all_idle c n zero [] (x ∷ stores) e many = absurd (omega (arith, many))
+all_idle c n zero (s ∷ seats) stores e many = let bad : ◌≡◌ {A = List (Option TaskState)} (seated c n s ∷ tasks_in c (n + 1) seats) [] = e in cc
+all_idle c n (suc k) [] stores e many = let bad : ◌≡◌ {A = List (Option TaskState)} [] (opening_task c (program_of c n) ∷ opening_tasks_from c (n + 1) k) = e in cc
+all_idle c n (suc k) (s ∷ seats) [] e many = absurd (omega (arith, many))
+all_idle c n (suc k) (s ∷ seats) (st ∷ stores) e many =
+    let same : (seated c n s ∷ tasks_in c (n + 1) seats) ≡ (opening_task c (program_of c n) ∷ opening_tasks_from c (n + 1) k) = e in
+    let first : seated c n s ≡ opening_task c (program_of c n) = cc in
+    let rest : tasks_in c (n + 1) seats ≡ opening_tasks_from c (n + 1) k = cc in
+    ap₂ (λ o os. o ∷ os) (idle c n s (program_of c n) st first) (all_idle c (n + 1) k seats stores rest (omega (arith, many)))
+
+-- the group as it opens, with a store for each task, is the opening world
+pub world_opens : (c : Config) (k : Core) (stores : List (Option Stored)) → group_in c k ≡ opening_group c → length stores ≡ suc (sizes_of c).cars → world_by c k.image k.calls k.seats.items stores [] [] ≡ opening c
+unfolding opening
+world_opens c k stores group many =
+    ap₂ (λ (g : Group) ss. record { group = g; scans = ss; desk = []; hand = [] }) group (all_idle c 0 (suc (sizes_of c).cars) k.seats.items stores (ap (λ (g : Group). g.tasks) group) many)
+
+tasks_length : (c : Config) (n : ℕ) (seats : List (Option Seat)) → length (tasks_in c n seats) ≡ length seats
+tasks_length c n [] = refl
+tasks_length c n (s ∷ seats) = ap suc (tasks_length c (n + 1) seats)
+
+opening_length : (c : Config) (n k : ℕ) → length (opening_tasks_from c n k) ≡ k
+opening_length c n zero = refl
+opening_length c n (suc k) = ap suc (opening_length c (n + 1) k)
+
+opening_get : (c : Config) (n k t : ℕ) → t < k → flat (slice_get (opening_tasks_from c n k) t) ≡ opening_task c (program_of c (n + t))
+opening_get c n zero t below = absurd (omega (arith, below))
+opening_get c n (suc k) zero below = let e : n ≡ n + 0 = omega arith in flat_of (opening_task c (program_of c n)) ∙ ap (λ m. opening_task c (program_of c m)) e
+opening_get c n (suc k) (suc t) below = let e : (n + 1) + t ≡ n + suc t = omega arith in opening_get c (n + 1) k t (omega (arith, below)) ∙ ap (λ m. opening_task c (program_of c m)) e
+
+opens_there : (c : Config) (o : Option Organized) → is_some (opening_task c o) ≡ is_some o
+opens_there c None = refl
+opens_there c (Some u) = refl
+
+seated_there : (c : Config) (t : ℕ) (o : Option Seat) → is_some (seated c t o) ≡ is_some o
+seated_there c t None = refl
+seated_there c t (Some s) = refl
+
+-- as many tasks as the sizes say
+pub seats_many : (c : Config) (k : Core) → group_in c k ≡ opening_group c → length k.seats.items ≡ suc (sizes_of c).cars
+seats_many c k group = sym (tasks_length c 0 k.seats.items) ∙ ap (λ (g : Group). length g.tasks) group ∙ opening_length c 0 (suc (sizes_of c).cars)
+
+-- a task is there where the group has its program
+seat_opening : (c : Config) (k : Core) (t : ℕ) → group_in c k ≡ opening_group c → t ≤ (sizes_of c).cars → is_some (seat_at k t) ≡ is_some (program_of c t)
+seat_opening c k t group few =
+    let below : t < suc (sizes_of c).cars = omega (arith, few) in
+    let here : 0 + t ≡ t = omega arith in
+    sym (seated_there c t (seat_at k t)) ∙ ap is_some (sym (task_here c k.seats.items t)) ∙ ap (λ (g : Group). is_some (flat (slice_get g.tasks t))) group
+    ∙ ap is_some (opening_get c 0 (suc (sizes_of c).cars) t below) ∙ ap (λ m. is_some (opening_task c (program_of c m))) here ∙ opens_there c (program_of c t)
+
+pub stores_open : (c : Config) (k : Core) (stores : List (Option Stored)) → group_in c k ≡ opening_group c → length stores ≡ suc (sizes_of c).cars
+    → ((t : ℕ) → t ≤ (sizes_of c).cars → is_some (flat (slice_get stores t)) ≡ is_some (program_of c t)) → ((t : ℕ) (s : Stored) → flat (slice_get stores t) ≡ Some s → IsScanOf c t s) → StoresFit c k stores
+stores_open c k stores group many found each = record {
+  as_many = many ∙ sym (seats_many c k group);
+  there = λ t.
+      elim (cases_lt (sizes_of c).cars t) [
+        | inr few ↦ found t few ∙ sym (seat_opening c k t group few)
+        | inl past ↦ ap is_some (beyond stores t (omega (arith, past, many))) ∙ ap is_some (sym (beyond k.seats.items t (let n = seats_many c k group in omega (arith, past, n))))
+      ];
+  each = each;
+}

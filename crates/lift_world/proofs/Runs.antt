@@ -5,6 +5,7 @@ use Rattle.std.proofs.lemmas.List.{drop_more, length-append}
 use Rattle.il_spec.specs.declared.tree.Config.{Config}
 use Rattle.lift_spec.specs.declared.event.Event.{Event}
 use Rattle.lift_spec.specs.Replies.{Reply}
+use Rattle.lift_world.specs.Running.{may_report, reporting}
 use Rattle.lift_spec.specs.World.{World, happens, run, and_then}
 
 -- a run of what is left takes one event
@@ -18,3 +19,7 @@ one_more p q events at e w next reply so_far then same below is happened more =
 -- and there is room for the rest
 pub room_left : (items then : List Reply) (reply : Reply) (total at before after : ℕ) → at < total → then ≡ items ++ reply ∷ [] → length items + (total - at) ≤ before → before ≤ after → length then + (total - (at + 1)) ≤ after
 room_left items then reply total at before after below more room grows = let n : length then ≡ length items + 1 = ap length more ∙ length-append items (reply ∷ []) in omega (arith, n, below, room, grows)
+
+-- the reports that are left
+pub reports_left : (events : List Event) (at : ℕ) (e : Event) → at < length events → e ≡ slice_index_or events at e → reporting (drop at events) ≡ may_report e + reporting (drop (at + 1) events)
+reports_left events at e below is = ap reporting (drop_more events at e below ∙ ap (λ d. d ∷ drop (at + 1) events) (sym is))

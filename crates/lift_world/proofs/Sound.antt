@@ -14,14 +14,17 @@ use Rattle.il_rules.proofs.Straight.{only_unit}
 use Rattle.il_run.specs.Paths.{longest, IsLongest}
 use Rattle.lift_spec.specs.declared.event.Event.{Event as Happening}
 use Rattle.lift_spec.specs.Replies.{Reply}
-use Rattle.lift_spec.specs.World.{World, run, opening, happens}
+use Rattle.lift_spec.specs.World.{World, InRanges, run, opening, happens}
 use Rattle.il_spec.specs.declared.tree.ProgramLine.{ProgramLine}
 use Rattle.il_run.specs.Scan.{program_of as line_program}
 use Rattle.lift_spec.specs.Snapshot.{task_name, program_of}
 use Rattle.il_sound.specs.Accepted.{IsOrdered}
 use Rattle.lift_sound.specs.Accepted.{IsSound}
 use Rattle.lift_sound.specs.Tasks.{budget_of, budget_by}
-use Rattle.lift_sound.specs.Runs.{RunsWell, IsReached}
+use Rattle.lift_sound.specs.Runs.{RunsWell, WorldWell, IsReached}
+use Rattle.lift_spec.specs.Image.{Obeys}
+use Rattle.lift_world.specs.declared.controller.Controller.{Controller}
+use Rattle.lift_world.specs.Running.{world_of, group_in, IsWorldOf}
 use Rattle.lift_sound.specs.Histories.{CallGoesWell}
 use Rattle.lift_sound.proofs.Accepted.{accepted_runs_well}
 use Rattle.lift_sound.proofs.Histories.{accepted_calls_go_well, event_is_run}
@@ -67,6 +70,17 @@ one_event c w v e reply reached is = goes_on c w v [] (reply ∷ []) (e ∷ []) 
 -- and so does a run
 pub many_events : (c : Config) (w v : World) (events : List Happening) (earlier replies : List Reply) → IsReached c w → run c w earlier events ≡ Ok (v, replies) → IsReached c v
 many_events c w v events earlier replies reached is = goes_on c w v earlier replies events reached is
+
+-- a world that was reached is well
+pub reached_well : (c : Config) → IsRunnable c → (w : World) (r : IsReached c w) → WorldWell c r.events r.replies w
+reached_well c runs w r = (runs_well c runs).well r.events w r.replies r.is
+
+-- so its image lies in its ranges and obeys the interlock
+pub world_ranges : (w : Controller) → IsWorldOf w → InRanges w.verified.config (group_in w.verified.config w.core)
+world_ranges w is = (reached_well w.verified.config is.runnable (world_of w) is.reached).ranges
+
+pub world_obeys : (w : Controller) → IsWorldOf w → Obeys w.core.image
+world_obeys w is = (reached_well w.verified.config is.runnable (world_of w) is.reached).obeys
 
 -- BUDGETS
 

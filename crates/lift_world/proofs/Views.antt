@@ -1,5 +1,5 @@
 -- The tasks and scans of a world, by their numbers.
-use Rattle.std.proofs.Common.{◌≡◌, ℕ, zero, suc, ◌+◌, ◌<◌, ◌⊎◌, inl, inr, Bool, true, false, List, [], ◌∷◌, length, Option, Some, None, refl, sym, ap, ap₂, ◌∙◌, arith}
+use Rattle.std.proofs.Common.{◌≡◌, ℕ, zero, suc, ◌+◌, ◌<◌, ◌≤◌, ◌⊎◌, inl, inr, Bool, true, false, List, [], ◌∷◌, length, Option, Some, None, refl, sym, ap, ap₂, ◌∙◌, arith}
 use Rattle.std.specs.Prelude.{slice_get, slice_set, slice_index_or, is_some}
 use Rattle.il_spec.specs.declared.tree.Config.{Config}
 use Rattle.il_run.specs.State.{State}
@@ -57,6 +57,26 @@ there_set (y ∷ ys) zero zero v x e = sym (ap is_some e)
 there_set (y ∷ ys) zero (suc j) v x e = refl
 there_set (y ∷ ys) (suc k) zero v x e = refl
 there_set (y ∷ ys) (suc k) (suc j) v x e = there_set ys k j v x e
+
+-- what was set stands there
+pub set_there : {X : Type 0} (xs : List (Option X)) (k : ℕ) (v : X) → k < length xs → flat (slice_get (slice_set xs k (Some v)) k) ≡ Some v
+set_there [] k v below = absurd (omega (arith, below))
+set_there (y ∷ ys) zero v below = refl
+set_there (y ∷ ys) (suc k) v below = set_there ys k v (omega (arith, below))
+
+-- where something stands is within the list
+pub within : {X : Type 0} (xs : List (Option X)) (k : ℕ) (x : X) → flat (slice_get xs k) ≡ Some x → k < length xs
+within [] zero x e = let bad : ◌≡◌ {A = Option _} None (Some x) = e in cc
+within [] (suc k) x e = let bad : ◌≡◌ {A = Option _} None (Some x) = e in cc
+within (y ∷ ys) zero x e = omega arith
+within (y ∷ ys) (suc k) x e = let rest = within ys k x e in omega (arith, rest)
+
+-- and nothing stands beyond it
+pub beyond : {X : Type 0} (xs : List (Option X)) (k : ℕ) → length xs ≤ k → flat (slice_get xs k) ≡ None
+beyond [] zero past = refl
+beyond [] (suc k) past = refl
+beyond (y ∷ ys) zero past = absurd (omega (arith, past))
+beyond (y ∷ ys) (suc k) past = beyond ys k (omega (arith, past))
 
 -- TASKS
 

@@ -3,7 +3,7 @@ use Rattle.std.specs.Prelude.{◌≡◌, ◌≢◌, ℕ, zero, suc, ◌≤◌, �
 use Rattle.il_spec.specs.declared.tree.Config.{Config}
 use Rattle.il_run.specs.State.{State}
 use Rattle.il_run.specs.Scan.{Reaches, opening_globals}
-use Rattle.il_machine.specs.Scanning.{IsScanOf, OwnsDeclared, FitsOwn, variables_in, kept_of, place_of, state_of}
+use Rattle.il_machine.specs.Scanning.{IsRunnable, IsScanOf, OwnsDeclared, FitsOwn, variables_in, kept_of, place_of, state_of}
 use Rattle.il_run.specs.Step.{step, Next}
 use Rattle.il_code.specs.Layout.{Rows}
 use Rattle.il_machine.specs.Going.{Stored}
@@ -49,23 +49,47 @@ replies_of (answer.Gathered mask ∷ answers) reports = Gathered mask ∷ replie
 replies_of (answer.Held ∷ answers) reports = Held ∷ replies_of answers reports
 replies_of (answer.Refused fault ∷ answers) reports = Refused fault ∷ replies_of answers reports
 
--- how many of the answers have a report
+-- how many reports stand beside an answer
+abbrev pub reports_by : Answer → ℕ
+reports_by answer.Committed = 1
+reports_by answer.Refreshed = 1
+reports_by _ = 0
+
 abbrev pub reports_of : List Answer → ℕ
 reports_of [] = 0
-reports_of (answer.Committed ∷ answers) = suc (reports_of answers)
-reports_of (answer.Refreshed ∷ answers) = suc (reports_of answers)
-reports_of (_ ∷ answers) = reports_of answers
+reports_of (a ∷ answers) = reports_by a + reports_of answers
 
 -- a report for each answer that has one, and no more
 abbrev pub AreReports : List Answer → List Report → Type 0
 AreReports answers reports = length reports ≡ reports_of answers
 
--- how many of the events may have a report
+-- the answer that a reply is, and the report that it has
+abbrev pub answer_of : Reply → Answer
+answer_of Started = answer.Started
+answer_of More = answer.More
+answer_of End = answer.End
+answer_of (Committed r) = answer.Committed
+answer_of (Refreshed r) = answer.Refreshed
+answer_of New = answer.New
+answer_of Already = answer.Already
+answer_of (Gathered mask) = answer.Gathered mask
+answer_of Held = answer.Held
+answer_of (Refused fault) = answer.Refused fault
+
+abbrev pub report_of : Reply → List Report
+report_of (Committed r) = r ∷ []
+report_of (Refreshed r) = r ∷ []
+report_of _ = []
+
+-- how many reports an event may have
+abbrev pub may_report : Event → ℕ
+may_report (Commit t) = 1
+may_report (Refresh fields) = 1
+may_report _ = 0
+
 abbrev pub reporting : List Event → ℕ
 reporting [] = 0
-reporting (Commit t ∷ events) = suc (reporting events)
-reporting (Refresh fields ∷ events) = suc (reporting events)
-reporting (_ ∷ events) = reporting events
+reporting (e ∷ events) = may_report e + reporting events
 
 -- TASKS
 
@@ -138,6 +162,7 @@ pub record StoresFit (c : Config) (k : Core) (stores : List (Option Stored)) : T
 
 -- what holds of every world: some history of events has led to it from the opening world, and its rows fit
 pub record IsWorldOf (w : Controller) : Type 0 where
+  pub runnable : IsRunnable w.verified.config
   pub seats : SeatsFit w.verified.config w.core
   pub stores : StoresFit w.verified.config w.core w.stores.items
   pub reached : IsReached w.verified.config (world_of w)

@@ -12,7 +12,7 @@ ghost use Rattle.lift_spec.specs.declared.report.Report.{Report as ReportOf};
 ghost use Rattle.lift_spec.specs.Replies.{reply_with};
 ghost use Rattle.lift_spec.specs.Replies as replies;
 ghost use Rattle.lift_spec.specs.World as model;
-ghost use Rattle.lift_world.specs.Running.{seat_at, task_in, group_in, with_seat, Steps, RunsOut, world_of, IsWorldOf, SeatsFit, StoresFit, reporting, instructions, up_to_end};
+ghost use Rattle.lift_world.specs.Running.{seat_at, task_in, group_in, with_seat, Steps, RunsOut, world_of, IsWorldOf, SeatsFit, StoresFit, reports_by, may_report, reporting, instructions, up_to_end};
 ghost use Rattle.lift_spec.specs.declared.event.Event.TheVariants as event;
 
 use crate::replies::Replies;
@@ -88,6 +88,7 @@ fn advance(verified: &Verified, task: u8, store: &mut Option<Store>) -> Reply
     requires scan { (st : Stored) → store.old ≡ Some st → IsScanOf verified.now.config task st }
     ensures ended { (st : Stored) → store.old ≡ Some st → place_of st.running ≡ None → (result ≡ Reply.Refused NoOpenScan) × (store.new ≡ store.old) }
     ensures step { (st : Stored) → store.old ≡ Some st → place_of st.running ≢ None → Steps verified.now.config task st store.new result }
+    ensures plain { reports_by result ≡ 0 }
 {
     match store {
         Some(store) => {
@@ -126,10 +127,10 @@ impl Controller {
     pub fn new(alloc: Global, verified: Verified) -> Result<Controller, Refusal>
         ensures same { IfOk result (λ w. w.verified ≡ verified) }
         ensures opening { IfOk result (λ w. world_of w ≡ model.opening verified.config) }
-        ensures seats { IfOk result (λ w. SeatsFit verified.config w.core) }
-        ensures stores { IfOk result (λ w. StoresFit verified.config w.core w.stores.items) }
+        ensures world { IfOk result IsWorldOf }
         ensures memory { IfErr result (λ e. e ≡ Memory) }
     {
+        let _config = verified.config();
         let core = Core::new(alloc, &verified)?;
         let stores = opening_stores(alloc, &verified, verified.sizes().cars)?;
         Ok(Controller {
@@ -145,6 +146,7 @@ impl Controller {
     fn start(&mut self, task: u8) -> Reply
         requires { IsWorldOf self.old }
         ensures model { (r : ReportOf) → model.happens self.old.verified.config (world_of self.old) (event.Start task) ≡ Ok (world_of self.new, reply_with result r) }
+        ensures plain { reports_by result ≡ 0 }
         ensures same { self.new.verified ≡ self.old.verified }
         ensures seats { SeatsFit self.new.verified.config self.new.core }
         ensures stores { StoresFit self.new.verified.config self.new.core self.new.stores.items }
@@ -168,6 +170,7 @@ impl Controller {
     fn instruction(&mut self, task: u8) -> Reply
         requires { IsWorldOf self.old }
         ensures model { (r : ReportOf) → model.happens self.old.verified.config (world_of self.old) (event.Instruction task) ≡ Ok (world_of self.new, reply_with result r) }
+        ensures plain { reports_by result ≡ 0 }
         ensures same { self.new.verified ≡ self.old.verified }
         ensures seats { SeatsFit self.new.verified.config self.new.core }
         ensures stores { StoresFit self.new.verified.config self.new.core self.new.stores.items }
@@ -185,6 +188,7 @@ impl Controller {
     fn commit(&mut self, task: u8, report: &mut Report) -> Reply
         requires { IsWorldOf self.old }
         ensures model { model.happens self.old.verified.config (world_of self.old) (event.Commit task) ≡ Ok (world_of self.new, reply_with result report.new) }
+        ensures one { reports_by result ≤ 1 }
         ensures same { self.new.verified ≡ self.old.verified }
         ensures seats { SeatsFit self.new.verified.config self.new.core }
         ensures stores { StoresFit self.new.verified.config self.new.core self.new.stores.items }
@@ -209,6 +213,7 @@ impl Controller {
     fn refresh(&mut self, fields: &Fields, report: &mut Report) -> Reply
         requires { IsWorldOf self.old }
         ensures model { model.happens self.old.verified.config (world_of self.old) (event.Refresh fields.now) ≡ Ok (world_of self.new, reply_with result report.new) }
+        ensures one { reports_by result ≤ 1 }
         ensures same { self.new.verified ≡ self.old.verified }
         ensures seats { SeatsFit self.new.verified.config self.new.core }
         ensures stores { StoresFit self.new.verified.config self.new.core self.new.stores.items }
@@ -224,6 +229,7 @@ impl Controller {
     fn press(&mut self, call: Call) -> Reply
         requires { IsWorldOf self.old }
         ensures model { (r : ReportOf) → model.happens self.old.verified.config (world_of self.old) (event.Press call) ≡ Ok (world_of self.new, reply_with result r) }
+        ensures plain { reports_by result ≡ 0 }
         ensures same { self.new.verified ≡ self.old.verified }
         ensures seats { SeatsFit self.new.verified.config self.new.core }
         ensures stores { StoresFit self.new.verified.config self.new.core self.new.stores.items }
@@ -246,6 +252,7 @@ impl Controller {
     fn gather(&mut self, floor: u8) -> Reply
         requires { IsWorldOf self.old }
         ensures model { (r : ReportOf) → model.happens self.old.verified.config (world_of self.old) (event.Gather floor) ≡ Ok (world_of self.new, reply_with result r) }
+        ensures plain { reports_by result ≡ 0 }
         ensures same { self.new.verified ≡ self.old.verified }
         ensures seats { SeatsFit self.new.verified.config self.new.core }
         ensures stores { StoresFit self.new.verified.config self.new.core self.new.stores.items }
@@ -263,6 +270,7 @@ impl Controller {
     pub fn happen(&mut self, event: &Event, report: &mut Report) -> Reply
         requires { IsWorldOf self.old }
         ensures model { model.happens self.old.verified.config (world_of self.old) event.now ≡ Ok (world_of self.new, reply_with result report.new) }
+        ensures reports { reports_by result ≤ may_report event.now }
         ensures same { self.new.verified ≡ self.old.verified }
         ensures world { IsWorldOf self.new }
     {
@@ -295,7 +303,7 @@ impl Controller {
     /// The open scan of a task runs to its end. The answer is how many instructions that took, or why there is nothing to run.
     pub fn finish(&mut self, task: u8) -> Result<u32, EventFault>
         requires { IsWorldOf self.old }
-        ensures model { IfOk result (λ n. model.run self.old.verified.config (world_of self.old) [] (instructions task n) ≡ Ok (world_of self.new, up_to_end n)) }
+        ensures model { IfOk result (λ n. (1 ≤ n) × (model.run self.old.verified.config (world_of self.old) [] (instructions task n) ≡ Ok (world_of self.new, up_to_end n))) }
         ensures refused { IfErr result (λ fault. (self.new ≡ self.old) × (model.happens self.old.verified.config (world_of self.old) (event.Instruction task) ≡ Ok (world_of self.old, replies.Refused fault))) }
         ensures same { self.new.verified ≡ self.old.verified }
         ensures world { IsWorldOf self.new }

@@ -1,7 +1,8 @@
 // Replies, with room for them.
 
-ghost use Rattle.std.specs.Prelude.{◌≡◌, ◌≤◌, ◌+◌, ◌<◌, [], ◌++◌, ◌∷◌, length, IfOk};
-ghost use Rattle.lift_spec.specs.Replies.{reply_with, HasReport};
+ghost use Rattle.std.specs.Prelude.{◌≡◌, ◌≤◌, ◌+◌, ◌<◌, [], ◌++◌, ◌∷◌, map, flat_map, length, IfOk};
+ghost use Rattle.lift_spec.specs.Replies.{reply_with};
+ghost use Rattle.lift_world.specs.Running.{answer_of, report_of, reports_by};
 
 use lift_spec::event::Reply;
 use lift_spec::report::Report;
@@ -43,14 +44,14 @@ impl Replies {
 
     /// The replies. Where one is Committed or Refreshed, its report is the next of `reports`.
     pub fn as_slice(&self) -> &[Reply]
-        ensures { length result.now ≡ length self.now.items }
+        ensures { result.now ≡ map answer_of self.now.items }
     {
         self.replies.as_slice()
     }
 
     /// The reports of the commits and refreshes, in their order.
     pub fn reports(&self) -> &[Report]
-        ensures { length result.now ≡ self.now.reports }
+        ensures { result.now ≡ flat_map report_of self.now.items }
     {
         self.reports.as_slice()
     }
@@ -58,10 +59,10 @@ impl Replies {
     /// Adds a reply, for which there is room; where it has a report, that is taken, and there is room for it.
     pub fn push(&mut self, reply: Reply, report: &mut Report)
         requires room { length self.old.items < self.old.room }
-        requires report_room { HasReport reply → self.old.reports < self.old.report_room }
+        requires report_room { self.old.reports + reports_by reply ≤ self.old.report_room }
         ensures items { self.new.items ≡ self.old.items ++ reply_with reply report.old ∷ [] }
         ensures room { self.old.room ≤ self.new.room }
-        ensures reports { self.new.reports ≤ self.old.reports + 1 }
+        ensures reports { self.new.reports ≡ self.old.reports + reports_by reply }
         ensures report_room { self.old.report_room ≤ self.new.report_room }
     {
         match reply {

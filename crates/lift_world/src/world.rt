@@ -90,7 +90,7 @@ impl World {
     /// The open scan of a task runs to its end. The answer is the number of its instructions since now, or why there is no scan to run;
     /// then nothing changes.
     pub fn finish(&mut self, task: u8) -> Result<u32, EventFault>
-        ensures model { IfOk result (λ n. model.run self.old.verified.config (world_of self.old) [] (instructions task n) ≡ Ok (world_of self.new, up_to_end n)) }
+        ensures model { IfOk result (λ n. (1 ≤ n) × (model.run self.old.verified.config (world_of self.old) [] (instructions task n) ≡ Ok (world_of self.new, up_to_end n))) }
         ensures refused { IfErr result (λ fault. (world_of self.new ≡ world_of self.old) × (model.happens self.old.verified.config (world_of self.old) (Instruction task) ≡ Ok (world_of self.old, Refused fault))) }
         ensures same { self.new.verified ≡ self.old.verified }
         ensures well { (n : ℕ) → CallGoesWell self.old.verified.config (world_of self.old) (instructions task n) }

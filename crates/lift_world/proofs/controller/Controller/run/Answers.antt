@@ -1,0 +1,28 @@
+use Rattle.std.proofs.Common.{◌≡◌, ◌≤◌, ◌+◌, ap, ◌∙◌, arith}
+use Rattle.il_machine.specs.Scanning.{Program}
+use Rattle.lift_world.proofs.Runs.{one_more, room_left, reports_left}
+use Rattle.lift_world.proofs.controller.Controller.run.Goals as goal
+
+pub push-requires-clause-report_room : goal.push-requires-clause-report_room
+push-requires-clause-report_room c =
+    let left = reports_left _ _ _ c.events-test.true c.event-item.is in
+    let room = c.events.invariant.reports in
+    let few = c.happen-reply.ensures.reports in
+    omega (arith, left, room, few)
+
+pub events-preserved : goal.events-preserved
+events-preserved c =
+    let left = reports_left _ _ _ c.events-test.true c.event-item.is in
+    let room = c.events.invariant.reports in
+    let few = c.happen-reply.ensures.reports in
+    let now = c.push.ensures.reports in
+    let grows = c.push.ensures.report_room in
+    record {
+      world = c.happen-reply.ensures.world;
+      same = c.happen-reply.ensures.same ∙ c.events.invariant.same;
+      room = room_left _ _ _ _ _ _ _ c.events-test.true c.push.ensures.items c.events.invariant.room c.push.ensures.room;
+      reports = omega (arith, left, room, few, now, grows);
+      rest =
+          c.events.invariant.rest
+          ∙ one_more _ _ _ _ _ _ _ _ _ _ (ap (λ (p : Program). p.config) c.events.invariant.same) c.events-test.true c.event-item.is c.happen-reply.ensures.model c.push.ensures.items;
+    }
