@@ -1,6 +1,6 @@
 -- The events of a group, by what its parts leave.
-use Rattle.std.proofs.Common.{◌≡◌, ◌≢◌, ℕ, suc, ◌+◌, ◌≤◌, ◌<◌, Bool, true, false, ◌&&◌, ◌||◌, not, List, [], ◌∷◌, map, length, Option, Some, None, Ok, Bor, refl, sym, ap, ◌∙◌, subst, arith, if◌then◌else◌}
-use Rattle.std.specs.Prelude.{slice_get, slice_set, is_some, ◌==◌, option_copied}
+use Rattle.std.proofs.Common.{◌≡◌, ◌≢◌, ℕ, suc, ◌+◌, ◌≤◌, ◌<◌, Bool, true, false, ◌&&◌, ◌||◌, not, List, [], ◌∷◌, map, length, Option, Some, None, Result, Ok, Err, Bor, refl, sym, ap, ◌∙◌, subst, arith, if◌then◌else◌}
+use Rattle.std.specs.Prelude.{slice_get, slice_set, is_some, ◌==◌, option_copied, IfOk, IfErr}
 use Rattle.std.proofs.lemmas.Bool.Decides.{nat_tests}
 use Rattle.il_spec.specs.declared.tree.Config.{Config}
 use Rattle.il_run.specs.Scan.{has_ended}
@@ -12,6 +12,7 @@ use Rattle.lift_spec.specs.declared.image.Sizes.{Sizes}
 use Rattle.lift_spec.specs.declared.calls.Call.{Call}
 use Rattle.lift_spec.specs.declared.report.Report.{Report}
 use Rattle.lift_spec.specs.declared.event.Event.TheVariants.{Start, Instruction, Commit, Refresh}
+use Rattle.lift_spec.specs.declared.event.EventFault.{EventFault}
 use Rattle.lift_spec.specs.declared.event.EventFault.TheVariants.{NoOpenScan, AlreadyOpen, NotAtEnd, NoSuchActor}
 use Rattle.lift_spec.specs.declared.event.Reply.{Reply as Answer}
 use Rattle.lift_spec.specs.declared.event.Reply.TheVariants as answer
@@ -27,7 +28,7 @@ use Rattle.lift_world.specs.Running.{seat_at, open_by, is_open, task_in, group_i
 use Rattle.lift_world.proofs.Views.{set_same, flat_some, some_of, within}
 use Rattle.lift_world.proofs.Keeping.{seats_put, stores_step, stores_seat}
 use Rattle.lift_world.proofs.Opening.{sizes_fit}
-use Rattle.lift_world.proofs.Sound.{world_ranges}
+use Rattle.lift_world.proofs.Sound.{world_ranges, many_events}
 use Rattle.lift_world.proofs.Events.{start_nowhere, instruction_nowhere, commit_nowhere, start_open, instruction_idle, commit_idle, instruction_ended, commit_going, start_is, instruction_is, commit_is, refresh_is, ended_so, going_so}
 use Rattle.lift_world.proofs.Finishing.{finishes}
 
@@ -207,6 +208,39 @@ module _ (w : Controller) (is : IsWorldOf w) (t : ℕ) where
 
     pub finished_stores : (after : Option Stored) (n i : ℕ) → i ≡ t → RunsOut c t x.store after n → StoresFit c w.core (slice_set w.stores.items i after)
     finished_stores after n i at out = rw (at, out.is) (stores_step c w.core w.stores.items t x.store out.store is.stores out.scan x.kept)
+
+    -- what a run to the end says, by its answer
+    pub finish_model : {before : Option Stored} (r : Result ℕ EventFault) (after : Option Stored) (i : ℕ) → i ≡ t → is_some x.seat.tickets ≡ true → before ≡ Some x.store
+        → IfOk r (λ n. (st : Stored) → before ≡ Some st → RunsOut c t st after n)
+        → IfOk r (λ n. (1 ≤ n) × (run c (world_of w) [] (instructions t n) ≡ Ok (world_by c w.core.image w.core.calls w.core.seats.items (slice_set w.stores.items i after) w.desk w.hand, up_to_end n)))
+    finish_model (Ok n) after i at so lent steps = let out = steps x.store lent in (out.some, finished after n i at so out)
+    finish_model (Err e) after i at so lent steps = steps
+
+    pub finish_refused : (r : Result ℕ EventFault) (before after : Option Stored) (i : ℕ) → i ≡ t → is_some x.seat.tickets ≡ true → before ≡ Some x.store
+        → IfErr r (λ fault. (fault ≡ NoOpenScan) × (after ≡ before) × ((st : Stored) → before ≡ Some st → place_of st.running ≡ None))
+        → IfErr r (λ fault. (world_by c w.core.image w.core.calls w.core.seats.items (slice_set w.stores.items i after) w.desk w.hand ≡ world_of w) × (happens c (world_of w) (Instruction t) ≡ Ok (world_of w, Refused fault)))
+    finish_refused (Ok n) before after i at so lent ended = ended
+    finish_refused (Err e) before after i at so lent ended = (
+      rw (at, ended.1, lent, set_same w.stores.items t (Some x.store) (flat_some _ x.store x.kept)) refl,
+      rw ended.0 (instruction_behind so (ended.2 x.store lent)),
+    )
+
+    -- and the world that it leaves
+    pub finish_world : (r : Result ℕ EventFault) (before after : Option Stored) (v : Controller) (i : ℕ) → i ≡ t → is_some x.seat.tickets ≡ true → before ≡ Some x.store
+        → IfOk r (λ n. (st : Stored) → before ≡ Some st → RunsOut c t st after n)
+        → IfErr r (λ fault. (fault ≡ NoOpenScan) × (after ≡ before) × ((st : Stored) → before ≡ Some st → place_of st.running ≡ None))
+        → v.verified ≡ w.verified → v.core ≡ w.core → v.desk ≡ w.desk → v.hand ≡ w.hand → v.stores.items ≡ slice_set w.stores.items i after → IsWorldOf v
+    finish_world (Ok n) before after v i at so lent steps ended verified core desk hand put =
+        let out = steps x.store lent in
+        record {
+          runnable = rw verified is.runnable;
+          seats = rw (verified, core) is.seats;
+          stores = rw (verified, core, put) (finished_stores after n i at out);
+          reached = rw (verified, core, desk, hand, put) (many_events c (world_of w) _ (instructions t n) [] (up_to_end n) is.reached (finished after n i at so out));
+        }
+    finish_world (Err e) before after v i at so lent steps ended verified core desk hand put =
+        let same : slice_set w.stores.items i after ≡ w.stores.items = rw (at, ended.1, lent) (set_same w.stores.items t (Some x.store) (flat_some _ x.store x.kept)) in
+        record { runnable = rw verified is.runnable; seats = rw (verified, core) is.seats; stores = rw (verified, core, put, same) is.stores; reached = rw (verified, core, desk, hand, put, same) is.reached }
 
 -- REFRESH
 

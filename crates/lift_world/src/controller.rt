@@ -304,7 +304,7 @@ impl Controller {
     pub fn finish(&mut self, task: u8) -> Result<u32, EventFault>
         requires { IsWorldOf self.old }
         ensures model { IfOk result (λ n. (1 ≤ n) × (model.run self.old.verified.config (world_of self.old) [] (instructions task n) ≡ Ok (world_of self.new, up_to_end n))) }
-        ensures refused { IfErr result (λ fault. (self.new ≡ self.old) × (model.happens self.old.verified.config (world_of self.old) (event.Instruction task) ≡ Ok (world_of self.old, replies.Refused fault))) }
+        ensures refused { IfErr result (λ fault. (world_of self.new ≡ world_of self.old) × (model.happens self.old.verified.config (world_of self.old) (event.Instruction task) ≡ Ok (world_of self.old, replies.Refused fault))) }
         ensures same { self.new.verified ≡ self.old.verified }
         ensures world { IsWorldOf self.new }
     {

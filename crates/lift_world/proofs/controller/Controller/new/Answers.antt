@@ -1,10 +1,23 @@
-use Rattle.std.proofs.Common.{◌≡◌, ◌≤◌, ℕ, suc, length, sym, ap, ◌∙◌, subst, arith}
-use Rattle.il_machine.specs.Scanning.{Program, IsScanOf}
+use Rattle.std.proofs.Common.{◌≡◌, ◌≤◌, ℕ, suc, length, [], sym, ap, ◌∙◌, subst, arith}
+use Rattle.lift_spec.specs.declared.image.Sizes.{Sizes}
+use Rattle.lift_world.specs.Running.{world_by}
 use Rattle.lift_world.proofs.Opening.{world_opens, stores_open}
+use Rattle.lift_world.proofs.Sound.{opening_reached}
 use Rattle.lift_world.proofs.controller.Controller.new.Goals as goal
 
 pub returns-clause-opening : goal.returns-clause-opening
-returns-clause-opening c = ?
+returns-clause-opening c =
+    rw (c.new-2.ensures, c.new-3.ensures) (world_opens c.args.verified.config c.in_ok-core.core c.in_ok-stores.stores.items c.in_ok-core.ensures.group (c.in_ok-stores.ensures.as_many ∙ ap (λ (s : Sizes). suc s.cars) c.sizes.ensures))
 
-pub returns-clause-stores : goal.returns-clause-stores
-returns-clause-stores c = ?
+pub returns-clause-world : goal.returns-clause-world
+returns-clause-world c =
+    let config = c.args.verified.config in
+    let many = c.in_ok-stores.ensures.as_many ∙ ap (λ (s : Sizes). suc s.cars) c.sizes.ensures in
+    record {
+      runnable = c.config-config.ensures.runnable;
+      seats = c.in_ok-core.ensures.fits;
+      stores =
+          stores_open config c.in_ok-core.core c.in_ok-stores.stores.items c.in_ok-core.ensures.group many
+          (λ t few. c.in_ok-stores.ensures.there t (subst (λ (s : Sizes). t ≤ s.cars) (sym c.sizes.ensures) few)) c.in_ok-stores.ensures.each;
+      reached = opening_reached config _ (rw (c.new-2.ensures, c.new-3.ensures) (world_opens config c.in_ok-core.core c.in_ok-stores.stores.items c.in_ok-core.ensures.group many));
+    }
