@@ -6,21 +6,23 @@ use Rattle.il_spec.specs.declared.tree.Config.{Config}
 use Rattle.il_run.specs.Scan.{has_ended}
 use Rattle.il_code.specs.Layout.{Rows}
 use Rattle.il_machine.specs.Going.{Stored}
-use Rattle.il_machine.specs.Scanning.{IsRunnable, IsScanOf, OwnsDeclared, FitsOwn, variables_in, kept_of, place_of, state_of}
+use Rattle.il_machine.specs.Scanning.{Program, IsRunnable, IsScanOf, OwnsDeclared, FitsOwn, variables_in, kept_of, place_of, state_of}
 use Rattle.lift_spec.specs.declared.image.Fields.{Fields}
 use Rattle.lift_spec.specs.declared.image.Sizes.{Sizes}
 use Rattle.lift_spec.specs.declared.calls.Call.{Call}
 use Rattle.lift_spec.specs.declared.report.Report.{Report}
+use Rattle.lift_spec.specs.declared.event.Event.{Event}
 use Rattle.lift_spec.specs.declared.event.Event.TheVariants.{Start, Instruction, Commit, Refresh}
 use Rattle.lift_spec.specs.declared.event.EventFault.{EventFault}
 use Rattle.lift_spec.specs.declared.event.EventFault.TheVariants.{NoOpenScan, AlreadyOpen, NotAtEnd, NoSuchActor}
 use Rattle.lift_spec.specs.declared.event.Reply.{Reply as Answer}
 use Rattle.lift_spec.specs.declared.event.Reply.TheVariants as answer
-use Rattle.lift_spec.specs.Replies.{Started, More, End, Committed, Refreshed, Refused, reply_with}
+use Rattle.lift_spec.specs.Replies.{Reply, Started, More, End, Committed, Refreshed, Refused, reply_with}
 use Rattle.lift_spec.specs.Calls.{ticket_of, enter_all}
 use Rattle.lift_spec.specs.Image.{sizes_of, is_floor, fields_in_range}
 use Rattle.lift_spec.specs.Snapshot.{scan_begins}
 use Rattle.lift_spec.specs.World.{flat, happens, run, reply_to, beginning_of, committed_group, refreshed_group}
+use Rattle.lift_sound.specs.Runs.{IsReached}
 use Rattle.lift_world.specs.declared.shared.Core.{Core}
 use Rattle.lift_world.specs.declared.shared.Seat.{Seat}
 use Rattle.lift_world.specs.declared.controller.Controller.{Controller}
@@ -28,7 +30,7 @@ use Rattle.lift_world.specs.Running.{seat_at, open_by, is_open, task_in, group_i
 use Rattle.lift_world.proofs.Views.{set_same, flat_some, some_of, within}
 use Rattle.lift_world.proofs.Keeping.{seats_put, stores_step, stores_seat}
 use Rattle.lift_world.proofs.Opening.{sizes_fit}
-use Rattle.lift_world.proofs.Sound.{world_ranges, many_events}
+use Rattle.lift_world.proofs.Sound.{world_ranges, one_event, many_events}
 use Rattle.lift_world.proofs.Events.{start_nowhere, instruction_nowhere, commit_nowhere, start_open, instruction_idle, commit_idle, instruction_ended, commit_going, start_is, instruction_is, commit_is, refresh_is, ended_so, going_so}
 use Rattle.lift_world.proofs.Finishing.{finishes}
 
@@ -234,13 +236,14 @@ module _ (w : Controller) (is : IsWorldOf w) (t : ℕ) where
         let out = steps x.store lent in
         record {
           runnable = rw verified is.runnable;
+          costs = rw verified is.costs;
           seats = rw (verified, core) is.seats;
           stores = rw (verified, core, put) (finished_stores after n i at out);
           reached = rw (verified, core, desk, hand, put) (many_events c (world_of w) _ (instructions t n) [] (up_to_end n) is.reached (finished after n i at so out));
         }
     finish_world (Err e) before after v i at so lent steps ended verified core desk hand put =
         let same : slice_set w.stores.items i after ≡ w.stores.items = rw (at, ended.1, lent) (set_same w.stores.items t (Some x.store) (flat_some _ x.store x.kept)) in
-        record { runnable = rw verified is.runnable; seats = rw (verified, core) is.seats; stores = rw (verified, core, put, same) is.stores; reached = rw (verified, core, desk, hand, put, same) is.reached }
+        record { runnable = rw verified is.runnable; costs = rw verified is.costs; seats = rw (verified, core) is.seats; stores = rw (verified, core, put, same) is.stores; reached = rw (verified, core, desk, hand, put, same) is.reached }
 
 -- REFRESH
 
@@ -258,3 +261,15 @@ cars_many w is fields inside = (world_ranges w is).outputs ∙ sym (by (sizes_of
   where
     by : (sizes : Sizes) → fields_in_range sizes fields ≡ true → length fields.cars ≡ sizes.cars
     by sizes e = grind (arith, nat_tests)
+
+-- WHAT AN EVENT LEAVES
+
+pub keeps_world : (w v : Controller) (e : Event) (reply : Reply) → IsWorldOf w → v.verified ≡ w.verified → SeatsFit v.verified.config v.core → StoresFit v.verified.config v.core v.stores.items
+    → happens w.verified.config (world_of w) e ≡ Ok (world_of v, reply) → IsWorldOf v
+keeps_world w v e reply is same seats stores happened = record {
+  runnable = rw same is.runnable;
+  costs = rw same is.costs;
+  seats = seats;
+  stores = stores;
+  reached = subst (λ (p : Program). IsReached p.config (world_of v)) (sym same) (one_event w.verified.config (world_of w) (world_of v) e reply is.reached happened);
+}

@@ -1,5 +1,5 @@
 -- Replies and their reports, one after another.
-use Rattle.std.proofs.Common.{◌≡◌, ◌≤◌, ◌<◌, ℕ, zero, suc, ◌+◌, ◌-◌, List, [], ◌∷◌, ◌++◌, map, flat_map, length, refl, sym, ap, ◌∙◌, arith}
+use Rattle.std.proofs.Common.{◌≡◌, ◌≤◌, ◌<◌, ℕ, zero, suc, ◌+◌, ◌-◌, List, [], ◌∷◌, ◌++◌, ◌⊎◌, inl, inr, map, flat_map, length, refl, sym, ap, ◌∙◌, arith}
 use Rattle.std.proofs.lemmas.List.{length-append}
 use Rattle.lift_spec.specs.declared.report.Report.{Report}
 use Rattle.lift_spec.specs.declared.event.Reply.{Reply as Answer}
@@ -101,3 +101,35 @@ reports_again (answer.Already ∷ answers) reports fit = reports_again answers r
 reports_again (answer.Gathered mask ∷ answers) reports fit = reports_again answers reports (omega (arith, fit))
 reports_again (answer.Held ∷ answers) reports fit = reports_again answers reports (omega (arith, fit))
 reports_again (answer.Refused fault ∷ answers) reports fit = reports_again answers reports (omega (arith, fit))
+
+-- one more reply, where its report, if it has one, was kept
+pub one_reply_more : (answers after : List Answer) (reports kept : List Report) (a : Answer) (r : Report) → AreReports answers reports → after ≡ answers ++ a ∷ [] → (reports_by a ≡ 0 → kept ≡ reports) → (reports_by a ≡ 1 → kept ≡ reports ++ r ∷ [])
+    → replies_of after kept ≡ replies_of answers reports ++ reply_with a r ∷ []
+one_reply_more answers after reports kept a r fit more plain one =
+    elim (none_or_one a) [
+      | inl none ↦ rw (more, plain none) (plain_more answers reports a r fit none)
+      | inr some ↦ rw (more, one some) (reported_more answers reports a r fit some)
+    ]
+  where
+    none_or_one : (b : Answer) → (reports_by b ≡ 0) ⊎ (reports_by b ≡ 1)
+    none_or_one answer.Committed = inr refl
+    none_or_one answer.Refreshed = inr refl
+    none_or_one answer.Started = inl refl
+    none_or_one answer.More = inl refl
+    none_or_one answer.End = inl refl
+    none_or_one answer.New = inl refl
+    none_or_one answer.Already = inl refl
+    none_or_one (answer.Gathered mask) = inl refl
+    none_or_one answer.Held = inl refl
+    none_or_one (answer.Refused fault) = inl refl
+
+pub still_reports : (answers after : List Answer) (reports kept : List Report) (a : Answer) → AreReports answers reports → after ≡ answers ++ a ∷ [] → length kept ≡ length reports + reports_by a → AreReports after kept
+still_reports answers after reports kept a fit more many = many ∙ ap (λ n. n + reports_by a) fit ∙ sym (reports_more answers a) ∙ ap reports_of (sym more)
+
+map_length : (replies : List Reply) → length (map answer_of replies) ≡ length replies
+map_length [] = refl
+map_length (r ∷ replies) = ap suc (map_length replies)
+
+-- as many replies as answers
+pub replies_many : (answers : List Answer) (reports : List Report) → AreReports answers reports → length (replies_of answers reports) ≡ length answers
+replies_many answers reports fit = sym (map_length (replies_of answers reports)) ∙ sym (ap length (answers_again answers reports fit))

@@ -1,9 +1,11 @@
 -- The tasks and scans of a world, by their numbers.
 use Rattle.std.proofs.Common.{◌≡◌, ℕ, zero, suc, ◌+◌, ◌<◌, ◌≤◌, ◌⊎◌, inl, inr, Bool, true, false, List, [], ◌∷◌, length, Option, Some, None, refl, sym, ap, ap₂, ◌∙◌, arith}
-use Rattle.std.specs.Prelude.{slice_get, slice_set, slice_index_or, is_some}
+use Rattle.std.specs.Prelude.{slice_get, slice_set, slice_index_or, is_some, option_and_then}
 use Rattle.il_spec.specs.declared.tree.Config.{Config}
 use Rattle.il_run.specs.State.{State}
+use Rattle.il_run.specs.NameMap.{get}
 use Rattle.il_machine.specs.Going.{Stored}
+use Rattle.il_machine.specs.Scanning.{variables_in}
 use Rattle.lift_spec.specs.World.{TaskState, flat}
 use Rattle.lift_world.specs.declared.shared.Seat.{Seat}
 use Rattle.lift_world.specs.Running.{task_in, seated, tasks_in, scanned, scans_in}
@@ -160,3 +162,10 @@ scan_here c seats stores k many = let e : 0 + k ≡ k = omega arith in scan_get 
 pub scan_put : (c : Config) (seats : List (Option Seat)) (stores : List (Option Stored)) (k : ℕ) (s : Seat) (t : Stored) → length stores ≡ length seats
     → scans_in c 0 (slice_set seats k (Some s)) (slice_set stores k (Some t)) ≡ slice_set (scans_in c 0 seats stores) k (scanned c k (Some s) (Some t))
 scan_put c seats stores k s t many = let e : 0 + k ≡ k = omega arith in scan_set c 0 seats stores k s t many ∙ ap (λ m. slice_set (scans_in c 0 seats stores) k (scanned c m (Some s) (Some t))) e
+
+-- VARIABLES
+
+-- the value of a variable of a task, by its rows
+pub variable_of : (c : Config) (t : ℕ) (path : List ℕ) (o : Option Seat) → option_and_then (λ (s : Seat). get (variables_in c t s.variables) path) o ≡ option_and_then (λ (task : TaskState). get task.variables path) (seated c t o)
+variable_of c t path None = refl
+variable_of c t path (Some s) = refl

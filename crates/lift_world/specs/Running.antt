@@ -7,6 +7,7 @@ use Rattle.il_machine.specs.Scanning.{IsRunnable, IsScanOf, OwnsDeclared, FitsOw
 use Rattle.il_run.specs.Step.{step, Next}
 use Rattle.il_code.specs.Layout.{Rows}
 use Rattle.il_machine.specs.Going.{Stored}
+use Rattle.il_machine.specs.Costs.{AreCosts}
 use Rattle.lift_spec.specs.World.{World, Group, TaskState, flat}
 use Rattle.lift_spec.specs.declared.image.Image.{Image}
 use Rattle.lift_spec.specs.declared.calls.Call.{Call}
@@ -163,6 +164,7 @@ pub record StoresFit (c : Config) (k : Core) (stores : List (Option Stored)) : T
 -- what holds of every world: some history of events has led to it from the opening world, and its rows fit
 pub record IsWorldOf (w : Controller) : Type 0 where
   pub runnable : IsRunnable w.verified.config
+  pub costs : AreCosts w.verified.config w.verified.config.units w.verified.costs
   pub seats : SeatsFit w.verified.config w.core
   pub stores : StoresFit w.verified.config w.core w.stores.items
   pub reached : IsReached w.verified.config (world_of w)

@@ -1,6 +1,6 @@
 // Replies, with room for them.
 
-ghost use Rattle.std.specs.Prelude.{◌≡◌, ◌≤◌, ◌+◌, ◌<◌, [], ◌++◌, ◌∷◌, map, flat_map, length, IfOk};
+ghost use Rattle.std.specs.Prelude.{◌≡◌, ◌≤◌, ◌+◌, ◌<◌, [], ◌++◌, ◌∷◌, map, flat_map, length, vec_capacity, IfOk};
 ghost use Rattle.lift_spec.specs.Replies.{reply_with};
 ghost use Rattle.lift_world.specs.Running.{answer_of, report_of, reports_by};
 
@@ -27,6 +27,31 @@ impl Model for Replies {
     ghost view = { λ r. record { items = replies_of r.replies.items r.reports.items; room = vec_capacity r.replies; reports = length r.reports.items; report_room = vec_capacity r.reports } };
 
     ghost invariant = { λ r. AreReports r.replies.items r.reports.items };
+}
+
+// Takes the report that stands beside a reply, if one does; there is room for it.
+fn keep(reports: &mut Vec<Report>, reply: Reply, report: &mut Report)
+    requires { length reports.old.items + reports_by reply ≤ vec_capacity reports.old }
+    ensures plain { reports_by reply ≡ 0 → reports.new.items ≡ reports.old.items }
+    ensures one { reports_by reply ≡ 1 → reports.new.items ≡ reports.old.items ++ report.old ∷ [] }
+    ensures many { length reports.new.items ≡ length reports.old.items + reports_by reply }
+    ensures room { vec_capacity reports.old ≤ vec_capacity reports.new }
+{
+    match reply {
+        Reply::Committed | Reply::Refreshed => {
+            reports.push(mem::replace(report, Report::new())).unwrap()
+        }
+        _ => {}
+    }
+}
+
+// Adds a reply, for which there is room.
+fn add(replies: &mut Vec<Reply>, reply: Reply)
+    requires { length replies.old.items < vec_capacity replies.old }
+    ensures items { replies.new.items ≡ replies.old.items ++ reply ∷ [] }
+    ensures room { vec_capacity replies.old ≤ vec_capacity replies.new }
+{
+    replies.push(reply).unwrap()
 }
 
 impl Replies {
@@ -65,13 +90,7 @@ impl Replies {
         ensures reports { self.new.reports ≡ self.old.reports + reports_by reply }
         ensures report_room { self.old.report_room ≤ self.new.report_room }
     {
-        match reply {
-            Reply::Committed | Reply::Refreshed => self
-                .reports
-                .push(mem::replace(report, Report::new()))
-                .unwrap(),
-            _ => {}
-        }
-        self.replies.push(reply).unwrap()
+        keep(&mut self.reports, reply, report);
+        add(&mut self.replies, reply)
     }
 }

@@ -1,4 +1,6 @@
 use Rattle.std.proofs.Common.{◌≡◌, ◌≤◌, ℕ, suc, length, [], sym, ap, ◌∙◌, subst, arith}
+use Rattle.il_machine.specs.Scanning.{Program}
+use Rattle.il_machine.specs.Costs.{AreCosts}
 use Rattle.lift_spec.specs.declared.image.Sizes.{Sizes}
 use Rattle.lift_world.specs.Running.{world_by}
 use Rattle.lift_world.proofs.Opening.{world_opens, stores_open}
@@ -15,6 +17,7 @@ returns-clause-world c =
     let many = c.in_ok-stores.ensures.as_many ∙ ap (λ (s : Sizes). suc s.cars) c.sizes.ensures in
     record {
       runnable = c.config-config.ensures.runnable;
+      costs = subst (λ (p : Program). AreCosts p.config p.config.units p.costs) c.verified.view_is c.verified.invariant.1;
       seats = c.in_ok-core.ensures.fits;
       stores =
           stores_open config c.in_ok-core.core c.in_ok-stores.stores.items c.in_ok-core.ensures.group many
