@@ -20,7 +20,6 @@ use Rattle.il_rules.specs.Subset.{IsSupported, broken, BreaksInSubset}
 use Rattle.il_rules.specs.Symbols.{IsProgram}
 use Rattle.il_rules.proofs.Straight.{among_units}
 use Rattle.il_run.specs.Annotation.{Annotated}
-use Rattle.il_code.specs.Resolved.{IsResolved}
 use Rattle.il_verify.specs.Resolved.{IsChecked}
 use Rattle.std.proofs.lemmas.Option.{slice_get_within}
 use Rattle.il_spec.specs.declared.tree.Unit.{Unit as Organized}

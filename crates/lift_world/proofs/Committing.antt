@@ -1,5 +1,5 @@
 -- Commits and refreshes, by the parts of a group.
-use Rattle.std.proofs.Common.{◌≡◌, ℕ, zero, suc, ◌+◌, ◌-◌, ◌≤◌, List, [], ◌∷◌, ◌++◌, Option, Some, None, refl, sym, ap, ap₂, ◌∙◌, subst, arith}
+use Rattle.std.proofs.Common.{◌≡◌, ℕ, zero, suc, ◌-◌, ◌≤◌, List, [], Option, Some, None, sym, ap, ap₂, ◌∙◌, arith}
 use Rattle.std.specs.Prelude.{slice_set, filter}
 use Rattle.il_spec.specs.declared.tree.Config.{Config}
 use Rattle.il_spec.specs.declared.tree.Declaration.{Declaration}
@@ -19,11 +19,10 @@ use Rattle.lift_spec.specs.declared.image.Wishes.{Wishes}
 use Rattle.lift_spec.specs.declared.calls.Call.{Call}
 use Rattle.lift_spec.specs.declared.calls.Answer.{Answer}
 use Rattle.lift_spec.specs.declared.report.Report.{Report}
-use Rattle.lift_spec.specs.declared.report.EnteredCall.{EnteredCall}
 use Rattle.lift_spec.specs.Calls.{Calls, Entered, enter_all}
 use Rattle.lift_spec.specs.Settle.{Settled, AllSettled, settled_car, settled_all, with_outputs, denials_of}
 use Rattle.lift_spec.specs.Snapshot.{program_of, wishes_of, written_globals}
-use Rattle.lift_spec.specs.World.{Group, TaskState, committed_group, car_commits, refreshed_group, refreshed_as, serve_wish}
+use Rattle.lift_spec.specs.World.{Group, committed_group, car_commits, refreshed_group, refreshed_as, serve_wish}
 use Rattle.lift_world.specs.declared.shared.Seat.{Seat}
 use Rattle.lift_world.specs.Running.{task_in, tasks_in, group_by}
 use Rattle.lift_world.proofs.Views.{task_put}

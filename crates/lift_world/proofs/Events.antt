@@ -1,5 +1,5 @@
 -- What each event does, by the parts of a world.
-use Rattle.std.proofs.Common.{◌≡◌, ◌≢◌, ℕ, ◌+◌, Bool, true, false, ◌&&◌, List, [], ◌∷◌, ◌++◌, map, length, Option, Some, None, Ok, refl, sym, ap, ◌∙◌, subst, if◌then◌else◌}
+use Rattle.std.proofs.Common.{◌≡◌, ◌≢◌, ℕ, true, false, ◌&&◌, List, [], map, length, Option, Some, None, Ok, refl, sym, ap, ◌∙◌, if◌then◌else◌}
 use Rattle.std.specs.Prelude.{Result, slice_get, slice_set, is_some, ◌==◌}
 use Rattle.il_spec.specs.declared.tree.Config.{Config}
 use Rattle.il_run.specs.State.{State}
@@ -12,16 +12,14 @@ use Rattle.lift_spec.specs.declared.image.Image.{Image}
 use Rattle.lift_spec.specs.declared.image.Fields.{Fields}
 use Rattle.lift_spec.specs.declared.calls.Call.{Call}
 use Rattle.lift_spec.specs.declared.report.Report.{Report}
-use Rattle.lift_spec.specs.declared.event.Event.{Event}
 use Rattle.lift_spec.specs.declared.event.Event.TheVariants.{Start, Instruction, Commit, Refresh, Press, Gather}
-use Rattle.lift_spec.specs.declared.event.EventFault.{EventFault}
 use Rattle.lift_spec.specs.declared.event.EventFault.TheVariants.{FieldOutOfRange, NoOpenScan, AlreadyOpen, NotAtEnd, NoSuchActor, SameFloor}
-use Rattle.lift_spec.specs.Replies.{Reply, Started, More, End, Committed, Refreshed, New, Already, Gathered, Held, Refused}
+use Rattle.lift_spec.specs.Replies.{Reply, Started, Committed, Refreshed, New, Already, Gathered, Held, Refused}
 use Rattle.lift_spec.specs.Calls.{Calls, ticket_of, enter_all}
 use Rattle.lift_spec.specs.Image.{sizes_of, fields_in_range, is_floor}
 use Rattle.lift_spec.specs.Hands.{with_call, with_calls, has_call, has_from, calls_from, calls_not_from, mask_of}
 use Rattle.lift_spec.specs.Snapshot.{scan_begins}
-use Rattle.lift_spec.specs.World.{World, Group, TaskState, Halt, flat, task_at, scan_at, happens, starts, starts_from, instructs, instructs_in, instructs_scan, stepped, commits, commits_scan, commits_ended, reply_to, beginning_of, started_group, committed_group, refreshes, refreshed_group, presses, presses_floors, presses_new, gathers, gathers_from}
+use Rattle.lift_spec.specs.World.{World, Group, TaskState, Halt, flat, task_at, scan_at, happens, starts, starts_from, instructs, instructs_in, instructs_scan, stepped, commits, commits_scan, commits_ended, reply_to, beginning_of, committed_group, refreshes, refreshed_group, presses, presses_floors, presses_new, gathers, gathers_from}
 use Rattle.lift_world.specs.declared.shared.Seat.{Seat}
 use Rattle.lift_world.specs.Running.{task_in, seated, scanned, group_by, world_by}
 use Rattle.lift_world.proofs.Views.{task_here, task_put, scan_here, scan_put, set_same, flat_some}

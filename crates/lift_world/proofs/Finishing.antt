@@ -1,5 +1,5 @@
 -- A run over the instructions that are left of a scan.
-use Rattle.std.proofs.Common.{◌≡◌, ℕ, zero, suc, ◌≤◌, ◌<◌, ◌+◌, Bool, true, false, List, [], ◌∷◌, ◌++◌, length, Option, Some, None, Ok, refl, sym, ap, ◌∙◌, arith, if◌then◌else◌}
+use Rattle.std.proofs.Common.{◌≡◌, ℕ, zero, suc, ◌≤◌, ◌+◌, true, false, List, [], ◌∷◌, ◌++◌, length, Option, Some, None, Ok, refl, sym, ap, ◌∙◌, arith, if◌then◌else◌}
 use Rattle.std.specs.Prelude.{slice_get, slice_set, is_some}
 use Rattle.std.proofs.lemmas.List.{append_assoc}
 use Rattle.il_spec.specs.declared.tree.Config.{Config}
@@ -7,16 +7,16 @@ use Rattle.il_run.specs.State.{Frame, State}
 use Rattle.il_run.specs.Step.{Next, Stuck, step, step_of}
 use Rattle.il_run.specs.Scan.{Reaches, has_ended}
 use Rattle.il_machine.specs.Going.{Stored}
-use Rattle.il_machine.specs.Scanning.{kept_of, state_of, place_of}
+use Rattle.il_machine.specs.Scanning.{kept_of, state_of}
 use Rattle.lift_spec.specs.declared.event.Event.TheVariants.{Instruction}
 use Rattle.lift_spec.specs.declared.calls.Call.{Call}
 use Rattle.lift_spec.specs.Calls.{Calls}
 use Rattle.lift_spec.specs.declared.image.Image.{Image}
 use Rattle.lift_spec.specs.Replies.{Reply, More, End}
-use Rattle.lift_spec.specs.World.{World, TaskState, flat, task_at, happens, run, and_then, reply_to, instructs, instructs_in, instructs_scan, stepped}
+use Rattle.lift_spec.specs.World.{World, flat, happens, run, and_then, reply_to, instructs, instructs_in, instructs_scan, stepped}
 use Rattle.lift_world.specs.declared.shared.Seat.{Seat}
-use Rattle.lift_world.specs.Running.{task_in, scans_in, group_by, world_by, instructions, up_to_end, RunsOut}
-use Rattle.lift_world.proofs.Views.{scan_here, scan_put, set_same, set_again, set_there, within, flat_some}
+use Rattle.lift_world.specs.Running.{scans_in, group_by, world_by, instructions, up_to_end, RunsOut}
+use Rattle.lift_world.proofs.Views.{scan_put, set_same, set_again, set_there, within, flat_some}
 use Rattle.lift_world.proofs.Events.{the_task, ended_so}
 
 -- a state with a next one has not ended

@@ -1,12 +1,11 @@
 -- The events of a group, by what its parts leave.
-use Rattle.std.proofs.Common.{◌≡◌, ◌≢◌, ℕ, suc, ◌+◌, ◌≤◌, ◌<◌, Bool, true, false, ◌&&◌, ◌||◌, not, List, [], ◌∷◌, map, length, Option, Some, None, Result, Ok, Err, Bor, refl, sym, ap, ◌∙◌, subst, arith, if◌then◌else◌}
+use Rattle.std.proofs.Common.{◌≡◌, ◌≢◌, ℕ, ◌≤◌, ◌<◌, Bool, true, false, ◌&&◌, List, [], map, length, Option, Some, None, Result, Ok, Err, Bor, refl, sym, ap, ◌∙◌, subst, arith, if◌then◌else◌}
 use Rattle.std.specs.Prelude.{slice_get, slice_set, is_some, ◌==◌, option_copied, IfOk, IfErr}
 use Rattle.std.proofs.lemmas.Bool.Decides.{nat_tests}
 use Rattle.il_spec.specs.declared.tree.Config.{Config}
-use Rattle.il_run.specs.Scan.{has_ended}
 use Rattle.il_code.specs.Layout.{Rows}
 use Rattle.il_machine.specs.Going.{Stored}
-use Rattle.il_machine.specs.Scanning.{Program, IsRunnable, IsScanOf, OwnsDeclared, FitsOwn, variables_in, kept_of, place_of, state_of}
+use Rattle.il_machine.specs.Scanning.{Program, IsRunnable, IsScanOf, kept_of, place_of, state_of}
 use Rattle.lift_spec.specs.declared.image.Fields.{Fields}
 use Rattle.lift_spec.specs.declared.image.Sizes.{Sizes}
 use Rattle.lift_spec.specs.declared.calls.Call.{Call}

@@ -1,6 +1,5 @@
 -- Replies and their reports, one after another.
-use Rattle.std.proofs.Common.{◌≡◌, ◌≤◌, ◌<◌, ℕ, zero, suc, ◌+◌, ◌-◌, List, [], ◌∷◌, ◌++◌, ◌⊎◌, inl, inr, map, flat_map, length, refl, sym, ap, ◌∙◌, arith}
-use Rattle.std.proofs.lemmas.List.{length-append}
+use Rattle.std.proofs.Common.{◌≡◌, suc, ◌+◌, List, [], ◌∷◌, ◌++◌, ◌⊎◌, inl, inr, map, flat_map, length, refl, sym, ap, ◌∙◌, arith}
 use Rattle.lift_spec.specs.declared.report.Report.{Report}
 use Rattle.lift_spec.specs.declared.event.Reply.{Reply as Answer}
 use Rattle.lift_spec.specs.declared.event.Reply.TheVariants as answer

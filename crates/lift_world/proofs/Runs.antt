@@ -1,5 +1,5 @@
 -- Runs over lists of events.
-use Rattle.std.proofs.Common.{◌≡◌, ◌<◌, ◌≤◌, ◌+◌, ◌-◌, ℕ, suc, zero, ◌∙◌, sym, ap, refl, List, [], ◌∷◌, ◌++◌, length, drop, Ok, arith}
+use Rattle.std.proofs.Common.{◌≡◌, ◌<◌, ◌≤◌, ◌+◌, ◌-◌, ℕ, ◌∙◌, sym, ap, List, [], ◌∷◌, ◌++◌, length, drop, Ok, arith}
 use Rattle.std.specs.Prelude.{slice_index_or}
 use Rattle.std.proofs.lemmas.List.{drop_more, length-append}
 use Rattle.il_spec.specs.declared.tree.Config.{Config}

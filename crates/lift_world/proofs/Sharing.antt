@@ -1,17 +1,16 @@
 -- What the tasks share: denials, entered calls, the opening tasks.
-use Rattle.std.proofs.Common.{◌≡◌, ◌≢◌, ℕ, zero, suc, ◌+◌, ◌-◌, ◌≤◌, ◌<◌, Bool, true, false, List, [], ◌∷◌, ◌++◌, map, length, drop, Option, Some, None, refl, sym, ap, ap₂, ◌∙◌, subst, arith, if◌then◌else◌}
-use Rattle.std.specs.Prelude.{slice_get, slice_set, is_some, ◌==◌}
+use Rattle.std.proofs.Common.{◌≡◌, ℕ, zero, suc, ◌+◌, ◌-◌, ◌≤◌, Bool, true, false, List, [], ◌∷◌, ◌++◌, map, length, drop, Option, Some, None, refl, sym, ap, ap₂, ◌∙◌, arith, if◌then◌else◌}
+use Rattle.std.specs.Prelude.{slice_get, slice_set, ◌==◌}
 use Rattle.std.proofs.lemmas.List.{length-append}
 use Rattle.lift_spec.specs.declared.calls.Call.{Call}
 use Rattle.lift_spec.specs.declared.calls.Slot.{Slot}
 use Rattle.lift_spec.specs.declared.calls.Slot.TheVariants.{Free, Waiting, Told}
 use Rattle.lift_spec.specs.declared.calls.Entering.{Entering}
 use Rattle.lift_spec.specs.declared.calls.Entering.TheVariants.{Done as EntersAt, Kept}
-use Rattle.lift_spec.specs.declared.report.Denial.{Denial}
 use Rattle.lift_spec.specs.declared.report.Rule.{Rule}
 use Rattle.lift_spec.specs.declared.report.EnteredCall.{EnteredCall}
 use Rattle.lift_spec.specs.Settle.{denials_of}
-use Rattle.lift_spec.specs.Calls.{Calls, lowest_free_from, slot_for_next, with_slot, entered_at, enter_into, enter, enter_all, greatest_ticket, Entered}
+use Rattle.lift_spec.specs.Calls.{Calls, lowest_free_from, slot_for_next, entered_at, enter_into, enter, enter_all, greatest_ticket, Entered}
 use Rattle.lift_world.specs.Running.{free_count}
 
 pub denials_map : (car : ℕ) (rules : List Rule) → map (λ rule. record { car = car; rule = rule }) rules ≡ denials_of car rules

@@ -1,16 +1,8 @@
 -- What the machine runs is sound: no rule is broken, and each unit has an annotation.
-use Rattle.std.proofs.Common.{◌≡◌, ℕ, zero, suc, List, [], ◌∷◌, Option, Some, None, refl, sym, ap, ◌∙◌, subst, arith, Ok}
+use Rattle.std.proofs.Common.{◌≡◌, ℕ, List, [], ◌∷◌, Option, Some, None, sym, ap, ◌∙◌, arith, Ok}
 use Rattle.std.specs.Prelude.{Contains, find, bytes_eq}
 use Rattle.il_spec.specs.declared.tree.Config.{Config}
 use Rattle.il_spec.specs.declared.tree.Unit.{Unit as Organized}
-use Rattle.il_spec.specs.declared.tree.Step.{Step}
-use Rattle.il_spec.specs.declared.tree.Place.{Place}
-use Rattle.il_spec.specs.declared.tree.Declaration.{Declaration}
-use Rattle.il_rules.specs.Names.{function_named}
-use Rattle.il_rules.specs.Faults.{recursive as breaks_recursive, long_chain as breaks_chain, too_many_slots}
-use Rattle.il_rules.specs.Order.{Uses, calls, declares, IsRecursive, recursive, HasLongChain, long_chain}
-use Rattle.il_rules.specs.Subset.{IsSupported, IsSupportedInstruction, IsSupportedForm, AreSupportedSteps, AreSupportedVariables}
-use Rattle.il_rules.proofs.Straight.{only_unit}
 use Rattle.il_run.specs.Paths.{longest, IsLongest}
 use Rattle.lift_spec.specs.declared.event.Event.{Event as Happening}
 use Rattle.lift_spec.specs.Replies.{Reply}
@@ -18,7 +10,6 @@ use Rattle.lift_spec.specs.World.{World, InRanges, run, opening, happens}
 use Rattle.il_spec.specs.declared.tree.ProgramLine.{ProgramLine}
 use Rattle.il_run.specs.Scan.{program_of as line_program}
 use Rattle.lift_spec.specs.Snapshot.{task_name, program_of}
-use Rattle.il_sound.specs.Accepted.{IsOrdered}
 use Rattle.lift_sound.specs.Accepted.{IsSound}
 use Rattle.lift_sound.specs.Tasks.{budget_of, budget_by}
 use Rattle.lift_sound.specs.Runs.{RunsWell, WorldWell, IsReached}
@@ -37,7 +28,6 @@ use Rattle.il_costs.proofs.Accepted.{has_longest}
 use Rattle.il_sound.proofs.Named.{found_unit}
 use Rattle.il_sound.proofs.Meant.{program_is}
 use Rattle.lift_world.proofs.Accepting.{unbroken_is}
-use Rattle.lift_world.proofs.Costs.{limit_is_standard}
 
 -- SOUNDNESS
 

@@ -52,7 +52,11 @@ fn opening_store(alloc: Global, verified: &Verified, task: u8) -> Result<Option<
 }
 
 // A store for each task: GROUP, and then the cars.
-fn opening_stores(alloc: Global, verified: &Verified, cars: u8) -> Result<Vec<Option<Store>>, Refusal>
+fn opening_stores(
+    alloc: Global,
+    verified: &Verified,
+    cars: u8,
+) -> Result<Vec<Option<Store>>, Refusal>
     requires { cars ≤ 8 }
     ensures as_many { IfOk result (λ ss. length ss.items ≡ suc cars) }
     ensures there { IfOk result (λ ss. (t : ℕ) → t ≤ cars → is_some (model.flat (slice_get ss.items t)) ≡ is_some (program_of verified.now.config t)) }

@@ -302,7 +302,9 @@ impl Core {
         let _config = verified.config();
         let wishes = store.wishes(verified, task);
         let settled = settle_car(&self.image, task, wishes.motor, wishes.opens);
-        self.image.outputs.set(usize::from(task - 1), settled.outputs);
+        self.image
+            .outputs
+            .set(usize::from(task - 1), settled.outputs);
         let answers = self.close(verified, task, store, wishes.serve);
         Report {
             outputs: Row::from_slice(self.image.outputs.as_slice()),

@@ -1,4 +1,4 @@
-use Rattle.std.proofs.Common.{◌∙◌, ap, ◌+◌, suc}
+use Rattle.std.proofs.Common.{◌∙◌, ap, ◌+◌}
 use Rattle.std.specs.Prelude.{is_some}
 use Rattle.il_machine.specs.Scanning.{IsScanOf}
 use Rattle.lift_spec.specs.Snapshot.{program_of}

@@ -1,5 +1,4 @@
 use Rattle.std.proofs.Common.{◌≡◌, map, take}
-use Rattle.lift_spec.specs.declared.report.Denial.{Denial}
 use Rattle.lift_world.proofs.shared.denials_of.Given as goal
 
 abbrev pub invariant-rules : goal.invariant-rules

@@ -1,6 +1,5 @@
-use Rattle.std.proofs.Common.{◌≡◌, ◌+◌, ◌≤◌, ◌∙◌, sym, ap, arith, refl, ◌∷◌, ◌++◌, [], drop, length, Some, None}
+use Rattle.std.proofs.Common.{◌∙◌, sym, ap, arith, drop, length}
 use Rattle.lift_spec.specs.Calls.{enter_all}
-use Rattle.lift_world.specs.Running.{free_count}
 use Rattle.lift_world.proofs.Sharing.{free_few, enters, stays, enters_free, first_of, none_left, room_more}
 use Rattle.lift_world.proofs.shared.enter_all.Goals as goal
 

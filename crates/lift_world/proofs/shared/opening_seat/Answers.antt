@@ -1,4 +1,4 @@
-use Rattle.std.proofs.Common.{◌≡◌, ◌∙◌, sym, ap, true, Some, None}
+use Rattle.std.proofs.Common.{◌∙◌, sym}
 use Rattle.il_machine.proofs.Tasked.{only_car}
 use Rattle.lift_world.proofs.Opening.{seat_opens}
 use Rattle.lift_world.proofs.shared.opening_seat.Goals as goal

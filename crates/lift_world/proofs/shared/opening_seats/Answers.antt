@@ -1,4 +1,4 @@
-use Rattle.std.proofs.Common.{◌≡◌, ◌+◌, suc, ◌∙◌, ap, arith, length}
+use Rattle.std.proofs.Common.{◌≡◌, ◌+◌, suc, ◌∙◌, ap, arith}
 use Rattle.lift_spec.specs.World.{opening_tasks_from}
 use Rattle.lift_world.proofs.Opening.{seats_more, fits_more, length_more}
 use Rattle.lift_world.proofs.shared.opening_seats.Goals as goal

@@ -1,4 +1,4 @@
-use Rattle.std.proofs.Common.{rules, ◌≡◌, ◌<◌, ◌∙◌, Some, None, sym, ap, refl, length, subst, true, false}
+use Rattle.std.proofs.Common.{rules, ◌≡◌, ◌∙◌, sym, ap, refl, true, false}
 use Rattle.std.specs.Prelude.{is_some}
 use Rattle.il_machine.specs.Going.{Stored}
 use Rattle.il_machine.specs.Scanning.{kept_of, place_of, state_of}

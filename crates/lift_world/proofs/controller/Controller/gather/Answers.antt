@@ -1,4 +1,4 @@
-use Rattle.std.proofs.Common.{◌≡◌, ◌∙◌, sym, ap, true, false}
+use Rattle.std.proofs.Common.{◌∙◌, sym}
 use Rattle.lift_world.specs.Running.{world_of}
 use Rattle.lift_world.proofs.Events.{gather_nowhere, gather_held, gather_moves}
 use Rattle.lift_world.proofs.Happening.{told, floor_fits}

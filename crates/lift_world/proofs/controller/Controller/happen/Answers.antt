@@ -1,4 +1,4 @@
-use Rattle.std.proofs.Common.{◌≡◌, ◌≤◌, arith}
+use Rattle.std.proofs.Common.{arith}
 use Rattle.lift_world.proofs.Happening.{keeps_world}
 use Rattle.lift_world.proofs.controller.Controller.happen.Goals as goal
 

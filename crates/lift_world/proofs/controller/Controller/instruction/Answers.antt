@@ -1,7 +1,7 @@
-use Rattle.std.proofs.Common.{rules, ◌≡◌, ◌<◌, ◌∙◌, sym, ap, refl, length, subst, true, false}
+use Rattle.std.proofs.Common.{rules, ◌∙◌, sym, ap, true, false}
 use Rattle.std.specs.Prelude.{is_some}
 use Rattle.lift_world.proofs.Views.{here}
-use Rattle.lift_world.proofs.Happening.{none_there, some_there, standing, tickets_so, store_within, lent_some, lent_is, lent_scan, instruction_none, instruction_without, advanced, advanced_stores}
+use Rattle.lift_world.proofs.Happening.{none_there, some_there, standing, tickets_so, store_within, lent_some, lent_scan, instruction_none, instruction_without, advanced, advanced_stores}
 use Rattle.lift_world.proofs.controller.Controller.instruction.Goals as goal
 
 pub returns-then-is_none-clause-model : goal.returns-then-is_none-clause-model

@@ -1,8 +1,7 @@
-use Rattle.std.proofs.Common.{◌≡◌, ◌≤◌, ℕ, suc, length, [], sym, ap, ◌∙◌, subst, arith}
+use Rattle.std.proofs.Common.{◌≤◌, suc, sym, ap, ◌∙◌, subst}
 use Rattle.il_machine.specs.Scanning.{Program}
 use Rattle.il_machine.specs.Costs.{AreCosts}
 use Rattle.lift_spec.specs.declared.image.Sizes.{Sizes}
-use Rattle.lift_world.specs.Running.{world_by}
 use Rattle.lift_world.proofs.Opening.{world_opens, stores_open}
 use Rattle.lift_world.proofs.Sound.{opening_reached}
 use Rattle.lift_world.proofs.controller.Controller.new.Goals as goal

@@ -1,5 +1,4 @@
-use Rattle.std.proofs.Common.{◌≡◌, ◌∙◌, sym, ap, true, false}
-use Rattle.lift_spec.specs.Image.{sizes_of, is_floor}
+use Rattle.std.proofs.Common.{◌∙◌, sym}
 use Rattle.lift_world.specs.Running.{world_of}
 use Rattle.lift_world.proofs.Events.{press_nowhere, press_same, press_again, press_new}
 use Rattle.lift_world.proofs.Happening.{told, floor_fits, first_not, second_not, both_so, same_so, other_so}
@@ -13,7 +12,7 @@ returns-then-not-is_floor-clause-model c = λ _.
     (elim c.then-not-is_floor.branch [
       | then-not-is_floor-via-then-not-is_floor b ↦ first_not _ _ (told _ _ _ _ _ c.sizes-sizes.ensures c.is_floor.ensures b.if-not-is_floor.true)
       | then-not-is_floor-via-else-not-is_floor+then-not-is_floor-2 b ↦
-        second_not _ _ (told _ _ _ _ _ c.sizes-sizes.ensures c.is_floor.ensures b.if-not-is_floor.false) (told _ _ _ _ _ c.sizes-sizes.ensures b.is_floor-else-not-is_floor.ensures b.if-not-is_floor-2.true)
+          second_not _ _ (told _ _ _ _ _ c.sizes-sizes.ensures c.is_floor.ensures b.if-not-is_floor.false) (told _ _ _ _ _ c.sizes-sizes.ensures b.is_floor-else-not-is_floor.ensures b.if-not-is_floor-2.true)
     ])
 
 pub returns-then-call-clause-model : goal.returns-then-call-clause-model

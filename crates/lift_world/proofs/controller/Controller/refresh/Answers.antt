@@ -1,4 +1,4 @@
-use Rattle.std.proofs.Common.{◌≡◌, ◌∙◌, sym, ap, true, false}
+use Rattle.std.proofs.Common.{◌∙◌, sym, ap}
 use Rattle.lift_spec.specs.Image.{fields_in_range}
 use Rattle.lift_world.specs.Running.{world_of}
 use Rattle.lift_world.proofs.Events.{refresh_outside}

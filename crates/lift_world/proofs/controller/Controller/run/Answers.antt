@@ -1,4 +1,4 @@
-use Rattle.std.proofs.Common.{◌≡◌, ◌≤◌, ◌+◌, ap, ◌∙◌, arith}
+use Rattle.std.proofs.Common.{ap, ◌∙◌, arith}
 use Rattle.il_machine.specs.Scanning.{Program}
 use Rattle.lift_world.proofs.Runs.{one_more, room_left, reports_left}
 use Rattle.lift_world.proofs.controller.Controller.run.Goals as goal

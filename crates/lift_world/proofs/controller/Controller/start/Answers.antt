@@ -1,8 +1,8 @@
-use Rattle.std.proofs.Common.{rules, ◌≡◌, ◌<◌, ◌∙◌, sym, ap, refl, length, subst, true, false}
+use Rattle.std.proofs.Common.{rules, ap, true, false}
 use Rattle.std.specs.Prelude.{is_some}
 use Rattle.lift_world.proofs.Views.{here}
 use Rattle.lift_world.proofs.Sound.{world_ranges}
-use Rattle.lift_world.proofs.Happening.{none_there, some_there, standing, tickets_so, store_within, lent_some, lent_is, lent_scan, start_none, start_again, started, started_seats, started_stores}
+use Rattle.lift_world.proofs.Happening.{none_there, some_there, standing, tickets_so, store_within, lent_some, lent_scan, start_none, start_again, started, started_seats, started_stores}
 use Rattle.lift_world.proofs.controller.Controller.start.Goals as goal
 
 pub returns-then-is_none-clause-model : goal.returns-then-is_none-clause-model

@@ -1,4 +1,4 @@
-use Rattle.std.proofs.Common.{◌≡◌, map, ap, ◌∙◌}
+use Rattle.std.proofs.Common.{map, ap, ◌∙◌}
 use Rattle.lift_world.specs.Running.{Answers, answer_of}
 use Rattle.lift_world.proofs.Replying.{answers_again}
 use Rattle.lift_world.proofs.replies.Replies.as_slice.Goals as goal

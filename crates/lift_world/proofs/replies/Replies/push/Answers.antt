@@ -1,5 +1,4 @@
-use Rattle.std.proofs.Common.{◌≡◌, ◌<◌, ap, ◌∙◌, ◌++◌, ◌∷◌, [], length, arith}
-use Rattle.std.specs.Prelude.{vec_capacity}
+use Rattle.std.proofs.Common.{ap, ◌∙◌, ◌++◌, ◌∷◌, [], length, arith}
 use Rattle.lift_spec.specs.Replies.{reply_with}
 use Rattle.lift_world.specs.Running.{Answers}
 use Rattle.lift_world.proofs.Replying.{one_reply_more, still_reports, replies_many}

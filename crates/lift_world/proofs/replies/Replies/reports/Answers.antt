@@ -1,4 +1,4 @@
-use Rattle.std.proofs.Common.{◌≡◌, flat_map, ap, ◌∙◌}
+use Rattle.std.proofs.Common.{flat_map, ap, ◌∙◌}
 use Rattle.lift_world.specs.Running.{Answers, report_of}
 use Rattle.lift_world.proofs.Replying.{reports_again}
 use Rattle.lift_world.proofs.replies.Replies.reports.Goals as goal

@@ -1,4 +1,4 @@
-use Rattle.std.proofs.Common.{◌≡◌, ◌∙◌, sym, ap, ap₂, Some, slice_set}
+use Rattle.std.proofs.Common.{◌∙◌, sym, ap₂, slice_set}
 use Rattle.lift_world.proofs.Views.{here, some_of}
 use Rattle.lift_world.proofs.shared.Core.close.Goals as goal
 

@@ -1,11 +1,10 @@
-use Rattle.std.proofs.Common.{◌≡◌, ◌≤◌, ◌<◌, ◌-◌, ◌∙◌, sym, ap, ap₂, arith, refl}
-use Rattle.lift_spec.specs.Image.{sizes_of}
+use Rattle.std.proofs.Common.{◌∙◌, sym, ap, arith, refl}
 use Rattle.std.specs.Prelude.{slice_get}
 use Rattle.il_machine.specs.Scanning.{kept_of, state_of}
 use Rattle.il_machine.proofs.Codes.{task_one}
 use Rattle.lift_spec.specs.Settle.{Settled}
 use Rattle.lift_spec.specs.World.{flat}
-use Rattle.lift_world.proofs.Views.{some_of, after_set}
+use Rattle.lift_world.proofs.Views.{some_of}
 use Rattle.lift_world.proofs.Opening.{sizes_fit, fits_set}
 use Rattle.lift_world.proofs.Committing.{commit_group, no_globals, put_outputs}
 use Rattle.lift_world.proofs.shared.Core.commit.Goals as goal
@@ -38,7 +37,7 @@ returns-clause-group c = λ s tickets there saw.
     let values = (state_of (kept_of config c.args.task c.args.store.now)).values in
     let settled : Settled = record { outputs = c.settled.inside.outputs; denials = c.settled.inside.denials } in
     commit_group config c.args.self.now.image c.args.self.now.calls c.args.self.now.seats.items c.args.task s tickets values c.wishes-wishes.result settled left.0 c.close-answers.new.self.calls c.close-answers.result
-        (omega (arith, one)) c.wishes-wishes.ensures (c.settled.view_is ∙ c.settle_car-settled.ensures) (c.close-answers.ensures.calls s tickets there saw) left.4 (no_globals config runs c.args.task own.0 values own.1)
+    (omega (arith, one)) c.wishes-wishes.ensures (c.settled.view_is ∙ c.settle_car-settled.ensures) (c.close-answers.ensures.calls s tickets there saw) left.4 (no_globals config runs c.args.task own.0 values own.1)
     ∙ rw (c.from_slice.ensures, c.as_slice.ensures, c.denials_of.ensures, c.as_slice-2.ensures, c.new.ensures, left.1, c.close-answers.ensures.image, c.set.ensures, c.from.ensures, put_outputs c.args.self.now.image.outputs c.args.task c.settled.inside.outputs (omega (arith, one))) refl
 
 pub returns-clause-fits : goal.returns-clause-fits

@@ -1,4 +1,4 @@
-use Rattle.std.proofs.Common.{◌≡◌, ◌≤◌, ℕ, sym, subst, ap}
+use Rattle.std.proofs.Common.{◌≤◌, sym, subst}
 use Rattle.lift_spec.specs.declared.image.Sizes.{Sizes}
 use Rattle.lift_world.proofs.Opening.{sizes_fit}
 use Rattle.lift_world.proofs.shared.Core.new.Goals as goal

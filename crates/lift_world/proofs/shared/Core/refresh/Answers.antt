@@ -1,6 +1,5 @@
-use Rattle.std.proofs.Common.{◌≡◌, ◌∙◌, sym, ap, ap₂, []}
+use Rattle.std.proofs.Common.{◌∙◌}
 use Rattle.lift_spec.specs.Settle.{AllSettled}
-use Rattle.lift_world.specs.Running.{group_by}
 use Rattle.lift_world.proofs.Committing.{refresh_group}
 use Rattle.lift_world.proofs.shared.Core.refresh.Goals as goal
 

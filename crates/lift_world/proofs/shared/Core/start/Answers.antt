@@ -1,10 +1,9 @@
-use Rattle.std.proofs.Common.{◌≡◌, ◌∙◌, sym, ap, ap₂, Some, map, slice_set, Option}
+use Rattle.std.proofs.Common.{◌∙◌, sym, ap, ap₂, Some, map, slice_set}
 use Rattle.il_run.specs.Scan.{opening_globals}
 use Rattle.il_machine.specs.Scanning.{variables_in}
 use Rattle.lift_spec.specs.Snapshot.{scan_begins}
 use Rattle.lift_spec.specs.Calls.{ticket_of}
-use Rattle.lift_world.specs.declared.shared.Seat.{Seat}
-use Rattle.lift_world.specs.Running.{seat_at, with_seat}
+use Rattle.lift_world.specs.Running.{with_seat}
 use Rattle.lift_world.proofs.Views.{here}
 use Rattle.lift_world.proofs.shared.Core.start.Goals as goal
 
