@@ -1,3 +1,4 @@
+use Rattle.std.proofs.Common.{rules}
 use Rattle.il_machine.proofs.Stepping.{step_there, step_is, step_scan, step_own}
 use Rattle.il_machine.proofs.store.step.Goals as goal
 
@@ -12,3 +13,6 @@ returns-clause-scan c = step_scan c.args.verified.now.config c.code-code.ensures
 
 pub returns-clause-own : goal.returns-clause-own
 returns-clause-own c = step_own c.args.verified.now.config c.code-code.ensures.runnable c.args.task c.args.store.now c.advance.new.self c.requires.scan c.requires.going (rw (c.units.ensures, c.code-code.ensures.same) at c.advance.ensures)
+
+pub returns-clause-end : goal.returns-clause-end
+returns-clause-end c = search rules

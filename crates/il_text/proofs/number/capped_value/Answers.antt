@@ -2,6 +2,7 @@ use Rattle.std.proofs.Common.{sym, ◌∙◌, ◌+◌, ◌*◌, ap, drop, min, a
 use Rattle.std.specs.Prelude.{option_map, filter, not, ◌==◌}
 use Rattle.std.specs.Char.{is_digit, digit_value}
 use Rattle.std.specs.Str.Parse.{digits_value}
+use Rattle.std.proofs.lemmas.Grind.{common_steps}
 use Rattle.std.proofs.lemmas.List.{take_all}
 use Rattle.il_spec.specs.Text.{is_grouped_after}
 use Rattle.il_text.proofs.Grouped.{grouped_gap, grouped_bad_gap, grouped_pass, grouped_fail, grouped_end}
@@ -9,6 +10,12 @@ use Rattle.il_text.proofs.Capped.{value_gap, value_step}
 use Rattle.il_text.proofs.Numbers.{no_digit, some_digit, digit_apart, ungrouped, grouped}
 use Rattle.il_text.proofs.number.capped_value.Goals as goal
 use Rattle.il_text.proofs.number.capped_value.Goals.{in-Some, in-None+else-digit-ne95+else-not-inside}
+
+pub overflow_mul-value : goal.overflow_mul-value
+overflow_mul-value c = grind (arith, common_steps)
+
+pub overflow_add-value : goal.overflow_add-value
+overflow_add-value c = grind (arith, common_steps)
 
 pub returns-then-digit-ne95 : goal.returns-then-digit-ne95
 returns-then-digit-ne95 c =
