@@ -4,7 +4,6 @@ use Rattle.std.specs.Prelude.{String, is_some, map}
 use Rattle.std.specs.List.{AllByRecursion, IsDistinct}
 use Rattle.std.specs.declared.cmp.Ordering.{Ordering}
 use Rattle.std.specs.declared.cmp.Ordering.TheVariants.{Less, Equal, Greater}
-use Rattle.std.specs.Str.{bytes_eq}
 use Rattle.std.proofs.lemmas.Map.Lookups.{exact_bytes}
 use Rattle.il_rules.specs.Names.{or_else}
 use Rattle.std.specs.String.{string_bytes, string_eq}
