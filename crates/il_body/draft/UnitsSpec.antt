@@ -1,0 +1,13 @@
+-- Units within the limits.
+use Rattle.std.specs.Prelude.{ℕ, ◌≤◌, length, List}
+use Rattle.il_spec.specs.declared.tree.Body.{Body}
+use Rattle.il_spec.specs.declared.tree.Unit.{Unit as ProgramUnit}
+use Rattle.il_spec.specs.Grammar.{Front, SpellsUnit, greatest_depth}
+
+-- a body within the limits
+abbrev pub IsFew : Body → Type 0
+IsFew b = (length b.steps ≤ 4096) × (greatest_depth 0 b.steps ≤ 16)
+
+-- a unit within the limits
+abbrev pub SpellsSmallUnit : List ℕ → ProgramUnit → Front
+SpellsSmallUnit text u ts rest = SpellsUnit text u ts rest × IsFew u.body

@@ -1,0 +1,4 @@
+pub mod Labels
+pub mod Entries
+pub mod Missing
+pub mod External

@@ -1,0 +1,4 @@
+pub mod Bodies
+pub mod Lists
+pub mod Insides
+pub mod Headings

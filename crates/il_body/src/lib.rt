@@ -1,0 +1,12 @@
+//! Readers of bodies: labels, instructions in parentheses, and the limits of a body.
+#![tactic(auto)]
+
+mod bodies;
+mod headings;
+mod insides;
+mod lists;
+
+pub use bodies::{Entry, body};
+pub use headings::{block, function, program};
+pub use insides::{block_inside, function_inside, program_inside};
+pub use lists::{externals, filled_list, full_list, no_list, optional_list};
