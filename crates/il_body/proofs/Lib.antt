@@ -2,3 +2,4 @@ pub mod Labels
 pub mod Entries
 pub mod Missing
 pub mod External
+pub mod OneUnit

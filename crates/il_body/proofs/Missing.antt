@@ -81,6 +81,11 @@ pub it_stands : (F : Front) (ts : List Token) (b : Bool) → StandsThere F ts b 
 it_stands F ts true h e = h
 it_stands F ts false h e = absurd cc
 
+-- what doesn't
+pub it_is_missing : (F : Front) (ts : List Token) (b : Bool) → StandsThere F ts b → b ≡ false → (rest : List Token) → F ts rest → ⊥
+it_is_missing F ts true h e = absurd cc
+it_is_missing F ts false h e = h
+
 -- a list that isn't empty is one
 pub full_one : (text : List ℕ) (k : Keyword) → IsDeterministic (SpellsFull text k)
 full_one text k = record { only = λ a b ts r s p q. (declarations_one text k).only a b ts r s p.1 q.1 }

@@ -2,3 +2,4 @@ pub mod Bodies
 pub mod Lists
 pub mod Insides
 pub mod Headings
+pub mod Units

@@ -13,8 +13,8 @@ use il_spec::list::Items;
 use il_spec::token::Sign;
 use il_spec::tree::Declaration;
 
-// Whether the word comes next, behind any line ends.
-fn comes(source: &Source, tokens: &Tokens, keyword: Keyword) -> Result<bool, Stop>
+/// Whether the word comes next, behind any line ends.
+pub fn comes(source: &Source, tokens: &Tokens, keyword: Keyword) -> Result<bool, Stop>
     ensures comes { IfOk result (λ b. Comes (TheWord source.now keyword) tokens.now b) }
     ensures memory { IfErr result (λ e. e ≡ Memory) }
 {
