@@ -103,7 +103,7 @@ fn placed(
     let Some(place) = tokens.place() else {
         return Err(tokens.outside());
     };
-    let lead = source.lead(tokens)?;
+    let lead = source.lead(tokens);
     if !may_begin(depth, load, lead) {
         return Err(tokens.outside());
     }
@@ -168,7 +168,7 @@ fn outer(
             instruction,
         }));
     }
-    if let Some(place) = source.eat_placed(tokens, last)? {
+    if let Some(place) = source.eat_placed(tokens, last) {
         return Ok(Entry::End { labels, place });
     }
     let (place, instruction) = placed(source, tokens, 0, load, full)?;

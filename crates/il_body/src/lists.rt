@@ -14,9 +14,8 @@ use il_spec::token::Sign;
 use il_spec::tree::Declaration;
 
 /// Whether the word comes next, behind any line ends.
-pub fn comes(source: &Source, tokens: &Tokens, keyword: Keyword) -> Result<bool, Stop>
-    ensures comes { IfOk result (λ b. Comes (TheWord source.now keyword) tokens.now b) }
-    ensures memory { IfErr result (λ e. e ≡ Memory) }
+pub fn comes(source: &Source, tokens: &Tokens, keyword: Keyword) -> bool
+    ensures comes { Comes (TheWord source.now keyword) tokens.now result }
 {
     let mut ahead = tokens.ahead();
     ahead.skip_lines();
@@ -28,7 +27,7 @@ pub fn no_list(source: &Source, tokens: &Tokens, keyword: Keyword) -> Result<(),
     ensures reads { IfOk result (λ _. Stands (No (AfterLines (TheWord source.now keyword))) tokens.now tokens.now) }
     ensures refused { IfErr result (λ e. Misses (No (AfterLines (TheWord source.now keyword))) tokens.now e) }
 {
-    if comes(source, tokens, keyword)? {
+    if comes(source, tokens, keyword) {
         let mut ahead = tokens.ahead();
         ahead.skip_lines();
         return Err(ahead.outside());
@@ -59,7 +58,7 @@ pub fn full_list(
     tokens.skip_lines();
     source.word(tokens, keyword)?;
     tokens.skip_lines();
-    if source.word_stands(tokens, Keyword::EndVar)? {
+    if source.word_stands(tokens, Keyword::EndVar) {
         return Err(tokens.outside());
     }
     Ok(source.declarations(tokens)?)
@@ -74,7 +73,7 @@ pub fn filled_list(
     ensures reads { IfOk result (λ ds. Reads (SpellsFilledList source.now keyword) tokens.old ds tokens.new) }
     ensures refused { IfErr result (λ e. Refuses (SpellsFilledList source.now keyword) tokens.old e) }
 {
-    if !comes(source, tokens, keyword)? {
+    if !comes(source, tokens, keyword) {
         return Ok(Items::new(source.alloc()));
     }
     Ok(full_list(source, tokens, keyword)?)
@@ -89,7 +88,7 @@ pub fn optional_list(
     ensures reads { IfOk result (λ ds. Reads (SpellsOptionalList source.now keyword (SpellsDeclaration source.now)) tokens.old ds tokens.new) }
     ensures refused { IfErr result (λ e. Refuses (SpellsOptionalList source.now keyword (SpellsDeclaration source.now)) tokens.old e) }
 {
-    if !comes(source, tokens, keyword)? {
+    if !comes(source, tokens, keyword) {
         return Ok(Items::new(source.alloc()));
     }
     Ok(list(source, tokens, keyword)?)
@@ -123,7 +122,7 @@ fn externals_inside(source: &Source, tokens: &mut Tokens) -> Result<Items<Declar
     ensures refused { IfErr result (λ e. Refuses (SpellsExternalsInside source.now) tokens.old e) }
 {
     let mut externals = Items::new(source.alloc());
-    'externals: while !source.eat_word(tokens, Keyword::EndVar)? {
+    'externals: while !source.eat_word(tokens, Keyword::EndVar) {
         let external = external(source, tokens)?;
         externals.push(external)?;
         tokens.skip_lines();
@@ -147,7 +146,7 @@ pub fn externals(source: &Source, tokens: &mut Tokens) -> Result<Items<Declarati
     ensures reads { IfOk result (λ ds. Reads (SpellsOptionalList source.now word.VarExternal (SpellsExternal source.now)) tokens.old ds tokens.new) }
     ensures refused { IfErr result (λ e. Refuses (SpellsOptionalList source.now word.VarExternal (SpellsExternal source.now)) tokens.old e) }
 {
-    if !comes(source, tokens, Keyword::VarExternal)? {
+    if !comes(source, tokens, Keyword::VarExternal) {
         return Ok(Items::new(source.alloc()));
     }
     Ok(external_list(source, tokens)?)

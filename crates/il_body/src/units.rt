@@ -71,10 +71,10 @@ pub fn unit(source: &Source, tokens: &mut Tokens) -> Result<Unit, Stop>
     ensures reads { IfOk result (λ u. Reads (SpellsSmallUnit source.now) tokens.old u tokens.new) }
     ensures refused { IfErr result (λ e. Refuses (SpellsSmallUnit source.now) tokens.old e) }
 {
-    if source.word_stands(tokens, Keyword::Program)? {
+    if source.word_stands(tokens, Keyword::Program) {
         return program_unit(source, tokens);
     }
-    if source.word_stands(tokens, Keyword::FunctionBlock)? {
+    if source.word_stands(tokens, Keyword::FunctionBlock) {
         return block_unit(source, tokens);
     }
     function_unit(source, tokens)

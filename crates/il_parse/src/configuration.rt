@@ -38,7 +38,7 @@ fn globals(source: &Source, tokens: &mut Tokens) -> Result<Globals, Stop>
     ensures reads { IfOk result (λ x. Reads (SpellsSomeGlobals source.now) tokens.old x tokens.new) }
     ensures refused { IfErr result (λ e. Refuses (SpellsSomeGlobals source.now) tokens.old e) }
 {
-    if !comes(source, tokens, Keyword::VarGlobal)? {
+    if !comes(source, tokens, Keyword::VarGlobal) {
         return Ok((None, Items::new(source.alloc())));
     }
     let (place, declarations) = global_list(source, tokens)?;
@@ -51,7 +51,7 @@ fn tasks(source: &Source, tokens: &mut Tokens) -> Result<Items<Task>, Stop>
     ensures refused { IfErr result (λ e. Refuses (SpellsTasks source.now) tokens.old e) }
 {
     let mut tasks = Items::new(source.alloc());
-    'tasks: while source.word_stands(tokens, Keyword::Task)? {
+    'tasks: while source.word_stands(tokens, Keyword::Task) {
         let task = source.task(tokens)?;
         tasks.push(task)?;
         tokens.skip_lines();
@@ -65,7 +65,7 @@ fn programs(source: &Source, tokens: &mut Tokens) -> Result<Items<ProgramLine>, 
     ensures refused { IfErr result (λ e. Refuses (SpellsPrograms source.now) tokens.old e) }
 {
     let mut programs = Items::new(source.alloc());
-    'programs: while source.word_stands(tokens, Keyword::Program)? {
+    'programs: while source.word_stands(tokens, Keyword::Program) {
         let line = source.program_line(tokens)?;
         programs.push(line)?;
         tokens.skip_lines();

@@ -5,7 +5,9 @@ ghost use Rattle.std.specs.Prelude.{◌≡◌, ◌≤◌, length, IfOk, IfErr, [
 ghost use Rattle.il_spec.specs.Text.{AreTokens};
 ghost use Rattle.il_spec.specs.Grammar.{AfterLines, SpellsConfig, Spells, IsWithinLimits};
 ghost use Rattle.il_spec.specs.declared.tree.Config.{Config};
+ghost use Rattle.il_read.specs.Reads.{Reads, Refuses};
 ghost use Rattle.il_parse.specs.Refused.{IsFault, IsOfParser, IsSmall};
+ghost use Rattle.il_parse.specs.Parts.{SpellsSmallConfig};
 
 mod configuration;
 mod units;
@@ -41,8 +43,7 @@ pub fn parse(alloc: Global, text: &[u8], tokens: &[Token]) -> Result<Config, Ref
     // And nothing else is spelled.
     ensures only { IfOk result (λ c. (d : Config) → AfterLines (SpellsConfig text.now d) tokens.now [] → d ≡ c) }
 {
-    let source = Source::new(alloc, text);
-    match configuration(&source, &mut Tokens::new(tokens)) {
+    match read(alloc, text, tokens) {
         Ok(config) => Ok(config),
         Err(Stop::Memory) => Err(Refusal::Memory),
         Err(Stop::Fault { flaw, line }) => Err(Refusal::Fault {
@@ -50,6 +51,17 @@ pub fn parse(alloc: Global, text: &[u8], tokens: &[Token]) -> Result<Config, Ref
             line: line.unwrap_or(last_line(text)),
         }),
     }
+}
+
+// The configuration that the tokens of a text spell.
+fn read(alloc: Global, text: &[u8], tokens: &[Token]) -> Result<Config, Stop>
+    requires { AreTokens text.now 0 tokens.now }
+    ensures reads { IfOk result (λ c. Reads (SpellsSmallConfig text.now) tokens.now c []) }
+    ensures refused { IfErr result (λ e. Refuses (SpellsSmallConfig text.now) tokens.now e) }
+{
+    let upper = text.to_ascii_uppercase(alloc)?;
+    let source = Source::new(alloc, text, &upper);
+    configuration(&source, &mut Tokens::new(tokens))
 }
 
 // The line of the end of the text.

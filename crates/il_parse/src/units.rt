@@ -21,11 +21,10 @@ fn is_full(units: &Items<Unit>) -> bool
 // Why no unit may stand here: it is one too many, or it is none.
 fn surplus(source: &Source, tokens: &Tokens) -> Stop {
     match source.lead(tokens) {
-        Ok(Lead::Reserved(Keyword::Function | Keyword::FunctionBlock | Keyword::Program)) => {
+        Lead::Reserved(Keyword::Function | Keyword::FunctionBlock | Keyword::Program) => {
             tokens.fault(Flaw::TooMany)
         }
-        Ok(_) => tokens.outside(),
-        Err(stop) => stop,
+        _ => tokens.outside(),
     }
 }
 
@@ -35,7 +34,7 @@ pub fn units(source: &Source, tokens: &mut Tokens) -> Result<Items<Unit>, Stop>
     ensures refused { IfErr result (λ e. Refuses (SpellsFewUnits source.now) tokens.old e) }
 {
     let mut units = Items::new(source.alloc());
-    'units: while !source.eat_word(tokens, Keyword::Configuration)? {
+    'units: while !source.eat_word(tokens, Keyword::Configuration) {
         if is_full(&units) {
             return Err(surplus(source, tokens));
         }

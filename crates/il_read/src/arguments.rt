@@ -22,7 +22,7 @@ impl<'t> Source<'t> {
         let mut operands = Items::new(self.alloc());
         let operand = self.operand(tokens, Gap::Tight)?;
         operands.push(operand)?;
-        'operands: while self.eat_sign(tokens, Sign::Comma)? {
+        'operands: while self.eat_sign(tokens, Sign::Comma) {
             let operand = self.operand(tokens, Gap::Tight)?;
             operands.push(operand)?;
         }
@@ -37,7 +37,7 @@ impl<'t> Source<'t> {
         ensures refused { IfErr result (λ e. Refuses (SpellsOperands self.now) tokens.old e) }
         ensures shorter { IfOk result (λ _. length tokens.new < length tokens.old) }
     {
-        if let Lead::LineEnd = self.lead(tokens)? {
+        if let Lead::LineEnd = self.lead(tokens) {
             tokens.advance();
             return Ok(Items::new(self.alloc()));
         }
@@ -54,7 +54,7 @@ impl<'t> Source<'t> {
         let argument = self.argument(tokens)?;
         arguments.push(argument)?;
         tokens.skip_lines();
-        'arguments: while self.eat_sign(tokens, Sign::Comma)? {
+        'arguments: while self.eat_sign(tokens, Sign::Comma) {
             tokens.skip_lines();
             let argument = self.argument(tokens)?;
             arguments.push(argument)?;
@@ -70,12 +70,12 @@ impl<'t> Source<'t> {
         ensures refused { IfErr result (λ e. Refuses (SpellsArguments self.now) tokens.old e) }
         ensures shorter { IfOk result (λ _. length tokens.new < length tokens.old) }
     {
-        if !self.eat_sign(tokens, Sign::OpenParenthesis)? {
+        if !self.eat_sign(tokens, Sign::OpenParenthesis) {
             self.line_end(tokens)?;
             return Ok(Items::new(self.alloc()));
         }
         tokens.skip_lines();
-        if self.eat_sign(tokens, Sign::CloseParenthesis)? {
+        if self.eat_sign(tokens, Sign::CloseParenthesis) {
             self.line_end(tokens)?;
             return Ok(Items::new(self.alloc()));
         }

@@ -28,13 +28,13 @@ impl<'t> Source<'t> {
         let Some(token) = tokens.first() else {
             return Ok(None);
         };
-        let Lead::Name = self.lead(tokens)? else {
-            return Ok(None);
-        };
-        if !self.colon_follows(tokens)? {
+        if !self.colon_follows(tokens) {
             return Ok(None);
         }
-        let name = Name::of(self.alloc(), self.spelling(&token)?.as_str())?;
+        let Lead::Name = self.lead(tokens) else {
+            return Ok(None);
+        };
+        let name = Name::of(self.alloc(), self.spelling(&token))?;
         tokens.advance();
         tokens.advance();
         let place = Place {
@@ -45,9 +45,8 @@ impl<'t> Source<'t> {
     }
 
     // Whether a colon stands behind the first token.
-    fn colon_follows(&self, tokens: &Tokens) -> Result<bool, Stop>
-        ensures follows { IfOk result (λ b. FollowsColon tokens.now b) }
-        ensures memory { IfErr result (λ e. e ≡ Memory) }
+    fn colon_follows(&self, tokens: &Tokens) -> bool
+        ensures follows { FollowsColon tokens.now result }
     {
         let mut ahead = tokens.ahead();
         ahead.advance();
@@ -55,16 +54,15 @@ impl<'t> Source<'t> {
     }
 
     /// This reserved word with its place, which may be missing.
-    pub fn eat_placed(&self, tokens: &mut Tokens, keyword: Keyword) -> Result<Option<Place>, Stop>
-        ensures takes { IfOk result (λ p. TakesWord self.now keyword tokens.old p tokens.new) }
-        ensures shorter { IfOk result (λ _. length tokens.new ≤ length tokens.old) }
-        ensures memory { IfErr result (λ e. e ≡ Memory) }
+    pub fn eat_placed(&self, tokens: &mut Tokens, keyword: Keyword) -> Option<Place>
+        ensures takes { TakesWord self.now keyword tokens.old result tokens.new }
+        ensures shorter { length tokens.new ≤ length tokens.old }
     {
         let place = tokens.place();
-        if self.eat_word(tokens, keyword)? {
-            return Ok(place);
+        if self.eat_word(tokens, keyword) {
+            return place;
         }
-        Ok(None)
+        None
     }
 
     /// A name that the tree leaves out.
@@ -74,7 +72,7 @@ impl<'t> Source<'t> {
         ensures refused { IfErr result (λ e. Misses (SomeName self.now) tokens.old e) }
         ensures shorter { IfOk result (λ _. length tokens.new < length tokens.old) }
     {
-        let Lead::Name = self.lead(tokens)? else {
+        let Lead::Name = self.lead(tokens) else {
             return Err(tokens.outside());
         };
         tokens.advance();
@@ -93,7 +91,7 @@ impl<'t> Source<'t> {
         let Kind::Word = token.kind else {
             return Err(tokens.outside());
         };
-        if self.spelling(&token)?.as_str() != word {
+        if self.spelling(&token) != word {
             return Err(tokens.outside());
         }
         tokens.advance();
@@ -126,7 +124,7 @@ impl<'t> Source<'t> {
         ensures refused { IfErr result (λ e. Refuses AnInterval tokens.old e) }
         ensures shorter { IfOk result (λ _. length tokens.new < length tokens.old) }
     {
-        let Lead::Typed(Literal::Time(value)) = self.lead(tokens)? else {
+        let Lead::Typed(Literal::Time(value)) = self.lead(tokens) else {
             return Err(tokens.outside());
         };
         tokens.advance();
@@ -217,9 +215,8 @@ impl<'t> Source<'t> {
     }
 
     /// Whether the reserved word stands at the front.
-    pub fn word_stands(&self, tokens: &Tokens, keyword: Keyword) -> Result<bool, Stop>
-        ensures stands { IfOk result (λ b. StandsThere (TheWord self.now keyword) tokens.now b) }
-        ensures memory { IfErr result (λ e. e ≡ Memory) }
+    pub fn word_stands(&self, tokens: &Tokens, keyword: Keyword) -> bool
+        ensures stands { StandsThere (TheWord self.now keyword) tokens.now result }
     {
         self.eat_word(&mut tokens.ahead(), keyword)
     }

@@ -6,5 +6,5 @@ use Rattle.il_body.proofs.lists.externals.Goals as goal
 
 pub returns-in_err-external_list-clause-refused : goal.returns-in_err-external_list-clause-refused
 returns-in_err-external_list-clause-refused c =
-    let there = it_comes (TheWord c.args.source.now word.VarExternal) c.args.tokens.now _ c.in_ok-comes.ensures.comes c.if-not-branch.false in
-    up _ c.from_residual-in_err-external_list.ensures.1 (optional_refused c.args.source.now _ _ _ _ _ there.1 c.in_err-external_list.ensures.refused)
+    let there = it_comes (TheWord c.args.source.now word.VarExternal) c.args.tokens.now _ c.comes.ensures.comes c.if-not-comes.false in
+    up _ c.from_residual.ensures.1 (optional_refused c.args.source.now _ _ _ _ _ there.1 c.in_err-external_list.ensures.refused)

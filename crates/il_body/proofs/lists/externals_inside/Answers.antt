@@ -6,15 +6,15 @@ use Rattle.il_body.proofs.lists.externals_inside.Goals as goal
 
 pub returns-in_err-external-clause-refused : goal.returns-in_err-external-clause-refused
 returns-in_err-external-clause-refused c =
-    let none = was_missing (TheWord c.args.source.now word.EndVar) c.externals.tokens _ c.eat_word.new.tokens c.in_ok-eat_word.ensures.eaten c.if-not-branch.true in
-    up _ c.from_residual-in_err-external.ensures.1 (item_refused _ _ _ _ _ _ none.1 c.externals.invariant (rw none.0 at c.in_err-external.ensures.refused))
+    let none = was_missing (TheWord c.args.source.now word.EndVar) c.externals.tokens _ c.eat_word.new.tokens c.eat_word.ensures.eaten c.externals-test.true in
+    up _ c.from_residual.ensures.1 (item_refused _ _ _ _ _ _ none.1 c.externals.invariant (rw none.0 at c.in_err-external.ensures.refused))
 
 pub externals-preserved : goal.externals-preserved
 externals-preserved c =
-    let none = was_missing (TheWord c.args.source.now word.EndVar) c.externals.tokens _ c.eat_word.new.tokens c.in_ok-eat_word.ensures.eaten c.if-not-branch.true in
+    let none = was_missing (TheWord c.args.source.now word.EndVar) c.externals.tokens _ c.eat_word.new.tokens c.eat_word.ensures.eaten c.externals-test.true in
     rw (c.skip_lines.ensures.rest, c.in_ok-push.ensures.ok)
     (goes_on _ _ (external_one c.args.source.now) _ _ _ _ _ none.1 c.externals.invariant (rw none.0 at c.in_ok-external.ensures.reads))
 
 pub returns-clause-reads : goal.returns-clause-reads
 returns-clause-reads c =
-    ended _ _ _ _ _ _ c.externals.invariant (was_there (TheWord c.args.source.now word.EndVar) c.externals.tokens _ c.eat_word.new.tokens c.in_ok-eat_word.ensures.eaten c.if-not-branch.false)
+    ended _ _ _ _ _ _ c.externals.invariant (was_there (TheWord c.args.source.now word.EndVar) c.externals.tokens _ c.eat_word.new.tokens c.eat_word.ensures.eaten c.externals-test.false)

@@ -8,16 +8,16 @@ use Rattle.il_parse.proofs.configuration.programs.Goals as goal
 
 pub returns-in_err-line-clause-refused : goal.returns-in_err-line-clause-refused
 returns-in_err-line-clause-refused c =
-    let there = it_stands (TheWord c.args.source.now word.Program) c.programs.tokens _ c.in_ok-word_stands.ensures.stands c.if-branch.true in
-    up _ c.from_residual-in_err-line.ensures.1 (item_refused _ _ _ _ _ _ (λ r w. w.1 there.0 there.1) c.programs.invariant c.in_err-line.ensures.refused)
+    let there = it_stands (TheWord c.args.source.now word.Program) c.programs.tokens _ c.word_stands.ensures.stands c.programs-test.true in
+    up _ c.from_residual.ensures.1 (item_refused _ _ _ _ _ _ (λ r w. w.1 there.0 there.1) c.programs.invariant c.in_err-line.ensures.refused)
 
 pub programs-preserved : goal.programs-preserved
 programs-preserved c =
-    let there = it_stands (TheWord c.args.source.now word.Program) c.programs.tokens _ c.in_ok-word_stands.ensures.stands c.if-branch.true in
+    let there = it_stands (TheWord c.args.source.now word.Program) c.programs.tokens _ c.word_stands.ensures.stands c.programs-test.true in
     rw (c.skip_lines.ensures.rest, c.in_ok-push.ensures.ok)
     (goes_on _ _ (program_line_one c.args.source.now) _ _ _ _ _ (λ r w. w.1 there.0 there.1) c.programs.invariant c.in_ok-line.ensures.reads)
 
 pub returns-clause-reads : goal.returns-clause-reads
 returns-clause-reads c =
-    let missing = it_is_missing (TheWord c.args.source.now word.Program) c.programs.tokens _ c.in_ok-word_stands.ensures.stands c.if-branch.false in
+    let missing = it_is_missing (TheWord c.args.source.now word.Program) c.programs.tokens _ c.word_stands.ensures.stands c.programs-test.false in
     ended _ _ _ _ _ _ c.programs.invariant (refl, missing)

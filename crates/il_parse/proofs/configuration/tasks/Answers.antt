@@ -8,16 +8,16 @@ use Rattle.il_parse.proofs.configuration.tasks.Goals as goal
 
 pub returns-in_err-task-clause-refused : goal.returns-in_err-task-clause-refused
 returns-in_err-task-clause-refused c =
-    let there = it_stands (TheWord c.args.source.now word.Task) c.tasks.tokens _ c.in_ok-word_stands.ensures.stands c.if-branch.true in
-    up _ c.from_residual-in_err-task.ensures.1 (item_refused _ _ _ _ _ _ (λ r w. w.1 there.0 there.1) c.tasks.invariant c.in_err-task.ensures.refused)
+    let there = it_stands (TheWord c.args.source.now word.Task) c.tasks.tokens _ c.word_stands.ensures.stands c.tasks-test.true in
+    up _ c.from_residual.ensures.1 (item_refused _ _ _ _ _ _ (λ r w. w.1 there.0 there.1) c.tasks.invariant c.in_err-task.ensures.refused)
 
 pub tasks-preserved : goal.tasks-preserved
 tasks-preserved c =
-    let there = it_stands (TheWord c.args.source.now word.Task) c.tasks.tokens _ c.in_ok-word_stands.ensures.stands c.if-branch.true in
+    let there = it_stands (TheWord c.args.source.now word.Task) c.tasks.tokens _ c.word_stands.ensures.stands c.tasks-test.true in
     rw (c.skip_lines.ensures.rest, c.in_ok-push.ensures.ok)
     (goes_on _ _ (task_one c.args.source.now) _ _ _ _ _ (λ r w. w.1 there.0 there.1) c.tasks.invariant c.in_ok-task.ensures.reads)
 
 pub returns-clause-reads : goal.returns-clause-reads
 returns-clause-reads c =
-    let missing = it_is_missing (TheWord c.args.source.now word.Task) c.tasks.tokens _ c.in_ok-word_stands.ensures.stands c.if-branch.false in
+    let missing = it_is_missing (TheWord c.args.source.now word.Task) c.tasks.tokens _ c.word_stands.ensures.stands c.tasks-test.false in
     ended _ _ _ _ _ _ c.tasks.invariant (refl, missing)

@@ -22,23 +22,23 @@ arguments-init c =
 
 pub returns-in_err-argument-2-clause-refused : goal.returns-in_err-argument-2-clause-refused
 returns-in_err-argument-2-clause-refused c =
-    let comma = was_there (TheSign Comma) c.arguments.tokens _ c.eat_sign.new.tokens c.in_ok-eat_sign.ensures.eaten c.if-branch.true in
+    let comma = was_there (TheSign Comma) c.arguments.tokens _ c.eat_sign.new.tokens c.eat_sign.ensures.eaten c.arguments-test.true in
     up _ c.from_residual-in_err-argument-2.ensures.1 (list_item_refused _ _ _ (sign_sure Comma) apart _ _ _ _ _ c.arguments.invariant.1 comma (rw c.skip_lines-in-arguments.ensures.rest at c.in_err-argument-2.ensures.refused))
 
 pub arguments-preserved : goal.arguments-preserved
 arguments-preserved c =
-    let comma = was_there (TheSign Comma) c.arguments.tokens _ c.eat_sign.new.tokens c.in_ok-eat_sign.ensures.eaten c.if-branch.true in (
-      omega (arith, c.arguments.invariant.0, c.in_ok-eat_sign.ensures.shorter, c.in_ok-argument-2.ensures.shorter),
+    let comma = was_there (TheSign Comma) c.arguments.tokens _ c.eat_sign.new.tokens c.eat_sign.ensures.eaten c.arguments-test.true in (
+      omega (arith, c.arguments.invariant.0, c.eat_sign.ensures.shorter, c.in_ok-argument-2.ensures.shorter),
       rw (c.skip_lines-in-arguments-2.ensures.rest, c.in_ok-push-2.ensures.ok)
           (list_goes_on _ _ _ (argument_one c.args.self.now) (sign_sure Comma) apart _ _ _ _ _ _ c.arguments.invariant.1 comma (rw c.skip_lines-in-arguments.ensures.rest at c.in_ok-argument-2.ensures.reads)),
     )
 
 pub returns-in_err-sign-clause-refused : goal.returns-in_err-sign-clause-refused
 returns-in_err-sign-clause-refused c =
-    let none = was_missing (TheSign Comma) c.arguments.tokens _ c.eat_sign.new.tokens c.in_ok-eat_sign.ensures.eaten c.if-branch.false in
+    let none = was_missing (TheSign Comma) c.arguments.tokens _ c.eat_sign.new.tokens c.eat_sign.ensures.eaten c.arguments-test.false in
     up _ c.from_residual-in_err-sign.ensures.1 (list_end_refused _ _ _ _ _ _ _ c.arguments.invariant.1 none.1 (rw none.0 at c.in_err-sign.ensures.refused))
 
 pub returns-clause-reads : goal.returns-clause-reads
 returns-clause-reads c =
-    let none = was_missing (TheSign Comma) c.arguments.tokens _ c.eat_sign.new.tokens c.in_ok-eat_sign.ensures.eaten c.if-branch.false in
+    let none = was_missing (TheSign Comma) c.arguments.tokens _ c.eat_sign.new.tokens c.eat_sign.ensures.eaten c.arguments-test.false in
     list_ended _ _ _ _ _ _ _ c.arguments.invariant.1 (rw none.0 at c.in_ok-sign.ensures.reads)

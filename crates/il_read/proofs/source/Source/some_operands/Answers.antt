@@ -22,22 +22,22 @@ operands-init c =
 
 pub returns-in_err-operand-2-clause-refused : goal.returns-in_err-operand-2-clause-refused
 returns-in_err-operand-2-clause-refused c =
-    let comma = was_there (TheSign Comma) c.operands.tokens _ c.eat_sign.new.tokens c.in_ok-eat_sign.ensures.eaten c.if-branch.true in
+    let comma = was_there (TheSign Comma) c.operands.tokens _ c.eat_sign.new.tokens c.eat_sign.ensures.eaten c.operands-test.true in
     up _ c.from_residual-in_err-operand-2.ensures.1 (list_item_refused _ _ _ (sign_sure Comma) apart _ _ _ _ _ c.operands.invariant.1 comma c.in_err-operand-2.ensures.refused)
 
 pub operands-preserved : goal.operands-preserved
 operands-preserved c =
-    let comma = was_there (TheSign Comma) c.operands.tokens _ c.eat_sign.new.tokens c.in_ok-eat_sign.ensures.eaten c.if-branch.true in (
-      omega (arith, c.operands.invariant.0, c.in_ok-eat_sign.ensures.shorter, c.in_ok-operand-2.ensures.shorter),
+    let comma = was_there (TheSign Comma) c.operands.tokens _ c.eat_sign.new.tokens c.eat_sign.ensures.eaten c.operands-test.true in (
+      omega (arith, c.operands.invariant.0, c.eat_sign.ensures.shorter, c.in_ok-operand-2.ensures.shorter),
       rw c.in_ok-push-2.ensures.ok (list_goes_on _ _ _ (operand_one c.args.self.now tight) (sign_sure Comma) apart _ _ _ _ _ _ c.operands.invariant.1 comma c.in_ok-operand-2.ensures.reads),
     )
 
 pub returns-in_err-line_end-clause-refused : goal.returns-in_err-line_end-clause-refused
 returns-in_err-line_end-clause-refused c =
-    let none = was_missing (TheSign Comma) c.operands.tokens _ c.eat_sign.new.tokens c.in_ok-eat_sign.ensures.eaten c.if-branch.false in
+    let none = was_missing (TheSign Comma) c.operands.tokens _ c.eat_sign.new.tokens c.eat_sign.ensures.eaten c.operands-test.false in
     up _ c.from_residual-in_err-line_end.ensures.1 (list_end_refused _ _ _ _ _ _ _ c.operands.invariant.1 none.1 (rw none.0 at c.in_err-line_end.ensures.refused))
 
 pub returns-clause-reads : goal.returns-clause-reads
 returns-clause-reads c =
-    let none = was_missing (TheSign Comma) c.operands.tokens _ c.eat_sign.new.tokens c.in_ok-eat_sign.ensures.eaten c.if-branch.false in
+    let none = was_missing (TheSign Comma) c.operands.tokens _ c.eat_sign.new.tokens c.eat_sign.ensures.eaten c.operands-test.false in
     list_ended _ _ _ _ _ _ _ c.operands.invariant.1 (rw none.0 at c.in_ok-line_end.ensures.reads)
