@@ -1,5 +1,5 @@
 -- What comes next in a body.
-use Rattle.std.proofs.Common.{◌≡◌, ℕ, zero, suc, ◌+◌, ◌<◌, ◌≤◌, Bool, true, false, not, ◌&&◌, ◌||◌, List, [], ◌∷◌, ◌++◌, length, length-append, append-nil, drop, refl, sym, ◌∙◌, ap, subst, inl, inr, arith}
+use Rattle.std.proofs.Common.{◌≡◌, ℕ, zero, suc, ◌+◌, ◌<◌, ◌≤◌, Bool, true, false, not, ◌&&◌, List, [], ◌∷◌, ◌++◌, length, length-append, append-nil, refl, sym, ◌∙◌, ap, inl, inr, arith}
 use Rattle.std.proofs.lemmas.Bool.{cases_lt}
 use Rattle.std.proofs.lemmas.Bool.Decides.{nat_tests}
 use Rattle.std.specs.Prelude.{IsTrue, IsFalse, ◌==◌, max}
@@ -16,20 +16,19 @@ use Rattle.il_spec.specs.declared.tree.Instruction.{Instruction}
 use Rattle.il_spec.specs.declared.tree.Instruction.TheVariants as instruction
 use Rattle.il_spec.specs.declared.tree.Step.{Step}
 use Rattle.il_spec.specs.declared.tree.Body.{Body}
-use Rattle.il_spec.specs.Grammar.{Front, tight, loose, At, ◌⋯◌, skip_line_ends, Repeats, TheSign, TheWord, TheLineEnd, SpellsOperator, SpellsShortly, SpellsAmpersand, SpellsInstruction, SpellsLabelled, SpellsStep, SpellsLabelLine, may_stand, closes, leaves, is_load, depth_after, needs_load, is_nested, greatest_depth}
-use Rattle.il_grammar.proofs.Leads.{reserved}
+use Rattle.il_spec.specs.Grammar.{Front, At, skip_line_ends, Repeats, TheWord, SpellsOperator, SpellsShortly, SpellsAmpersand, SpellsInstruction, SpellsLabelled, SpellsStep, SpellsLabelLine, may_stand, closes, leaves, is_load, depth_after, needs_load, is_nested, greatest_depth}
+use Rattle.il_grammar.proofs.Leads.{at_holds, reserved}
 use Rattle.il_grammar.proofs.Instructions.{sort_at, none}
 use Rattle.il_grammar.proofs.Bodies.{step_one, step_no_end}
 use Rattle.il_read.specs.Lead.{lead_at}
 use Rattle.il_read.specs.Reads.{IsFault, Reads, Refuses, HasRoom, IsPlaceOf, SpellsRoomy}
-use Rattle.il_read.specs.Settings.{TakesWord}
 use Rattle.il_read.specs.declared.lead.Lead.{Lead}
 use Rattle.il_read.specs.declared.lead.Lead.TheVariants as lead
 use Rattle.il_read.specs.declared.stop.Stop.{Stop}
-use Rattle.il_read.proofs.Leaves.{at_holds, word_lead, sign_lead, the_name_lead}
+use Rattle.il_read.proofs.Leaves.{word_lead, sign_lead, the_name_lead}
 use Rattle.il_read.proofs.Chain.{HasRead, goes_on, ended}
 use Rattle.il_read.proofs.Nesting.{IsOpen, one_open, closed}
-use Rattle.il_body.specs.Bodies.{closes_lead, leaves_lead, loads_lead, may_begin, bare, SpellsPlaced, HasLabels, SpellsEntry, MayCome, SpellsNext, IsLast, SpellsSteps}
+use Rattle.il_body.specs.Bodies.{closes_lead, leaves_lead, loads_lead, may_begin, bare, SpellsPlaced, HasLabels, SpellsNext, IsLast, SpellsSteps}
 use Rattle.il_body.specs.declared.bodies.Entry.{Entry}
 use Rattle.il_body.specs.declared.bodies.Entry.TheVariants as entry
 
@@ -95,7 +94,7 @@ module _ (text : List ℕ) where
   pub stands_not : (depth : ℕ) (load full : Bool) (ts : List Token) (e : Stop) → may_begin depth load (lead_at text ts) ≡ false → Refuses (SpellsPlaced text depth load full) ts e
   stands_not depth load full ts e out = record {
     never = λ is x r w.
-        let bad = sym out ∙ may_so depth load x.0 x.1 ts r (at_holds (SpellsInstruction text x.1) x.0 ts r w.0) ∙ w.1 in
+        let bad = sym out ∙ may_so depth load x.0 x.1 ts r (at_holds text (SpellsInstruction text x.1) x.0 ts r w.0) ∙ w.1 in
         cc;
   }
 

@@ -1,28 +1,18 @@
 -- Labels, as a loop reads them.
-use Rattle.std.proofs.Common.{◌≡◌, ℕ, ◌<◌, ◌≤◌, Bool, true, false, List, [], ◌∷◌, ◌++◌, length, append-nil, drop, refl, sym, ◌∙◌, ap, subst, arith}
-use Rattle.std.specs.Prelude.{IsTrue}
+use Rattle.std.proofs.Common.{◌≡◌, ℕ, ◌<◌, true, false, List, [], ◌∷◌, ◌++◌, length, append-nil, refl, sym, ◌∙◌, ap, subst, arith}
 use Rattle.il_spec.specs.declared.token.Token.{Token}
-use Rattle.il_spec.specs.declared.token.Sign.TheVariants.{Colon}
 use Rattle.il_spec.specs.declared.keyword.Keyword.{Keyword}
 use Rattle.il_spec.specs.declared.tree.Place.{Place}
 use Rattle.il_spec.specs.declared.tree.Named.{Named}
 use Rattle.il_spec.specs.declared.tree.Instruction.{Instruction}
-use Rattle.il_spec.specs.Grammar.{Front, One, At, ◌⋯◌, skip_line_ends, Repeats, TheSign, TheWord, TheLineEnd, AName, SpellsInstruction, SpellsLabel, SpellsLabelled, SpellsLabelLine}
-use Rattle.il_grammar.proofs.Leads.{line_end_sure}
+use Rattle.il_spec.specs.Grammar.{Front, One, At, skip_line_ends, Repeats, TheWord, TheLineEnd, AName, SpellsInstruction, SpellsLabel, SpellsLabelled, SpellsLabelLine}
+use Rattle.il_grammar.proofs.Leads.{at_holds, line_end_sure}
 use Rattle.il_grammar.proofs.Instructions.{instruction_no_label}
-use Rattle.il_grammar.proofs.Bodies.{label_one}
-use Rattle.il_read.specs.Lead.{lead_at}
-use Rattle.il_read.specs.declared.lead.Lead.TheVariants as lead
-use Rattle.il_read.proofs.Leaves.{at_holds, word_lead}
+use Rattle.il_grammar.proofs.Bodies.{skip_one, label_one}
+use Rattle.il_read.proofs.Leaves.{word_lead}
 use Rattle.il_read.proofs.Settings.{label_lead}
-use Rattle.il_read.proofs.Instructions.{behind_one}
 use Rattle.il_read.proofs.Chain.{regroup}
 use Rattle.il_body.specs.Bodies.{HasLabels}
-
--- a line end is skipped
-skip_one : (ts m : List Token) → TheLineEnd ts m → skip_line_ends ts ≡ skip_line_ends m
-skip_one [] m p = absurd p
-skip_one (t ∷ ts) m p = rw p.0 (ap skip_line_ends p.1)
 
 -- one token fewer is left
 pub fewer : (P : Token → Type 0) (ts r : List Token) → One P ts r → length r < length ts
@@ -39,13 +29,13 @@ module _ (text : List ℕ) where
 
   -- a label leaves fewer tokens
   pub label_fewer : (n : Named) (ts r : List Token) → SpellsLabel text n ts r → length r < length ts
-  label_fewer n ts r w = let a = fewer _ ts w.0 (at_holds (AName text n.name) n.place ts w.0 w.1) in let b = fewer _ w.0 r w.2 in omega arith
+  label_fewer n ts r w = let a = fewer _ ts w.0 (at_holds text (AName text n.name) n.place ts w.0 w.1) in let b = fewer _ w.0 r w.2 in omega arith
 
   no_placed : (n : Named) (p : Place) (i : Instruction) (ts r m : List Token) → SpellsLabel text n ts m → ThePlaced p i ts r → ⊥
-  no_placed n p i ts r m l w = instruction_no_label text i n ts r m (at_holds (SpellsInstruction text i) p ts r w) l
+  no_placed n p i ts r m l w = instruction_no_label text i n ts r m (at_holds text (SpellsInstruction text i) p ts r w) l
 
   no_last : (n : Named) (k : Keyword) (p : Place) (ts r m : List Token) → SpellsLabel text n ts m → TheLast k p ts r → ⊥
-  no_last n k p ts r m l w = let a = label_lead text n ts m l in let b = word_lead text k ts r (at_holds (TheWord text k) p ts r w) in cc
+  no_last n k p ts r m l w = let a = label_lead text n ts m l in let b = word_lead text k ts r (at_holds text (TheWord text k) p ts r w) in cc
 
   -- What labels were read, each on a line of its own.
   pub record Behind (start : List Token) (ns : List Named) (ts : List Token) : Type 0 where

@@ -11,7 +11,7 @@ use Rattle.il_grammar.proofs.Types.{declaration_lead, declarations_one}
 use Rattle.il_read.specs.Reads.{IsFault, Reads, Refuses, Stands}
 use Rattle.il_read.specs.Settings.{StandsThere}
 use Rattle.il_read.specs.declared.stop.Stop.{Stop}
-use Rattle.il_body.specs.Lists.{IsFilled, SpellsFull}
+use Rattle.il_body.specs.Lists.{SpellsFull}
 
 module _ (text : List ℕ) where
   -- a list that comes, and isn't read

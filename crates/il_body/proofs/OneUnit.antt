@@ -1,5 +1,5 @@
 -- Units of each kind, from their parts and back.
-use Rattle.std.proofs.Common.{◌≡◌, ℕ, ◌<◌, List, [], ◌∷◌, length, refl, sym, ◌∙◌, subst, arith}
+use Rattle.std.proofs.Common.{◌≡◌, ℕ, ◌<◌, List, [], ◌∷◌, length, refl, sym, subst, arith}
 use Rattle.std.specs.Prelude.{Result, Ok, Err, IfErr}
 use Rattle.il_spec.specs.declared.token.Token.{Token}
 use Rattle.il_spec.specs.declared.keyword.Keyword.{Keyword}
@@ -12,15 +12,15 @@ use Rattle.il_spec.specs.declared.tree.Body.{Body}
 use Rattle.il_spec.specs.declared.tree.UnitKind.{UnitKind}
 use Rattle.il_spec.specs.declared.tree.UnitKind.TheVariants as unit
 use Rattle.il_spec.specs.declared.tree.Unit.{Unit as ProgramUnit}
-use Rattle.il_spec.specs.Grammar.{Front, tight, ◌⨾◌, TheWord, SpellsFilledList, SpellsBody, SpellsUnit, unit_word}
+use Rattle.il_spec.specs.Grammar.{TheWord, SpellsFilledList, SpellsBody, unit_word}
 use Rattle.il_grammar.specs.One.{IsDeterministic}
 use Rattle.il_grammar.proofs.Leads.{word_lead, at_holds}
 use Rattle.il_grammar.proofs.Units.{unit_lead, unit_one}
-use Rattle.il_read.specs.Reads.{IsFault, Reads, Refuses}
+use Rattle.il_read.specs.Reads.{Reads, Refuses}
 use Rattle.il_read.specs.declared.stop.Stop.{Stop}
 use Rattle.il_body.specs.Bodies.{SpellsSmallBody}
 use Rattle.il_body.specs.Lists.{IsFilled, SpellsFull}
-use Rattle.il_body.specs.Insides.{LacksList, SpellsVariables, SpellsSomeExternals, SpellsProgramInside, SpellsBlockInside, SpellsFunctionInside}
+use Rattle.il_body.specs.Insides.{LacksList, SpellsProgramInside, SpellsBlockInside, SpellsFunctionInside}
 use Rattle.il_body.specs.Headings.{SpellsProgram, SpellsBlock, SpellsFunction}
 use Rattle.il_body.specs.Units.{IsFew, SpellsSmallUnit, SpellsUnitOf}
 

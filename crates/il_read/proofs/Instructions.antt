@@ -1,6 +1,5 @@
 -- Instructions, told apart by their first token.
 use Rattle.std.proofs.Common.{◌≡◌, ℕ, Bool, true, false, List, [], ◌∷◌, drop, refl, sym, ◌∙◌, ap, subst, inl, inr, Option, Some, None}
-use Rattle.std.specs.Prelude.{IsTrue}
 use Rattle.il_spec.specs.declared.token.Token.{Token}
 use Rattle.il_spec.specs.declared.token.Kind.{Kind}
 use Rattle.il_spec.specs.declared.token.Kind.TheVariants as kind
@@ -21,20 +20,20 @@ use Rattle.il_spec.specs.declared.tree.Instruction.{Instruction}
 use Rattle.il_spec.specs.declared.tree.Instruction.TheVariants as instruction
 use Rattle.il_spec.specs.Words.{keyword_of}
 use Rattle.il_spec.specs.Text.{name_of}
-use Rattle.il_spec.specs.Grammar.{Front, One, tight, loose, ◌⨾◌, ◌⋯◌, skip_line_ends, Listed, TheSign, TheWord, TheName, TheLineEnd, TheLetterN, AWord, SpellsOperator, SpellsArgument, SpellsArguments, SpellsOperands, SpellsInstruction}
+use Rattle.il_spec.specs.Grammar.{Front, One, loose, ◌⨾◌, ◌⋯◌, skip_line_ends, TheSign, TheWord, TheName, TheLineEnd, TheLetterN, SpellsOperator, SpellsArgument, SpellsArguments, SpellsOperands, SpellsInstruction}
 use Rattle.il_grammar.specs.One.{IsDeterministic}
 use Rattle.il_grammar.proofs.Combinators.{listed}
-use Rattle.il_grammar.proofs.Leads.{reserved, name, number, typed, sign, line_end, nothing, lead, lead_of as kind_lead, word_lead as word_begins, sign_lead as sign_begins, the_name_lead as name_begins, word_one, the_name_one, sign_sure, line_end_sure}
+use Rattle.il_grammar.proofs.Leads.{reserved, name, number, typed, sign, line_end, nothing, lead, lead_of as kind_lead, the_name_one, sign_sure}
 use Rattle.il_grammar.proofs.Leads.{Lead as Beginning}
-use Rattle.il_grammar.proofs.Operands.{operator_one, shortly_lead}
+use Rattle.il_grammar.proofs.Operands.{operator_one}
 use Rattle.il_grammar.proofs.Arguments.{argument_one}
-use Rattle.il_grammar.proofs.Instructions.{Sort, none, loads, stores, negates, operates, evaluates, jumps, leaves, calls, invokes, sort_at}
+use Rattle.il_grammar.proofs.Instructions.{sort_of, operator_sort, instruction_sort, none, loads, stores, negates, evaluates, jumps, leaves, calls, sort_at}
 use Rattle.il_read.specs.Lead.{lead_of, lead_at}
-use Rattle.il_read.specs.Reads.{IsFault, Reads, Refuses, Stands, Misses, Eats, SpellsLine, SpellsWork, SpellsRoomy, SpellsTargetLine, SpellsNameLine, SpellsCalled, SpellsInside, SpellsListed}
+use Rattle.il_read.specs.Reads.{IsFault, Reads, Refuses, Misses, Eats, SpellsLine, SpellsWork, SpellsRoomy, SpellsTargetLine, SpellsNameLine, SpellsCalled, SpellsInside, SpellsListed}
 use Rattle.il_read.specs.declared.lead.Lead.{Lead}
 use Rattle.il_read.specs.declared.lead.Lead.TheVariants as first
 use Rattle.il_read.specs.declared.stop.Stop.{Stop}
-use Rattle.il_read.proofs.Leaves.{sign_is, at_holds, line_end_lead, sign_lead}
+use Rattle.il_read.proofs.Leaves.{sign_is, line_end_lead, sign_lead}
 
 -- what tokens begin with, without its value
 abbrev plain : Lead → Beginning
@@ -45,19 +44,6 @@ plain (first.Number v) = number
 plain (first.Typed v) = typed
 plain (first.Sign s) = sign s
 plain first.LineEnd = line_end
-
--- the sort of an instruction
-abbrev pub sort_of : Instruction → Sort
-sort_of (instruction.Load negated operand) = loads
-sort_of (instruction.Store store target) = stores
-sort_of instruction.Not = negates
-sort_of (instruction.Operate op operand) = operates
-sort_of (instruction.Defer op first) = operates
-sort_of instruction.Evaluate = evaluates
-sort_of (instruction.Jump condition label) = jumps
-sort_of (instruction.Return condition) = leaves
-sort_of (instruction.Call condition instance arguments) = calls
-sort_of (instruction.Invoke function operands) = invokes
 
 -- behind one token
 pub behind_one : (P : Token → Type 0) (ts m : List Token) → One P ts m → m ≡ drop 1 ts
@@ -82,23 +68,6 @@ module _ (text : List ℕ) where
   pub sorted : (l : Lead) (ts : List Token) → lead_at text ts ≡ l → sort_at (lead text ts) ≡ sort_at (plain l)
   sorted l ts e = ap sort_at (same_lead ts ∙ ap plain e)
 
-  operator_sort : (o : Operator) (ts r : List Token) → SpellsOperator text o ts r → sort_at (lead text ts) ≡ operates
-  operator_sort o ts r (inl p) = ap sort_at (word_begins text (word.Operate o) ts r p)
-  operator_sort o ts r (inr p) = ap sort_at (shortly_lead text o ts r p)
-
-  -- the first token tells the sort of an instruction
-  pub instruction_sort : (i : Instruction) (ts r : List Token) → SpellsInstruction text i ts r → sort_at (lead text ts) ≡ sort_of i
-  instruction_sort (instruction.Load negated operand) ts r p = ap sort_at (word_begins text (word.Load negated) ts p.0 p.1)
-  instruction_sort (instruction.Store store target) ts r p = ap sort_at (word_begins text (word.Store store) ts p.0 p.1)
-  instruction_sort instruction.Not ts r p = ap sort_at (word_begins text word.Not ts p.0 p.1)
-  instruction_sort (instruction.Operate op operand) ts r p = operator_sort op ts p.0 p.1
-  instruction_sort (instruction.Defer op first) ts r p = operator_sort op ts p.0 p.1
-  instruction_sort instruction.Evaluate ts r p = ap sort_at (sign_begins text CloseParenthesis ts p.0 p.1)
-  instruction_sort (instruction.Jump condition label) ts r p = ap sort_at (word_begins text (word.Jump condition) ts p.0 p.1)
-  instruction_sort (instruction.Return condition) ts r p = ap sort_at (word_begins text (word.Return condition) ts p.0 p.1)
-  instruction_sort (instruction.Call condition instance arguments) ts r p = ap sort_at (word_begins text (word.Call condition) ts p.0 p.1)
-  instruction_sort (instruction.Invoke function operands) ts r p = ap sort_at (name_begins text function ts p.0 p.1)
-
   -- what stands behind the first token
   moved : (P : Token → Type 0) (Q : Front) (ts r : List Token) → (One P ⨾ Q) ts r → Q (drop 1 ts) r
   moved P Q ts r w = subst (λ (x : List Token). Q x r) (behind_one P ts w.0 w.1) w.2
@@ -111,7 +80,7 @@ module _ (text : List ℕ) where
       → ((i : Instruction) (r : List Token) → sort_of i ≡ sort_at (plain l) → SpellsInstruction text i ts r → (b : B) × Q b (drop 1 ts) r)
       → Refuses Q (drop 1 ts) e → Refuses (SpellsRoomy text room) ts e
   sort_refused room l Q ts e is_so back bad = record {
-    never = λ is i r w. let x = back i r (sym (instruction_sort i ts r w.1) ∙ sorted l ts is_so) w.1 in bad.never is x.0 r x.1;
+    never = λ is i r w. let x = back i r (sym (instruction_sort text i ts r w.1) ∙ sorted l ts is_so) w.1 in bad.never is x.0 r x.1;
   }
 
   pub load_refused : (room n : Bool) (ts : List Token) (e : Stop) → lead_at text ts ≡ first.Reserved (word.Load n) → Refuses (SpellsLine text) (drop 1 ts) e → Refuses (SpellsRoomy text room) ts e
@@ -178,7 +147,7 @@ module _ (text : List ℕ) where
       go is (instruction.Defer o x) r w =
           let same = (operator_one text).only o op ts w.1.0 m w.1.1 here in
           bad.never is (instruction.Defer o x) r (same.0, w.0, (subst (λ (k : List Token). SpellsWork text room o (instruction.Defer o x) k r) same.1 (refl, w.0, w.1.2)).2)
-      go is i r w = let a = instruction_sort i ts r w.1 in let b = operator_sort op ts m here in cc
+      go is i r w = let a = instruction_sort text i ts r w.1 in let b = operator_sort text op ts m here in cc
 
   -- and does
   pub work_read : (room : Bool) (op : Operator) (ts m r : List Token) (i : Instruction) → SpellsOperator text op ts m → Reads (SpellsWork text room op) m i r → Reads (SpellsRoomy text room) ts i r
@@ -210,7 +179,7 @@ module _ (text : List ℕ) where
     where
       go : IsFault e → (i : Instruction) (r : List Token) → SpellsRoomy text room i ts r → ⊥
       go is (instruction.Invoke f xs) r w = bad.never is f w.1.0 w.1.1
-      go is i r w = let a = instruction_sort i ts r w.1 in let b = sorted _ ts l in cc
+      go is i r w = let a = instruction_sort text i ts r w.1 in let b = sorted _ ts l in cc
 
   -- or whose operands don't
   pub operands_refused : (room : Bool) (ts m : List Token) (n : Named) (e : Stop) → lead_at text ts ≡ first.Name → Reads (TheName text) ts n m → Refuses (SpellsOperands text) m e → Refuses (SpellsRoomy text room) ts e
@@ -220,7 +189,7 @@ module _ (text : List ℕ) where
       go is (instruction.Invoke f xs) r w =
           let same = (the_name_one text).only f n ts w.1.0 m w.1.1 here.found in
           bad.never is xs r (subst (λ (k : List Token). SpellsOperands text xs k r) same.1 w.1.2)
-      go is i r w = let a = instruction_sort i ts r w.1 in let b = sorted _ ts l in cc
+      go is i r w = let a = instruction_sort text i ts r w.1 in let b = sorted _ ts l in cc
 
   -- operands, at least one
   pub listed_read : (ts r : List Token) (xs : List Operand) → Reads (SpellsListed text) ts xs r → Reads (SpellsOperands text) ts xs r
@@ -304,7 +273,7 @@ module _ (text : List ℕ) where
 
   -- no instruction begins so
   pub none_refused : (room : Bool) (l : Lead) (ts : List Token) (e : Stop) → lead_at text ts ≡ l → sort_at (plain l) ≡ none → Refuses (SpellsRoomy text room) ts e
-  none_refused room l ts e is_so out = record { never = λ is i r w. go i (sym (instruction_sort i ts r w.1) ∙ sorted l ts is_so ∙ out) }
+  none_refused room l ts e is_so out = record { never = λ is i r w. go i (sym (instruction_sort text i ts r w.1) ∙ sorted l ts is_so ∙ out) }
     where
       go : (i : Instruction) → sort_of i ≡ none → ⊥
       go (instruction.Load negated operand) s = cc

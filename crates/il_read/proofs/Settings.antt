@@ -3,12 +3,12 @@ use Rattle.std.proofs.Common.{◌≡◌, ℕ, List, [], ◌∷◌, drop, subst, 
 use Rattle.il_spec.specs.declared.token.Token.{Token}
 use Rattle.il_spec.specs.declared.token.Sign.TheVariants.{Colon}
 use Rattle.il_spec.specs.declared.tree.Named.{Named}
-use Rattle.il_spec.specs.declared.tree.Place.{Place}
 use Rattle.il_spec.specs.Text.{name_of}
 use Rattle.il_spec.specs.Grammar.{At, TheSign, AName, SpellsLabel}
+use Rattle.il_grammar.proofs.Leads.{at_holds}
 use Rattle.il_read.specs.Lead.{lead_at}
 use Rattle.il_read.specs.declared.lead.Lead.TheVariants as lead
-use Rattle.il_read.proofs.Leaves.{name_there, the_name_lead, at_holds}
+use Rattle.il_read.proofs.Leaves.{name_there, the_name_lead}
 use Rattle.il_read.proofs.Instructions.{behind_one}
 
 module _ (text : List ℕ) where
@@ -23,7 +23,7 @@ module _ (text : List ℕ) where
 
   -- no colon stands behind the first token
   pub no_colon : (n : Named) (ts m : List Token) → ((r : List Token) → TheSign Colon (drop 1 ts) r → ⊥) → SpellsLabel text n ts m → ⊥
-  no_colon n ts m missing w = missing m (subst (λ (x : List Token). TheSign Colon x m) (behind_one _ ts w.0 (at_holds (AName text n.name) n.place ts w.0 w.1)) w.2)
+  no_colon n ts m missing w = missing m (subst (λ (x : List Token). TheSign Colon x m) (behind_one _ ts w.0 (at_holds text (AName text n.name) n.place ts w.0 w.1)) w.2)
 
   -- a label begins with a name
   pub label_lead : (n : Named) (ts m : List Token) → SpellsLabel text n ts m → lead_at text ts ≡ lead.Name

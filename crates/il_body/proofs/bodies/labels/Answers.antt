@@ -1,4 +1,4 @@
-use Rattle.std.proofs.Common.{◌≡◌, ◌<◌, length, arith}
+use Rattle.std.proofs.Common.{arith}
 use Rattle.il_spec.specs.Grammar.{TheLineEnd}
 use Rattle.il_read.proofs.Chain.{was_there, was_missing}
 use Rattle.il_body.proofs.Labels.{none_behind, one_behind, alone_behind, beside}

@@ -1,7 +1,7 @@
 use Rattle.std.proofs.Common.{refl}
 use Rattle.il_spec.specs.Grammar.{TheWord}
 use Rattle.il_read.proofs.Chain.{up}
-use Rattle.il_read.proofs.Leaves.{at_holds}
+use Rattle.il_grammar.proofs.Leads.{at_holds}
 use Rattle.il_body.proofs.Entries.{outer_refused}
 use Rattle.il_body.proofs.bodies.outer.Goals as goal
 
@@ -19,4 +19,4 @@ pub returns-in_err-place-2-clause-refused : goal.returns-in_err-place-2-clause-r
 returns-in_err-place-2-clause-refused c =
     let none = rw c.in_default.is at c.eat_placed.ensures.takes in
     up _ c.from_residual-in_err-place-2.ensures.1
-    (outer_refused c.args.source.now c.args.last c.args.load c.args.full c.in_ok-labels.alone _ _ c.in_ok-labels.labels _ c.in_ok-labels.ensures.labels (λ p r w is. none.1 r (at_holds (TheWord c.args.source.now c.args.last) p _ r w)) (rw none.0 at c.in_err-place-2.ensures.refused))
+    (outer_refused c.args.source.now c.args.last c.args.load c.args.full c.in_ok-labels.alone _ _ c.in_ok-labels.labels _ c.in_ok-labels.ensures.labels (λ p r w is. none.1 r (at_holds c.args.source.now (TheWord c.args.source.now c.args.last) p _ r w)) (rw none.0 at c.in_err-place-2.ensures.refused))

@@ -1,4 +1,4 @@
-use Rattle.std.proofs.Common.{◌≡◌, ◌+◌, ◌≤◌, length, length-append, [], ◌∷◌, arith}
+use Rattle.std.proofs.Common.{◌≡◌, ◌+◌, length, length-append, [], ◌∷◌, arith}
 use Rattle.std.specs.Prelude.{max}
 use Rattle.il_read.proofs.Chain.{up}
 use Rattle.il_body.proofs.Entries.{steps_refused, steps_read, step_on, open_on, few_on}

@@ -1,11 +1,7 @@
 use Rattle.std.proofs.Common.{codes}
-use Rattle.il_spec.specs.declared.token.Sign.TheVariants.{Colon, Semicolon}
 use Rattle.il_spec.specs.declared.keyword.Keyword.TheVariants as word
-use Rattle.il_spec.specs.Grammar.{loose, ◌⋯◌, TheSign, TheWord, TheName, SpellsSize}
-use Rattle.il_grammar.proofs.Combinators.{place_of}
-use Rattle.il_grammar.proofs.Leads.{sign_sure, word_sure, the_name_one}
+use Rattle.il_spec.specs.Grammar.{loose, ◌⋯◌, TheWord, SpellsSize}
 use Rattle.il_grammar.proofs.Configurations.{size_one}
-use Rattle.il_read.specs.Settings.{PlacedWord, SpellsTimes, SpellsBound, SpellsWith, SpellsFloors}
 use Rattle.il_read.proofs.Chain.{up, first, last_missing, later}
 use Rattle.il_read.proofs.source.Source.floors.Goals as goal
 

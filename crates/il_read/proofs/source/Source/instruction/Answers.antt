@@ -1,4 +1,4 @@
-use Rattle.std.proofs.Common.{sym, ◌∙◌}
+use Rattle.std.proofs.Common.{sym}
 use Rattle.il_read.proofs.Instructions.{none_refused, no_other}
 use Rattle.il_read.proofs.source.Source.instruction.Goals as goal
 
