@@ -1,5 +1,5 @@
 -- Which answer refuses a text, and the limits of a tree.
-use Rattle.std.specs.Prelude.{ℕ, ◌≤◌, Result, Ok, Err, All, length}
+use Rattle.std.specs.Prelude.{◌≤◌, Result, Ok, Err, All, length}
 use Rattle.il_spec.specs.declared.fault.Refusal.{Refusal}
 use Rattle.il_spec.specs.declared.fault.Refusal.TheVariants as refusal
 use Rattle.il_spec.specs.declared.tree.Unit.{Unit as ProgramUnit}
