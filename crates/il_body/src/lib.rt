@@ -1,4 +1,4 @@
-//! Readers of bodies: labels, instructions in parentheses, and the limits of a body.
+//! Readers of bodies and units: labels, instructions in parentheses, lists of variables, and the limits of a body.
 #![tactic(auto)]
 
 mod bodies;
