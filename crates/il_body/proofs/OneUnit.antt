@@ -62,9 +62,15 @@ module _ (text : List ℕ) where
       let second = lists.2 in
       let third = second.2 in
       let fourth = third.2 in
-      let inside : SpellsProgramInside text (vs, es, b) name.2.0 r =
-            (lists.0, lacks word.VarInput ins name.2.0 lists.0 u.0.0 lists.1, (second.0, lacks word.VarOutput outs lists.0 second.0 u.0.1 second.1,
-            (third.0, third.1, (fourth.0, fourth.1, small_body word.EndProgram b fourth.0 r fourth.2 few)))) in
+      let inside : SpellsProgramInside text (vs, es, b) name.2.0 r = (
+        lists.0,
+        lacks word.VarInput ins name.2.0 lists.0 u.0.0 lists.1,
+        (
+          second.0,
+          lacks word.VarOutput outs lists.0 second.0 u.0.1 second.1,
+          (third.0, third.1, (fourth.0, fourth.1, small_body word.EndProgram b fourth.0 r fourth.2 few)),
+        ),
+      ) in
       (u.1.0, u.1.1, (name.0, name.1, subst (λ (m : List Token). SpellsProgramInside text (vs, es, b) m r) (sym name.2.1) inside))
   program_parts unit.FunctionBlock p n ins outs vs es b ts r w = absurd (cc w.0)
   program_parts (unit.Function s q) p n ins outs vs es b ts r w = absurd (cc w.0)
@@ -81,10 +87,13 @@ module _ (text : List ℕ) where
       let fourth = third.2 in
       let d = fourth.2 in
       record {
-        found = (refl, (
-          ((refl, refl), (h.0, h.1, (name.0, name.1, (name.0, refl, (i.0, i.1, (second.0, second.1, (third.0, third.1, (fourth.0, fourth.1, (d.2.1, (d.0, d.1, d.2.0)))))))))),
-          (d.2.2, d.2.3),
-        ));
+        found = (
+          refl,
+          (
+            ((refl, refl), (h.0, h.1, (name.0, name.1, (name.0, refl, (i.0, i.1, (second.0, second.1, (third.0, third.1, (fourth.0, fourth.1, (d.2.1, (d.0, d.1, d.2.0)))))))))),
+            (d.2.2, d.2.3),
+          ),
+        );
       }
 
   pub program_refused : (ts : List Token) (e : Stop) → Refuses (SpellsProgram text) ts e → Refuses (SpellsUnitOf text word.Program) ts e
@@ -104,7 +113,7 @@ module _ (text : List ℕ) where
       let third = second.2 in
       let fourth = third.2 in
       let inside : SpellsBlockInside text (ins, outs, vs, b) name.2.0 r =
-            (lists.0, lists.1, (second.0, second.1, (third.0, third.1, (fourth.0, fourth.1.1, small_body word.EndFunctionBlock b fourth.0 r fourth.2 few)))) in
+      (lists.0, lists.1, (second.0, second.1, (third.0, third.1, (fourth.0, fourth.1.1, small_body word.EndFunctionBlock b fourth.0 r fourth.2 few)))) in
       (u.1.0, u.1.1, (name.0, name.1, subst (λ (m : List Token). SpellsBlockInside text (ins, outs, vs, b) m r) (sym name.2.1) inside))
   block_parts unit.Program p n ins outs vs es b ts r w = absurd (cc w.0)
   block_parts (unit.Function s q) p n ins outs vs es b ts r w = absurd (cc w.0)
@@ -121,10 +130,13 @@ module _ (text : List ℕ) where
       let fourth = third.2 in
       let d = fourth.2 in
       record {
-        found = (refl, (
-          (tt, (h.0, h.1, (name.0, name.1, (name.0, refl, (i.0, i.1, (second.0, second.1, (third.0, third.1, (fourth.0, (refl, fourth.1), (d.2.1, (d.0, d.1, d.2.0)))))))))),
-          (d.2.2, d.2.3),
-        ));
+        found = (
+          refl,
+          (
+            (tt, (h.0, h.1, (name.0, name.1, (name.0, refl, (i.0, i.1, (second.0, second.1, (third.0, third.1, (fourth.0, (refl, fourth.1), (d.2.1, (d.0, d.1, d.2.0)))))))))),
+            (d.2.2, d.2.3),
+          ),
+        );
       }
 
   pub block_refused : (ts : List Token) (e : Stop) → Refuses (SpellsBlock text) ts e → Refuses (SpellsUnitOf text word.FunctionBlock) ts e
@@ -144,9 +156,15 @@ module _ (text : List ℕ) where
       let second = lists.2 in
       let third = second.2 in
       let fourth = third.2 in
-      let inside : SpellsFunctionInside text (ins, vs, b) name.2.0 r =
-            (lists.0, full word.VarInput ins name.2.0 lists.0 u.0.0 lists.1, (second.0, lacks word.VarOutput outs lists.0 second.0 u.0.1 second.1,
-            (third.0, third.1, (fourth.0, fourth.1.1, small_body word.EndFunction b fourth.0 r fourth.2 few)))) in
+      let inside : SpellsFunctionInside text (ins, vs, b) name.2.0 r = (
+        lists.0,
+        full word.VarInput ins name.2.0 lists.0 u.0.0 lists.1,
+        (
+          second.0,
+          lacks word.VarOutput outs lists.0 second.0 u.0.1 second.1,
+          (third.0, third.1, (fourth.0, fourth.1.1, small_body word.EndFunction b fourth.0 r fourth.2 few)),
+        ),
+      ) in
       ((q, s), (u.1.0, u.1.1, (name.0, name.1, (name.2.0, name.2.1, inside))))
   function_parts unit.Program p n ins outs vs es b ts r w = absurd (cc w.0)
   function_parts unit.FunctionBlock p n ins outs vs es b ts r w = absurd (cc w.0)
@@ -164,10 +182,13 @@ module _ (text : List ℕ) where
       let fourth = third.2 in
       let d = fourth.2 in
       record {
-        found = (refl, (
-          ((more_than_none ins i.1.0, refl), (h.0, h.1, (name.0, name.1, (outcome.0, outcome.1, (i.0, filled word.VarInput ins outcome.0 i.0 i.1, (second.0, second.1, (third.0, third.1, (fourth.0, (refl, fourth.1), (d.2.1, (d.0, d.1, d.2.0)))))))))),
-          (d.2.2, d.2.3),
-        ));
+        found = (
+          refl,
+          (
+            ((more_than_none ins i.1.0, refl), (h.0, h.1, (name.0, name.1, (outcome.0, outcome.1, (i.0, filled word.VarInput ins outcome.0 i.0 i.1, (second.0, second.1, (third.0, third.1, (fourth.0, (refl, fourth.1), (d.2.1, (d.0, d.1, d.2.0)))))))))),
+            (d.2.2, d.2.3),
+          ),
+        );
       }
 
   pub function_refused : (ts : List Token) (e : Stop) → Refuses (SpellsFunction text) ts e → Refuses (SpellsUnitOf text word.Function) ts e

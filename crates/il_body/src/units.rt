@@ -52,8 +52,9 @@ fn function_unit(source: &Source, tokens: &mut Tokens) -> Result<Unit, Stop>
     ensures reads { IfOk result (λ u. Reads (SpellsUnitOf source.now word.Function) tokens.old u tokens.new) }
     ensures refused { IfErr result (λ e. Refuses (SpellsUnitOf source.now word.Function) tokens.old e) }
 {
-    let (place, name, (result_place, scalar), (inputs, variables, body)) =
-        function(source, tokens)?;
+    let (place, name, (result_place, scalar), (inputs, variables, body)) = function(
+        source, tokens,
+    )?;
     Ok(Unit {
         place,
         kind: UnitKind::Function(scalar, result_place),

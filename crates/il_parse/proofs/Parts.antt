@@ -222,7 +222,7 @@ module _ (text : List ℕ) where
       record {
         found = (
           end_joined (SpellsUnit text) (TheWord text word.Configuration) (Behind c) us (skip_line_ends ts) r
-          (w.0, from_small (TheWord text word.Configuration) us (skip_line_ends ts) w.0 w.1.0, from_group c (skip_line_ends w.0) r w.2),
+              (w.0, from_small (TheWord text word.Configuration) us (skip_line_ends ts) w.0 w.1.0, from_group c (skip_line_ends w.0) r w.2),
           record {
             units = w.1.1;
             instructions = are_short (TheWord text word.Configuration) us (skip_line_ends ts) w.0 w.1.0;

@@ -13,10 +13,10 @@ mod configuration;
 mod units;
 
 use configuration::configuration;
+use il_read::{Source, Stop, Tokens};
 pub use il_spec::fault::Refusal;
 pub use il_spec::token::Token;
 pub use il_spec::tree::Config;
-use il_read::{Source, Stop, Tokens};
 use std::alloc::Global;
 
 /// The configuration that the tokens of a text spell.

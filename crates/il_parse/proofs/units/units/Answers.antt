@@ -20,7 +20,7 @@ units-preserved c =
     let none = was_missing (TheWord c.args.source.now word.Configuration) c.units.tokens _ c.eat_word.new.tokens c.eat_word.ensures.eaten c.units-test.true in (
       rw c.in_ok-push.ensures.ok (few_more _ _ _ c.if-is_full.false c.is_full.ensures.no c.units.invariant.0),
       rw (c.skip_lines.ensures.rest, c.in_ok-push.ensures.ok)
-      (goes_on _ _ (small_unit_one c.args.source.now) _ _ _ _ _ none.1 c.units.invariant.1 (rw none.0 at c.in_ok-unit.ensures.reads)),
+          (goes_on _ _ (small_unit_one c.args.source.now) _ _ _ _ _ none.1 c.units.invariant.1 (rw none.0 at c.in_ok-unit.ensures.reads)),
     )
 
 pub returns-clause-reads : goal.returns-clause-reads

@@ -1,6 +1,5 @@
 use Rattle.std.proofs.Common.{◌∙◌}
 use Rattle.std.proofs.lemmas.Str.{IsUtf8-from_ascii}
-
 use Rattle.il_read.proofs.Spelling.{never_fails, value_told, upper_part}
 use Rattle.il_read.proofs.source.Source.spelling.Goals as goal
 
