@@ -12,9 +12,9 @@ use Rattle.il_run.specs.NameMap.{NameMap, get, with_entries}
 use Rattle.il_rules.specs.declared.symbol.Symbol.{Symbol}
 use Rattle.il_rules.specs.Symbols.{IsProgram, symbol_by, symbol_of}
 use Rattle.il_rules.specs.Declarations.{names_in}
-use Rattle.il_rules.specs.Names.{Spelling, or_else, entry_of, Variable, ImageName, CarRole, GroupRole, Role, image_name, is_predeclared, is_program_kind, is_seen_by, sees, unit_named, own_variable, car_number, task_role, program_role, MeansVariable, MeansUnit, MeansStandard, meaning, meant_variable, global_meaning, outer_meaning}
+use Rattle.il_rules.specs.Names.{Spelling, or_else, entry_of, Variable, ImageName, CarRole, GroupRole, image_name, is_predeclared, is_program_kind, is_seen_by, sees, unit_named, own_variable, car_number, task_role, program_role, MeansVariable, MeansUnit, MeansStandard, meaning, meant_variable, global_meaning, outer_meaning}
 use Rattle.il_rules.specs.Subset.{BreaksInSubset}
-use Rattle.il_found.specs.declared.found.Found.{Found}
+use Rattle.il_found.specs.Least.{NumberedFault}
 use Rattle.il_decl.specs.Images.{image_symbols}
 use Rattle.il_decl.specs.Parts.{AreVariables, IsFrame, forms_in, is_car, is_program_of, is_up_to, misses_car}
 use Rattle.il_decl.specs.Predeclared.{is_predeclared_name}
@@ -174,7 +174,7 @@ pub record IsAcceptedWith (config : Config) (unit : ProgramUnit) (symbols : Name
   pub symbols_are : (name : Spelling) → get symbols name ≡ symbol_of config unit name
 
 -- it holds where nothing is broken
-pub accepted_with : (config : Config) (unit : ProgramUnit) (task : Task) (line : ProgramLine) (symbols all : NameMap Symbol) (taken : Option Found) → IsFrame config unit task line → AreVariables unit (forms_in unit.variables) symbols taken → ((n : ℕ) (p : Place) → BreaksInSubset config n p → ⊥)
+pub accepted_with : (config : Config) (unit : ProgramUnit) (task : Task) (line : ProgramLine) (symbols all : NameMap Symbol) (taken : Option NumberedFault) → IsFrame config unit task line → AreVariables unit (forms_in unit.variables) symbols taken → ((n : ℕ) (p : Place) → BreaksInSubset config n p → ⊥)
     → all ≡ with_entries symbols (image_symbols config.cars.value config.floors.value config.slots.value) → IsAcceptedWith config unit all
 accepted_with config unit task line symbols all taken frame v unbroken is = record {
   program = record { alone = frame.alone; named = named_is config unit task line symbols frame free; role = role_is config unit task line symbols frame free };

@@ -12,8 +12,7 @@ use Rattle.il_spec.specs.declared.tree.Place.{Place}
 use Rattle.il_rules.specs.Names.{Spelling, Role, or_else, is_program, program_named, program_role, task_role, car_number}
 use Rattle.il_rules.specs.Declarations.{names_of_tasks, predeclared_unit, is_within, sizes_of, size_outside, IsBadTask, foreign_task, unknown_task, second_line, unknown_program, other_role, missing_task, missing_line, unused_program}
 use Rattle.il_rules.specs.Faults.{BreaksDeclarations, duplicate, initial_outside, bad_task}
-use Rattle.il_found.specs.declared.found.Found.{Found}
-use Rattle.il_found.specs.Least.{fault_of, earlier_of, IsLeast, When, Either}
+use Rattle.il_found.specs.Least.{NumberedFault, fault_of, earlier_of, IsLeast, When, Either}
 use Rattle.il_found.proofs.Least.{least_if, least_both}
 use Rattle.il_decl.specs.Predeclared.{is_predeclared_name}
 use Rattle.il_decl.specs.Parts.{is_car, is_program_of, misses_car, structure_of, IsFrame}
@@ -58,7 +57,7 @@ flag : (b : Bool) (number : ℕ) (place : Place) → IsLeast (fault_of b number 
 flag b number place = least_if b number place (fault_of b number place) (b ≡ true) refl (λ e. e) (λ e. e)
 
 -- the first fault of two parts
-pub both : (P Q : ℕ → Place → Type 0) (a b : Option Found) → IsLeast a P → IsLeast b Q → IsLeast (earlier_of a b) (Either P Q)
+pub both : (P Q : ℕ → Place → Type 0) (a b : Option NumberedFault) → IsLeast a P → IsLeast b Q → IsLeast (earlier_of a b) (Either P Q)
 both P Q a b p q = least_both P Q a b (earlier_of a b) refl p q
 
 -- the first fault of headings, sizes and tasks

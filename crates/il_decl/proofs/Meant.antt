@@ -20,8 +20,7 @@ use Rattle.il_rules.specs.Names.{Spelling, is_one_of}
 use Rattle.il_rules.specs.Declarations.{Admitted, AllForms, types_in, written_types, type_numbers, IsTypeBroken, all_declarations, initial_numbers, IsInitialBroken, IsNameBroken, name_numbers, names_in, IsExternal, IsUnknown, unknown_type, unknown_global, unknown_name, IsInitialOutside, initial_outside as outside, size_outside, HasOtherType, type_misplaced, initial_of_other_type, external_differs, name_of_other_type}
 use Rattle.il_rules.specs.Subset.{IsSupportedForm, instruction_names, IsUnsupportedName, NamesUnsupported, BreaksInSubset, broken, unsupported}
 use Rattle.il_rules.specs.Faults.{BreaksDeclarations, duplicate, unknown, empty_range, initial_outside, bad_task, other_type, same_place}
-use Rattle.il_found.specs.declared.found.Found.{Found}
-use Rattle.il_found.specs.Least.{earlier_of, IsLeast, Either, Below}
+use Rattle.il_found.specs.Least.{NumberedFault, earlier_of, IsLeast, Either, Below}
 use Rattle.il_found.proofs.Least.{no_later-refl, least_both, least_wider, Covered}
 use Rattle.il_decl.specs.Predeclared.{car_names}
 use Rattle.il_decl.specs.Parts.{structure_of, TakenNames, type_breaks, initial_breaks, TypeFault, InitialFault, Misdeclared, is_known, has_unknown, UnknownName, sees_image, IsFrame}
@@ -232,11 +231,11 @@ to_broken config unit task line symbols setting n p h = go h
     go (inr x) = broken (to_structure config unit task line setting.frame n p x)
 
 -- the first fault that is found is the first that breaks a rule of declarations
-pub declared_least : (config : Config) (unit : ProgramUnit) (task : Task) (line : ProgramLine) (symbols : NameMap Symbol) → IsSetting config unit task line symbols → (found : Option Found) → IsLeast found (Declares config unit task line symbols) → IsLeast found (BreaksInSubset config)
+pub declared_least : (config : Config) (unit : ProgramUnit) (task : Task) (line : ProgramLine) (symbols : NameMap Symbol) → IsSetting config unit task line symbols → (found : Option NumberedFault) → IsLeast found (Declares config unit task line symbols) → IsLeast found (BreaksInSubset config)
 declared_least config unit task line symbols setting found least = least_wider (Declares config unit task line symbols) (BreaksInSubset config) found least (to_broken config unit task line symbols setting) (from_broken config unit task line symbols setting)
 
 -- the parts together
-pub found_least : (config : Config) (unit : ProgramUnit) (task : Task) (line : ProgramLine) (symbols : NameMap Symbol) (taken named valued structure found : Option Found) → IsLeast taken (TakenNames unit (names_in unit.variables)) → IsLeast named (Below (UnknownName symbols (sees_image unit line)) unit.body.steps (length unit.body.steps))
+pub found_least : (config : Config) (unit : ProgramUnit) (task : Task) (line : ProgramLine) (symbols : NameMap Symbol) (taken named valued structure found : Option NumberedFault) → IsLeast taken (TakenNames unit (names_in unit.variables)) → IsLeast named (Below (UnknownName symbols (sees_image unit line)) unit.body.steps (length unit.body.steps))
     → IsLeast valued (Below Misdeclared unit.variables (length unit.variables)) → structure ≡ structure_of config unit task line → found ≡ earlier_of (earlier_of taken (earlier_of named valued)) structure → IsLeast found (Declares config unit task line symbols)
 found_least config unit task line symbols taken named valued structure found t n v s is =
     least_both (Either (TakenNames unit (names_in unit.variables)) (BodyFaults unit line symbols)) (StructureFaults config unit task line) (earlier_of taken (earlier_of named valued)) (structure_of config unit task line) found (is ∙ ap (earlier_of (earlier_of taken (earlier_of named valued))) s)

@@ -3,7 +3,7 @@ use Rattle.std.proofs.Common.{◌≡◌, Bool, true, false, ◌||◌, List, [], 
 use Rattle.std.specs.Prelude.{find}
 use Rattle.il_spec.specs.declared.tree.Config.{Config}
 use Rattle.il_rules.specs.Names.{Spelling, is_one_of, image_name, StandardFunction, standard_function, standard_functions, standard_block, standard_blocks, is_predeclared, image_of}
-use Rattle.il_decl.specs.Predeclared.{is_name, is_among, number_names, read_image_names, row_names, written_image_names, is_image_name, uniform_function_names, names_from_sint, names_from_int, names_from_dint, names_from_usint, names_from_uint, names_from_udint, is_from_signed, is_from_unsigned, is_standard_function, standard_block_names, is_predeclared_name}
+use Rattle.il_decl.specs.Predeclared.{is_name, number_names, read_image_names, row_names, written_image_names, is_image_name, uniform_function_names, names_from_sint, names_from_int, names_from_dint, names_from_usint, names_from_uint, names_from_udint, is_from_signed, is_from_unsigned, is_standard_function, standard_block_names, is_predeclared_name}
 
 -- one of three, however grouped
 or_assoc : (a b c : Bool) → (a || (b || c)) ≡ ((a || b) || c)

@@ -12,8 +12,7 @@ use Rattle.il_run.specs.NameMap.{NameMap, get, empty, get-empty}
 use Rattle.il_rules.specs.declared.symbol.Symbol.{Symbol}
 use Rattle.il_rules.specs.Symbols.{symbol_by}
 use Rattle.il_rules.specs.Names.{Spelling, or_else, is_one_of, AsVariable}
-use Rattle.il_found.specs.declared.found.Found.{Found}
-use Rattle.il_found.specs.Least.{fault_of, earlier_of, IsLeast, When, Either}
+use Rattle.il_found.specs.Least.{NumberedFault, fault_of, earlier_of, IsLeast, When, Either}
 use Rattle.il_found.proofs.Least.{least_if, least_both, least_same, least_none}
 use Rattle.il_decl.specs.Images.{writes}
 use Rattle.il_decl.specs.Parts.{is_taken, is_taken_by, TakenNames, AreVariables, symbol_among, with_new}
@@ -37,7 +36,7 @@ split_last (d ∷ ds) n (b ∷ before) x after e =
     elim (split_last ds n before x after rest) [ inl r ↦ inl (r.0, ap (λ y. y ∷ ds) same ∙ ap (λ l. b ∷ l) r.1) | inr r ↦ inr (ap (λ y. y ∷ before) (sym same) ∙ ap (λ l. d ∷ l) r.0, r.1) ]
 
 -- the first name that is taken, with one name more
-taken_next : (unit : ProgramUnit) (ds : List Named) (n : Named) (found r : Option Found) → r ≡ earlier_of found (fault_of (is_taken unit ds n) 20 n.place) → IsLeast found (TakenNames unit ds) → IsLeast r (TakenNames unit (ds ++ n ∷ []))
+taken_next : (unit : ProgramUnit) (ds : List Named) (n : Named) (found r : Option NumberedFault) → r ≡ earlier_of found (fault_of (is_taken unit ds n) 20 n.place) → IsLeast found (TakenNames unit ds) → IsLeast r (TakenNames unit (ds ++ n ∷ []))
 taken_next unit ds n found r is l =
     least_same (Either (TakenNames unit ds) (When (IsTrue (is_taken unit ds n)) 20 n.place)) (TakenNames unit (ds ++ n ∷ [])) r
     (least_both (TakenNames unit ds) (When (IsTrue (is_taken unit ds n)) 20 n.place) found _ r is l (least_if (is_taken unit ds n) 20 n.place _ _ refl (λ e. e) (λ e. e))) up down
@@ -88,7 +87,7 @@ or_last false true = refl
 or_last false false = refl
 
 -- one variable more
-pub variables_next : (unit : ProgramUnit) (ds : List (Named × Form)) (n : Named) (scalar : Scalar) (symbols next : NameMap Symbol) (found r : Option Found) → next ≡ with_new symbols n.name (writes scalar) → r ≡ earlier_of found (fault_of (is_taken_by unit symbols n.name) 20 n.place)
+pub variables_next : (unit : ProgramUnit) (ds : List (Named × Form)) (n : Named) (scalar : Scalar) (symbols next : NameMap Symbol) (found r : Option NumberedFault) → next ≡ with_new symbols n.name (writes scalar) → r ≡ earlier_of found (fault_of (is_taken_by unit symbols n.name) 20 n.place)
     → AreVariables unit ds symbols found → AreVariables unit (ds ++ (n, OfScalar scalar) ∷ []) next r
 variables_next unit ds n scalar symbols next found r added is v = record {
   knows = λ q.

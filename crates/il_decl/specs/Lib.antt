@@ -1,3 +1,4 @@
+pub mod DeclareFaults
 pub mod Parts
 pub mod Predeclared
 pub mod Images

@@ -23,8 +23,7 @@ use Rattle.il_rules.specs.Symbols.{symbol_by}
 use Rattle.il_rules.specs.Names.{Spelling, is_one_of, car_number, AsVariable}
 use Rattle.il_rules.specs.Declarations.{subrange_numbers, initial_numbers}
 use Rattle.il_rules.specs.Subset.{IsSupportedProgram, instruction_names, reference_names}
-use Rattle.il_found.specs.declared.found.Found.{Found}
-use Rattle.il_found.specs.Least.{fault_of, earlier_of, IsLeast, When, Either}
+use Rattle.il_found.specs.Least.{NumberedFault, fault_of, earlier_of, IsLeast, When, Either}
 use Rattle.il_decl.specs.Predeclared.{is_predeclared_name, shared_names, car_names}
 
 -- the parts of a configuration of the subset
@@ -38,16 +37,16 @@ pub record IsFrame (config : Config) (unit : ProgramUnit) (task : Task) (line : 
 -- HEADINGS, SIZES, TASKS
 
 -- 20 where the program's name is predeclared, 24 where the PROGRAM line does not name it
-abbrev pub heading_of : ProgramUnit → ProgramLine → Option Found
+abbrev pub heading_of : ProgramUnit → ProgramLine → Option NumberedFault
 heading_of unit line =
     earlier_of (fault_of (is_predeclared_name unit.name.name) 20 unit.place) (fault_of (not (bytes_eq line.program.name unit.name.name)) 24 unit.place)
 
 -- 23 where a size is outside its limits
-abbrev pub size_of : Size → ℤ → ℤ → Option Found
+abbrev pub size_of : Size → ℤ → ℤ → Option NumberedFault
 size_of size lower upper = fault_of (not (int_le lower size.value && int_le size.value upper)) 23 size.place
 
 -- the same for the three sizes
-abbrev pub sizes_of : Config → Option Found
+abbrev pub sizes_of : Config → Option NumberedFault
 sizes_of config = earlier_of (size_of config.cars (pos 1) (pos 8)) (earlier_of (size_of config.floors (pos 2) (pos 16)) (size_of config.slots (pos 1) (pos 64)))
 
 -- whether a number is there and not above a limit
@@ -68,7 +67,7 @@ abbrev pub misses_car : ℤ → Bool → Bool
 misses_car cars is_of_car = not (int_le cars (pos 1)) || (int_le (pos 1) cars && not is_of_car)
 
 -- 24 at the TASK line, at the PROGRAM line, and at END_RESOURCE
-abbrev pub tasks_of : Config → ProgramUnit → Task → ProgramLine → Option Found
+abbrev pub tasks_of : Config → ProgramUnit → Task → ProgramLine → Option NumberedFault
 tasks_of config unit task line =
     earlier_of
     (fault_of (not (bytes_eq task.name.name (codes "GROUP") || is_car config.cars.value task.name.name)) 24 task.place)
@@ -77,7 +76,7 @@ tasks_of config unit task line =
     (fault_of (not (bytes_eq line.task.name task.name.name) || misses_car config.cars.value (is_car config.cars.value task.name.name)) 24 config.end_resource))
 
 -- all of these
-abbrev pub structure_of : Config → ProgramUnit → Task → ProgramLine → Option Found
+abbrev pub structure_of : Config → ProgramUnit → Task → ProgramLine → Option NumberedFault
 structure_of config unit task line = earlier_of (earlier_of (heading_of unit line) (sizes_of config)) (tasks_of config unit task line)
 
 -- VARIABLES
@@ -112,7 +111,7 @@ abbrev pub with_new : NameMap Symbol → Spelling → Symbol → NameMap Symbol
 with_new symbols name symbol = if is_some (table.get symbols name) then symbols else table.insert symbols name symbol
 
 -- what declared variables mean, and the first of them whose name is taken
-pub record AreVariables (unit : ProgramUnit) (declared : List (Named × Form)) (symbols : NameMap Symbol) (found : Option Found) : Type 0 where
+pub record AreVariables (unit : ProgramUnit) (declared : List (Named × Form)) (symbols : NameMap Symbol) (found : Option NumberedFault) : Type 0 where
   pub knows : (name : Spelling) → is_some (table.get symbols name) ≡ is_one_of (map (λ n. n.name) (map (λ e. e.0) declared)) name
   pub means : (name : Spelling) → table.get symbols name ≡ symbol_among declared name
   pub least : IsLeast found (TakenNames unit (map (λ e. e.0) declared))
@@ -130,17 +129,17 @@ initial_breaks (OfScalar s) literal = initial_numbers (OfScalar s) literal
 initial_breaks _ literal = []
 
 -- the fault of the first of such numbers
-abbrev pub first_of : List ℕ → Place → Option Found
+abbrev pub first_of : List ℕ → Place → Option NumberedFault
 first_of [] place = None
 first_of (number ∷ numbers) place = Some (record { number = number; place = place })
 
 -- the fault of an initial value, if there is one
-abbrev pub initial_fault_of : Form → Option Initial → Option Found
+abbrev pub initial_fault_of : Form → Option Initial → Option NumberedFault
 initial_fault_of form None = None
 initial_fault_of form (Some initial) = first_of (initial_breaks form initial.literal) initial.place
 
 -- the fault of a declaration's type or of its initial value
-abbrev pub declaration_fault_of : Declaration → Option Found
+abbrev pub declaration_fault_of : Declaration → Option NumberedFault
 declaration_fault_of d = earlier_of (first_of (type_breaks d.declared.form) d.declared.place) (initial_fault_of d.declared.form d.initial)
 
 -- 22 or 25 at the type of a declaration

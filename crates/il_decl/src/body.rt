@@ -5,20 +5,25 @@ ghost use Rattle.il_rules.specs.Subset.{reference_names};
 ghost use Rattle.il_found.specs.Least.{IsLeast, Below};
 ghost use Rattle.il_decl.specs.Parts.{is_known, has_unknown_in, has_unknown, operand_names, UnknownName};
 
+use crate::fault::DeclareFault;
 use crate::names::{is_car_name, is_shared_name};
 use il_found::{Found, earlier, fault_if};
 use il_rules::symbol::Symbol;
 use il_spec::tree::{Instruction, Operand, Reference, Step};
 use il_table::Table;
 
-/// 21 at the first instruction with a name that is no variable, and no image name that is supported and seen (2.4.3).
-pub fn names_fault(steps: &[Step], symbols: &Table<Symbol>, sees_image: bool) -> Option<Found>
+/// A fault at the first instruction with a name that is no variable, and no image name that is supported and seen (2.4.3).
+pub fn names_fault(
+    steps: &[Step],
+    symbols: &Table<Symbol>,
+    sees_image: bool,
+) -> Option<Found<DeclareFault>>
     ensures { IsLeast result (Below (UnknownName symbols.now sees_image) steps.now (length steps.now)) }
 {
     let mut found = None;
     for step in steps {
         let unknown = has_unknown(&step.instruction, symbols, sees_image);
-        found = earlier(found, fault_if(unknown, 21, step.place));
+        found = earlier(found, fault_if(unknown, DeclareFault::Unknown, step.place));
     }
     found
 }

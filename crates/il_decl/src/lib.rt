@@ -3,6 +3,7 @@
 
 mod body;
 mod declared;
+mod fault;
 mod image;
 mod names;
 mod structure;
@@ -25,6 +26,7 @@ use crate::structure::{is_of_group, structure_fault};
 use crate::values::values_fault;
 use crate::variables::{Variables, own_variables};
 pub use declared::Declared;
+pub use fault::DeclareFault;
 use il_found::{Found, earlier, refusal};
 use il_rules::symbol::Symbol;
 use il_spec::fault::Refusal;
@@ -78,12 +80,15 @@ fn declare_program(
     ensures symbols { IfOk result (λ s. (name : Spelling) → map.get s name ≡ symbol_of config.now unit.now name) }
     ensures refused { IfErr result (IsRefusedBy (BreaksInSubset config.now)) }
 {
-    let mut variables = own_variables(alloc, unit)?;
-    if let Some(found) = declared_fault(config, unit, task, line, &variables) {
+    let Variables {
+        mut symbols,
+        found: taken,
+    } = own_variables(alloc, unit)?;
+    if let Some(found) = declared_fault(config, unit, task, line, &symbols, taken) {
         return Err(refusal(found));
     }
-    add_image(alloc, config, &mut variables.symbols)?;
-    Ok(variables.symbols)
+    add_image(alloc, config, &mut symbols)?;
+    Ok(symbols)
 }
 
 // The first fault of declarations.
@@ -92,17 +97,18 @@ fn declared_fault(
     unit: &Unit,
     task: &Task,
     line: &ProgramLine,
-    variables: &Variables,
-) -> Option<Found>
+    symbols: &Table<Symbol>,
+    taken: Option<Found<DeclareFault>>,
+) -> Option<Found<DeclareFault>>
     requires frame { IsFrame config.now unit.now task.now line.now }
-    requires variables { AreVariables unit.now (forms_in unit.now.variables) variables.now.symbols variables.now.found }
+    requires variables { AreVariables unit.now (forms_in unit.now.variables) symbols.now taken }
     ensures { IsLeast result (BreaksInSubset config.now) }
 {
     let sees_image = !is_of_group(unit, line);
-    let named = names_fault(unit.body.steps.as_slice(), &variables.symbols, sees_image);
+    let named = names_fault(unit.body.steps.as_slice(), symbols, sees_image);
     let valued = values_fault(unit.variables.as_slice());
     earlier(
-        earlier(variables.found, earlier(named, valued)),
+        earlier(taken, earlier(named, valued)),
         structure_fault(config, unit, task, line),
     )
 }

@@ -4,6 +4,7 @@ ghost use Rattle.std.specs.Prelude.{◌≡◌, pos, bytes_eq, codes, ◌&&◌};
 ghost use Rattle.il_rules.specs.Names.{car_digits};
 ghost use Rattle.il_decl.specs.Parts.{heading_of, size_of, sizes_of, is_up_to, is_car, is_program_of, misses_car, tasks_of, structure_of};
 
+use crate::fault::DeclareFault;
 use crate::names::is_predeclared;
 use il_found::{Found, earlier, fault_if};
 use il_spec::tree::{Config, ProgramLine, Size, Task, Unit};
@@ -14,7 +15,7 @@ pub fn structure_fault(
     unit: &Unit,
     task: &Task,
     line: &ProgramLine,
-) -> Option<Found>
+) -> Option<Found<DeclareFault>>
     ensures { result ≡ structure_of config.now unit.now task.now line.now }
 {
     earlier(
@@ -23,19 +24,23 @@ pub fn structure_fault(
     )
 }
 
-// 20 where the program's name is predeclared, 24 where no PROGRAM line names it (2.5.3, 2.7.2).
-fn heading_fault(unit: &Unit, line: &ProgramLine) -> Option<Found>
+// Where the program's name is predeclared, or no PROGRAM line names it (2.5.3, 2.7.2).
+fn heading_fault(unit: &Unit, line: &ProgramLine) -> Option<Found<DeclareFault>>
     ensures { result ≡ heading_of unit.now line.now }
 {
     let name = unit.name.name.as_str();
     earlier(
-        fault_if(is_predeclared(name), 20, unit.place),
-        fault_if(line.program.name.as_str() != name, 24, unit.place),
+        fault_if(is_predeclared(name), DeclareFault::Duplicate, unit.place),
+        fault_if(
+            line.program.name.as_str() != name,
+            DeclareFault::BadTask,
+            unit.place,
+        ),
     )
 }
 
-// 23 where a size is outside its limits (own rule).
-fn sizes_fault(config: &Config) -> Option<Found>
+// Where a size is outside its limits (own rule).
+fn sizes_fault(config: &Config) -> Option<Found<DeclareFault>>
     ensures { result ≡ sizes_of config.now }
 {
     earlier(
@@ -47,16 +52,25 @@ fn sizes_fault(config: &Config) -> Option<Found>
     )
 }
 
-// 23 where a size is outside these limits.
-fn size_fault(size: Size, lower: i64, upper: i64) -> Option<Found>
+// Where a size is outside these limits.
+fn size_fault(size: Size, lower: i64, upper: i64) -> Option<Found<DeclareFault>>
     ensures { result ≡ size_of size lower upper }
 {
-    fault_if(!(lower..=upper).contains(&size.value), 23, size.place)
+    fault_if(
+        !(lower..=upper).contains(&size.value),
+        DeclareFault::InitOutOfRange,
+        size.place,
+    )
 }
 
-// 24 where the task is none of the group, its PROGRAM line another's or of no program, or at END_RESOURCE a car's task or
+// Where the task is none of the group, its PROGRAM line another's or of no program, or at END_RESOURCE a car's task or
 // the task's PROGRAM line is missing (2.7.2).
-fn tasks_fault(config: &Config, unit: &Unit, task: &Task, line: &ProgramLine) -> Option<Found>
+fn tasks_fault(
+    config: &Config,
+    unit: &Unit,
+    task: &Task,
+    line: &ProgramLine,
+) -> Option<Found<DeclareFault>>
     ensures { result ≡ tasks_of config.now unit.now task.now line.now }
 {
     let name = task.name.name.as_str();
@@ -64,16 +78,20 @@ fn tasks_fault(config: &Config, unit: &Unit, task: &Task, line: &ProgramLine) ->
     let is_of_car = is_car(name, cars);
     let is_its_line = line.task.name.as_str() == name;
     earlier(
-        fault_if(!(name == "GROUP" || is_of_car), 24, task.place),
+        fault_if(
+            !(name == "GROUP" || is_of_car),
+            DeclareFault::BadTask,
+            task.place,
+        ),
         earlier(
             fault_if(
                 !(is_its_line && is_program(unit, line.program.name.as_str())),
-                24,
+                DeclareFault::BadTask,
                 line.place,
             ),
             fault_if(
                 !is_its_line || misses_car(cars, is_of_car),
-                24,
+                DeclareFault::BadTask,
                 config.end_resource,
             ),
         ),

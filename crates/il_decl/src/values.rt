@@ -6,13 +6,13 @@ ghost use Rattle.il_rules.specs.Declarations.{subrange_numbers, initial_numbers,
 ghost use Rattle.il_found.specs.Least.{IsLeast, Below};
 ghost use Rattle.il_decl.specs.Parts.{first_of, declaration_fault_of, Misdeclared};
 
+use crate::fault::DeclareFault;
 use il_found::{Found, earlier, fault_if};
 use il_rules::elementary::{declared_limits, has_value, is_same_type, is_whole, is_within_any};
 use il_spec::tree::{Declaration, Elementary, Form, Initial, Literal, Place, Scalar, Subrange};
 
-/// 22 at a subrange that is empty or beyond its base, 23 at an initial value outside its type, 25 at one of another type, or at
-/// a subrange of no whole type (2.3.3.1, 2.4.3.2).
-pub fn values_fault(declarations: &[Declaration]) -> Option<Found>
+/// The first fault of a written type or of an initial value (2.3.3.1, 2.4.3.2).
+pub fn values_fault(declarations: &[Declaration]) -> Option<Found<DeclareFault>>
     ensures { IsLeast result (Below Misdeclared declarations.now (length declarations.now)) }
 {
     let mut found = None;
@@ -23,7 +23,7 @@ pub fn values_fault(declarations: &[Declaration]) -> Option<Found>
 }
 
 // The fault of a declaration's type or of its initial value.
-fn declaration_fault(declaration: &Declaration) -> Option<Found>
+fn declaration_fault(declaration: &Declaration) -> Option<Found<DeclareFault>>
     ensures { result ≡ declaration_fault_of declaration.now }
 {
     let Form::Scalar(scalar) = &declaration.declared.form else {
@@ -36,31 +36,31 @@ fn declaration_fault(declaration: &Declaration) -> Option<Found>
     }
 }
 
-// 22 where a subrange is empty or beyond its base, 25 where its base is not whole (2.3.3.1).
-fn type_fault(scalar: Scalar, place: Place) -> Option<Found>
+// Where a subrange is empty or beyond its base, or its base is not whole (2.3.3.1).
+fn type_fault(scalar: Scalar, place: Place) -> Option<Found<DeclareFault>>
     ensures { result ≡ first_of (subrange_numbers scalar.elementary scalar.subrange) place }
 {
     let Some(subrange) = scalar.subrange else {
         return None;
     };
     if !is_whole(scalar.elementary) {
-        return fault_if(true, 25, place);
+        return fault_if(true, DeclareFault::TypeDiffers, place);
     }
     let fits = has_value(scalar.elementary, subrange.lower)
         && has_value(scalar.elementary, subrange.upper)
         && subrange.lower <= subrange.upper;
-    fault_if(!fits, 22, place)
+    fault_if(!fits, DeclareFault::EmptyRange, place)
 }
 
-// 25 where an initial value is not of the declared type, 23 where it lies outside it (2.4.3.2).
-fn initial_fault(scalar: Scalar, initial: Initial) -> Option<Found>
+// Where an initial value is not of the declared type, or lies outside it (2.4.3.2).
+fn initial_fault(scalar: Scalar, initial: Initial) -> Option<Found<DeclareFault>>
     ensures { result ≡ first_of (initial_numbers (OfScalar scalar) initial.literal) initial.place }
 {
     if !is_of_type(scalar.elementary, written_type(initial.literal)) {
-        return fault_if(true, 25, initial.place);
+        return fault_if(true, DeclareFault::TypeDiffers, initial.place);
     }
     let lies = literal_lies_in(declared_limits(scalar), initial.literal);
-    fault_if(!lies, 23, initial.place)
+    fault_if(!lies, DeclareFault::InitOutOfRange, initial.place)
 }
 
 // The type written before or shown by a literal; a bare number has none (2.2).

@@ -6,6 +6,7 @@ ghost use Rattle.il_rules.specs.Subset.{AreSupportedVariables, IsSupportedForm};
 ghost use Rattle.il_decl.specs.Images.{writes};
 ghost use Rattle.il_decl.specs.Parts.{AreVariables, forms_in, is_taken_by, with_new};
 
+use crate::fault::DeclareFault;
 use crate::image::writes;
 use crate::names::is_predeclared;
 use il_found::{Found, earlier, fault_if};
@@ -18,10 +19,10 @@ use std::alloc::{AllocError, Global};
 #[derive(Drop)]
 pub struct Variables {
     pub symbols: Table<Symbol>,
-    pub found: Option<Found>,
+    pub found: Option<Found<DeclareFault>>,
 }
 
-/// The variables that a program declares. A name is taken (20) if it is predeclared, the program's, or an earlier variable's
+/// The variables that a program declares. A name is taken if it is predeclared, the program's, or an earlier variable's
 /// (2.4.3).
 pub fn own_variables(alloc: Global, unit: &Unit) -> Result<Variables, AllocError>
     requires { AreSupportedVariables unit.now.variables }
@@ -35,7 +36,11 @@ pub fn own_variables(alloc: Global, unit: &Unit) -> Result<Variables, AllocError
             let name = named.name.as_str();
             found = earlier(
                 found,
-                fault_if(is_taken(unit, &symbols, name), 20, named.place),
+                fault_if(
+                    is_taken(unit, &symbols, name),
+                    DeclareFault::Duplicate,
+                    named.place,
+                ),
             );
             put_new(alloc, &mut symbols, name, scalar)?;
         }

@@ -4,8 +4,7 @@ use Rattle.std.specs.Prelude.{nat_lt, nat_eq}
 use Rattle.std.proofs.lemmas.Bool.Decides.{nat_tests}
 use Rattle.il_spec.specs.declared.tree.Place.{Place}
 use Rattle.il_rules.specs.Faults.{IsNoLater, earlier, same_place}
-use Rattle.il_found.specs.declared.found.Found.{Found}
-use Rattle.il_found.specs.Least.{fault_of, is_before, earlier_of, IsLeast, When, Either, Below}
+use Rattle.il_found.specs.Least.{NumberedFault, fault_of, is_before, earlier_of, IsLeast, When, Either, Below}
 
 -- a fault is no later than itself
 pub no_later-refl : (n : ℕ) (p : Place) → IsNoLater n p n p
@@ -19,7 +18,7 @@ no_later-trans n p m q k r (same_place a d) (earlier b) = earlier (omega arith)
 no_later-trans n p m q k r (same_place a d) (same_place b c) = same_place (a ∙ b) (omega arith)
 
 -- the fault of one rule
-pub least_if : (b : Bool) (number : ℕ) (place : Place) (r : Option Found) (B : Type 0) → r ≡ fault_of b number place → (b ≡ true → B) → (B → b ≡ true) → IsLeast r (When B number place)
+pub least_if : (b : Bool) (number : ℕ) (place : Place) (r : Option NumberedFault) (B : Type 0) → r ≡ fault_of b number place → (b ≡ true → B) → (B → b ≡ true) → IsLeast r (When B number place)
 least_if true number place r B is to from = record {
   none = λ e n p h. let bad : Some (record { number = number; place = place }) ≡ None = sym is ∙ e in cc;
   holds = λ f e. let same : record { number = number; place = place } ≡ f = cc in (to refl, ap (λ x. x.number) (sym same), ap (λ x. x.place) (sym same));
@@ -32,7 +31,7 @@ least_if false number place r B is to from = record {
 }
 
 -- what the test of two faults says
-not_before : (a b : Found) → is_before b a ≡ false → IsNoLater a.number a.place b.number b.place
+not_before : (a b : NumberedFault) → is_before b a ≡ false → IsNoLater a.number a.place b.number b.place
 not_before a b e = by_offset (nat_eq b.place.offset a.place.offset) refl e
   where
     by_offset : (t : Bool) → nat_eq b.place.offset a.place.offset ≡ t → (if t then nat_lt b.number a.number else nat_lt b.place.offset a.place.offset) ≡ false → IsNoLater a.number a.place b.number b.place
@@ -40,7 +39,7 @@ not_before a b e = by_offset (nat_eq b.place.offset a.place.offset) refl e
     by_offset false differs later = earlier (grind (arith, nat_tests))
 
 -- the other fault comes first
-before : (a b : Found) → is_before b a ≡ true → IsNoLater b.number b.place a.number a.place
+before : (a b : NumberedFault) → is_before b a ≡ true → IsNoLater b.number b.place a.number a.place
 before a b e = by_offset (nat_eq b.place.offset a.place.offset) refl e
   where
     by_offset : (t : Bool) → nat_eq b.place.offset a.place.offset ≡ t → (if t then nat_lt b.number a.number else nat_lt b.place.offset a.place.offset) ≡ true → IsNoLater b.number b.place a.number a.place
@@ -48,7 +47,7 @@ before a b e = by_offset (nat_eq b.place.offset a.place.offset) refl e
     by_offset false differs sooner = earlier (grind (arith, nat_tests))
 
 -- one fault that stands for all
-stands : (x : Found) (r : Option Found) (P : ℕ → Place → Type 0) → r ≡ Some x → P x.number x.place → ((n : ℕ) (p : Place) → P n p → IsNoLater x.number x.place n p) → IsLeast r P
+stands : (x : NumberedFault) (r : Option NumberedFault) (P : ℕ → Place → Type 0) → r ≡ Some x → P x.number x.place → ((n : ℕ) (p : Place) → P n p → IsNoLater x.number x.place n p) → IsLeast r P
 stands x r P is here all = record {
   none = λ e n p h. let bad : Some x ≡ None = sym is ∙ e in cc;
   holds = λ f e. let same : x ≡ f = cc in subst (λ g. P g.number g.place) same here;
@@ -56,7 +55,7 @@ stands x r P is here all = record {
 }
 
 -- the first of two kinds
-pub least_both : (P Q : ℕ → Place → Type 0) (a b r : Option Found) → r ≡ earlier_of a b → IsLeast a P → IsLeast b Q → IsLeast r (Either P Q)
+pub least_both : (P Q : ℕ → Place → Type 0) (a b r : Option NumberedFault) → r ≡ earlier_of a b → IsLeast a P → IsLeast b Q → IsLeast r (Either P Q)
 least_both P Q None None r is p q = record {
   none = λ e n o h. elim h [ inl x ↦ p.none refl n o x | inr y ↦ q.none refl n o y ];
   holds = λ f e. let bad : None ≡ Some f = sym is ∙ e in cc;
@@ -75,7 +74,7 @@ abbrev pub Covered : (ℕ → Place → Type 0) → ℕ → Place → Type 0
 Covered P n p = (m : ℕ) × (q : Place) × P m q × IsNoLater m q n p
 
 -- the first of one kind is the first of a wider one, each of which comes no earlier than one of the first kind
-pub least_wider : (P Q : ℕ → Place → Type 0) (r : Option Found) → IsLeast r P → ((n : ℕ) (p : Place) → P n p → Q n p) → ((n : ℕ) (p : Place) → Q n p → Covered P n p) → IsLeast r Q
+pub least_wider : (P Q : ℕ → Place → Type 0) (r : Option NumberedFault) → IsLeast r P → ((n : ℕ) (p : Place) → P n p → Q n p) → ((n : ℕ) (p : Place) → Q n p → Covered P n p) → IsLeast r Q
 least_wider P Q r l up down = record {
   none = λ e n p h. let c = down n p h in l.none e c.0 c.1 c.2;
   holds = λ f e. up f.number f.place (l.holds f e);
@@ -83,7 +82,7 @@ least_wider P Q r l up down = record {
 }
 
 -- the same where both kinds are one
-pub least_same : (P Q : ℕ → Place → Type 0) (r : Option Found) → IsLeast r P → ((n : ℕ) (p : Place) → P n p → Q n p) → ((n : ℕ) (p : Place) → Q n p → P n p) → IsLeast r Q
+pub least_same : (P Q : ℕ → Place → Type 0) (r : Option NumberedFault) → IsLeast r P → ((n : ℕ) (p : Place) → P n p → Q n p) → ((n : ℕ) (p : Place) → Q n p → P n p) → IsLeast r Q
 least_same P Q r l up down = record {
   none = λ e n p h. l.none e n p (down n p h);
   holds = λ f e. up f.number f.place (l.holds f e);
@@ -91,7 +90,7 @@ least_same P Q r l up down = record {
 }
 
 -- no fault, where there is none
-pub least_none : (P : ℕ → Place → Type 0) (r : Option Found) → r ≡ None → ((n : ℕ) (p : Place) → P n p → ⊥) → IsLeast r P
+pub least_none : (P : ℕ → Place → Type 0) (r : Option NumberedFault) → r ≡ None → ((n : ℕ) (p : Place) → P n p → ⊥) → IsLeast r P
 least_none P r is never = record {
   none = λ e. never;
   holds = λ f e. let bad : None ≡ Some f = sym is ∙ e in cc;
@@ -99,7 +98,7 @@ least_none P r is never = record {
 }
 
 -- one item more
-pub least_next : {A : Type 0} (H : ℕ → A → ℕ → Place → Type 0) (items : List A) (i : ℕ) (x : A) (found one r : Option Found) → slice_get items i ≡ Some x → r ≡ earlier_of found one → IsLeast found (Below H items i) → IsLeast one (H i x) → IsLeast r (Below H items (i + 1))
+pub least_next : {A : Type 0} (H : ℕ → A → ℕ → Place → Type 0) (items : List A) (i : ℕ) (x : A) (found one r : Option NumberedFault) → slice_get items i ≡ Some x → r ≡ earlier_of found one → IsLeast found (Below H items i) → IsLeast one (H i x) → IsLeast r (Below H items (i + 1))
 least_next {A = A} H items i x found one r there is before here =
     least_same (Either (Below H items i) (H i x)) (Below H items (i + 1)) r (least_both (Below H items i) (H i x) found one r is before here) up down
   where

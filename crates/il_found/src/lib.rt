@@ -3,4 +3,4 @@
 
 mod found;
 
-pub use found::{Found, earlier, fault_if, refusal};
+pub use found::{Found, PhaseFault, earlier, fault_if, refusal};

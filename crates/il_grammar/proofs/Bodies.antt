@@ -18,7 +18,7 @@ use Rattle.il_grammar.proofs.Leads.{reserved, name, lead, word_lead, the_name_le
 use Rattle.il_grammar.proofs.Instructions.{none, sort_at, instruction_one, instruction_no_label, instruction_no_word}
 
 -- a line end is skipped
-skip_one : (ts m : List Token) → TheLineEnd ts m → skip_line_ends ts ≡ skip_line_ends m
+pub skip_one : (ts m : List Token) → TheLineEnd ts m → skip_line_ends ts ≡ skip_line_ends m
 skip_one [] m p = absurd p
 skip_one (t ∷ ts) m p = rw p.0 (ap skip_line_ends p.1)
 
@@ -32,11 +32,11 @@ module _ (text : List ℕ) where
   label_line_one = before tight label_one line_end_sure
 
   -- a label begins with a name
-  label_lead : (n : Named) (ts r : List Token) → SpellsLabel text n ts r → lead text ts ≡ name
+  pub label_lead : (n : Named) (ts r : List Token) → SpellsLabel text n ts r → lead text ts ≡ name
   label_lead n ts r p = the_name_lead text n ts p.0 p.1
 
   -- what has labels begins with the first
-  first_label : (n : Named) (ns : List Named) (P : Front) (ts r : List Token) → SpellsLabelled text (n ∷ ns) P ts r → (m : List Token) × SpellsLabel text n ts m
+  pub first_label : (n : Named) (ns : List Named) (P : Front) (ts r : List Token) → SpellsLabelled text (n ∷ ns) P ts r → (m : List Token) × SpellsLabel text n ts m
   first_label n [] P ts r p = (p.0, p.1)
   first_label n (o ∷ ns) P ts r p = (p.0, p.1)
 

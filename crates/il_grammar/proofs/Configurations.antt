@@ -88,7 +88,7 @@ module _ (text : List ℕ) where
       (chain loose (the_name_one text) (behind loose (sign_sure Colon) (before loose (the_name_one text) (sign_sure Semicolon)))))))
 
   -- the three sizes of the group are one
-  three_sizes_one : IsDeterministic (λ (x : Size × (Size × Size)).
+  pub three_sizes_one : IsDeterministic (λ (x : Size × (Size × Size)).
       TheWord text word.VarGlobal ⋯ TheWord text word.Constant ⋯ SpellsSize text (codes "CARS") x.0 ⋯ SpellsSize text (codes "FLOORS") x.1.0
       ⋯ SpellsSize text (codes "SLOTS") x.1.1 ⋯ TheWord text word.EndVar)
   three_sizes_one =
@@ -100,15 +100,15 @@ module _ (text : List ℕ) where
   sizes_one = record { only = λ a b ts r s p q. three_sizes_one.only (a.cars, (a.floors, a.slots)) (b.cars, (b.floors, b.slots)) ts r s p q }
 
   -- a program line begins with its word
-  program_line_lead : (l : ProgramLine) (ts r : List Token) → SpellsProgramLine text l ts r → lead text ts ≡ reserved word.Program
+  pub program_line_lead : (l : ProgramLine) (ts r : List Token) → SpellsProgramLine text l ts r → lead text ts ≡ reserved word.Program
   program_line_lead l ts r p = word_lead text word.Program ts p.0 (at_holds text (TheWord text word.Program) l.place ts p.0 p.1)
 
   -- a task begins with its word
-  task_lead : (t : Task) (ts r : List Token) → SpellsTask text t ts r → lead text ts ≡ reserved word.Task
+  pub task_lead : (t : Task) (ts r : List Token) → SpellsTask text t ts r → lead text ts ≡ reserved word.Task
   task_lead t ts r p = word_lead text word.Task ts p.0 (at_holds text (TheWord text word.Task) t.place ts p.0 p.1)
 
   -- the end of a resource begins with its word
-  end_lead : (place : Place) (ts r : List Token) → At place (TheWord text word.EndResource) ts r → lead text ts ≡ reserved word.EndResource
+  pub end_lead : (place : Place) (ts r : List Token) → At place (TheWord text word.EndResource) ts r → lead text ts ≡ reserved word.EndResource
   end_lead place ts r p = word_lead text word.EndResource ts r (at_holds text (TheWord text word.EndResource) place ts r p)
 
   -- the program lines of a resource and its end

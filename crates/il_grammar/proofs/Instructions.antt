@@ -38,7 +38,7 @@ sort_at name = invokes
 sort_at _ = none
 
 -- the sort of an instruction
-abbrev sort_of : Instruction → Sort
+abbrev pub sort_of : Instruction → Sort
 sort_of (instruction.Load negated operand) = loads
 sort_of (instruction.Store store target) = stores
 sort_of instruction.Not = negates
@@ -52,12 +52,12 @@ sort_of (instruction.Invoke function operands) = invokes
 
 module _ (text : List ℕ) where
   -- an operator begins an operation
-  operator_sort : (o : Operator) (ts r : List Token) → SpellsOperator text o ts r → sort_at (lead text ts) ≡ operates
+  pub operator_sort : (o : Operator) (ts r : List Token) → SpellsOperator text o ts r → sort_at (lead text ts) ≡ operates
   operator_sort o ts r (inl p) = ap sort_at (word_lead text (word.Operate o) ts r p)
   operator_sort o ts r (inr p) = ap sort_at (shortly_lead text o ts r p)
 
   -- the first token tells the sort of an instruction
-  instruction_sort : (i : Instruction) (ts r : List Token) → SpellsInstruction text i ts r → sort_at (lead text ts) ≡ sort_of i
+  pub instruction_sort : (i : Instruction) (ts r : List Token) → SpellsInstruction text i ts r → sort_at (lead text ts) ≡ sort_of i
   instruction_sort (instruction.Load negated operand) ts r p = ap sort_at (word_lead text (word.Load negated) ts p.0 p.1)
   instruction_sort (instruction.Store store target) ts r p = ap sort_at (word_lead text (word.Store store) ts p.0 p.1)
   instruction_sort instruction.Not ts r p = ap sort_at (word_lead text word.Not ts p.0 p.1)

@@ -1,6 +1,6 @@
 -- The slots of the subset's program are its names.
-use Rattle.std.proofs.Common.{◌≡◌, ◌≢◌, ℕ, zero, suc, ◌+◌, ◌<◌, Bool, true, false, List, [], ◌∷◌, ◌++◌, map, length, ◌≤◌, refl, sym, ap, ◌∙◌, subst, arith, Some, None, slice_get}
-use Rattle.std.specs.Prelude.{Contains, nat_lt, fold, IsTrue, sum_by, if◌then◌else◌, bytes_eq, find, Option, option_and_then}
+use Rattle.std.proofs.Common.{◌≡◌, ℕ, zero, suc, ◌+◌, ◌<◌, Bool, true, false, List, [], ◌∷◌, ◌++◌, map, length, ◌≤◌, refl, sym, ap, ◌∙◌, subst, arith, Some, None, slice_get}
+use Rattle.std.specs.Prelude.{Contains, nat_lt, fold, sum_by, if◌then◌else◌, bytes_eq, find, Option, option_and_then}
 use Rattle.std.proofs.lemmas.Bool.{ltb-true, ltb-false}
 use Rattle.std.proofs.lemmas.Slice.Eq.{bytes_eq-Decides}
 use Rattle.il_spec.specs.declared.tree.Config.{Config}

@@ -1,2 +1,3 @@
 pub mod Counted
 pub mod InOrder
+pub mod OrderFaults

@@ -2,6 +2,7 @@
 #![tactic(auto)]
 
 mod checked;
+mod fault;
 
 ghost use Rattle.std.specs.Prelude.{◌≡◌, ◌≢◌, IfOk, IfErr, nat_lt};
 ghost use Rattle.il_spec.specs.declared.fault.Refusal.TheVariants.{Memory};
@@ -10,15 +11,14 @@ ghost use Rattle.il_types.specs.WellTyped.{IsTyped};
 ghost use Rattle.il_order.specs.Counted.{count_names};
 
 pub use checked::Ordered;
+pub use fault::OrderFault;
+use il_found::{Found, refusal};
 use il_spec::fault::Refusal;
 use il_spec::tree::{Config, Declaration};
 use il_types::Typed;
 
 /// The most slots of a task (own rule).
 const SLOTS: usize = 4096;
-
-/// The fault of a task with too many slots.
-const TOO_MANY: u16 = 12;
 
 /// Checks the order of units and the limit of slots: 12, at the task's PROGRAM line, where the program has more than 4096 slots.
 /// No unit of the subset uses another, so none is recursive (36), and no chain of uses is too long (46).
@@ -46,10 +46,7 @@ fn check_slots(config: &Config) -> Result<(), Refusal>
         unreachable!()
     };
     if has_more(unit.variables.as_slice()) {
-        return Err(Refusal::Fault {
-            number: TOO_MANY,
-            line: line.place.line,
-        });
+        return Err(refusal(Found::of(OrderFault::TooManySlots, line.place)));
     }
     Ok(())
 }

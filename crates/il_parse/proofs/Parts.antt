@@ -1,49 +1,232 @@
--- What is supported, each value of a list by itself.
-use Rattle.std.proofs.Common.{◌≡◌, List, [], ◌∷◌}
-use Rattle.std.specs.List.{AllByRecursion}
+-- Each part of a configuration is one, and a configuration is its parts.
+use Rattle.std.proofs.Common.{◌≡◌, ℕ, ◌≤◌, Bool, true, false, List, [], ◌∷◌, ◌++◌, length, length-append, arith, Option, Some, None, refl}
+use Rattle.std.specs.Prelude.{IsFalse}
+use Rattle.std.specs.List.{All}
+use Rattle.std.proofs.lemmas.List.Elements.{All-nil, All-cons, All-head, All-tail}
+use Rattle.il_spec.specs.declared.token.Token.{Token}
+use Rattle.il_spec.specs.declared.keyword.Keyword.TheVariants as word
+use Rattle.il_spec.specs.declared.tree.Place.{Place}
 use Rattle.il_spec.specs.declared.tree.Declaration.{Declaration}
-use Rattle.il_spec.specs.declared.tree.Operand.{Operand}
-use Rattle.il_spec.specs.declared.tree.Step.{Step}
-use Rattle.il_rules.specs.Subset.{IsSupportedOperand, AreSupportedOperands, IsSupportedInstruction, AreSupportedSteps, IsSupportedForm, IsSupportedInitial, AreSupportedVariables}
+use Rattle.il_spec.specs.declared.tree.UnitKind.{UnitKind}
+use Rattle.il_spec.specs.declared.tree.UnitKind.TheVariants as unit
+use Rattle.il_spec.specs.declared.tree.Unit.{Unit as ProgramUnit}
+use Rattle.il_spec.specs.declared.tree.Size.{Size}
+use Rattle.il_spec.specs.declared.tree.Task.{Task}
+use Rattle.il_spec.specs.declared.tree.ProgramLine.{ProgramLine}
+use Rattle.il_spec.specs.declared.tree.Config.{Config}
+use Rattle.il_spec.specs.Grammar.{Front, tight, loose, skip_line_ends, ◌⨾◌, ◌⋯◌, At, No, Repeats, TheEnd, TheWord, SomeName, SpellsDeclaration, SpellsUnit, SpellsGlobals, SpellsTask, SpellsProgramLine, SpellsSizes, SpellsResource, SpellsConfig, unit_word, greatest_depth}
+use Rattle.il_grammar.specs.One.{IsDeterministic, AreApart}
+use Rattle.il_grammar.proofs.Combinators.{chain, behind, through, no_one, place_of, repeats_until}
+use Rattle.il_grammar.proofs.Leads.{reserved, lead, word_lead, at_holds, word_sure}
+use Rattle.il_grammar.proofs.Units.{unit_lead}
+use Rattle.il_grammar.proofs.Configurations.{some_name_sure, task_one, program_line_one, program_line_lead, end_lead}
+use Rattle.il_read.specs.Reads.{IsFault, Reads, Refuses}
+use Rattle.il_read.specs.Settings.{PlacedWord}
+use Rattle.il_read.specs.declared.stop.Stop.{Stop}
+use Rattle.il_body.specs.Units.{SpellsSmallUnit}
+use Rattle.il_body.proofs.OneUnit.{small_unit_one}
+use Rattle.il_parse.specs.Refused.{IsSmall}
+use Rattle.il_parse.specs.Parts.{SpellsFewUnits, SpellsGlobalList, SpellsSomeGlobals, SpellsTasks, SpellsPrograms, SpellsLines, SpellsResourceOf, SpellsGroup, SpellsSmallConfig}
+use Rattle.il_parse.proofs.Repeated.{end_apart, end_joined, stop_apart, stop_joined}
 
--- one operand
-abbrev pub IsSupportedArgument : Operand → Type 0
-IsSupportedArgument o = IsSupportedOperand o.reference
+-- the sizes, the globals and the lines of a configuration
+abbrev Group : Type 0
+Group = (Size × (Size × Size)) × (Option Place × List Declaration) × (List Task × List ProgramLine × Place)
 
--- one instruction, without labels
-abbrev pub IsSupportedStep : Step → Type 0
-IsSupportedStep s = (s.labels ≡ []) × IsSupportedInstruction s.instruction
+-- a configuration of its parts
+abbrev config : List ProgramUnit → Group → Config
+config us g = record {
+  units = us;
+  cars = g.0.0;
+  floors = g.0.1.0;
+  slots = g.0.1.1;
+  globals_place = g.1.0;
+  globals = g.1.1;
+  tasks = g.2.0;
+  programs = g.2.1;
+  end_resource = g.2.2;
+}
 
--- one declaration
-abbrev pub IsSupportedDeclaration : Declaration → Type 0
-IsSupportedDeclaration d = IsSupportedForm d.declared.form × IsSupportedInitial d.initial
+-- the parts of a configuration
+abbrev group : Config → Group
+group c = ((c.cars, (c.floors, c.slots)), (c.globals_place, c.globals), (c.tasks, c.programs, c.end_resource))
 
--- supported operands are supported each
-pub each_operand : (os : List Operand) → AreSupportedOperands os → AllByRecursion IsSupportedArgument os
-each_operand [] h = tt
-each_operand (o ∷ os) h = (h.0, each_operand os h.1)
+-- there is room for one more
+pub few_more : (full : Bool) (xs : List ProgramUnit) (x : ProgramUnit) → full ≡ false → (IsFalse full → length xs ≡ 64 → ⊥) → length xs ≤ 64 → length (xs ++ x ∷ []) ≤ 64
+few_more true xs x e not_all few = absurd cc
+few_more false xs x e not_all few = omega (arith, length-append xs (x ∷ []), few, not_all refl)
 
--- and together
-pub all_operands : (os : List Operand) → AllByRecursion IsSupportedArgument os → AreSupportedOperands os
-all_operands [] h = tt
-all_operands (o ∷ os) h = (h.0, all_operands os h.1)
+module _ (text : List ℕ) where
+  -- no TASK line stands where the tasks end
+  tasks_apart : AreApart (SpellsTask text) (λ (u : Unit {0}). No (TheWord text word.Task))
+  tasks_apart = record { never = λ t u ts r s p q. q.1 p.0 (at_holds text (TheWord text word.Task) t.place ts p.0 p.1) }
 
--- supported instructions are supported each
-pub each_step : (ss : List Step) → AreSupportedSteps ss → AllByRecursion IsSupportedStep ss
-each_step [] h = tt
-each_step (s ∷ ss) h = ((h.0, h.1), each_step ss h.2)
+  pub tasks_one : IsDeterministic (SpellsTasks text)
+  tasks_one = repeats_until (task_one text) (no_one _) tasks_apart
 
--- and together
-pub all_steps : (ss : List Step) → AllByRecursion IsSupportedStep ss → AreSupportedSteps ss
-all_steps [] h = tt
-all_steps (s ∷ ss) h = (h.0.0, h.0.1, all_steps ss h.1)
+  -- no PROGRAM line stands where the programs end
+  programs_apart : AreApart (SpellsProgramLine text) (λ (u : Unit {0}). No (TheWord text word.Program))
+  programs_apart = record { never = λ l u ts r s p q. q.1 p.0 (at_holds text (TheWord text word.Program) l.place ts p.0 p.1) }
 
--- supported declarations are supported each
-pub each_declaration : (ds : List Declaration) → AreSupportedVariables ds → AllByRecursion IsSupportedDeclaration ds
-each_declaration [] h = tt
-each_declaration (d ∷ ds) h = ((h.0, h.1), each_declaration ds h.2)
+  pub programs_one : IsDeterministic (SpellsPrograms text)
+  programs_one = repeats_until (program_line_one text) (no_one _) programs_apart
 
--- and together
-pub all_declarations : (ds : List Declaration) → AllByRecursion IsSupportedDeclaration ds → AreSupportedVariables ds
-all_declarations [] h = tt
-all_declarations (d ∷ ds) h = (h.0.0, h.0.1, all_declarations ds h.1)
+  -- the lines of a resource are one
+  lines_one : IsDeterministic (SpellsLines text)
+  lines_one =
+      through (λ x. (x.0, (x.1, x.2))) (λ a b e i. ((e i).0, (e i).1.0, (e i).1.1))
+      (chain tight tasks_one (chain tight programs_one (place_of (word_sure text word.EndResource))))
+
+  -- a resource is one
+  pub resource_of_one : IsDeterministic (SpellsResourceOf text)
+  resource_of_one =
+      behind loose (word_sure text word.Resource) (behind loose (some_name_sure text) (behind loose (word_sure text word.On) (behind loose (some_name_sure text) lines_one)))
+
+  -- no unit begins with CONFIGURATION
+  kind_no_configuration : (k : UnitKind) (ts : List Token) → lead text ts ≡ reserved (unit_word k) → lead text ts ≡ reserved word.Configuration → ⊥
+  kind_no_configuration (unit.Function s p) ts a b = cc
+  kind_no_configuration unit.FunctionBlock ts a b = cc
+  kind_no_configuration unit.Program ts a b = cc
+
+  units_apart : AreApart (SpellsSmallUnit text) (λ (u : Unit {0}). TheWord text word.Configuration)
+  units_apart = record { never = λ u v ts r s p q. kind_no_configuration u.kind ts (unit_lead text u ts r p.0) (word_lead text word.Configuration ts s q) }
+
+  -- the units of a text are one
+  pub few_units_one : IsDeterministic (SpellsFewUnits text)
+  few_units_one = record { only = λ a b ts r s p q. (repeats_until (small_unit_one text) (word_sure text word.Configuration) units_apart).only a b ts r s p.0 q.0 }
+
+  -- a list of globals at its place
+  list_placed : (p : Place) (Q : Front) (ts r : List Token) → (PlacedWord text word.VarGlobal p ⋯ Q) ts r → At p (TheWord text word.VarGlobal ⋯ Q) ts r
+  list_placed p Q [] r w = absurd w.1
+  list_placed p Q (t ∷ ts) r w = (w.1.0, w.1.1, (w.0, w.1.2, w.2))
+
+  word_placed : (p : Place) (Q : Front) (ts r : List Token) → At p (TheWord text word.VarGlobal ⋯ Q) ts r → (PlacedWord text word.VarGlobal p ⋯ Q) ts r
+  word_placed p Q [] r w = absurd w
+  word_placed p Q (t ∷ ts) r w = (w.2.0, (w.0, w.1, w.2.1), w.2.2)
+
+  -- globals
+  pub no_globals : (ts : List Token) → ((m : List Token) → TheWord text word.VarGlobal (skip_line_ends ts) m → ⊥) → Reads (SpellsSomeGlobals text) ts (None, []) ts
+  no_globals ts none = record { found = (refl, (refl, none)) }
+
+  pub globals_read : (ts r : List Token) (p : Place) (ds : List Declaration) → Reads (SpellsGlobalList text) ts (p, ds) r → Reads (SpellsSomeGlobals text) ts (Some p, ds) r
+  globals_read ts r p ds here = record { found = list_placed p (Repeats (SpellsDeclaration text) ds (TheWord text word.EndVar)) (skip_line_ends ts) r here.found }
+
+  pub globals_refused : (ts m : List Token) (e : Stop) → TheWord text word.VarGlobal (skip_line_ends ts) m → Refuses (SpellsGlobalList text) ts e → Refuses (SpellsSomeGlobals text) ts e
+  globals_refused ts m e there bad = record { never = λ is x r w. go is x.0 x.1 r w }
+    where
+      go : IsFault e → (o : Option Place) (ds : List Declaration) (r : List Token) → SpellsGlobals text o ds ts r → ⊥
+      go is None ds r w = w.1.1 m there
+      go is (Some p) ds r w = bad.never is (p, ds) r (word_placed p (Repeats (SpellsDeclaration text) ds (TheWord text word.EndVar)) (skip_line_ends ts) r w)
+
+  -- what the program lines begin with is no TASK
+  program_no_task : (ls : List ProgramLine) (p : Place) (ts r s : List Token) → Repeats (SpellsProgramLine text) ls (At p (TheWord text word.EndResource)) ts r → TheWord text word.Task ts s → ⊥
+  program_no_task [] p ts r s w t =
+      let a = end_lead text p ts r w in
+      let b = word_lead text word.Task ts s t in
+      cc
+  program_no_task (l ∷ ls) p ts r s w t =
+      let a = program_line_lead text l ts w.0 w.1 in
+      let b = word_lead text word.Task ts s t in
+      cc
+
+  end_no_program : (p : Place) (ts r s : List Token) → At p (TheWord text word.EndResource) ts r → TheWord text word.Program ts s → ⊥
+  end_no_program p ts r s w t =
+      let a = end_lead text p ts r w in
+      let b = word_lead text word.Program ts s t in
+      cc
+
+  -- the end of a resource
+  abbrev Closing : Place → Front
+  Closing p = At p (TheWord text word.EndResource)
+
+  -- a resource is its lines
+  to_resource : (c : Config) (ts r : List Token) → SpellsResource text c ts r → SpellsResourceOf text (c.tasks, c.programs, c.end_resource) ts r
+  to_resource c ts r w =
+      let name = w.2 in
+      let on = name.2 in
+      let other = on.2 in
+      let t = stop_apart (SpellsTask text) (TheWord text word.Task) (Repeats (SpellsProgramLine text) c.programs (Closing c.end_resource)) (program_no_task c.programs c.end_resource) c.tasks (skip_line_ends other.0) r other.2 in
+      let p = stop_apart (SpellsProgramLine text) (TheWord text word.Program) (Closing c.end_resource) (end_no_program c.end_resource) c.programs t.0 r t.2 in
+      (w.0, w.1, (name.0, name.1, (on.0, on.1, (other.0, other.1, (t.0, t.1, p)))))
+
+  from_resource : (c : Config) (ts r : List Token) → SpellsResourceOf text (c.tasks, c.programs, c.end_resource) ts r → SpellsResource text c ts r
+  from_resource c ts r w =
+      let name = w.2 in
+      let on = name.2 in
+      let other = on.2 in
+      let lines = other.2 in
+      let p = stop_joined (SpellsProgramLine text) (TheWord text word.Program) (Closing c.end_resource) c.programs lines.0 r lines.2 in
+      let t = stop_joined (SpellsTask text) (TheWord text word.Task) (Repeats (SpellsProgramLine text) c.programs (Closing c.end_resource)) c.tasks (skip_line_ends other.0) r (lines.0, lines.1, p) in
+      (w.0, w.1, (name.0, name.1, (on.0, on.1, (other.0, other.1, t))))
+
+  -- what stands behind CONFIGURATION
+  abbrev Behind : Config → Front
+  Behind c = SomeName text ⋯ SpellsSizes text c ⨾ SpellsGlobals text c.globals_place c.globals ⋯ SpellsResource text c ⋯ TheWord text word.EndConfiguration ⋯ TheEnd
+
+  to_group : (c : Config) (ts r : List Token) → Behind c ts r → SpellsGroup text (group c) ts r
+  to_group c ts r w =
+      let sizes = w.2 in
+      let globals = sizes.2 in
+      let rest = globals.2 in
+      (w.0, w.1, (sizes.0, sizes.1, (globals.0, globals.1, (rest.0, to_resource c (skip_line_ends globals.0) rest.0 rest.1, rest.2))))
+
+  from_group : (c : Config) (ts r : List Token) → SpellsGroup text (group c) ts r → Behind c ts r
+  from_group c ts r w =
+      let sizes = w.2 in
+      let globals = sizes.2 in
+      let rest = globals.2 in
+      (w.0, w.1, (sizes.0, sizes.1, (globals.0, globals.1, (rest.0, from_resource c (skip_line_ends globals.0) rest.0 rest.1, rest.2))))
+
+  -- how many instructions a unit has
+  abbrev IsShort : ProgramUnit → Type 0
+  IsShort u = length u.body.steps ≤ 4096
+
+  -- how deep its parentheses are
+  abbrev IsShallow : ProgramUnit → Type 0
+  IsShallow u = greatest_depth 0 u.body.steps ≤ 16
+
+  -- units within the limits
+  to_small : (E : Front) (us : List ProgramUnit) (ts r : List Token) → All IsShort us → All IsShallow us → Repeats (SpellsUnit text) us E ts r → Repeats (SpellsSmallUnit text) us E ts r
+  to_small E [] ts r short shallow w = w
+  to_small E (u ∷ us) ts r short shallow w =
+      (w.0, (w.1, (All-head IsShort u us short, All-head IsShallow u us shallow)), to_small E us (skip_line_ends w.0) r (All-tail IsShort u us short) (All-tail IsShallow u us shallow) w.2)
+
+  from_small : (E : Front) (us : List ProgramUnit) (ts r : List Token) → Repeats (SpellsSmallUnit text) us E ts r → Repeats (SpellsUnit text) us E ts r
+  from_small E [] ts r w = w
+  from_small E (u ∷ us) ts r w = (w.0, w.1.0, from_small E us (skip_line_ends w.0) r w.2)
+
+  are_short : (E : Front) (us : List ProgramUnit) (ts r : List Token) → Repeats (SpellsSmallUnit text) us E ts r → All IsShort us
+  are_short E [] ts r w = All-nil IsShort
+  are_short E (u ∷ us) ts r w = All-cons IsShort u us w.1.1.0 (are_short E us (skip_line_ends w.0) r w.2)
+
+  are_shallow : (E : Front) (us : List ProgramUnit) (ts r : List Token) → Repeats (SpellsSmallUnit text) us E ts r → All IsShallow us
+  are_shallow E [] ts r w = All-nil IsShallow
+  are_shallow E (u ∷ us) ts r w = All-cons IsShallow u us w.1.1.1 (are_shallow E us (skip_line_ends w.0) r w.2)
+
+  -- a configuration as its units and what stands behind CONFIGURATION
+  abbrev pub SpellsWhole : List ProgramUnit × Group → Front
+  SpellsWhole x = SpellsFewUnits text x.0 ⋯ SpellsGroup text x.1
+
+  to_whole : (c : Config) (ts r : List Token) → SpellsConfig text c ts r → IsSmall c → SpellsWhole (c.units, group c) ts r
+  to_whole c ts r w small =
+      let split = end_apart (SpellsUnit text) (TheWord text word.Configuration) (Behind c) c.units ts r w in
+      (split.0, (to_small (TheWord text word.Configuration) c.units ts split.0 small.instructions small.nesting split.1, small.units), to_group c (skip_line_ends split.0) r split.2)
+
+  pub config_refused : (ts : List Token) (e : Stop) → Refuses SpellsWhole (skip_line_ends ts) e → Refuses (SpellsSmallConfig text) ts e
+  config_refused ts e bad = record { never = λ is c r w. bad.never is (c.units, group c) r (to_whole c (skip_line_ends ts) r w.0 w.1) }
+
+  pub config_read : (ts r : List Token) (us : List ProgramUnit) (g : Group) → Reads SpellsWhole (skip_line_ends ts) (us, g) r → Reads (SpellsSmallConfig text) ts (config us g) r
+  config_read ts r us g here =
+      let w = here.found in
+      let c = config us g in
+      record {
+        found = (
+          end_joined (SpellsUnit text) (TheWord text word.Configuration) (Behind c) us (skip_line_ends ts) r
+              (w.0, from_small (TheWord text word.Configuration) us (skip_line_ends ts) w.0 w.1.0, from_group c (skip_line_ends w.0) r w.2),
+          record {
+            units = w.1.1;
+            instructions = are_short (TheWord text word.Configuration) us (skip_line_ends ts) w.0 w.1.0;
+            nesting = are_shallow (TheWord text word.Configuration) us (skip_line_ends ts) w.0 w.1.0;
+          },
+        );
+      }

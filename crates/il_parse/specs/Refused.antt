@@ -1,20 +1,17 @@
 -- Which answer refuses a text, and the limits of a tree.
-use Rattle.std.specs.Prelude.{◌≡◌, ℕ, ◌≤◌, ◌⊎◌, Result, Ok, Err, All, length}
+use Rattle.std.specs.Prelude.{◌≤◌, Result, Ok, Err, All, length}
 use Rattle.il_spec.specs.declared.fault.Refusal.{Refusal}
 use Rattle.il_spec.specs.declared.fault.Refusal.TheVariants as refusal
 use Rattle.il_spec.specs.declared.tree.Unit.{Unit as ProgramUnit}
 use Rattle.il_spec.specs.declared.tree.Config.{Config}
 use Rattle.il_spec.specs.Grammar.{greatest_depth}
+use Rattle.il_read.specs.Reads.{IsNumberOfParser}
 
 -- a fault, and not out of memory
 abbrev pub IsFault : {A : Type 0} → Result A Refusal → Type 0
 IsFault (Ok x) = ⊥
 IsFault (Err (refusal.Fault number line)) = Unit {0}
 IsFault (Err refusal.Memory) = ⊥
-
--- the numbers of faults that a parser names: 10, a token with which no text goes on, 11, too many open parentheses, and 12, too many instructions or units
-abbrev pub IsNumberOfParser : ℕ → Type 0
-IsNumberOfParser number = (number ≡ 10) ⊎ (number ≡ 11) ⊎ (number ≡ 12)
 
 -- a fault of the parser, or out of memory
 abbrev pub IsOfParser : Refusal → Type 0

@@ -1,13 +1,13 @@
 -- Copying all entries of a map over those of another.
 use Rattle.std.proofs.Common.{◌≡◌, Bool, true, false, List, [], ◌∷◌, refl, sym, ap, ◌∙◌, cond, Some, None, Option, subst}
 use Rattle.std.specs.Prelude.{String, is_some, map}
-use Rattle.std.specs.List.{AllByRecursion}
+use Rattle.std.specs.List.{AllByRecursion, IsDistinct}
 use Rattle.std.specs.declared.cmp.Ordering.{Ordering}
 use Rattle.std.specs.declared.cmp.Ordering.TheVariants.{Less, Equal, Greater}
-use Rattle.std.specs.List.Sorted.{IsStrictlySortedBy}
 use Rattle.std.proofs.lemmas.Map.Lookups.{exact_bytes}
 use Rattle.il_rules.specs.Names.{or_else}
-use Rattle.std.specs.String.{string_bytes, string_cmp}
+use Rattle.std.specs.String.{string_bytes, string_eq}
+use Rattle.std.proofs.lemmas.Map.Text.{is_eq-slice_cmp}
 use Rattle.std.specs.Ordering.{eq_by_cmp, is_eq}
 use Rattle.std.specs.Cmp.{eq_by_cmp_equiv}
 use Rattle.std.specs.Cmp.Lexicographic.{nat_list_cmp_total}
@@ -61,18 +61,20 @@ same_text q k h = exact_bytes q k (is_eq_true (order q k) h)
 
 -- Writing all entries --
 
--- a key that stands before all others is not among them
-absent : {A X : Type 0} (es : List (String A × X)) (k : String A) → AllByRecursion (λ y. string_cmp k y ≡ Less) (map (λ e. e.0) es) → get (by_text es) (string_bytes k) ≡ None
+-- a key that differs from all others is not among them
+absent : {A X : Type 0} (es : List (String A × X)) (k : String A) → AllByRecursion (λ y. string_eq k y ≡ false) (map (λ e. e.0) es) → get (by_text es) (string_bytes k) ≡ None
 absent [] k h = get-empty (string_bytes k)
 absent (e ∷ es) k h =
-    get-insert (by_text es) (string_bytes e.0) e.1 (string_bytes k) ∙ ap (λ r. cond (is_eq r) (Some e.1) (get (by_text es) (string_bytes k))) h.0 ∙ absent es k h.1
+    get-insert (by_text es) (string_bytes e.0) e.1 (string_bytes k)
+    ∙ ap (λ b. cond b (Some e.1) (get (by_text es) (string_bytes k))) (is_eq-slice_cmp (string_bytes k) (string_bytes e.0) ∙ h.0)
+    ∙ absent es k h.1
 
 or_else_put : {X : Type 0} (b : Bool) (v : X) (o p : Option X) → (b ≡ true → o ≡ None) → or_else o (cond b (Some v) p) ≡ or_else (cond b (Some v) o) p
 or_else_put true v o p h = ap (λ x. or_else x (Some v)) (h refl)
 or_else_put false v o p h = refl
 
-get-put_all : {A X : Type 0} (m : NameMap X) (es : List (String A × X)) (q : Text) → IsStrictlySortedBy string_cmp (map (λ e. e.0) es) → get (put_all m es) q ≡ or_else (get (by_text es) q) (get m q)
-unfolding IsStrictlySortedBy
+get-put_all : {A X : Type 0} (m : NameMap X) (es : List (String A × X)) (q : Text) → IsDistinct string_eq (map (λ e. e.0) es) → get (put_all m es) q ≡ or_else (get (by_text es) q) (get m q)
+unfolding IsDistinct
 get-put_all m [] q h = ap (λ o. or_else o (get m q)) (sym (get-empty q))
 get-put_all m (e ∷ es) q h =
     get-put_all (insert m (string_bytes e.0) e.1) es q h.1
@@ -86,7 +88,7 @@ or_else_same None None h = refl
 or_else_same None (Some y) h = cc
 
 -- over a map with the same paths, writing all entries gives their map
-pub put_all-same : {A X : Type 0} (m : NameMap X) (es : List (String A × X)) → IsStrictlySortedBy string_cmp (map (λ e. e.0) es) → HaveSameNames m (by_text es) → put_all m es ≡ by_text es
+pub put_all-same : {A X : Type 0} (m : NameMap X) (es : List (String A × X)) → IsDistinct string_eq (map (λ e. e.0) es) → HaveSameNames m (by_text es) → put_all m es ≡ by_text es
 put_all-same m es h same = same_map _ _ (λ q. get-put_all m es q h ∙ or_else_same (get (by_text es) q) (get m q) (same q))
 
 or_else_none : {X : Type 0} (o : Option X) → or_else o None ≡ o
@@ -94,7 +96,7 @@ or_else_none (Some x) = refl
 or_else_none None = refl
 
 -- over no map, writing all entries gives their map
-pub put_all-new : {A X : Type 0} (es : List (String A × X)) → IsStrictlySortedBy string_cmp (map (λ e. e.0) es) → put_all empty es ≡ by_text es
+pub put_all-new : {A X : Type 0} (es : List (String A × X)) → IsDistinct string_eq (map (λ e. e.0) es) → put_all empty es ≡ by_text es
 put_all-new es h = same_map _ _ (λ q. get-put_all empty es q h ∙ ap (λ o. or_else (get (by_text es) q) o) (get-empty q) ∙ or_else_none (get (by_text es) q))
 
 -- a write at a path that is there keeps the paths

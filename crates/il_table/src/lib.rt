@@ -6,13 +6,13 @@ ghost use Rattle.il_run.specs.NameMap as map;
 ghost use Rattle.il_table.specs.ByText.{HaveSameNames, by_text};
 
 use std::alloc::{AllocError, Global};
-use std::collections::BTreeMap;
+use std::collections::HashMap;
 use std::marker::Model;
 
 /// A table: an entry for each of some names, as `V`. Contracts see the finite map.
 #[derive(Drop)]
 pub struct Table<X: Copy> {
-    map: BTreeMap<String, X>,
+    map: HashMap<String, X>,
 }
 
 impl<X: Copy> Model for Table<X> {
@@ -32,7 +32,7 @@ impl<X: Copy> Table<X> {
         ensures { result ≡ map.empty }
     {
         Table {
-            map: BTreeMap::new(alloc),
+            map: HashMap::new(alloc),
         }
     }
 
@@ -79,22 +79,22 @@ impl<X: Copy> Table<X> {
     }
 }
 
-// Writes all entries of a tree with the same names.
-fn put_all<X: Copy>(table: &mut Table<X>, tree: &BTreeMap<String, X>)
-    requires { HaveSameNames table.old (by_text tree.now.entries) }
-    ensures { table.new ≡ by_text tree.now.entries }
+// Writes all entries of a map with the same names.
+fn put_all<X: Copy>(table: &mut Table<X>, entries: &HashMap<String, X>)
+    requires { HaveSameNames table.old (by_text entries.now.entries) }
+    ensures { table.new ≡ by_text entries.now.entries }
 {
-    for (name, entry) in tree.iter() {
+    for (name, entry) in entries.iter() {
         table.set(name.as_str(), *entry);
     }
 }
 
-// The entries of a tree.
-fn copy_of<X: Copy>(alloc: Global, tree: &BTreeMap<String, X>) -> Result<Table<X>, AllocError>
-    ensures { IfOk result (λ t. t ≡ by_text tree.now.entries) }
+// The entries of a map.
+fn copy_of<X: Copy>(alloc: Global, entries: &HashMap<String, X>) -> Result<Table<X>, AllocError>
+    ensures { IfOk result (λ t. t ≡ by_text entries.now.entries) }
 {
     let mut table = Table::new(alloc);
-    for (name, entry) in tree.iter() {
+    for (name, entry) in entries.iter() {
         table.put(alloc, name.as_str(), *entry)?;
     }
     Ok(table)

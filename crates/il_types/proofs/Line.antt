@@ -9,8 +9,7 @@ use Rattle.il_rules.specs.declared.symbol.Symbol.{Symbol}
 use Rattle.il_rules.specs.Subset.{AreSupportedSteps}
 use Rattle.il_rules.specs.Straight.{type_line}
 use Rattle.il_run.specs.NameMap.{NameMap}
-use Rattle.il_found.specs.declared.found.Found.{Found}
-use Rattle.il_found.specs.Least.{IsLeast, When}
+use Rattle.il_found.specs.Least.{NumberedFault, IsLeast, When}
 use Rattle.il_found.proofs.Least.{least_if, least_none, least_same}
 use Rattle.il_types.specs.Lowest.{left_of}
 use Rattle.il_types.specs.Typing.{line_of, fault_at}
@@ -35,7 +34,7 @@ line_typed config unit symbols means (s ∷ steps) c (suc at) before =
     ap (λ b. type_line config unit (take at steps) b) (instruction_typed config unit symbols means s.instruction c.1 before) ∙ line_typed config unit symbols means steps c.2 at (left_of symbols s.instruction before)
 
 -- the fault of one number at one place
-pub least_at : (number : Option ℕ) (place : Place) (r : Option Found) → r ≡ fault_at number place → IsLeast r (λ n p. (number ≡ Some n) × (p ≡ place))
+pub least_at : (number : Option ℕ) (place : Place) (r : Option NumberedFault) → r ≡ fault_at number place → IsLeast r (λ n p. (number ≡ Some n) × (p ≡ place))
 least_at None place r is = least_none _ r is (λ n p h. let bad : None ≡ Some n = h.0 in cc)
 least_at (Some k) place r is =
     least_same (When (Unit {0}) k place) (λ n p. (Some k ≡ Some n) × (p ≡ place)) r (least_if true k place r (Unit {0}) is (λ e. tt) (λ u. refl))

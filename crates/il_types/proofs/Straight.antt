@@ -21,8 +21,7 @@ use Rattle.il_rules.proofs.Straight.{step_supported, only_unit, among_units, no_
 use Rattle.il_run.specs.NameMap.{NameMap}
 use Rattle.il_decl.specs.Checked.{IsDeclared}
 use Rattle.il_rules.specs.Symbols.{IsProgram}
-use Rattle.il_found.specs.declared.found.Found.{Found}
-use Rattle.il_found.specs.Least.{IsLeast, Below}
+use Rattle.il_found.specs.Least.{NumberedFault, IsLeast, Below}
 use Rattle.il_found.proofs.Least.{Covered, least_wider}
 use Rattle.il_types.specs.Lowest.{IsLowest, lowest_number}
 use Rattle.il_types.specs.Typing.{AreSymbolsOf, Mistyped, line_of}
@@ -92,7 +91,7 @@ covered config unit symbols setting n p at s e is ns (Some m) same l c =
     (m, s.place, (at, s, slice_get_within unit.body.steps at s e, e, (same, refl)), same_place (ap (λ x. x.offset) (sym is)) (l.first m refl n c))
 
 -- the first fault of the line is the first that breaks a rule of types
-pub typed_least : (config : Config) (unit : ProgramUnit) (symbols : NameMap Symbol) → IsSetting config unit symbols → (found : Option Found) → IsLeast found (LineFaults symbols unit) → IsLeast found (λ n p. BreaksTypes config n p)
+pub typed_least : (config : Config) (unit : ProgramUnit) (symbols : NameMap Symbol) → IsSetting config unit symbols → (found : Option NumberedFault) → IsLeast found (LineFaults symbols unit) → IsLeast found (λ n p. BreaksTypes config n p)
 typed_least config unit symbols setting found least = least_wider (LineFaults symbols unit) (λ n p. BreaksTypes config n p) found least up down
   where
     up : (n : ℕ) (p : Place) → LineFaults symbols unit n p → BreaksTypes config n p
@@ -143,11 +142,11 @@ setting_of config symbols c declared are units unit same first = record {
     alone = c.alone ∙ ap (λ x. x ∷ []) same_unit
 
 -- the first fault of the steps that were gone through
-pub typed_by : (config : Config) (unit : ProgramUnit) (symbols : NameMap Symbol) → IsSetting config unit symbols → (steps : List Step) → steps ≡ unit.body.steps → (found : Option Found) → IsLeast found (Below (Mistyped symbols steps) steps (length steps)) → IsLeast found (λ n p. BreaksTypes config n p)
+pub typed_by : (config : Config) (unit : ProgramUnit) (symbols : NameMap Symbol) → IsSetting config unit symbols → (steps : List Step) → steps ≡ unit.body.steps → (found : Option NumberedFault) → IsLeast found (Below (Mistyped symbols steps) steps (length steps)) → IsLeast found (λ n p. BreaksTypes config n p)
 typed_by config unit symbols setting steps same found l = typed_least config unit symbols setting found (subst (λ s. IsLeast found (Below (Mistyped symbols s) s (length s))) same l)
 
 -- the refusal names it
-pub refused_by : (config : Config) (found : Option Found) (f : Found) (r : Refusal) → IsLeast found (λ n p. BreaksTypes config n p) → found ≡ Some f → r ≡ Fault f.number f.place.line → IsRefusedBy (Broken Typing config) r
+pub refused_by : (config : Config) (found : Option NumberedFault) (f : NumberedFault) (r : Refusal) → IsLeast found (λ n p. BreaksTypes config n p) → found ≡ Some f → r ≡ Fault f.number f.place.line → IsRefusedBy (Broken Typing config) r
 refused_by config found f r l is refuses = subst (IsRefusedBy (Broken Typing config)) (sym refuses) (f.place, record { broken = l.holds f is; first = l.first f is }, refl)
 
 -- the one unit is the program

@@ -1,3 +1,4 @@
 pub mod Lowest
+pub mod TypeFaults
 pub mod Typing
 pub mod WellTyped

@@ -9,7 +9,7 @@ use Rattle.il_rules.specs.declared.symbol.Symbol.{Symbol}
 use Rattle.il_rules.specs.Names.{Spelling}
 use Rattle.il_rules.specs.Symbols.{symbol_of}
 use Rattle.il_run.specs.NameMap.{NameMap, get}
-use Rattle.il_found.specs.declared.found.Found.{Found}
+use Rattle.il_found.specs.Least.{NumberedFault}
 use Rattle.il_types.specs.Lowest.{lowest_number, left_of}
 
 -- the symbols are what names mean in the one unit (2.4.3)
@@ -22,7 +22,7 @@ line_of symbols [] before = before
 line_of symbols (s ∷ steps) before = line_of symbols steps (left_of symbols s.instruction before)
 
 -- a number at a place as a fault (own rule)
-abbrev pub fault_at : Option ℕ → Place → Option Found
+abbrev pub fault_at : Option ℕ → Place → Option NumberedFault
 fault_at number place = option_map (λ n. record { number = n; place = place }) number
 
 -- the lowest fault of the instruction behind others (own rule)

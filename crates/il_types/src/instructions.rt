@@ -3,11 +3,13 @@
 ghost use Rattle.std.specs.Prelude.{◌≡◌};
 ghost use Rattle.il_rules.specs.Types.{takes, operand_type, left_type};
 ghost use Rattle.il_run.specs.NameMap as map;
+ghost use Rattle.il_types.specs.TypeFaults.{numbered};
 ghost use Rattle.il_types.specs.Lowest.{load_of, result_of, taken_of, operate_of, target_of, written_of, plain_store_of, boolean_store_of, store_type_of, store_of, pair_of, arguments_of, presence_of, count_of, limit_of, lowest_number, left_of};
 
+use crate::fault::TypeFault;
 use crate::operands::{
-    any_difference, difference, loaded_literal_number, loaded_type, lower, maybe_wanted_number,
-    type_of, wanted_number,
+    any_difference, difference, loaded_literal_fault, loaded_type, lower, maybe_wanted_fault,
+    type_of, wanted_fault,
 };
 use il_rules::elementary::{is_same_type, is_whole};
 use il_rules::symbol::Symbol;
@@ -16,27 +18,27 @@ use il_spec::tree::{
 };
 use il_table::Table;
 
-/// The lowest number that an instruction breaks of 30 to 33 and 37.
-pub fn lowest_number(
+/// The fault with the lowest number of what an instruction breaks.
+pub fn lowest_fault(
     symbols: &Table<Symbol>,
     instruction: &Instruction,
     before: Option<Elementary>,
-) -> Option<u16>
-    ensures { result ≡ lowest_number symbols.now instruction.now before }
+) -> Option<TypeFault>
+    ensures { numbered result ≡ lowest_number symbols.now instruction.now before }
 {
     match instruction {
         Instruction::Load { negated, operand } => {
-            load_number(symbols, *negated, &operand.reference)
+            load_fault(symbols, *negated, &operand.reference)
         }
         Instruction::Store { store, target } => {
-            store_number(*store, target_symbol(symbols, &target.reference), before)
+            store_fault(*store, target_symbol(symbols, &target.reference), before)
         }
-        Instruction::Not => result_number(before, Elementary::Bool),
+        Instruction::Not => result_fault(before, Elementary::Bool),
         Instruction::Operate { operator, operand } => {
-            operate_number(symbols, *operator, &operand.reference, before)
+            operate_fault(symbols, *operator, &operand.reference, before)
         }
         Instruction::Invoke { operands, .. } => {
-            limit_number(symbols, operands.as_slice(), before)
+            limit_fault(symbols, operands.as_slice(), before)
         }
         _ => None,
     }
@@ -65,23 +67,23 @@ pub fn type_after(
 }
 
 // LD takes any operand, LDN a BOOL.
-fn load_number(symbols: &Table<Symbol>, negated: bool, reference: &Reference) -> Option<u16>
-    ensures { result ≡ load_of symbols.now negated reference.now }
+fn load_fault(symbols: &Table<Symbol>, negated: bool, reference: &Reference) -> Option<TypeFault>
+    ensures { numbered result ≡ load_of symbols.now negated reference.now }
 {
     if negated {
-        wanted_number(symbols, reference, Elementary::Bool)
+        wanted_fault(symbols, reference, Elementary::Bool)
     } else {
-        loaded_literal_number(reference)
+        loaded_literal_fault(reference)
     }
 }
 
-// 32 without a current result, and what one of another type breaks.
-fn result_number(before: Option<Elementary>, wanted: Elementary) -> Option<u16>
-    ensures { result ≡ result_of before wanted }
+// What a missing current result, or one of another type, breaks.
+fn result_fault(before: Option<Elementary>, wanted: Elementary) -> Option<TypeFault>
+    ensures { numbered result ≡ result_of before wanted }
 {
     match before {
         Some(found) => difference(found, wanted),
-        None => Some(32),
+        None => Some(TypeFault::NoResult),
     }
 }
 
@@ -99,19 +101,19 @@ fn takes(operator: Operator, found: Elementary) -> bool
     }
 }
 
-// 32 without a current result, 30 where the operator does not take it.
-fn taken_number(operator: Operator, before: Option<Elementary>) -> Option<u16>
-    ensures { result ≡ taken_of operator before }
+// What a missing current result, or one that the operator does not take, breaks.
+fn taken_fault(operator: Operator, before: Option<Elementary>) -> Option<TypeFault>
+    ensures { numbered result ≡ taken_of operator before }
 {
     match before {
         Some(found) => {
             if takes(operator, found) {
                 None
             } else {
-                Some(30)
+                Some(TypeFault::WrongKind)
             }
         }
-        None => Some(32),
+        None => Some(TypeFault::NoResult),
     }
 }
 
@@ -145,17 +147,17 @@ fn left_type(operator: Operator, before: Option<Elementary>) -> Option<Elementar
 }
 
 // What an operator with its operand breaks.
-fn operate_number(
+fn operate_fault(
     symbols: &Table<Symbol>,
     operator: Operator,
     reference: &Reference,
     before: Option<Elementary>,
-) -> Option<u16>
-    ensures { result ≡ operate_of symbols.now operator reference.now before }
+) -> Option<TypeFault>
+    ensures { numbered result ≡ operate_of symbols.now operator reference.now before }
 {
     lower(
-        taken_number(operator, before),
-        maybe_wanted_number(symbols, reference, operand_type(operator, before)),
+        taken_fault(operator, before),
+        maybe_wanted_fault(symbols, reference, operand_type(operator, before)),
     )
 }
 
@@ -169,124 +171,142 @@ fn target_symbol(symbols: &Table<Symbol>, reference: &Reference) -> Option<Symbo
     }
 }
 
-// 33 where a variable may not be written.
-fn written_number(symbol: Option<Symbol>) -> Option<u16>
-    ensures { result ≡ written_of symbol }
+// What a store into a variable breaks that may not be written.
+fn written_fault(symbol: Option<Symbol>) -> Option<TypeFault>
+    ensures { numbered result ≡ written_of symbol }
 {
     match symbol {
-        Some(symbol) => { if symbol.written { None } else { Some(33) } }
+        Some(symbol) => {
+            if symbol.written {
+                None
+            } else {
+                Some(TypeFault::NotWritable)
+            }
+        }
         None => None,
     }
 }
 
 // ST takes a result into a variable of its type.
-fn plain_store_number(stored: Option<Elementary>, before: Option<Elementary>) -> Option<u16>
-    ensures { result ≡ plain_store_of stored before }
+fn plain_store_fault(stored: Option<Elementary>, before: Option<Elementary>) -> Option<TypeFault>
+    ensures { numbered result ≡ plain_store_of stored before }
 {
     match before {
         Some(found) => any_difference(stored, found),
-        None => Some(32),
+        None => Some(TypeFault::NoResult),
     }
 }
 
 // STN, S and R take a BOOL into a BOOL.
-fn boolean_store_number(stored: Option<Elementary>, before: Option<Elementary>) -> Option<u16>
-    ensures { result ≡ boolean_store_of stored before }
+fn boolean_store_fault(stored: Option<Elementary>, before: Option<Elementary>) -> Option<TypeFault>
+    ensures { numbered result ≡ boolean_store_of stored before }
 {
     lower(
-        result_number(before, Elementary::Bool),
+        result_fault(before, Elementary::Bool),
         any_difference(stored, Elementary::Bool),
     )
 }
 
 // What the types of a store break.
-fn store_type_number(
+fn store_type_fault(
     store: Store,
     stored: Option<Elementary>,
     before: Option<Elementary>,
-) -> Option<u16>
-    ensures { result ≡ store_type_of store stored before }
+) -> Option<TypeFault>
+    ensures { numbered result ≡ store_type_of store stored before }
 {
     match store {
-        Store::Plain => plain_store_number(stored, before),
-        _ => boolean_store_number(stored, before),
+        Store::Plain => plain_store_fault(stored, before),
+        _ => boolean_store_fault(stored, before),
     }
 }
 
 // What a store into a variable breaks.
-fn store_number(store: Store, symbol: Option<Symbol>, before: Option<Elementary>) -> Option<u16>
-    ensures { result ≡ store_of store symbol before }
+fn store_fault(
+    store: Store,
+    symbol: Option<Symbol>,
+    before: Option<Elementary>,
+) -> Option<TypeFault>
+    ensures { numbered result ≡ store_of store symbol before }
 {
     lower(
-        written_number(symbol),
-        store_type_number(store, type_of(symbol), before),
+        written_fault(symbol),
+        store_type_fault(store, type_of(symbol), before),
     )
 }
 
 // What the first two arguments break where a type is wanted.
-fn pair_number(symbols: &Table<Symbol>, operands: &[Operand], wanted: Elementary) -> Option<u16>
-    ensures { result ≡ pair_of symbols.now operands.now wanted }
+fn pair_fault(
+    symbols: &Table<Symbol>,
+    operands: &[Operand],
+    wanted: Elementary,
+) -> Option<TypeFault>
+    ensures { numbered result ≡ pair_of symbols.now operands.now wanted }
 {
     match operands {
         [] => None,
-        [a] => wanted_number(symbols, &a.reference, wanted),
+        [a] => wanted_fault(symbols, &a.reference, wanted),
         [a, b, ..] => {
             lower(
-                wanted_number(symbols, &a.reference, wanted),
-                wanted_number(symbols, &b.reference, wanted),
+                wanted_fault(symbols, &a.reference, wanted),
+                wanted_fault(symbols, &b.reference, wanted),
             )
         }
     }
 }
 
 // LIMIT takes numbers of the type of the current result.
-fn arguments_number(
+fn arguments_fault(
     symbols: &Table<Symbol>,
     operands: &[Operand],
     before: Option<Elementary>,
-) -> Option<u16>
-    ensures { result ≡ arguments_of symbols.now operands.now before }
+) -> Option<TypeFault>
+    ensures { numbered result ≡ arguments_of symbols.now operands.now before }
 {
     let Some(found) = before else {
         return None;
     };
     if is_same_type(found, Elementary::Bool) {
-        Some(30)
+        Some(TypeFault::WrongKind)
     } else {
-        pair_number(symbols, operands, found)
+        pair_fault(symbols, operands, found)
     }
 }
 
-// 32 without a current result.
-fn presence_number(before: Option<Elementary>) -> Option<u16>
-    ensures { result ≡ presence_of before }
+// What a missing current result breaks.
+fn presence_fault(before: Option<Elementary>) -> Option<TypeFault>
+    ensures { numbered result ≡ presence_of before }
 {
     match before {
         Some(_) => None,
-        None => Some(32),
+        None => Some(TypeFault::NoResult),
     }
 }
 
-// 37 where LIMIT has not two further arguments.
-fn count_number(operands: &[Operand]) -> Option<u16>
-    ensures { result ≡ count_of operands.now }
+// What LIMIT breaks where it has not two further arguments.
+fn count_fault(operands: &[Operand]) -> Option<TypeFault>
+    ensures { numbered result ≡ count_of operands.now }
 {
-    if operands.len() == 2 { None } else { Some(37) }
+    if operands.len() == 2 {
+        None
+    } else {
+        Some(TypeFault::Arguments)
+    }
 }
 
 // What LIMIT with its arguments breaks.
-fn limit_number(
+fn limit_fault(
     symbols: &Table<Symbol>,
     operands: &[Operand],
     before: Option<Elementary>,
-) -> Option<u16>
-    ensures { result ≡ limit_of symbols.now operands.now before }
+) -> Option<TypeFault>
+    ensures { numbered result ≡ limit_of symbols.now operands.now before }
 {
     lower(
-        presence_number(before),
+        presence_fault(before),
         lower(
-            count_number(operands),
-            arguments_number(symbols, operands, before),
+            count_fault(operands),
+            arguments_fault(symbols, operands, before),
         ),
     )
 }

@@ -2,6 +2,7 @@
 #![tactic(auto)]
 
 mod checked;
+mod fault;
 mod instructions;
 mod operands;
 
@@ -16,9 +17,11 @@ ghost use Rattle.il_run.specs.NameMap as map;
 ghost use Rattle.il_found.specs.Least.{IsLeast, Below};
 ghost use Rattle.il_decl.specs.Checked.{IsDeclared, AreSymbols};
 ghost use Rattle.il_types.specs.Typing.{Mistyped, fault_at};
+ghost use Rattle.il_types.specs.TypeFaults.{numbered};
 
-use crate::instructions::{lowest_number, type_after};
+use crate::instructions::{lowest_fault, type_after};
 pub use checked::Typed;
+pub use fault::TypeFault;
 use il_decl::Declared;
 use il_found::{Found, earlier, refusal};
 use il_rules::symbol::Symbol;
@@ -55,25 +58,25 @@ fn check_types(config: &Config, symbols: &Table<Symbol>) -> Result<(), Refusal>
 }
 
 // The first fault of types on a straight line.
-fn types_fault(steps: &[Step], symbols: &Table<Symbol>) -> Option<Found>
+fn types_fault(steps: &[Step], symbols: &Table<Symbol>) -> Option<Found<TypeFault>>
     ensures { IsLeast result (Below (Mistyped symbols.now steps.now) steps.now (length steps.now)) }
 {
     let mut found = None;
     let mut before = None;
     for step in steps {
-        let number = lowest_number(symbols, &step.instruction, before);
-        found = earlier(found, fault_at(number, step.place));
+        let fault = lowest_fault(symbols, &step.instruction, before);
+        found = earlier(found, fault_at(fault, step.place));
         before = type_after(symbols, &step.instruction, before);
     }
     found
 }
 
-// A number at a place as a fault.
-fn fault_at(number: Option<u16>, place: Place) -> Option<Found>
-    ensures { result ≡ fault_at number place }
+// A fault that may be there, at its place.
+fn fault_at(fault: Option<TypeFault>, place: Place) -> Option<Found<TypeFault>>
+    ensures { result ≡ fault_at (numbered fault) place }
 {
-    match number {
-        Some(number) => Some(Found { number, place }),
+    match fault {
+        Some(fault) => Some(Found::of(fault, place)),
         None => None,
     }
 }

@@ -3,40 +3,49 @@
 ghost use Rattle.std.specs.Prelude.{◌≡◌};
 ghost use Rattle.il_rules.specs.Types.{literal_type};
 ghost use Rattle.il_run.specs.NameMap as map;
+ghost use Rattle.il_types.specs.TypeFaults.{numbered};
 ghost use Rattle.il_types.specs.Lowest.{lower_of, difference_of, any_difference_of, bare_of, literal_of, type_of, wanted_of, maybe_wanted_of, loaded_of, unfit_of, loaded_literal_of};
 
+use crate::fault::TypeFault;
+use il_found::PhaseFault;
 use il_rules::elementary::{has_value, is_same_type, is_whole};
 use il_rules::symbol::Symbol;
 use il_spec::tree::{Elementary, Literal, Reference};
 use il_table::Table;
 
-/// The lower of two numbers that may be there.
-pub fn lower(first: Option<u16>, second: Option<u16>) -> Option<u16>
-    ensures { result ≡ lower_of first second }
+/// The one with the lower number of two faults that may be there.
+pub fn lower(first: Option<TypeFault>, second: Option<TypeFault>) -> Option<TypeFault>
+    ensures { numbered result ≡ lower_of (numbered first) (numbered second) }
 {
     match (first, second) {
-        (Some(a), Some(b)) => { if b < a { Some(b) } else { Some(a) } }
+        (Some(a), Some(b)) => {
+            if b.number() < a.number() {
+                Some(b)
+            } else {
+                Some(a)
+            }
+        }
         (Some(a), None) => Some(a),
         (None, b) => b,
     }
 }
 
-/// 30 where the kinds differ, 31 where two whole types do.
-pub fn difference(found: Elementary, wanted: Elementary) -> Option<u16>
-    ensures { result ≡ difference_of found wanted }
+/// A fault where the kinds differ, and where two whole types do.
+pub fn difference(found: Elementary, wanted: Elementary) -> Option<TypeFault>
+    ensures { numbered result ≡ difference_of found wanted }
 {
     if is_same_type(found, wanted) {
         None
     } else if is_whole(found) && is_whole(wanted) {
-        Some(31)
+        Some(TypeFault::WrongType)
     } else {
-        Some(30)
+        Some(TypeFault::WrongKind)
     }
 }
 
 /// The same, where there is a type.
-pub fn any_difference(found: Option<Elementary>, wanted: Elementary) -> Option<u16>
-    ensures { result ≡ any_difference_of found wanted }
+pub fn any_difference(found: Option<Elementary>, wanted: Elementary) -> Option<TypeFault>
+    ensures { numbered result ≡ any_difference_of found wanted }
 {
     match found {
         Some(found) => difference(found, wanted),
@@ -44,26 +53,26 @@ pub fn any_difference(found: Option<Elementary>, wanted: Elementary) -> Option<u
     }
 }
 
-// 30 where a bare literal stands for no whole type, 31 where its value is not one of the type.
-fn bare_number(wanted: Elementary, fits: bool) -> Option<u16>
-    ensures { result ≡ bare_of wanted fits }
+// A bare literal stands for a whole type that has its value.
+fn bare_fault(wanted: Elementary, fits: bool) -> Option<TypeFault>
+    ensures { numbered result ≡ bare_of wanted fits }
 {
     if !is_whole(wanted) {
-        Some(30)
+        Some(TypeFault::WrongKind)
     } else if fits {
         None
     } else {
-        Some(31)
+        Some(TypeFault::WrongType)
     }
 }
 
 // What a literal breaks where a type is wanted.
-fn literal_number(literal: Literal, wanted: Elementary) -> Option<u16>
-    ensures { result ≡ literal_of literal wanted }
+fn literal_fault(literal: Literal, wanted: Elementary) -> Option<TypeFault>
+    ensures { numbered result ≡ literal_of literal wanted }
 {
     match literal {
         Literal::Truth(_) => difference(Elementary::Bool, wanted),
-        Literal::Bare(value) => bare_number(wanted, has_value(wanted, value)),
+        Literal::Bare(value) => bare_fault(wanted, has_value(wanted, value)),
         Literal::Whole(elementary, _) => difference(elementary, wanted),
         Literal::Time(_) => difference(Elementary::Time, wanted),
     }
@@ -80,30 +89,30 @@ pub fn type_of(symbol: Option<Symbol>) -> Option<Elementary>
 }
 
 /// What an operand breaks where a type is wanted.
-pub fn wanted_number(
+pub fn wanted_fault(
     symbols: &Table<Symbol>,
     reference: &Reference,
     wanted: Elementary,
-) -> Option<u16>
-    ensures { result ≡ wanted_of symbols.now reference.now wanted }
+) -> Option<TypeFault>
+    ensures { numbered result ≡ wanted_of symbols.now reference.now wanted }
 {
     match reference {
-        Reference::Literal(literal) => literal_number(*literal, wanted),
+        Reference::Literal(literal) => literal_fault(*literal, wanted),
         Reference::Variable(name) => any_difference(type_of(symbols.get(name.as_str())), wanted),
         _ => None,
     }
 }
 
 /// What an operand breaks where a type is wanted, or where none is known.
-pub fn maybe_wanted_number(
+pub fn maybe_wanted_fault(
     symbols: &Table<Symbol>,
     reference: &Reference,
     wanted: Option<Elementary>,
-) -> Option<u16>
-    ensures { result ≡ maybe_wanted_of symbols.now reference.now wanted }
+) -> Option<TypeFault>
+    ensures { numbered result ≡ maybe_wanted_of symbols.now reference.now wanted }
 {
     match wanted {
-        Some(wanted) => wanted_number(symbols, reference, wanted),
+        Some(wanted) => wanted_fault(symbols, reference, wanted),
         None => None,
     }
 }
@@ -139,22 +148,22 @@ pub fn loaded_type(symbols: &Table<Symbol>, reference: &Reference) -> Option<Ele
     }
 }
 
-// 31 where a literal that is loaded has no type.
-fn unfit_number(loaded: Option<Elementary>) -> Option<u16>
-    ensures { result ≡ unfit_of loaded }
+// A literal that is loaded has a type.
+fn unfit_fault(loaded: Option<Elementary>) -> Option<TypeFault>
+    ensures { numbered result ≡ unfit_of loaded }
 {
     match loaded {
         Some(_) => None,
-        None => Some(31),
+        None => Some(TypeFault::WrongType),
     }
 }
 
 /// What an operand breaks that is loaded.
-pub fn loaded_literal_number(reference: &Reference) -> Option<u16>
-    ensures { result ≡ loaded_literal_of reference.now }
+pub fn loaded_literal_fault(reference: &Reference) -> Option<TypeFault>
+    ensures { numbered result ≡ loaded_literal_of reference.now }
 {
     match reference {
-        Reference::Literal(literal) => unfit_number(literal_type(*literal)),
+        Reference::Literal(literal) => unfit_fault(literal_type(*literal)),
         _ => None,
     }
 }

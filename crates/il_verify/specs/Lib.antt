@@ -1,3 +1,4 @@
 pub mod Resolved
 pub mod Tables
 pub mod Program
+pub mod VerifyFaults

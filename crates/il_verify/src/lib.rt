@@ -2,6 +2,7 @@
 #![tactic(auto)]
 
 mod code;
+mod fault;
 mod join;
 mod known;
 mod numbering;
@@ -10,4 +11,5 @@ mod program;
 mod verifier;
 
 pub use code::Checked;
+pub use fault::VerifyFault;
 pub use verifier::verify;

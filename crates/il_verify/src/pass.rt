@@ -119,9 +119,10 @@ fn step<F: Flow>(
 
 // The table at the entry.
 fn fresh<K: Drop>(alloc: Global, entry: K, count: usize) -> Result<Vec<Option<K>>, AllocError>
+    requires { count < 9223372036854775808 }
     ensures { IfOk result (λ table. IsFresh entry count table.items) }
 {
-    let mut table = Vec::new(alloc);
+    let mut table = Vec::with_capacity(alloc, count + 1)?;
     table.push(Some(entry))?;
     for _ in 0..count {
         table.push(None)?;

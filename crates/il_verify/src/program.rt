@@ -18,6 +18,7 @@ ghost use Rattle.il_least.specs.Steps.{to_next, loaded_operand, operated_by, app
 ghost use Rattle.il_verify.specs.Tables.{IsRefusal};
 ghost use Rattle.il_verify.specs.Program.{IsNoStore, IsPlaceOf, IsRefusalOf, program_names, range_in, kept_row};
 
+use crate::fault::VerifyFault;
 use crate::join::join_facts;
 use crate::known::{
     fits_range, flag_there, found_limited, found_literal, found_loaded, found_operated,
@@ -26,6 +27,7 @@ use crate::known::{
 use crate::numbering::Numbering;
 use crate::pass::{Flow, Handed};
 use il_code::code::Code;
+use il_found::{Found, refusal};
 use il_interval::Interval;
 use il_least::facts::Facts;
 use il_row::Row;
@@ -235,20 +237,17 @@ impl Program<'_> {
         Some(facts)
     }
 
-    // The refusal of a place: 43 of a store, otherwise 40.
+    // The refusal of a place: of a store by its variable's range, otherwise by the result's type.
     fn refusal_at(&self, place: usize) -> Refusal
         requires { IsPlaceOf self.now.code.now self.now.unit.now place }
         ensures { (facts : Facts) → IsRefusal (IsRefusalOf (program_names self.now) self.now.code.now self.now.unit.now place facts) result }
     {
         let step = &self.unit.body.steps.as_slice()[place];
-        let number = match step.instruction {
-            Instruction::Store { .. } => 43,
-            _ => 40,
+        let fault = match step.instruction {
+            Instruction::Store { .. } => VerifyFault::Subrange,
+            _ => VerifyFault::Overflow,
         };
-        Refusal::Fault {
-            number,
-            line: step.place.line,
-        }
+        refusal(Found::of(fault, step.place))
     }
 }
 

@@ -25,8 +25,9 @@ use Rattle.std.proofs.lemmas.Option.{slice_get_within}
 use Rattle.il_spec.specs.declared.tree.Unit.{Unit as Organized}
 use Rattle.il_rules.specs.Faults.{Declaring, Typing, Ordering, initial_outside, bad_task, HasNoFault, Broken}
 use Rattle.il_machine.specs.Scanning.{IsRunnable, IsWithin, HasSizes}
-use Rattle.il_parse.specs.Refused.{HasFewInstructions, IsFault}
-use Rattle.lift_world.specs.Loading.{IsSpelled, IsAccepted, IsRefusedFor, by_declarations, by_types, by_order, by_ranges}
+use Rattle.il_parse.specs.Refused.{IsSmall, IsFault}
+use Rattle.il_stage.proofs.Support.{nothing_refused}
+use Rattle.lift_world.specs.Loading.{IsSpelled, IsAccepted, IsRefusedFor, by_stage, by_declarations, by_types, by_order, by_ranges}
 use Rattle.lift_world.proofs.Tasking.{is_one, only_task, tasked}
 
 -- SIZES
@@ -81,10 +82,11 @@ has_sizes c supported unbroken =
 
 -- what is named is broken, or has no ranges
 names_broken : {text : List ℕ} (c : Config) (number line : ℕ) → IsRefusedFor c (Fault number line) → IsAccepted text c → ⊥
-names_broken c number line (by_declarations (place, first, at)) a = a.declared number place first.broken
-names_broken c number line (by_types unbroken (place, first, at)) a = a.typed number place first.broken
-names_broken c number line (by_order unbroken fine (place, first, at)) a = a.ordered number place first.broken
-names_broken c number line (by_ranges unbroken fine fit (u, s, program, first, at)) a =
+names_broken c number line (by_stage (place, first, at)) a = nothing_refused c a.supported number place first.broken
+names_broken c number line (by_declarations carried (place, first, at)) a = a.declared number place first.broken
+names_broken c number line (by_types carried unbroken (place, first, at)) a = a.typed number place first.broken
+names_broken c number line (by_order carried unbroken fine (place, first, at)) a = a.ordered number place first.broken
+names_broken c number line (by_ranges carried unbroken fine fit (u, s, program, first, at)) a =
     let found = a.annotated u (among_units c u program.alone) in
     first.first.none found.0 (record { entry = found.1.entry; each = λ place k below is. found.1.each place k (within_body first.at (length u.body.steps) place (slice_get_within u.body.steps first.at s first.stands) below) is })
   where
@@ -100,17 +102,16 @@ number_of : (Y : Type 0) (e : Refusal) → IsFault {A = Y} (Err e) → (number :
 number_of Y (Fault number line) h = (number, line, refl)
 number_of Y Memory h = absurd h
 
--- a text that the parser refuses spells none of the subset
+-- a text that the parser refuses spells none within the limits
 pub none_spelled : (text : List ℕ) (tokens : List Token) → ((ts : List Token) → AreTokens text 0 ts → ts ≡ tokens)
-    → ((c : Config) → AfterLines (SpellsConfig text c) tokens [] → IsSupported c → HasFewInstructions c → ⊥) → (c : Config) → IsSpelled text c → ⊥
+    → ((c : Config) → AfterLines (SpellsConfig text c) tokens [] → IsSmall c → ⊥) → (c : Config) → IsSpelled text c → ⊥
 none_spelled text tokens only refused c a =
-    refused c (subst (λ ts. AfterLines (SpellsConfig text c) ts []) (only a.spelled.0 a.spelled.1) a.spelled.2) a.supported a.limits.instructions
+    refused c (subst (λ ts. AfterLines (SpellsConfig text c) ts []) (only a.spelled.0 a.spelled.1) a.spelled.2) (record { units = a.limits.units; instructions = a.limits.instructions; nesting = a.limits.nesting })
 
 -- what the parser gives is the only such configuration
 same_spelled : (text : List ℕ) (tokens : List Token) (found : Config) → ((ts : List Token) → AreTokens text 0 ts → ts ≡ tokens)
-    → ((d : Config) → AfterLines (SpellsConfig text d) tokens [] → IsSupported d → HasFewInstructions d → d ≡ found) → (c : Config) → IsSpelled text c → c ≡ found
-same_spelled text tokens found only unique c a =
-    unique c (subst (λ ts. AfterLines (SpellsConfig text c) ts []) (only a.spelled.0 a.spelled.1) a.spelled.2) a.supported a.limits.instructions
+    → ((d : Config) → AfterLines (SpellsConfig text d) tokens [] → d ≡ found) → (c : Config) → IsSpelled text c → c ≡ found
+same_spelled text tokens found only unique c a = unique c (subst (λ ts. AfterLines (SpellsConfig text c) ts []) (only a.spelled.0 a.spelled.1) a.spelled.2)
 
 -- a text whose configuration is refused spells none that is accepted
 pub none_judged : (text : List ℕ) (found : Config) (e : Refusal) → ((c : Config) → IsSpelled text c → c ≡ found) → IsRefusedFor found e → IsFault {A = Config} (Err e) → (c : Config) → IsAccepted text c → ⊥
@@ -124,23 +125,19 @@ pub named_judged : {X : Type 0} (found : Config) (e : Refusal) (r : Result X Ref
 named_judged {X} found e (Ok x) c is refused same = absurd same
 named_judged {X} found e (Err d) c is refused same = subst (λ f. IsRefusedFor f d) (sym is) (subst (IsRefusedFor found) (sym same) refused)
 
--- what was parsed is spelled within the limits
-spelled_is : (text : List ℕ) (c : Config) → length text ≤ 262144 → Spells text c → (length text ≤ 262144 → IsWithinLimits text c) → IsSupported c → IsSpelled text c
-spelled_is text c short spelled limits supported = record { spelled = spelled; limits = limits short; supported = supported }
-
--- the same of what a parser answers
-pub all_spelled : (text : List ℕ) (r : Result Config Refusal) → length text ≤ 262144 → IfOk r (Spells text) → IfOk r (λ c. length text ≤ 262144 → IsWithinLimits text c) → IfOk r IsSupported → IfOk r (IsSpelled text)
-all_spelled text (Ok c) short spelled limits supported = spelled_is text c short spelled limits supported
-all_spelled text (Err e) short spelled limits supported = tt
+-- what a parser answers is spelled within the limits
+pub all_spelled : (text : List ℕ) (r : Result Config Refusal) → length text ≤ 262144 → IfOk r (Spells text) → IfOk r (λ c. length text ≤ 262144 → IsWithinLimits text c) → IfOk r (IsSpelled text)
+all_spelled text (Ok c) short spelled limits = record { spelled = spelled; limits = limits short }
+all_spelled text (Err e) short spelled limits = tt
 
 pub all_same : (text : List ℕ) (tokens : List Token) (r : Result Config Refusal) → ((ts : List Token) → AreTokens text 0 ts → ts ≡ tokens)
-    → IfOk r (λ c. (d : Config) → AfterLines (SpellsConfig text d) tokens [] → IsSupported d → HasFewInstructions d → d ≡ c) → IfOk r (λ c. (d : Config) → IsSpelled text d → d ≡ c)
+    → IfOk r (λ c. (d : Config) → AfterLines (SpellsConfig text d) tokens [] → d ≡ c) → IfOk r (λ c. (d : Config) → IsSpelled text d → d ≡ c)
 all_same text tokens (Ok c) only unique = same_spelled text tokens c only unique
 all_same text tokens (Err e) only unique = tt
 
 -- what was parsed, judged and verified is accepted
-pub accepted_is : (text : List ℕ) (c checked : Config) → checked ≡ c → IsSpelled text c → HasNoFault (BreaksInSubset c) → HasNoFault (Broken Typing c) → HasNoFault (Broken Ordering c) → Annotated checked → IsAccepted text checked
-accepted_is text c checked same spelled declared typed ordered annotated = subst (IsAccepted text) (sym same) (record { spelled = spelled; declared = declared; typed = typed; ordered = ordered; annotated = subst Annotated same annotated })
+pub accepted_is : (text : List ℕ) (c checked : Config) → checked ≡ c → IsSpelled text c → IsSupported c → HasNoFault (BreaksInSubset c) → HasNoFault (Broken Typing c) → HasNoFault (Broken Ordering c) → Annotated checked → IsAccepted text checked
+accepted_is text c checked same spelled supported declared typed ordered annotated = subst (IsAccepted text) (sym same) (record { spelled = spelled; supported = supported; declared = declared; typed = typed; ordered = ordered; annotated = subst Annotated same annotated })
 
 -- nothing of declarations is broken
 pub unbroken_is : (c : Config) → HasNoFault (BreaksInSubset c) → HasNoFault (Broken Declaring c)

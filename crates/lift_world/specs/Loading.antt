@@ -6,37 +6,40 @@ use Rattle.il_spec.specs.declared.tree.Config.{Config}
 use Rattle.il_spec.specs.Grammar.{Spells, IsWithinLimits}
 use Rattle.il_rules.specs.Subset.{IsSupported, BreaksInSubset}
 use Rattle.il_rules.specs.Faults.{IsRefusedBy, Typing, Ordering, HasNoFault, Broken}
+use Rattle.il_stage.specs.Stage.{IsLater}
 use Rattle.il_run.specs.Annotation.{Annotated}
 use Rattle.il_verify.specs.Resolved.{IsUnannotatedBy}
 use Rattle.il_spec.specs.declared.tree.Unit.{Unit as ProgramUnit}
 use Rattle.il_machine.specs.declared.verified.UnitCost.{UnitCost}
 
--- The text spells the configuration within the limits, and it is of the subset that is supported so far.
+-- The text spells the configuration within the limits.
 pub record IsSpelled (text : List ℕ) (c : Config) : Type 0 where
   pub spelled : Spells text c
   pub limits : IsWithinLimits text c
-  pub supported : IsSupported c
 
--- And none of its rules is broken, and its program has an annotation by ranges.
+-- And it is of the subset that is supported so far, none of its rules is broken, and its program has an annotation by ranges.
 pub record IsAccepted (text : List ℕ) (c : Config) : Type 0 where
   pub spelled : IsSpelled text c
+  pub supported : IsSupported c
   pub declared : HasNoFault (BreaksInSubset c)
   pub typed : HasNoFault (Broken Typing c)
   pub ordered : HasNoFault (Broken Ordering c)
   pub annotated : Annotated c
 
--- The fault that is named: the first of declarations; where those break nothing, the first of types; then the first of order; and then the first instruction without ranges.
+-- The fault that is named: the first construct that isn't carried so far (90); where there is none, the first of declarations; where those break nothing, the first of
+-- types; then the first of order; and then the first instruction without ranges.
 pub data IsRefusedFor (c : Config) (refusal : Refusal) : Type 0 where
-  by_declarations : IsRefusedBy (BreaksInSubset c) refusal → IsRefusedFor c refusal
-  by_types : HasNoFault (BreaksInSubset c) → IsRefusedBy (Broken Typing c) refusal → IsRefusedFor c refusal
-  by_order : HasNoFault (BreaksInSubset c) → HasNoFault (Broken Typing c) → IsRefusedBy (Broken Ordering c) refusal → IsRefusedFor c refusal
-  by_ranges : HasNoFault (BreaksInSubset c) → HasNoFault (Broken Typing c) → HasNoFault (Broken Ordering c) → IsUnannotatedBy c refusal → IsRefusedFor c refusal
+  by_stage : IsRefusedBy (IsLater c) refusal → IsRefusedFor c refusal
+  by_declarations : IsSupported c → IsRefusedBy (BreaksInSubset c) refusal → IsRefusedFor c refusal
+  by_types : IsSupported c → HasNoFault (BreaksInSubset c) → IsRefusedBy (Broken Typing c) refusal → IsRefusedFor c refusal
+  by_order : IsSupported c → HasNoFault (BreaksInSubset c) → HasNoFault (Broken Typing c) → IsRefusedBy (Broken Ordering c) refusal → IsRefusedFor c refusal
+  by_ranges : IsSupported c → HasNoFault (BreaksInSubset c) → HasNoFault (Broken Typing c) → HasNoFault (Broken Ordering c) → IsUnannotatedBy c refusal → IsRefusedFor c refusal
 
--- The text spells a configuration of the subset, and this is the fault of its declarations, types, order or ranges.
+-- The text spells a configuration, and this is the fault of its constructs, declarations, types, order or ranges.
 abbrev pub IsSpelledWith : List ℕ → Refusal → Type 0
 IsSpelledWith text refusal = (c : Config) × IsSpelled text c × IsRefusedFor c refusal
 
--- the text spells no configuration of the subset
+-- the text spells no configuration within the limits
 abbrev pub SpellsNone : List ℕ → Type 0
 SpellsNone text = (c : Config) → IsSpelled text c → ⊥
 

@@ -19,6 +19,7 @@ use il_parse::parse;
 use il_spec::fault::Refusal;
 use il_spec::list::Items;
 use il_spec::tree::{Config, Unit};
+use il_stage::carried;
 use il_text::tokens;
 use il_types::typed;
 use il_verify::{Checked, verify};
@@ -26,7 +27,7 @@ use std::alloc::{AllocError, Global};
 
 /// The configuration that a text spells, verified.
 ///
-/// A text is refused with the first fault of these phases, in their order: tokens (1 to 6), grammar (10, 12),
+/// A text is refused with the first fault of these phases, in their order: tokens (1 to 6), grammar (10 to 12), what isn't carried so far (90),
 /// declarations (20 to 25), types (30 to 33, 37), order and slots (12), ranges (40, 43). From 20 on it is the phase's fault at the earliest place,
 /// at one place the one with the lowest number.
 pub fn load(alloc: Global, text: &[u8]) -> Result<Verified, Refusal>
@@ -54,8 +55,23 @@ fn spelled(alloc: Global, text: &[u8]) -> Result<Config, Refusal>
     parse(alloc, text, &tokens)
 }
 
-// A configuration of which no declaration, no type, no order and no range is at fault.
+// A configuration that is carried, and of which no declaration, no type, no order and no range is at fault.
 fn checked(alloc: Global, config: Config) -> Result<Checked, Refusal>
+    requires { IsWritten config }
+    ensures same { IfOk result (λ c. c ≡ config) }
+    ensures supported { IfOk result (λ _. IsSupported config) }
+    ensures declared { IfOk result (λ _. HasNoFault (BreaksInSubset config)) }
+    ensures typed { IfOk result (λ _. HasNoFault (Broken Typing config)) }
+    ensures ordered { IfOk result (λ _. HasNoFault (Broken Ordering config)) }
+    ensures annotated { IfOk result (λ c. Annotated c) }
+    ensures refused { IfErr result (IsRefusedFor config) }
+{
+    let carried = carried(config)?;
+    judged(alloc, carried)
+}
+
+// One that is carried, of which no declaration, no type, no order and no range is at fault.
+fn judged(alloc: Global, config: Config) -> Result<Checked, Refusal>
     requires supported { IsSupported config }
     requires written { IsWritten config }
     ensures same { IfOk result (λ c. c ≡ config) }

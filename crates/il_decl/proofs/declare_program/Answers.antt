@@ -10,8 +10,8 @@ returns-clause-accepted c = c.declared_fault.ensures.none c.in_default.is
 
 pub returns-clause-program : goal.returns-clause-program
 returns-clause-program c =
-    (accepted_with c.args.config.now c.args.unit.now c.args.task.now c.args.line.now c.in_ok-variables.variables.symbols c.add_image.new.symbols c.in_ok-variables.variables.found c.requires c.in_ok-variables.ensures (c.declared_fault.ensures.none c.in_default.is) c.in_ok-add_image.ensures).program
+    (accepted_with c.args.config.now c.args.unit.now c.args.task.now c.args.line.now c.in_ok-symbols.field-0.symbols c.add_image.new.symbols c.in_ok-symbols.field-0.found c.requires c.in_ok-symbols.ensures (c.declared_fault.ensures.none c.in_default.is) c.in_ok-add_image.ensures).program
 
 pub returns-clause-symbols : goal.returns-clause-symbols
 returns-clause-symbols c =
-    (accepted_with c.args.config.now c.args.unit.now c.args.task.now c.args.line.now c.in_ok-variables.variables.symbols c.add_image.new.symbols c.in_ok-variables.variables.found c.requires c.in_ok-variables.ensures (c.declared_fault.ensures.none c.in_default.is) c.in_ok-add_image.ensures).symbols_are
+    (accepted_with c.args.config.now c.args.unit.now c.args.task.now c.args.line.now c.in_ok-symbols.field-0.symbols c.add_image.new.symbols c.in_ok-symbols.field-0.found c.requires c.in_ok-symbols.ensures (c.declared_fault.ensures.none c.in_default.is) c.in_ok-add_image.ensures).symbols_are

@@ -5,7 +5,7 @@ use Rattle.il_table.proofs.put_all.Goals as goal
 pub loop-name-init : goal.loop-name-init
 loop-name-init g c =
     let all = c.into_iter-name-iterator.ensures.into_iter_gives ∙ c.iter-name-items.ensures.rest in
-    record { same = c.requires; left = rw all (are_in-by_text c.args.tree.now.entries); rest = ap (put_all c.args.table.now) all }
+    record { same = c.requires; left = rw all (are_in-by_text c.args.entries.now.entries); rest = ap (put_all c.args.table.now) all }
 
 pub set-requires : goal.set-requires
 set-requires g c =
@@ -26,4 +26,4 @@ loop-name-preserved g c =
 pub returns : goal.returns
 returns g c =
     sym (ap (put_all c.loop-name.table) c.in-None.ensures.steps.0) ∙ c.loop-name.invariant.rest
-    ∙ put_all-same c.args.table.now c.args.tree.now.entries c.iter-name-items.ensures.ordered c.requires
+    ∙ put_all-same c.args.table.now c.args.entries.now.entries c.iter-name-items.ensures.unique c.requires

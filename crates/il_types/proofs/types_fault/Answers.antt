@@ -16,6 +16,6 @@ loop-step-preserved c =
     let before = c.loop-step.invariant.1 in (
       least_next (Mistyped symbols steps) steps at c.step-item.result c.loop-step.found c.fault_at.result c.earlier-found.result there c.earlier-found.ensures c.loop-step.invariant.0
           (least_at (lowest_number symbols c.step-item.result.instruction (line_of symbols (take at steps) None)) c.step-item.result.place c.fault_at.result
-          (c.fault_at.ensures ∙ ap (λ o. fault_at o c.step-item.result.place) (c.lowest_number-number.ensures ∙ ap (lowest_number symbols c.step-item.result.instruction) before))),
+          (c.fault_at.ensures ∙ ap (λ o. fault_at o c.step-item.result.place) (c.lowest_fault-fault.ensures ∙ ap (lowest_number symbols c.step-item.result.instruction) before))),
       c.type_after-before.ensures ∙ ap (left_of symbols c.step-item.result.instruction) before ∙ sym (line_next symbols steps at c.step-item.result there),
     )

@@ -6,7 +6,7 @@ use Rattle.il_verify.proofs.pass.fresh.Goals as goal
 pub loop-init : goal.loop-init
 loop-init g c =
     fresh_one c.args.entry c.push.new.self.items
-    (pushed c.new-table.result.items c.push.new.self.items (Some c.args.entry) (is_ok c.push.result) c.push.ensures.items (ap is_ok c.in_ok-push.was) ∙ ap (λ xs. xs ++ Some c.args.entry ∷ []) c.new-table.ensures.items)
+    (pushed c.in_ok-table.table.items c.push.new.self.items (Some c.args.entry) (is_ok c.push.result) c.push.ensures.items (ap is_ok c.in_ok-push.was) ∙ ap (λ xs. xs ++ Some c.args.entry ∷ []) c.in_ok-table.ensures.items)
 
 pub loop-preserved : goal.loop-preserved
 loop-preserved g c =

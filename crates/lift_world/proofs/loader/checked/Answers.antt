@@ -1,25 +1,33 @@
-use Rattle.std.proofs.Common.{◌≡◌, ◌∙◌, subst}
-use Rattle.std.specs.Prelude.{IfOk}
+use Rattle.std.proofs.Common.{◌≡◌, sym, subst}
+use Rattle.std.specs.Prelude.{IfOk, IfErr}
+use Rattle.il_spec.specs.declared.tree.Config.{Config}
 use Rattle.il_rules.specs.Faults.{HasNoFault, Broken, Typing, Ordering}
-use Rattle.il_rules.specs.Subset.{BreaksInSubset}
-use Rattle.il_verify.specs.Resolved.{IsUnannotatedBy}
-use Rattle.lift_world.specs.Loading.{IsRefusedFor, by_ranges}
-use Rattle.lift_world.proofs.Explaining.{ok_always, err_as}
+use Rattle.il_rules.specs.Subset.{IsSupported, BreaksInSubset}
+use Rattle.il_rules.specs.Written.{IsWritten}
+use Rattle.lift_world.specs.Loading.{IsRefusedFor, by_stage}
+use Rattle.lift_world.proofs.Explaining.{handed_as, ok_always}
 use Rattle.lift_world.proofs.loader.checked.Goals as goal
 
+pub returns-in_err-carried-clause-refused : goal.returns-in_err-carried-clause-refused
+returns-in_err-carried-clause-refused c = handed_as (IsRefusedFor c.args.config) _ _ c.from_residual.ensures.1 (by_stage c.in_err-carried.ensures.refused)
+
+pub judged-requires-clause-written : goal.judged-requires-clause-written
+judged-requires-clause-written c = subst IsWritten (sym c.in_ok-carried.ensures.same) c.requires
+
 pub returns-clause-same : goal.returns-clause-same
-returns-clause-same c = subst (λ d. IfOk c.verify.result (λ x. x ≡ d)) (c.in_ok-code.ensures ∙ c.in_ok-ordered.ensures.same) c.verify.ensures.same
+returns-clause-same c = subst (λ (d : Config). IfOk c.judged.result (λ x. x ≡ d)) c.in_ok-carried.ensures.same c.judged.ensures.same
+
+pub returns-clause-supported : goal.returns-clause-supported
+returns-clause-supported c = ok_always (IsSupported c.args.config) _ (subst IsSupported c.in_ok-carried.ensures.same c.in_ok-carried.ensures.supported)
 
 pub returns-clause-declared : goal.returns-clause-declared
-returns-clause-declared c = ok_always (HasNoFault (BreaksInSubset c.args.config)) _ c.in_ok-ordered.ensures.declared
+returns-clause-declared c = subst (λ (d : Config). IfOk c.judged.result (λ _. HasNoFault (BreaksInSubset d))) c.in_ok-carried.ensures.same c.judged.ensures.declared
 
 pub returns-clause-typed : goal.returns-clause-typed
-returns-clause-typed c = ok_always (HasNoFault (Broken Typing c.args.config)) _ c.in_ok-ordered.ensures.typed
+returns-clause-typed c = subst (λ (d : Config). IfOk c.judged.result (λ _. HasNoFault (Broken Typing d))) c.in_ok-carried.ensures.same c.judged.ensures.typed
 
 pub returns-clause-ordered : goal.returns-clause-ordered
-returns-clause-ordered c = ok_always (HasNoFault (Broken Ordering c.args.config)) _ c.in_ok-ordered.ensures.ordered
+returns-clause-ordered c = subst (λ (d : Config). IfOk c.judged.result (λ _. HasNoFault (Broken Ordering d))) c.in_ok-carried.ensures.same c.judged.ensures.ordered
 
 pub returns-clause-refused : goal.returns-clause-refused
-returns-clause-refused c =
-    err_as (IsUnannotatedBy _) (IsRefusedFor c.args.config) _
-    (λ e is. by_ranges c.in_ok-ordered.ensures.declared c.in_ok-ordered.ensures.typed c.in_ok-ordered.ensures.ordered (subst (λ d. IsUnannotatedBy d e) (c.in_ok-code.ensures ∙ c.in_ok-ordered.ensures.same) is)) c.verify.ensures.refused
+returns-clause-refused c = subst (λ (d : Config). IfErr c.judged.result (IsRefusedFor d)) c.in_ok-carried.ensures.same c.judged.ensures.refused

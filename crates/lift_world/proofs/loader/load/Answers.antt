@@ -43,24 +43,24 @@ pub of-requires-clause-runnable : goal.of-requires-clause-runnable
 of-requires-clause-runnable c =
     let same = sym c.in_ok-checked.ensures.same in
     let spelled = c.in_ok-config.ensures.spelled in
-    runnable_is c.in_ok-checked.checked (subst IsWritten same (spelled_written c.args.text.now c.in_ok-config.config spelled.spelled)) (subst IsSupported same spelled.supported) c.config.ensures.checked
+    runnable_is c.in_ok-checked.checked (subst IsWritten same (spelled_written c.args.text.now c.in_ok-config.config spelled.spelled)) (subst IsSupported same c.in_ok-checked.ensures.supported) c.config.ensures.checked
 
 pub of-requires-clause-costs : goal.of-requires-clause-costs
 of-requires-clause-costs c =
-    let supported = subst IsSupported (sym c.in_ok-checked.ensures.same) c.in_ok-config.ensures.spelled.supported in
+    let supported = subst IsSupported (sym c.in_ok-checked.ensures.same) c.in_ok-checked.ensures.supported in
     subst (AreCosts c.in_ok-checked.checked c.in_ok-checked.checked.units) (sym (c.in_ok-costs.ensures ∙ ap (map cost_of) c.as_slice.ensures ∙ ap (λ (d : Config). map cost_of d.units) c.config.ensures.is)) (straight_costs c.in_ok-checked.checked c.in_ok-checked.checked supported)
 
 pub returns-clause-found : goal.returns-clause-found
 returns-clause-found c =
     subst (IsAccepted c.args.text.now) (sym c.of.ensures.config)
-    (accepted_is c.args.text.now c.in_ok-config.config c.in_ok-checked.checked c.in_ok-checked.ensures.same c.in_ok-config.ensures.spelled c.in_ok-checked.ensures.declared c.in_ok-checked.ensures.typed c.in_ok-checked.ensures.ordered c.in_ok-checked.ensures.annotated)
+    (accepted_is c.args.text.now c.in_ok-config.config c.in_ok-checked.checked c.in_ok-checked.ensures.same c.in_ok-config.ensures.spelled c.in_ok-checked.ensures.supported c.in_ok-checked.ensures.declared c.in_ok-checked.ensures.typed c.in_ok-checked.ensures.ordered c.in_ok-checked.ensures.annotated)
 
 pub returns-clause-runs : goal.returns-clause-runs
 returns-clause-runs c =
     let same = sym c.in_ok-checked.ensures.same in
     let spelled = c.in_ok-config.ensures.spelled in
     subst RunsWell (sym c.of.ensures.config)
-    (runs_well c.in_ok-checked.checked (runnable_is c.in_ok-checked.checked (subst IsWritten same (spelled_written c.args.text.now c.in_ok-config.config spelled.spelled)) (subst IsSupported same spelled.supported) c.config.ensures.checked))
+    (runs_well c.in_ok-checked.checked (runnable_is c.in_ok-checked.checked (subst IsWritten same (spelled_written c.args.text.now c.in_ok-config.config spelled.spelled)) (subst IsSupported same c.in_ok-checked.ensures.supported) c.config.ensures.checked))
 
-pub checked-requires-clause-written : goal.checked-requires-clause-written
-checked-requires-clause-written c = spelled_written c.args.text.now c.in_ok-config.config c.in_ok-config.ensures.spelled.spelled
+pub checked-requires : goal.checked-requires
+checked-requires c = spelled_written c.args.text.now c.in_ok-config.config c.in_ok-config.ensures.spelled.spelled

@@ -1,0 +1,52 @@
+-- External declarations: one name, a type and a semicolon.
+use Rattle.std.proofs.Common.{◌≡◌, ℕ, List, [], ◌∷◌, length, refl, Option, Some, None, arith}
+use Rattle.il_spec.specs.declared.token.Token.{Token}
+use Rattle.il_spec.specs.declared.token.Sign.TheVariants.{Colon, Semicolon}
+use Rattle.il_spec.specs.declared.tree.Named.{Named}
+use Rattle.il_spec.specs.declared.tree.WrittenType.{WrittenType}
+use Rattle.il_spec.specs.declared.tree.Initial.{Initial}
+use Rattle.il_spec.specs.Grammar.{loose, ◌⋯◌, Listed, TheSign, TheName, SpellsType, SpellsInitial, SpellsExternal}
+use Rattle.il_grammar.proofs.Leads.{sign_sure, the_name_one}
+use Rattle.il_grammar.proofs.Types.{type_one}
+use Rattle.il_read.specs.Reads.{Reads, Refuses, Stands, Misses}
+use Rattle.il_read.specs.declared.stop.Stop.{Stop}
+use Rattle.il_read.proofs.Chain.{first, later, behind, first_missing, last_missing}
+
+module _ (text : List ℕ) where
+  -- an external declaration, as its name and its type
+  abbrev SpellsOne : Named × WrittenType → List Token → List Token → Type 0
+  SpellsOne x = TheName text x.0 ⋯ TheSign Colon ⋯ SpellsType text x.1 ⋯ TheSign Semicolon
+
+  names_of : (ns : List Named) (t : WrittenType) (ts r : List Token) → length ns ≡ 1 → (Listed loose (TheName text) ns (TheSign Colon) ⋯ SpellsType text t ⋯ TheSign Semicolon) ts r → (n : Named) × SpellsOne (n, t) ts r
+  names_of [] t ts r one w = absurd w.1
+  names_of (n ∷ []) t ts r one w = (n, (w.1.0, w.1.1, (w.0, w.1.2, w.2)))
+  names_of (n ∷ o ∷ ns) t ts r one w = absurd (omega (arith, one))
+
+  parts : (ns : List Named) (t : WrittenType) (i : Option Initial) (ts r : List Token) → length ns ≡ 1 → i ≡ None → (Listed loose (TheName text) ns (TheSign Colon) ⋯ SpellsType text t ⋯ SpellsInitial text i) ts r → (n : Named) × SpellsOne (n, t) ts r
+  parts ns t None ts r one none w = names_of ns t ts r one w
+  parts ns t (Some i) ts r one none w = absurd cc
+
+  refused : (ts : List Token) (e : Stop) → Refuses SpellsOne ts e → Refuses (SpellsExternal text) ts e
+  refused ts e bad = record { never = λ is d r w. let x = parts d.names d.declared d.initial ts r w.0 w.1 w.2 in bad.never is (x.0, d.declared) r x.1 }
+
+  pub name_refused : (ts : List Token) (e : Stop) → Refuses (TheName text) ts e → Refuses (SpellsExternal text) ts e
+  name_refused ts e bad = refused ts e (first (λ x. x.0) loose (λ x. TheSign Colon ⋯ SpellsType text x.1 ⋯ TheSign Semicolon) bad)
+
+  pub colon_refused : (ts m : List Token) (n : Named) (e : Stop) → Reads (TheName text) ts n m → Misses (TheSign Colon) (loose m) e → Refuses (SpellsExternal text) ts e
+  colon_refused ts m n e name bad =
+      refused ts e (later (λ x. x.0) loose (λ x. TheSign Colon ⋯ SpellsType text x.1 ⋯ TheSign Semicolon) (the_name_one text) name (first_missing loose (λ x. SpellsType text x.1 ⋯ TheSign Semicolon) bad))
+
+  pub type_refused : (ts m k : List Token) (n : Named) (e : Stop) → Reads (TheName text) ts n m → Stands (TheSign Colon) (loose m) k → Refuses (SpellsType text) (loose k) e → Refuses (SpellsExternal text) ts e
+  type_refused ts m k n e name colon bad =
+      refused ts e (later (λ x. x.0) loose (λ x. TheSign Colon ⋯ SpellsType text x.1 ⋯ TheSign Semicolon) (the_name_one text) name
+      (behind loose (λ x. SpellsType text x.1 ⋯ TheSign Semicolon) (sign_sure Colon) colon (first (λ x. x.1) loose (λ x. TheSign Semicolon) bad)))
+
+  pub semicolon_refused : (ts m k l : List Token) (n : Named) (t : WrittenType) (e : Stop) → Reads (TheName text) ts n m → Stands (TheSign Colon) (loose m) k → Reads (SpellsType text) (loose k) t l → Misses (TheSign Semicolon) (loose l) e
+      → Refuses (SpellsExternal text) ts e
+  semicolon_refused ts m k l n t e name colon type bad =
+      refused ts e (later (λ x. x.0) loose (λ x. TheSign Colon ⋯ SpellsType text x.1 ⋯ TheSign Semicolon) (the_name_one text) name
+      (behind loose (λ x. SpellsType text x.1 ⋯ TheSign Semicolon) (sign_sure Colon) colon (later (λ x. x.1) loose (λ x. TheSign Semicolon) (type_one text) type (last_missing bad))))
+
+  pub external_read : (ts m k l r : List Token) (n : Named) (t : WrittenType) → Reads (TheName text) ts n m → Stands (TheSign Colon) (loose m) k → Reads (SpellsType text) (loose k) t l → Stands (TheSign Semicolon) (loose l) r
+      → Reads (SpellsExternal text) ts (record { names = n ∷ []; declared = t; initial = None }) r
+  external_read ts m k l r n t name colon type end = record { found = (refl, refl, (k, (m, name.found, colon.found), (l, type.found, end.found))) }

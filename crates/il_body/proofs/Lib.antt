@@ -1,0 +1,5 @@
+pub mod Labels
+pub mod Entries
+pub mod Missing
+pub mod External
+pub mod OneUnit

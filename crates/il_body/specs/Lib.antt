@@ -1,0 +1,5 @@
+pub mod Bodies
+pub mod Lists
+pub mod Insides
+pub mod Headings
+pub mod Units

@@ -1,0 +1,13 @@
+use Rattle.il_spec.specs.declared.keyword.Keyword.TheVariants as word
+use Rattle.il_spec.specs.Grammar.{TheWord}
+use Rattle.il_read.proofs.Chain.{up, it_comes}
+use Rattle.il_parse.proofs.Parts.{globals_read, globals_refused}
+use Rattle.il_parse.proofs.configuration.globals.Goals as goal
+
+pub returns-in_err-place-clause-refused : goal.returns-in_err-place-clause-refused
+returns-in_err-place-clause-refused c =
+    let there = it_comes (TheWord c.args.source.now word.VarGlobal) c.args.tokens.now _ c.comes.ensures.comes c.if-not-comes.false in
+    up _ c.from_residual.ensures.1 (globals_refused c.args.source.now _ _ _ there.1 c.in_err-place.ensures.refused)
+
+pub returns-clause-reads : goal.returns-clause-reads
+returns-clause-reads c = globals_read c.args.source.now _ _ _ _ c.in_ok-place.ensures.reads

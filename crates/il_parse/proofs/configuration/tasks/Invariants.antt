@@ -1,0 +1,11 @@
+use Rattle.std.proofs.Common.{length}
+use Rattle.il_spec.specs.declared.keyword.Keyword.TheVariants as word
+use Rattle.il_spec.specs.Grammar.{No, TheWord, SpellsTask}
+use Rattle.il_read.proofs.Chain.{HasRead}
+use Rattle.il_parse.proofs.configuration.tasks.Given as goal
+
+abbrev pub invariant-tasks : goal.invariant-tasks
+invariant-tasks l = HasRead (SpellsTask l.source) (No (TheWord l.source word.Task)) l.fn.tokens l.tasks l.tokens
+
+abbrev pub decreases-tasks : goal.decreases-tasks
+decreases-tasks l = length l.tokens

@@ -1,0 +1,46 @@
+// The units of a text.
+
+ghost use Rattle.std.specs.Prelude.{◌≡◌, length, IsTrue, IsFalse, IfOk, IfErr};
+ghost use Rattle.il_read.specs.Reads.{Reads, Refuses};
+ghost use Rattle.il_parse.specs.Parts.{SpellsFewUnits};
+
+use il_body::unit;
+use il_read::{Flaw, Lead, Source, Stop, Tokens};
+use il_spec::keyword::Keyword;
+use il_spec::list::Items;
+use il_spec::tree::Unit;
+
+// Whether a text has as many units as it may have.
+fn is_full(units: &Items<Unit>) -> bool
+    ensures yes { IsTrue result → length units.now ≡ 64 }
+    ensures no { IsFalse result → length units.now ≡ 64 → ⊥ }
+{
+    units.as_slice().len() == 64
+}
+
+// Why no unit may stand here: it is one too many, or it is none.
+fn surplus(source: &Source, tokens: &Tokens) -> Stop {
+    match source.lead(tokens) {
+        Lead::Reserved(Keyword::Function | Keyword::FunctionBlock | Keyword::Program) => {
+            tokens.fault(Flaw::TooMany)
+        }
+        _ => tokens.outside(),
+    }
+}
+
+/// The units of a text, and CONFIGURATION.
+pub fn units(source: &Source, tokens: &mut Tokens) -> Result<Items<Unit>, Stop>
+    ensures reads { IfOk result (λ us. Reads (SpellsFewUnits source.now) tokens.old us tokens.new) }
+    ensures refused { IfErr result (λ e. Refuses (SpellsFewUnits source.now) tokens.old e) }
+{
+    let mut units = Items::new(source.alloc());
+    'units: while !source.eat_word(tokens, Keyword::Configuration) {
+        if is_full(&units) {
+            return Err(surplus(source, tokens));
+        }
+        let unit = unit(source, tokens)?;
+        units.push(unit)?;
+        tokens.skip_lines();
+    }
+    Ok(units)
+}

@@ -1,0 +1,305 @@
+-- Instructions, told apart by their first token.
+use Rattle.std.proofs.Common.{◌≡◌, ℕ, Bool, true, false, List, [], ◌∷◌, drop, refl, sym, ◌∙◌, ap, subst, inl, inr, Option, Some, None}
+use Rattle.il_spec.specs.declared.token.Token.{Token}
+use Rattle.il_spec.specs.declared.token.Kind.{Kind}
+use Rattle.il_spec.specs.declared.token.Kind.TheVariants as kind
+use Rattle.il_spec.specs.declared.token.Sign.{Sign}
+use Rattle.il_spec.specs.declared.token.Sign.TheVariants.{Comma, OpenParenthesis, CloseParenthesis, Ampersand}
+use Rattle.il_spec.specs.declared.keyword.Keyword.{Keyword}
+use Rattle.il_spec.specs.declared.keyword.Keyword.TheVariants as word
+use Rattle.il_spec.specs.declared.tree.Named.{Named}
+use Rattle.il_spec.specs.declared.tree.Operand.{Operand}
+use Rattle.il_spec.specs.declared.tree.Argument.{Argument}
+use Rattle.il_spec.specs.declared.tree.Argument.TheVariants as argument
+use Rattle.il_spec.specs.declared.tree.Operator.{Operator}
+use Rattle.il_spec.specs.declared.tree.Operator.TheVariants as operator
+use Rattle.il_spec.specs.declared.tree.Logic.TheVariants.{Conjunction}
+use Rattle.il_spec.specs.declared.tree.Store.{Store}
+use Rattle.il_spec.specs.declared.tree.Condition.{Condition}
+use Rattle.il_spec.specs.declared.tree.Instruction.{Instruction}
+use Rattle.il_spec.specs.declared.tree.Instruction.TheVariants as instruction
+use Rattle.il_spec.specs.Words.{keyword_of}
+use Rattle.il_spec.specs.Text.{name_of}
+use Rattle.il_spec.specs.Grammar.{Front, One, loose, ◌⨾◌, ◌⋯◌, skip_line_ends, TheSign, TheWord, TheName, TheLineEnd, TheLetterN, SpellsOperator, SpellsArgument, SpellsArguments, SpellsOperands, SpellsInstruction}
+use Rattle.il_grammar.specs.One.{IsDeterministic}
+use Rattle.il_grammar.proofs.Combinators.{listed}
+use Rattle.il_grammar.proofs.Leads.{reserved, name, number, typed, sign, line_end, nothing, lead, lead_of as kind_lead, the_name_one, sign_sure}
+use Rattle.il_grammar.proofs.Leads.{Lead as Beginning}
+use Rattle.il_grammar.proofs.Operands.{operator_one}
+use Rattle.il_grammar.proofs.Arguments.{argument_one}
+use Rattle.il_grammar.proofs.Instructions.{sort_of, operator_sort, instruction_sort, none, loads, stores, negates, evaluates, jumps, leaves, calls, sort_at}
+use Rattle.il_read.specs.Lead.{lead_of, lead_at}
+use Rattle.il_read.specs.Reads.{IsFault, Reads, Refuses, Misses, Eats, SpellsLine, SpellsWork, SpellsRoomy, SpellsTargetLine, SpellsNameLine, SpellsCalled, SpellsInside, SpellsListed}
+use Rattle.il_read.specs.declared.lead.Lead.{Lead}
+use Rattle.il_read.specs.declared.lead.Lead.TheVariants as first
+use Rattle.il_read.specs.declared.stop.Stop.{Stop}
+use Rattle.il_read.proofs.Leaves.{sign_is, line_end_lead, sign_lead}
+
+-- what tokens begin with, without its value
+abbrev plain : Lead → Beginning
+plain first.Nothing = nothing
+plain (first.Reserved k) = reserved k
+plain first.Name = name
+plain (first.Number v) = number
+plain (first.Typed v) = typed
+plain (first.Sign s) = sign s
+plain first.LineEnd = line_end
+
+-- behind one token
+pub behind_one : (P : Token → Type 0) (ts m : List Token) → One P ts m → m ≡ drop 1 ts
+behind_one P [] m p = absurd p
+behind_one P (t ∷ ts) m p = sym p.1
+
+plain_kind : (kd : Kind) (k : Option Keyword) → kind_lead kd k ≡ plain (lead_of kd k)
+plain_kind kind.Word (Some k) = refl
+plain_kind kind.Word None = refl
+plain_kind (kind.Number v) k = refl
+plain_kind (kind.Typed v) k = refl
+plain_kind (kind.Sign s) k = refl
+plain_kind kind.LineEnd k = refl
+
+module _ (text : List ℕ) where
+  same_lead : (ts : List Token) → lead text ts ≡ plain (lead_at text ts)
+  unfolding lead_at
+  same_lead [] = refl
+  same_lead (t ∷ ts) = plain_kind t.kind (keyword_of (name_of text t))
+
+  -- the sort of instruction that begins so
+  pub sorted : (l : Lead) (ts : List Token) → lead_at text ts ≡ l → sort_at (lead text ts) ≡ sort_at (plain l)
+  sorted l ts e = ap sort_at (same_lead ts ∙ ap plain e)
+
+  -- what stands behind the first token
+  moved : (P : Token → Type 0) (Q : Front) (ts r : List Token) → (One P ⨾ Q) ts r → Q (drop 1 ts) r
+  moved P Q ts r w = subst (λ (x : List Token). Q x r) (behind_one P ts w.0 w.1) w.2
+
+  word_moved : (k : Keyword) (Q : Front) (ts r : List Token) → (TheWord text k ⨾ Q) ts r → Q (drop 1 ts) r
+  word_moved k Q ts r w = moved _ Q ts r w
+
+  -- an instruction of this sort, whose part behind its first token doesn't stand there
+  sort_refused : {B : Type 0} (room : Bool) (l : Lead) (Q : B → Front) (ts : List Token) (e : Stop) → lead_at text ts ≡ l
+      → ((i : Instruction) (r : List Token) → sort_of i ≡ sort_at (plain l) → SpellsInstruction text i ts r → (b : B) × Q b (drop 1 ts) r)
+      → Refuses Q (drop 1 ts) e → Refuses (SpellsRoomy text room) ts e
+  sort_refused room l Q ts e is_so back bad = record {
+    never = λ is i r w. let x = back i r (sym (instruction_sort text i ts r w.1) ∙ sorted l ts is_so) w.1 in bad.never is x.0 r x.1;
+  }
+
+  pub load_refused : (room n : Bool) (ts : List Token) (e : Stop) → lead_at text ts ≡ first.Reserved (word.Load n) → Refuses (SpellsLine text) (drop 1 ts) e → Refuses (SpellsRoomy text room) ts e
+  load_refused room n ts e l bad = sort_refused room _ (SpellsLine text) ts e l back bad
+    where
+      back : (i : Instruction) (r : List Token) → sort_of i ≡ loads → SpellsInstruction text i ts r → (o : Operand) × SpellsLine text o (drop 1 ts) r
+      back (instruction.Load m o) r s w = (o, word_moved (word.Load m) (SpellsLine text o) ts r w)
+      back i r s w = absurd cc
+
+  pub store_refused : (room : Bool) (k : Store) (ts : List Token) (e : Stop) → lead_at text ts ≡ first.Reserved (word.Store k) → Refuses (SpellsTargetLine text) (drop 1 ts) e → Refuses (SpellsRoomy text room) ts e
+  store_refused room k ts e l bad = sort_refused room _ (SpellsTargetLine text) ts e l back bad
+    where
+      back : (i : Instruction) (r : List Token) → sort_of i ≡ stores → SpellsInstruction text i ts r → (o : Operand) × SpellsTargetLine text o (drop 1 ts) r
+      back (instruction.Store m o) r s w = (o, word_moved (word.Store m) (SpellsTargetLine text o) ts r w)
+      back i r s w = absurd cc
+
+  pub jump_refused : (room : Bool) (k : Condition) (ts : List Token) (e : Stop) → lead_at text ts ≡ first.Reserved (word.Jump k) → Refuses (SpellsNameLine text) (drop 1 ts) e → Refuses (SpellsRoomy text room) ts e
+  jump_refused room k ts e l bad = sort_refused room _ (SpellsNameLine text) ts e l back bad
+    where
+      back : (i : Instruction) (r : List Token) → sort_of i ≡ jumps → SpellsInstruction text i ts r → (n : Named) × SpellsNameLine text n (drop 1 ts) r
+      back (instruction.Jump m n) r s w = (n, word_moved (word.Jump m) (SpellsNameLine text n) ts r w)
+      back i r s w = absurd cc
+
+  pub call_refused : (room : Bool) (k : Condition) (ts : List Token) (e : Stop) → lead_at text ts ≡ first.Reserved (word.Call k) → Refuses (SpellsCalled text) (drop 1 ts) e → Refuses (SpellsRoomy text room) ts e
+  call_refused room k ts e l bad = sort_refused room _ (SpellsCalled text) ts e l back bad
+    where
+      back : (i : Instruction) (r : List Token) → sort_of i ≡ calls → SpellsInstruction text i ts r → (x : Named × List Argument) × SpellsCalled text x (drop 1 ts) r
+      back (instruction.Call m n a) r s w = ((n, a), word_moved (word.Call m) (SpellsCalled text (n, a)) ts r w)
+      back i r s w = absurd cc
+
+  -- the end of the line, as a rule whose value is nothing
+  line_misses : (ts : List Token) (e : Stop) → Misses TheLineEnd ts e → Refuses (λ (u : Unit {0}). TheLineEnd) ts e
+  line_misses ts e bad = record { never = λ is u r w. bad.never is r w }
+
+  pub not_refused : (room : Bool) (ts : List Token) (e : Stop) → lead_at text ts ≡ first.Reserved word.Not → Misses TheLineEnd (drop 1 ts) e → Refuses (SpellsRoomy text room) ts e
+  not_refused room ts e l bad = sort_refused room _ (λ (u : Unit {0}). TheLineEnd) ts e l back (line_misses _ e bad)
+    where
+      back : (i : Instruction) (r : List Token) → sort_of i ≡ negates → SpellsInstruction text i ts r → (u : Unit {0}) × TheLineEnd (drop 1 ts) r
+      back instruction.Not r s w = (tt, word_moved word.Not TheLineEnd ts r w)
+      back i r s w = absurd cc
+
+  pub return_refused : (room : Bool) (k : Condition) (ts : List Token) (e : Stop) → lead_at text ts ≡ first.Reserved (word.Return k) → Misses TheLineEnd (drop 1 ts) e → Refuses (SpellsRoomy text room) ts e
+  return_refused room k ts e l bad = sort_refused room _ (λ (u : Unit {0}). TheLineEnd) ts e l back (line_misses _ e bad)
+    where
+      back : (i : Instruction) (r : List Token) → sort_of i ≡ leaves → SpellsInstruction text i ts r → (u : Unit {0}) × TheLineEnd (drop 1 ts) r
+      back (instruction.Return m) r s w = (tt, word_moved (word.Return m) TheLineEnd ts r w)
+      back i r s w = absurd cc
+
+  pub evaluate_refused : (room : Bool) (ts : List Token) (e : Stop) → lead_at text ts ≡ first.Sign CloseParenthesis → Misses TheLineEnd (drop 1 ts) e → Refuses (SpellsRoomy text room) ts e
+  evaluate_refused room ts e l bad = sort_refused room _ (λ (u : Unit {0}). TheLineEnd) ts e l back (line_misses _ e bad)
+    where
+      back : (i : Instruction) (r : List Token) → sort_of i ≡ evaluates → SpellsInstruction text i ts r → (u : Unit {0}) × TheLineEnd (drop 1 ts) r
+      back instruction.Evaluate r s w = (tt, moved _ TheLineEnd ts r w)
+      back i r s w = absurd cc
+
+  -- the operator stands there, and what has to follow doesn't
+  pub work_refused : (room : Bool) (op : Operator) (ts m : List Token) (e : Stop) → SpellsOperator text op ts m → Refuses (SpellsWork text room op) m e → Refuses (SpellsRoomy text room) ts e
+  work_refused room op ts m e here bad = record { never = go }
+    where
+      go : IsFault e → (i : Instruction) (r : List Token) → SpellsRoomy text room i ts r → ⊥
+      go is (instruction.Operate o x) r w =
+          let same = (operator_one text).only o op ts w.1.0 m w.1.1 here in
+          bad.never is (instruction.Operate o x) r (same.0, subst (λ (k : List Token). SpellsLine text x k r) same.1 w.1.2)
+      go is (instruction.Defer o x) r w =
+          let same = (operator_one text).only o op ts w.1.0 m w.1.1 here in
+          bad.never is (instruction.Defer o x) r (same.0, w.0, (subst (λ (k : List Token). SpellsWork text room o (instruction.Defer o x) k r) same.1 (refl, w.0, w.1.2)).2)
+      go is i r w = let a = instruction_sort text i ts r w.1 in let b = operator_sort text op ts m here in cc
+
+  -- and does
+  pub work_read : (room : Bool) (op : Operator) (ts m r : List Token) (i : Instruction) → SpellsOperator text op ts m → Reads (SpellsWork text room op) m i r → Reads (SpellsRoomy text room) ts i r
+  work_read room op ts m r i here so = record { found = go i so.found }
+    where
+      there : (o : Operator) → o ≡ op → SpellsOperator text o ts m
+      there o e = subst (λ (x : Operator). SpellsOperator text x ts m) (sym e) here
+
+      go : (i : Instruction) → SpellsWork text room op i m r → SpellsRoomy text room i ts r
+      go (instruction.Operate o x) w = (tt, (m, there o w.0, w.1))
+      go (instruction.Defer o x) w = (w.1, (m, there o w.0, w.2))
+      go i w = absurd w
+
+  -- `&`, and the N behind it
+  pub ampersand_there : (t : Token) (ts us m : List Token) (b : Bool) → ts ≡ t ∷ us → lead_at text ts ≡ first.Sign Ampersand → Eats (TheLetterN text t.end) (drop 1 ts) b m
+      → SpellsOperator text (operator.Logic Conjunction b) ts m
+  unfolding lead_at
+  ampersand_there t [] us m b e l n = absurd cc
+  ampersand_there t (u ∷ vs) us m true e l n =
+      let same : u ≡ t = cc in
+      inr (sign_is u.kind _ Ampersand l, subst (λ (x : Token). TheLetterN text x.end vs m) (sym same) n)
+  ampersand_there t (u ∷ vs) us m false e l n =
+      let same : u ≡ t = cc in
+      inr (sign_is u.kind _ Ampersand l, (sym n.0, subst (λ (x : Token). (other : List Token) → TheLetterN text x.end vs other → ⊥) (sym same) n.1))
+
+  -- a function whose name doesn't stand there
+  pub function_refused : (room : Bool) (ts : List Token) (e : Stop) → lead_at text ts ≡ first.Name → Refuses (TheName text) ts e → Refuses (SpellsRoomy text room) ts e
+  function_refused room ts e l bad = record { never = go }
+    where
+      go : IsFault e → (i : Instruction) (r : List Token) → SpellsRoomy text room i ts r → ⊥
+      go is (instruction.Invoke f xs) r w = bad.never is f w.1.0 w.1.1
+      go is i r w = let a = instruction_sort text i ts r w.1 in let b = sorted _ ts l in cc
+
+  -- or whose operands don't
+  pub operands_refused : (room : Bool) (ts m : List Token) (n : Named) (e : Stop) → lead_at text ts ≡ first.Name → Reads (TheName text) ts n m → Refuses (SpellsOperands text) m e → Refuses (SpellsRoomy text room) ts e
+  operands_refused room ts m n e l here bad = record { never = go }
+    where
+      go : IsFault e → (i : Instruction) (r : List Token) → SpellsRoomy text room i ts r → ⊥
+      go is (instruction.Invoke f xs) r w =
+          let same = (the_name_one text).only f n ts w.1.0 m w.1.1 here.found in
+          bad.never is xs r (subst (λ (k : List Token). SpellsOperands text xs k r) same.1 w.1.2)
+      go is i r w = let a = instruction_sort text i ts r w.1 in let b = sorted _ ts l in cc
+
+  -- operands, at least one
+  pub listed_read : (ts r : List Token) (xs : List Operand) → Reads (SpellsListed text) ts xs r → Reads (SpellsOperands text) ts xs r
+  listed_read ts r [] here = absurd here.found
+  listed_read ts r (x ∷ xs) here = record { found = here.found }
+
+  pub listed_refused : (ts : List Token) (e : Stop) → (lead_at text ts ≡ first.LineEnd → ⊥) → Refuses (SpellsListed text) ts e → Refuses (SpellsOperands text) ts e
+  listed_refused ts e missing bad = record { never = go }
+    where
+      go : IsFault e → (xs : List Operand) (r : List Token) → SpellsOperands text xs ts r → ⊥
+      go is [] r w = missing (line_end_lead text ts r w)
+      go is (x ∷ xs) r w = bad.never is (x ∷ xs) r w
+
+  -- arguments begin with a word, and with no sign
+  argument_no_sign : (s : Sign) (a : Argument) (ts r q : List Token) → SpellsArgument text a ts r → TheSign s ts q → ⊥
+  argument_no_sign s a [] r q w p = p
+  argument_no_sign s (argument.Input n o) (t ∷ ts) r q w p = let x = w.1.2.0.0 in cc (x, p.0)
+  argument_no_sign s (argument.Output n o) (t ∷ ts) r q w p = let x = w.1.2.0.0 in cc (x, p.0)
+
+  inside_no_sign : (s : Sign) (xs : List Argument) (ts r q : List Token) → SpellsInside text xs ts r → TheSign s ts q → ⊥
+  inside_no_sign s [] ts r q w p = w
+  inside_no_sign s (x ∷ []) ts r q w p = argument_no_sign s x ts w.0 q w.1 p
+  inside_no_sign s (x ∷ y ∷ ys) ts r q w p = argument_no_sign s x ts w.0 q w.1 p
+
+  inside_one : IsDeterministic (SpellsInside text)
+  inside_one = listed loose (argument_one text) (sign_sure CloseParenthesis) (record { never = λ a b ts r s p q. cc (sign_lead text CloseParenthesis ts r p, sign_lead text Comma ts s q) })
+
+  -- no parenthesis opens, and the line doesn't end
+  pub none_opens : (ts : List Token) (e : Stop) → ((m : List Token) → TheSign OpenParenthesis ts m → ⊥) → Misses TheLineEnd ts e → Refuses (SpellsArguments text) ts e
+  none_opens ts e missing bad = record { never = go }
+    where
+      go : IsFault e → (xs : List Argument) (r : List Token) → SpellsArguments text xs ts r → ⊥
+      go is [] r (inl p) = bad.never is r p
+      go is [] r (inr p) = missing p.0 p.1
+      go is (x ∷ xs) r w = missing w.0 w.1
+
+  -- behind the parenthesis that opens
+  opened : (Q : Front) (ts m r : List Token) → TheSign OpenParenthesis ts m → (TheSign OpenParenthesis ⋯ Q) ts r → Q (skip_line_ends m) r
+  opened Q ts m r there w = subst (λ (k : List Token). Q (skip_line_ends k) r) ((sign_sure OpenParenthesis).only ts w.0 m w.1 there) w.2
+
+  -- a parenthesis opens, and the next closes it, and the line doesn't end
+  pub empty_refused : (ts m k : List Token) (e : Stop) → TheSign OpenParenthesis ts m → TheSign CloseParenthesis (skip_line_ends m) k → Misses TheLineEnd k e → Refuses (SpellsArguments text) ts e
+  empty_refused ts m k e there close bad = record { never = go }
+    where
+      go : IsFault e → (xs : List Argument) (r : List Token) → SpellsArguments text xs ts r → ⊥
+      go is [] r (inl p) = let a = line_end_lead text ts r p in let b = sign_lead text OpenParenthesis ts m there in cc
+      go is [] r (inr p) =
+          let v = opened (TheSign CloseParenthesis ⨾ TheLineEnd) ts m r there p in
+          bad.never is r (subst (λ (x : List Token). TheLineEnd x r) ((sign_sure CloseParenthesis).only (skip_line_ends m) v.0 k v.1 close) v.2)
+      go is (x ∷ xs) r w =
+          let v = opened (SpellsInside text (x ∷ xs) ⨾ TheLineEnd) ts m r there w in
+          inside_no_sign CloseParenthesis (x ∷ xs) (skip_line_ends m) v.0 k v.1 close
+
+  -- a parenthesis opens, and no argument follows
+  pub inside_refused : (ts m : List Token) (e : Stop) → TheSign OpenParenthesis ts m → ((k : List Token) → TheSign CloseParenthesis (skip_line_ends m) k → ⊥) → Refuses (SpellsInside text) (skip_line_ends m) e
+      → Refuses (SpellsArguments text) ts e
+  inside_refused ts m e there missing bad = record { never = go }
+    where
+      go : IsFault e → (xs : List Argument) (r : List Token) → SpellsArguments text xs ts r → ⊥
+      go is [] r (inl p) = let a = line_end_lead text ts r p in let b = sign_lead text OpenParenthesis ts m there in cc
+      go is [] r (inr p) = let v = opened (TheSign CloseParenthesis ⨾ TheLineEnd) ts m r there p in missing v.0 v.1
+      go is (x ∷ xs) r w = let v = opened (SpellsInside text (x ∷ xs) ⨾ TheLineEnd) ts m r there w in bad.never is (x ∷ xs) v.0 v.1
+
+  -- arguments stand there, and the line doesn't end
+  pub unended_refused : (ts m k : List Token) (ys : List Argument) (e : Stop) → TheSign OpenParenthesis ts m → ((k : List Token) → TheSign CloseParenthesis (skip_line_ends m) k → ⊥)
+      → Reads (SpellsInside text) (skip_line_ends m) ys k → Misses TheLineEnd k e → Refuses (SpellsArguments text) ts e
+  unended_refused ts m k ys e there missing here bad = record { never = go }
+    where
+      go : IsFault e → (xs : List Argument) (r : List Token) → SpellsArguments text xs ts r → ⊥
+      go is [] r (inl p) = let a = line_end_lead text ts r p in let b = sign_lead text OpenParenthesis ts m there in cc
+      go is [] r (inr p) = let v = opened (TheSign CloseParenthesis ⨾ TheLineEnd) ts m r there p in missing v.0 v.1
+      go is (x ∷ xs) r w =
+          let v = opened (SpellsInside text (x ∷ xs) ⨾ TheLineEnd) ts m r there w in
+          let same = inside_one.only (x ∷ xs) ys (skip_line_ends m) v.0 k v.1 here.found in
+          bad.never is r (subst (λ (j : List Token). TheLineEnd j r) same.1 v.2)
+
+  -- and does
+  pub arguments_read : (ts m k r : List Token) (ys : List Argument) → TheSign OpenParenthesis ts m → Reads (SpellsInside text) (skip_line_ends m) ys k → TheLineEnd k r → Reads (SpellsArguments text) ts ys r
+  arguments_read ts m k r [] there here ended = absurd here.found
+  arguments_read ts m k r (y ∷ ys) there here ended = record { found = (m, there, (k, here.found, ended)) }
+
+  -- no instruction begins so
+  pub none_refused : (room : Bool) (l : Lead) (ts : List Token) (e : Stop) → lead_at text ts ≡ l → sort_at (plain l) ≡ none → Refuses (SpellsRoomy text room) ts e
+  none_refused room l ts e is_so out = record { never = λ is i r w. go i (sym (instruction_sort text i ts r w.1) ∙ sorted l ts is_so ∙ out) }
+    where
+      go : (i : Instruction) → sort_of i ≡ none → ⊥
+      go (instruction.Load negated operand) s = cc
+      go i s = cc
+
+-- a word that begins no instruction
+pub no_word : (k : Keyword) → ((n : Bool) → k ≡ word.Load n → ⊥) → ((s : Store) → k ≡ word.Store s → ⊥) → (k ≡ word.Not → ⊥) → ((o : Operator) → k ≡ word.Operate o → ⊥) → ((c : Condition) → k ≡ word.Jump c → ⊥)
+    → ((c : Condition) → k ≡ word.Return c → ⊥) → ((c : Condition) → k ≡ word.Call c → ⊥) → sort_at (reserved k) ≡ none
+no_word (word.Load n) a b c d e f g = absurd (a n refl)
+no_word (word.Store s) a b c d e f g = absurd (b s refl)
+no_word word.Not a b c d e f g = absurd (c refl)
+no_word (word.Operate o) a b c d e f g = absurd (d o refl)
+no_word (word.Jump x) a b c d e f g = absurd (e x refl)
+no_word (word.Return x) a b c d e f g = absurd (f x refl)
+no_word (word.Call x) a b c d e f g = absurd (g x refl)
+no_word k a b c d e f g = refl
+
+-- a sign that begins none
+pub no_sign : (s : Sign) → (s ≡ Ampersand → ⊥) → (s ≡ CloseParenthesis → ⊥) → sort_at (sign s) ≡ none
+no_sign Ampersand a b = absurd (a refl)
+no_sign CloseParenthesis a b = absurd (b refl)
+no_sign s a b = refl
+
+-- neither a name nor a word nor a sign
+pub no_other : (l : Lead) → (l ≡ first.Name → ⊥) → ((k : Keyword) → l ≡ first.Reserved k → ⊥) → ((s : Sign) → l ≡ first.Sign s → ⊥) → sort_at (plain l) ≡ none
+no_other first.Name a b c = absurd (a refl)
+no_other (first.Reserved k) a b c = absurd (b k refl)
+no_other (first.Sign s) a b c = absurd (c s refl)
+no_other l a b c = refl

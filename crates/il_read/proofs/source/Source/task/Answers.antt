@@ -1,0 +1,28 @@
+use Rattle.il_spec.specs.declared.keyword.Keyword.TheVariants as word
+use Rattle.il_spec.specs.Grammar.{loose, ◌⋯◌, TheName}
+use Rattle.il_grammar.proofs.Combinators.{place_of}
+use Rattle.il_grammar.proofs.Leads.{word_sure, the_name_one}
+use Rattle.il_read.specs.Settings.{SpellsTimes}
+use Rattle.il_read.proofs.Chain.{up, first, later, part}
+use Rattle.il_read.proofs.source.Source.task.Goals as goal
+
+pub returns-in_err-place-clause-refused : goal.returns-in_err-place-clause-refused
+returns-in_err-place-clause-refused c =
+    up _ c.from_residual.ensures.1
+    (first (λ b. b.place) loose (λ b. TheName c.args.self.now b.name ⋯ SpellsTimes c.args.self.now (b.interval, b.priority)) c.in_err-place.ensures.refused)
+
+pub returns-in_err-name-clause-refused : goal.returns-in_err-name-clause-refused
+returns-in_err-name-clause-refused c =
+    up _ c.from_residual-in_err-name.ensures.1
+    (later (λ b. b.place) loose (λ b. TheName c.args.self.now b.name ⋯ SpellsTimes c.args.self.now (b.interval, b.priority)) (place_of (word_sure c.args.self.now word.Task)) c.in_ok-place.ensures.reads
+    (first (λ b. b.name) loose (λ b. SpellsTimes c.args.self.now (b.interval, b.priority)) (rw c.skip_lines.ensures.rest at c.in_err-name.ensures.refused)))
+
+pub returns-in_err-times-clause-refused : goal.returns-in_err-times-clause-refused
+returns-in_err-times-clause-refused c =
+    up _ c.from_residual-in_err-times.ensures.1
+    (later (λ b. b.place) loose (λ b. TheName c.args.self.now b.name ⋯ SpellsTimes c.args.self.now (b.interval, b.priority)) (place_of (word_sure c.args.self.now word.Task)) c.in_ok-place.ensures.reads
+    (later (λ b. b.name) loose (λ b. SpellsTimes c.args.self.now (b.interval, b.priority)) (the_name_one c.args.self.now) (rw c.skip_lines.ensures.rest at c.in_ok-name.ensures.reads)
+    (part (λ b. (b.interval, b.priority)) (rw c.skip_lines-2.ensures.rest at c.in_err-times.ensures.refused))))
+
+pub returns-clause-reads : goal.returns-clause-reads
+returns-clause-reads c = rw c.task_of.ensures (record { found = (_, c.in_ok-place.ensures.reads.found, (_, (rw c.skip_lines.ensures.rest at c.in_ok-name.ensures.reads).found, (rw c.skip_lines-2.ensures.rest at c.in_ok-times.ensures.reads).found)) })

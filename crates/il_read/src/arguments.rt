@@ -1,0 +1,97 @@
+// Arguments of calls, and operands of functions (IEC 61131-3:2003, 3.2.3).
+
+ghost use Rattle.std.specs.Prelude.{◌<◌, ◌≤◌, length, IfOk, IfErr};
+ghost use Rattle.il_spec.specs.Grammar.{SpellsArguments, SpellsOperands};
+ghost use Rattle.il_read.specs.Reads.{Reads, Refuses, SpellsCalled, SpellsInside, SpellsListed};
+
+use crate::lead::Lead;
+use crate::source::Source;
+use crate::stop::Stop;
+use crate::tokens::{Gap, Tokens};
+use il_spec::list::Items;
+use il_spec::token::Sign;
+use il_spec::tree::{Argument, Named, Operand};
+
+impl<'t> Source<'t> {
+    /// Operands with commas between them, and the end of the line.
+    pub fn some_operands(&self, tokens: &mut Tokens) -> Result<Items<Operand>, Stop>
+        ensures reads { IfOk result (λ os. Reads (SpellsListed self.now) tokens.old os tokens.new) }
+        ensures refused { IfErr result (λ e. Refuses (SpellsListed self.now) tokens.old e) }
+        ensures shorter { IfOk result (λ _. length tokens.new < length tokens.old) }
+    {
+        let mut operands = Items::new(self.alloc());
+        let operand = self.operand(tokens, Gap::Tight)?;
+        operands.push(operand)?;
+        'operands: while self.eat_sign(tokens, Sign::Comma) {
+            let operand = self.operand(tokens, Gap::Tight)?;
+            operands.push(operand)?;
+        }
+        self.line_end(tokens)?;
+        Ok(operands)
+    }
+
+    /// The operands of a function, which may be none, and the end of the line.
+    #[tactic(auto, unfolding(crate::specs::Lead::lead_at))]
+    pub fn operands(&self, tokens: &mut Tokens) -> Result<Items<Operand>, Stop>
+        ensures reads { IfOk result (λ os. Reads (SpellsOperands self.now) tokens.old os tokens.new) }
+        ensures refused { IfErr result (λ e. Refuses (SpellsOperands self.now) tokens.old e) }
+        ensures shorter { IfOk result (λ _. length tokens.new < length tokens.old) }
+    {
+        if let Lead::LineEnd = self.lead(tokens) {
+            tokens.advance();
+            return Ok(Items::new(self.alloc()));
+        }
+        Ok(self.some_operands(tokens)?)
+    }
+
+    /// Arguments with commas between them, and the parenthesis that closes.
+    pub fn some_arguments(&self, tokens: &mut Tokens) -> Result<Items<Argument>, Stop>
+        ensures reads { IfOk result (λ xs. Reads (SpellsInside self.now) tokens.old xs tokens.new) }
+        ensures refused { IfErr result (λ e. Refuses (SpellsInside self.now) tokens.old e) }
+        ensures shorter { IfOk result (λ _. length tokens.new < length tokens.old) }
+    {
+        let mut arguments = Items::new(self.alloc());
+        let argument = self.argument(tokens)?;
+        arguments.push(argument)?;
+        tokens.skip_lines();
+        'arguments: while self.eat_sign(tokens, Sign::Comma) {
+            tokens.skip_lines();
+            let argument = self.argument(tokens)?;
+            arguments.push(argument)?;
+            tokens.skip_lines();
+        }
+        self.sign(tokens, Sign::CloseParenthesis)?;
+        Ok(arguments)
+    }
+
+    /// The arguments of a call, which may be none, with or without parentheses, and the end of the line.
+    pub fn arguments(&self, tokens: &mut Tokens) -> Result<Items<Argument>, Stop>
+        ensures reads { IfOk result (λ xs. Reads (SpellsArguments self.now) tokens.old xs tokens.new) }
+        ensures refused { IfErr result (λ e. Refuses (SpellsArguments self.now) tokens.old e) }
+        ensures shorter { IfOk result (λ _. length tokens.new < length tokens.old) }
+    {
+        if !self.eat_sign(tokens, Sign::OpenParenthesis) {
+            self.line_end(tokens)?;
+            return Ok(Items::new(self.alloc()));
+        }
+        tokens.skip_lines();
+        if self.eat_sign(tokens, Sign::CloseParenthesis) {
+            self.line_end(tokens)?;
+            return Ok(Items::new(self.alloc()));
+        }
+        let arguments = self.some_arguments(tokens)?;
+        self.line_end(tokens)?;
+        Ok(arguments)
+    }
+
+    /// The instance that is called, and its arguments.
+    pub fn called(&self, tokens: &mut Tokens) -> Result<(Named, Items<Argument>), Stop>
+        ensures reads { IfOk result (λ x. Reads (SpellsCalled self.now) tokens.old x tokens.new) }
+        ensures refused { IfErr result (λ e. Refuses (SpellsCalled self.now) tokens.old e) }
+        ensures shorter { IfOk result (λ _. length tokens.new < length tokens.old) }
+    {
+        let instance = self.named(tokens)?;
+        let arguments = self.arguments(tokens)?;
+        Ok((instance, arguments))
+    }
+}
