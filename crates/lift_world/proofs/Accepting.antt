@@ -109,7 +109,7 @@ none_spelled text tokens only refused c a =
     refused c (subst (λ ts. AfterLines (SpellsConfig text c) ts []) (only a.spelled.0 a.spelled.1) a.spelled.2) (record { units = a.limits.units; instructions = a.limits.instructions; nesting = a.limits.nesting })
 
 -- what the parser gives is the only such configuration
-same_spelled : (text : List ℕ) (tokens : List Token) (found : Config) → ((ts : List Token) → AreTokens text 0 ts → ts ≡ tokens)
+pub same_spelled : (text : List ℕ) (tokens : List Token) (found : Config) → ((ts : List Token) → AreTokens text 0 ts → ts ≡ tokens)
     → ((d : Config) → AfterLines (SpellsConfig text d) tokens [] → d ≡ found) → (c : Config) → IsSpelled text c → c ≡ found
 same_spelled text tokens found only unique c a = unique c (subst (λ ts. AfterLines (SpellsConfig text c) ts []) (only a.spelled.0 a.spelled.1) a.spelled.2)
 
@@ -124,16 +124,6 @@ none_judged text found e same refused fault c a =
 pub named_judged : {X : Type 0} (found : Config) (e : Refusal) (r : Result X Refusal) (c : Config) → c ≡ found → IsRefusedFor found e → IsErrAnd r (λ d. d ≡ e) → IsErrAnd r (IsRefusedFor c)
 named_judged {X} found e (Ok x) c is refused same = absurd same
 named_judged {X} found e (Err d) c is refused same = subst (λ f. IsRefusedFor f d) (sym is) (subst (IsRefusedFor found) (sym same) refused)
-
--- what a parser answers is spelled within the limits
-pub all_spelled : (text : List ℕ) (r : Result Config Refusal) → length text ≤ 262144 → IfOk r (Spells text) → IfOk r (λ c. length text ≤ 262144 → IsWithinLimits text c) → IfOk r (IsSpelled text)
-all_spelled text (Ok c) short spelled limits = record { spelled = spelled; limits = limits short }
-all_spelled text (Err e) short spelled limits = tt
-
-pub all_same : (text : List ℕ) (tokens : List Token) (r : Result Config Refusal) → ((ts : List Token) → AreTokens text 0 ts → ts ≡ tokens)
-    → IfOk r (λ c. (d : Config) → AfterLines (SpellsConfig text d) tokens [] → d ≡ c) → IfOk r (λ c. (d : Config) → IsSpelled text d → d ≡ c)
-all_same text tokens (Ok c) only unique = same_spelled text tokens c only unique
-all_same text tokens (Err e) only unique = tt
 
 -- what was parsed, judged and verified is accepted
 pub accepted_is : (text : List ℕ) (c checked : Config) → checked ≡ c → IsSpelled text c → IsSupported c → HasNoFault (BreaksInSubset c) → HasNoFault (Broken Typing c) → HasNoFault (Broken Ordering c) → Annotated checked → IsAccepted text checked
