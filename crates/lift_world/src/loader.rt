@@ -12,7 +12,7 @@ ghost use Rattle.il_machine.specs.Costs.{AreCosts};
 ghost use Rattle.lift_sound.specs.Runs.{RunsWell};
 ghost use Rattle.lift_world.specs.Loading.{IsSpelled, IsAccepted, IsRefusedFor, IsExplained, SpellsNone, cost_of};
 
-use il_code::code::Code;
+use il_code::code;
 use il_decl::declare;
 use il_machine::{UnitCost, Verified};
 use il_order::{Ordered, ordered};
@@ -45,7 +45,7 @@ pub fn load(alloc: Global, text: &[u8]) -> Result<Verified, Refusal>
     let declared = declare(alloc, carried)?;
     let typed = typed(declared)?;
     let ordered = ordered(typed)?;
-    let code = Code::of(alloc, ordered)?;
+    let code = code(alloc, ordered)?;
     let checked = verify(alloc, code)?;
     let budget = budget(alloc, &checked)?;
     Ok(Verified::of(checked, budget))

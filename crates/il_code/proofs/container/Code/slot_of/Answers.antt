@@ -5,7 +5,7 @@ use Rattle.il_code.specs.Paths.{slot_at}
 use Rattle.il_code.specs.Program.{program_cells}
 use Rattle.il_code.proofs.Made.{slot_is}
 use Rattle.il_code.proofs.Resolving.{resolved_of}
-use Rattle.il_code.proofs.code.Code.slot_of.Goals as goal
+use Rattle.il_code.proofs.container.Code.slot_of.Goals as goal
 
 pub returns : goal.returns
 returns c =

@@ -3,7 +3,7 @@ use Rattle.il_code.specs.Program.{program_names}
 use Rattle.il_code.specs.Whole.{unit_code}
 use Rattle.il_code.proofs.Made.{units_are_coded}
 use Rattle.il_code.proofs.Resolving.{resolved_of}
-use Rattle.il_code.proofs.code.Code.units.Goals as goal
+use Rattle.il_code.proofs.container.Code.units.Goals as goal
 
 pub returns : goal.returns
 returns c =

@@ -2,7 +2,7 @@ use Rattle.std.proofs.Common.{sym, subst}
 use Rattle.il_code.specs.declared.layout.Layout.{Layout}
 use Rattle.il_code.specs.Making.{IsReady}
 use Rattle.il_code.proofs.Made.{ready_laid, simple_laid, belongs_all}
-use Rattle.il_code.proofs.code.parts_of.Goals as goal
+use Rattle.il_code.proofs.container.parts_of.Goals as goal
 
 pub unit_codes-requires-clause-ready : goal.unit_codes-requires-clause-ready
 unit_codes-requires-clause-ready c =
