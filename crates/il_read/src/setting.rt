@@ -72,11 +72,11 @@ impl<'t> Source<'t> {
         ensures refused { IfErr result (λ e. Misses (SomeName self.now) tokens.old e) }
         ensures shorter { IfOk result (λ _. length tokens.new < length tokens.old) }
     {
-        let Lead::Name = self.lead(tokens) else {
-            return Err(tokens.outside());
-        };
-        tokens.advance();
-        Ok(())
+        if let Lead::Name = self.lead(tokens) {
+            tokens.advance();
+            return Ok(());
+        }
+        Err(tokens.outside())
     }
 
     /// This word, which is no reserved one.
