@@ -3,7 +3,7 @@ use Rattle.std.proofs.Common.{◌≡◌, ℕ, zero, suc, List, [], ◌∷◌, le
 use Rattle.std.specs.Prelude.{bytes_eq, ◌==◌, if◌then◌else◌}
 use Rattle.il_spec.specs.Text.{entry_of}
 use Rattle.il_spec.specs.Words.{reserved_words, keyword_of}
-use Rattle.il_read.specs.Lengths.{one_letter_words, two_letter_words, three_letter_words, four_letter_words, five_letter_words, longer_words}
+use Rattle.il_words.specs.Lengths.{one_letter_words, two_letter_words, three_letter_words, four_letter_words, five_letter_words, longer_words}
 
 -- the entries of these lengths
 abbrev kept : {A : Type 0} → (ℕ → Bool) → List (List ℕ × A) → List (List ℕ × A)
