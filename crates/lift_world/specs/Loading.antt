@@ -26,7 +26,7 @@ pub record IsAccepted (text : List ℕ) (c : Config) : Type 0 where
   pub ordered : HasNoFault (Broken Ordering c)
   pub annotated : Annotated c
 
--- The fault that is named: the first construct that isn't carried so far (90); where there is none, the first of declarations; where those break nothing, the first of
+-- The fault that is named: the first construct that is not run yet (90); where there is none, the first of declarations; where those break nothing, the first of
 -- types; then the first of order; and then the first instruction without ranges.
 pub data IsRefusedFor (c : Config) (refusal : Refusal) : Type 0 where
   by_stage : IsRefusedBy (IsLater c) refusal → IsRefusedFor c refusal

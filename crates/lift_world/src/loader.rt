@@ -28,7 +28,7 @@ use std::alloc::{AllocError, Global};
 
 /// The configuration that a text spells, verified.
 ///
-/// A text is refused with the first fault of these phases, in their order: tokens (1 to 6), grammar (10 to 12), what isn't carried so far (90),
+/// A text is refused with the first fault of these phases, in their order: tokens (1 to 6), grammar (10 to 12), what is not run yet (90),
 /// declarations (20 to 25), types (30 to 33, 37), order and slots (12), ranges (40, 43). From 20 on it is the phase's fault at the earliest place,
 /// at one place the one with the lowest number.
 pub fn load(alloc: Global, text: &[u8]) -> Result<Verified, Refusal>
