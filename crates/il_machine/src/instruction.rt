@@ -185,6 +185,7 @@ fn put_down(rows: &mut Rows, base: usize, slot: Slot, kind: Store, put: Content)
 
 /// What an instruction that goes on to the next does to the rows, and the current result that it leaves; none where the
 /// instruction is another.
+#[inline(always)]
 pub fn exec(
     rows: &mut Rows,
     base: usize,
