@@ -149,8 +149,8 @@ returns-in_err-checked-clause-number c =
 
 -- CODE AND COSTS
 
-pub of-requires : goal.of-requires
-of-requires c = record {
+pub code-requires : goal.code-requires
+code-requires c = record {
   written =
       subst IsWritten (sym (c.in_ok-ordered.ensures.same ∙ c.in_ok-typed.ensures.same ∙ c.in_ok-declared.ensures.same ∙ c.in_ok-carried.ensures.same)) (spelled_written c.args.text.now c.in_ok-config.config c.in_ok-config.ensures.spelled);
 }
@@ -163,21 +163,21 @@ returns-in_err-budget-clause-named c = λ fault. absurd (no_fault _ c.from_resid
 
 -- IT IS ACCEPTED
 
-pub of-requires-2-clause-runnable : goal.of-requires-2-clause-runnable
-of-requires-2-clause-runnable c =
+pub of-requires-clause-runnable : goal.of-requires-clause-runnable
+of-requires-clause-runnable c =
     runnable_is c.in_ok-checked.checked
     (subst IsWritten (sym (c.in_ok-checked.ensures.same ∙ c.in_ok-code.ensures ∙ c.in_ok-ordered.ensures.same ∙ c.in_ok-typed.ensures.same ∙ c.in_ok-declared.ensures.same ∙ c.in_ok-carried.ensures.same)) (spelled_written c.args.text.now c.in_ok-config.config c.in_ok-config.ensures.spelled))
     (subst IsSupported (sym (c.in_ok-checked.ensures.same ∙ c.in_ok-code.ensures ∙ c.in_ok-ordered.ensures.same ∙ c.in_ok-typed.ensures.same ∙ c.in_ok-declared.ensures.same)) c.in_ok-carried.ensures.supported)
     c.in_ok-budget.ensures.checked
 
-pub of-requires-2-clause-costs : goal.of-requires-2-clause-costs
-of-requires-2-clause-costs c =
+pub of-requires-clause-costs : goal.of-requires-clause-costs
+of-requires-clause-costs c =
     subst (AreCosts c.in_ok-checked.checked c.in_ok-checked.checked.units) (sym c.in_ok-budget.ensures.costs)
     (straight_costs c.in_ok-checked.checked c.in_ok-checked.checked (subst IsSupported (sym (c.in_ok-checked.ensures.same ∙ c.in_ok-code.ensures ∙ c.in_ok-ordered.ensures.same ∙ c.in_ok-typed.ensures.same ∙ c.in_ok-declared.ensures.same)) c.in_ok-carried.ensures.supported))
 
 pub returns-clause-found : goal.returns-clause-found
 returns-clause-found c =
-    subst (IsAccepted c.args.text.now) (sym c.of-2.ensures.config)
+    subst (IsAccepted c.args.text.now) (sym c.of.ensures.config)
     (accepted_by c.args.text.now c.in_ok-config.config c.in_ok-carried.carried c.in_ok-declared.declared c.in_ok-typed.typed c.in_ok-checked.checked
     c.in_ok-carried.ensures.same c.in_ok-declared.ensures.same c.in_ok-typed.ensures.same (c.in_ok-checked.ensures.same ∙ c.in_ok-code.ensures ∙ c.in_ok-ordered.ensures.same)
     (spells_only c.args.text.now c.deref.result.now c.in_ok-config.config (λ ts cut. c.in_ok-tokens.ensures.only ts cut ∙ sym c.deref.ensures.value) c.in_ok-tokens.ensures.short c.in_ok-config.ensures.spelled c.in_ok-config.ensures.limits c.in_ok-config.ensures.only)
@@ -185,6 +185,6 @@ returns-clause-found c =
 
 pub returns-clause-runs : goal.returns-clause-runs
 returns-clause-runs c =
-    subst RunsWell (sym c.of-2.ensures.config)
+    subst RunsWell (sym c.of.ensures.config)
     (runs_well c.in_ok-checked.checked
     (runnable_is c.in_ok-checked.checked (subst IsWritten (sym (c.in_ok-checked.ensures.same ∙ c.in_ok-code.ensures ∙ c.in_ok-ordered.ensures.same ∙ c.in_ok-typed.ensures.same ∙ c.in_ok-declared.ensures.same ∙ c.in_ok-carried.ensures.same)) (spelled_written c.args.text.now c.in_ok-config.config c.in_ok-config.ensures.spelled)) (subst IsSupported (sym (c.in_ok-checked.ensures.same ∙ c.in_ok-code.ensures ∙ c.in_ok-ordered.ensures.same ∙ c.in_ok-typed.ensures.same ∙ c.in_ok-declared.ensures.same)) c.in_ok-carried.ensures.supported) c.in_ok-budget.ensures.checked))
