@@ -2,7 +2,7 @@ use Rattle.il_spec.specs.declared.token.Sign.TheVariants.{OpenBracket, Dot}
 use Rattle.il_spec.specs.Grammar.{TheSign}
 use Rattle.il_read.specs.Reads.{gap_of}
 use Rattle.il_read.proofs.Chain.{up, was_there, was_missing}
-use Rattle.il_read.proofs.Alternatives.{bracket_refused, dot_refused, whole_read}
+use Rattle.il_read.proofs.Alternatives.{bracket_refused, dot_refused}
 use Rattle.il_read.proofs.source.Source.selector.Goals as goal
 
 pub returns-in_err-element-clause-refused : goal.returns-in_err-element-clause-refused
