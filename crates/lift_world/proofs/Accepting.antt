@@ -1,6 +1,6 @@
 -- Which texts are accepted.
 use Rattle.std.proofs.Common.{◌≡◌, ◌≢◌, refl, sym, ap, ◌∙◌, subst, ℕ, ◌+◌, ◌<◌, ◌≤◌, ◌⊎◌, inl, inr, ℤ, pos, negsuc, ◌≤ℤ◌, Bool, true, false, ◌&&◌, List, [], ◌∷◌, length, Some, Option, arith, zero, suc}
-use Rattle.std.specs.Prelude.{Contains, Ok, Err, Result, int_le, IsErrAnd, IfOk, None, option_and_then, if◌then◌else◌}
+use Rattle.std.specs.Prelude.{Contains, Ok, Err, Result, int_le, IsErrAnd, None, option_and_then, if◌then◌else◌}
 use lib.Signed.{le_z_yes}
 use lib.Dec.{T}
 use Rattle.std.proofs.lemmas.Int.{ints}
@@ -11,7 +11,7 @@ use Rattle.il_spec.specs.declared.token.Token.{Token}
 use Rattle.il_spec.specs.declared.fault.Refusal.{Refusal}
 use Rattle.il_spec.specs.declared.fault.Refusal.TheVariants.{Fault, Memory}
 use Rattle.il_spec.specs.Text.{AreTokens}
-use Rattle.il_spec.specs.Grammar.{AfterLines, SpellsConfig, Spells, IsWithinLimits}
+use Rattle.il_spec.specs.Grammar.{AfterLines, SpellsConfig}
 use Rattle.il_rules.specs.Names.{car_number, is_program, is_program_kind, program_named}
 use Rattle.il_spec.specs.declared.tree.UnitKind.TheVariants.{Program}
 use Rattle.il_rules.specs.Declarations.{sizes_of, is_within, size_outside, missing_task}

@@ -1,6 +1,6 @@
 -- What each phase's refusal says of the text.
 use Rattle.std.proofs.Common.{◌≡◌, ℕ, ◌<◌, ◌≤◌, List, length, arith, sym, subst, ap, inl, inr, Result, Ok, Err}
-use Rattle.std.specs.Prelude.{IsErrAnd, IfOk, IfErr}
+use Rattle.std.specs.Prelude.{IsErrAnd, IfErr}
 use Rattle.std.proofs.lemmas.Bool.{cases_lt}
 use Rattle.il_spec.specs.declared.fault.Refusal.{Refusal}
 use Rattle.il_spec.specs.declared.fault.Refusal.TheVariants.{Fault, Memory}

@@ -1,11 +1,10 @@
-use Rattle.std.proofs.Common.{sym, ap, ◌∙◌, subst}
-use Rattle.std.specs.Prelude.{map}
+use Rattle.std.proofs.Common.{sym, ◌∙◌, subst}
 use Rattle.il_spec.specs.declared.tree.Config.{Config}
 use Rattle.il_rules.specs.Subset.{IsSupported}
 use Rattle.il_rules.specs.Written.{IsWritten}
 use Rattle.il_machine.specs.Costs.{AreCosts}
 use Rattle.lift_sound.specs.Runs.{RunsWell}
-use Rattle.lift_world.specs.Loading.{IsAccepted, IsExplained, cost_of, by_stage}
+use Rattle.lift_world.specs.Loading.{IsAccepted, IsExplained, by_stage}
 use Rattle.lift_world.proofs.Sound.{runs_well}
 use Rattle.lift_world.proofs.Costs.{straight_costs}
 use Rattle.lift_world.proofs.Explaining.{handed_as, explained_by_tokens, explained_by_parser}
