@@ -1,0 +1,2 @@
+//! Checks the declarations of a configuration.
+#![tactic(auto)]

@@ -1,0 +1,11 @@
+//! What names mean in the units of a configuration.
+#![tactic(auto)]
+
+pub mod blocks;
+pub mod entry;
+pub mod functions;
+pub mod image;
+pub mod roles;
+mod words;
+
+pub use words::is_predeclared;
