@@ -4,3 +4,4 @@ pub mod Standard
 pub mod Images
 pub mod Views
 pub mod Cars
+pub mod Tables

@@ -5,7 +5,9 @@ pub mod blocks;
 pub mod entry;
 pub mod functions;
 pub mod image;
+mod numbers;
 pub mod roles;
+mod tables;
 mod words;
 
 pub use words::is_predeclared;
