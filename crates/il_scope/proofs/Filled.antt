@@ -171,7 +171,7 @@ forms-one form (n ∷ names) q = go (bytes_eq n.name q) (forms-one form names q)
     go true rest = refl
     go false rest = rest
 
-map-or_else : {A B : Type 0} (f : A → B) (a b : Option A) → option_map f (or_else a b) ≡ or_else (option_map f a) (option_map f b)
+pub map-or_else : {A B : Type 0} (f : A → B) (a b : Option A) → option_map f (or_else a b) ≡ or_else (option_map f a) (option_map f b)
 map-or_else f (Some x) b = refl
 map-or_else f None b = refl
 

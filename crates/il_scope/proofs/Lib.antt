@@ -1,3 +1,4 @@
 pub mod Known
 pub mod Digits
 pub mod Filled
+pub mod Seen

@@ -5,3 +5,4 @@ pub mod Images
 pub mod Views
 pub mod Cars
 pub mod Tables
+pub mod Meanings

@@ -5,6 +5,7 @@ pub mod blocks;
 pub mod entry;
 pub mod functions;
 pub mod image;
+mod meaning;
 mod numbers;
 pub mod roles;
 mod tables;
