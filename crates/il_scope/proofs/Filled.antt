@@ -133,8 +133,8 @@ names_next names i n key declared old mid new low there named is before q =
     ∙ ap (λ o. or_else o (if bytes_eq key q then Some declared else None)) (before q)
     ∙ by_either (get old q) (is_one_of (map (λ (x : Named). x.name) (take i names)) q) (bytes_eq key q) declared
     ∙ ap (λ b. or_else (get old q) (if b then Some declared else None)) (sym (one_of-last (map (λ (x : Named). x.name) (take i names)) key q)
-      ∙ ap (λ k. is_one_of (map (λ (x : Named). x.name) (take i names) ++ k ∷ []) q) named
-      ∙ ap (λ l. is_one_of l q) (sym (map-append (λ (x : Named). x.name) (take i names) (n ∷ [])) ∙ ap (map (λ (x : Named). x.name)) (sym (take_next names i n low there))))
+    ∙ ap (λ k. is_one_of (map (λ (x : Named). x.name) (take i names) ++ k ∷ []) q) named
+    ∙ ap (λ l. is_one_of l q) (sym (map-append (λ (x : Named). x.name) (take i names) (n ∷ [])) ∙ ap (map (λ (x : Named). x.name)) (sym (take_next names i n low there))))
 
 -- DECLARATIONS
 

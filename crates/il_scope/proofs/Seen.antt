@@ -1,5 +1,5 @@
 -- What names mean, as the rules say it.
-use Rattle.std.proofs.Common.{◌≡◌, ℕ, zero, suc, Bool, true, false, ◌&&◌, List, [], ◌∷◌, ◌++◌, map, refl, sym, ap, ◌∙◌, subst, Option, Some, None, is_some, option_map, option_and_then, bytes_eq, slice_get, if◌then◌else◌, ◌<◌, ◌≤◌, ◌+◌, length, get_or, arith}
+use Rattle.std.proofs.Common.{◌≡◌, ℕ, zero, suc, Bool, true, false, ◌&&◌, ◌||◌, List, [], ◌∷◌, ◌++◌, map, refl, sym, ap, ◌∙◌, subst, Option, Some, None, is_some, option_map, option_and_then, bytes_eq, slice_get, if◌then◌else◌, ◌<◌, ◌≤◌, ◌+◌, length, get_or, arith}
 use Rattle.std.proofs.lemmas.Option.{slice_get_read}
 use Rattle.std.specs.Prelude.{find}
 use Rattle.std.specs.Option.{option_or}
@@ -11,7 +11,7 @@ use Rattle.il_spec.specs.declared.tree.Declaration.{Declaration}
 use Rattle.il_spec.specs.declared.tree.Form.{Form}
 use Rattle.il_run.specs.NameMap.{NameMap, get}
 use Rattle.il_rules.specs.Names as rule
-use Rattle.il_rules.specs.Names.{Spelling, or_else, entry_of, named_forms, with_origin, result_of, variables_of, own_variable, is_predeclared, is_program_kind, is_seen_by, Everybody, CarPrograms, GroupPrograms, CarRole, GroupRole, sees, image_meaning, unit_named, global_meaning, outer_meaning, image_name, program_role, meaning, MeansVariable, MeansUnit, MeansStandard, AsInput, AsOutput, AsVariable, AsExternal}
+use Rattle.il_rules.specs.Names.{Spelling, or_else, entry_of, is_one_of, BlockVariables, own_block_variables, named_forms, with_origin, result_of, variables_of, own_variable, is_predeclared, is_program_kind, is_seen_by, Everybody, CarPrograms, GroupPrograms, CarRole, GroupRole, sees, image_meaning, unit_named, global_meaning, outer_meaning, image_name, program_role, meaning, MeansVariable, MeansUnit, MeansStandard, AsInput, AsOutput, AsVariable, AsExternal}
 use Rattle.il_rules.specs.Declarations.{names_of_units}
 use Rattle.il_scope.specs.declared.entry.VariableType.{VariableType}
 use Rattle.il_scope.specs.declared.entry.Variable.{Variable}
@@ -82,9 +82,9 @@ pub own_is : (config : Config) (unit : ProgramUnit) (scope : Scope) (q : Spellin
 own_is config unit scope q is = sym (
     ap (option_map (variable_of config)) (find-five p (result_of unit.kind unit.name.name) (with_origin AsInput unit.inputs) (with_origin AsOutput unit.outputs) (with_origin AsVariable unit.variables) (with_origin AsExternal unit.externals))
     ∙ either_of (variable_of config) (find p (result_of unit.kind unit.name.name)) _ _ _ (by_result config unit.kind unit.name.name q)
-      (either_of (variable_of config) (find p (with_origin AsInput unit.inputs)) _ _ _ (by_table config AsInput unit.inputs scope.inputs q is.inputs)
-        (either_of (variable_of config) (find p (with_origin AsOutput unit.outputs)) _ _ _ (by_table config AsOutput unit.outputs scope.outputs q is.outputs)
-          (either_of (variable_of config) (find p (with_origin AsVariable unit.variables)) _ _ _ (by_table config AsVariable unit.variables scope.variables q is.variables) (by_table config AsExternal unit.externals scope.externals q is.externals)))))
+    (either_of (variable_of config) (find p (with_origin AsInput unit.inputs)) _ _ _ (by_table config AsInput unit.inputs scope.inputs q is.inputs)
+    (either_of (variable_of config) (find p (with_origin AsOutput unit.outputs)) _ _ _ (by_table config AsOutput unit.outputs scope.outputs q is.outputs)
+    (either_of (variable_of config) (find p (with_origin AsVariable unit.variables)) _ _ _ (by_table config AsVariable unit.variables scope.variables q is.variables) (by_table config AsExternal unit.externals scope.externals q is.externals)))))
   where
     p : rule.Variable → Bool
     p v = bytes_eq v.name q
@@ -225,3 +225,34 @@ none_at (x ∷ xs) (suc k) low = none_at xs k (omega arith)
 -- what is read twice is one
 pub read_same : {A : Type 0} (xs : List A) (k : ℕ) (x y : A) → slice_get xs k ≡ Some x → slice_get xs k ≡ Some y → x ≡ y
 read_same xs k x y a b = let both : Some x ≡ Some y = sym a ∙ b in cc
+
+-- BLOCKS
+
+-- the unit of a scope
+pub unit_of : (config : Config) (units : List ProgramUnit) (scopes : List Scope) (k : ℕ) (s : Scope) → AreScopes config units scopes → slice_get scopes k ≡ Some s → (u : ProgramUnit) × (slice_get units k ≡ Some u) × IsScope config u s
+unit_of config [] [] k s are b = let bad : None ≡ Some s = b in cc
+unit_of config [] (t ∷ scopes) k s are b = absurd are
+unit_of config (x ∷ units) [] k s are b = absurd are
+unit_of config (x ∷ units) (t ∷ scopes) zero s are b = let scope : t ≡ s = cc in (x, refl, subst (IsScope config x) scope are.0)
+unit_of config (x ∷ units) (t ∷ scopes) (suc k) s are b = unit_of config units scopes k s are.1 b
+
+-- an own block's input or output
+pub own_entry : (config : Config) (list : BlockVariables → List (Spelling × Form)) (unit : Option ProgramUnit) (u : ProgramUnit) (word : Spelling) (o : Option VariableType) → unit ≡ Some u → o ≡ option_map (type_of config) (entry_of (list (own_block_variables u)) word) → o ≡ option_map (type_of config) (option_and_then (λ b. entry_of (list b) word) (option_map own_block_variables unit))
+own_entry config list unit u word o is e = e ∙ ap (λ x. option_map (type_of config) (option_and_then (λ b. entry_of (list b) word) (option_map own_block_variables x))) (sym is)
+
+-- none, where there is no unit
+pub own_entry_none : (config : Config) (list : BlockVariables → List (Spelling × Form)) (unit : Option ProgramUnit) (word : Spelling) → unit ≡ None → None ≡ option_map (type_of config) (option_and_then (λ b. entry_of (list b) word) (option_map own_block_variables unit))
+own_entry_none config list unit word is = ap (λ x. option_map (type_of config) (option_and_then (λ b. entry_of (list b) word) (option_map own_block_variables x))) (sym is)
+
+-- whether a name is among others
+pub place_there : (names : List Spelling) (q : Spelling) → is_some (place_of names q) ≡ is_one_of names q
+place_there [] q = refl
+place_there (n ∷ ns) q = go (bytes_eq n q) (place_of ns q) (place_there ns q)
+  where
+    by_place : (o : Option ℕ) → is_some (option_map (λ k. suc k) o) ≡ is_some o
+    by_place (Some k) = refl
+    by_place None = refl
+
+    go : (b : Bool) (o : Option ℕ) → is_some o ≡ is_one_of ns q → is_some (if b then Some 0 else option_map (λ k. suc k) o) ≡ (b || is_one_of ns q)
+    go true o rest = refl
+    go false o rest = by_place o ∙ rest

@@ -41,10 +41,7 @@ pub enum BlockType {
 #[derive(Clone, Copy)]
 pub enum VariableType {
     Scalar(Scalar),
-    Array {
-        bounds: Subrange,
-        element: Scalar,
-    },
+    Array { bounds: Subrange, element: Scalar },
     /// An instance of a block; none where the type's name is no block's.
     Instance(Option<BlockType>),
 }

@@ -27,19 +27,34 @@ fn number_name(cars: i64, floors: i64, slots: i64, name: &str) -> Option<ImageNa
     ensures { result ≡ entry_among (number_names cars floors slots) name.now }
 {
     if is_name(name, "CARS") {
-        Some(read(Audience::Everybody, VariableType::Scalar(within(cars, cars))))
+        Some(read(
+            Audience::Everybody,
+            VariableType::Scalar(within(cars, cars)),
+        ))
     } else if is_name(name, "FLOORS") {
-        Some(read(Audience::Everybody, VariableType::Scalar(within(floors, floors))))
+        Some(read(
+            Audience::Everybody,
+            VariableType::Scalar(within(floors, floors)),
+        ))
     } else if is_name(name, "SLOTS") {
-        Some(read(Audience::Everybody, VariableType::Scalar(within(slots, slots))))
+        Some(read(
+            Audience::Everybody,
+            VariableType::Scalar(within(slots, slots)),
+        ))
     } else if is_name(name, "NOW") {
-        Some(read(Audience::Everybody, VariableType::Scalar(plain(Elementary::Time))))
+        Some(read(
+            Audience::Everybody,
+            VariableType::Scalar(plain(Elementary::Time)),
+        ))
     } else if is_name(name, "RUNLIMIT") {
         Some(read(Audience::Everybody, VariableType::Scalar(within(0, cars))))
     } else if is_name(name, "CARNO") {
         Some(read(Audience::CarPrograms, VariableType::Scalar(within(1, cars))))
     } else if is_name(name, "POS") {
-        Some(read(Audience::CarPrograms, VariableType::Scalar(within(1, floors))))
+        Some(read(
+            Audience::CarPrograms,
+            VariableType::Scalar(within(1, floors)),
+        ))
     } else {
         None
     }
@@ -50,8 +65,16 @@ fn number_name(cars: i64, floors: i64, slots: i64, name: &str) -> Option<ImageNa
 fn signal_name(name: &str) -> Option<ImageName>
     ensures { result ≡ entry_among signal_names name.now }
 {
-    if is_name(name, "LEVEL") || is_name(name, "TOP") || is_name(name, "BOTTOM") || is_name(name, "LOCKED") || is_name(name, "OPENED") {
-        Some(read(Audience::CarPrograms, VariableType::Scalar(plain(Elementary::Bool))))
+    if is_name(name, "LEVEL")
+        || is_name(name, "TOP")
+        || is_name(name, "BOTTOM")
+        || is_name(name, "LOCKED")
+        || is_name(name, "OPENED")
+    {
+        Some(read(
+            Audience::CarPrograms,
+            VariableType::Scalar(plain(Elementary::Bool)),
+        ))
     } else {
         None
     }
@@ -85,9 +108,15 @@ fn command_name(cars: i64, slots: i64, name: &str) -> Option<ImageName>
     if is_name(name, "MOTOR") {
         Some(written(Audience::CarPrograms, VariableType::Scalar(within(-1, 1))))
     } else if is_name(name, "OPEN") {
-        Some(written(Audience::CarPrograms, VariableType::Scalar(plain(Elementary::Bool))))
+        Some(written(
+            Audience::CarPrograms,
+            VariableType::Scalar(plain(Elementary::Bool)),
+        ))
     } else if is_name(name, "SERVE") {
-        Some(written(Audience::CarPrograms, VariableType::Scalar(within(0, slots))))
+        Some(written(
+            Audience::CarPrograms,
+            VariableType::Scalar(within(0, slots)),
+        ))
     } else if is_name(name, "ASSIGN") {
         Some(written(Audience::GroupPrograms, row(slots, within(0, cars))))
     } else {
@@ -144,8 +173,8 @@ fn within(lower: i64, upper: i64) -> Scalar
     }
 }
 
-// An elementary type without a subrange.
-fn plain(elementary: Elementary) -> Scalar
+/// An elementary type without a subrange.
+pub fn plain(elementary: Elementary) -> Scalar
     ensures { result ≡ plain elementary }
 {
     Scalar {

@@ -4,11 +4,13 @@
 pub mod blocks;
 pub mod entry;
 pub mod functions;
-pub mod image;
+mod image;
+mod lookup;
 mod meaning;
 mod numbers;
 pub mod roles;
+mod scoped;
 mod tables;
 mod words;
 
-pub use words::is_predeclared;
+pub use scoped::Scoped;

@@ -32,7 +32,11 @@ pub fn function_number(config: &Config, units: &Table<usize>, name: &str) -> Opt
 {
     let number = unit_number(config, units, name);
     match number {
-        Some(number) => if is_function_at(config, number) { Some(number) } else { None },
+        Some(number) => if is_function_at(config, number) {
+            Some(number)
+        } else {
+            None
+        },
         None => None,
     }
 }
@@ -62,7 +66,11 @@ pub fn function_block_number(config: &Config, units: &Table<usize>, name: &str) 
 {
     let number = unit_number(config, units, name);
     match number {
-        Some(number) => if is_function_block_at(config, number) { Some(number) } else { None },
+        Some(number) => if is_function_block_at(config, number) {
+            Some(number)
+        } else {
+            None
+        },
         None => None,
     }
 }
@@ -92,7 +100,11 @@ pub fn program_number(config: &Config, units: &Table<usize>, name: &str) -> Opti
 {
     let number = unit_number(config, units, name);
     match number {
-        Some(number) => if is_program_at(config, number) { Some(number) } else { None },
+        Some(number) => if is_program_at(config, number) {
+            Some(number)
+        } else {
+            None
+        },
         None => None,
     }
 }

@@ -44,11 +44,7 @@ pub fn tables_of(alloc: Global, config: &Config) -> Result<Tables, AllocError>
 }
 
 // The names of a configuration with these units.
-fn scoped_tables(
-    alloc: Global,
-    config: &Config,
-    units: Table<usize>,
-) -> Result<Tables, AllocError>
+fn scoped_tables(alloc: Global, config: &Config, units: Table<usize>) -> Result<Tables, AllocError>
     requires { AreUnits config.now units }
     ensures { IfOk result (λ t. AreTables config.now t) }
 {
@@ -99,11 +95,7 @@ fn put_role(
 }
 
 // The scope of each unit.
-fn scopes(
-    alloc: Global,
-    config: &Config,
-    units: &Table<usize>,
-) -> Result<Items<Scope>, AllocError>
+fn scopes(alloc: Global, config: &Config, units: &Table<usize>) -> Result<Items<Scope>, AllocError>
     requires { AreUnits config.now units.now }
     ensures { IfOk result (λ s. AreScopes config.now config.now.units s) }
 {
