@@ -2,3 +2,4 @@ pub mod Known
 pub mod Digits
 pub mod Filled
 pub mod Seen
+pub mod Laws

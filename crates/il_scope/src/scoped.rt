@@ -5,12 +5,12 @@ ghost use Rattle.il_spec.specs.declared.tree.Unit.{Unit as ProgramUnit};
 ghost use Rattle.il_rules.specs.Names.{entry_of, is_one_of, is_predeclared, meaning, program_role};
 ghost use Rattle.il_rules.specs.Declarations.{global_form, names_of_units};
 ghost use Rattle.il_scope.specs.Entries.{role_entry};
-ghost use Rattle.il_scope.specs.Views.{function_number, program_number, type_of, binding_of, variables_of_block};
+ghost use Rattle.il_scope.specs.Views.{block_type, function_number, program_number, type_of, binding_of, variables_of_block};
 
 use crate::entry::{Binding, BlockType, Role, VariableType};
 use crate::lookup::{block_input, block_output, is_unit};
 use crate::meaning::meaning;
-use crate::numbers::{function_number, program_number};
+use crate::numbers::{block_type, function_number, program_number};
 use crate::tables::{Tables, tables_of, type_of};
 use crate::words::is_predeclared;
 use il_spec::tree::{Config, Form};
@@ -77,6 +77,13 @@ impl Scoped {
         ensures { result ≡ program_number self.now name.now }
     {
         program_number(&self.config, &self.tables.units, name)
+    }
+
+    /// The block of a name, standard or own (2.5.2).
+    pub fn block(&self, name: &str) -> Option<BlockType>
+        ensures { result ≡ block_type self.now name.now }
+    {
+        block_type(&self.config, &self.tables.units, name)
     }
 
     /// The role of the program of a name: that of the first PROGRAM line that gives it one (own rule).
