@@ -1,2 +1,4 @@
 pub mod Lowest
 pub mod Instances
+pub mod Lists
+pub mod TaskLaws

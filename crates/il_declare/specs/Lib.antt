@@ -1,3 +1,4 @@
 pub mod DeclareFaults
 pub mod Places
 pub mod Written
+pub mod TaskRules

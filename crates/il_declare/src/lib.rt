@@ -2,6 +2,8 @@
 #![tactic(auto)]
 
 mod fault;
+mod sets;
+mod tasks;
 mod types;
 
 pub use fault::DeclareFault;
