@@ -2,3 +2,4 @@ pub mod DeclareFaults
 pub mod Places
 pub mod Written
 pub mod TaskRules
+pub mod CarRules

@@ -1,6 +1,7 @@
 //! Checks the declarations of a configuration, and says what its names mean.
 #![tactic(auto)]
 
+mod cars;
 mod fault;
 mod sets;
 mod tasks;
