@@ -3,3 +3,5 @@ pub mod Places
 pub mod Written
 pub mod TaskRules
 pub mod CarRules
+pub mod Sizes
+pub mod Externals

@@ -3,6 +3,8 @@
 
 mod cars;
 mod fault;
+mod externals;
+mod sizes;
 mod sets;
 mod tasks;
 mod types;
