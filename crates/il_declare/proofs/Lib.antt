@@ -3,3 +3,4 @@ pub mod Instances
 pub mod Lists
 pub mod TaskLaws
 pub mod CarLaws
+pub mod Againness

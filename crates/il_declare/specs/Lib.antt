@@ -5,3 +5,4 @@ pub mod TaskRules
 pub mod CarRules
 pub mod Sizes
 pub mod Externals
+pub mod Again

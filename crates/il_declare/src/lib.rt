@@ -3,6 +3,7 @@
 
 mod cars;
 mod fault;
+mod again;
 mod externals;
 mod sizes;
 mod sets;
