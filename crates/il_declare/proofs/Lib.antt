@@ -4,3 +4,4 @@ pub mod Lists
 pub mod TaskLaws
 pub mod CarLaws
 pub mod Againness
+pub mod InLists

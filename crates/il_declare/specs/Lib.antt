@@ -6,3 +6,4 @@ pub mod CarRules
 pub mod Sizes
 pub mod Externals
 pub mod Again
+pub mod Taken

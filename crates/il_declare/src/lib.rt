@@ -3,6 +3,8 @@
 
 mod cars;
 mod fault;
+mod here;
+mod taken;
 mod again;
 mod externals;
 mod sizes;
