@@ -5,3 +5,4 @@ pub mod TaskLaws
 pub mod CarLaws
 pub mod Againness
 pub mod InLists
+pub mod MentionLaws

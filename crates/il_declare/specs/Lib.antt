@@ -7,3 +7,4 @@ pub mod Sizes
 pub mod Externals
 pub mod Again
 pub mod Taken
+pub mod Mentions

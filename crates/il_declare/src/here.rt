@@ -19,8 +19,8 @@ pub struct Here<'a> {
 
 impl Here<'_> {
     /// What a name means in the unit.
-    pub fn meaning(self, name: &str) -> Option<Binding>
-        ensures { result ≡ option_map (binding_of self.names.now) (meaning self.names.now self.unit.now name.now) }
+    pub fn meaning(&self, name: &str) -> Option<Binding>
+        ensures { result ≡ option_map (binding_of self.now.names.now) (meaning self.now.names.now self.now.unit.now name.now) }
     {
         self.names.meaning(self.at, name)
     }

@@ -3,6 +3,7 @@
 
 mod cars;
 mod fault;
+mod mentions;
 mod here;
 mod taken;
 mod again;
