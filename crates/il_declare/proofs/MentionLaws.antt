@@ -1,12 +1,18 @@
 -- What names in instructions break is what the rules say.
-use Rattle.std.proofs.Common.{◌≡◌, ℕ, Bool, true, false, not, List, [], ◌∷◌, refl, sym, ap, ◌∙◌, Option, Some, None, is_some, option_map, option_and_then, if◌then◌else◌}
+use Rattle.std.proofs.Common.{◌≡◌, ℕ, Bool, true, false, not, List, [], ◌∷◌, ◌++◌, refl, sym, ap, ◌∙◌, Option, Some, None, is_some, option_map, option_and_then, if◌then◌else◌}
 use Rattle.il_spec.specs.declared.tree.Config.{Config}
+use Rattle.std.specs.Prelude.{flat_map}
+use Rattle.il_spec.specs.declared.tree.Unit.{Unit as ProgramUnit}
+use Rattle.il_spec.specs.declared.tree.Named.{Named}
+use Rattle.il_spec.specs.declared.tree.Operand.{Operand}
+use Rattle.il_spec.specs.declared.tree.Instruction.{Instruction}
+use Rattle.il_spec.specs.declared.tree.Instruction.TheVariants.{Invoke}
 use Rattle.il_spec.specs.declared.tree.Place.{Place}
 use Rattle.il_spec.specs.declared.tree.Form.{Form}
 use Rattle.il_spec.specs.declared.tree.Form.TheVariants.{Scalar as OfScalar, Array as OfArray, Block as OfBlock}
 use Rattle.il_rules.specs.Names as rule
 use Rattle.il_rules.specs.Names.{Spelling, BlockVariables, entry_of, Meaning, MeansVariable, MeansUnit, MeansStandard, standard_function, function_named}
-use Rattle.il_rules.specs.Declarations.{Access, unless, is_visible, scalar_numbers, scalar_form_numbers, array_numbers, array_form_numbers, called_numbers, called_form_numbers, member_numbers, member_form_numbers}
+use Rattle.il_rules.specs.Declarations.{Access, Reads, unless, reference_numbers, name_numbers, is_visible, scalar_numbers, scalar_form_numbers, array_numbers, array_form_numbers, called_numbers, called_form_numbers, member_numbers, member_form_numbers}
 use Rattle.il_scope.specs.Views.{type_of, binding_of, variables_of_block, function_number}
 use Rattle.il_scope.specs.Entries.{function_entry}
 use Rattle.il_scope.specs.declared.entry.StandardFunction.{StandardFunction}
@@ -87,3 +93,11 @@ function_standard config name place s standard word test there =
 pub there_changed : {A B : Type 0} (f : A → B) (o : Option A) (r : Option B) (b : Bool) → b ≡ is_some r → r ≡ option_map f o → b ≡ is_some o
 there_changed f (Some x) r b e is = e ∙ ap is_some is
 there_changed f None r b e is = e ∙ ap is_some is
+
+-- the names of a function's call
+pub invoke_is : (config : Config) (unit : ProgramUnit) (place : Place) (instruction : Instruction) (function : Named) (operands passed : List Operand) (r : Option NumberedFault) → instruction ≡ Invoke function operands → passed ≡ operands
+    → r ≡ lowest_at ((if is_some (standard_function function.name) then [] else unless (is_some (function_named config function.name)) 21) ++ flat_map (λ o. reference_numbers config unit Reads o.reference) passed) place → r ≡ lowest_at (name_numbers config unit instruction) place
+unfolding name_numbers
+invoke_is config unit place instruction function operands passed r is same e =
+    e ∙ ap (λ l. lowest_at ((if is_some (standard_function function.name) then [] else unless (is_some (function_named config function.name)) 21) ++ flat_map (λ (o : Operand). reference_numbers config unit Reads o.reference) l) place) same
+    ∙ ap (λ i. lowest_at (name_numbers config unit i) place) (sym is)
