@@ -3,6 +3,7 @@
 
 mod cars;
 mod fault;
+mod units;
 mod mentions;
 mod here;
 mod taken;
