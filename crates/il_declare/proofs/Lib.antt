@@ -6,3 +6,4 @@ pub mod CarLaws
 pub mod Againness
 pub mod InLists
 pub mod MentionLaws
+pub mod SizeLaws

@@ -9,3 +9,4 @@ pub mod Again
 pub mod Taken
 pub mod Mentions
 pub mod Units
+pub mod Whole
