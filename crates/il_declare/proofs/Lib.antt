@@ -7,3 +7,6 @@ pub mod Againness
 pub mod InLists
 pub mod MentionLaws
 pub mod SizeLaws
+pub mod Members
+pub mod Numbers
+pub mod AllBroken
