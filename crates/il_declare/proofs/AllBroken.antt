@@ -206,3 +206,156 @@ is_broken config n p (inl (inr h)) = unit_is config h.0 n p h.1 h.2
 is_broken config n p (inr (inl h)) = globals_are config n p h
 is_broken config n p (inr (inr (inl h))) = second_are config n p h
 is_broken config n p (inr (inr (inr h))) = tasks_are config n p h
+
+-- TO THE PARTS
+
+-- a fault of a unit
+of_unit : (config : Config) (u : ProgramUnit) (n : ℕ) (p : Place) → Contains config.units u → UnitBreaks config u n p → AllBreak config n p
+of_unit config u n p c h = inl (inr (u, c, h))
+
+-- a fault of a list's written types
+listed_type : (config : Config) (a : Admitted) (ds : List Declaration) (t : Admitted × WrittenType) (n : ℕ) (p : Place) → Contains (types_in a ds) t → TypeFault config t n p → Among (Misdeclared config a) ds n p
+listed_type config a ds t n p c h = let m = from_map (λ (x : Declaration). (a, x.declared)) ds t c in (m.0, m.1, inl (subst (λ x. TypeFault config x n p) (sym m.2) h))
+
+-- of a function's result
+result_type : (config : Config) (kind : UnitKind) (t : Admitted × WrittenType) (n : ℕ) (p : Place) → Contains (result_types kind) t → TypeFault config t n p → BreaksResult kind n p
+unfolding type_numbers
+result_type config (Function scalar place) t n p c h = subst (λ x. TypeFault config x n p) (sym (one_in (ScalarsAlone, record { place = place; form = OfScalar scalar }) t c)) h
+result_type config FunctionBlock t n p c h = absurd (none_in t c)
+result_type config Program t n p c h = absurd (none_in t c)
+
+-- of a unit
+unit_type_in : (config : Config) (u : ProgramUnit) (t : Admitted × WrittenType) (n : ℕ) (p : Place) → Contains (unit_types u) t → TypeFault config t n p → Either (BreaksResult u.kind) (BreaksLists config u) n p
+unit_type_in config u t n p c h =
+    elim (Contains-append_cases (written u) (types_in ScalarsAndArrays u.externals) t c)
+    [ inl i ↦ elim (in_four (result_types u.kind) (types_in ScalarsAlone u.inputs) (types_in ScalarsAlone u.outputs) (types_in (admitted_variables u.kind) u.variables) t i)
+        [ inl k ↦ inl (result_type config u.kind t n p k h)
+        | inr (inl k) ↦ inr (inl (listed_type config ScalarsAlone u.inputs t n p k h))
+        | inr (inr (inl k)) ↦ inr (inr (inl (listed_type config ScalarsAlone u.outputs t n p k h)))
+        | inr (inr (inr k)) ↦ inr (inr (inr (inl (listed_type config (admitted_variables u.kind) u.variables t n p k h)))) ]
+    | inr i ↦ inr (inr (inr (inr (listed_type config ScalarsAndArrays u.externals t n p i h)))) ]
+
+-- a broken type
+from_type : (config : Config) (n : ℕ) (p : Place) → IsTypeBroken config n p → AllBreak config n p
+from_type config n p (t, c, h, at) =
+    elim (Contains-append_cases (flat_map unit_types config.units) (types_in ScalarsAndArrays config.globals) t c)
+    [ inl i ↦ of_one (from_flat unit_types config.units t i)
+    | inr i ↦ inr (inl (inl (listed_type config ScalarsAndArrays config.globals t n p i (h, at)))) ]
+  where
+    of_one : (u : ProgramUnit) × Contains config.units u × Contains (unit_types u) t → AllBreak config n p
+    of_one r = of_unit config r.0 n p r.1 (inl (inl (unit_type_in config r.0 t n p r.2 (h, at))))
+
+-- a broken initial value
+from_initial : (config : Config) (n : ℕ) (p : Place) → IsInitialBroken config n p → AllBreak config n p
+from_initial config n p (d, i, c, is, h, at) =
+    elim (Contains-append_cases (flat_map unit_declarations config.units) config.globals d c)
+    [ inl k ↦ of_one (from_flat unit_declarations config.units d k)
+    | inr k ↦ inr (inl (inl (d, k, inr (i, is, h, at)))) ]
+  where
+    of_lists : (u : ProgramUnit) → Contains (unit_declarations u) d → BreaksLists config u n p
+    of_lists u k = elim (in_four u.inputs u.outputs u.variables u.externals d k)
+        [ inl j ↦ inl (d, j, inr (i, is, h, at))
+        | inr (inl j) ↦ inr (inl (d, j, inr (i, is, h, at)))
+        | inr (inr (inl j)) ↦ inr (inr (inl (d, j, inr (i, is, h, at))))
+        | inr (inr (inr j)) ↦ inr (inr (inr (d, j, inr (i, is, h, at)))) ]
+
+    of_one : (u : ProgramUnit) × Contains config.units u × Contains (unit_declarations u) d → AllBreak config n p
+    of_one r = of_unit config r.0 n p r.1 (inl (inl (inr (of_lists r.0 r.2))))
+
+-- a broken name
+from_name : (config : Config) (n : ℕ) (p : Place) → IsNameBroken config n p → AllBreak config n p
+from_name config n p (u, s, c, k, h, at) = of_unit config u n p c (inl (inr (inr (inr (s, k, (h, at))))))
+
+-- one of two tests
+or_left : (a b : Bool) → a ≡ true → (a || b) ≡ true
+or_left a b h = ap (λ x. x || b) h
+
+or_right : (a b : Bool) → b ≡ true → (a || b) ≡ true
+or_right true b h = refl
+or_right false b h = h
+
+-- a taken name
+of_taken : (config : Config) (u : ProgramUnit) (n : ℕ) (p : Place) → Contains config.units u → (m : Named) → Contains (unit_names u) m → TakenName config m n p → AllBreak config n p
+of_taken config u n p c m named h = let d = from_flat (λ (x : Declaration). x.names) (unit_declarations u) m named in of_unit config u n p c (inl (inr (inr (inl (inr (to_lists (TakenNames config) u n p d.0 d.1 (m, d.2, h)))))))
+
+-- a taken name of a global
+of_global : (config : Config) (n : ℕ) (p : Place) (m : Named) → Contains (names_in config.globals) m → TakenName config m n p → AllBreak config n p
+of_global config n p m named h = let d = from_flat (λ (x : Declaration). x.names) config.globals m named in inr (inl (inr (inl (d.0, d.1, (m, d.2, h)))))
+
+-- a duplicate
+from_duplicate : (config : Config) (n : ℕ) (p : Place) → n ≡ 20 → IsDuplicate config p → AllBreak config n p
+from_duplicate config n p e (rule.predeclared_unit u c t at) = of_unit config u n p c (inl (inr (inr (inl (inl (t, e, at))))))
+from_duplicate config n p e (rule.second_unit u again at) = inr (inr (inl (inl (again_found (λ (x : ProgramUnit). x.name.name) (λ x. x.place) 20 config.units u n p again e at))))
+from_duplicate config n p e (rule.predeclared_variable u m c named t at) = of_taken config u n p c m named (or_left (is_predeclared config m.name) (is_one_of (names_of_units config) m.name) t, e, at)
+from_duplicate config n p e (rule.variable_as_unit u m c named t at) = of_taken config u n p c m named (or_right (is_predeclared config m.name) (is_one_of (names_of_units config) m.name) (in_one_of (names_of_units config) m.name t), e, at)
+from_duplicate config n p e (rule.second_variable u m c again at) = of_unit config u n p c (inr (inl (again_found (λ (x : Named). x.name) (λ x. x.place) 20 (unit_names u) m n p again e at)))
+from_duplicate config n p e (rule.second_label u m c again at) = of_unit config u n p c (inr (inr (again_found (λ (x : Named). x.name) (λ x. x.place) 20 (labels_of u.body) m n p again e at)))
+from_duplicate config n p e (rule.predeclared_global m named t at) = of_global config n p m named (or_left (is_predeclared config m.name) (is_one_of (names_of_units config) m.name) t, e, at)
+from_duplicate config n p e (rule.global_as_unit m named t at) = of_global config n p m named (or_right (is_predeclared config m.name) (is_one_of (names_of_units config) m.name) (in_one_of (names_of_units config) m.name t), e, at)
+from_duplicate config n p e (rule.second_global m again at) = inr (inl (inr (inr (again_found (λ (x : Named). x.name) (λ x. x.place) 20 (names_in config.globals) m n p again e at))))
+from_duplicate config n p e (rule.second_task t again at) = inr (inr (inl (inr (inl (again_found (λ (x : Task). x.name.name) (λ x. x.place) 20 config.tasks t n p again e at)))))
+from_duplicate config n p e (rule.second_program_line l again at) = inr (inr (inl (inr (inr (again_found (λ (x : ProgramLine). x.name.name) (λ x. x.place) 20 config.programs l n p again e at)))))
+
+-- a wrong task
+from_task : (config : Config) (n : ℕ) (p : Place) → n ≡ 24 → IsBadTask config p → TasksBreak config n p
+from_task config n p e (rule.foreign_task t c none at) = inl (t, c, inl (none, e, at))
+from_task config n p e (rule.unknown_task l c never at) = inr (inl (l, c, (task.unknown_task never, e, at)))
+from_task config n p e (rule.second_line l again at) = inr (inr (inr (inr (again_found (λ (x : ProgramLine). x.task.name) (λ x. x.place) 24 config.programs l n p again e at))))
+from_task config n p e (rule.unknown_program l c none at) = inr (inl (l, c, (task.unknown_program none, e, at)))
+from_task config n p e (rule.other_role l r c is differs at) = inr (inl (l, c, (task.other_role_given (r, is, differs), e, at)))
+from_task config n p e (rule.missing_task k low high none at) = inr (inr (inr (inl ((k, low, high, none), e, at))))
+from_task config n p e (rule.missing_line t c never at) = inl (t, c, inr (never, e, at))
+from_task config n p e (rule.unused_program u c is never at) = inr (inr (inl (u, c, ((is, never), e, at))))
+
+-- what is found itself
+exactly : (config : Config) (n : ℕ) (p : Place) → AllBreak config n p → Covered (AllBreak config) n p
+exactly config n p h = (n, p, h, no_later-refl n p)
+
+-- an external's type
+from_external : (config : Config) (n : ℕ) (p : Place) → n ≡ 25 → (d : Declaration) (m : Named) (form : Form) → IsExternal config d m → global_form config m.name ≡ Some form → d.declared.form ≢ form → p ≡ d.declared.place → Covered (AllBreak config) n p
+unfolding type_numbers
+from_external config n p e d m form x is differs at = go d.declared.form refl
+  where
+    own : Differs d.declared.form form → Covered (AllBreak config) n p
+    own h = exactly config n p (of_unit config x.unit n p x.written (inl (inr (inl (d, x.listed, (m, x.named, inr ((form, is, h), e, at)))))))
+
+    same : (f : Form) → d.declared.form ≡ f → Differs f form → Differs d.declared.form form
+    same f k h = subst (λ g. Differs g form) (sym k) h
+
+    broken_type : (k : ℕ) → Contains (type_numbers config ScalarsAndArrays d.declared.form) k → k ≤ 25 → Covered (AllBreak config) n p
+    broken_type k h low =
+        (k, d.declared.place, of_unit config x.unit k d.declared.place x.written (inl (inl (inr (inr (inr (inr (d, x.listed, inl (h, refl)))))))), same_place (ap (λ q. q.offset) (sym at)) (subst (λ j. k ≤ j) (sym e) low))
+
+    go : (f : Form) → d.declared.form ≡ f → Covered (AllBreak config) n p
+    go (OfScalar s) k = own (same (OfScalar s) k (λ h. differs (k ∙ h)))
+    go (OfArray b s) k = own (same (OfArray b s) k (λ h. differs (k ∙ h)))
+    go (OfBlock name) k = elim (instance_breaks ScalarsAndArrays (block_variables config name) refl)
+        [ inl h ↦ broken_type 21 (subst (λ g. Contains (type_numbers config ScalarsAndArrays g) 21) (sym k) h) (omega arith)
+        | inr h ↦ broken_type 25 (subst (λ g. Contains (type_numbers config ScalarsAndArrays g) 25) (sym k) h) (omega arith) ]
+
+-- an unknown name
+from_unknown : (config : Config) (n : ℕ) (p : Place) → n ≡ 21 → IsUnknown config p → AllBreak config n p
+from_unknown config n p e (rule.unknown_type h) = subst (λ k. AllBreak config k p) (sym e) (from_type config 21 p h)
+from_unknown config n p e (rule.unknown_global d m x none at) = of_unit config x.unit n p x.written (inl (inr (inl (d, x.listed, (m, x.named, inl (none, e, at))))))
+from_unknown config n p e (rule.unknown_name h) = subst (λ k. AllBreak config k p) (sym e) (from_name config 21 p h)
+
+-- another type
+from_other : (config : Config) (n : ℕ) (p : Place) → n ≡ 25 → HasOtherType config p → Covered (AllBreak config) n p
+from_other config n p e (rule.type_misplaced h) = exactly config n p (subst (λ k. AllBreak config k p) (sym e) (from_type config 25 p h))
+from_other config n p e (rule.initial_of_other_type h) = exactly config n p (subst (λ k. AllBreak config k p) (sym e) (from_initial config 25 p h))
+from_other config n p e (rule.external_differs d m form x is differs at) = from_external config n p e d m form x is differs at
+from_other config n p e (rule.name_of_other_type h) = exactly config n p (subst (λ k. AllBreak config k p) (sym e) (from_name config 25 p h))
+
+-- a size or an initial value
+from_outside : (config : Config) (n : ℕ) (p : Place) → n ≡ 23 → IsInitialOutside config p → AllBreak config n p
+from_outside config n p e (rule.initial_outside h) = subst (λ k. AllBreak config k p) (sym e) (from_initial config 23 p h)
+from_outside config n p e (rule.size_outside s c h at) = inl (inl (s, c, (h, e, at)))
+
+-- each broken rule is found, or an earlier one
+pub broken_is : (config : Config) (n : ℕ) (p : Place) → BreaksDeclarations config n p → Covered (AllBreak config) n p
+broken_is config n p (broken.duplicate e h) = exactly config n p (from_duplicate config n p e h)
+broken_is config n p (broken.unknown e h) = exactly config n p (from_unknown config n p e h)
+broken_is config n p (broken.empty_range e h) = exactly config n p (subst (λ k. AllBreak config k p) (sym e) (from_type config 22 p h))
+broken_is config n p (broken.initial_outside e h) = exactly config n p (from_outside config n p e h)
+broken_is config n p (broken.bad_task e h) = exactly config n p (inr (inr (inr (from_task config n p e h))))
+broken_is config n p (broken.other_type e h) = from_other config n p e h
