@@ -1,11 +1,11 @@
 -- Names that stand again: lists one behind another, and what the rules say.
-use Rattle.std.proofs.Common.{◌≡◌, ◌⊎◌, inl, inr, ℕ, zero, suc, ◌+◌, ◌<◌, Bool, true, false, IsTrue, List, [], ◌∷◌, ◌++◌, map, take, length, get_or, refl, sym, ap, ◌∙◌, subst, Option, Some, None, is_some, arith, append-nil, append_assoc, ◌||◌, bytes_eq, if◌then◌else◌}
+use Rattle.std.proofs.Common.{◌≡◌, inl, inr, ℕ, ◌+◌, ◌<◌, Bool, true, false, IsTrue, List, [], ◌∷◌, ◌++◌, map, take, length, get_or, refl, sym, ap, ◌∙◌, subst, Option, Some, None, is_some, append-nil, append_assoc, ◌||◌, bytes_eq, if◌then◌else◌}
 use Rattle.std.proofs.lemmas.List.Concat.{flat_map-append}
-use Rattle.std.specs.Prelude.{Contains, flat_map}
+use Rattle.std.specs.Prelude.{flat_map}
 use Rattle.il_spec.specs.declared.tree.Place.{Place}
 use Rattle.il_spec.specs.declared.tree.Named.{Named}
 use Rattle.il_spec.specs.declared.tree.Declaration.{Declaration}
-use Rattle.il_run.specs.NameMap.{NameMap, get, insert, empty, get-empty}
+use Rattle.il_run.specs.NameMap.{get, insert, empty, get-empty}
 use Rattle.il_rules.specs.Names.{Spelling, is_one_of}
 use Rattle.il_rules.specs.Declarations.{IsAgain, names_in}
 use Rattle.il_found.specs.Least.{NumberedFault, fault_of, earlier_of, IsLeast, When, Either}
@@ -63,7 +63,7 @@ module _ {A : Type 0} (name_of : A → Spelling) (place_of : A → Place) (numbe
   so_far_next seen xs i x key again found one r mid new low there named test added is_one is before = record {
     least = subst (λ l. IsLeast r (AgainFrom name_of place_of number seen l)) (sym longer)
         (least_append seen (take i xs) (x ∷ []) found one r is before.least
-          (least_one (with_names seen (map name_of (take i xs))) x again one (test ∙ ap (λ k. is_some (get mid k)) named ∙ ap (λ m. is_some (get m (name_of x))) before.seen_is) is_one));
+        (least_one (with_names seen (map name_of (take i xs))) x again one (test ∙ ap (λ k. is_some (get mid k)) named ∙ ap (λ m. is_some (get m (name_of x))) before.seen_is) is_one));
     seen_is = added ∙ ap (λ k. insert mid k tt) named ∙ ap (λ m. insert m (name_of x) tt) before.seen_is ∙ sym (after-append seen (take i xs) (x ∷ [])) ∙ ap (λ l. with_names seen (map name_of l)) (sym longer);
   }
     where
@@ -98,8 +98,8 @@ pub four_lists : (u1 u2 u3 u4 l1 l2 l3 l4 : List Declaration) (seen s0 s1 s2 s3 
 four_lists u1 u2 u3 u4 l1 l2 l3 l4 seen s0 s1 s2 s3 a b c d ab abc r e1 e2 e3 e4 start first p1 second p2 third p3 fourth two three four =
     subst (λ l. IsLeast r (NamedAgain seen l)) flat
     (two_lists seen seen s3 ((names_in l1 ++ names_in l2) ++ names_in l3) (names_in l4) abc d r refl
-      (two_lists seen seen s2 (names_in l1 ++ names_in l2) (names_in l3) ab c abc refl (two_lists seen s0 s1 (names_in l1) (names_in l2) a b ab start first p1 second two) passed2 third three)
-      passed3 fourth four)
+    (two_lists seen seen s2 (names_in l1 ++ names_in l2) (names_in l3) ab c abc refl (two_lists seen s0 s1 (names_in l1) (names_in l2) a b ab start first p1 second two) passed2 third three)
+    passed3 fourth four)
   where
     passed2 : s2 ≡ after seen (names_in l1 ++ names_in l2)
     passed2 = p2 ∙ ap (λ m. after m (names_in l2)) (p1 ∙ ap (λ m. after m (names_in l1)) start) ∙ sym (after-append (λ (n : Named). n.name) (λ n. n.place) 20 seen (names_in l1) (names_in l2))
@@ -112,7 +112,7 @@ four_lists u1 u2 u3 u4 l1 l2 l3 l4 seen s0 s1 s2 s3 a b c d ab abc r e1 e2 e3 e4
         ap (λ l. ((names_in l ++ names_in l2) ++ names_in l3) ++ names_in l4) e1 ∙ ap (λ l. ((names_in u1 ++ names_in l) ++ names_in l3) ++ names_in l4) e2
         ∙ ap (λ l. ((names_in u1 ++ names_in u2) ++ names_in l) ++ names_in l4) e3 ∙ ap (λ l. ((names_in u1 ++ names_in u2) ++ names_in u3) ++ names_in l) e4
         ∙ sym (flat_map-append (λ (d : Declaration). d.names) ((u1 ++ u2) ++ u3) u4
-          ∙ ap (λ l. l ++ names_in u4) (flat_map-append (λ (d : Declaration). d.names) (u1 ++ u2) u3 ∙ ap (λ l. l ++ names_in u3) (flat_map-append (λ (d : Declaration). d.names) u1 u2)))
+        ∙ ap (λ l. l ++ names_in u4) (flat_map-append (λ (d : Declaration). d.names) (u1 ++ u2) u3 ∙ ap (λ l. l ++ names_in u3) (flat_map-append (λ (d : Declaration). d.names) u1 u2)))
 
 -- a set with a name more
 set_more : (s : List Spelling) (seen : Seen) (n : Spelling) → IsSet s seen → IsSet (s ++ n ∷ []) (insert seen n tt)

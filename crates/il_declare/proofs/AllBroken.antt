@@ -1,5 +1,5 @@
 -- What the parts find is what the rules of declarations say.
-use Rattle.std.proofs.Common.{◌≡◌, ◌≢◌, ◌⊎◌, inl, inr, ℕ, ◌≤◌, Bool, true, false, ◌||◌, IsTrue, List, [], ◌∷◌, ◌++◌, map, refl, sym, ap, ◌∙◌, subst, Option, Some, None, arith}
+use Rattle.std.proofs.Common.{◌≡◌, ◌≢◌, ◌⊎◌, inl, inr, ℕ, ◌≤◌, Bool, true, false, ◌||◌, List, ◌++◌, refl, sym, ap, ◌∙◌, subst, Some, arith}
 use Rattle.std.specs.Prelude.{Contains, flat_map}
 use Rattle.std.proofs.lemmas.List.Elements.{Contains-append_left, Contains-append_right, Contains-append_cases}
 use Rattle.il_spec.specs.declared.tree.Config.{Config}
@@ -7,10 +7,8 @@ use Rattle.il_spec.specs.declared.tree.Unit.{Unit as ProgramUnit}
 use Rattle.il_spec.specs.declared.tree.UnitKind.{UnitKind}
 use Rattle.il_spec.specs.declared.tree.UnitKind.TheVariants.{Function, FunctionBlock, Program}
 use Rattle.il_spec.specs.declared.tree.Declaration.{Declaration}
-use Rattle.il_spec.specs.declared.tree.Initial.{Initial}
 use Rattle.il_spec.specs.declared.tree.Named.{Named}
 use Rattle.il_spec.specs.declared.tree.Place.{Place}
-use Rattle.il_spec.specs.declared.tree.Step.{Step}
 use Rattle.il_spec.specs.declared.tree.Task.{Task}
 use Rattle.il_spec.specs.declared.tree.ProgramLine.{ProgramLine}
 use Rattle.il_spec.specs.declared.tree.WrittenType.{WrittenType}
@@ -21,16 +19,16 @@ use Rattle.il_rules.specs.Declarations as rule
 use Rattle.il_rules.specs.Declarations.{Admitted, ScalarsAlone, ScalarsAndArrays, admitted_variables, types_in, result_types, unit_types, written_types, type_numbers, subrange_numbers, initial_numbers, name_numbers, unit_declarations, all_declarations, names_in, unit_names, labels_of, names_of_units, global_form, IsTypeBroken, IsInitialBroken, IsNameBroken, IsAgain, IsDuplicate, IsUnknown, IsInitialOutside, IsBadTask, HasOtherType, IsExternal}
 use Rattle.il_rules.specs.Faults as broken
 use Rattle.il_rules.specs.Faults.{BreaksDeclarations, IsNoLater, same_place}
-use Rattle.il_found.specs.Least.{When, Either}
+use Rattle.il_found.specs.Least.{Either}
 use Rattle.il_found.proofs.Least.{Covered, no_later-refl}
-use Rattle.il_declare.specs.Places.{At, Among}
-use Rattle.il_declare.specs.Written.{BreaksInitial, Misdeclared}
-use Rattle.il_declare.specs.Externals.{Differs, BreaksExternal, BreaksExternals}
+use Rattle.il_declare.specs.Places.{Among}
+use Rattle.il_declare.specs.Written.{Misdeclared}
+use Rattle.il_declare.specs.Externals.{Differs, BreaksExternal}
 use Rattle.il_declare.specs.Taken.{InLists, TakenName, TakenNames, TakenInUnit}
 use Rattle.il_declare.specs.TaskRules as task
 use Rattle.il_declare.specs.TaskRules.{TaskBreaks, BreaksLine, IsUnusedOf}
-use Rattle.il_declare.specs.Units.{BreaksResult, BreaksLists, BreaksChecked, DeclaresAgain, UnitBreaks}
-use Rattle.il_declare.specs.Whole.{SizesBreak, GlobalsBreak, SecondNames, TasksBreak, AllBreak}
+use Rattle.il_declare.specs.Units.{BreaksResult, BreaksLists, UnitBreaks}
+use Rattle.il_declare.specs.Whole.{GlobalsBreak, SecondNames, TasksBreak, AllBreak}
 use Rattle.il_declare.proofs.Members.{none_in, one_in, in_map, from_map, in_flat, from_flat}
 use Rattle.il_declare.proofs.Numbers.{type_cases, initial_cases, name_cases, instance_breaks}
 use Rattle.il_declare.proofs.Againness.{again_found, found_again}
@@ -41,24 +39,27 @@ use Rattle.il_declare.proofs.Lists.{in_one_of, one_of_in}
 -- a broken type
 type_is : (config : Config) (n : ℕ) (p : Place) → IsTypeBroken config n p → BreaksDeclarations config n p
 type_is config n p h =
-    elim (type_cases config h.0.0 h.0.1.form n h.2)
-    [ inl e ↦ broken.unknown e (rule.unknown_type (subst (λ k. IsTypeBroken config k p) e h))
-    | inr (inl e) ↦ broken.empty_range e (subst (λ k. IsTypeBroken config k p) e h)
-    | inr (inr e) ↦ broken.other_type e (rule.type_misplaced (subst (λ k. IsTypeBroken config k p) e h)) ]
+    elim (type_cases config h.0.0 h.0.1.form n h.2) [
+      | inl e ↦ broken.unknown e (rule.unknown_type (subst (λ k. IsTypeBroken config k p) e h))
+      | inr (inl e) ↦ broken.empty_range e (subst (λ k. IsTypeBroken config k p) e h)
+      | inr (inr e) ↦ broken.other_type e (rule.type_misplaced (subst (λ k. IsTypeBroken config k p) e h))
+    ]
 
 -- a broken initial value
 initial_is : (config : Config) (n : ℕ) (p : Place) → IsInitialBroken config n p → BreaksDeclarations config n p
 initial_is config n p h =
-    elim (initial_cases h.0.declared.form h.1.literal n h.4)
-    [ inl e ↦ broken.initial_outside e (rule.initial_outside (subst (λ k. IsInitialBroken config k p) e h))
-    | inr e ↦ broken.other_type e (rule.initial_of_other_type (subst (λ k. IsInitialBroken config k p) e h)) ]
+    elim (initial_cases h.0.declared.form h.1.literal n h.4) [
+      | inl e ↦ broken.initial_outside e (rule.initial_outside (subst (λ k. IsInitialBroken config k p) e h))
+      | inr e ↦ broken.other_type e (rule.initial_of_other_type (subst (λ k. IsInitialBroken config k p) e h))
+    ]
 
 -- a broken name
 name_is : (config : Config) (n : ℕ) (p : Place) → IsNameBroken config n p → BreaksDeclarations config n p
 name_is config n p h =
-    elim (name_cases config h.0 h.1.instruction n h.4)
-    [ inl e ↦ broken.unknown e (rule.unknown_name (subst (λ k. IsNameBroken config k p) e h))
-    | inr e ↦ broken.other_type e (rule.name_of_other_type (subst (λ k. IsNameBroken config k p) e h)) ]
+    elim (name_cases config h.0 h.1.instruction n h.4) [
+      | inl e ↦ broken.unknown e (rule.unknown_name (subst (λ k. IsNameBroken config k p) e h))
+      | inr e ↦ broken.other_type e (rule.name_of_other_type (subst (λ k. IsNameBroken config k p) e h))
+    ]
 
 -- LISTS
 
@@ -76,9 +77,10 @@ in_fourth : {A : Type 0} (a b c d : List A) (x : A) → Contains d x → Contain
 in_fourth a b c d x h = Contains-append_right (a ++ b ++ c) d x h
 
 in_four : {A : Type 0} (a b c d : List A) (x : A) → Contains (a ++ b ++ c ++ d) x → Contains a x ⊎ (Contains b x ⊎ (Contains c x ⊎ Contains d x))
-in_four a b c d x h = elim (Contains-append_cases (a ++ b ++ c) d x h)
-    [ inl i ↦ elim (Contains-append_cases (a ++ b) c x i) [ inl j ↦ elim (Contains-append_cases a b x j) [ inl k ↦ inl k | inr k ↦ inr (inl k) ] | inr j ↦ inr (inr (inl j)) ]
-    | inr i ↦ inr (inr (inr i)) ]
+in_four a b c d x h = elim (Contains-append_cases (a ++ b ++ c) d x h) [
+  | inl i ↦ elim (Contains-append_cases (a ++ b) c x i) [ inl j ↦ elim (Contains-append_cases a b x j) [ inl k ↦ inl k | inr k ↦ inr (inl k) ] | inr j ↦ inr (inr (inl j)) ]
+  | inr i ↦ inr (inr (inr i))
+]
 
 -- the faults of a unit's declarations, by the declaration
 to_lists : (H : Declaration → ℕ → Place → Type 0) (u : ProgramUnit) (n : ℕ) (p : Place) (d : Declaration) → Contains (unit_declarations u) d → H d n p → InLists H u n p
@@ -122,8 +124,13 @@ result_is config u n p c h = go u.kind refl h
   where
     go : (k : UnitKind) → u.kind ≡ k → BreaksResult k n p → BreaksDeclarations config n p
     go (Function scalar place) is b =
-        type_is config n p ((ScalarsAlone, record { place = place; form = OfScalar scalar }), unit_type config u _ c (Contains-append_left (written u) (types_in ScalarsAndArrays u.externals) _ (in_first (result_types u.kind) (types_in ScalarsAlone u.inputs) (types_in ScalarsAlone u.outputs) (types_in (admitted_variables u.kind) u.variables) _
-          (subst (λ x. Contains (result_types x) (ScalarsAlone, record { place = place; form = OfScalar scalar })) (sym is) (0, omega arith, refl)))), b.0, b.1)
+        type_is config n p (
+          (ScalarsAlone, record { place = place; form = OfScalar scalar }),
+          unit_type config u _ c (Contains-append_left (written u) (types_in ScalarsAndArrays u.externals) _ (in_first (result_types u.kind) (types_in ScalarsAlone u.inputs) (types_in ScalarsAlone u.outputs) (types_in (admitted_variables u.kind) u.variables) _
+              (subst (λ x. Contains (result_types x) (ScalarsAlone, record { place = place; form = OfScalar scalar })) (sym is) (0, omega arith, refl)))),
+          b.0,
+          b.1,
+        )
     go FunctionBlock is b = absurd b
     go Program is b = absurd b
 
@@ -152,9 +159,10 @@ either_true false b h = inr h
 
 taken_is : (config : Config) (u : ProgramUnit) (n : ℕ) (p : Place) → Contains config.units u → (m : Named) → Contains (unit_names u) m → TakenName config m n p → BreaksDeclarations config n p
 taken_is config u n p c m named h =
-    elim (either_true (is_predeclared config m.name) (is_one_of (names_of_units config) m.name) h.0)
-    [ inl t ↦ broken.duplicate h.1 (rule.predeclared_variable u m c named t h.2)
-    | inr t ↦ broken.duplicate h.1 (rule.variable_as_unit u m c named (one_of_in (names_of_units config) m.name t) h.2) ]
+    elim (either_true (is_predeclared config m.name) (is_one_of (names_of_units config) m.name) h.0) [
+      | inl t ↦ broken.duplicate h.1 (rule.predeclared_variable u m c named t h.2)
+      | inr t ↦ broken.duplicate h.1 (rule.variable_as_unit u m c named (one_of_in (names_of_units config) m.name t) h.2)
+    ]
 
 taken_unit : (config : Config) (u : ProgramUnit) (n : ℕ) (p : Place) → Contains config.units u → TakenInUnit config u n p → BreaksDeclarations config n p
 taken_unit config u n p c (inl h) = broken.duplicate h.1 (rule.predeclared_unit u c h.0 h.2)
@@ -174,9 +182,10 @@ unit_is config u n p c (inr (inr h)) = let r = found_again (λ (m : Named). m.na
 globals_are : (config : Config) (n : ℕ) (p : Place) → GlobalsBreak config n p → BreaksDeclarations config n p
 globals_are config n p (inl h) = declared_is config ScalarsAndArrays h.0 n p (Contains-append_right (flat_map unit_types config.units) (types_in ScalarsAndArrays config.globals) _ (in_types ScalarsAndArrays config.globals h.0 h.1)) (Contains-append_right (flat_map unit_declarations config.units) config.globals h.0 h.1) h.2
 globals_are config n p (inr (inl h)) =
-    elim (either_true (is_predeclared config h.2.0.name) (is_one_of (names_of_units config) h.2.0.name) h.2.2.0)
-    [ inl t ↦ broken.duplicate h.2.2.1 (rule.predeclared_global h.2.0 (in_flat (λ (x : Declaration). x.names) config.globals h.0 h.2.0 h.1 h.2.1) t h.2.2.2)
-    | inr t ↦ broken.duplicate h.2.2.1 (rule.global_as_unit h.2.0 (in_flat (λ (x : Declaration). x.names) config.globals h.0 h.2.0 h.1 h.2.1) (one_of_in (names_of_units config) h.2.0.name t) h.2.2.2) ]
+    elim (either_true (is_predeclared config h.2.0.name) (is_one_of (names_of_units config) h.2.0.name) h.2.2.0) [
+      | inl t ↦ broken.duplicate h.2.2.1 (rule.predeclared_global h.2.0 (in_flat (λ (x : Declaration). x.names) config.globals h.0 h.2.0 h.1 h.2.1) t h.2.2.2)
+      | inr t ↦ broken.duplicate h.2.2.1 (rule.global_as_unit h.2.0 (in_flat (λ (x : Declaration). x.names) config.globals h.0 h.2.0 h.1 h.2.1) (one_of_in (names_of_units config) h.2.0.name t) h.2.2.2)
+    ]
 globals_are config n p (inr (inr h)) = let r = found_again (λ (m : Named). m.name) (λ m. m.place) 20 (names_in config.globals) n p h in broken.duplicate r.2 (rule.second_global r.0 r.1 r.3)
 
 -- second names
@@ -227,20 +236,23 @@ result_type config Program t n p c h = absurd (none_in t c)
 -- of a unit
 unit_type_in : (config : Config) (u : ProgramUnit) (t : Admitted × WrittenType) (n : ℕ) (p : Place) → Contains (unit_types u) t → TypeFault config t n p → Either (BreaksResult u.kind) (BreaksLists config u) n p
 unit_type_in config u t n p c h =
-    elim (Contains-append_cases (written u) (types_in ScalarsAndArrays u.externals) t c)
-    [ inl i ↦ elim (in_four (result_types u.kind) (types_in ScalarsAlone u.inputs) (types_in ScalarsAlone u.outputs) (types_in (admitted_variables u.kind) u.variables) t i)
-        [ inl k ↦ inl (result_type config u.kind t n p k h)
+    elim (Contains-append_cases (written u) (types_in ScalarsAndArrays u.externals) t c) [
+      | inl i ↦ elim (in_four (result_types u.kind) (types_in ScalarsAlone u.inputs) (types_in ScalarsAlone u.outputs) (types_in (admitted_variables u.kind) u.variables) t i) [
+        | inl k ↦ inl (result_type config u.kind t n p k h)
         | inr (inl k) ↦ inr (inl (listed_type config ScalarsAlone u.inputs t n p k h))
         | inr (inr (inl k)) ↦ inr (inr (inl (listed_type config ScalarsAlone u.outputs t n p k h)))
-        | inr (inr (inr k)) ↦ inr (inr (inr (inl (listed_type config (admitted_variables u.kind) u.variables t n p k h)))) ]
-    | inr i ↦ inr (inr (inr (inr (listed_type config ScalarsAndArrays u.externals t n p i h)))) ]
+        | inr (inr (inr k)) ↦ inr (inr (inr (inl (listed_type config (admitted_variables u.kind) u.variables t n p k h))))
+      ]
+      | inr i ↦ inr (inr (inr (inr (listed_type config ScalarsAndArrays u.externals t n p i h))))
+    ]
 
 -- a broken type
 from_type : (config : Config) (n : ℕ) (p : Place) → IsTypeBroken config n p → AllBreak config n p
 from_type config n p (t, c, h, at) =
-    elim (Contains-append_cases (flat_map unit_types config.units) (types_in ScalarsAndArrays config.globals) t c)
-    [ inl i ↦ of_one (from_flat unit_types config.units t i)
-    | inr i ↦ inr (inl (inl (listed_type config ScalarsAndArrays config.globals t n p i (h, at)))) ]
+    elim (Contains-append_cases (flat_map unit_types config.units) (types_in ScalarsAndArrays config.globals) t c) [
+      | inl i ↦ of_one (from_flat unit_types config.units t i)
+      | inr i ↦ inr (inl (inl (listed_type config ScalarsAndArrays config.globals t n p i (h, at))))
+    ]
   where
     of_one : (u : ProgramUnit) × Contains config.units u × Contains (unit_types u) t → AllBreak config n p
     of_one r = of_unit config r.0 n p r.1 (inl (inl (unit_type_in config r.0 t n p r.2 (h, at))))
@@ -248,16 +260,18 @@ from_type config n p (t, c, h, at) =
 -- a broken initial value
 from_initial : (config : Config) (n : ℕ) (p : Place) → IsInitialBroken config n p → AllBreak config n p
 from_initial config n p (d, i, c, is, h, at) =
-    elim (Contains-append_cases (flat_map unit_declarations config.units) config.globals d c)
-    [ inl k ↦ of_one (from_flat unit_declarations config.units d k)
-    | inr k ↦ inr (inl (inl (d, k, inr (i, is, h, at)))) ]
+    elim (Contains-append_cases (flat_map unit_declarations config.units) config.globals d c) [
+      | inl k ↦ of_one (from_flat unit_declarations config.units d k)
+      | inr k ↦ inr (inl (inl (d, k, inr (i, is, h, at))))
+    ]
   where
     of_lists : (u : ProgramUnit) → Contains (unit_declarations u) d → BreaksLists config u n p
-    of_lists u k = elim (in_four u.inputs u.outputs u.variables u.externals d k)
-        [ inl j ↦ inl (d, j, inr (i, is, h, at))
-        | inr (inl j) ↦ inr (inl (d, j, inr (i, is, h, at)))
-        | inr (inr (inl j)) ↦ inr (inr (inl (d, j, inr (i, is, h, at))))
-        | inr (inr (inr j)) ↦ inr (inr (inr (d, j, inr (i, is, h, at)))) ]
+    of_lists u k = elim (in_four u.inputs u.outputs u.variables u.externals d k) [
+      | inl j ↦ inl (d, j, inr (i, is, h, at))
+      | inr (inl j) ↦ inr (inl (d, j, inr (i, is, h, at)))
+      | inr (inr (inl j)) ↦ inr (inr (inl (d, j, inr (i, is, h, at))))
+      | inr (inr (inr j)) ↦ inr (inr (inr (d, j, inr (i, is, h, at))))
+    ]
 
     of_one : (u : ProgramUnit) × Contains config.units u × Contains (unit_declarations u) d → AllBreak config n p
     of_one r = of_unit config r.0 n p r.1 (inl (inl (inr (of_lists r.0 r.2))))
@@ -329,9 +343,10 @@ from_external config n p e d m form x is differs at = go d.declared.form refl
     go : (f : Form) → d.declared.form ≡ f → Covered (AllBreak config) n p
     go (OfScalar s) k = own (same (OfScalar s) k (λ h. differs (k ∙ h)))
     go (OfArray b s) k = own (same (OfArray b s) k (λ h. differs (k ∙ h)))
-    go (OfBlock name) k = elim (instance_breaks ScalarsAndArrays (block_variables config name) refl)
-        [ inl h ↦ broken_type 21 (subst (λ g. Contains (type_numbers config ScalarsAndArrays g) 21) (sym k) h) (omega arith)
-        | inr h ↦ broken_type 25 (subst (λ g. Contains (type_numbers config ScalarsAndArrays g) 25) (sym k) h) (omega arith) ]
+    go (OfBlock name) k = elim (instance_breaks ScalarsAndArrays (block_variables config name) refl) [
+      | inl h ↦ broken_type 21 (subst (λ g. Contains (type_numbers config ScalarsAndArrays g) 21) (sym k) h) (omega arith)
+      | inr h ↦ broken_type 25 (subst (λ g. Contains (type_numbers config ScalarsAndArrays g) 25) (sym k) h) (omega arith)
+    ]
 
 -- an unknown name
 from_unknown : (config : Config) (n : ℕ) (p : Place) → n ≡ 21 → IsUnknown config p → AllBreak config n p

@@ -1,5 +1,5 @@
 -- Which numbers types, initial values and names in instructions break.
-use Rattle.std.proofs.Common.{◌≡◌, ◌⊎◌, inl, inr, ℕ, Bool, true, false, ◌&&◌, List, [], ◌∷◌, ◌++◌, refl, sym, ap, ◌∙◌, subst, arith, Option, Some, None, is_some, if◌then◌else◌}
+use Rattle.std.proofs.Common.{◌≡◌, ◌⊎◌, inl, inr, ℕ, Bool, true, false, ◌&&◌, List, [], ◌∷◌, ◌++◌, refl, sym, subst, arith, Option, Some, None, is_some, if◌then◌else◌}
 use Rattle.std.specs.Prelude.{Contains, flat_map, int_le}
 use Rattle.std.proofs.lemmas.List.Elements.{Contains-append_cases}
 use Rattle.il_spec.specs.declared.tree.Config.{Config}
@@ -47,9 +47,10 @@ pub type_cases : (config : Config) (a : Admitted) (form : Form) (n : ℕ) → Co
 unfolding type_numbers
 type_cases config a (OfScalar s) n c = inr (subrange_cases s.elementary s.subrange n c)
 type_cases config a (OfArray bounds e) n c =
-    elim (Contains-append_cases (unless (admits_arrays a) 25 ++ bounds_numbers bounds) (subrange_numbers e.elementary e.subrange) n c)
-    [ inl x ↦ inr (elim (Contains-append_cases (unless (admits_arrays a) 25) (bounds_numbers bounds) n x) [ inl y ↦ inr (unless_in (admits_arrays a) 25 n y) | inr z ↦ inl (unless_in _ 22 n z) ])
-    | inr y ↦ inr (subrange_cases e.elementary e.subrange n y) ]
+    elim (Contains-append_cases (unless (admits_arrays a) 25 ++ bounds_numbers bounds) (subrange_numbers e.elementary e.subrange) n c) [
+      | inl x ↦ inr (elim (Contains-append_cases (unless (admits_arrays a) 25) (bounds_numbers bounds) n x) [ inl y ↦ inr (unless_in (admits_arrays a) 25 n y) | inr z ↦ inl (unless_in _ 22 n z) ])
+      | inr y ↦ inr (subrange_cases e.elementary e.subrange n y)
+    ]
 type_cases config a (OfBlock name) n c = elim (instance_cases a (block_variables config name) n c) [ inl x ↦ inl x | inr y ↦ inr (inr y) ]
 
 -- an instance where none is admitted breaks 21 or 25

@@ -1,14 +1,13 @@
 -- The sizes of a group: what is found is what is broken.
-use Rattle.std.proofs.Common.{◌≡◌, ℕ, zero, suc, Bool, true, false, not, ◌&&◌, IsFalse, List, [], ◌∷◌, refl, sym, ap, ◌∙◌, subst, Option, arith, inl, inr}
-use Rattle.std.specs.Prelude.{Contains, ℤ, pos, int_le}
+use Rattle.std.proofs.Common.{◌≡◌, ℕ, zero, suc, Bool, true, false, not, ◌&&◌, IsFalse, refl, sym, ap, subst, Option, arith, inl, inr}
+use Rattle.std.specs.Prelude.{pos, int_le}
 use Rattle.il_spec.specs.declared.tree.Config.{Config}
 use Rattle.il_spec.specs.declared.tree.Place.{Place}
 use Rattle.il_spec.specs.declared.tree.Size.{Size}
 use Rattle.il_spec.specs.declared.tree.Subrange.{Subrange}
-use Rattle.il_rules.specs.Declarations.{sizes_of, is_within}
-use Rattle.il_found.specs.Least.{NumberedFault, earlier_of, IsLeast, When, Either}
+use Rattle.il_rules.specs.Declarations.{is_within}
+use Rattle.il_found.specs.Least.{NumberedFault, IsLeast, When, Either}
 use Rattle.il_found.proofs.Least.{least_both, least_if, least_same}
-use Rattle.il_declare.specs.Places.{Among}
 use Rattle.il_declare.specs.Sizes.{size_of, sizes_found}
 use Rattle.il_declare.specs.Whole.{SizesBreak}
 

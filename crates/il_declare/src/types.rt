@@ -79,11 +79,7 @@ fn array_fault(
 ) -> Option<Found<DeclareFault>>
     ensures { result ≡ lowest_at (unless (admits_arrays (shown admitted)) 25 ++ bounds_numbers bounds ++ subrange_numbers element.elementary element.subrange) place }
 {
-    let misplaced = fault_if(
-        !admits_arrays(admitted),
-        DeclareFault::TypeDiffers,
-        place,
-    );
+    let misplaced = fault_if(!admits_arrays(admitted), DeclareFault::TypeDiffers, place);
     earlier(
         earlier(misplaced, bounds_fault(bounds, place)),
         subrange_fault(element, place),

@@ -20,10 +20,7 @@ use il_spec::tree::{Unit, UnitKind};
 use std::alloc::{AllocError, Global};
 
 /// The first fault of units.
-pub fn units_fault(
-    alloc: Global,
-    names: &Scoped,
-) -> Result<Option<Found<DeclareFault>>, AllocError>
+pub fn units_fault(alloc: Global, names: &Scoped) -> Result<Option<Found<DeclareFault>>, AllocError>
     ensures { IfOk result (λ found. IsLeast found (Among (UnitBreaks names.now) names.now.units)) }
 {
     let units = names.config().units.as_slice();

@@ -46,10 +46,7 @@ fn units_and_sizes_fault(
 }
 
 // The first fault of globals, of names of units, tasks and PROGRAM lines, and of tasks.
-fn others_fault(
-    alloc: Global,
-    names: &Scoped,
-) -> Result<Option<Found<DeclareFault>>, AllocError>
+fn others_fault(alloc: Global, names: &Scoped) -> Result<Option<Found<DeclareFault>>, AllocError>
     ensures { IfOk result (λ found. IsLeast found (Either (GlobalsBreak names.now) (Either (SecondNames names.now) (TasksBreak names.now)))) }
 {
     let globals = globals_fault(alloc, names)?;
@@ -59,10 +56,7 @@ fn others_fault(
 }
 
 // The first fault of globals.
-fn globals_fault(
-    alloc: Global,
-    names: &Scoped,
-) -> Result<Option<Found<DeclareFault>>, AllocError>
+fn globals_fault(alloc: Global, names: &Scoped) -> Result<Option<Found<DeclareFault>>, AllocError>
     ensures { IfOk result (λ found. IsLeast found (GlobalsBreak names.now)) }
 {
     let globals = names.config().globals.as_slice();
@@ -86,10 +80,7 @@ fn second_names_fault(
 }
 
 // The first fault of tasks, PROGRAM lines, unused programs and missing cars.
-fn tasks_fault(
-    alloc: Global,
-    names: &Scoped,
-) -> Result<Option<Found<DeclareFault>>, AllocError>
+fn tasks_fault(alloc: Global, names: &Scoped) -> Result<Option<Found<DeclareFault>>, AllocError>
     ensures { IfOk result (λ found. IsLeast found (TasksBreak names.now)) }
 {
     let tasks = task_lines_fault(alloc, names)?;

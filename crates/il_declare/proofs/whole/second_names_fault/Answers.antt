@@ -12,4 +12,4 @@ pub returns : goal.returns
 returns c =
     least_both _ _ c.in_ok-unit.unit c.earlier.result c.earlier-2.result c.earlier-2.ensures (subst (λ l. IsLeast c.in_ok-unit.unit (AgainFrom (λ (x : ProgramUnit). x.name.name) (λ x. x.place) 20 empty l)) c.as_slice.ensures c.in_ok-unit.ensures)
     (least_both _ _ c.in_ok-task.task c.in_ok-line.line c.earlier.result c.earlier.ensures (subst (λ l. IsLeast c.in_ok-task.task (AgainFrom (λ (x : Task). x.name.name) (λ x. x.place) 20 empty l)) c.as_slice-2.ensures c.in_ok-task.ensures)
-      (subst (λ l. IsLeast c.in_ok-line.line (AgainFrom (λ (x : ProgramLine). x.name.name) (λ x. x.place) 20 empty l)) c.as_slice-3.ensures c.in_ok-line.ensures))
+    (subst (λ l. IsLeast c.in_ok-line.line (AgainFrom (λ (x : ProgramLine). x.name.name) (λ x. x.place) 20 empty l)) c.as_slice-3.ensures c.in_ok-line.ensures))
