@@ -15,11 +15,6 @@ use Rattle.il_declare.specs.TaskRules.{IsSet}
 use Rattle.il_declare.specs.Again.{Seen, with_names, AgainFrom, NamedAgain, after}
 use Rattle.il_declare.proofs.Lists.{in_one_of, one_of_in, one_of-last}
 
--- what is seen after two lists
-with-append : (seen : Seen) (xs ys : List Spelling) → with_names seen (xs ++ ys) ≡ with_names (with_names seen xs) ys
-with-append seen [] ys = refl
-with-append seen (x ∷ xs) ys = with-append (insert seen x tt) xs ys
-
 module _ {A : Type 0} (name_of : A → Spelling) (place_of : A → Place) (number : ℕ) where
   -- one list behind another
   up : (seen : Seen) (xs ys : List A) (n : ℕ) (p : Place) → Either (AgainFrom name_of place_of number seen xs) (AgainFrom name_of place_of number (with_names seen (map name_of xs)) ys) n p → AgainFrom name_of place_of number seen (xs ++ ys) n p

@@ -8,17 +8,6 @@ use Rattle.il_rules.specs.Names.{Spelling, is_one_of}
 use Rattle.il_scope.proofs.Filled.{get-inserted, take_next}
 use Rattle.il_declare.specs.TaskRules.{IsSet}
 
--- what a list has stands between others
-pub split_at : {X : Type 0} (xs : List X) (x : X) → Contains xs x → (before : List X) × (after : List X) × (xs ≡ before ++ x ∷ after)
-split_at [] x (k, low, e) = absurd (omega arith)
-split_at (y ∷ ys) x (zero, low, e) = ([], ys, ap (λ z. z ∷ ys) e)
-split_at (y ∷ ys) x (suc k, low, e) = let s = split_at ys x (k, omega arith, e) in (y ∷ s.0, s.1, ap (λ l. y ∷ l) s.2)
-
--- what stands between others is in the list
-pub in_split : {X : Type 0} (before after : List X) (x : X) → Contains (before ++ x ∷ after) x
-in_split [] after x = (0, omega arith, refl)
-in_split (b ∷ before) after x = let c = in_split before after x in (suc c.0, omega (arith, c.1), c.2)
-
 -- the test of a list of names
 pub in_one_of : (xs : List Spelling) (q : Spelling) → Contains xs q → is_one_of xs q ≡ true
 in_one_of [] q (k, low, e) = absurd (omega arith)

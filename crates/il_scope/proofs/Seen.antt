@@ -1,5 +1,5 @@
 -- What names mean, as the rules say it.
-use Rattle.std.proofs.Common.{◌≡◌, ℕ, zero, suc, Bool, true, false, ◌&&◌, ◌||◌, List, [], ◌∷◌, ◌++◌, map, refl, sym, ap, ◌∙◌, subst, Option, Some, None, is_some, option_map, option_and_then, bytes_eq, slice_get, if◌then◌else◌, ◌<◌, ◌≤◌, ◌+◌, length, get_or, arith}
+use Rattle.std.proofs.Common.{◌≡◌, ℕ, zero, suc, Bool, true, false, ◌&&◌, ◌||◌, List, [], ◌∷◌, ◌++◌, map, refl, sym, ap, ◌∙◌, subst, Option, Some, None, is_some, option_map, option_and_then, bytes_eq, slice_get, if◌then◌else◌, ◌<◌, ◌≤◌, length, get_or, arith}
 use Rattle.std.proofs.lemmas.Option.{slice_get_read}
 use Rattle.std.specs.Prelude.{find}
 use Rattle.std.specs.Option.{option_or}
@@ -15,7 +15,6 @@ use Rattle.il_rules.specs.Names.{Spelling, or_else, entry_of, is_one_of, BlockVa
 use Rattle.il_rules.specs.Declarations.{names_of_units}
 use Rattle.il_scope.specs.declared.entry.VariableType.{VariableType}
 use Rattle.il_scope.specs.declared.entry.Variable.{Variable}
-use Rattle.il_scope.specs.declared.entry.Origin.TheVariants.{Input, Output, Local, External}
 use Rattle.il_scope.specs.declared.entry.Binding.{Binding}
 use Rattle.il_scope.specs.declared.entry.Binding.TheVariants as means
 use Rattle.il_scope.specs.declared.tables.Scope.{Scope}
