@@ -41,6 +41,14 @@ impl Declared {
         self.scoped.config()
     }
 
+    /// The configuration, without what its names mean.
+    pub fn into_config(self) -> Config
+        ensures is { result ≡ self }
+        ensures declared { HasNoFault (BreaksDeclarations self) }
+    {
+        self.scoped.into_config()
+    }
+
     /// What its names mean.
     pub fn names(&self) -> &Scoped
         ensures { result.now ≡ self.now }

@@ -13,7 +13,8 @@ ghost use Rattle.lift_sound.specs.Runs.{RunsWell};
 ghost use Rattle.lift_world.specs.Loading.{IsSpelled, IsAccepted, IsRefusedFor, IsExplained, SpellsNone, cost_of};
 
 use il_code::code;
-use il_decl::declare;
+use il_decl::declare as resolve;
+use il_declare::declare;
 use il_machine::{UnitCost, Verified};
 use il_order::{Ordered, ordered};
 use il_parse::parse;
@@ -28,8 +29,8 @@ use std::alloc::{AllocError, Global};
 
 /// The configuration that a text spells, verified.
 ///
-/// A text is refused with the first fault of these phases, in their order: tokens (1 to 6), grammar (10 to 12), what is not run yet (90),
-/// declarations (20 to 25), types (30 to 33, 37), order and slots (12), ranges (40, 43). From 20 on it is the phase's fault at the earliest place,
+/// A text is refused with the first fault of these phases, in their order: tokens (1 to 6), grammar (10 to 12), declarations (20 to 25),
+/// what is not run yet (90, and 21 at the name of the image that is not), types (30 to 33, 37), order and slots (12), ranges (40, 43). From 20 on it is the phase's fault at the earliest place,
 /// at one place the one with the lowest number.
 pub fn load(alloc: Global, text: &[u8]) -> Result<Verified, Refusal>
     ensures found { IfOk result (λ v. IsAccepted text.now v.config) }
@@ -41,9 +42,10 @@ pub fn load(alloc: Global, text: &[u8]) -> Result<Verified, Refusal>
 {
     let tokens = tokens(alloc, text)?;
     let config = parse(alloc, text, &tokens)?;
-    let carried = carried(config)?;
-    let declared = declare(alloc, carried)?;
-    let typed = typed(declared)?;
+    let declared = declare(alloc, config)?;
+    let carried = carried(declared.into_config())?;
+    let resolved = resolve(alloc, carried)?;
+    let typed = typed(resolved)?;
     let ordered = ordered(typed)?;
     let code = code(alloc, ordered)?;
     let checked = verify(alloc, code)?;
