@@ -33,7 +33,7 @@ in_flat f (z ∷ xs) x y (suc k, low, e) c = Contains-append_right (f z) (flat_m
 
 pub from_flat : {A B : Type 0} (f : A → List B) (xs : List A) (y : B) → Contains (flat_map f xs) y → (x : A) × Contains xs x × Contains (f x) y
 from_flat f [] y (k, low, e) = absurd (omega arith)
-from_flat f (x ∷ xs) y c = elim (Contains-append_cases (f x) (flat_map f xs) y c) [ inl a ↦ (x, (0, omega arith, refl), a) | inr b ↦ more (from_flat f xs y b) ]
+from_flat {A = A} f (x ∷ xs) y c = elim (Contains-append_cases (f x) (flat_map f xs) y c) [ inl a ↦ (x, (0, omega arith, refl), a) | inr b ↦ more (from_flat f xs y b) ]
   where
-    more : (z : _) × Contains xs z × Contains (f z) y → (z : _) × Contains (x ∷ xs) z × Contains (f z) y
+    more : (z : A) × Contains xs z × Contains (f z) y → (z : A) × Contains (x ∷ xs) z × Contains (f z) y
     more r = (r.0, in_rest x xs r.0 r.1, r.2)
