@@ -13,7 +13,6 @@ ghost use Rattle.lift_sound.specs.Runs.{RunsWell};
 ghost use Rattle.lift_world.specs.Loading.{IsSpelled, IsAccepted, IsRefusedFor, IsExplained, SpellsNone, cost_of};
 
 use il_code::code;
-use il_decl::declare as resolve;
 use il_declare::declare;
 use il_machine::{UnitCost, Verified};
 use il_order::{Ordered, ordered};
@@ -21,7 +20,7 @@ use il_parse::parse;
 use il_spec::fault::Refusal;
 use il_spec::list::Items;
 use il_spec::tree::{Config, Unit};
-use il_stage::carried;
+use il_stage::supported;
 use il_text::tokens;
 use il_types::typed;
 use il_verify::{Checked, verify};
@@ -30,8 +29,8 @@ use std::alloc::{AllocError, Global};
 /// The configuration that a text spells, verified.
 ///
 /// A text is refused with the first fault of these phases, in their order: tokens (1 to 6), grammar (10 to 12), declarations (20 to 25),
-/// what is not run yet (90, and 21 at the name of the image that is not), types (30 to 33, 37), order and slots (12), ranges (40, 43). From 20 on it is the phase's fault at the earliest place,
-/// at one place the one with the lowest number.
+/// what is not run yet (90), types (30 to 33, 37), order and slots (12), ranges (40, 43). From 20 on it is the phase's fault at the earliest
+/// place, at one place the one with the lowest number.
 pub fn load(alloc: Global, text: &[u8]) -> Result<Verified, Refusal>
     ensures found { IfOk result (λ v. IsAccepted text.now v.config) }
     ensures costs { IfOk result (λ v. v.costs ≡ map cost_of v.config.units) }
@@ -43,9 +42,8 @@ pub fn load(alloc: Global, text: &[u8]) -> Result<Verified, Refusal>
     let tokens = tokens(alloc, text)?;
     let config = parse(alloc, text, &tokens)?;
     let declared = declare(alloc, config)?;
-    let carried = carried(declared.into_config())?;
-    let resolved = resolve(alloc, carried)?;
-    let typed = typed(resolved)?;
+    let supported = supported(alloc, declared)?;
+    let typed = typed(supported)?;
     let ordered = ordered(typed)?;
     let code = code(alloc, ordered)?;
     let checked = verify(alloc, code)?;
