@@ -1,24 +1,19 @@
 -- Names that stand again: lists one behind another, and what the rules say.
-use Rattle.std.proofs.Common.{◌≡◌, ◌⊎◌, inl, inr, ℕ, zero, suc, ◌+◌, ◌<◌, Bool, true, false, IsTrue, List, [], ◌∷◌, ◌++◌, map, take, length, get_or, refl, sym, ap, ◌∙◌, subst, Option, Some, None, is_some, arith, append-nil}
+use Rattle.std.proofs.Common.{◌≡◌, inl, inr, ℕ, ◌+◌, ◌<◌, Bool, true, false, IsTrue, List, [], ◌∷◌, ◌++◌, map, take, length, get_or, refl, sym, ap, ◌∙◌, subst, Option, Some, None, is_some, append-nil, append_assoc, ◌||◌, bytes_eq, if◌then◌else◌}
 use Rattle.std.proofs.lemmas.List.Concat.{flat_map-append}
-use Rattle.std.specs.Prelude.{Contains, flat_map}
+use Rattle.std.specs.Prelude.{flat_map}
 use Rattle.il_spec.specs.declared.tree.Place.{Place}
 use Rattle.il_spec.specs.declared.tree.Named.{Named}
 use Rattle.il_spec.specs.declared.tree.Declaration.{Declaration}
-use Rattle.il_run.specs.NameMap.{NameMap, get, insert, empty, get-empty}
+use Rattle.il_run.specs.NameMap.{get, insert, empty, get-empty}
 use Rattle.il_rules.specs.Names.{Spelling, is_one_of}
 use Rattle.il_rules.specs.Declarations.{IsAgain, names_in}
 use Rattle.il_found.specs.Least.{NumberedFault, fault_of, earlier_of, IsLeast, When, Either}
 use Rattle.il_found.proofs.Least.{least_both, least_same, least_if, least_none}
-use Rattle.il_scope.proofs.Filled.{take_next}
+use Rattle.il_scope.proofs.Filled.{take_next, get-inserted}
 use Rattle.il_declare.specs.TaskRules.{IsSet}
 use Rattle.il_declare.specs.Again.{Seen, with_names, AgainFrom, NamedAgain, after}
-use Rattle.il_declare.proofs.Lists.{in_one_of, one_of_in}
-
--- what is seen after two lists
-with-append : (seen : Seen) (xs ys : List Spelling) → with_names seen (xs ++ ys) ≡ with_names (with_names seen xs) ys
-with-append seen [] ys = refl
-with-append seen (x ∷ xs) ys = with-append (insert seen x tt) xs ys
+use Rattle.il_declare.proofs.Lists.{in_one_of, one_of_in, one_of-last}
 
 module _ {A : Type 0} (name_of : A → Spelling) (place_of : A → Place) (number : ℕ) where
   -- one list behind another
@@ -63,7 +58,7 @@ module _ {A : Type 0} (name_of : A → Spelling) (place_of : A → Place) (numbe
   so_far_next seen xs i x key again found one r mid new low there named test added is_one is before = record {
     least = subst (λ l. IsLeast r (AgainFrom name_of place_of number seen l)) (sym longer)
         (least_append seen (take i xs) (x ∷ []) found one r is before.least
-          (least_one (with_names seen (map name_of (take i xs))) x again one (test ∙ ap (λ k. is_some (get mid k)) named ∙ ap (λ m. is_some (get m (name_of x))) before.seen_is) is_one));
+        (least_one (with_names seen (map name_of (take i xs))) x again one (test ∙ ap (λ k. is_some (get mid k)) named ∙ ap (λ m. is_some (get m (name_of x))) before.seen_is) is_one));
     seen_is = added ∙ ap (λ k. insert mid k tt) named ∙ ap (λ m. insert m (name_of x) tt) before.seen_is ∙ sym (after-append seen (take i xs) (x ∷ [])) ∙ ap (λ l. with_names seen (map name_of l)) (sym longer);
   }
     where
@@ -98,8 +93,8 @@ pub four_lists : (u1 u2 u3 u4 l1 l2 l3 l4 : List Declaration) (seen s0 s1 s2 s3 
 four_lists u1 u2 u3 u4 l1 l2 l3 l4 seen s0 s1 s2 s3 a b c d ab abc r e1 e2 e3 e4 start first p1 second p2 third p3 fourth two three four =
     subst (λ l. IsLeast r (NamedAgain seen l)) flat
     (two_lists seen seen s3 ((names_in l1 ++ names_in l2) ++ names_in l3) (names_in l4) abc d r refl
-      (two_lists seen seen s2 (names_in l1 ++ names_in l2) (names_in l3) ab c abc refl (two_lists seen s0 s1 (names_in l1) (names_in l2) a b ab start first p1 second two) passed2 third three)
-      passed3 fourth four)
+    (two_lists seen seen s2 (names_in l1 ++ names_in l2) (names_in l3) ab c abc refl (two_lists seen s0 s1 (names_in l1) (names_in l2) a b ab start first p1 second two) passed2 third three)
+    passed3 fourth four)
   where
     passed2 : s2 ≡ after seen (names_in l1 ++ names_in l2)
     passed2 = p2 ∙ ap (λ m. after m (names_in l2)) (p1 ∙ ap (λ m. after m (names_in l1)) start) ∙ sym (after-append (λ (n : Named). n.name) (λ n. n.place) 20 seen (names_in l1) (names_in l2))
@@ -112,4 +107,46 @@ four_lists u1 u2 u3 u4 l1 l2 l3 l4 seen s0 s1 s2 s3 a b c d ab abc r e1 e2 e3 e4
         ap (λ l. ((names_in l ++ names_in l2) ++ names_in l3) ++ names_in l4) e1 ∙ ap (λ l. ((names_in u1 ++ names_in l) ++ names_in l3) ++ names_in l4) e2
         ∙ ap (λ l. ((names_in u1 ++ names_in u2) ++ names_in l) ++ names_in l4) e3 ∙ ap (λ l. ((names_in u1 ++ names_in u2) ++ names_in u3) ++ names_in l) e4
         ∙ sym (flat_map-append (λ (d : Declaration). d.names) ((u1 ++ u2) ++ u3) u4
-          ∙ ap (λ l. l ++ names_in u4) (flat_map-append (λ (d : Declaration). d.names) (u1 ++ u2) u3 ∙ ap (λ l. l ++ names_in u3) (flat_map-append (λ (d : Declaration). d.names) u1 u2)))
+        ∙ ap (λ l. l ++ names_in u4) (flat_map-append (λ (d : Declaration). d.names) (u1 ++ u2) u3 ∙ ap (λ l. l ++ names_in u3) (flat_map-append (λ (d : Declaration). d.names) u1 u2)))
+
+-- a set with a name more
+set_more : (s : List Spelling) (seen : Seen) (n : Spelling) → IsSet s seen → IsSet (s ++ n ∷ []) (insert seen n tt)
+set_more s seen n is q = ap is_some (get-inserted seen n tt q) ∙ by_name (bytes_eq n q) (get seen q) ∙ ap (λ b. bytes_eq n q || b) (is q) ∙ sym (one_of-last s n q)
+  where
+    by_name : (b : Bool) (o : Option (Unit {0})) → is_some (if b then Some tt else o) ≡ (b || is_some o)
+    by_name true o = refl
+    by_name false o = refl
+
+module _ {A : Type 0} (name_of : A → Spelling) (place_of : A → Place) (number : ℕ) where
+  -- what stands behind one of its name is found
+  found_from : (s : List Spelling) (seen : Seen) (n : ℕ) (p : Place) → IsSet s seen → (before after : List A) (x : A) → is_one_of (s ++ map name_of before) (name_of x) ≡ true → n ≡ number → p ≡ place_of x → AgainFrom name_of place_of number seen (before ++ x ∷ after) n p
+  found_from s seen n p is [] after x again num at = inl (is (name_of x) ∙ ap (λ l. is_one_of l (name_of x)) (sym (append-nil s)) ∙ again, num, at)
+  found_from s seen n p is (b ∷ before) after x again num at = inr (found_from (s ++ name_of b ∷ []) (insert seen (name_of b) tt) n p (set_more s seen (name_of b) is) before after x (ap (λ l. is_one_of l (name_of x)) (append_assoc s (name_of b ∷ []) (map name_of before)) ∙ again) num at)
+
+  -- what is found stands behind one of its name
+  record IsBehind (s : List Spelling) (items : List A) (n : ℕ) (p : Place) : Type 0 where
+    pub before : List A
+    pub after : List A
+    pub item : A
+    pub items_are : items ≡ before ++ item ∷ after
+    pub again : is_one_of (s ++ map name_of before) (name_of item) ≡ true
+    pub numbered : n ≡ number
+    pub placed : p ≡ place_of item
+
+  from_found : (s : List Spelling) (seen : Seen) (n : ℕ) (p : Place) → IsSet s seen → (items : List A) → AgainFrom name_of place_of number seen items n p → IsBehind s items n p
+  from_found s seen n p is [] h = absurd h
+  from_found s seen n p is (x ∷ xs) (inl h) = record { before = []; after = xs; item = x; items_are = refl; again = ap (λ l. is_one_of l (name_of x)) (append-nil s) ∙ sym (is (name_of x)) ∙ h.0; numbered = h.1; placed = h.2 }
+  from_found s seen n p is (x ∷ xs) (inr h) =
+      let r = from_found (s ++ name_of x ∷ []) (insert seen (name_of x) tt) n p (set_more s seen (name_of x) is) xs h in
+      record { before = x ∷ r.before; after = r.after; item = r.item; items_are = ap (λ l. x ∷ l) r.items_are; again = ap (λ l. is_one_of l (name_of r.item)) (sym (append_assoc s (name_of x ∷ []) (map name_of r.before))) ∙ r.again; numbered = r.numbered; placed = r.placed }
+
+  nothing_seen : IsSet {X = Unit {0}} [] empty
+  nothing_seen q = ap is_some (get-empty q)
+
+  -- an item that stands again
+  pub again_found : (items : List A) (x : A) (n : ℕ) (p : Place) → IsAgain name_of items x → n ≡ number → p ≡ place_of x → AgainFrom name_of place_of number empty items n p
+  again_found items x n p a num at = subst (λ l. AgainFrom name_of place_of number empty l n p) (sym a.2) (found_from [] empty n p nothing_seen a.0 a.1 x (in_one_of (map name_of a.0) (name_of x) a.3) num at)
+
+  -- what is found
+  pub found_again : (items : List A) (n : ℕ) (p : Place) → AgainFrom name_of place_of number empty items n p → (x : A) × IsAgain name_of items x × (n ≡ number) × (p ≡ place_of x)
+  found_again items n p h = let r = from_found [] empty n p nothing_seen items h in (r.item, (r.before, r.after, r.items_are, one_of_in (map name_of r.before) (name_of r.item) r.again), r.numbered, r.placed)

@@ -1,5 +1,5 @@
 -- The first fault of the declarations of a unit's lists.
-use Rattle.std.proofs.Common.{◌≡◌, ℕ, List, Option, sym, subst}
+use Rattle.std.proofs.Common.{◌≡◌, ℕ, List, Option, subst}
 use Rattle.il_spec.specs.declared.tree.Place.{Place}
 use Rattle.il_spec.specs.declared.tree.Declaration.{Declaration}
 use Rattle.il_found.specs.Least.{NumberedFault, earlier_of, IsLeast, Either}
@@ -13,4 +13,4 @@ pub four_found : (P Q R S : Declaration → ℕ → Place → Type 0) (u1 u2 u3 
 four_found P Q R S u1 u2 u3 u4 l1 l2 l3 l4 a b c d cd bcd r e1 e2 e3 e4 first second third fourth two three is =
     least_both _ _ a bcd r is (subst (λ l. IsLeast a (Among P l)) e1 first)
     (least_both _ _ b cd bcd three (subst (λ l. IsLeast b (Among Q l)) e2 second)
-      (least_both _ _ c d cd two (subst (λ l. IsLeast c (Among R l)) e3 third) (subst (λ l. IsLeast d (Among S l)) e4 fourth)))
+    (least_both _ _ c d cd two (subst (λ l. IsLeast c (Among R l)) e3 third) (subst (λ l. IsLeast d (Among S l)) e4 fourth)))

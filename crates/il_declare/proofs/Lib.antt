@@ -6,3 +6,7 @@ pub mod CarLaws
 pub mod Againness
 pub mod InLists
 pub mod MentionLaws
+pub mod SizeLaws
+pub mod Members
+pub mod Numbers
+pub mod AllBroken

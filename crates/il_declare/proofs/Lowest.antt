@@ -1,5 +1,5 @@
 -- The lowest of numbers broken at one place, and the first fault of the items of a list.
-use Rattle.std.proofs.Common.{◌≡◌, ℕ, zero, suc, ◌+◌, ◌<◌, ◌≤◌, ◌⊎◌, inl, inr, Bool, true, false, not, if◌then◌else◌, List, [], ◌∷◌, ◌++◌, take, length, get_or, slice_get, Option, Some, None, option_map, refl, sym, ap, ◌∙◌, subst, arith, append-nil}
+use Rattle.std.proofs.Common.{◌≡◌, ℕ, zero, suc, ◌+◌, ◌<◌, ◌≤◌, inl, inr, Bool, true, false, not, if◌then◌else◌, List, [], ◌∷◌, ◌++◌, take, length, get_or, slice_get, Option, Some, None, option_map, refl, sym, ap, ◌∙◌, subst, arith, append-nil}
 use Rattle.std.specs.Prelude.{Contains, flat_map, nat_lt, nat_eq}
 use Rattle.std.proofs.lemmas.List.Concat.{flat_map-append}
 use Rattle.il_scope.proofs.Filled.{take_next}
@@ -10,7 +10,7 @@ use Rattle.il_spec.specs.declared.tree.Place.{Place}
 use Rattle.il_rules.specs.Declarations.{unless}
 use Rattle.il_rules.specs.Faults.{IsNoLater, same_place}
 use Rattle.il_rules.proofs.Straight.{only_one}
-use Rattle.il_found.specs.Least.{NumberedFault, fault_at, fault_of, earlier_of, is_before, IsLeast, Below, When, Either}
+use Rattle.il_found.specs.Least.{NumberedFault, fault_at, fault_of, earlier_of, IsLeast, Below}
 use Rattle.il_found.proofs.Least.{least_none, least_same}
 use Rattle.il_declare.specs.Places.{lower_of, lowest, lowest_at, At, Among}
 

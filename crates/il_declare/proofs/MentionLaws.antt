@@ -1,5 +1,5 @@
 -- What names in instructions break is what the rules say.
-use Rattle.std.proofs.Common.{◌≡◌, ℕ, Bool, true, false, not, List, [], ◌∷◌, ◌++◌, refl, sym, ap, ◌∙◌, Option, Some, None, is_some, option_map, option_and_then, if◌then◌else◌}
+use Rattle.std.proofs.Common.{◌≡◌, ℕ, Bool, true, false, not, List, [], ◌++◌, refl, sym, ap, ◌∙◌, Option, Some, None, is_some, option_map, if◌then◌else◌}
 use Rattle.il_spec.specs.declared.tree.Config.{Config}
 use Rattle.std.specs.Prelude.{flat_map}
 use Rattle.il_spec.specs.declared.tree.Unit.{Unit as ProgramUnit}
@@ -13,7 +13,7 @@ use Rattle.il_spec.specs.declared.tree.Form.TheVariants.{Scalar as OfScalar, Arr
 use Rattle.il_rules.specs.Names as rule
 use Rattle.il_rules.specs.Names.{Spelling, BlockVariables, entry_of, Meaning, MeansVariable, MeansUnit, MeansStandard, standard_function, function_named}
 use Rattle.il_rules.specs.Declarations.{Access, Reads, unless, reference_numbers, name_numbers, is_visible, scalar_numbers, scalar_form_numbers, array_numbers, array_form_numbers, called_numbers, called_form_numbers, member_numbers, member_form_numbers}
-use Rattle.il_scope.specs.Views.{type_of, binding_of, variables_of_block, function_number}
+use Rattle.il_scope.specs.Views.{type_of, binding_of, function_number}
 use Rattle.il_scope.specs.Entries.{function_entry}
 use Rattle.il_scope.specs.declared.entry.StandardFunction.{StandardFunction}
 use Rattle.il_scope.proofs.Laws.{block_found, function_there}

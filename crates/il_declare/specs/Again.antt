@@ -1,5 +1,5 @@
 -- Names that stand again, one list after another.
-use Rattle.std.specs.Prelude.{◌≡◌, ◌⊎◌, ℕ, IsTrue, List, [], ◌∷◌, map, is_some}
+use Rattle.std.specs.Prelude.{◌⊎◌, ℕ, IsTrue, List, [], ◌∷◌, map, is_some}
 use Rattle.il_spec.specs.declared.tree.Named.{Named}
 use Rattle.il_spec.specs.declared.tree.Place.{Place}
 use Rattle.il_run.specs.NameMap.{NameMap, get, insert}

@@ -8,3 +8,5 @@ pub mod Externals
 pub mod Again
 pub mod Taken
 pub mod Mentions
+pub mod Units
+pub mod Whole

@@ -96,17 +96,11 @@ pub fn second_variable(
     let outputs = again_declared(alloc, unit.outputs.as_slice(), &mut seen)?;
     let variables = again_declared(alloc, unit.variables.as_slice(), &mut seen)?;
     let externals = again_declared(alloc, unit.externals.as_slice(), &mut seen)?;
-    Ok(earlier(
-        earlier(earlier(inputs, outputs), variables),
-        externals,
-    ))
+    Ok(earlier(earlier(earlier(inputs, outputs), variables), externals))
 }
 
 /// The first label of a body that has an earlier one's name.
-pub fn second_label(
-    alloc: Global,
-    body: &Body,
-) -> Result<Option<Found<DeclareFault>>, AllocError>
+pub fn second_label(alloc: Global, body: &Body) -> Result<Option<Found<DeclareFault>>, AllocError>
     ensures { IfOk result (λ found. IsLeast found (NamedAgain table.empty (labels_of body.now))) }
 {
     let mut seen = Table::new(alloc);
@@ -116,10 +110,7 @@ pub fn second_label(
 }
 
 /// The first unit that has an earlier one's name.
-pub fn second_unit(
-    alloc: Global,
-    units: &[Unit],
-) -> Result<Option<Found<DeclareFault>>, AllocError>
+pub fn second_unit(alloc: Global, units: &[Unit]) -> Result<Option<Found<DeclareFault>>, AllocError>
     ensures { IfOk result (λ found. IsLeast found (AgainFrom (λ x. x.name.name) (λ x. x.place) 20 table.empty units.now)) }
 {
     let mut seen = Table::new(alloc);
@@ -132,10 +123,7 @@ pub fn second_unit(
 }
 
 /// The first task that has an earlier one's name.
-pub fn second_task(
-    alloc: Global,
-    tasks: &[Task],
-) -> Result<Option<Found<DeclareFault>>, AllocError>
+pub fn second_task(alloc: Global, tasks: &[Task]) -> Result<Option<Found<DeclareFault>>, AllocError>
     ensures { IfOk result (λ found. IsLeast found (AgainFrom (λ x. x.name.name) (λ x. x.place) 20 table.empty tasks.now)) }
 {
     let mut seen = Table::new(alloc);

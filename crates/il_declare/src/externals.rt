@@ -15,15 +15,15 @@ use il_scope::entry::VariableType;
 use il_spec::tree::{Declaration, Form, Named, Scalar, Subrange};
 
 /// The first fault of externals: a name that is no global's, or a type that is not the global's.
-pub fn externals_fault(
-    names: &Scoped,
-    externals: &[Declaration],
-) -> Option<Found<DeclareFault>>
+pub fn externals_fault(names: &Scoped, externals: &[Declaration]) -> Option<Found<DeclareFault>>
     ensures { IsLeast result (Among (BreaksExternals names.now) externals.now) }
 {
     let mut found = None;
     for external in externals {
-        found = earlier(found, names_fault(names, external, external.names.as_slice()));
+        found = earlier(
+            found,
+            names_fault(names, external, external.names.as_slice()),
+        );
     }
     found
 }

@@ -29,7 +29,10 @@ pub fn steps_fault(here: &Here, steps: &[Step]) -> Option<Found<DeclareFault>>
 {
     let mut found = None;
     for step in steps {
-        found = earlier(found, instruction_fault(here, &step.instruction, step.place));
+        found = earlier(
+            found,
+            instruction_fault(here, &step.instruction, step.place),
+        );
     }
     found
 }
@@ -112,11 +115,7 @@ fn function_fault(names: &Scoped, name: &str, place: Place) -> Option<Found<Decl
 }
 
 // What the names of arguments break.
-fn arguments_fault(
-    here: &Here,
-    arguments: &[Argument],
-    place: Place,
-) -> Option<Found<DeclareFault>>
+fn arguments_fault(here: &Here, arguments: &[Argument], place: Place) -> Option<Found<DeclareFault>>
     ensures { result ≡ lowest_at (flat_map (argument_name_numbers here.now.names.now here.now.unit.now) arguments.now) place }
 {
     let mut found = None;
@@ -127,11 +126,7 @@ fn arguments_fault(
 }
 
 // What the names of operands break.
-fn operands_fault(
-    here: &Here,
-    operands: &[Operand],
-    place: Place,
-) -> Option<Found<DeclareFault>>
+fn operands_fault(here: &Here, operands: &[Operand], place: Place) -> Option<Found<DeclareFault>>
     ensures { result ≡ lowest_at (flat_map (λ o. reference_numbers here.now.names.now here.now.unit.now Reads o.reference) operands.now) place }
 {
     let mut found = None;

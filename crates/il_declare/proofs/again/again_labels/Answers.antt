@@ -1,4 +1,4 @@
-use Rattle.std.proofs.Common.{◌<◌, ◌∙◌, length, arith, subst, ap, refl}
+use Rattle.std.proofs.Common.{◌∙◌, arith, subst, ap}
 use Rattle.std.specs.Prelude.{flat_map}
 use Rattle.il_spec.specs.declared.tree.Step.{Step}
 use Rattle.il_spec.specs.declared.tree.Named.{Named}

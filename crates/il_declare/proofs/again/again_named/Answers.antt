@@ -1,4 +1,4 @@
-use Rattle.std.proofs.Common.{◌≡◌, ◌<◌, ◌∙◌, length, arith, subst, ap, refl}
+use Rattle.std.proofs.Common.{◌∙◌, arith, subst, ap, refl}
 use Rattle.il_spec.specs.declared.tree.Named.{Named}
 use Rattle.il_found.specs.Least.{IsLeast}
 use Rattle.il_scope.proofs.Filled.{take_all}

@@ -1,4 +1,4 @@
-use Rattle.std.proofs.Common.{◌<◌, length, arith, subst}
+use Rattle.std.proofs.Common.{arith, subst}
 use Rattle.il_spec.specs.declared.tree.ProgramLine.{ProgramLine as Item}
 use Rattle.il_run.specs.NameMap.{empty}
 use Rattle.il_found.specs.Least.{IsLeast}

@@ -1,4 +1,4 @@
-use Rattle.std.proofs.Common.{◌≡◌, map, take}
+use Rattle.std.proofs.Common.{take}
 use Rattle.il_spec.specs.declared.tree.Task.{Task as Item}
 use Rattle.il_run.specs.NameMap.{empty}
 use Rattle.il_declare.proofs.Againness.{IsSoFar}

@@ -1,4 +1,4 @@
-use Rattle.std.proofs.Common.{◌<◌, ◌∙◌, length, arith, ap}
+use Rattle.std.proofs.Common.{◌∙◌, arith, ap}
 use Rattle.std.specs.Prelude.{flat_map}
 use Rattle.il_rules.specs.Declarations.{argument_name_numbers}
 use Rattle.il_scope.proofs.Filled.{take_all}

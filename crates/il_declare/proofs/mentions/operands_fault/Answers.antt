@@ -1,4 +1,4 @@
-use Rattle.std.proofs.Common.{◌<◌, ◌∙◌, length, arith, ap}
+use Rattle.std.proofs.Common.{◌∙◌, arith, ap}
 use Rattle.std.specs.Prelude.{flat_map}
 use Rattle.il_spec.specs.declared.tree.Operand.{Operand}
 use Rattle.il_rules.specs.Declarations.{reference_numbers, Reads}
