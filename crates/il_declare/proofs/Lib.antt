@@ -1,0 +1,2 @@
+pub mod Lowest
+pub mod Instances

@@ -1,0 +1,3 @@
+pub mod DeclareFaults
+pub mod Places
+pub mod Written

@@ -1,0 +1,16 @@
+//! What names mean in the units of a configuration.
+#![tactic(auto)]
+
+pub mod blocks;
+pub mod entry;
+pub mod functions;
+mod image;
+mod lookup;
+mod meaning;
+mod numbers;
+pub mod roles;
+mod scoped;
+mod tables;
+mod words;
+
+pub use scoped::Scoped;
