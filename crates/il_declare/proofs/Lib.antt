@@ -1,2 +1,5 @@
 pub mod Lowest
 pub mod Instances
+pub mod Lists
+pub mod TaskLaws
+pub mod CarLaws

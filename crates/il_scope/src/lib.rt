@@ -13,4 +13,5 @@ mod scoped;
 mod tables;
 mod words;
 
+pub use numbers::is_program;
 pub use scoped::Scoped;
