@@ -1,5 +1,5 @@
 -- What comes next in a body.
-use Rattle.std.proofs.Common.{◌≡◌, ℕ, zero, suc, ◌+◌, ◌<◌, ◌≤◌, Bool, true, false, not, ◌&&◌, List, [], ◌∷◌, ◌++◌, length, length-append, append-nil, refl, sym, ◌∙◌, ap, inl, inr, arith}
+use Rattle.std.proofs.Common.{◌≡◌, ℕ, zero, suc, ◌+◌, ◌<◌, ◌≤◌, Bool, true, false, not, ◌&&◌, List, [], ◌∷◌, ◌++◌, length, length-append, append-nil, refl, sym, ◌∙◌, ap, inl, inr, Option, Some, None, arith}
 use Rattle.std.proofs.lemmas.Bool.{cases_lt}
 use Rattle.std.proofs.lemmas.Bool.Decides.{nat_tests}
 use Rattle.std.specs.Prelude.{IsTrue, IsFalse, ◌==◌, max}
@@ -27,8 +27,9 @@ use Rattle.il_read.specs.declared.lead.Lead.TheVariants as lead
 use Rattle.il_read.specs.declared.stop.Stop.{Stop}
 use Rattle.il_read.proofs.Leaves.{word_lead, sign_lead, the_name_lead}
 use Rattle.il_read.proofs.Chain.{HasRead, goes_on, ended}
+use Rattle.il_read.specs.Settings.{TakesWord}
 use Rattle.il_read.proofs.Nesting.{IsOpen, one_open, closed}
-use Rattle.il_body.specs.Bodies.{closes_lead, leaves_lead, loads_lead, may_begin, bare, SpellsPlaced, HasLabels, SpellsNext, IsLast, SpellsSteps}
+use Rattle.il_body.specs.Bodies.{closes_lead, leaves_lead, loads_lead, may_begin, bare, SpellsPlaced, HasLabels, TakesEnd, SpellsNext, IsLast, SpellsSteps}
 use Rattle.il_body.specs.declared.bodies.Entry.{Entry}
 use Rattle.il_body.specs.declared.bodies.Entry.TheVariants as entry
 
@@ -123,6 +124,14 @@ module _ (text : List ℕ) where
       ap not open_,
     );
   }
+
+  -- the word that ends the body, where it may stand
+  pub end_taken : (last : Keyword) (alone : Bool) (ts r : List Token) (o : Option Place) → IsTrue alone → TakesWord text last ts o r → TakesEnd text last alone ts o r
+  end_taken last alone ts r (Some p) is w = (is, w)
+  end_taken last alone ts r None is w = (w.0, λ p q at _. w.1 q (at_holds text (TheWord text last) p ts q at))
+
+  pub end_out : (last : Keyword) (alone : Bool) (ts : List Token) → alone ≡ false → TakesEnd text last alone ts None ts
+  end_out last alone ts off = (refl, λ p q at is. let bad : alone ≡ true = is in cc)
 
   -- behind labels stands no instruction, and no end
   pub outer_refused : (last : Keyword) (load full alone : Bool) (start m : List Token) (ns : List Named) (e : Stop) → HasLabels text start ns alone m

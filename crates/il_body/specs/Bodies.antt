@@ -1,5 +1,5 @@
 -- What a reader of a body promises.
-use Rattle.std.specs.Prelude.{◌≡◌, ℕ, ◌<◌, ◌≤◌, Bool, true, false, not, ◌&&◌, ◌||◌, ◌==◌, if◌then◌else◌, IsTrue, List, [], length, ⊤}
+use Rattle.std.specs.Prelude.{◌≡◌, ℕ, ◌<◌, ◌≤◌, Bool, true, false, not, ◌&&◌, ◌||◌, ◌==◌, if◌then◌else◌, IsTrue, List, [], length, Option, Some, None, ⊤}
 use Rattle.il_spec.specs.declared.token.Token.{Token}
 use Rattle.il_spec.specs.declared.token.Sign.TheVariants.{CloseParenthesis}
 use Rattle.il_spec.specs.declared.keyword.Keyword.{Keyword}
@@ -51,6 +51,11 @@ pub record HasLabels (text : List ℕ) (start : List Token) (ns : List Named) (a
   pub no_other : (p : Place) (i : Instruction) (ys : List Named) (r : List Token) → SpellsLabelled text ys (At p (SpellsInstruction text i)) start r → (ys ≡ ns) × At p (SpellsInstruction text i) ts r
   pub ends : IsTrue alone → (k : Keyword) (p : Place) (r : List Token) → At p (TheWord text k) ts r → Repeats (SpellsLabelLine text) ns (At p (TheWord text k)) start r
   pub no_other_end : (k : Keyword) (p : Place) (ys : List Named) (r : List Token) → Repeats (SpellsLabelLine text) ys (At p (TheWord text k)) start r → (ys ≡ ns) × At p (TheWord text k) ts r × IsTrue alone
+
+-- the word that ends the body, which is taken where it may stand, or doesn't stand there
+abbrev pub TakesEnd : List ℕ → Keyword → Bool → List Token → Option Place → List Token → Type 0
+TakesEnd text last alone ts (Some p) rest = IsTrue alone × At p (TheWord text last) ts rest
+TakesEnd text last alone ts None rest = (rest ≡ ts) × ((p : Place) (r : List Token) → At p (TheWord text last) ts r → IsTrue alone → ⊥)
 
 -- an instruction with its labels, or the end of the body
 abbrev pub SpellsEntry : List ℕ → Keyword → Entry → Front

@@ -4,7 +4,7 @@ ghost use Rattle.std.specs.Prelude.{◌≡◌, ◌<◌, ◌≤◌, length, IsTru
 ghost use Rattle.il_spec.specs.Grammar.{TheLineEnd, depth_after, needs_load};
 ghost use Rattle.il_read.specs.Reads.{Reads, Refuses, Eats};
 ghost use Rattle.il_read.specs.declared.stop.Stop.TheVariants.{Memory};
-ghost use Rattle.il_body.specs.Bodies.{closes_lead, leaves_lead, loads_lead, may_begin, SpellsPlaced, HasLabels, SpellsNext, Shortens, IsLast, SpellsSteps, SpellsSmallBody};
+ghost use Rattle.il_body.specs.Bodies.{closes_lead, leaves_lead, loads_lead, may_begin, SpellsPlaced, HasLabels, TakesEnd, SpellsNext, Shortens, IsLast, SpellsSteps, SpellsSmallBody};
 
 use il_read::{Flaw, Lead, Source, Stop, Tokens};
 use il_spec::keyword::Keyword;
@@ -147,6 +147,17 @@ fn labels(source: &Source, tokens: &mut Tokens) -> Result<(Items<Named>, bool), 
     Ok((labels, true))
 }
 
+// The word that ends the body, where it may stand.
+fn eat_end(source: &Source, tokens: &mut Tokens, last: Keyword, alone: bool) -> Option<Place>
+    ensures takes { TakesEnd source.now last alone tokens.old result tokens.new }
+    ensures shorter { length tokens.new ≤ length tokens.old }
+{
+    if !alone {
+        return None;
+    }
+    source.eat_placed(tokens, last)
+}
+
 // An instruction with its labels or the end of the body, outside parentheses.
 fn outer(
     source: &Source,
@@ -160,15 +171,7 @@ fn outer(
     ensures shorter { IfOk result (λ x. Shortens tokens.old x tokens.new) }
 {
     let (labels, alone) = labels(source, tokens)?;
-    if !alone {
-        let (place, instruction) = placed(source, tokens, 0, load, full)?;
-        return Ok(Entry::Step(Step {
-            labels,
-            place,
-            instruction,
-        }));
-    }
-    if let Some(place) = source.eat_placed(tokens, last) {
+    if let Some(place) = eat_end(source, tokens, last, alone) {
         return Ok(Entry::End { labels, place });
     }
     let (place, instruction) = placed(source, tokens, 0, load, full)?;

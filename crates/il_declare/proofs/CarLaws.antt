@@ -1,9 +1,9 @@
 -- Cars without a task: what is found is what is broken.
-use Rattle.std.proofs.Common.{◌≡◌, ◌≢◌, ℕ, zero, suc, ◌≤◌, Bool, true, false, ◌||◌, List, [], ◌∷◌, refl, sym, ap, ◌∙◌, subst, Option, Some, None, if◌then◌else◌, arith}
+use Rattle.std.proofs.Common.{◌≡◌, ℕ, zero, suc, ◌≤◌, Bool, true, false, ◌||◌, List, [], ◌∷◌, refl, sym, ap, ◌∙◌, subst, Option, Some, None, if◌then◌else◌, arith}
 use Rattle.std.specs.Prelude.{ℤ, pos, int_le, ◌≤ℤ◌, nat_eq, Contains}
 use Rattle.std.specs.List.{list_any}
 use Rattle.std.proofs.lemmas.Int.{ints}
-use Rattle.std.proofs.lemmas.Bool.Decides.{nat_tests, Decides-eqb}
+use Rattle.std.proofs.lemmas.Bool.Decides.{Decides-eqb}
 use borrow.Author.Differences.{le-false}
 use Rattle.il_spec.specs.declared.tree.Config.{Config}
 use Rattle.il_spec.specs.declared.tree.Task.{Task}

@@ -1,5 +1,5 @@
 -- Names in lists and in sets.
-use Rattle.std.proofs.Common.{◌≡◌, ℕ, zero, suc, ◌+◌, ◌<◌, Bool, true, false, not, ◌||◌, List, [], ◌∷◌, ◌++◌, map, take, length, get_or, refl, sym, ap, ◌∙◌, subst, Option, Some, None, is_some, bytes_eq, if◌then◌else◌, arith}
+use Rattle.std.proofs.Common.{◌≡◌, ℕ, zero, suc, ◌+◌, ◌<◌, Bool, true, false, not, ◌||◌, List, [], ◌∷◌, ◌++◌, map, take, length, get_or, refl, sym, ap, ◌∙◌, Option, Some, is_some, bytes_eq, if◌then◌else◌, arith}
 use Rattle.std.specs.Prelude.{Contains}
 use Rattle.std.proofs.lemmas.List.{map-append}
 use Rattle.std.proofs.lemmas.Slice.Eq.{bytes_eq-Decides}
@@ -7,17 +7,6 @@ use Rattle.il_run.specs.NameMap.{NameMap, get, insert, empty, get-empty}
 use Rattle.il_rules.specs.Names.{Spelling, is_one_of}
 use Rattle.il_scope.proofs.Filled.{get-inserted, take_next}
 use Rattle.il_declare.specs.TaskRules.{IsSet}
-
--- what a list has stands between others
-pub split_at : {X : Type 0} (xs : List X) (x : X) → Contains xs x → (before : List X) × (after : List X) × (xs ≡ before ++ x ∷ after)
-split_at [] x (k, low, e) = absurd (omega arith)
-split_at (y ∷ ys) x (zero, low, e) = ([], ys, ap (λ z. z ∷ ys) e)
-split_at (y ∷ ys) x (suc k, low, e) = let s = split_at ys x (k, omega arith, e) in (y ∷ s.0, s.1, ap (λ l. y ∷ l) s.2)
-
--- what stands between others is in the list
-pub in_split : {X : Type 0} (before after : List X) (x : X) → Contains (before ++ x ∷ after) x
-in_split [] after x = (0, omega arith, refl)
-in_split (b ∷ before) after x = let c = in_split before after x in (suc c.0, omega (arith, c.1), c.2)
 
 -- the test of a list of names
 pub in_one_of : (xs : List Spelling) (q : Spelling) → Contains xs q → is_one_of xs q ≡ true

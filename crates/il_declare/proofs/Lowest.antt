@@ -1,6 +1,8 @@
 -- The lowest of numbers broken at one place, and the first fault of the items of a list.
-use Rattle.std.proofs.Common.{◌≡◌, ℕ, zero, suc, ◌+◌, ◌<◌, ◌≤◌, ◌⊎◌, inl, inr, Bool, true, false, not, if◌then◌else◌, List, [], ◌∷◌, ◌++◌, take, length, get_or, slice_get, Option, Some, None, option_map, refl, sym, ap, ◌∙◌, subst, arith}
-use Rattle.std.specs.Prelude.{Contains, nat_lt, nat_eq}
+use Rattle.std.proofs.Common.{◌≡◌, ℕ, zero, suc, ◌+◌, ◌<◌, ◌≤◌, inl, inr, Bool, true, false, not, if◌then◌else◌, List, [], ◌∷◌, ◌++◌, take, length, get_or, slice_get, Option, Some, None, option_map, refl, sym, ap, ◌∙◌, subst, arith, append-nil}
+use Rattle.std.specs.Prelude.{Contains, flat_map, nat_lt, nat_eq}
+use Rattle.std.proofs.lemmas.List.Concat.{flat_map-append}
+use Rattle.il_scope.proofs.Filled.{take_next}
 use Rattle.std.proofs.lemmas.Bool.Decides.{nat_tests}
 use Rattle.std.proofs.lemmas.List.Elements.{Contains-append_left, Contains-append_right, Contains-append_cases}
 use Rattle.std.proofs.lemmas.Option.{slice_get_read, get_or_from_slice_get}
@@ -8,7 +10,7 @@ use Rattle.il_spec.specs.declared.tree.Place.{Place}
 use Rattle.il_rules.specs.Declarations.{unless}
 use Rattle.il_rules.specs.Faults.{IsNoLater, same_place}
 use Rattle.il_rules.proofs.Straight.{only_one}
-use Rattle.il_found.specs.Least.{NumberedFault, fault_at, fault_of, earlier_of, is_before, IsLeast, Below, When, Either}
+use Rattle.il_found.specs.Least.{NumberedFault, fault_at, fault_of, earlier_of, IsLeast, Below}
 use Rattle.il_found.proofs.Least.{least_none, least_same}
 use Rattle.il_declare.specs.Places.{lower_of, lowest, lowest_at, At, Among}
 
@@ -123,3 +125,9 @@ least_among {A = A} H items i r all l = least_same (Below (λ at. H) items i) (A
 
     down : (n : ℕ) (p : Place) → Among H items n p → Below (λ at. H) items i n p
     down n p (x, (k, low, e), h) = (k, x, omega arith, slice_get_read items (length items) k x refl low (sym e), h)
+
+-- the numbers of one item more
+pub at_next : {B : Type 0} (f : B → List ℕ) (bs : List B) (i : ℕ) (b : B) (place : Place) (found one r : Option NumberedFault) → i < length bs → b ≡ get_or bs i b → one ≡ lowest_at (f b) place → r ≡ earlier_of found one → found ≡ lowest_at (flat_map f (take i bs)) place → r ≡ lowest_at (flat_map f (take (i + 1) bs)) place
+at_next f bs i b place found one r low there here is before =
+    at_two (flat_map f (take i bs)) (f b) place found one r before here is
+    ∙ ap (λ l. lowest_at l place) (ap (λ l. flat_map f (take i bs) ++ l) (sym (append-nil (f b))) ∙ sym (flat_map-append f (take i bs) (b ∷ [])) ∙ ap (flat_map f) (sym (take_next bs i b low there)))

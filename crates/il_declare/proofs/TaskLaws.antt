@@ -1,5 +1,5 @@
 -- Tasks and PROGRAM lines: what is found is what is broken.
-use Rattle.std.proofs.Common.{◌≡◌, ℕ, Bool, true, false, not, ◌||◌, ◌&&◌, IsTrue, List, map, refl, sym, ap, ◌∙◌, subst, Option, Some, None, is_some, option_map, inl, inr}
+use Rattle.std.proofs.Common.{◌≡◌, ℕ, Bool, true, false, not, ◌||◌, ◌&&◌, List, refl, sym, ap, ◌∙◌, Option, Some, None, is_some, option_map}
 use Rattle.std.specs.Prelude.{Contains, ℤ}
 use Rattle.il_spec.specs.declared.tree.Config.{Config}
 use Rattle.il_spec.specs.declared.tree.ProgramLine.{ProgramLine}
@@ -12,7 +12,7 @@ use Rattle.il_scope.specs.declared.entry.Role.{Role}
 use Rattle.il_scope.specs.Entries.{role_entry}
 use Rattle.il_scope.specs.Views.{program_number}
 use Rattle.il_scope.proofs.Laws.{program_there}
-use Rattle.il_declare.specs.TaskRules.{IsSet, HasOtherRole, BreaksLine, unknown_task, unknown_program, other_role_given, IsUnusedOf, other_role, has_other_role, is_wrong_line}
+use Rattle.il_declare.specs.TaskRules.{IsSet, BreaksLine, unknown_task, unknown_program, other_role_given, IsUnusedOf, other_role, has_other_role, is_wrong_line}
 use Rattle.il_declare.proofs.Lists.{not_in, in_none}
 
 -- no role

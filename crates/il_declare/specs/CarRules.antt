@@ -1,5 +1,5 @@
 -- Cars without a task.
-use Rattle.std.specs.Prelude.{◌≡◌, ◌≢◌, ℕ, ◌≤◌, pos, ◌≤ℤ◌, Bool, false, nat_eq, Option, Some, None, Contains}
+use Rattle.std.specs.Prelude.{◌≢◌, ℕ, ◌≤◌, pos, ◌≤ℤ◌, Bool, false, nat_eq, Option, Some, None, Contains}
 use Rattle.il_spec.specs.declared.tree.Config.{Config}
 use Rattle.il_spec.specs.declared.tree.Task.{Task}
 use Rattle.il_rules.specs.Names.{car_number}

@@ -1,5 +1,5 @@
 -- What written types and initial values break, declaration by declaration.
-use Rattle.std.specs.Prelude.{◌≡◌, ℕ, List, Option, Some, Contains}
+use Rattle.std.specs.Prelude.{◌≡◌, ℕ, Option, Some, Contains}
 use Rattle.il_spec.specs.declared.tree.Config.{Config}
 use Rattle.il_spec.specs.declared.tree.Declaration.{Declaration}
 use Rattle.il_spec.specs.declared.tree.Form.{Form}

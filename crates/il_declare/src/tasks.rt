@@ -9,10 +9,9 @@ ghost use Rattle.il_declare.specs.TaskRules.{IsSet, other_role, TaskBreaks, Brea
 use crate::fault::DeclareFault;
 use crate::sets::{has_name, lines_programs, lines_tasks, task_names};
 use il_found::{Found, earlier, fault_if};
-use il_scope::Scoped;
 use il_scope::entry::Role;
-use il_scope::is_program;
 use il_scope::roles::task_role;
+use il_scope::{Scoped, is_program};
 use il_spec::tree::{ProgramLine, Task, Unit};
 use il_table::Table;
 use std::alloc::{AllocError, Global};
@@ -30,11 +29,7 @@ pub fn task_lines_fault(
 }
 
 // The first fault of tasks.
-fn tasks_fault(
-    names: &Scoped,
-    lines: &Table<()>,
-    tasks: &[Task],
-) -> Option<Found<DeclareFault>>
+fn tasks_fault(names: &Scoped, lines: &Table<()>, tasks: &[Task]) -> Option<Found<DeclareFault>>
     requires { IsSet (map (λ l. l.task.name) names.now.programs) lines.now }
     ensures { IsLeast result (Among (TaskBreaks names.now) tasks.now) }
 {

@@ -79,11 +79,7 @@ fn array_fault(
 ) -> Option<Found<DeclareFault>>
     ensures { result ≡ lowest_at (unless (admits_arrays (shown admitted)) 25 ++ bounds_numbers bounds ++ subrange_numbers element.elementary element.subrange) place }
 {
-    let misplaced = fault_if(
-        !admits_arrays(admitted),
-        DeclareFault::TypeDiffers,
-        place,
-    );
+    let misplaced = fault_if(!admits_arrays(admitted), DeclareFault::TypeDiffers, place);
     earlier(
         earlier(misplaced, bounds_fault(bounds, place)),
         subrange_fault(element, place),
@@ -135,8 +131,8 @@ fn has_few(bounds: Subrange) -> bool
     i128::from(bounds.upper) - i128::from(bounds.lower) < 256
 }
 
-// What a subrange breaks: it is of a whole type, within it and not empty (2.3.3.1).
-fn subrange_fault(scalar: Scalar, place: Place) -> Option<Found<DeclareFault>>
+/// What a subrange breaks: it is of a whole type, within it and not empty (2.3.3.1).
+pub fn subrange_fault(scalar: Scalar, place: Place) -> Option<Found<DeclareFault>>
     ensures { result ≡ lowest_at (subrange_numbers scalar.elementary scalar.subrange) place }
 {
     let Some(subrange) = scalar.subrange else {

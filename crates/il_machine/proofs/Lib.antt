@@ -18,3 +18,4 @@ pub mod Opens
 pub mod Images
 pub mod Ending
 pub mod Reading
+pub mod Running

@@ -1,5 +1,5 @@
 -- Which tasks a configuration has.
-use Rattle.std.proofs.Common.{◌≡◌, ℕ, Bool, true, false, List, [], ◌∷◌, Option, Some, None, refl, sym, ap, ◌∙◌, zero, suc, ◌+◌, ◌≤◌, ◌++◌, arith, bytes_eq, if◌then◌else◌}
+use Rattle.std.proofs.Common.{◌≡◌, ℕ, Bool, true, false, [], ◌∷◌, Option, Some, None, refl, sym, ap, ◌∙◌, zero, suc, ◌+◌, ◌≤◌, ◌++◌, arith, bytes_eq, if◌then◌else◌}
 use Rattle.std.specs.Prelude.{find, nat_le, codes, is_some, option_copied}
 use Rattle.std.proofs.Common.{Bor}
 use Rattle.std.proofs.lemmas.Fmt.{decimal_digit}

@@ -1,10 +1,11 @@
 // One instruction that goes on to the next.
 
-ghost use Rattle.std.specs.Prelude.{◌≡◌, IsSome, Some};
+ghost use Rattle.std.specs.Prelude.{◌≡◌, IsSome, Some, None, true, false};
 ghost use Rattle.std.specs.Int.{int_min, int_max};
 ghost use Rattle.il_run.specs.Step.{logic, negated_if, truth, content};
 ghost use Rattle.il_run.specs.declared.value.Value.TheVariants.{Integer};
-ghost use Rattle.il_machine.specs.Effect.{with_some, place, operand, number_left, computed, operated, limited, applied, loaded, stored, effect, from_base};
+ghost use Rattle.il_run.specs.declared.value.Content.{Content as Left};
+ghost use Rattle.il_machine.specs.Effect.{with_some, place, operand, number_left, computed, operated, limited, applied, loaded, stored, effect, is_straight, from_base};
 
 use crate::rows::{Rows, boolean_of, number_of};
 use il_code::flat::{Flat, Function, Operand, Slot};
@@ -182,10 +183,19 @@ fn put_down(rows: &mut Rows, base: usize, slot: Slot, kind: Store, put: Content)
     }
 }
 
-/// What an instruction does to the rows, and the current result that it leaves.
-pub fn exec(rows: &mut Rows, base: usize, before: Option<Content>, instruction: &Flat) -> Content
-    requires { IsSome (effect instruction.now rows.old base before) }
-    ensures { effect instruction.now rows.old base before ≡ Some (rows.new, result) }
+/// What an instruction that goes on to the next does to the rows, and the current result that it leaves; none where the
+/// instruction is another.
+#[inline(always)]
+pub fn exec(
+    rows: &mut Rows,
+    base: usize,
+    before: Option<Content>,
+    instruction: &Flat,
+) -> Option<Content>
+    requires { is_straight instruction.now ≡ true → IsSome (effect instruction.now rows.old base before) }
+    ensures goes_on { (c : Left) → result ≡ Some c → effect instruction.now rows.old base before ≡ Some (rows.new, c) }
+    ensures other { result ≡ None → (is_straight instruction.now ≡ false) × (rows.new ≡ rows.old) }
+    ensures straight { IsSome result → is_straight instruction.now ≡ true }
 {
     match (instruction, before) {
         (
@@ -194,7 +204,7 @@ pub fn exec(rows: &mut Rows, base: usize, before: Option<Content>, instruction: 
                 operand: from,
             },
             _,
-        ) => loaded(*negated, operand(rows, base, Elementary::Int, from)),
+        ) => Some(loaded(*negated, operand(rows, base, Elementary::Int, from))),
         (
             Flat::Store {
                 store: kind,
@@ -203,19 +213,23 @@ pub fn exec(rows: &mut Rows, base: usize, before: Option<Content>, instruction: 
             Some(left),
         ) => {
             store(rows, base, *kind, target, left);
-            left
+            Some(left)
         }
-        (Flat::Not, Some(left)) => loaded(true, left),
+        (Flat::Not, Some(left)) => Some(loaded(true, left)),
         (
             Flat::Operate {
                 operator,
                 operand: from,
             },
             Some(left),
-        ) => operated(*operator, left, operand(rows, base, left.elementary, from)),
-        (Flat::Apply { function, operands }, Some(left)) => {
-            applied(*function, rows, base, left, operands.as_slice())
-        }
-        _ => unreachable!(),
+        ) => Some(operated(*operator, left, operand(rows, base, left.elementary, from))),
+        (Flat::Apply { function, operands }, Some(left)) => Some(applied(
+            *function,
+            rows,
+            base,
+            left,
+            operands.as_slice(),
+        )),
+        _ => None,
     }
 }

@@ -29,7 +29,7 @@ use Rattle.il_grammar.proofs.Operands.{operator_one}
 use Rattle.il_grammar.proofs.Arguments.{argument_one}
 use Rattle.il_grammar.proofs.Instructions.{sort_of, operator_sort, instruction_sort, none, loads, stores, negates, evaluates, jumps, leaves, calls, sort_at}
 use Rattle.il_read.specs.Lead.{lead_of, lead_at}
-use Rattle.il_read.specs.Reads.{IsFault, Reads, Refuses, Misses, Eats, SpellsLine, SpellsWork, SpellsRoomy, SpellsTargetLine, SpellsNameLine, SpellsCalled, SpellsInside, SpellsListed}
+use Rattle.il_read.specs.Reads.{IsFault, Reads, Refuses, Stands, Misses, Eats, SpellsLine, SpellsWork, SpellsRoomy, SpellsTargetLine, SpellsNameLine, SpellsCalled, SpellsInside, SpellsOpened, SpellsListed}
 use Rattle.il_read.specs.declared.lead.Lead.{Lead}
 use Rattle.il_read.specs.declared.lead.Lead.TheVariants as first
 use Rattle.il_read.specs.declared.stop.Stop.{Stop}
@@ -230,46 +230,50 @@ module _ (text : List ℕ) where
   opened : (Q : Front) (ts m r : List Token) → TheSign OpenParenthesis ts m → (TheSign OpenParenthesis ⋯ Q) ts r → Q (skip_line_ends m) r
   opened Q ts m r there w = subst (λ (k : List Token). Q (skip_line_ends k) r) ((sign_sure OpenParenthesis).only ts w.0 m w.1 there) w.2
 
-  -- a parenthesis opens, and the next closes it, and the line doesn't end
-  pub empty_refused : (ts m k : List Token) (e : Stop) → TheSign OpenParenthesis ts m → TheSign CloseParenthesis (skip_line_ends m) k → Misses TheLineEnd k e → Refuses (SpellsArguments text) ts e
-  empty_refused ts m k e there close bad = record { never = go }
+  -- a parenthesis opens, and nothing that may follow it stands there
+  pub opened_refused : (ts m : List Token) (e : Stop) → TheSign OpenParenthesis ts m → Refuses (SpellsOpened text) (skip_line_ends m) e → Refuses (SpellsArguments text) ts e
+  opened_refused ts m e there bad = record { never = go }
     where
       go : IsFault e → (xs : List Argument) (r : List Token) → SpellsArguments text xs ts r → ⊥
       go is [] r (inl p) = let a = line_end_lead text ts r p in let b = sign_lead text OpenParenthesis ts m there in cc
-      go is [] r (inr p) =
-          let v = opened (TheSign CloseParenthesis ⨾ TheLineEnd) ts m r there p in
-          bad.never is r (subst (λ (x : List Token). TheLineEnd x r) ((sign_sure CloseParenthesis).only (skip_line_ends m) v.0 k v.1 close) v.2)
-      go is (x ∷ xs) r w =
-          let v = opened (SpellsInside text (x ∷ xs) ⨾ TheLineEnd) ts m r there w in
-          inside_no_sign CloseParenthesis (x ∷ xs) (skip_line_ends m) v.0 k v.1 close
-
-  -- a parenthesis opens, and no argument follows
-  pub inside_refused : (ts m : List Token) (e : Stop) → TheSign OpenParenthesis ts m → ((k : List Token) → TheSign CloseParenthesis (skip_line_ends m) k → ⊥) → Refuses (SpellsInside text) (skip_line_ends m) e
-      → Refuses (SpellsArguments text) ts e
-  inside_refused ts m e there missing bad = record { never = go }
-    where
-      go : IsFault e → (xs : List Argument) (r : List Token) → SpellsArguments text xs ts r → ⊥
-      go is [] r (inl p) = let a = line_end_lead text ts r p in let b = sign_lead text OpenParenthesis ts m there in cc
-      go is [] r (inr p) = let v = opened (TheSign CloseParenthesis ⨾ TheLineEnd) ts m r there p in missing v.0 v.1
-      go is (x ∷ xs) r w = let v = opened (SpellsInside text (x ∷ xs) ⨾ TheLineEnd) ts m r there w in bad.never is (x ∷ xs) v.0 v.1
-
-  -- arguments stand there, and the line doesn't end
-  pub unended_refused : (ts m k : List Token) (ys : List Argument) (e : Stop) → TheSign OpenParenthesis ts m → ((k : List Token) → TheSign CloseParenthesis (skip_line_ends m) k → ⊥)
-      → Reads (SpellsInside text) (skip_line_ends m) ys k → Misses TheLineEnd k e → Refuses (SpellsArguments text) ts e
-  unended_refused ts m k ys e there missing here bad = record { never = go }
-    where
-      go : IsFault e → (xs : List Argument) (r : List Token) → SpellsArguments text xs ts r → ⊥
-      go is [] r (inl p) = let a = line_end_lead text ts r p in let b = sign_lead text OpenParenthesis ts m there in cc
-      go is [] r (inr p) = let v = opened (TheSign CloseParenthesis ⨾ TheLineEnd) ts m r there p in missing v.0 v.1
-      go is (x ∷ xs) r w =
-          let v = opened (SpellsInside text (x ∷ xs) ⨾ TheLineEnd) ts m r there w in
-          let same = inside_one.only (x ∷ xs) ys (skip_line_ends m) v.0 k v.1 here.found in
-          bad.never is r (subst (λ (j : List Token). TheLineEnd j r) same.1 v.2)
+      go is [] r (inr p) = bad.never is [] r (opened (SpellsOpened text []) ts m r there p)
+      go is (x ∷ xs) r w = bad.never is (x ∷ xs) r (opened (SpellsOpened text (x ∷ xs)) ts m r there w)
 
   -- and does
-  pub arguments_read : (ts m k r : List Token) (ys : List Argument) → TheSign OpenParenthesis ts m → Reads (SpellsInside text) (skip_line_ends m) ys k → TheLineEnd k r → Reads (SpellsArguments text) ts ys r
-  arguments_read ts m k r [] there here ended = absurd here.found
-  arguments_read ts m k r (y ∷ ys) there here ended = record { found = (m, there, (k, here.found, ended)) }
+  pub arguments_read : (ts m r : List Token) (ys : List Argument) → TheSign OpenParenthesis ts m → Reads (SpellsOpened text) (skip_line_ends m) ys r → Reads (SpellsArguments text) ts ys r
+  arguments_read ts m r [] there here = record { found = inr (m, there, here.found) }
+  arguments_read ts m r (y ∷ ys) there here = record { found = (m, there, here.found) }
+
+  -- a parenthesis closes, and the line doesn't end
+  pub closed_refused : (ts k : List Token) (e : Stop) → TheSign CloseParenthesis ts k → Misses TheLineEnd k e → Refuses (SpellsOpened text) ts e
+  closed_refused ts k e close bad = record { never = go }
+    where
+      go : IsFault e → (xs : List Argument) (r : List Token) → SpellsOpened text xs ts r → ⊥
+      go is [] r w = bad.never is r (subst (λ (x : List Token). TheLineEnd x r) ((sign_sure CloseParenthesis).only ts w.0 k w.1 close) w.2)
+      go is (x ∷ xs) r w = inside_no_sign CloseParenthesis (x ∷ xs) ts w.0 k w.1 close
+
+  -- none closes, and no argument follows
+  pub inside_refused : (ts : List Token) (e : Stop) → ((k : List Token) → TheSign CloseParenthesis ts k → ⊥) → Refuses (SpellsInside text) ts e → Refuses (SpellsOpened text) ts e
+  inside_refused ts e missing bad = record { never = go }
+    where
+      go : IsFault e → (xs : List Argument) (r : List Token) → SpellsOpened text xs ts r → ⊥
+      go is [] r w = missing w.0 w.1
+      go is (x ∷ xs) r w = bad.never is (x ∷ xs) w.0 w.1
+
+  -- arguments stand there, and the line doesn't end
+  pub unended_refused : (ts k : List Token) (ys : List Argument) (e : Stop) → ((k : List Token) → TheSign CloseParenthesis ts k → ⊥) → Reads (SpellsInside text) ts ys k → Misses TheLineEnd k e → Refuses (SpellsOpened text) ts e
+  unended_refused ts k ys e missing here bad = record { never = go }
+    where
+      go : IsFault e → (xs : List Argument) (r : List Token) → SpellsOpened text xs ts r → ⊥
+      go is [] r w = missing w.0 w.1
+      go is (x ∷ xs) r w =
+          let same = inside_one.only (x ∷ xs) ys ts w.0 k w.1 here.found in
+          bad.never is r (subst (λ (j : List Token). TheLineEnd j r) same.1 w.2)
+
+  -- and does
+  pub inside_read : (ts k r : List Token) (ys : List Argument) → Reads (SpellsInside text) ts ys k → Stands TheLineEnd k r → Reads (SpellsOpened text) ts ys r
+  inside_read ts k r [] here ended = absurd here.found
+  inside_read ts k r (y ∷ ys) here ended = record { found = (k, here.found, ended.found) }
 
   -- no instruction begins so
   pub none_refused : (room : Bool) (l : Lead) (ts : List Token) (e : Stop) → lead_at text ts ≡ l → sort_at (plain l) ≡ none → Refuses (SpellsRoomy text room) ts e

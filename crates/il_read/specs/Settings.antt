@@ -2,6 +2,7 @@
 use Rattle.std.specs.Prelude.{◌≡◌, ℕ, ℤ, Bool, true, false, drop, Option, Some, None, List, codes}
 use Rattle.il_spec.specs.declared.token.Sign.TheVariants.{Assign, Colon, Semicolon, Comma, OpenParenthesis, CloseParenthesis}
 use Rattle.il_spec.specs.declared.keyword.Keyword.TheVariants as word
+use Rattle.il_spec.specs.declared.tree.Elementary.TheVariants.{Int}
 use Rattle.il_spec.specs.declared.tree.Size.{Size}
 use Rattle.il_spec.specs.declared.token.Token.{Token}
 use Rattle.il_spec.specs.declared.tree.Literal.TheVariants as literal
@@ -17,6 +18,10 @@ AnInterval value = ATyped (literal.Time value)
 -- a decimal with its place, and a semicolon
 abbrev pub PlacedDecimal : List ℕ → Size → Front
 PlacedDecimal text s = At s.place (ADecimal text s.value) ⋯ TheSign Semicolon
+
+-- INT ':=' decimal ';'
+abbrev pub SpellsSized : List ℕ → Size → Front
+SpellsSized text s = TheWord text (word.Elementary Int) ⋯ TheSign Assign ⋯ PlacedDecimal text s
 
 -- whether a colon stands behind the first token
 abbrev pub FollowsColon : List Token → Bool → Type 0
@@ -37,9 +42,17 @@ TakesWord text keyword ts None rest = (rest ≡ ts) × ((other : List Token) →
 abbrev pub SpellsPriority : List ℕ → ℤ → Front
 SpellsPriority text value = TheWord text word.Priority ⋯ TheSign Assign ⋯ ADecimal text value ⋯ TheSign CloseParenthesis ⋯ TheSign Semicolon
 
+-- time ',', and the priority
+abbrev pub SpellsSchedule : List ℕ → ℤ × ℤ → Front
+SpellsSchedule text x = AnInterval x.0 ⋯ TheSign Comma ⋯ SpellsPriority text x.1
+
 -- '(' INTERVAL ':=' time ',', and the priority
 abbrev pub SpellsTimes : List ℕ → ℤ × ℤ → Front
 SpellsTimes text x = TheSign OpenParenthesis ⋯ TheWord text word.Interval ⋯ TheSign Assign ⋯ AnInterval x.0 ⋯ TheSign Comma ⋯ SpellsPriority text x.1
+
+-- name ';'
+abbrev pub SpellsProgramName : List ℕ → Named → Front
+SpellsProgramName text n = TheName text n ⋯ TheSign Semicolon
 
 -- name ':' name ';'
 abbrev pub SpellsBound : List ℕ → Named × Named → Front

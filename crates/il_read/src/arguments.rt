@@ -2,7 +2,7 @@
 
 ghost use Rattle.std.specs.Prelude.{◌<◌, ◌≤◌, length, IfOk, IfErr};
 ghost use Rattle.il_spec.specs.Grammar.{SpellsArguments, SpellsOperands};
-ghost use Rattle.il_read.specs.Reads.{Reads, Refuses, SpellsCalled, SpellsInside, SpellsListed};
+ghost use Rattle.il_read.specs.Reads.{Reads, Refuses, SpellsCalled, SpellsInside, SpellsListed, SpellsOpened};
 
 use crate::lead::Lead;
 use crate::source::Source;
@@ -20,14 +20,14 @@ impl<'t> Source<'t> {
         ensures shorter { IfOk result (λ _. length tokens.new < length tokens.old) }
     {
         let mut operands = Items::new(self.alloc());
-        let operand = self.operand(tokens, Gap::Tight)?;
-        operands.push(operand)?;
-        'operands: while self.eat_sign(tokens, Sign::Comma) {
+        'operands: loop {
             let operand = self.operand(tokens, Gap::Tight)?;
             operands.push(operand)?;
+            if !self.eat_sign(tokens, Sign::Comma) {
+                self.line_end(tokens)?;
+                return Ok(operands);
+            }
         }
-        self.line_end(tokens)?;
-        Ok(operands)
     }
 
     /// The operands of a function, which may be none, and the end of the line.
@@ -51,16 +51,30 @@ impl<'t> Source<'t> {
         ensures shorter { IfOk result (λ _. length tokens.new < length tokens.old) }
     {
         let mut arguments = Items::new(self.alloc());
-        let argument = self.argument(tokens)?;
-        arguments.push(argument)?;
-        tokens.skip_lines();
-        'arguments: while self.eat_sign(tokens, Sign::Comma) {
-            tokens.skip_lines();
+        'arguments: loop {
             let argument = self.argument(tokens)?;
             arguments.push(argument)?;
             tokens.skip_lines();
+            if !self.eat_sign(tokens, Sign::Comma) {
+                self.sign(tokens, Sign::CloseParenthesis)?;
+                return Ok(arguments);
+            }
+            tokens.skip_lines();
         }
-        self.sign(tokens, Sign::CloseParenthesis)?;
+    }
+
+    // The arguments behind the parenthesis that opens, which may be none, the one that closes, and the end of the line.
+    fn opened(&self, tokens: &mut Tokens) -> Result<Items<Argument>, Stop>
+        ensures reads { IfOk result (λ xs. Reads (SpellsOpened self.now) tokens.old xs tokens.new) }
+        ensures refused { IfErr result (λ e. Refuses (SpellsOpened self.now) tokens.old e) }
+        ensures shorter { IfOk result (λ _. length tokens.new < length tokens.old) }
+    {
+        if self.eat_sign(tokens, Sign::CloseParenthesis) {
+            self.line_end(tokens)?;
+            return Ok(Items::new(self.alloc()));
+        }
+        let arguments = self.some_arguments(tokens)?;
+        self.line_end(tokens)?;
         Ok(arguments)
     }
 
@@ -75,13 +89,7 @@ impl<'t> Source<'t> {
             return Ok(Items::new(self.alloc()));
         }
         tokens.skip_lines();
-        if self.eat_sign(tokens, Sign::CloseParenthesis) {
-            self.line_end(tokens)?;
-            return Ok(Items::new(self.alloc()));
-        }
-        let arguments = self.some_arguments(tokens)?;
-        self.line_end(tokens)?;
-        Ok(arguments)
+        Ok(self.opened(tokens)?)
     }
 
     /// The instance that is called, and its arguments.

@@ -6,7 +6,7 @@ ghost use Rattle.il_spec.specs.Text.{is_grouped};
 ghost use Rattle.il_spec.specs.Grammar.{SomeName, TheText, TheWord, ADecimal, SpellsSize, SpellsTask, SpellsProgramLine};
 ghost use Rattle.il_read.specs.declared.stop.Stop.TheVariants.{Memory};
 ghost use Rattle.il_read.specs.Reads.{Reads, Refuses, Stands, Misses};
-ghost use Rattle.il_read.specs.Settings.{AnInterval, PlacedDecimal, FollowsColon, TakesLabel, TakesWord, SpellsPriority, SpellsTimes, SpellsBound, SpellsWith, PlacedWord, StandsThere, SpellsFloors, SpellsThree};
+ghost use Rattle.il_read.specs.Settings.{AnInterval, PlacedDecimal, FollowsColon, TakesLabel, TakesWord, SpellsSized, SpellsPriority, SpellsSchedule, SpellsTimes, SpellsProgramName, SpellsBound, SpellsWith, PlacedWord, StandsThere, SpellsFloors, SpellsThree};
 
 use crate::lead::Lead;
 use crate::source::Source;
@@ -72,11 +72,11 @@ impl<'t> Source<'t> {
         ensures refused { IfErr result (λ e. Misses (SomeName self.now) tokens.old e) }
         ensures shorter { IfOk result (λ _. length tokens.new < length tokens.old) }
     {
-        let Lead::Name = self.lead(tokens) else {
-            return Err(tokens.outside());
-        };
-        tokens.advance();
-        Ok(())
+        if let Lead::Name = self.lead(tokens) {
+            tokens.advance();
+            return Ok(());
+        }
+        Err(tokens.outside())
     }
 
     /// This word, which is no reserved one.
@@ -146,6 +146,19 @@ impl<'t> Source<'t> {
         Ok(Size { place, value })
     }
 
+    // The type of a size, and its value.
+    fn sized(&self, tokens: &mut Tokens) -> Result<Size, Stop>
+        ensures reads { IfOk result (λ s. Reads (SpellsSized self.now) tokens.old s tokens.new) }
+        ensures refused { IfErr result (λ e. Refuses (SpellsSized self.now) tokens.old e) }
+        ensures shorter { IfOk result (λ _. length tokens.new < length tokens.old) }
+    {
+        self.word(tokens, Keyword::Elementary(Elementary::Int))?;
+        tokens.skip_lines();
+        self.sign(tokens, Sign::Assign)?;
+        tokens.skip_lines();
+        Ok(self.placed_decimal(tokens)?)
+    }
+
     /// CARS, FLOORS or SLOTS, its type and its value.
     pub fn size(&self, tokens: &mut Tokens, word: &str) -> Result<Size, Stop>
         ensures reads { IfOk result (λ s. Reads (SpellsSize self.now word.now) tokens.old s tokens.new) }
@@ -156,11 +169,7 @@ impl<'t> Source<'t> {
         tokens.skip_lines();
         self.sign(tokens, Sign::Colon)?;
         tokens.skip_lines();
-        self.word(tokens, Keyword::Elementary(Elementary::Int))?;
-        tokens.skip_lines();
-        self.sign(tokens, Sign::Assign)?;
-        tokens.skip_lines();
-        Ok(self.placed_decimal(tokens)?)
+        Ok(self.sized(tokens)?)
     }
 
     // The priority of a task.
@@ -181,6 +190,20 @@ impl<'t> Source<'t> {
         Ok(value)
     }
 
+    // A time, a comma and the priority.
+    fn schedule(&self, tokens: &mut Tokens) -> Result<(i64, i64), Stop>
+        ensures reads { IfOk result (λ x. Reads (SpellsSchedule self.now) tokens.old x tokens.new) }
+        ensures refused { IfErr result (λ e. Refuses (SpellsSchedule self.now) tokens.old e) }
+        ensures shorter { IfOk result (λ _. length tokens.new < length tokens.old) }
+    {
+        let interval = self.interval(tokens)?;
+        tokens.skip_lines();
+        self.sign(tokens, Sign::Comma)?;
+        tokens.skip_lines();
+        let priority = self.priority(tokens)?;
+        Ok((interval, priority))
+    }
+
     // The interval of a task, and its priority.
     fn times(&self, tokens: &mut Tokens) -> Result<(i64, i64), Stop>
         ensures reads { IfOk result (λ x. Reads (SpellsTimes self.now) tokens.old x tokens.new) }
@@ -193,12 +216,7 @@ impl<'t> Source<'t> {
         tokens.skip_lines();
         self.sign(tokens, Sign::Assign)?;
         tokens.skip_lines();
-        let interval = self.interval(tokens)?;
-        tokens.skip_lines();
-        self.sign(tokens, Sign::Comma)?;
-        tokens.skip_lines();
-        let priority = self.priority(tokens)?;
-        Ok((interval, priority))
+        Ok(self.schedule(tokens)?)
     }
 
     /// A reserved word with its place.
@@ -235,6 +253,18 @@ impl<'t> Source<'t> {
         Ok(task_of(place, name, times))
     }
 
+    // The name of a program, and a semicolon.
+    fn program_name(&self, tokens: &mut Tokens) -> Result<Named, Stop>
+        ensures reads { IfOk result (λ n. Reads (SpellsProgramName self.now) tokens.old n tokens.new) }
+        ensures refused { IfErr result (λ e. Refuses (SpellsProgramName self.now) tokens.old e) }
+        ensures shorter { IfOk result (λ _. length tokens.new < length tokens.old) }
+    {
+        let program = self.named(tokens)?;
+        tokens.skip_lines();
+        self.sign(tokens, Sign::Semicolon)?;
+        Ok(program)
+    }
+
     // The names of a task and a program.
     fn bound(&self, tokens: &mut Tokens) -> Result<(Named, Named), Stop>
         ensures reads { IfOk result (λ x. Reads (SpellsBound self.now) tokens.old x tokens.new) }
@@ -245,9 +275,7 @@ impl<'t> Source<'t> {
         tokens.skip_lines();
         self.sign(tokens, Sign::Colon)?;
         tokens.skip_lines();
-        let program = self.named(tokens)?;
-        tokens.skip_lines();
-        self.sign(tokens, Sign::Semicolon)?;
+        let program = self.program_name(tokens)?;
         Ok((task, program))
     }
 

@@ -3,7 +3,6 @@ use Rattle.std.proofs.Common.{◌≡◌, ℕ, ◌+◌, ◌-◌, ◌*◌, ◌<◌
 use Rattle.std.proofs.lemmas.Bool.Decides.{nat_tests}
 use Rattle.std.specs.Char.{is_ascii_digit}
 use Rattle.std.specs.Prelude.{ℤ, int_le, Option, Some, None, is_some, option_map, option_and_then, bytes_eq, codes}
-use Rattle.std.proofs.lemmas.Slice.Eq.{bytes_eq-Decides}
 use Rattle.il_rules.specs.Names.{Spelling, decimal_value, car_number, task_role, CarRole, GroupRole}
 use Rattle.il_scope.specs.Cars.{up_to, car_of}
 use Rattle.il_scope.specs.Entries.{role_entry}

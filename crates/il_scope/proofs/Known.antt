@@ -8,7 +8,6 @@ use Rattle.il_spec.specs.declared.tree.Form.{Form}
 use Rattle.il_rules.specs.Names as rule
 use Rattle.il_rules.specs.Names.{Spelling, or_else, entry_of, standard_functions, standard_function, standard_blocks, standard_block, standard_inputs, standard_outputs, image_of, image_name}
 use Rattle.il_scope.specs.declared.entry.ImageName.{ImageName}
-use Rattle.il_scope.specs.declared.entry.StandardFunction.{StandardFunction}
 use Rattle.il_scope.specs.declared.entry.StandardBlock.{StandardBlock}
 use Rattle.il_scope.specs.declared.entry.StandardBlock.TheVariants.{Sr, Rs, RTrig, FTrig, Ctu, Ctd, Ctud, Tp, Ton, Tof}
 use Rattle.il_scope.specs.Words.{is_name, entry_among}

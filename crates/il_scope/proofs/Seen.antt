@@ -1,5 +1,5 @@
 -- What names mean, as the rules say it.
-use Rattle.std.proofs.Common.{◌≡◌, ℕ, zero, suc, Bool, true, false, ◌&&◌, ◌||◌, List, [], ◌∷◌, ◌++◌, map, refl, sym, ap, ◌∙◌, subst, Option, Some, None, is_some, option_map, option_and_then, bytes_eq, slice_get, if◌then◌else◌, ◌<◌, ◌≤◌, ◌+◌, length, get_or, arith}
+use Rattle.std.proofs.Common.{◌≡◌, ℕ, zero, suc, Bool, true, false, ◌&&◌, ◌||◌, List, [], ◌∷◌, ◌++◌, map, refl, sym, ap, ◌∙◌, subst, Option, Some, None, is_some, option_map, option_and_then, bytes_eq, slice_get, if◌then◌else◌, ◌<◌, ◌≤◌, length, get_or, arith}
 use Rattle.std.proofs.lemmas.Option.{slice_get_read}
 use Rattle.std.specs.Prelude.{find}
 use Rattle.std.specs.Option.{option_or}
@@ -9,13 +9,15 @@ use Rattle.il_spec.specs.declared.tree.UnitKind.{UnitKind}
 use Rattle.il_spec.specs.declared.tree.UnitKind.TheVariants.{Function, FunctionBlock, Program}
 use Rattle.il_spec.specs.declared.tree.Declaration.{Declaration}
 use Rattle.il_spec.specs.declared.tree.Form.{Form}
+use Rattle.il_spec.specs.declared.tree.Form.TheVariants.{Scalar as OfScalar}
 use Rattle.il_run.specs.NameMap.{NameMap, get}
 use Rattle.il_rules.specs.Names as rule
 use Rattle.il_rules.specs.Names.{Spelling, or_else, entry_of, is_one_of, BlockVariables, own_block_variables, named_forms, with_origin, result_of, variables_of, own_variable, is_predeclared, is_program_kind, is_seen_by, Everybody, CarPrograms, GroupPrograms, CarRole, GroupRole, sees, image_meaning, unit_named, global_meaning, outer_meaning, image_name, program_role, meaning, MeansVariable, MeansUnit, MeansStandard, AsInput, AsOutput, AsVariable, AsExternal}
 use Rattle.il_rules.specs.Declarations.{names_of_units}
 use Rattle.il_scope.specs.declared.entry.VariableType.{VariableType}
 use Rattle.il_scope.specs.declared.entry.Variable.{Variable}
-use Rattle.il_scope.specs.declared.entry.Origin.TheVariants.{Input, Output, Local, External}
+use Rattle.il_scope.specs.declared.entry.Role.{Role}
+use Rattle.il_scope.specs.declared.entry.ImageName.{ImageName}
 use Rattle.il_scope.specs.declared.entry.Binding.{Binding}
 use Rattle.il_scope.specs.declared.entry.Binding.TheVariants as means
 use Rattle.il_scope.specs.declared.tables.Scope.{Scope}
@@ -57,7 +59,7 @@ by_result : (config : Config) (kind : UnitKind) (own q : Spelling) → option_ma
 by_result config (Function scalar place) own q = go (bytes_eq own q)
   where
     v : rule.Variable
-    v = record { name = own; form = Rattle.il_spec.specs.declared.tree.Form.TheVariants.Scalar scalar; origin = rule.AsResult }
+    v = record { name = own; form = OfScalar scalar; origin = rule.AsResult }
 
     go : (b : Bool) → option_map (variable_of config) (if b then Some v else None) ≡ (if b then Some (variable_of config v) else None)
     go true = refl
@@ -160,7 +162,7 @@ global_is config q = ap (λ b. if b then Some means.Unit else (if is_predeclared
 -- MEANINGS
 
 -- an image name
-pub outer_image : (config : Config) (unit : ProgramUnit) (q : Spelling) (role : Option _) (image : _) (r : Option Binding) → role ≡ option_map role_entry (program_role config unit.name.name config.programs) → r ≡ image_binding unit.kind role image → Some image ≡ option_map (image_entry config) (image_name config q) → r ≡ option_map (binding_of config) (outer_meaning config unit q (image_name config q))
+pub outer_image : (config : Config) (unit : ProgramUnit) (q : Spelling) (role : Option Role) (image : ImageName) (r : Option Binding) → role ≡ option_map role_entry (program_role config unit.name.name config.programs) → r ≡ image_binding unit.kind role image → Some image ≡ option_map (image_entry config) (image_name config q) → r ≡ option_map (binding_of config) (outer_meaning config unit q (image_name config q))
 outer_image config unit q role image r roles e is = go (image_name config q) is
   where
     go : (o : Option rule.ImageName) → Some image ≡ option_map (image_entry config) o → r ≡ option_map (binding_of config) (outer_meaning config unit q o)

@@ -51,6 +51,13 @@ impl Scoped {
         &self.config
     }
 
+    /// The configuration, without its tables.
+    pub fn into_config(self) -> Config
+        ensures { result ≡ self }
+    {
+        self.config
+    }
+
     /// Whether no text may declare a name again (own rule).
     pub fn is_predeclared(&self, name: &str) -> bool
         ensures { result ≡ is_predeclared self.now name.now }

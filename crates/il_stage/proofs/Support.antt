@@ -299,10 +299,10 @@ program_back : (u : Organized) → IsSupportedProgram u → unit_places_of u.kin
 program_back u h =
     ap (λ k. unit_places_of k u) h.kind
     ∙ nothing (first_type u.inputs ++ first_type u.outputs ++ first_type u.externals ++ flat_map variable_places u.variables ++ flat_map step_places u.body.steps) (first_label u.body.last_labels)
-      (nothing (first_type u.inputs ++ first_type u.outputs ++ first_type u.externals ++ flat_map variable_places u.variables) (flat_map step_places u.body.steps)
-      (nothing (first_type u.inputs ++ first_type u.outputs ++ first_type u.externals) (flat_map variable_places u.variables)
-      (nothing (first_type u.inputs ++ first_type u.outputs) (first_type u.externals) (nothing (first_type u.inputs) (first_type u.outputs) (ap first_type h.inputs) (ap first_type h.outputs)) (ap first_type h.externals)) (variables_back u.variables h.variables))
-      (steps_back u.body.steps h.steps)) (ap first_label h.last_labels)
+    (nothing (first_type u.inputs ++ first_type u.outputs ++ first_type u.externals ++ flat_map variable_places u.variables) (flat_map step_places u.body.steps)
+    (nothing (first_type u.inputs ++ first_type u.outputs ++ first_type u.externals) (flat_map variable_places u.variables)
+    (nothing (first_type u.inputs ++ first_type u.outputs) (first_type u.externals) (nothing (first_type u.inputs) (first_type u.outputs) (ap first_type h.inputs) (ap first_type h.outputs)) (ap first_type h.externals)) (variables_back u.variables h.variables))
+    (steps_back u.body.steps h.steps)) (ap first_label h.last_labels)
 
 -- CONFIGURATIONS
 

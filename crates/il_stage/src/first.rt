@@ -120,10 +120,7 @@ fn program_place(unit: &Unit) -> Option<Place>
     let variables = variables_place(unit.variables.as_slice());
     let steps = steps_place(unit.body.steps.as_slice());
     let label = label_place(unit.body.last_labels.as_slice());
-    earlier(
-        lists_place(unit),
-        earlier(variables, earlier(steps, label)),
-    )
+    earlier(lists_place(unit), earlier(variables, earlier(steps, label)))
 }
 
 // A unit that is no program, or the first place in a program.
@@ -172,10 +169,7 @@ pub fn later_place(config: &Config) -> Option<Place>
 {
     let end = config.end_resource;
     let units = units_place(end, config.units.as_slice());
-    let globals = earlier(
-        config.globals_place,
-        type_place(config.globals.as_slice()),
-    );
+    let globals = earlier(config.globals_place, type_place(config.globals.as_slice()));
     let tasks = task_place(end, config.tasks.as_slice());
     let lines = line_place(end, config.programs.as_slice());
     earlier(units, earlier(globals, earlier(tasks, lines)))

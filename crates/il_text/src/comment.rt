@@ -22,14 +22,16 @@ fn closes_comment(text: &[u8], at: usize) -> bool
     byte_at(text, at) == b'*' && byte_at(text, at + 1) == b')'
 }
 
-// Whether a text may have the byte at a place.
-fn is_text_byte(text: &[u8], at: usize) -> bool
-    requires { at ≤ length text.now }
-    ensures { result ≡ is_text_byte text.now at }
+// Whether a byte may stand in a comment, and neither `(*` nor `*)` begins with it.
+fn is_inside(text: &[u8], at: usize) -> bool
+    requires { at < length text.now }
+    ensures { result ≡ (is_text_byte text.now at && (not (opens_comment text.now at) && not (closes_comment text.now at))) }
 {
-    match byte_at(text, at) {
-        b' '..=b'~' | b'\t' | b'\n' => true,
+    match text[at] {
+        b'(' => byte_at(text, at + 1) != b'*',
+        b'*' => byte_at(text, at + 1) != b')',
         b'\r' => byte_at(text, at + 1) == b'\n',
+        b' '..=b'~' | b'\t' | b'\n' => true,
         _ => false,
     }
 }
@@ -51,28 +53,37 @@ fn closing_from(text: &[u8], from: usize) -> Option<usize>
     None
 }
 
-// The first byte from `from` up to `to` that may not stand in a comment.
-fn misread_between(text: &[u8], from: usize, to: usize) -> Option<Misread>
-    requires { to ≤ length text.now }
-    ensures within { IfSome result (λ m. from ≤ m.at × m.at < to) }
-    ensures found { IfSome result (λ m. IsFalse (is_text_byte text.now m.at && not (opens_comment text.now m.at))) }
-    ensures none { IfNone result ((k : ℕ) → from ≤ k → k < to → IsTrue (is_text_byte text.now k && not (opens_comment text.now k))) }
+// The place from `from` on at which something else stands than the inside of a comment.
+fn inside_end(text: &[u8], from: usize) -> usize
+    requires { from ≤ length text.now }
+    ensures within { from ≤ result × result ≤ length text.now }
+    ensures inside { (k : ℕ) → from ≤ k → k < result → IsTrue (is_text_byte text.now k && (not (opens_comment text.now k) && not (closes_comment text.now k))) }
+    ensures stops { result < length text.now → IsFalse (is_text_byte text.now result && (not (opens_comment text.now result) && not (closes_comment text.now result))) }
 {
-    for at in from..to {
-        if !is_text_byte(text, at) {
-            return Some(Misread {
-                flaw: Flaw::BadByte,
-                at,
-            });
-        }
-        if opens_comment(text, at) {
-            return Some(Misread {
-                flaw: Flaw::OpenComment,
-                at,
-            });
-        }
+    let mut at = from;
+    'inside: while at < text.len() && is_inside(text, at) {
+        at += 1;
     }
-    None
+    at
+}
+
+// What is wrong with a comment that opens at `at`, where something else than its inside or its end stands at `stop`.
+fn misread_at(text: &[u8], at: usize, stop: usize) -> Misread
+    requires { at ≤ stop × stop ≤ length text.now }
+    ensures { at ≤ result.at × result.at ≤ length text.now }
+{
+    if closing_from(text, stop).is_none() {
+        return Misread {
+            flaw: Flaw::OpenComment,
+            at,
+        };
+    }
+    let flaw = if opens_comment(text, stop) {
+        Flaw::OpenComment
+    } else {
+        Flaw::BadByte
+    };
+    Misread { flaw, at: stop }
 }
 
 /// Where the comment that opens at `at` ends.
@@ -84,14 +95,10 @@ pub(crate) fn comment_end(text: &[u8], at: usize) -> Result<usize, Misread>
     ensures place { IfErr result (λ m. at ≤ m.at × m.at ≤ length text.now) }
     ensures refused { IfErr result (λ m. (end : ℕ) → IsComment text.now at end → ⊥) }
 {
-    let Some(closing) = closing_from(text, at + 2) else {
-        return Err(Misread {
-            flaw: Flaw::OpenComment,
-            at,
-        });
-    };
-    match misread_between(text, at + 2, closing) {
-        Some(misread) => Err(misread),
-        None => Ok(closing + 2),
+    let stop = inside_end(text, at + 2);
+    if closes_comment(text, stop) {
+        Ok(stop + 2)
+    } else {
+        Err(misread_at(text, at, stop))
     }
 }

@@ -11,7 +11,7 @@ ghost use Rattle.il_order.specs.InOrder.{IsOrdered};
 ghost use Rattle.il_code.specs.Resolved.{IsResolved, AreSymbols};
 ghost use Rattle.il_verify.specs.Resolved.{IsChecked};
 
-use il_code::code::Code;
+use il_code::Code;
 use il_rules::symbol::Symbol;
 use il_spec::tree::Config;
 use std::marker::Model;

@@ -7,7 +7,7 @@ ghost use Rattle.il_run.specs.Annotation.{declared_range};
 ghost use Rattle.il_verify.specs.Program.{Adds, HasNumberIn, IsStoreNumbered, IsNumberingOf};
 
 use crate::known::range;
-use il_code::code::Code;
+use il_code::Code;
 use il_interval::Interval;
 use il_row::Row;
 use il_spec::tree::{Instruction, Reference, Step, Unit};

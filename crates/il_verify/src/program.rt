@@ -26,7 +26,7 @@ use crate::known::{
 };
 use crate::numbering::Numbering;
 use crate::pass::{Flow, Handed};
-use il_code::code::Code;
+use il_code::Code;
 use il_found::{Found, refusal};
 use il_interval::Interval;
 use il_least::facts::Facts;

@@ -8,7 +8,7 @@ use crate::code::Checked;
 use crate::numbering::numbering_of;
 use crate::pass::pass;
 use crate::program::Program;
-use il_code::code::Code;
+use il_code::Code;
 use il_least::facts::Facts;
 use il_row::Row;
 use il_spec::fault::Refusal;

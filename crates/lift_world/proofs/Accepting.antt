@@ -1,6 +1,6 @@
 -- Which texts are accepted.
 use Rattle.std.proofs.Common.{◌≡◌, ◌≢◌, refl, sym, ap, ◌∙◌, subst, ℕ, ◌+◌, ◌<◌, ◌≤◌, ◌⊎◌, inl, inr, ℤ, pos, negsuc, ◌≤ℤ◌, Bool, true, false, ◌&&◌, List, [], ◌∷◌, length, Some, Option, arith, zero, suc}
-use Rattle.std.specs.Prelude.{Contains, Ok, Err, Result, int_le, IsErrAnd, IfOk, None, option_and_then, if◌then◌else◌}
+use Rattle.std.specs.Prelude.{Contains, Ok, Err, Result, int_le, IsErrAnd, None, option_and_then, if◌then◌else◌}
 use lib.Signed.{le_z_yes}
 use lib.Dec.{T}
 use Rattle.std.proofs.lemmas.Int.{ints}
@@ -11,7 +11,7 @@ use Rattle.il_spec.specs.declared.token.Token.{Token}
 use Rattle.il_spec.specs.declared.fault.Refusal.{Refusal}
 use Rattle.il_spec.specs.declared.fault.Refusal.TheVariants.{Fault, Memory}
 use Rattle.il_spec.specs.Text.{AreTokens}
-use Rattle.il_spec.specs.Grammar.{AfterLines, SpellsConfig, Spells, IsWithinLimits}
+use Rattle.il_spec.specs.Grammar.{AfterLines, SpellsConfig}
 use Rattle.il_rules.specs.Names.{car_number, is_program, is_program_kind, program_named}
 use Rattle.il_spec.specs.declared.tree.UnitKind.TheVariants.{Program}
 use Rattle.il_rules.specs.Declarations.{sizes_of, is_within, size_outside, missing_task}
@@ -27,7 +27,7 @@ use Rattle.il_rules.specs.Faults.{Declaring, Typing, Ordering, initial_outside, 
 use Rattle.il_machine.specs.Scanning.{IsRunnable, IsWithin, HasSizes}
 use Rattle.il_parse.specs.Refused.{IsSmall, IsFault}
 use Rattle.il_stage.proofs.Support.{nothing_refused}
-use Rattle.lift_world.specs.Loading.{IsSpelled, IsAccepted, IsRefusedFor, by_stage, by_declarations, by_types, by_order, by_ranges}
+use Rattle.lift_world.specs.Loading.{IsSpelled, IsAccepted, IsRefusedFor, by_declarations, by_stage, by_names, by_types, by_order, by_ranges}
 use Rattle.lift_world.proofs.Tasking.{is_one, only_task, tasked}
 
 -- SIZES
@@ -82,8 +82,9 @@ has_sizes c supported unbroken =
 
 -- what is named is broken, or has no ranges
 names_broken : {text : List ℕ} (c : Config) (number line : ℕ) → IsRefusedFor c (Fault number line) → IsAccepted text c → ⊥
-names_broken c number line (by_stage (place, first, at)) a = nothing_refused c a.supported number place first.broken
-names_broken c number line (by_declarations carried (place, first, at)) a = a.declared number place first.broken
+names_broken c number line (by_declarations (place, first, at)) a = a.declared number place (broken first.broken)
+names_broken c number line (by_stage declared (place, first, at)) a = nothing_refused c a.supported number place first.broken
+names_broken c number line (by_names declared carried (place, first, at)) a = a.declared number place first.broken
 names_broken c number line (by_types carried unbroken (place, first, at)) a = a.typed number place first.broken
 names_broken c number line (by_order carried unbroken fine (place, first, at)) a = a.ordered number place first.broken
 names_broken c number line (by_ranges carried unbroken fine fit (u, s, program, first, at)) a =
@@ -109,7 +110,7 @@ none_spelled text tokens only refused c a =
     refused c (subst (λ ts. AfterLines (SpellsConfig text c) ts []) (only a.spelled.0 a.spelled.1) a.spelled.2) (record { units = a.limits.units; instructions = a.limits.instructions; nesting = a.limits.nesting })
 
 -- what the parser gives is the only such configuration
-same_spelled : (text : List ℕ) (tokens : List Token) (found : Config) → ((ts : List Token) → AreTokens text 0 ts → ts ≡ tokens)
+pub same_spelled : (text : List ℕ) (tokens : List Token) (found : Config) → ((ts : List Token) → AreTokens text 0 ts → ts ≡ tokens)
     → ((d : Config) → AfterLines (SpellsConfig text d) tokens [] → d ≡ found) → (c : Config) → IsSpelled text c → c ≡ found
 same_spelled text tokens found only unique c a = unique c (subst (λ ts. AfterLines (SpellsConfig text c) ts []) (only a.spelled.0 a.spelled.1) a.spelled.2)
 
@@ -124,16 +125,6 @@ none_judged text found e same refused fault c a =
 pub named_judged : {X : Type 0} (found : Config) (e : Refusal) (r : Result X Refusal) (c : Config) → c ≡ found → IsRefusedFor found e → IsErrAnd r (λ d. d ≡ e) → IsErrAnd r (IsRefusedFor c)
 named_judged {X} found e (Ok x) c is refused same = absurd same
 named_judged {X} found e (Err d) c is refused same = subst (λ f. IsRefusedFor f d) (sym is) (subst (IsRefusedFor found) (sym same) refused)
-
--- what a parser answers is spelled within the limits
-pub all_spelled : (text : List ℕ) (r : Result Config Refusal) → length text ≤ 262144 → IfOk r (Spells text) → IfOk r (λ c. length text ≤ 262144 → IsWithinLimits text c) → IfOk r (IsSpelled text)
-all_spelled text (Ok c) short spelled limits = record { spelled = spelled; limits = limits short }
-all_spelled text (Err e) short spelled limits = tt
-
-pub all_same : (text : List ℕ) (tokens : List Token) (r : Result Config Refusal) → ((ts : List Token) → AreTokens text 0 ts → ts ≡ tokens)
-    → IfOk r (λ c. (d : Config) → AfterLines (SpellsConfig text d) tokens [] → d ≡ c) → IfOk r (λ c. (d : Config) → IsSpelled text d → d ≡ c)
-all_same text tokens (Ok c) only unique = same_spelled text tokens c only unique
-all_same text tokens (Err e) only unique = tt
 
 -- what was parsed, judged and verified is accepted
 pub accepted_is : (text : List ℕ) (c checked : Config) → checked ≡ c → IsSpelled text c → IsSupported c → HasNoFault (BreaksInSubset c) → HasNoFault (Broken Typing c) → HasNoFault (Broken Ordering c) → Annotated checked → IsAccepted text checked

@@ -1,6 +1,6 @@
 -- What each phase's refusal says of the text.
 use Rattle.std.proofs.Common.{◌≡◌, ℕ, ◌<◌, ◌≤◌, List, length, arith, sym, subst, ap, inl, inr, Result, Ok, Err}
-use Rattle.std.specs.Prelude.{IsErrAnd, IfOk, IfErr}
+use Rattle.std.specs.Prelude.{IsErrAnd, IfErr}
 use Rattle.std.proofs.lemmas.Bool.{cases_lt}
 use Rattle.il_spec.specs.declared.fault.Refusal.{Refusal}
 use Rattle.il_spec.specs.declared.fault.Refusal.TheVariants.{Fault, Memory}
@@ -15,37 +15,17 @@ pub handed_as : {X : Type 0} (P : Refusal → Type 0) (e : Refusal) (r : Result 
 handed_as {X} P e (Ok x) same is = absurd same
 handed_as {X} P e (Err d) same is = subst P (sym same) is
 
--- an answer that is one kind of thing is another
-pub ok_as : {X : Type 0} (P Q : X → Type 0) (r : Result X Refusal) → ((x : X) → P x → Q x) → IfOk r P → IfOk r Q
-ok_as P Q (Ok x) turn is = turn x is
-ok_as P Q (Err e) turn is = tt
-
--- and so of refusals
-pub err_as : {X : Type 0} (P Q : Refusal → Type 0) (r : Result X Refusal) → ((e : Refusal) → P e → Q e) → IfErr r P → IfErr r Q
-err_as P Q (Ok x) turn is = tt
-err_as P Q (Err e) turn is = turn e is
-
--- what holds without an answer holds of it
-pub ok_always : {X : Type 0} (P : Type 0) (r : Result X Refusal) → P → IfOk r (λ _. P)
-ok_always P (Ok x) is = is
-ok_always P (Err e) is = tt
-
 -- a fault of the tree
 pub explained_by_tree : (text : List ℕ) (c : Config) (e : Refusal) → IsSpelled text c → IsRefusedFor c e → IsExplained text e
 explained_by_tree text c (Fault number line) spelled refused = of_tree (c, spelled, refused)
 explained_by_tree text c Memory spelled refused = tt
 
 -- a fault of the parser
-explained_by_parser : (text : List ℕ) (e : Refusal) → IsOfParser e → (IsFault {A = Config} (Err e) → SpellsNone text) → IsExplained text e
+pub explained_by_parser : (text : List ℕ) (e : Refusal) → IsOfParser e → (IsFault {A = Config} (Err e) → SpellsNone text) → IsExplained text e
 explained_by_parser text (Fault number line) (inl is) none = of_text (omega (arith, is)) (none tt)
 explained_by_parser text (Fault number line) (inr (inl is)) none = of_text (omega (arith, is)) (none tt)
 explained_by_parser text (Fault number line) (inr (inr is)) none = of_text (omega (arith, is)) (none tt)
 explained_by_parser text Memory is none = tt
-
--- the same of what a parser answers
-pub parser_explains : (text : List ℕ) (r : Result Config Refusal) → IfErr r IsOfParser → (IsFault r → SpellsNone text) → IfErr r (IsExplained text)
-parser_explains text (Ok c) is none = tt
-parser_explains text (Err e) is none = explained_by_parser text e is none
 
 -- a fault of the bytes, or a text that is too long
 pub explained_by_tokens : {A : Type 0} (text : List ℕ) (e : Refusal) → (262144 < length text → ◌≡◌ {A = Result A Refusal} (Err e) (Err (Fault 6 1))) → (length text ≤ 262144 → IsMemoryOrFaultOfBytes e)

@@ -14,3 +14,4 @@ pub mod Keeping
 pub mod Finishing
 pub mod Replying
 pub mod Happening
+pub mod Phases

@@ -5,6 +5,7 @@ ghost use Rattle.il_spec.specs.declared.fault.Refusal.TheVariants.{Memory};
 ghost use Rattle.il_machine.specs.Going.{Stored};
 ghost use Rattle.il_machine.specs.Scanning.{IsScanOf, kept_of, place_of, state_of};
 ghost use Rattle.lift_spec.specs.Calls.{ticket_of};
+ghost use Rattle.lift_spec.specs.Image.{sizes_of};
 ghost use Rattle.lift_spec.specs.declared.event.EventFault.TheVariants.{NoOpenScan};
 ghost use Rattle.lift_world.specs.declared.shared.Seat.{Seat as SeatOf};
 ghost use Rattle.lift_spec.specs.Snapshot.{program_of, scan_begins};
@@ -126,6 +127,27 @@ fn run_out(verified: &Verified, task: u8, store: &mut Option<Store>) -> Result<u
     }
 }
 
+// What a group opens with beside its configuration: what its tasks share, and a store for each task.
+#[derive(Drop)]
+struct Opened {
+    core: Core,
+    stores: Vec<Option<Store>>,
+}
+
+// What a group of a configuration opens with.
+fn opening(alloc: Global, verified: &Verified) -> Result<Opened, Refusal>
+    ensures group { IfOk result (λ o. group_in verified.now.config o.core ≡ model.opening_group verified.now.config) }
+    ensures many { IfOk result (λ o. length o.stores.items ≡ suc (sizes_of verified.now.config).cars) }
+    ensures seats { IfOk result (λ o. SeatsFit verified.now.config o.core) }
+    ensures stores { IfOk result (λ o. StoresFit verified.now.config o.core o.stores.items) }
+    ensures memory { IfErr result (λ e. e ≡ Memory) }
+{
+    let _config = verified.config();
+    let core = Core::new(alloc, verified)?;
+    let stores = opening_stores(alloc, verified, verified.sizes().cars)?;
+    Ok(Opened { core, stores })
+}
+
 impl Controller {
     /// The group as it opens: no scan is open, and no call waits.
     pub fn new(alloc: Global, verified: Verified) -> Result<Controller, Refusal>
@@ -135,15 +157,16 @@ impl Controller {
         ensures memory { IfErr result (λ e. e ≡ Memory) }
     {
         let _config = verified.config();
-        let core = Core::new(alloc, &verified)?;
-        let stores = opening_stores(alloc, &verified, verified.sizes().cars)?;
-        Ok(Controller {
-            verified,
-            core,
-            stores,
-            desk: Hand::new(),
-            hand: Hand::new(),
-        })
+        match opening(alloc, &verified) {
+            Ok(opened) => Ok(Controller {
+                verified,
+                core: opened.core,
+                stores: opened.stores,
+                desk: Hand::new(),
+                hand: Hand::new(),
+            }),
+            Err(refusal) => Err(refusal),
+        }
     }
 
     // Start: the task's scan begins.

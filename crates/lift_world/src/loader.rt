@@ -7,12 +7,14 @@ ghost use Rattle.il_rules.specs.Written.{IsWritten};
 ghost use Rattle.il_rules.specs.Faults.{HasNoFault, Broken, Typing, Ordering};
 ghost use Rattle.il_rules.specs.Subset.{IsSupported, BreaksInSubset};
 ghost use Rattle.il_run.specs.Annotation.{Annotated};
+ghost use Rattle.il_verify.specs.Resolved.{IsChecked};
 ghost use Rattle.il_machine.specs.Costs.{AreCosts};
 ghost use Rattle.lift_sound.specs.Runs.{RunsWell};
 ghost use Rattle.lift_world.specs.Loading.{IsSpelled, IsAccepted, IsRefusedFor, IsExplained, SpellsNone, cost_of};
 
-use il_code::code::Code;
-use il_decl::declare;
+use il_code::code;
+use il_decl::declare as resolve;
+use il_declare::declare;
 use il_machine::{UnitCost, Verified};
 use il_order::{Ordered, ordered};
 use il_parse::parse;
@@ -27,8 +29,8 @@ use std::alloc::{AllocError, Global};
 
 /// The configuration that a text spells, verified.
 ///
-/// A text is refused with the first fault of these phases, in their order: tokens (1 to 6), grammar (10 to 12), what isn't carried so far (90),
-/// declarations (20 to 25), types (30 to 33, 37), order and slots (12), ranges (40, 43). From 20 on it is the phase's fault at the earliest place,
+/// A text is refused with the first fault of these phases, in their order: tokens (1 to 6), grammar (10 to 12), declarations (20 to 25),
+/// what is not run yet (90, and 21 at the name of the image that is not), types (30 to 33, 37), order and slots (12), ranges (40, 43). From 20 on it is the phase's fault at the earliest place,
 /// at one place the one with the lowest number.
 pub fn load(alloc: Global, text: &[u8]) -> Result<Verified, Refusal>
     ensures found { IfOk result (λ v. IsAccepted text.now v.config) }
@@ -38,66 +40,26 @@ pub fn load(alloc: Global, text: &[u8]) -> Result<Verified, Refusal>
     ensures named { IsFault result → (c : Config) → IsSpelled text.now c → IsErrAnd result (IsRefusedFor c) }
     ensures number { IfErr result (IsExplained text.now) }
 {
-    let config = spelled(alloc, text)?;
-    let checked = checked(alloc, config)?;
-    let costs = costs(alloc, checked.config().units.as_slice())?;
-    Ok(Verified::of(checked, costs))
-}
-
-// The configuration that a text spells.
-fn spelled(alloc: Global, text: &[u8]) -> Result<Config, Refusal>
-    ensures spelled { IfOk result (IsSpelled text.now) }
-    ensures only { IfOk result (λ c. (d : Config) → IsSpelled text.now d → d ≡ c) }
-    ensures refused { IsFault result → SpellsNone text.now }
-    ensures number { IfErr result (IsExplained text.now) }
-{
     let tokens = tokens(alloc, text)?;
-    parse(alloc, text, &tokens)
-}
-
-// A configuration that is carried, and of which no declaration, no type, no order and no range is at fault.
-fn checked(alloc: Global, config: Config) -> Result<Checked, Refusal>
-    requires { IsWritten config }
-    ensures same { IfOk result (λ c. c ≡ config) }
-    ensures supported { IfOk result (λ _. IsSupported config) }
-    ensures declared { IfOk result (λ _. HasNoFault (BreaksInSubset config)) }
-    ensures typed { IfOk result (λ _. HasNoFault (Broken Typing config)) }
-    ensures ordered { IfOk result (λ _. HasNoFault (Broken Ordering config)) }
-    ensures annotated { IfOk result (λ c. Annotated c) }
-    ensures refused { IfErr result (IsRefusedFor config) }
-{
-    let carried = carried(config)?;
-    judged(alloc, carried)
-}
-
-// One that is carried, of which no declaration, no type, no order and no range is at fault.
-fn judged(alloc: Global, config: Config) -> Result<Checked, Refusal>
-    requires supported { IsSupported config }
-    requires written { IsWritten config }
-    ensures same { IfOk result (λ c. c ≡ config) }
-    ensures declared { IfOk result (λ _. HasNoFault (BreaksInSubset config)) }
-    ensures typed { IfOk result (λ _. HasNoFault (Broken Typing config)) }
-    ensures ordered { IfOk result (λ _. HasNoFault (Broken Ordering config)) }
-    ensures annotated { IfOk result (λ c. Annotated c) }
-    ensures refused { IfErr result (IsRefusedFor config) }
-{
-    let ordered = resolved(alloc, config)?;
-    let code = Code::of(alloc, ordered)?;
-    verify(alloc, code)
-}
-
-// A configuration of which no declaration, no type and no order is at fault.
-fn resolved(alloc: Global, config: Config) -> Result<Ordered, Refusal>
-    requires { IsSupported config }
-    ensures same { IfOk result (λ o. o ≡ config) }
-    ensures declared { IfOk result (λ _. HasNoFault (BreaksInSubset config)) }
-    ensures typed { IfOk result (λ _. HasNoFault (Broken Typing config)) }
-    ensures ordered { IfOk result (λ _. HasNoFault (Broken Ordering config)) }
-    ensures refused { IfErr result (IsRefusedFor config) }
-{
+    let config = parse(alloc, text, &tokens)?;
     let declared = declare(alloc, config)?;
-    let typed = typed(declared)?;
-    ordered(typed)
+    let carried = carried(declared.into_config())?;
+    let resolved = resolve(alloc, carried)?;
+    let typed = typed(resolved)?;
+    let ordered = ordered(typed)?;
+    let code = code(alloc, ordered)?;
+    let checked = verify(alloc, code)?;
+    let budget = budget(alloc, &checked)?;
+    Ok(Verified::of(checked, budget))
+}
+
+// What each unit costs at most, with a control path of that cost.
+fn budget(alloc: Global, checked: &Checked) -> Result<Items<UnitCost>, AllocError>
+    requires { All (λ u. length u.body.steps ≤ 4096) checked.now.units }
+    ensures costs { IfOk result (λ costs. costs ≡ map cost_of checked.now.units) }
+    ensures checked { IsChecked checked.now }
+{
+    costs(alloc, checked.config().units.as_slice())
 }
 
 // What the units cost.

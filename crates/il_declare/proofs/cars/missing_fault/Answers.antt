@@ -1,4 +1,4 @@
-use Rattle.std.proofs.Common.{◌≡◌, ◌∙◌, ap, sym, nat_eq, rules}
+use Rattle.std.proofs.Common.{◌∙◌, ap, nat_eq, rules}
 use Rattle.std.specs.HashSet as bag
 use Rattle.il_found.specs.Least.{fault_of}
 use Rattle.il_found.proofs.Least.{least_if}

@@ -1,4 +1,4 @@
-use Rattle.std.proofs.Common.{◌<◌, length, arith, map, subst}
+use Rattle.std.proofs.Common.{arith, map, subst}
 use Rattle.il_scope.proofs.Filled.{take_all}
 use Rattle.il_declare.specs.TaskRules.{IsSet}
 use Rattle.il_declare.proofs.Lists.{set_none, set_next}

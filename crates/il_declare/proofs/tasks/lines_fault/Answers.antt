@@ -1,4 +1,4 @@
-use Rattle.std.proofs.Common.{◌≡◌, ◌<◌, ◌∙◌, length, arith, refl, sym, ap, map}
+use Rattle.std.proofs.Common.{◌<◌, ◌∙◌, length, arith, refl, sym}
 use Rattle.std.proofs.lemmas.Option.{slice_get_read}
 use Rattle.il_found.specs.Least.{When}
 use Rattle.il_found.proofs.Least.{least_next, least_if}

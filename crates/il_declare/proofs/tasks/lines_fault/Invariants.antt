@@ -1,6 +1,5 @@
 use Rattle.il_found.specs.Least.{IsLeast, Below, When}
 use Rattle.il_declare.specs.TaskRules.{BreaksLine}
-use Rattle.il_declare.proofs.TaskLaws.{line_breaks, breaks_line}
 use Rattle.il_declare.proofs.tasks.lines_fault.Given as goal
 
 abbrev pub invariant-loop-line : goal.invariant-loop-line

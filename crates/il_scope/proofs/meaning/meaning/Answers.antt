@@ -1,4 +1,4 @@
-use Rattle.std.proofs.Common.{◌≡◌, ◌<◌, ◌∙◌, length, sym, ap, subst, None, option_map, arith, slice_get}
+use Rattle.std.proofs.Common.{◌≡◌, ◌∙◌, sym, ap, subst, option_map, slice_get}
 use Rattle.il_rules.specs.Names.{meaning}
 use Rattle.il_scope.specs.Views.{binding_of}
 use Rattle.il_scope.proofs.Seen.{scope_at, scope_there, read_at, none_at, read_same}

@@ -1,4 +1,4 @@
-use Rattle.std.proofs.Common.{◌<◌, length, arith, subst}
+use Rattle.std.proofs.Common.{arith, subst}
 use Rattle.il_scope.specs.Tables.{HasForms}
 use Rattle.il_scope.proofs.Filled.{forms_none, forms_next, take_all}
 use Rattle.il_scope.proofs.tables.form_table.Goals as goal

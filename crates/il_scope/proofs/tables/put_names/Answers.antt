@@ -1,4 +1,4 @@
-use Rattle.std.proofs.Common.{◌<◌, length, arith, subst}
+use Rattle.std.proofs.Common.{arith, subst}
 use Rattle.il_scope.specs.Tables.{HasNames}
 use Rattle.il_scope.proofs.Filled.{names_none, names_next, take_all}
 use Rattle.il_scope.proofs.tables.put_names.Goals as goal

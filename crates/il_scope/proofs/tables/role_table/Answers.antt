@@ -1,4 +1,4 @@
-use Rattle.std.proofs.Common.{rules, ◌<◌, ◌∙◌, length, arith, subst}
+use Rattle.std.proofs.Common.{rules, ◌∙◌, arith, subst}
 use Rattle.il_scope.specs.Tables.{HasRoles}
 use Rattle.il_scope.proofs.Filled.{roles_none, roles_next, take_all}
 use Rattle.il_scope.proofs.tables.role_table.Goals as goal

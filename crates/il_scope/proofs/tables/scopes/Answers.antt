@@ -1,4 +1,4 @@
-use Rattle.std.proofs.Common.{◌<◌, ◌∙◌, length, arith, subst}
+use Rattle.std.proofs.Common.{◌∙◌, arith, subst}
 use Rattle.il_scope.specs.Tables.{AreScopes}
 use Rattle.il_scope.proofs.Filled.{scopes_none, scopes_next, take_all}
 use Rattle.il_scope.proofs.tables.scopes.Goals as goal

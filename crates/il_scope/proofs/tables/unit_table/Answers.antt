@@ -1,4 +1,4 @@
-use Rattle.std.proofs.Common.{◌<◌, ◌∙◌, length, arith, ap, map, sym}
+use Rattle.std.proofs.Common.{◌∙◌, arith, ap, map, sym}
 use Rattle.il_run.specs.NameMap.{get, get-empty}
 use Rattle.il_scope.specs.Views.{place_of}
 use Rattle.il_scope.proofs.Filled.{unit_next, take_all}

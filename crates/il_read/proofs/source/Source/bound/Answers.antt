@@ -1,17 +1,27 @@
-use Rattle.il_spec.specs.declared.token.Sign.TheVariants.{Colon, Semicolon}
-use Rattle.il_spec.specs.Grammar.{loose, ◌⋯◌, TheSign, TheName}
+use Rattle.il_spec.specs.declared.token.Sign.TheVariants.{Colon}
+use Rattle.il_spec.specs.Grammar.{loose, ◌⋯◌, TheSign}
 use Rattle.il_grammar.proofs.Leads.{sign_sure, the_name_one}
-use Rattle.il_read.proofs.Chain.{up, behind, first, later}
+use Rattle.il_read.specs.Settings.{SpellsProgramName}
+use Rattle.il_read.proofs.Chain.{up, first, later, first_missing, behind, part}
 use Rattle.il_read.proofs.source.Source.bound.Goals as goal
 
 pub returns-in_err-task-clause-refused : goal.returns-in_err-task-clause-refused
 returns-in_err-task-clause-refused c =
-    up _ c.from_residual.ensures.1
-    (first (λ b. b.0) loose (λ b. TheSign Colon ⋯ TheName c.args.self.now b.1 ⋯ TheSign Semicolon) c.in_err-task.ensures.refused)
+    up _ c.from_residual.ensures.1 (first (λ b. b.0) loose (λ b. TheSign Colon ⋯ SpellsProgramName c.args.self.now b.1) c.in_err-task.ensures.refused)
+
+pub returns-in_err-sign-clause-refused : goal.returns-in_err-sign-clause-refused
+returns-in_err-sign-clause-refused c =
+    up _ c.from_residual-in_err-sign.ensures.1
+    (later (λ b. b.0) loose (λ b. TheSign Colon ⋯ SpellsProgramName c.args.self.now b.1) (the_name_one c.args.self.now) c.in_ok-task.ensures.reads
+    (first_missing loose (λ b. SpellsProgramName c.args.self.now b.1) (rw c.skip_lines.ensures.rest at c.in_err-sign.ensures.refused)))
 
 pub returns-in_err-program-clause-refused : goal.returns-in_err-program-clause-refused
 returns-in_err-program-clause-refused c =
     up _ c.from_residual-in_err-program.ensures.1
-    (later (λ b. b.0) loose (λ b. TheSign Colon ⋯ TheName c.args.self.now b.1 ⋯ TheSign Semicolon) (the_name_one c.args.self.now) c.in_ok-task.ensures.reads
-    (behind loose (λ b. TheName c.args.self.now b.1 ⋯ TheSign Semicolon) (sign_sure Colon) (rw c.skip_lines.ensures.rest at c.in_ok-sign.ensures.reads)
-    (first (λ b. b.1) loose (λ b. TheSign Semicolon) (rw c.skip_lines-2.ensures.rest at c.in_err-program.ensures.refused))))
+    (later (λ b. b.0) loose (λ b. TheSign Colon ⋯ SpellsProgramName c.args.self.now b.1) (the_name_one c.args.self.now) c.in_ok-task.ensures.reads
+    (behind loose (λ b. SpellsProgramName c.args.self.now b.1) (sign_sure Colon) (rw c.skip_lines.ensures.rest at c.in_ok-sign.ensures.reads)
+    (part (λ b. b.1) (rw c.skip_lines-2.ensures.rest at c.in_err-program.ensures.refused))))
+
+pub returns-clause-reads : goal.returns-clause-reads
+returns-clause-reads c =
+    record { found = (_, c.in_ok-task.ensures.reads.found, (_, (rw c.skip_lines.ensures.rest at c.in_ok-sign.ensures.reads).found, (rw c.skip_lines-2.ensures.rest at c.in_ok-program.ensures.reads).found)) }

@@ -1,14 +1,28 @@
-use Rattle.std.proofs.Common.{◌≡◌, List, subst, arith}
-use Rattle.il_spec.specs.declared.token.Token.{Token}
-use Rattle.il_spec.specs.Grammar.{skip_line_ends}
-use Rattle.il_read.specs.Settings.{PlacedDecimal}
-use Rattle.il_read.proofs.Chain.{up}
+use Rattle.il_spec.specs.declared.token.Sign.TheVariants.{Colon}
+use Rattle.il_spec.specs.Grammar.{loose, ◌⋯◌, TheSign}
+use Rattle.il_grammar.proofs.Leads.{sign_sure}
+use Rattle.il_grammar.proofs.Configurations.{text_sure}
+use Rattle.il_read.specs.Settings.{SpellsSized}
+use Rattle.il_read.proofs.Chain.{up, first_missing, behind, part}
 use Rattle.il_read.proofs.source.Source.size.Goals as goal
 
-pub returns-in_err-placed_decimal-clause-refused : goal.returns-in_err-placed_decimal-clause-refused
-returns-in_err-placed_decimal-clause-refused c =
-    up _ c.from_residual-in_err-placed_decimal.ensures.1 (record {
-      never = λ is s r w.
-          let same : skip_line_ends w.2.2.2.0 ≡ c.skip_lines-4.new.self = grind arith in
-          c.in_err-placed_decimal.ensures.refused.never is s r (subst (λ (k : List Token). PlacedDecimal c.args.self.now s k r) same w.2.2.2.2);
-    })
+pub returns-in_err-plain_word-clause-refused : goal.returns-in_err-plain_word-clause-refused
+returns-in_err-plain_word-clause-refused c =
+    up _ c.from_residual.ensures.1 (first_missing loose (λ s. TheSign Colon ⋯ SpellsSized c.args.self.now s) c.in_err-plain_word.ensures.refused)
+
+pub returns-in_err-sign-clause-refused : goal.returns-in_err-sign-clause-refused
+returns-in_err-sign-clause-refused c =
+    up _ c.from_residual-in_err-sign.ensures.1
+    (behind loose (λ s. TheSign Colon ⋯ SpellsSized c.args.self.now s) (text_sure c.args.self.now c.args.word.now) c.in_ok-plain_word.ensures.reads
+    (first_missing loose (λ s. SpellsSized c.args.self.now s) (rw c.skip_lines.ensures.rest at c.in_err-sign.ensures.refused)))
+
+pub returns-in_err-sized-clause-refused : goal.returns-in_err-sized-clause-refused
+returns-in_err-sized-clause-refused c =
+    up _ c.from_residual-in_err-sized.ensures.1
+    (behind loose (λ s. TheSign Colon ⋯ SpellsSized c.args.self.now s) (text_sure c.args.self.now c.args.word.now) c.in_ok-plain_word.ensures.reads
+    (behind loose (λ s. SpellsSized c.args.self.now s) (sign_sure Colon) (rw c.skip_lines.ensures.rest at c.in_ok-sign.ensures.reads)
+    (part (λ s. s) (rw c.skip_lines-2.ensures.rest at c.in_err-sized.ensures.refused))))
+
+pub returns-clause-reads : goal.returns-clause-reads
+returns-clause-reads c =
+    record { found = (_, c.in_ok-plain_word.ensures.reads.found, (_, (rw c.skip_lines.ensures.rest at c.in_ok-sign.ensures.reads).found, (rw c.skip_lines-2.ensures.rest at c.in_ok-sized.ensures.reads).found)) }

@@ -1,14 +1,36 @@
-use Rattle.std.proofs.Common.{◌≡◌, List, subst, arith}
-use Rattle.il_spec.specs.declared.token.Token.{Token}
-use Rattle.il_spec.specs.Grammar.{skip_line_ends}
-use Rattle.il_read.specs.Settings.{SpellsPriority}
-use Rattle.il_read.proofs.Chain.{up}
+use Rattle.il_spec.specs.declared.token.Sign.TheVariants.{Assign, OpenParenthesis}
+use Rattle.il_spec.specs.declared.keyword.Keyword.TheVariants as word
+use Rattle.il_spec.specs.Grammar.{loose, ◌⋯◌, TheSign, TheWord}
+use Rattle.il_grammar.proofs.Leads.{word_sure, sign_sure}
+use Rattle.il_read.specs.Settings.{SpellsSchedule}
+use Rattle.il_read.proofs.Chain.{up, first_missing, behind, part}
 use Rattle.il_read.proofs.source.Source.times.Goals as goal
 
-pub returns-in_err-priority-clause-refused : goal.returns-in_err-priority-clause-refused
-returns-in_err-priority-clause-refused c =
-    up _ c.from_residual-in_err-priority.ensures.1 (record {
-      never = λ is s r w.
-          let same : skip_line_ends w.2.2.2.2.0 ≡ c.skip_lines-5.new.self = grind arith in
-          c.in_err-priority.ensures.refused.never is s.1 r (subst (λ (k : List Token). SpellsPriority c.args.self.now s.1 k r) same w.2.2.2.2.2);
-    })
+pub returns-in_err-sign-clause-refused : goal.returns-in_err-sign-clause-refused
+returns-in_err-sign-clause-refused c =
+    up _ c.from_residual.ensures.1 (first_missing loose (λ x. TheWord c.args.self.now word.Interval ⋯ TheSign Assign ⋯ SpellsSchedule c.args.self.now x) c.in_err-sign.ensures.refused)
+
+pub returns-in_err-word-clause-refused : goal.returns-in_err-word-clause-refused
+returns-in_err-word-clause-refused c =
+    up _ c.from_residual-in_err-word.ensures.1
+    (behind loose (λ x. TheWord c.args.self.now word.Interval ⋯ TheSign Assign ⋯ SpellsSchedule c.args.self.now x) (sign_sure OpenParenthesis) c.in_ok-sign.ensures.reads
+    (first_missing loose (λ x. TheSign Assign ⋯ SpellsSchedule c.args.self.now x) (rw c.skip_lines.ensures.rest at c.in_err-word.ensures.refused)))
+
+pub returns-in_err-sign-2-clause-refused : goal.returns-in_err-sign-2-clause-refused
+returns-in_err-sign-2-clause-refused c =
+    up _ c.from_residual-in_err-sign-2.ensures.1
+    (behind loose (λ x. TheWord c.args.self.now word.Interval ⋯ TheSign Assign ⋯ SpellsSchedule c.args.self.now x) (sign_sure OpenParenthesis) c.in_ok-sign.ensures.reads
+    (behind loose (λ x. TheSign Assign ⋯ SpellsSchedule c.args.self.now x) (word_sure c.args.self.now word.Interval) (rw c.skip_lines.ensures.rest at c.in_ok-word.ensures.reads)
+    (first_missing loose (λ x. SpellsSchedule c.args.self.now x) (rw c.skip_lines-2.ensures.rest at c.in_err-sign-2.ensures.refused))))
+
+pub returns-in_err-schedule-clause-refused : goal.returns-in_err-schedule-clause-refused
+returns-in_err-schedule-clause-refused c =
+    up _ c.from_residual-in_err-schedule.ensures.1
+    (behind loose (λ x. TheWord c.args.self.now word.Interval ⋯ TheSign Assign ⋯ SpellsSchedule c.args.self.now x) (sign_sure OpenParenthesis) c.in_ok-sign.ensures.reads
+    (behind loose (λ x. TheSign Assign ⋯ SpellsSchedule c.args.self.now x) (word_sure c.args.self.now word.Interval) (rw c.skip_lines.ensures.rest at c.in_ok-word.ensures.reads)
+    (behind loose (λ x. SpellsSchedule c.args.self.now x) (sign_sure Assign) (rw c.skip_lines-2.ensures.rest at c.in_ok-sign-2.ensures.reads)
+    (part (λ x. x) (rw c.skip_lines-3.ensures.rest at c.in_err-schedule.ensures.refused)))))
+
+pub returns-clause-reads : goal.returns-clause-reads
+returns-clause-reads c =
+    record { found = (_, c.in_ok-sign.ensures.reads.found, (_, (rw c.skip_lines.ensures.rest at c.in_ok-word.ensures.reads).found, (_, (rw c.skip_lines-2.ensures.rest at c.in_ok-sign-2.ensures.reads).found, (rw c.skip_lines-3.ensures.rest at c.in_ok-schedule.ensures.reads).found))) }

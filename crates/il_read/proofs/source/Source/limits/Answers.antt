@@ -1,0 +1,28 @@
+use Rattle.il_spec.specs.declared.token.Sign.TheVariants.{Range, OpenParenthesis, CloseParenthesis}
+use Rattle.il_spec.specs.Grammar.{loose, ◌⋯◌, TheSign, ANumber}
+use Rattle.il_grammar.proofs.Leads.{sign_sure}
+use Rattle.il_read.proofs.Chain.{up, first, later, first_missing, last_missing, behind}
+use Rattle.il_read.proofs.Alternatives.{range_one, range_refused}
+use Rattle.il_read.proofs.source.Source.limits.Goals as goal
+
+pub returns-in_err-sign-clause-refused : goal.returns-in_err-sign-clause-refused
+returns-in_err-sign-clause-refused c =
+    up _ c.from_residual.ensures.1 (first_missing loose (λ s. ANumber s.lower ⋯ TheSign Range ⋯ ANumber s.upper ⋯ TheSign CloseParenthesis) c.in_err-sign.ensures.refused)
+
+pub returns-in_err-limits-clause-refused : goal.returns-in_err-limits-clause-refused
+returns-in_err-limits-clause-refused c =
+    up _ c.from_residual-in_err-limits.ensures.1
+    (behind loose (λ s. ANumber s.lower ⋯ TheSign Range ⋯ ANumber s.upper ⋯ TheSign CloseParenthesis) (sign_sure OpenParenthesis) c.in_ok-sign.ensures.reads
+    (range_refused (λ s. s) (λ s. TheSign CloseParenthesis) (first (λ s. s) loose (λ s. TheSign CloseParenthesis) (rw c.skip_lines.ensures.rest at c.in_err-limits.ensures.refused))))
+
+pub returns-in_err-sign-2-clause-refused : goal.returns-in_err-sign-2-clause-refused
+returns-in_err-sign-2-clause-refused c =
+    up _ c.from_residual-in_err-sign-2.ensures.1
+    (behind loose (λ s. ANumber s.lower ⋯ TheSign Range ⋯ ANumber s.upper ⋯ TheSign CloseParenthesis) (sign_sure OpenParenthesis) c.in_ok-sign.ensures.reads
+    (range_refused (λ s. s) (λ s. TheSign CloseParenthesis)
+    (later (λ s. s) loose (λ s. TheSign CloseParenthesis) range_one (rw c.skip_lines.ensures.rest at c.in_ok-limits.ensures.reads) (last_missing (rw c.skip_lines-2.ensures.rest at c.in_err-sign-2.ensures.refused)))))
+
+pub returns-clause-reads : goal.returns-clause-reads
+returns-clause-reads c =
+    let r = (rw c.skip_lines.ensures.rest at c.in_ok-limits.ensures.reads).found in
+    record { found = (_, c.in_ok-sign.ensures.reads.found, (r.0, r.1, (r.2.0, r.2.1, (_, r.2.2, (rw c.skip_lines-2.ensures.rest at c.in_ok-sign-2.ensures.reads).found)))) }

@@ -1,0 +1,25 @@
+use Rattle.il_spec.specs.declared.token.Sign.TheVariants.{CloseParenthesis}
+use Rattle.il_spec.specs.Grammar.{TheSign}
+use Rattle.il_read.proofs.Chain.{up, was_there, was_missing}
+use Rattle.il_read.proofs.Instructions.{closed_refused, inside_refused, unended_refused, inside_read}
+use Rattle.il_read.proofs.source.Source.opened.Goals as goal
+
+pub returns-in_err-line_end-clause-refused : goal.returns-in_err-line_end-clause-refused
+returns-in_err-line_end-clause-refused c =
+    let close = was_there (TheSign CloseParenthesis) c.args.tokens.now _ c.eat_sign.new.tokens c.eat_sign.ensures.eaten c.if-eat_sign.true in
+    up _ c.from_residual.ensures.1 (closed_refused c.args.self.now _ _ _ close c.in_err-line_end.ensures.refused)
+
+pub returns-in_err-arguments-clause-refused : goal.returns-in_err-arguments-clause-refused
+returns-in_err-arguments-clause-refused c =
+    let none = was_missing (TheSign CloseParenthesis) c.args.tokens.now _ c.eat_sign.new.tokens c.eat_sign.ensures.eaten c.if-eat_sign.false in
+    up _ c.from_residual-in_err-arguments.ensures.1 (inside_refused c.args.self.now _ _ none.1 (rw none.0 at c.in_err-arguments.ensures.refused))
+
+pub returns-in_err-line_end-2-clause-refused : goal.returns-in_err-line_end-2-clause-refused
+returns-in_err-line_end-2-clause-refused c =
+    let none = was_missing (TheSign CloseParenthesis) c.args.tokens.now _ c.eat_sign.new.tokens c.eat_sign.ensures.eaten c.if-eat_sign.false in
+    up _ c.from_residual-in_err-line_end-2.ensures.1 (unended_refused c.args.self.now _ _ _ _ none.1 (rw none.0 at c.in_ok-arguments.ensures.reads) c.in_err-line_end-2.ensures.refused)
+
+pub returns-clause-reads : goal.returns-clause-reads
+returns-clause-reads c =
+    let none = was_missing (TheSign CloseParenthesis) c.args.tokens.now _ c.eat_sign.new.tokens c.eat_sign.ensures.eaten c.if-eat_sign.false in
+    inside_read c.args.self.now _ _ _ _ (rw none.0 at c.in_ok-arguments.ensures.reads) c.in_ok-line_end-2.ensures.reads

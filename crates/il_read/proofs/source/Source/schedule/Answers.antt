@@ -1,0 +1,24 @@
+use Rattle.il_spec.specs.declared.token.Sign.TheVariants.{Comma}
+use Rattle.il_spec.specs.Grammar.{loose, ◌⋯◌, TheSign}
+use Rattle.il_grammar.proofs.Leads.{sign_sure}
+use Rattle.il_grammar.proofs.Configurations.{interval_one}
+use Rattle.il_read.specs.Settings.{SpellsPriority}
+use Rattle.il_read.proofs.Chain.{up, first, later, first_missing, behind, part}
+use Rattle.il_read.proofs.source.Source.schedule.Goals as goal
+
+pub returns-in_err-interval-clause-refused : goal.returns-in_err-interval-clause-refused
+returns-in_err-interval-clause-refused c =
+    up _ c.from_residual.ensures.1 (first (λ x. x.0) loose (λ x. TheSign Comma ⋯ SpellsPriority c.args.self.now x.1) c.in_err-interval.ensures.refused)
+
+pub returns-in_err-sign-clause-refused : goal.returns-in_err-sign-clause-refused
+returns-in_err-sign-clause-refused c =
+    up _ c.from_residual-in_err-sign.ensures.1
+    (later (λ x. x.0) loose (λ x. TheSign Comma ⋯ SpellsPriority c.args.self.now x.1) interval_one c.in_ok-interval.ensures.reads
+    (first_missing loose (λ x. SpellsPriority c.args.self.now x.1) (rw c.skip_lines.ensures.rest at c.in_err-sign.ensures.refused)))
+
+pub returns-in_err-priority-clause-refused : goal.returns-in_err-priority-clause-refused
+returns-in_err-priority-clause-refused c =
+    up _ c.from_residual-in_err-priority.ensures.1
+    (later (λ x. x.0) loose (λ x. TheSign Comma ⋯ SpellsPriority c.args.self.now x.1) interval_one c.in_ok-interval.ensures.reads
+    (behind loose (λ x. SpellsPriority c.args.self.now x.1) (sign_sure Comma) (rw c.skip_lines.ensures.rest at c.in_ok-sign.ensures.reads)
+    (part (λ x. x.1) (rw c.skip_lines-2.ensures.rest at c.in_err-priority.ensures.refused))))
