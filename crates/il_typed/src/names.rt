@@ -1,26 +1,23 @@
 // What names mean in a unit, by the tables of its configuration.
 
-ghost use Rattle.std.specs.Prelude.{◌≡◌, ◌++◌, IfOk, Option, Some, List, is_some, map, option_and_then, option_map, slice_get};
+ghost use Rattle.std.specs.Prelude.{◌≡◌, Some, is_some, map, option_and_then, option_map, slice_get};
 ghost use Rattle.il_spec.specs.declared.tree.Config.{Config as Configuration};
 ghost use Rattle.il_spec.specs.declared.tree.Form.{Form};
-ghost use Rattle.il_rules.specs.Names.{Origin as Origins, entry_of, function_named, named_forms, variable_named};
+ghost use Rattle.il_rules.specs.Names.{Origin as Origins, entry_of, variable_named};
 ghost use Rattle.il_rules.specs.Types as rules;
 ghost use Rattle.il_scope.specs.Entries.{origin_entry};
-ghost use Rattle.il_scope.specs.Views.{function_number, type_of, variable_of, variables_of_block};
+ghost use Rattle.il_scope.specs.Views.{type_of, variable_of, variables_of_block};
 ghost use Rattle.il_typed.specs.Units.{input_types};
+ghost use Rattle.il_typed.specs.Writers.{is_external, is_meant_external};
 
 use crate::fault::{LowestFault, TypeFault, unless};
 use crate::scope::Scope;
+use crate::unit_inputs::InputTypes;
 use il_scope::Scoped;
 use il_scope::entry::{Binding, BlockType, Origin, StandardFunction, Variable, VariableType};
 use il_scope::functions::standard_function;
-use il_spec::list::Items;
-use il_spec::tree::{Declaration, Elementary, Form as WrittenForm, Operand, Unit, UnitKind};
-use std::alloc::{AllocError, Global};
+use il_spec::tree::{Elementary, Operand, Unit, UnitKind};
 use std::marker::Model;
-
-/// The types of the inputs of each unit, in their order.
-pub type InputTypes = Items<Items<Option<Elementary>>>;
 
 /// A unit of a configuration, with what its names mean.
 #[derive(Drop)]
@@ -83,6 +80,16 @@ fn is_written(origin: Origin) -> bool
     !matches!(origin, Origin::Input | Origin::ReadImage)
 }
 
+// Whether what a name means is an external of its unit.
+fn is_meant_external(meant: Option<Binding>) -> bool
+    ensures { result ≡ is_meant_external meant }
+{
+    match meant {
+        Some(Binding::Variable(variable)) => matches!(variable.origin, Origin::External),
+        _ => false,
+    }
+}
+
 impl<'n> UnitNames<'n> {
     /// A unit of a configuration.
     pub fn of(names: &'n Scoped, inputs: &'n InputTypes, at: usize, unit: &'n Unit) -> UnitNames<'n>
@@ -97,6 +104,13 @@ impl<'n> UnitNames<'n> {
             at,
             inputs,
         }
+    }
+
+    /// Whether a name is an external of the unit (2.4.3).
+    pub fn is_external(&self, name: &str) -> bool
+        ensures { result ≡ is_external self.now.unit name.now }
+    {
+        is_meant_external(self.names.meaning(self.at, name))
     }
 
     // The variable of a name.

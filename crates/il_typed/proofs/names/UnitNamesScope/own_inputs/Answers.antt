@@ -1,4 +1,4 @@
-use Rattle.std.proofs.Common.{sym, ap, ◌∙◌, subst}
+use Rattle.std.proofs.Common.{sym, ap, subst}
 use Rattle.il_rules.specs.Names.{function_named}
 use Rattle.il_typed.specs.Units.{InUnit}
 use Rattle.il_typed.specs.Standard.{AreInputsOf}

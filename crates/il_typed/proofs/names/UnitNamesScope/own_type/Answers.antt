@@ -1,4 +1,4 @@
-use Rattle.std.proofs.Common.{refl, sym, ap, ◌∙◌}
+use Rattle.std.proofs.Common.{sym, ap, ◌∙◌}
 use Rattle.il_rules.specs.Types.{unit_type}
 use Rattle.il_typed.specs.Units.{InUnit}
 use Rattle.il_typed.proofs.Owned.{none_numbered, none_there, there, type_none, type_there, no_function}
