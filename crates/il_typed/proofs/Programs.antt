@@ -1,5 +1,5 @@
 -- The programs of PROGRAM lines by the number of their unit.
-use Rattle.std.proofs.Common.{◌≡◌, ℕ, ◌<◌, ◌≤◌, List, length, Option, Some, None, option_and_then, slice_get, get_or, sym, ap, ◌∙◌}
+use Rattle.std.proofs.Common.{◌≡◌, ℕ, ◌≤◌, List, length, Option, Some, None, option_and_then, slice_get, sym, ap, ◌∙◌}
 use Rattle.il_spec.specs.declared.tree.Config.{Config}
 use Rattle.il_spec.specs.declared.tree.Unit.{Unit as ProgramUnit}
 use Rattle.il_spec.specs.declared.tree.Step.{Step}
@@ -7,7 +7,7 @@ use Rattle.il_run.specs.NameMap.{NameMap}
 use Rattle.il_rules.specs.Names.{Spelling, program_named}
 use Rattle.il_scope.specs.Views.{program_number}
 use Rattle.il_scope.proofs.Laws.{program_found}
-use Rattle.il_scope.proofs.Seen.{read_at, none_at}
+use Rattle.il_scope.proofs.Seen.{none_at}
 use Rattle.il_typed.specs.declared.writers.Writer.{Writer}
 use Rattle.il_typed.specs.Writers.{noted, noted_line, names_stored}
 

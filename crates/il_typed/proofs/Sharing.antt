@@ -1,6 +1,6 @@
 -- Which globals two tasks write.
 use Rattle.std.proofs.Common.{◌≡◌, ◌≢◌, ℕ, zero, suc, ◌+◌, ◌<◌, ◌⊎◌, inl, inr, Bool, true, false, ◌||◌, ◌&&◌, if◌then◌else◌, List, [], ◌∷◌, length, slice_get, refl, sym, ap, ◌∙◌, subst, Option, Some, None, option_map, bytes_eq, arith}
-use Rattle.std.specs.Prelude.{Contains, find, flat_map}
+use Rattle.std.specs.Prelude.{Contains, find}
 use Rattle.std.specs.List.{list_any}
 use Rattle.std.proofs.lemmas.Option.{slice_get_within, get_or_from_slice_get, slice_get-get_or}
 use Rattle.std.proofs.lemmas.Slice.Eq.{bytes_eq-Decides}
@@ -12,17 +12,17 @@ use Rattle.il_spec.specs.declared.tree.ProgramLine.{ProgramLine}
 use Rattle.il_run.specs.NameMap.{NameMap, get, insert, empty, get-empty}
 use Rattle.il_rules.specs.Names as rule
 use Rattle.il_rules.specs.Names.{Spelling, ImageName, image_of, image_name, own_variable, program_named, or_else, Meaning, MeansVariable, MeansUnit, MeansStandard, meaning, sees, outer_meaning, unit_named, is_predeclared, global_meaning, AsInput, AsOutput, AsVariable, AsExternal, AsResult, AsReadImage, AsWrittenImage}
-use Rattle.il_rules.specs.Types.{IsExternalOf, StoresAt, TaskWrites, stored_names}
+use Rattle.il_rules.specs.Types.{IsExternalOf, TaskWrites, stored_names}
 use Rattle.il_found.specs.Least.{NumberedFault, IsLeast}
 use Rattle.il_found.proofs.Least.{least_same}
-use Rattle.il_results.specs.Faults.{HasStoreOfTwo, IsStoreOfTwo}
+use Rattle.il_results.specs.Faults.{HasStoreOfTwo}
 use Rattle.il_scope.specs.Entries.{origin_entry}
 use Rattle.il_scope.specs.Views.{binding_of}
 use Rattle.il_scope.proofs.Filled.{get-inserted}
 use Rattle.il_declare.proofs.Members.{in_flat, from_flat}
 use Rattle.il_typed.specs.declared.writers.Writer.{Writer}
 use Rattle.il_typed.specs.declared.writers.Writer.TheVariants.{Task, Several}
-use Rattle.il_typed.specs.Writers.{is_external, is_external_of, is_external_origin, is_external_variable, is_meant_external, is_same_task, is_task_of, writer_after, note, noted, names_stored, noted_line, WritesBelow, IsOnlyTask, AreTwoTasks, IsWriter, AreWriters, is_several, is_shared, HasSharedStores}
+use Rattle.il_typed.specs.Writers.{is_external, is_external_of, is_external_origin, is_external_variable, is_meant_external, is_same_task, is_task_of, writer_after, note, noted, names_stored, noted_line, WritesBelow, AreTwoTasks, IsWriter, AreWriters, is_several, is_shared, HasSharedStores}
 
 -- EXTERNALS
 

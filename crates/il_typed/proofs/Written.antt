@@ -1,29 +1,22 @@
 -- Who writes globals, and the types of inputs, one item after another.
-use Rattle.std.proofs.Common.{◌≡◌, ◌≢◌, ℕ, zero, suc, ◌+◌, ◌<◌, ◌⊎◌, inl, inr, Bool, true, false, ◌||◌, ◌&&◌, if◌then◌else◌, List, [], ◌∷◌, ◌++◌, map, take, length, get_or, slice_get, refl, sym, ap, ◌∙◌, subst, Option, Some, None, option_map, bytes_eq, arith, append-nil, append_assoc}
-use Rattle.std.specs.Prelude.{Contains, flat_map}
+use Rattle.std.proofs.Common.{◌≡◌, ℕ, ◌+◌, ◌<◌, Bool, true, false, ◌||◌, List, [], ◌∷◌, ◌++◌, map, take, length, get_or, refl, sym, ap, ◌∙◌, Option, append-nil, append_assoc}
+use Rattle.std.specs.Prelude.{flat_map}
 use Rattle.std.specs.List.{list_any}
 use Rattle.std.proofs.lemmas.List.{map-append}
 use Rattle.std.proofs.lemmas.List.Concat.{flat_map-append}
-use Rattle.std.proofs.lemmas.Slice.Eq.{bytes_eq-Decides}
-use Rattle.std.proofs.lemmas.Option.{slice_get_read}
-use Rattle.il_spec.specs.declared.tree.Config.{Config}
 use Rattle.il_spec.specs.declared.tree.Unit.{Unit as ProgramUnit}
 use Rattle.il_spec.specs.declared.tree.Declaration.{Declaration}
 use Rattle.il_spec.specs.declared.tree.Named.{Named}
-use Rattle.il_spec.specs.declared.tree.Step.{Step}
 use Rattle.il_spec.specs.declared.tree.ProgramLine.{ProgramLine}
-use Rattle.il_spec.specs.declared.tree.Place.{Place}
 use Rattle.il_spec.specs.declared.tree.Elementary.{Elementary}
 use Rattle.il_spec.specs.declared.tree.Form.{Form}
-use Rattle.il_run.specs.NameMap.{NameMap, get, insert, empty, get-empty}
-use Rattle.il_rules.specs.Names.{Spelling, named_forms, program_named}
+use Rattle.il_run.specs.NameMap.{NameMap}
+use Rattle.il_rules.specs.Names.{Spelling, named_forms}
 use Rattle.il_rules.specs.Types.{scalar_type}
-use Rattle.il_found.specs.Least.{NumberedFault, IsLeast, Below, When, earlier_of}
-use Rattle.il_scope.proofs.Filled.{take_next, get-inserted}
+use Rattle.il_scope.proofs.Filled.{take_next}
 use Rattle.il_typed.specs.Units.{input_types, declared_types}
 use Rattle.il_typed.specs.declared.writers.Writer.{Writer}
-use Rattle.il_typed.specs.declared.writers.Writer.TheVariants.{Task, Several}
-use Rattle.il_typed.specs.Writers.{is_external, is_same_task, is_task_of, writer_after, note, noted, names_stored, noted_line, WritesBelow, IsOnlyTask, AreTwoTasks, IsWriter, AreWriters, is_several, is_shared}
+use Rattle.il_typed.specs.Writers.{note, noted}
 
 -- THE TYPES OF INPUTS
 

@@ -174,14 +174,14 @@ impl<'n> Scope for UnitNames<'n> {
         }
     }
 
-    fn written_variable_number(&self, name: &str) -> LowestFault {
+    fn written_variable_fault(&self, name: &str) -> LowestFault {
         match self.variable(name) {
             Some(variable) => unless(is_written(variable.origin), TypeFault::NotWritable),
             None => LowestFault::none(),
         }
     }
 
-    fn written_member_number(&self, name: &str, word: &str) -> LowestFault {
+    fn written_member_fault(&self, name: &str, word: &str) -> LowestFault {
         match self.output(name, word) {
             Some(_) => LowestFault::of(TypeFault::NotWritable),
             None => LowestFault::none(),
