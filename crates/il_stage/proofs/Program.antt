@@ -10,7 +10,7 @@ use Rattle.il_spec.specs.declared.tree.ProgramLine.{ProgramLine}
 use Rattle.il_rules.specs.Names.{Spelling, or_else, CarRole, GroupRole, is_program_kind, unit_named, car_number, task_role, program_role}
 use Rattle.il_rules.specs.Declarations.{names_of_tasks, predeclared_unit, size_outside, unknown_task, missing_task, unused_program}
 use Rattle.il_rules.specs.Faults.{HasNoFault, BreaksDeclarations, duplicate, initial_outside, bad_task}
-use Rattle.il_rules.specs.Subset.{IsSupported}
+use Rattle.il_rules.specs.Subset.{IsSupported, broken}
 use Rattle.il_rules.specs.Symbols.{IsProgram}
 use Rattle.il_stage.specs.Stage.{later_places}
 use Rattle.il_stage.specs.Checked.{IsDeclared}
@@ -95,3 +95,7 @@ program_is c s fine = record { alone = s.alone; named = named_is c s fine; role 
 -- where nothing stands that isn't run, the configuration is checked
 pub declared_is : (c : Config) → HasNoFault (BreaksDeclarations c) → later_places c ≡ [] → IsDeclared c
 declared_is c fine none = record { supported = supported_is c none; program = program_is c (supported_is c none) fine; declared = none_broken c none fine }
+
+-- and breaks nothing of declarations
+pub unbroken : (c : Config) → IsDeclared c → HasNoFault (BreaksDeclarations c)
+unbroken c is number place b = is.declared number place (broken b)

@@ -1,7 +1,7 @@
 // The first place of what isn't carried.
 
 ghost use Rattle.std.specs.Prelude.{◌≡◌, Some, flat_map, slice_get};
-ghost use Rattle.il_stage.specs.Stage.{unless_carried, first_label, name_places, step_places, initial_places, variable_places, first_type, program_places, unit_places_of, units_places, place_of_any, task_places, line_places, later_places, earlier, first_of};
+ghost use Rattle.il_stage.specs.Stage.{unless_carried, first_label, name_places, step_places, initial_places, variable_places, first_type, program_places, unit_places_of, units_places, task_places, line_places, later_places, earlier, first_of};
 
 use crate::carries::{carries_form, carries_instruction, carries_literal};
 use crate::here::Here;

@@ -1,8 +1,6 @@
 // The program among the units.
 
-ghost use Rattle.std.specs.Prelude.{◌≡◌, Some, option_map, slice_get};
-ghost use Rattle.il_rules.specs.Names.{meaning};
-ghost use Rattle.il_scope.specs.Views.{binding_of};
+ghost use Rattle.std.specs.Prelude.{◌≡◌, Some, slice_get};
 ghost use Rattle.il_stage.specs.Stage.{is_own_name};
 ghost use Rattle.il_stage.specs.Bindings.{is_own_origin, is_own_binding};
 

@@ -9,9 +9,9 @@ mod image;
 mod names;
 mod variables;
 
-ghost use Rattle.std.specs.Prelude.{◌≡◌, Some, [], slice_get, IfOk, IfErr};
-ghost use Rattle.il_rules.specs.Faults.{HasNoFault, IsRefusedBy, BreaksDeclarations};
-ghost use Rattle.il_rules.specs.Subset.{IsSupported, AreSupportedVariables};
+ghost use Rattle.std.specs.Prelude.{◌≡◌, [], IfOk, IfErr};
+ghost use Rattle.il_rules.specs.Faults.{IsRefusedBy};
+ghost use Rattle.il_rules.specs.Subset.{AreSupportedVariables};
 ghost use Rattle.il_stage.specs.Stage.{later_places, IsLater};
 ghost use Rattle.il_stage.specs.Checked.{IsDeclared, AreSymbols};
 ghost use Rattle.il_stage.specs.Variables.{IsTableOf};
@@ -40,9 +40,7 @@ pub fn supported(alloc: Global, declared: Declared) -> Result<Supported, Refusal
     ensures refused { IfErr result (IsRefusedBy (IsLater declared)) }
 {
     check(declared.names())?;
-    let config = declared.into_config();
-    let symbols = symbols(alloc, &config)?;
-    Ok(Supported::of(config, symbols))
+    Ok(with_symbols(alloc, declared.into_config())?)
 }
 
 // Refuses what isn't run yet.
@@ -59,10 +57,18 @@ fn check(names: &Scoped) -> Result<(), Refusal>
     }
 }
 
+// Finds what the names of a checked configuration mean.
+fn with_symbols(alloc: Global, config: Config) -> Result<Supported, AllocError>
+    requires { IsDeclared config }
+    ensures { IfOk result (λ s. s ≡ config) }
+{
+    let symbols = symbols(alloc, &config)?;
+    Ok(Supported::of(config, symbols))
+}
+
 // What each scalar name of the program means.
 fn symbols(alloc: Global, config: &Config) -> Result<Table<Symbol>, AllocError>
-    requires supported { IsSupported config.now }
-    requires declared { HasNoFault (BreaksDeclarations config.now) }
+    requires { IsDeclared config.now }
     ensures { IfOk result (λ s. AreSymbols config.now s) }
 {
     let Some(unit) = config.units.as_slice().first() else {

@@ -3,19 +3,14 @@
 ghost use Rattle.std.specs.Prelude.{◌≡◌, ◌≤◌, IfOk, IfErr, IsErrAnd, length, map, All};
 ghost use Rattle.il_spec.specs.declared.tree.Config.{Config};
 ghost use Rattle.il_parse.specs.Refused.{IsFault};
-ghost use Rattle.il_rules.specs.Written.{IsWritten};
-ghost use Rattle.il_rules.specs.Faults.{HasNoFault, Broken, Typing, Ordering};
-ghost use Rattle.il_rules.specs.Subset.{IsSupported, BreaksInSubset};
-ghost use Rattle.il_run.specs.Annotation.{Annotated};
 ghost use Rattle.il_verify.specs.Resolved.{IsChecked};
-ghost use Rattle.il_machine.specs.Costs.{AreCosts};
 ghost use Rattle.lift_sound.specs.Runs.{RunsWell};
-ghost use Rattle.lift_world.specs.Loading.{IsSpelled, IsAccepted, IsRefusedFor, IsExplained, SpellsNone, cost_of};
+ghost use Rattle.lift_world.specs.Loading.{IsSpelled, IsAccepted, IsRefusedFor, IsExplained, cost_of};
 
 use il_code::code;
 use il_declare::declare;
 use il_machine::{UnitCost, Verified};
-use il_order::{Ordered, ordered};
+use il_order::ordered;
 use il_parse::parse;
 use il_spec::fault::Refusal;
 use il_spec::list::Items;
