@@ -1,7 +1,7 @@
 // Configurations whose order is checked.
 
 ghost use Rattle.std.specs.Prelude.{◌≡◌};
-ghost use Rattle.il_decl.specs.Checked.{AreSymbols};
+ghost use Rattle.il_stage.specs.Checked.{AreSymbols};
 ghost use Rattle.il_order.specs.InOrder.{IsOrdered};
 
 use il_rules::symbol::Symbol;

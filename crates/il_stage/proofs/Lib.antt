@@ -1,2 +1,10 @@
+pub mod Single
 pub mod Places
 pub mod Support
+pub mod Forms
+pub mod Own
+pub mod Program
+pub mod Tables
+pub mod Added
+pub mod Seen
+pub mod Meanings

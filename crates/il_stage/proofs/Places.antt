@@ -52,6 +52,10 @@ step_on places xs at x all found one below is here so_far =
 pub of_two : (a b : List Place) (x : Option Place) → first_of a ≡ x → first_of (a ++ b) ≡ earlier x (first_of b)
 of_two a b x is = first_more a b ∙ ap (λ o. earlier o (first_of b)) is
 
+-- three, as a step has them
+pub of_three : (a b c : List Place) → first_of (a ++ b ++ c) ≡ earlier (earlier (first_of a) (first_of b)) (first_of c)
+of_three a b c = of_two (a ++ b) c _ (first_more a b)
+
 -- six lists, as a program has them
 pub of_six : (a b c d e f : List Place) → first_of (a ++ b ++ c ++ d ++ e ++ f) ≡ earlier (earlier (first_of a) (earlier (first_of b) (first_of c))) (earlier (first_of d) (earlier (first_of e) (first_of f)))
 of_six a b c d e f =

@@ -1,6 +1,7 @@
 -- Where nothing stands that isn't carried, the configuration is of the subset; and what is of the subset is carried.
-use Rattle.std.proofs.Common.{◌≡◌, ◌≢◌, ℕ, zero, suc, ◌≤◌, ◌<◌, Bool, true, false, ◌&&◌, List, [], ◌∷◌, ◌++◌, length, flat_map, Option, Some, None, refl, sym, ap, ap₂, ◌∙◌, subst, arith, codes}
-use Rattle.std.specs.Prelude.{ℤ, int_le, ◌≤ℤ◌, T, bytes_eq, Contains}
+use Rattle.std.proofs.Common.{◌≡◌, zero, suc, Bool, true, false, not, ◌&&◌, ◌||◌, is_some, List, [], ◌∷◌, ◌++◌, length, flat_map, Option, Some, None, refl, sym, ap, ◌∙◌, subst, arith, codes}
+use Rattle.std.specs.Prelude.{ℤ, int_le, ◌≤ℤ◌, T, Contains}
+use Rattle.std.specs.List.{list_any}
 use Rattle.std.specs.Int.Signed.{le_z_yes}
 use Rattle.std.proofs.lemmas.Float.{T_from_true}
 use Rattle.std.proofs.lemmas.Slice.Eq.{bytes_eq-Decides}
@@ -33,12 +34,13 @@ use Rattle.il_spec.specs.declared.tree.Store.TheVariants as store
 use Rattle.il_spec.specs.declared.tree.Instruction.{Instruction}
 use Rattle.il_spec.specs.declared.tree.Instruction.TheVariants as instruction
 use Rattle.il_spec.specs.declared.tree.Place.{Place}
-use Rattle.il_spec.specs.ElementaryTypes.{limits, LiesIn, IsValueOf}
-use Rattle.il_rules.specs.Declarations.{has_value, is_within_any}
-use Rattle.il_rules.specs.Names.{Spelling}
-use Rattle.il_rules.specs.Subset.{IsSupportedLiteral, IsSupportedOperand, AreSupportedOperands, IsSupportedPlace, IsSupportedOperator, IsSupportedStore, IsSupportedInstruction, AreSupportedSteps, IsSupportedScalar, IsSupportedForm, IsSupportedInitial, AreSupportedVariables, IsSupportedProgram, IsSupported}
-use Rattle.il_rules.specs.Faults.{HasNoFault}
-use Rattle.il_stage.specs.Stage.{carries_literal, carries_reference, carries_operands, carries_target, carries_operator, carries_store, is_limit, carries_instruction, carries_scalar, carries_form, unless_carried, first_label, step_places, initial_places, variable_places, first_type, program_places, unit_places_of, units_places, place_of_any, task_places, line_places, later_places, IsLater}
+use Rattle.il_spec.specs.ElementaryTypes.{limits, LiesIn}
+use Rattle.il_rules.specs.Declarations.{is_within_any}
+use Rattle.il_rules.specs.Names.{Spelling, Variable, is_one_of, own_variable}
+use Rattle.il_rules.specs.Subset.{IsSupportedLiteral, IsSupportedOperand, AreSupportedOperands, IsSupportedPlace, IsSupportedOperator, IsSupportedStore, IsSupportedInstruction, AreSupportedSteps, IsSupportedScalar, IsSupportedForm, IsSupportedInitial, AreSupportedVariables, IsSupportedProgram, IsSupported, supported_image_names, instruction_names, IsUnsupportedName, NamesUnsupported, BreaksInSubset, broken, unsupported}
+use Rattle.il_rules.specs.Faults.{HasNoFault, BreaksDeclarations}
+use Rattle.il_stage.proofs.Single.{only_one}
+use Rattle.il_stage.specs.Stage.{carries_literal, carries_reference, carries_operands, carries_target, carries_operator, carries_store, is_limit, carries_instruction, is_own_name, image_words, carries_name, has_other_name, carries_scalar, carries_form, unless_carried, first_label, name_places, step_places, initial_places, variable_places, first_type, program_places, unit_places_of, units_places, place_of_any, task_places, line_places, later_places, IsLater}
 
 -- TESTS AND WHAT THEY SAY
 
@@ -197,19 +199,67 @@ no_label : (ls : List Named) → first_label ls ≡ [] → ls ≡ []
 no_label [] e = refl
 no_label (l ∷ ls) e = let bad : ◌≡◌ {A = List Place} (l.place ∷ []) [] = e in cc
 
-steps_are : (ss : List Step) → flat_map step_places ss ≡ [] → AreSupportedSteps ss
-steps_are [] e = tt
-steps_are (s ∷ ss) e =
-    let p = none_of (step_places s) (flat_map step_places ss) e in
-    let q = none_of (first_label s.labels) (unless_carried (carries_instruction s.instruction) s.place) p.0 in
-    (no_label s.labels q.0, instruction_is s.instruction (is_carried _ s.place q.1), steps_are ss p.1)
+-- STEPS AND THEIR NAMES
 
-steps_back : (ss : List Step) → AreSupportedSteps ss → flat_map step_places ss ≡ []
-steps_back [] h = refl
-steps_back (s ∷ ss) h =
-    nothing (step_places s) (flat_map step_places ss)
+-- a test that one element passes
+any_in : {X : Type 0} (f : X → Bool) (xs : List X) (x : X) → Contains xs x → f x ≡ true → list_any f xs ≡ true
+any_in f [] x (k, low, e) h = absurd (omega arith)
+any_in f (y ∷ ys) x (zero, low, e) h = ap (λ b. b || list_any f ys) (ap f e ∙ h)
+any_in f (y ∷ ys) x (suc k, low, e) h = either (f y) (list_any f ys) (any_in f ys x (k, omega arith, e) h)
+  where
+    either : (a b : Bool) → b ≡ true → (a || b) ≡ true
+    either true b g = refl
+    either false b g = g
+
+-- where no element passes a test
+none_pass : {X : Type 0} (f : X → Bool) (xs : List X) → ((x : X) → Contains xs x → f x ≡ false) → list_any f xs ≡ false
+none_pass f [] h = refl
+none_pass f (x ∷ xs) h = ap (λ b. b || list_any f xs) (h x (0, omega arith, refl)) ∙ none_pass f xs (λ y c. h y (suc c.0, omega (arith, c.1), c.2))
+
+-- the names of each step are carried
+abbrev AreNamed : Organized → List Step → Type 0
+AreNamed u ss = (s : Step) → Contains ss s → not (has_other_name u (instruction_names s.instruction)) ≡ true
+
+steps_are : (u : Organized) (ss : List Step) → flat_map (step_places u) ss ≡ [] → AreSupportedSteps ss
+steps_are u [] e = tt
+steps_are u (s ∷ ss) e =
+    let p = none_of (step_places u s) (flat_map (step_places u) ss) e in
+    let o = none_of (first_label s.labels ++ unless_carried (carries_instruction s.instruction) s.place) (name_places u s) p.0 in
+    let q = none_of (first_label s.labels) (unless_carried (carries_instruction s.instruction) s.place) o.0 in
+    (no_label s.labels q.0, instruction_is s.instruction (is_carried _ s.place q.1), steps_are u ss p.1)
+
+steps_back : (u : Organized) (ss : List Step) → AreSupportedSteps ss → AreNamed u ss → flat_map (step_places u) ss ≡ []
+steps_back u [] h n = refl
+steps_back u (s ∷ ss) h n =
+    nothing (step_places u s) (flat_map (step_places u) ss)
+    (nothing (first_label s.labels ++ unless_carried (carries_instruction s.instruction) s.place) (name_places u s)
     (nothing (first_label s.labels) (unless_carried (carries_instruction s.instruction) s.place) (ap first_label h.0) (ap (λ b. unless_carried b s.place) (instruction_back s.instruction h.1)))
-    (steps_back ss h.2)
+    (ap (λ b. unless_carried b s.place) (n s (0, omega arith, refl))))
+    (steps_back u ss h.2 (λ x c. n x (suc c.0, omega (arith, c.1), c.2)))
+
+-- each step has its places
+steps_named : (u : Organized) (ss : List Step) → flat_map (step_places u) ss ≡ [] → AreNamed u ss
+steps_named u [] e s (k, low, is) = absurd (omega arith)
+steps_named u (x ∷ ss) e s (zero, low, is) =
+    let p = none_of (step_places u x) (flat_map (step_places u) ss) e in
+    let o = none_of (first_label x.labels ++ unless_carried (carries_instruction x.instruction) x.place) (name_places u x) p.0 in
+    subst (λ (y : Step). not (has_other_name u (instruction_names y.instruction)) ≡ true) is (is_carried _ x.place o.1)
+steps_named u (x ∷ ss) e s (suc k, low, is) = steps_named u ss (none_of (step_places u x) (flat_map (step_places u) ss) e).1 s (k, omega (arith, low), is)
+
+-- a name that is not supported is another one
+other_name : (c : Config) (u : Organized) (name : Spelling) → IsUnsupportedName c u name → not (carries_name u name) ≡ true
+unfolding is_own_name image_words
+other_name c u name h = ap (λ o. not (is_some o || is_one_of supported_image_names name)) h.0 ∙ ap not h.1
+
+-- and another one is not supported
+not_supported : (c : Config) (u : Organized) (name : Spelling) → not (carries_name u name) ≡ true → IsUnsupportedName c u name
+unfolding is_own_name image_words
+not_supported c u name e = go (own_variable u name) refl (is_one_of supported_image_names name) refl e
+  where
+    go : (o : Option Variable) → own_variable u name ≡ o → (b : Bool) → is_one_of supported_image_names name ≡ b → not (is_some o || b) ≡ true → IsUnsupportedName c u name
+    go (Some v) own b is h = let bad : false ≡ true = h in cc
+    go None own true is h = let bad : false ≡ true = h in cc
+    go None own false is h = (own, is)
 
 -- VARIABLES
 
@@ -280,8 +330,8 @@ program_is u e = by u.kind refl e
     by (Function s p) is f = let bad : ◌≡◌ {A = List Place} (u.place ∷ []) [] = f in cc
     by FunctionBlock is f = let bad : ◌≡◌ {A = List Place} (u.place ∷ []) [] = f in cc
     by Program is f =
-        let a = none_of (first_type u.inputs ++ first_type u.outputs ++ first_type u.externals ++ flat_map variable_places u.variables ++ flat_map step_places u.body.steps) (first_label u.body.last_labels) f in
-        let b = none_of (first_type u.inputs ++ first_type u.outputs ++ first_type u.externals ++ flat_map variable_places u.variables) (flat_map step_places u.body.steps) a.0 in
+        let a = none_of (first_type u.inputs ++ first_type u.outputs ++ first_type u.externals ++ flat_map variable_places u.variables ++ flat_map (step_places u) u.body.steps) (first_label u.body.last_labels) f in
+        let b = none_of (first_type u.inputs ++ first_type u.outputs ++ first_type u.externals ++ flat_map variable_places u.variables) (flat_map (step_places u) u.body.steps) a.0 in
         let d = none_of (first_type u.inputs ++ first_type u.outputs ++ first_type u.externals) (flat_map variable_places u.variables) b.0 in
         let x = none_of (first_type u.inputs ++ first_type u.outputs) (first_type u.externals) d.0 in
         let y = none_of (first_type u.inputs) (first_type u.outputs) x.0 in
@@ -291,18 +341,26 @@ program_is u e = by u.kind refl e
           outputs = no_types u.outputs y.1;
           externals = no_types u.externals x.1;
           variables = variables_are u.variables d.1;
-          steps = steps_are u.body.steps b.1;
+          steps = steps_are u u.body.steps b.1;
           last_labels = no_label u.body.last_labels a.1;
         }
 
-program_back : (u : Organized) → IsSupportedProgram u → unit_places_of u.kind u ≡ []
-program_back u h =
+-- and the names of its steps are carried
+program_named : (u : Organized) → u.kind ≡ Program → unit_places_of u.kind u ≡ [] → AreNamed u u.body.steps
+program_named u is e =
+    let f : program_places u ≡ [] = ap (λ k. unit_places_of k u) (sym is) ∙ e in
+    let a = none_of (first_type u.inputs ++ first_type u.outputs ++ first_type u.externals ++ flat_map variable_places u.variables ++ flat_map (step_places u) u.body.steps) (first_label u.body.last_labels) f in
+    let b = none_of (first_type u.inputs ++ first_type u.outputs ++ first_type u.externals ++ flat_map variable_places u.variables) (flat_map (step_places u) u.body.steps) a.0 in
+    steps_named u u.body.steps b.1
+
+program_back : (u : Organized) → IsSupportedProgram u → AreNamed u u.body.steps → unit_places_of u.kind u ≡ []
+program_back u h n =
     ap (λ k. unit_places_of k u) h.kind
-    ∙ nothing (first_type u.inputs ++ first_type u.outputs ++ first_type u.externals ++ flat_map variable_places u.variables ++ flat_map step_places u.body.steps) (first_label u.body.last_labels)
-    (nothing (first_type u.inputs ++ first_type u.outputs ++ first_type u.externals ++ flat_map variable_places u.variables) (flat_map step_places u.body.steps)
+    ∙ nothing (first_type u.inputs ++ first_type u.outputs ++ first_type u.externals ++ flat_map variable_places u.variables ++ flat_map (step_places u) u.body.steps) (first_label u.body.last_labels)
+    (nothing (first_type u.inputs ++ first_type u.outputs ++ first_type u.externals ++ flat_map variable_places u.variables) (flat_map (step_places u) u.body.steps)
     (nothing (first_type u.inputs ++ first_type u.outputs ++ first_type u.externals) (flat_map variable_places u.variables)
     (nothing (first_type u.inputs ++ first_type u.outputs) (first_type u.externals) (nothing (first_type u.inputs) (first_type u.outputs) (ap first_type h.inputs) (ap first_type h.outputs)) (ap first_type h.externals)) (variables_back u.variables h.variables))
-    (steps_back u.body.steps h.steps)) (ap first_label h.last_labels)
+    (steps_back u u.body.steps h.steps n)) (ap first_label h.last_labels)
 
 -- CONFIGURATIONS
 
@@ -350,18 +408,51 @@ supported_is c e =
       lines = l.1;
     }
 
--- and where all is carried, nothing else stands
-pub nothing_later : (c : Config) → IsSupported c → later_places c ≡ []
+-- and no name is unsupported
+no_unsupported : (c : Config) → later_places c ≡ [] → (place : Place) → NamesUnsupported c place → ⊥
 unfolding later_places
-nothing_later c h =
+no_unsupported c e place (unit, s, name, among, listed, named, other, at) =
+    let tasks = task_places c.end_resource c.tasks in
+    let units = units_places c.end_resource c.units in
+    let a = none_of (units ++ place_of_any c.globals_place ++ first_type c.globals ++ tasks) (line_places c.end_resource c.programs) e in
+    let b = none_of (units ++ place_of_any c.globals_place ++ first_type c.globals) tasks a.0 in
+    let d = none_of (units ++ place_of_any c.globals_place) (first_type c.globals) b.0 in
+    let x = none_of units (place_of_any c.globals_place) d.0 in
+    let u = one_unit c.end_resource c.units x.0 in
+    let here : unit_places_of u.0.kind u.0 ≡ [] = ap (units_places c.end_resource) (sym u.1) ∙ x.0 in
+    let same = only_one u.0 unit (subst (λ l. Contains l unit) u.1 among) in
+    let fine = program_named u.0 u.2.kind here s (subst (λ (v : Organized). Contains v.body.steps s) same listed) in
+    let bad = any_in (λ n. not (carries_name u.0 n)) (instruction_names s.instruction) name named (subst (λ v. not (carries_name v name) ≡ true) same (other_name c unit name other)) in
+    let no : false ≡ true = ap not (sym bad) ∙ fine in
+    cc
+
+-- nothing is broken then
+pub none_broken : (c : Config) → later_places c ≡ [] → HasNoFault (BreaksDeclarations c) → HasNoFault (BreaksInSubset c)
+none_broken c e declared number place (broken b) = declared number place b
+none_broken c e declared number place (unsupported is names) = no_unsupported c e place names
+
+-- and where all is carried, nothing else stands
+pub nothing_later : (c : Config) → IsSupported c → HasNoFault (BreaksInSubset c) → later_places c ≡ []
+unfolding later_places
+nothing_later c h declared =
     let units = units_places c.end_resource c.units in
     let tasks = task_places c.end_resource c.tasks in
     nothing (units ++ place_of_any c.globals_place ++ first_type c.globals ++ tasks) (line_places c.end_resource c.programs)
     (nothing (units ++ place_of_any c.globals_place ++ first_type c.globals) tasks
     (nothing (units ++ place_of_any c.globals_place) (first_type c.globals)
-    (nothing units (place_of_any c.globals_place) (ap (units_places c.end_resource) h.alone ∙ program_back h.program h.supported) (ap place_of_any h.globals_place)) (ap first_type h.globals))
+    (nothing units (place_of_any c.globals_place) (ap (units_places c.end_resource) h.alone ∙ program_back h.program h.supported named) (ap place_of_any h.globals_place)) (ap first_type h.globals))
     (ap (task_places c.end_resource) h.tasks)) (ap (line_places c.end_resource) h.lines)
+  where
+    among : Contains c.units h.program
+    among = subst (λ l. Contains l h.program) (sym h.alone) (0, omega arith, refl)
 
--- of what is carried nothing is refused
-pub nothing_refused : (c : Config) → IsSupported c → HasNoFault (IsLater c)
-nothing_refused c h number place b = let none : length (later_places c) ≡ 0 = ap length (nothing_later c h) in let low = b.1.1 in absurd (omega (arith, low, none))
+    each : (s : Step) → Contains h.program.body.steps s → (name : Spelling) → Contains (instruction_names s.instruction) name → (b : Bool) → carries_name h.program name ≡ b → not (carries_name h.program name) ≡ false
+    each s listed name stands true is = ap not is
+    each s listed name stands false is = absurd (declared 21 s.place (unsupported refl (h.program, s, name, among, listed, stands, not_supported c h.program name (ap not is), refl)))
+
+    named : AreNamed h.program h.program.body.steps
+    named s listed = ap not (none_pass (λ name. not (carries_name h.program name)) (instruction_names s.instruction) (λ name stands. each s listed name stands _ refl))
+
+-- of what is carried, and breaks nothing, nothing is refused
+pub nothing_refused : (c : Config) → IsSupported c → HasNoFault (BreaksInSubset c) → HasNoFault (IsLater c)
+nothing_refused c h declared number place b = let none : length (later_places c) ≡ 0 = ap length (nothing_later c h declared) in let low = b.1.1 in absurd (omega (arith, low, none))

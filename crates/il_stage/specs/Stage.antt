@@ -1,5 +1,6 @@
 -- What the language has and the controller doesn't run so far, by construct, and where it stands (own rule). It shrinks until nothing is left of it.
-use Rattle.std.specs.Prelude.{◌≡◌, ℕ, Bool, true, false, ◌&&◌, List, [], ◌∷◌, ◌++◌, flat_map, Option, Some, None, Contains, codes, bytes_eq, nat_lt}
+use Rattle.std.specs.Prelude.{◌≡◌, ℕ, Bool, true, false, not, ◌&&◌, ◌||◌, List, [], ◌∷◌, ◌++◌, flat_map, Option, Some, None, is_some, Contains, codes, bytes_eq, nat_lt}
+use Rattle.std.specs.List.{list_any}
 use Rattle.il_spec.specs.declared.tree.Config.{Config}
 use Rattle.il_spec.specs.declared.tree.Unit.{Unit as Organized}
 use Rattle.il_spec.specs.declared.tree.UnitKind.{UnitKind}
@@ -30,7 +31,8 @@ use Rattle.il_spec.specs.declared.tree.Instruction.{Instruction}
 use Rattle.il_spec.specs.declared.tree.Instruction.TheVariants.{Load, Store, Not, Operate, Invoke}
 use Rattle.il_spec.specs.declared.tree.Place.{Place}
 use Rattle.il_rules.specs.Declarations.{has_value}
-use Rattle.il_rules.specs.Names.{Spelling}
+use Rattle.il_rules.specs.Names.{Spelling, is_one_of, own_variable}
+use Rattle.il_rules.specs.Subset.{supported_image_names, reference_names, instruction_names}
 
 -- WHAT IS CARRIED
 
@@ -83,6 +85,26 @@ carries_instruction (Operate operator operand) = carries_operator operator && ca
 carries_instruction (Invoke function operands) = is_limit function.name && carries_operands operands
 carries_instruction _ = false
 
+-- whether a unit declares a name
+unfoldable pub is_own_name : Organized → Spelling → Bool
+is_own_name u name = is_some (own_variable u name)
+
+-- the image names that are carried; their words stay closed unless a proof opens this
+unfoldable pub image_words : List Spelling
+image_words = supported_image_names
+
+-- a variable of the unit, or such an image name
+abbrev pub carries_name : Organized → Spelling → Bool
+carries_name u name = is_own_name u name || is_one_of image_words name
+
+-- the names of operands
+abbrev pub operand_names : List Operand → List Spelling
+operand_names operands = flat_map (λ o. reference_names o.reference) operands
+
+-- whether there is another name among these
+abbrev pub has_other_name : Organized → List Spelling → Bool
+has_other_name u names = list_any (λ name. not (carries_name u name)) names
+
 -- BOOL, INT, and subranges of INT
 abbrev pub carries_scalar : Elementary → Option Subrange → Bool
 carries_scalar BoolType None = true
@@ -105,9 +127,13 @@ abbrev pub first_label : List Named → List Place
 first_label [] = []
 first_label (l ∷ _) = l.place ∷ []
 
--- a step: its label, or its operator
-abbrev pub step_places : Step → List Place
-step_places s = first_label s.labels ++ unless_carried (carries_instruction s.instruction) s.place
+-- an instruction with a name that is not carried, at its operator
+abbrev pub name_places : Organized → Step → List Place
+name_places u s = unless_carried (not (has_other_name u (instruction_names s.instruction))) s.place
+
+-- a step of a unit: its label, or its operator
+abbrev pub step_places : Organized → Step → List Place
+step_places u s = first_label s.labels ++ unless_carried (carries_instruction s.instruction) s.place ++ name_places u s
 
 -- an initial value
 abbrev pub initial_places : Option Initial → List Place
@@ -126,7 +152,7 @@ first_type (d ∷ _) = d.declared.place ∷ []
 -- a program: its lists of inputs, outputs and externals, its variables, its steps, and a label at its end
 abbrev pub program_places : Organized → List Place
 program_places u =
-    first_type u.inputs ++ first_type u.outputs ++ first_type u.externals ++ flat_map variable_places u.variables ++ flat_map step_places u.body.steps ++ first_label u.body.last_labels
+    first_type u.inputs ++ first_type u.outputs ++ first_type u.externals ++ flat_map variable_places u.variables ++ flat_map (step_places u) u.body.steps ++ first_label u.body.last_labels
 
 -- a unit: where it is no program, all of it
 abbrev pub unit_places_of : UnitKind → Organized → List Place

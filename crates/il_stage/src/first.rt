@@ -1,12 +1,13 @@
 // The first place of what isn't carried.
 
-ghost use Rattle.std.specs.Prelude.{◌≡◌, flat_map};
-ghost use Rattle.il_stage.specs.Stage.{unless_carried, first_label, step_places, initial_places, variable_places, first_type, program_places, unit_places_of, units_places, place_of_any, task_places, line_places, later_places, earlier, first_of};
+ghost use Rattle.std.specs.Prelude.{◌≡◌, Some, flat_map, slice_get};
+ghost use Rattle.il_stage.specs.Stage.{unless_carried, first_label, name_places, step_places, initial_places, variable_places, first_type, program_places, unit_places_of, units_places, task_places, line_places, later_places, earlier, first_of};
 
 use crate::carries::{carries_form, carries_instruction, carries_literal};
-use il_spec::tree::{
-    Config, Declaration, Initial, Named, Place, ProgramLine, Step, Task, Unit, UnitKind,
-};
+use crate::here::Here;
+use crate::names::has_other_name;
+use il_scope::Scoped;
+use il_spec::tree::{Declaration, Initial, Named, Place, ProgramLine, Step, Task, Unit, UnitKind};
 
 // The earlier of two places.
 fn earlier(first: Option<Place>, second: Option<Place>) -> Option<Place>
@@ -41,22 +42,28 @@ fn label_place(labels: &[Named]) -> Option<Place>
     }
 }
 
-// A label, or an operator.
-fn step_place(step: &Step) -> Option<Place>
-    ensures { result ≡ first_of (step_places step.now) }
+// An instruction with a name that isn't carried.
+fn name_place(here: &Here, step: &Step) -> Option<Place>
+    ensures { result ≡ first_of (name_places here.now.unit.now step.now) }
 {
-    earlier(
-        label_place(step.labels.as_slice()),
-        unless_carried(carries_instruction(&step.instruction), step.place),
-    )
+    unless_carried(!has_other_name(here, &step.instruction), step.place)
 }
 
-fn steps_place(steps: &[Step]) -> Option<Place>
-    ensures { result ≡ first_of (flat_map step_places steps.now) }
+// A label, or an operator.
+fn step_place(here: &Here, step: &Step) -> Option<Place>
+    ensures { result ≡ first_of (step_places here.now.unit.now step.now) }
+{
+    let label = label_place(step.labels.as_slice());
+    let operator = unless_carried(carries_instruction(&step.instruction), step.place);
+    earlier(earlier(label, operator), name_place(here, step))
+}
+
+fn steps_place(here: &Here, steps: &[Step]) -> Option<Place>
+    ensures { result ≡ first_of (flat_map (step_places here.now.unit.now) steps.now) }
 {
     let mut found = None;
     'steps: for step in steps {
-        found = earlier(found, step_place(step));
+        found = earlier(found, step_place(here, step));
     }
     found
 }
@@ -114,32 +121,42 @@ fn lists_place(unit: &Unit) -> Option<Place>
     )
 }
 
-fn program_place(unit: &Unit) -> Option<Place>
-    ensures { result ≡ first_of (program_places unit.now) }
+fn program_place(here: &Here) -> Option<Place>
+    ensures { result ≡ first_of (program_places here.now.unit.now) }
 {
+    let unit = here.unit;
     let variables = variables_place(unit.variables.as_slice());
-    let steps = steps_place(unit.body.steps.as_slice());
+    let steps = steps_place(here, unit.body.steps.as_slice());
     let label = label_place(unit.body.last_labels.as_slice());
     earlier(lists_place(unit), earlier(variables, earlier(steps, label)))
 }
 
 // A unit that is no program, or the first place in a program.
-fn unit_place(unit: &Unit) -> Option<Place>
-    ensures { result ≡ first_of (unit_places_of unit.now.kind unit.now) }
+fn unit_place(here: &Here) -> Option<Place>
+    ensures { result ≡ first_of (unit_places_of here.now.unit.now.kind here.now.unit.now) }
 {
-    match unit.kind {
-        UnitKind::Program => program_place(unit),
-        _ => Some(unit.place),
+    match here.unit.kind {
+        UnitKind::Program => program_place(here),
+        _ => Some(here.unit.place),
     }
 }
 
-fn units_place(end: Place, units: &[Unit]) -> Option<Place>
+// The same of the first unit.
+fn first_unit_place(names: &Scoped, unit: &Unit) -> Option<Place>
+    requires { slice_get names.now.units 0 ≡ Some unit.now }
+    ensures { result ≡ first_of (unit_places_of unit.now.kind unit.now) }
+{
+    unit_place(&Here { names, at: 0, unit })
+}
+
+fn units_place(names: &Scoped, end: Place, units: &[Unit]) -> Option<Place>
+    requires { units.now ≡ names.now.units }
     ensures { result ≡ first_of (units_places end units.now) }
 {
     match units {
         [] => Some(end),
-        [unit] => unit_place(unit),
-        [unit, other, ..] => earlier(unit_place(unit), Some(other.place)),
+        [unit] => first_unit_place(names, unit),
+        [unit, other, ..] => earlier(first_unit_place(names, unit), Some(other.place)),
     }
 }
 
@@ -164,11 +181,12 @@ fn line_place(end: Place, lines: &[ProgramLine]) -> Option<Place>
 }
 
 /// The first place of what isn't carried.
-pub fn later_place(config: &Config) -> Option<Place>
-    ensures { result ≡ first_of (later_places config.now) }
+pub fn later_place(names: &Scoped) -> Option<Place>
+    ensures { result ≡ first_of (later_places names.now) }
 {
+    let config = names.config();
     let end = config.end_resource;
-    let units = units_place(end, config.units.as_slice());
+    let units = units_place(names, end, config.units.as_slice());
     let globals = earlier(config.globals_place, type_place(config.globals.as_slice()));
     let tasks = task_place(end, config.tasks.as_slice());
     let lines = line_place(end, config.programs.as_slice());

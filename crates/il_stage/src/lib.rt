@@ -1,36 +1,88 @@
-//! What the controller doesn't run so far: its first place, as fault 90.
+//! What the controller runs so far of a configuration: the first place of anything else, as fault 90, and the symbols of its program.
 #![tactic(auto)]
 
 mod carries;
+mod checked;
 mod first;
+mod here;
+mod image;
+mod names;
+mod variables;
 
-ghost use Rattle.std.specs.Prelude.{◌≡◌, ◌≢◌, IfOk, IfErr};
-ghost use Rattle.il_spec.specs.declared.fault.Refusal.TheVariants.{Memory};
+ghost use Rattle.std.specs.Prelude.{◌≡◌, [], IfOk, IfErr};
 ghost use Rattle.il_rules.specs.Faults.{IsRefusedBy};
-ghost use Rattle.il_rules.specs.Subset.{IsSupported};
-ghost use Rattle.il_stage.specs.Stage.{IsLater};
+ghost use Rattle.il_rules.specs.Subset.{AreSupportedVariables};
+ghost use Rattle.il_stage.specs.Stage.{later_places, IsLater};
+ghost use Rattle.il_stage.specs.Checked.{IsDeclared, AreSymbols};
+ghost use Rattle.il_stage.specs.Variables.{IsTableOf};
 
 use crate::first::later_place;
+use crate::image::add_image;
+use crate::variables::own_symbols;
+pub use checked::Supported;
+use il_declare::Declared;
+use il_rules::symbol::Symbol;
+use il_scope::Scoped;
 use il_spec::fault::Refusal;
-use il_spec::tree::Config;
+use il_spec::tree::{Config, Unit};
+use il_table::Table;
+use std::alloc::{AllocError, Global};
 
-/// The fault of what isn't carried.
+/// The fault of what isn't run yet.
 const LATER: u16 = 90;
 
-/// Passes on a configuration of which all constructs are carried, and otherwise refuses it with fault 90 at the first that isn't: one
-/// program of variables of type BOOL, INT or a subrange of INT and of the instructions LD, LDN, ST, STN, NOT, AND, OR, ADD, SUB and LIMIT
-/// with literals and names, without labels; no globals, one TASK line and one PROGRAM line (own rule).
-pub fn carried(config: Config) -> Result<Config, Refusal>
-    ensures same { IfOk result (λ c. c ≡ config) }
-    ensures supported { IfOk result (λ c. IsSupported c) }
-    ensures refused { IfErr result (IsRefusedBy (IsLater config)) }
-    ensures fault { IfErr result (λ e. e ≢ Memory) }
+/// What is run so far of a configuration whose declarations are checked; at the first of anything else it is refused with fault 90.
+/// Run are: one program of variables of type BOOL, INT or a subrange of INT and of the instructions LD, LDN, ST, STN, NOT, AND, OR, ADD, SUB
+/// and LIMIT with literals, variables and some names of the image, without labels; no globals, one TASK line and one PROGRAM line (own rule).
+pub fn supported(alloc: Global, declared: Declared) -> Result<Supported, Refusal>
+    ensures same { IfOk result (λ s. s ≡ declared) }
+    ensures accepted { IfOk result (λ s. IsDeclared s) }
+    ensures refused { IfErr result (IsRefusedBy (IsLater declared)) }
 {
-    match later_place(&config) {
+    check(declared.names())?;
+    Ok(with_symbols(alloc, declared.into_config())?)
+}
+
+// Refuses what isn't run yet.
+fn check(names: &Scoped) -> Result<(), Refusal>
+    ensures supported { IfOk result (λ _. later_places names.now ≡ []) }
+    ensures refused { IfErr result (IsRefusedBy (IsLater names.now)) }
+{
+    match later_place(names) {
         Some(place) => Err(Refusal::Fault {
             number: LATER,
             line: place.line,
         }),
-        None => Ok(config),
+        None => Ok(()),
     }
+}
+
+// Finds what the names of a checked configuration mean.
+fn with_symbols(alloc: Global, config: Config) -> Result<Supported, AllocError>
+    requires { IsDeclared config }
+    ensures { IfOk result (λ s. s ≡ config) }
+{
+    let symbols = symbols(alloc, &config)?;
+    Ok(Supported::of(config, symbols))
+}
+
+// What each scalar name of the program means.
+fn symbols(alloc: Global, config: &Config) -> Result<Table<Symbol>, AllocError>
+    requires { IsDeclared config.now }
+    ensures { IfOk result (λ s. AreSymbols config.now s) }
+{
+    let Some(unit) = config.units.as_slice().first() else {
+        unreachable!()
+    };
+    program_symbols(alloc, config, unit)
+}
+
+// What its variables mean, and what it sees of the image.
+fn program_symbols(alloc: Global, config: &Config, unit: &Unit) -> Result<Table<Symbol>, AllocError>
+    requires { AreSupportedVariables unit.now.variables }
+    ensures { IfOk result (λ s. IsTableOf config.now unit.now s) }
+{
+    let mut symbols = own_symbols(alloc, unit)?;
+    add_image(alloc, config, &mut symbols)?;
+    Ok(symbols)
 }

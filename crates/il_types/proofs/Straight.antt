@@ -19,7 +19,7 @@ use Rattle.il_rules.specs.Subset.{IsSupported, IsSupportedProgram, broken, Break
 use Rattle.il_rules.specs.Straight.{line_type}
 use Rattle.il_rules.proofs.Straight.{step_supported, only_unit, among_units, no_jump, on_line, one_result, breaks_on_line}
 use Rattle.il_run.specs.NameMap.{NameMap}
-use Rattle.il_decl.specs.Checked.{IsDeclared}
+use Rattle.il_stage.specs.Checked.{IsDeclared}
 use Rattle.il_rules.specs.Symbols.{IsProgram}
 use Rattle.il_found.specs.Least.{NumberedFault, IsLeast, Below}
 use Rattle.il_found.proofs.Least.{Covered, least_wider}

@@ -1,19 +1,19 @@
 // Configurations whose types are checked.
 
 ghost use Rattle.std.specs.Prelude.{◌≡◌};
-ghost use Rattle.il_decl.specs.Checked.{AreSymbols};
+ghost use Rattle.il_stage.specs.Checked.{AreSymbols};
 ghost use Rattle.il_types.specs.WellTyped.{IsTyped};
 
-use il_decl::Declared;
 use il_rules::symbol::Symbol;
 use il_spec::tree::Config;
+use il_stage::Supported;
 use il_table::Table;
 use std::marker::Model;
 
 /// A configuration of which no rule of declarations and of types is broken.
 #[derive(Drop)]
 pub struct Typed {
-    declared: Declared,
+    supported: Supported,
 }
 
 impl Model for Typed {
@@ -22,18 +22,18 @@ impl Model for Typed {
 
     ghost Value = { Config };
 
-    ghost view = { λ t. t.declared };
+    ghost view = { λ t. t.supported };
 
-    ghost invariant = { λ t. IsTyped t.declared };
+    ghost invariant = { λ t. IsTyped t.supported };
 }
 
 impl Typed {
     /// A configuration whose types are checked.
-    pub(crate) fn of(declared: Declared) -> Typed
-        requires { IsTyped declared }
-        ensures { result ≡ declared }
+    pub(crate) fn of(supported: Supported) -> Typed
+        requires { IsTyped supported }
+        ensures { result ≡ supported }
     {
-        Typed { declared }
+        Typed { supported }
     }
 
     /// The configuration.
@@ -41,13 +41,13 @@ impl Typed {
         ensures is { result.now ≡ self.now }
         ensures typed { IsTyped self.now }
     {
-        self.declared.config()
+        self.supported.config()
     }
 
     /// What each scalar name of the program means.
     pub fn symbols(&self) -> &Table<Symbol>
         ensures { AreSymbols self.now result.now }
     {
-        self.declared.symbols()
+        self.supported.symbols()
     }
 }

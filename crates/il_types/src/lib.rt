@@ -15,29 +15,29 @@ ghost use Rattle.il_rules.specs.Symbols.{symbol_of};
 ghost use Rattle.il_rules.specs.Faults.{IsRefusedBy, Typing, HasNoFault, Broken};
 ghost use Rattle.il_run.specs.NameMap as map;
 ghost use Rattle.il_found.specs.Least.{IsLeast, Below};
-ghost use Rattle.il_decl.specs.Checked.{IsDeclared, AreSymbols};
+ghost use Rattle.il_stage.specs.Checked.{IsDeclared, AreSymbols};
 ghost use Rattle.il_types.specs.Typing.{Mistyped, fault_at};
 ghost use Rattle.il_types.specs.TypeFaults.{numbered};
 
 use crate::instructions::{lowest_fault, type_after};
 pub use checked::Typed;
 pub use fault::TypeFault;
-use il_decl::Declared;
 use il_found::{Found, earlier, refusal};
 use il_rules::symbol::Symbol;
 use il_spec::fault::Refusal;
 use il_spec::tree::{Config, Place, Step};
+use il_stage::Supported;
 use il_table::Table;
 
 /// Checks the types of the program's instructions (30 to 33, 37): the first fault in the text, at one instruction the lowest number.
-pub fn typed(declared: Declared) -> Result<Typed, Refusal>
-    ensures same { IfOk result (λ t. t ≡ declared) }
-    ensures accepted { IfOk result (λ _. HasNoFault (Broken Typing declared)) }
-    ensures refused { IfErr result (IsRefusedBy (Broken Typing declared)) }
+pub fn typed(supported: Supported) -> Result<Typed, Refusal>
+    ensures same { IfOk result (λ t. t ≡ supported) }
+    ensures accepted { IfOk result (λ _. HasNoFault (Broken Typing supported)) }
+    ensures refused { IfErr result (IsRefusedBy (Broken Typing supported)) }
     ensures fault { IfErr result (λ e. e ≢ Memory) }
 {
-    check_types(declared.config(), declared.symbols())?;
-    Ok(Typed::of(declared))
+    check_types(supported.config(), supported.symbols())?;
+    Ok(Typed::of(supported))
 }
 
 // Checks the types of the program's instructions.

@@ -27,7 +27,7 @@ use Rattle.il_rules.specs.Faults.{Declaring, Typing, Ordering, initial_outside, 
 use Rattle.il_machine.specs.Scanning.{IsRunnable, IsWithin, HasSizes}
 use Rattle.il_parse.specs.Refused.{IsSmall, IsFault}
 use Rattle.il_stage.proofs.Support.{nothing_refused}
-use Rattle.lift_world.specs.Loading.{IsSpelled, IsAccepted, IsRefusedFor, by_stage, by_declarations, by_types, by_order, by_ranges}
+use Rattle.lift_world.specs.Loading.{IsSpelled, IsAccepted, IsRefusedFor, by_declarations, by_stage, by_types, by_order, by_ranges}
 use Rattle.lift_world.proofs.Tasking.{is_one, only_task, tasked}
 
 -- SIZES
@@ -82,8 +82,8 @@ has_sizes c supported unbroken =
 
 -- what is named is broken, or has no ranges
 names_broken : {text : List ℕ} (c : Config) (number line : ℕ) → IsRefusedFor c (Fault number line) → IsAccepted text c → ⊥
-names_broken c number line (by_stage (place, first, at)) a = nothing_refused c a.supported number place first.broken
-names_broken c number line (by_declarations carried (place, first, at)) a = a.declared number place first.broken
+names_broken c number line (by_declarations (place, first, at)) a = a.declared number place (broken first.broken)
+names_broken c number line (by_stage declared (place, first, at)) a = nothing_refused c a.supported a.declared number place first.broken
 names_broken c number line (by_types carried unbroken (place, first, at)) a = a.typed number place first.broken
 names_broken c number line (by_order carried unbroken fine (place, first, at)) a = a.ordered number place first.broken
 names_broken c number line (by_ranges carried unbroken fine fit (u, s, program, first, at)) a =

@@ -8,11 +8,13 @@ use Rattle.il_spec.specs.declared.fault.Refusal.TheVariants.{Memory}
 use Rattle.il_spec.specs.Text.{AreTokens}
 use Rattle.il_spec.specs.Grammar.{AfterLines, SpellsConfig, Spells, IsWithinLimits}
 use Rattle.il_rules.specs.Subset.{IsSupported, BreaksInSubset}
-use Rattle.il_rules.specs.Faults.{HasNoFault, IsRefusedBy, Broken, Typing, Ordering}
+use Rattle.il_rules.specs.Faults.{HasNoFault, IsRefusedBy, BreaksDeclarations, Broken, Typing, Ordering}
+use Rattle.il_stage.specs.Stage.{IsLater}
+use Rattle.il_stage.specs.Checked.{IsDeclared}
 use Rattle.il_parse.specs.Refused.{IsFault}
 use Rattle.il_verify.specs.Resolved.{IsUnannotatedBy}
 use Rattle.il_run.specs.Annotation.{Annotated}
-use Rattle.lift_world.specs.Loading.{IsSpelled, IsAccepted, IsRefusedFor, by_declarations, by_types, by_order, by_ranges, IsExplained}
+use Rattle.lift_world.specs.Loading.{IsSpelled, IsAccepted, IsRefusedFor, by_declarations, by_stage, by_types, by_order, by_ranges, IsExplained}
 use Rattle.lift_world.proofs.Explaining.{handed_as, explained_by_tree}
 use Rattle.lift_world.proofs.Accepting.{handed_on, same_spelled, none_judged, named_judged, accepted_is}
 
@@ -49,27 +51,27 @@ no_fault r same fault = handed_on Config Memory r same fault
 
 -- THE PHASES
 
-pub at_declarations : (c carried : Config) (e : Refusal) → carried ≡ c → IsSupported carried → IsRefusedBy (BreaksInSubset carried) e → IsRefusedFor c e
-at_declarations c carried e is supported refused = by_declarations (subst IsSupported is supported) (subst (λ d. IsRefusedBy (BreaksInSubset d) e) is refused)
+pub at_declarations : (c : Config) (e : Refusal) → IsRefusedBy (BreaksDeclarations c) e → IsRefusedFor c e
+at_declarations c e refused = by_declarations refused
 
-pub at_types : (c carried declared : Config) (e : Refusal) → carried ≡ c → declared ≡ carried → IsSupported carried → HasNoFault (BreaksInSubset carried) → IsRefusedBy (Broken Typing declared) e → IsRefusedFor c e
-at_types c carried declared e is is_declared supported unbroken refused =
-    by_types (subst IsSupported is supported) (subst (λ d. HasNoFault (BreaksInSubset d)) is unbroken) (subst (λ d. IsRefusedBy (Broken Typing d) e) (is_declared ∙ is) refused)
+pub at_stage : (c handed : Config) (e : Refusal) → handed ≡ c → HasNoFault (BreaksDeclarations c) → IsRefusedBy (IsLater handed) e → IsRefusedFor c e
+at_stage c handed e is declared refused = by_stage declared (subst (λ d. IsRefusedBy (IsLater d) e) is refused)
 
-pub at_order : (c carried declared typed : Config) (e : Refusal) → carried ≡ c → declared ≡ carried → typed ≡ declared → IsSupported carried → HasNoFault (BreaksInSubset carried) → HasNoFault (Broken Typing declared) → IsRefusedBy (Broken Ordering typed) e → IsRefusedFor c e
-at_order c carried declared typed e is is_declared is_typed supported unbroken well_typed refused =
-    by_order (subst IsSupported is supported) (subst (λ d. HasNoFault (BreaksInSubset d)) is unbroken) (subst (λ d. HasNoFault (Broken Typing d)) (is_declared ∙ is) well_typed)
-    (subst (λ d. IsRefusedBy (Broken Ordering d) e) (is_typed ∙ is_declared ∙ is) refused)
+pub at_types : (c supported : Config) (e : Refusal) → supported ≡ c → IsDeclared supported → IsRefusedBy (Broken Typing supported) e → IsRefusedFor c e
+at_types c supported e is checked refused = by_types (subst IsSupported is checked.supported) (subst (λ d. HasNoFault (BreaksInSubset d)) is checked.declared) (subst (λ d. IsRefusedBy (Broken Typing d) e) is refused)
 
-pub at_ranges : (c carried declared typed code : Config) (e : Refusal) → carried ≡ c → declared ≡ carried → typed ≡ declared → code ≡ typed → IsSupported carried → HasNoFault (BreaksInSubset carried) → HasNoFault (Broken Typing declared) → HasNoFault (Broken Ordering typed) → IsUnannotatedBy code e
-    → IsRefusedFor c e
-at_ranges c carried declared typed code e is is_declared is_typed is_code supported unbroken well_typed in_order refused =
-    by_ranges (subst IsSupported is supported) (subst (λ d. HasNoFault (BreaksInSubset d)) is unbroken) (subst (λ d. HasNoFault (Broken Typing d)) (is_declared ∙ is) well_typed)
-    (subst (λ d. HasNoFault (Broken Ordering d)) (is_typed ∙ is_declared ∙ is) in_order) (subst (λ d. IsUnannotatedBy d e) (is_code ∙ is_typed ∙ is_declared ∙ is) refused)
+pub at_order : (c supported typed : Config) (e : Refusal) → supported ≡ c → typed ≡ supported → IsDeclared supported → HasNoFault (Broken Typing supported) → IsRefusedBy (Broken Ordering typed) e → IsRefusedFor c e
+at_order c supported typed e is is_typed checked well_typed refused =
+    by_order (subst IsSupported is checked.supported) (subst (λ d. HasNoFault (BreaksInSubset d)) is checked.declared) (subst (λ d. HasNoFault (Broken Typing d)) is well_typed)
+    (subst (λ d. IsRefusedBy (Broken Ordering d) e) (is_typed ∙ is) refused)
+
+pub at_ranges : (c supported typed code : Config) (e : Refusal) → supported ≡ c → typed ≡ supported → code ≡ typed → IsDeclared supported → HasNoFault (Broken Typing supported) → HasNoFault (Broken Ordering typed) → IsUnannotatedBy code e → IsRefusedFor c e
+at_ranges c supported typed code e is is_typed is_code checked well_typed in_order refused =
+    by_ranges (subst IsSupported is checked.supported) (subst (λ d. HasNoFault (BreaksInSubset d)) is checked.declared) (subst (λ d. HasNoFault (Broken Typing d)) is well_typed)
+    (subst (λ d. HasNoFault (Broken Ordering d)) (is_typed ∙ is) in_order) (subst (λ d. IsUnannotatedBy d e) (is_code ∙ is_typed ∙ is) refused)
 
 -- where none refuses
-pub accepted_by : (text : List ℕ) (c carried declared typed checked : Config) → carried ≡ c → declared ≡ carried → typed ≡ declared → checked ≡ typed → SpellsOnly text c → IsSupported carried → HasNoFault (BreaksInSubset carried) → HasNoFault (Broken Typing declared) → HasNoFault (Broken Ordering typed)
-    → Annotated checked → IsAccepted text checked
-accepted_by text c carried declared typed checked is is_declared is_typed is_checked s supported unbroken well_typed in_order annotated =
-    accepted_is text c checked (is_checked ∙ is_typed ∙ is_declared ∙ is) s.spelled (subst IsSupported is supported) (subst (λ d. HasNoFault (BreaksInSubset d)) is unbroken) (subst (λ d. HasNoFault (Broken Typing d)) (is_declared ∙ is) well_typed)
-    (subst (λ d. HasNoFault (Broken Ordering d)) (is_typed ∙ is_declared ∙ is) in_order) annotated
+pub accepted_by : (text : List ℕ) (c supported typed checked : Config) → supported ≡ c → typed ≡ supported → checked ≡ typed → SpellsOnly text c → IsDeclared supported → HasNoFault (Broken Typing supported) → HasNoFault (Broken Ordering typed) → Annotated checked → IsAccepted text checked
+accepted_by text c supported typed checked is is_typed is_checked s declared well_typed in_order annotated =
+    accepted_is text c checked (is_checked ∙ is_typed ∙ is) s.spelled (subst IsSupported is declared.supported) (subst (λ d. HasNoFault (BreaksInSubset d)) is declared.declared) (subst (λ d. HasNoFault (Broken Typing d)) is well_typed)
+    (subst (λ d. HasNoFault (Broken Ordering d)) (is_typed ∙ is) in_order) annotated

@@ -5,7 +5,7 @@ use Rattle.il_spec.specs.declared.fault.Refusal.TheVariants.{Fault, Memory}
 use Rattle.il_spec.specs.declared.tree.Config.{Config}
 use Rattle.il_spec.specs.Grammar.{Spells, IsWithinLimits}
 use Rattle.il_rules.specs.Subset.{IsSupported, BreaksInSubset}
-use Rattle.il_rules.specs.Faults.{IsRefusedBy, Typing, Ordering, HasNoFault, Broken}
+use Rattle.il_rules.specs.Faults.{IsRefusedBy, BreaksDeclarations, Typing, Ordering, HasNoFault, Broken}
 use Rattle.il_stage.specs.Stage.{IsLater}
 use Rattle.il_run.specs.Annotation.{Annotated}
 use Rattle.il_verify.specs.Resolved.{IsUnannotatedBy}
@@ -26,16 +26,16 @@ pub record IsAccepted (text : List ℕ) (c : Config) : Type 0 where
   pub ordered : HasNoFault (Broken Ordering c)
   pub annotated : Annotated c
 
--- The fault that is named: the first construct that is not run yet (90); where there is none, the first of declarations; where those break nothing, the first of
--- types; then the first of order; and then the first instruction without ranges.
+-- The fault that is named: the first of declarations; where those break nothing, the first construct or name of the image that is not run yet (90); where everything is run, the
+-- first of types; then the first of order; and then the first instruction without ranges.
 pub data IsRefusedFor (c : Config) (refusal : Refusal) : Type 0 where
-  by_stage : IsRefusedBy (IsLater c) refusal → IsRefusedFor c refusal
-  by_declarations : IsSupported c → IsRefusedBy (BreaksInSubset c) refusal → IsRefusedFor c refusal
+  by_declarations : IsRefusedBy (BreaksDeclarations c) refusal → IsRefusedFor c refusal
+  by_stage : HasNoFault (BreaksDeclarations c) → IsRefusedBy (IsLater c) refusal → IsRefusedFor c refusal
   by_types : IsSupported c → HasNoFault (BreaksInSubset c) → IsRefusedBy (Broken Typing c) refusal → IsRefusedFor c refusal
   by_order : IsSupported c → HasNoFault (BreaksInSubset c) → HasNoFault (Broken Typing c) → IsRefusedBy (Broken Ordering c) refusal → IsRefusedFor c refusal
   by_ranges : IsSupported c → HasNoFault (BreaksInSubset c) → HasNoFault (Broken Typing c) → HasNoFault (Broken Ordering c) → IsUnannotatedBy c refusal → IsRefusedFor c refusal
 
--- The text spells a configuration, and this is the fault of its constructs, declarations, types, order or ranges.
+-- The text spells a configuration, and this is the fault of its declarations, constructs, types, order or ranges.
 abbrev pub IsSpelledWith : List ℕ → Refusal → Type 0
 IsSpelledWith text refusal = (c : Config) × IsSpelled text c × IsRefusedFor c refusal
 

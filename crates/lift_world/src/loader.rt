@@ -3,24 +3,19 @@
 ghost use Rattle.std.specs.Prelude.{◌≡◌, ◌≤◌, IfOk, IfErr, IsErrAnd, length, map, All};
 ghost use Rattle.il_spec.specs.declared.tree.Config.{Config};
 ghost use Rattle.il_parse.specs.Refused.{IsFault};
-ghost use Rattle.il_rules.specs.Written.{IsWritten};
-ghost use Rattle.il_rules.specs.Faults.{HasNoFault, Broken, Typing, Ordering};
-ghost use Rattle.il_rules.specs.Subset.{IsSupported, BreaksInSubset};
-ghost use Rattle.il_run.specs.Annotation.{Annotated};
 ghost use Rattle.il_verify.specs.Resolved.{IsChecked};
-ghost use Rattle.il_machine.specs.Costs.{AreCosts};
 ghost use Rattle.lift_sound.specs.Runs.{RunsWell};
-ghost use Rattle.lift_world.specs.Loading.{IsSpelled, IsAccepted, IsRefusedFor, IsExplained, SpellsNone, cost_of};
+ghost use Rattle.lift_world.specs.Loading.{IsSpelled, IsAccepted, IsRefusedFor, IsExplained, cost_of};
 
 use il_code::code;
-use il_decl::declare;
+use il_declare::declare;
 use il_machine::{UnitCost, Verified};
-use il_order::{Ordered, ordered};
+use il_order::ordered;
 use il_parse::parse;
 use il_spec::fault::Refusal;
 use il_spec::list::Items;
 use il_spec::tree::{Config, Unit};
-use il_stage::carried;
+use il_stage::supported;
 use il_text::tokens;
 use il_types::typed;
 use il_verify::{Checked, verify};
@@ -28,9 +23,9 @@ use std::alloc::{AllocError, Global};
 
 /// The configuration that a text spells, verified.
 ///
-/// A text is refused with the first fault of these phases, in their order: tokens (1 to 6), grammar (10 to 12), what is not run yet (90),
-/// declarations (20 to 25), types (30 to 33, 37), order and slots (12), ranges (40, 43). From 20 on it is the phase's fault at the earliest place,
-/// at one place the one with the lowest number.
+/// A text is refused with the first fault of these phases, in their order: tokens (1 to 6), grammar (10 to 12), declarations (20 to 25),
+/// what is not run yet (90), types (30 to 33, 37), order and slots (12), ranges (40, 43). From 20 on it is the phase's fault at the earliest
+/// place, at one place the one with the lowest number.
 pub fn load(alloc: Global, text: &[u8]) -> Result<Verified, Refusal>
     ensures found { IfOk result (λ v. IsAccepted text.now v.config) }
     ensures costs { IfOk result (λ v. v.costs ≡ map cost_of v.config.units) }
@@ -41,9 +36,9 @@ pub fn load(alloc: Global, text: &[u8]) -> Result<Verified, Refusal>
 {
     let tokens = tokens(alloc, text)?;
     let config = parse(alloc, text, &tokens)?;
-    let carried = carried(config)?;
-    let declared = declare(alloc, carried)?;
-    let typed = typed(declared)?;
+    let declared = declare(alloc, config)?;
+    let supported = supported(alloc, declared)?;
+    let typed = typed(supported)?;
     let ordered = ordered(typed)?;
     let code = code(alloc, ordered)?;
     let checked = verify(alloc, code)?;

@@ -1,5 +1,4 @@
-use Rattle.std.proofs.Common.{◌∙◌, ap}
-use Rattle.il_stage.specs.Stage.{variable_places, earlier, first_of}
+use Rattle.il_stage.specs.Stage.{variable_places}
 use Rattle.il_stage.proofs.Places.{step_on}
 use Rattle.il_stage.proofs.first.variables_place.Goals as goal
 

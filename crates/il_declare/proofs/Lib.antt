@@ -1,0 +1,12 @@
+pub mod Lowest
+pub mod Instances
+pub mod Lists
+pub mod TaskLaws
+pub mod CarLaws
+pub mod Againness
+pub mod InLists
+pub mod MentionLaws
+pub mod SizeLaws
+pub mod Members
+pub mod Numbers
+pub mod AllBroken

@@ -1,0 +1,13 @@
+use Rattle.std.proofs.Common.{ap, ◌∙◌, [], is_some, if◌then◌else◌}
+use Rattle.std.specs.Prelude.{flat_map}
+use Rattle.il_spec.specs.declared.tree.Operand.{Operand}
+use Rattle.il_rules.specs.Names.{standard_function, function_named}
+use Rattle.il_rules.specs.Declarations.{unless, reference_numbers, Reads}
+use Rattle.il_declare.specs.Places.{lowest_at}
+use Rattle.il_declare.proofs.Lowest.{at_two}
+use Rattle.il_declare.proofs.mentions.invoke_fault.Goals as goal
+
+pub returns : goal.returns
+returns c =
+    at_two (if is_some (standard_function c.args.function.now.name) then [] else unless (is_some (function_named c.args.here.now.names.now c.args.function.now.name)) 21) (flat_map (λ (o : Operand). reference_numbers c.args.here.now.names.now c.args.here.now.unit.now Reads o.reference) c.args.operands.now) c.args.place c.function_fault-unknown.result c.operands_fault.result c.earlier.result
+    (c.function_fault-unknown.ensures ∙ ap (λ n. lowest_at (if is_some (standard_function n) then [] else unless (is_some (function_named c.args.here.now.names.now n)) 21) c.args.place) c.as_str.ensures) c.operands_fault.ensures c.earlier.ensures

@@ -1,0 +1,11 @@
+use Rattle.std.proofs.Common.{ap, ◌∙◌}
+use Rattle.il_rules.specs.Names.{meaning}
+use Rattle.il_declare.specs.Places.{lowest_at}
+use Rattle.il_declare.specs.Mentions.{shown_access, member_of}
+use Rattle.il_declare.proofs.MentionLaws.{member_is}
+use Rattle.il_declare.proofs.mentions.member_name_fault.Goals as goal
+
+pub returns : goal.returns
+returns c =
+    c.member_fault.ensures ∙ ap (λ b. lowest_at (member_of c.args.here.now.names.now (shown_access c.args.access) c.args.word.now b) c.args.place) c.meaning.ensures
+    ∙ ap (λ l. lowest_at l c.args.place) (member_is c.args.here.now.names.now (shown_access c.args.access) c.args.word.now (meaning c.args.here.now.names.now c.args.here.now.unit.now c.args.name.now))

@@ -1,0 +1,9 @@
+use Rattle.std.proofs.Common.{ap, ◌∙◌}
+use Rattle.il_rules.specs.Names.{meaning}
+use Rattle.il_declare.specs.Places.{lowest_at}
+use Rattle.il_declare.specs.Mentions.{scalar_of}
+use Rattle.il_declare.proofs.MentionLaws.{scalar_is}
+use Rattle.il_declare.proofs.mentions.scalar_name_fault.Goals as goal
+
+pub returns : goal.returns
+returns c = c.scalar_fault.ensures ∙ ap (λ b. lowest_at (scalar_of b) c.args.place) c.meaning.ensures ∙ ap (λ l. lowest_at l c.args.place) (scalar_is c.args.here.now.names.now (meaning c.args.here.now.names.now c.args.here.now.unit.now c.args.name.now))

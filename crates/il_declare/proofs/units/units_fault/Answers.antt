@@ -1,0 +1,20 @@
+use Rattle.std.proofs.Common.{◌<◌, ◌∙◌, length, arith, refl, ap, subst}
+use Rattle.std.proofs.lemmas.Option.{slice_get_read}
+use Rattle.il_found.specs.Least.{IsLeast}
+use Rattle.il_found.proofs.Least.{least_next}
+use Rattle.il_declare.specs.Places.{Among}
+use Rattle.il_declare.specs.Units.{UnitBreaks}
+use Rattle.il_declare.proofs.Lowest.{least_among}
+use Rattle.il_declare.proofs.units.units_fault.Goals as goal
+
+pub loop-at-preserved : goal.loop-at-preserved
+loop-at-preserved c =
+    let units = c.as_slice-units.result.now in
+    let low : c.loop-at.at < length units = omega arith in
+    least_next (λ at. UnitBreaks c.args.names.now) units c.loop-at.at c.index-units-at.result c.loop-at.found c.in_ok-unit_fault.field-0 c.earlier-found.result (slice_get_read _ _ _ _ refl low c.index-units-at.is) c.earlier-found.ensures c.loop-at.invariant
+    c.in_ok-unit_fault.ensures
+
+pub returns : goal.returns
+returns c =
+    subst (λ l. IsLeast c.loop-at.found (Among (UnitBreaks c.args.names.now) l)) (c.as_slice-units.ensures ∙ ap (λ k. k.units) c.config.ensures)
+    (least_among (UnitBreaks c.args.names.now) c.as_slice-units.result.now c.loop-at.at c.loop-at.found (omega arith) c.loop-at.invariant)

@@ -1,0 +1,12 @@
+pub mod DeclareFaults
+pub mod Places
+pub mod Written
+pub mod TaskRules
+pub mod CarRules
+pub mod Sizes
+pub mod Externals
+pub mod Again
+pub mod Taken
+pub mod Mentions
+pub mod Units
+pub mod Whole

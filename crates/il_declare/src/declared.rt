@@ -1,0 +1,58 @@
+// Configurations whose declarations are checked.
+
+ghost use Rattle.std.specs.Prelude.{◌≡◌};
+ghost use Rattle.il_rules.specs.Faults.{HasNoFault, BreaksDeclarations};
+
+use il_scope::Scoped;
+use il_spec::tree::Config;
+use std::marker::Model;
+
+/// A configuration of which no rule of declarations is broken, with what its names mean.
+#[derive(Drop)]
+pub struct Declared {
+    scoped: Scoped,
+}
+
+impl Model for Declared {
+    ghost use Rattle.il_spec.specs.declared.tree.Config.{Config};
+    ghost use Rattle.il_rules.specs.Faults.{HasNoFault, BreaksDeclarations};
+
+    ghost Value = { Config };
+
+    ghost view = { λ d. d.scoped };
+
+    ghost invariant = { λ d. HasNoFault (BreaksDeclarations d.scoped) };
+}
+
+impl Declared {
+    /// A configuration whose declarations are checked.
+    pub(crate) fn of(scoped: Scoped) -> Declared
+        requires { HasNoFault (BreaksDeclarations scoped) }
+        ensures { result ≡ scoped }
+    {
+        Declared { scoped }
+    }
+
+    /// The configuration.
+    pub fn config(&self) -> &Config
+        ensures is { result.now ≡ self.now }
+        ensures declared { HasNoFault (BreaksDeclarations self.now) }
+    {
+        self.scoped.config()
+    }
+
+    /// The configuration, without what its names mean.
+    pub fn into_config(self) -> Config
+        ensures is { result ≡ self }
+        ensures declared { HasNoFault (BreaksDeclarations self) }
+    {
+        self.scoped.into_config()
+    }
+
+    /// What its names mean.
+    pub fn names(&self) -> &Scoped
+        ensures { result.now ≡ self.now }
+    {
+        &self.scoped
+    }
+}

@@ -1,0 +1,52 @@
+//! Checks the declarations of a configuration, and says what its names mean.
+#![tactic(auto)]
+
+mod again;
+mod cars;
+mod declared;
+mod externals;
+mod fault;
+mod here;
+mod mentions;
+mod sets;
+mod sizes;
+mod taken;
+mod tasks;
+mod types;
+mod units;
+mod whole;
+
+ghost use Rattle.std.specs.Prelude.{◌≡◌, IfOk, IfErr};
+ghost use Rattle.il_rules.specs.Faults.{HasNoFault, IsRefusedBy, BreaksDeclarations};
+
+use crate::whole::declared_fault;
+pub use declared::Declared;
+pub use fault::DeclareFault;
+use il_found::refusal;
+use il_scope::Scoped;
+use il_spec::fault::Refusal;
+use il_spec::tree::Config;
+use std::alloc::Global;
+
+/// Checks the declarations of a configuration (20 to 25), and finds what its names mean.
+/// Of the faults the one at the earliest place is named, at one place the one with the lowest number.
+pub fn declare(alloc: Global, config: Config) -> Result<Declared, Refusal>
+    ensures same { IfOk result (λ d. d ≡ config) }
+    ensures accepted { IfOk result (λ _. HasNoFault (BreaksDeclarations config)) }
+    ensures refused { IfErr result (IsRefusedBy (BreaksDeclarations config)) }
+{
+    let scoped = Scoped::of(alloc, config)?;
+    check(alloc, &scoped)?;
+    Ok(Declared::of(scoped))
+}
+
+// Checks the declarations.
+fn check(alloc: Global, names: &Scoped) -> Result<(), Refusal>
+    ensures accepted { IfOk result (λ _. HasNoFault (BreaksDeclarations names.now)) }
+    ensures refused { IfErr result (IsRefusedBy (BreaksDeclarations names.now)) }
+{
+    match declared_fault(alloc, names)? {
+        Some(found) => Err(refusal(found)),
+        None => Ok(()),
+    }
+}

@@ -1,0 +1,5 @@
+pub mod Known
+pub mod Digits
+pub mod Filled
+pub mod Seen
+pub mod Laws

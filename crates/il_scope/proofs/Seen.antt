@@ -1,0 +1,260 @@
+-- What names mean, as the rules say it.
+use Rattle.std.proofs.Common.{◌≡◌, ℕ, zero, suc, Bool, true, false, ◌&&◌, ◌||◌, List, [], ◌∷◌, ◌++◌, map, refl, sym, ap, ◌∙◌, subst, Option, Some, None, is_some, option_map, option_and_then, bytes_eq, slice_get, if◌then◌else◌, ◌<◌, ◌≤◌, length, get_or, arith}
+use Rattle.std.proofs.lemmas.Option.{slice_get_read}
+use Rattle.std.specs.Prelude.{find}
+use Rattle.std.specs.Option.{option_or}
+use Rattle.il_spec.specs.declared.tree.Config.{Config}
+use Rattle.il_spec.specs.declared.tree.Unit.{Unit as ProgramUnit}
+use Rattle.il_spec.specs.declared.tree.UnitKind.{UnitKind}
+use Rattle.il_spec.specs.declared.tree.UnitKind.TheVariants.{Function, FunctionBlock, Program}
+use Rattle.il_spec.specs.declared.tree.Declaration.{Declaration}
+use Rattle.il_spec.specs.declared.tree.Form.{Form}
+use Rattle.il_spec.specs.declared.tree.Form.TheVariants.{Scalar as OfScalar}
+use Rattle.il_run.specs.NameMap.{NameMap, get}
+use Rattle.il_rules.specs.Names as rule
+use Rattle.il_rules.specs.Names.{Spelling, or_else, entry_of, is_one_of, BlockVariables, own_block_variables, named_forms, with_origin, result_of, variables_of, own_variable, is_predeclared, is_program_kind, is_seen_by, Everybody, CarPrograms, GroupPrograms, CarRole, GroupRole, sees, image_meaning, unit_named, global_meaning, outer_meaning, image_name, program_role, meaning, MeansVariable, MeansUnit, MeansStandard, AsInput, AsOutput, AsVariable, AsExternal}
+use Rattle.il_rules.specs.Declarations.{names_of_units}
+use Rattle.il_scope.specs.declared.entry.VariableType.{VariableType}
+use Rattle.il_scope.specs.declared.entry.Variable.{Variable}
+use Rattle.il_scope.specs.declared.entry.Role.{Role}
+use Rattle.il_scope.specs.declared.entry.ImageName.{ImageName}
+use Rattle.il_scope.specs.declared.entry.Binding.{Binding}
+use Rattle.il_scope.specs.declared.entry.Binding.TheVariants as means
+use Rattle.il_scope.specs.declared.tables.Scope.{Scope}
+use Rattle.il_scope.specs.Entries.{origin_entry, audience_entry, role_entry}
+use Rattle.il_scope.specs.Views.{place_of, unit_number, type_of, variable_of, image_entry, binding_of}
+use Rattle.il_scope.specs.Tables.{HasForms, IsScope, AreScopes}
+use Rattle.il_scope.specs.Meanings.{listed_as, own_result, listed_binding, seen_by, image_binding, global_binding}
+use Rattle.il_scope.proofs.Filled.{or_else_assoc, map-or_else}
+use Rattle.il_scope.proofs.Known.{or_is}
+
+-- OWN VARIABLES
+
+-- what is found in two lists
+pub find-both : {A : Type 0} (p : A → Bool) (xs ys : List A) → find p (xs ++ ys) ≡ or_else (find p xs) (find p ys)
+find-both p [] ys = refl
+find-both {A = A} p (x ∷ xs) ys = go (p x) (find-both p xs ys)
+  where
+    go : (b : Bool) → find p (xs ++ ys) ≡ or_else (find p xs) (find p ys) → (if b then Some x else find p (xs ++ ys)) ≡ or_else (if b then Some x else find p xs) (find p ys)
+    go true rest = refl
+    go false rest = rest
+
+-- a variable of one list
+one_list : (config : Config) (origin : rule.Origin) (vs : List (Spelling × Form)) (q : Spelling)
+    → option_map (variable_of config) (find (λ v. bytes_eq v.name q) (map (λ (v : Spelling × Form). record { name = v.0; form = v.1; origin = origin }) vs)) ≡ option_map (listed_as (origin_entry origin)) (option_map (type_of config) (entry_of vs q))
+one_list config origin [] q = refl
+one_list config origin (v ∷ vs) q = go (bytes_eq v.0 q) (one_list config origin vs q)
+  where
+    go : (b : Bool) → option_map (variable_of config) (find (λ v. bytes_eq v.name q) (map (λ (v : Spelling × Form). record { name = v.0; form = v.1; origin = origin }) vs)) ≡ option_map (listed_as (origin_entry origin)) (option_map (type_of config) (entry_of vs q))
+        → option_map (variable_of config) (if b then Some (record { name = v.0; form = v.1; origin = origin }) else find (λ v. bytes_eq v.name q) (map (λ (v : Spelling × Form). record { name = v.0; form = v.1; origin = origin }) vs)) ≡ option_map (listed_as (origin_entry origin)) (option_map (type_of config) (option_map (λ (e : Spelling × Form). e.1) (if b then Some v else find (λ e. bytes_eq e.0 q) vs)))
+    go true rest = refl
+    go false rest = rest
+
+-- the same, by its table
+by_table : (config : Config) (origin : rule.Origin) (ds : List Declaration) (table : NameMap VariableType) (q : Spelling) → HasForms config ds table → option_map (variable_of config) (find (λ v. bytes_eq v.name q) (with_origin origin ds)) ≡ option_map (listed_as (origin_entry origin)) (get table q)
+by_table config origin ds table q has = one_list config origin (named_forms ds) q ∙ ap (option_map (listed_as (origin_entry origin))) (sym (has q))
+
+-- a function's result
+by_result : (config : Config) (kind : UnitKind) (own q : Spelling) → option_map (variable_of config) (find (λ v. bytes_eq v.name q) (result_of kind own)) ≡ own_result kind own q
+by_result config (Function scalar place) own q = go (bytes_eq own q)
+  where
+    v : rule.Variable
+    v = record { name = own; form = OfScalar scalar; origin = rule.AsResult }
+
+    go : (b : Bool) → option_map (variable_of config) (if b then Some v else None) ≡ (if b then Some (variable_of config v) else None)
+    go true = refl
+    go false = refl
+by_result config FunctionBlock own q = refl
+by_result config Program own q = refl
+
+-- four lists behind a result
+find-five : (p : rule.Variable → Bool) (a b c d e : List rule.Variable) → find p (a ++ b ++ c ++ d ++ e) ≡ or_else (find p a) (or_else (find p b) (or_else (find p c) (or_else (find p d) (find p e))))
+find-five p a b c d e =
+    find-both p (a ++ b ++ c ++ d) e ∙ ap (λ o. or_else o (find p e)) (find-both p (a ++ b ++ c) d ∙ ap (λ o. or_else o (find p d)) (find-both p (a ++ b) c ∙ ap (λ o. or_else o (find p c)) (find-both p a b)))
+    ∙ or_else_assoc (or_else (or_else (find p a) (find p b)) (find p c)) (find p d) (find p e)
+    ∙ or_else_assoc (or_else (find p a) (find p b)) (find p c) (or_else (find p d) (find p e))
+    ∙ or_else_assoc (find p a) (find p b) (or_else (find p c) (or_else (find p d) (find p e)))
+
+-- a change of the first of two
+either_of : {A B : Type 0} (f : A → B) (a b : Option A) (x y : Option B) → option_map f a ≡ x → option_map f b ≡ y → option_map f (or_else a b) ≡ or_else x y
+either_of f a b x y first second = map-or_else f a b ∙ ap (λ o. or_else o (option_map f b)) first ∙ ap (or_else x) second
+
+-- all own variables
+pub own_is : (config : Config) (unit : ProgramUnit) (scope : Scope) (q : Spelling) → IsScope config unit scope → or_else (own_result unit.kind unit.name.name q) (listed_binding scope q) ≡ option_map (variable_of config) (own_variable unit q)
+own_is config unit scope q is = sym (
+    ap (option_map (variable_of config)) (find-five p (result_of unit.kind unit.name.name) (with_origin AsInput unit.inputs) (with_origin AsOutput unit.outputs) (with_origin AsVariable unit.variables) (with_origin AsExternal unit.externals))
+    ∙ either_of (variable_of config) (find p (result_of unit.kind unit.name.name)) _ _ _ (by_result config unit.kind unit.name.name q)
+    (either_of (variable_of config) (find p (with_origin AsInput unit.inputs)) _ _ _ (by_table config AsInput unit.inputs scope.inputs q is.inputs)
+    (either_of (variable_of config) (find p (with_origin AsOutput unit.outputs)) _ _ _ (by_table config AsOutput unit.outputs scope.outputs q is.outputs)
+    (either_of (variable_of config) (find p (with_origin AsVariable unit.variables)) _ _ _ (by_table config AsVariable unit.variables scope.variables q is.variables) (by_table config AsExternal unit.externals scope.externals q is.externals)))))
+  where
+    p : rule.Variable → Bool
+    p v = bytes_eq v.name q
+
+-- as the code finds them
+pub own_found : (config : Config) (unit : ProgramUnit) (scope : Scope) (q : Spelling) (r own listed : Option Variable) → r ≡ option_or own listed → own ≡ own_result unit.kind unit.name.name q → listed ≡ listed_binding scope q → IsScope config unit scope → r ≡ option_map (variable_of config) (own_variable unit q)
+own_found config unit scope q r own listed e o l is = or_is r own listed e ∙ ap (λ x. or_else x listed) o ∙ ap (or_else (own_result unit.kind unit.name.name q)) l ∙ own_is config unit scope q is
+
+-- IMAGE NAMES
+
+seen_is : (role : Option rule.Role) (audience : rule.Audience) → seen_by (option_map role_entry role) (audience_entry audience) ≡ is_seen_by role audience
+seen_is role Everybody = refl
+seen_is None CarPrograms = refl
+seen_is None GroupPrograms = refl
+seen_is (Some CarRole) CarPrograms = refl
+seen_is (Some CarRole) GroupPrograms = refl
+seen_is (Some GroupRole) CarPrograms = refl
+seen_is (Some GroupRole) GroupPrograms = refl
+
+image_is_meant : (config : Config) (unit : ProgramUnit) (i : rule.ImageName) → image_binding unit.kind (option_map role_entry (program_role config unit.name.name config.programs)) (image_entry config i) ≡ option_map (binding_of config) (image_meaning config unit i)
+image_is_meant config unit i =
+    ap (λ b. if is_program_kind unit.kind && b then Some (means.Variable (variable_of config i.variable)) else None) (seen_is (program_role config unit.name.name config.programs) i.audience)
+    ∙ go (is_program_kind unit.kind && is_seen_by (program_role config unit.name.name config.programs) i.audience)
+  where
+    go : (b : Bool) → (if b then Some (means.Variable (variable_of config i.variable)) else None) ≡ option_map (binding_of config) (if b then Some (MeansVariable i.variable) else None)
+    go true = refl
+    go false = refl
+
+-- UNITS
+
+-- the unit of a number
+pub unit_found : (units : List ProgramUnit) (q : Spelling) → find (λ u. bytes_eq u.name.name q) units ≡ option_and_then (slice_get units) (place_of (map (λ u. u.name.name) units) q)
+unit_found [] q = refl
+unit_found (u ∷ us) q = go (bytes_eq u.name.name q) (place_of (map (λ (x : ProgramUnit). x.name.name) us) q) (unit_found us q)
+  where
+    by_place : (o : Option ℕ) → option_and_then (slice_get us) o ≡ option_and_then (slice_get (u ∷ us)) (option_map (λ k. suc k) o)
+    by_place (Some k) = refl
+    by_place None = refl
+
+    go : (b : Bool) (o : Option ℕ) → find (λ x. bytes_eq x.name.name q) us ≡ option_and_then (slice_get us) o → (if b then Some u else find (λ x. bytes_eq x.name.name q) us) ≡ option_and_then (slice_get (u ∷ us)) (if b then Some 0 else option_map (λ k. suc k) o)
+    go true o rest = refl
+    go false o rest = rest ∙ by_place o
+
+-- whether there is one
+pub unit_there : (units : List ProgramUnit) (q : Spelling) → is_some (find (λ u. bytes_eq u.name.name q) units) ≡ is_some (place_of (map (λ u. u.name.name) units) q)
+unit_there [] q = refl
+unit_there (u ∷ us) q = go (bytes_eq u.name.name q) (place_of (map (λ (x : ProgramUnit). x.name.name) us) q) (unit_there us q)
+  where
+    by_place : (o : Option ℕ) → is_some o ≡ is_some (option_map (λ k. suc k) o)
+    by_place (Some k) = refl
+    by_place None = refl
+
+    go : (b : Bool) (o : Option ℕ) → is_some (find (λ x. bytes_eq x.name.name q) us) ≡ is_some o → is_some (if b then Some u else find (λ x. bytes_eq x.name.name q) us) ≡ is_some (if b then Some 0 else option_map (λ k. suc k) o)
+    go true o rest = refl
+    go false o rest = rest ∙ by_place o
+
+named_there : (config : Config) (q : Spelling) → is_some (unit_number config q) ≡ is_some (unit_named config q)
+unfolding unit_number
+named_there config q = go (is_predeclared config q)
+  where
+    go : (b : Bool) → is_some (if b then None else place_of (names_of_units config) q) ≡ is_some (if b then None else find (λ u. bytes_eq u.name.name q) config.units)
+    go true = refl
+    go false = sym (unit_there config.units q)
+
+global_is : (config : Config) (q : Spelling) → global_binding config q ≡ option_map (binding_of config) (global_meaning config q)
+global_is config q = ap (λ b. if b then Some means.Unit else (if is_predeclared config q then Some means.Standard else None)) (named_there config q) ∙ go (unit_named config q) (is_predeclared config q)
+  where
+    go : (u : Option ProgramUnit) (b : Bool) → (if is_some u then Some means.Unit else (if b then Some means.Standard else None)) ≡ option_map (binding_of config) (or_else (option_map MeansUnit u) (if b then Some MeansStandard else None))
+    go (Some u) b = refl
+    go None true = refl
+    go None false = refl
+
+-- MEANINGS
+
+-- an image name
+pub outer_image : (config : Config) (unit : ProgramUnit) (q : Spelling) (role : Option Role) (image : ImageName) (r : Option Binding) → role ≡ option_map role_entry (program_role config unit.name.name config.programs) → r ≡ image_binding unit.kind role image → Some image ≡ option_map (image_entry config) (image_name config q) → r ≡ option_map (binding_of config) (outer_meaning config unit q (image_name config q))
+outer_image config unit q role image r roles e is = go (image_name config q) is
+  where
+    go : (o : Option rule.ImageName) → Some image ≡ option_map (image_entry config) o → r ≡ option_map (binding_of config) (outer_meaning config unit q o)
+    go None i = let bad : Some image ≡ None = i in cc
+    go (Some x) i = let same : image ≡ image_entry config x = cc in e ∙ ap (λ o. image_binding unit.kind o image) roles ∙ ap (image_binding unit.kind (option_map role_entry (program_role config unit.name.name config.programs))) same ∙ image_is_meant config unit x
+
+-- no image name
+pub outer_global : (config : Config) (unit : ProgramUnit) (q : Spelling) (r : Option Binding) → r ≡ global_binding config q → None ≡ option_map (image_entry config) (image_name config q) → r ≡ option_map (binding_of config) (outer_meaning config unit q (image_name config q))
+outer_global config unit q r e is = go (image_name config q) is
+  where
+    go : (o : Option rule.ImageName) → None ≡ option_map (image_entry config) o → r ≡ option_map (binding_of config) (outer_meaning config unit q o)
+    go None i = e ∙ global_is config q
+    go (Some x) i = let bad : None ≡ Some (image_entry config x) = i in cc
+
+-- a variable of the unit
+pub meaning_own : (config : Config) (unit : ProgramUnit) (q : Spelling) (v : Variable) → Some v ≡ option_map (variable_of config) (own_variable unit q) → Some (means.Variable v) ≡ option_map (binding_of config) (meaning config unit q)
+unfolding meaning
+meaning_own config unit q v is = go (own_variable unit q) is
+  where
+    go : (o : Option rule.Variable) → Some v ≡ option_map (variable_of config) o → Some (means.Variable v) ≡ option_map (binding_of config) (or_else (option_map MeansVariable o) (outer_meaning config unit q (image_name config q)))
+    go None i = let bad : Some v ≡ None = i in cc
+    go (Some x) i = let same : v ≡ variable_of config x = cc in ap (λ y. Some (means.Variable y)) same
+
+-- another name
+pub meaning_outer : (config : Config) (unit : ProgramUnit) (q : Spelling) (r : Option Binding) → None ≡ option_map (variable_of config) (own_variable unit q) → r ≡ option_map (binding_of config) (outer_meaning config unit q (image_name config q)) → r ≡ option_map (binding_of config) (meaning config unit q)
+unfolding meaning
+meaning_outer config unit q r is e = go (own_variable unit q) is
+  where
+    go : (o : Option rule.Variable) → None ≡ option_map (variable_of config) o → r ≡ option_map (binding_of config) (or_else (option_map MeansVariable o) (outer_meaning config unit q (image_name config q)))
+    go None i = e
+    go (Some x) i = let bad : None ≡ Some (variable_of config x) = i in cc
+
+-- SCOPES BY THEIR NUMBERS
+
+pub scope_at : (config : Config) (units : List ProgramUnit) (scopes : List Scope) (k : ℕ) (u : ProgramUnit) (s : Scope) → AreScopes config units scopes → slice_get units k ≡ Some u → slice_get scopes k ≡ Some s → IsScope config u s
+scope_at config [] [] k u s are a b = let bad : None ≡ Some u = a in cc
+scope_at config [] (t ∷ scopes) k u s are a b = absurd are
+scope_at config (x ∷ units) [] k u s are a b = absurd are
+scope_at config (x ∷ units) (t ∷ scopes) zero u s are a b =
+    let unit : x ≡ u = cc in
+    let scope : t ≡ s = cc in
+    subst (λ y. IsScope config y s) unit (subst (IsScope config x) scope are.0)
+scope_at config (x ∷ units) (t ∷ scopes) (suc k) u s are a b = scope_at config units scopes k u s are.1 a b
+
+pub scope_there : (config : Config) (units : List ProgramUnit) (scopes : List Scope) (k : ℕ) → AreScopes config units scopes → slice_get scopes k ≡ None → slice_get units k ≡ None
+scope_there config [] [] k are a = refl
+scope_there config [] (t ∷ scopes) k are a = absurd are
+scope_there config (x ∷ units) [] k are a = absurd are
+scope_there config (x ∷ units) (t ∷ scopes) zero are a = let bad : Some t ≡ None = a in cc
+scope_there config (x ∷ units) (t ∷ scopes) (suc k) are a = scope_there config units scopes k are.1 a
+
+-- an element that was read
+pub read_at : {A : Type 0} (xs ys : List A) (k : ℕ) (x : A) → xs ≡ ys → k < length xs → x ≡ get_or xs k x → slice_get ys k ≡ Some x
+read_at xs ys k x same low there = ap (λ l. slice_get l k) (sym same) ∙ slice_get_read xs (length xs) k x refl low there
+
+-- one that is not there
+pub none_at : {A : Type 0} (xs : List A) (k : ℕ) → length xs ≤ k → slice_get xs k ≡ None
+none_at [] k low = refl
+none_at (x ∷ xs) zero low = absurd (omega arith)
+none_at (x ∷ xs) (suc k) low = none_at xs k (omega arith)
+
+-- what is read twice is one
+pub read_same : {A : Type 0} (xs : List A) (k : ℕ) (x y : A) → slice_get xs k ≡ Some x → slice_get xs k ≡ Some y → x ≡ y
+read_same xs k x y a b = let both : Some x ≡ Some y = sym a ∙ b in cc
+
+-- BLOCKS
+
+-- the unit of a scope
+pub unit_of : (config : Config) (units : List ProgramUnit) (scopes : List Scope) (k : ℕ) (s : Scope) → AreScopes config units scopes → slice_get scopes k ≡ Some s → (u : ProgramUnit) × (slice_get units k ≡ Some u) × IsScope config u s
+unit_of config [] [] k s are b = let bad : None ≡ Some s = b in cc
+unit_of config [] (t ∷ scopes) k s are b = absurd are
+unit_of config (x ∷ units) [] k s are b = absurd are
+unit_of config (x ∷ units) (t ∷ scopes) zero s are b = let scope : t ≡ s = cc in (x, refl, subst (IsScope config x) scope are.0)
+unit_of config (x ∷ units) (t ∷ scopes) (suc k) s are b = unit_of config units scopes k s are.1 b
+
+-- an own block's input or output
+pub own_entry : (config : Config) (list : BlockVariables → List (Spelling × Form)) (unit : Option ProgramUnit) (u : ProgramUnit) (word : Spelling) (o : Option VariableType) → unit ≡ Some u → o ≡ option_map (type_of config) (entry_of (list (own_block_variables u)) word) → o ≡ option_map (type_of config) (option_and_then (λ b. entry_of (list b) word) (option_map own_block_variables unit))
+own_entry config list unit u word o is e = e ∙ ap (λ x. option_map (type_of config) (option_and_then (λ b. entry_of (list b) word) (option_map own_block_variables x))) (sym is)
+
+-- none, where there is no unit
+pub own_entry_none : (config : Config) (list : BlockVariables → List (Spelling × Form)) (unit : Option ProgramUnit) (word : Spelling) → unit ≡ None → None ≡ option_map (type_of config) (option_and_then (λ b. entry_of (list b) word) (option_map own_block_variables unit))
+own_entry_none config list unit word is = ap (λ x. option_map (type_of config) (option_and_then (λ b. entry_of (list b) word) (option_map own_block_variables x))) (sym is)
+
+-- whether a name is among others
+pub place_there : (names : List Spelling) (q : Spelling) → is_some (place_of names q) ≡ is_one_of names q
+place_there [] q = refl
+place_there (n ∷ ns) q = go (bytes_eq n q) (place_of ns q) (place_there ns q)
+  where
+    by_place : (o : Option ℕ) → is_some (option_map (λ k. suc k) o) ≡ is_some o
+    by_place (Some k) = refl
+    by_place None = refl
+
+    go : (b : Bool) (o : Option ℕ) → is_some o ≡ is_one_of ns q → is_some (if b then Some 0 else option_map (λ k. suc k) o) ≡ (b || is_one_of ns q)
+    go true o rest = refl
+    go false o rest = by_place o ∙ rest

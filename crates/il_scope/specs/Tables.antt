@@ -1,0 +1,65 @@
+-- What tables of names have.
+use Rattle.std.specs.Prelude.{◌≡◌, ℕ, ℤ, if◌then◌else◌, List, [], ◌∷◌, map, Option, Some, None, is_some, option_map}
+use Rattle.il_spec.specs.declared.tree.Config.{Config}
+use Rattle.il_spec.specs.declared.tree.Unit.{Unit as ProgramUnit}
+use Rattle.il_spec.specs.declared.tree.ProgramLine.{ProgramLine}
+use Rattle.il_spec.specs.declared.tree.Declaration.{Declaration}
+use Rattle.il_spec.specs.declared.tree.Named.{Named}
+use Rattle.il_run.specs.NameMap.{NameMap, get, insert}
+use Rattle.il_rules.specs.Names.{Spelling, or_else, entry_of, is_one_of, named_forms, task_role, program_role}
+use Rattle.il_rules.specs.Declarations.{names_of_units}
+use Rattle.il_scope.specs.declared.entry.VariableType.{VariableType}
+use Rattle.il_scope.specs.declared.entry.Role.{Role}
+use Rattle.il_scope.specs.declared.tables.Scope.{Scope}
+use Rattle.il_scope.specs.declared.tables.Tables.{Tables}
+use Rattle.il_scope.specs.Entries.{role_entry}
+use Rattle.il_scope.specs.Views.{place_of, type_of}
+
+-- a table with a name that it did not have
+abbrev pub with_new : {X : Type 0} → NameMap X → Spelling → X → NameMap X
+with_new table name entry = if is_some (get table name) then table else insert table name entry
+
+-- the number of the first unit of each name
+abbrev pub AreUnits : Config → NameMap ℕ → Type 0
+AreUnits config table = (name : Spelling) → get table name ≡ place_of (names_of_units config) name
+
+-- the types of declared variables; the first of a name counts
+abbrev pub HasForms : Config → List Declaration → NameMap VariableType → Type 0
+HasForms config declarations table = (name : Spelling) → get table name ≡ option_map (type_of config) (entry_of (named_forms declarations) name)
+
+-- what a table has, and these names where it had none
+abbrev pub HasNames : List Named → VariableType → NameMap VariableType → NameMap VariableType → Type 0
+HasNames names declared old new = (name : Spelling) → get new name ≡ or_else (get old name) (if is_one_of (map (λ n. n.name) names) name then Some declared else None)
+
+-- a table with the role that a PROGRAM line gives, if its program has none
+abbrev pub with_role_of : Option Role → Spelling → NameMap Role → NameMap Role
+with_role_of None name roles = roles
+with_role_of (Some role) name roles = with_new roles name role
+
+abbrev pub with_role : ℤ → ProgramLine → NameMap Role → NameMap Role
+with_role cars line roles = with_role_of (option_map role_entry (task_role cars line.task.name)) line.program.name roles
+
+-- the roles that PROGRAM lines give
+abbrev pub HasRoles : Config → List ProgramLine → NameMap Role → Type 0
+HasRoles config lines roles = (name : Spelling) → get roles name ≡ option_map role_entry (program_role config name lines)
+
+-- the variables of a unit
+pub record IsScope (config : Config) (unit : ProgramUnit) (scope : Scope) : Type 0 where
+  pub inputs : HasForms config unit.inputs scope.inputs
+  pub outputs : HasForms config unit.outputs scope.outputs
+  pub variables : HasForms config unit.variables scope.variables
+  pub externals : HasForms config unit.externals scope.externals
+
+-- the scope of each unit
+abbrev pub AreScopes : Config → List ProgramUnit → List Scope → Type 0
+AreScopes config [] [] = Unit {0}
+AreScopes config [] (scope ∷ scopes) = ⊥
+AreScopes config (unit ∷ units) [] = ⊥
+AreScopes config (unit ∷ units) (scope ∷ scopes) = IsScope config unit scope × AreScopes config units scopes
+
+-- all names of a configuration
+pub record AreTables (config : Config) (tables : Tables) : Type 0 where
+  pub units : AreUnits config tables.units
+  pub globals : HasForms config config.globals tables.globals
+  pub roles : HasRoles config config.programs tables.roles
+  pub scopes : AreScopes config config.units tables.scopes

@@ -1,0 +1,17 @@
+//! What names mean in the units of a configuration.
+#![tactic(auto)]
+
+pub mod blocks;
+pub mod entry;
+pub mod functions;
+mod image;
+mod lookup;
+mod meaning;
+mod numbers;
+pub mod roles;
+mod scoped;
+mod tables;
+mod words;
+
+pub use numbers::is_program;
+pub use scoped::Scoped;

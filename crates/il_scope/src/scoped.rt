@@ -1,0 +1,137 @@
+// Configurations with what their names mean.
+
+ghost use Rattle.std.specs.Prelude.{◌≡◌, IfOk, Some, option_map, option_and_then, slice_get};
+ghost use Rattle.il_spec.specs.declared.tree.Unit.{Unit as ProgramUnit};
+ghost use Rattle.il_rules.specs.Names.{entry_of, is_one_of, is_predeclared, meaning, program_role};
+ghost use Rattle.il_rules.specs.Declarations.{global_form, names_of_units};
+ghost use Rattle.il_scope.specs.Entries.{role_entry};
+ghost use Rattle.il_scope.specs.Views.{block_type, function_number, program_number, type_of, binding_of, variables_of_block};
+
+use crate::entry::{Binding, BlockType, Role, VariableType};
+use crate::lookup::{block_input, block_output, is_unit};
+use crate::meaning::meaning;
+use crate::numbers::{block_type, function_number, program_number};
+use crate::tables::{Tables, tables_of, type_of};
+use crate::words::is_predeclared;
+use il_spec::tree::{Config, Form};
+use std::alloc::{AllocError, Global};
+use std::marker::Model;
+
+/// A configuration with what its names mean. Units are named by their numbers, counted from 0.
+#[derive(Drop)]
+pub struct Scoped {
+    config: Config,
+    tables: Tables,
+}
+
+impl Model for Scoped {
+    ghost use Rattle.il_spec.specs.declared.tree.Config.{Config};
+    ghost use Rattle.il_scope.specs.Tables.{AreTables};
+
+    ghost Value = { Config };
+
+    ghost view = { λ s. s.config };
+
+    ghost invariant = { λ s. AreTables s.config s.tables };
+}
+
+impl Scoped {
+    /// Finds what the names of a configuration mean.
+    pub fn of(alloc: Global, config: Config) -> Result<Scoped, AllocError>
+        ensures { IfOk result (λ s. s ≡ config) }
+    {
+        let tables = tables_of(alloc, &config)?;
+        Ok(Scoped { config, tables })
+    }
+
+    /// The configuration.
+    pub fn config(&self) -> &Config
+        ensures { result.now ≡ self.now }
+    {
+        &self.config
+    }
+
+    /// The configuration, without its tables.
+    pub fn into_config(self) -> Config
+        ensures { result ≡ self }
+    {
+        self.config
+    }
+
+    /// Whether no text may declare a name again (own rule).
+    pub fn is_predeclared(&self, name: &str) -> bool
+        ensures { result ≡ is_predeclared self.now name.now }
+    {
+        is_predeclared(&self.config, name)
+    }
+
+    /// Whether a unit has a name, predeclared or not.
+    pub fn is_unit(&self, name: &str) -> bool
+        ensures { result ≡ is_one_of (names_of_units self.now) name.now }
+    {
+        is_unit(&self.tables.units, name)
+    }
+
+    /// The number of the own function of a name (IEC 61131-3:2003, 2.5.1).
+    pub fn function(&self, name: &str) -> Option<usize>
+        ensures { result ≡ function_number self.now name.now }
+    {
+        function_number(&self.config, &self.tables.units, name)
+    }
+
+    /// The number of the program of a name (2.5.3).
+    pub fn program(&self, name: &str) -> Option<usize>
+        ensures { result ≡ program_number self.now name.now }
+    {
+        program_number(&self.config, &self.tables.units, name)
+    }
+
+    /// The block of a name, standard or own (2.5.2).
+    pub fn block(&self, name: &str) -> Option<BlockType>
+        ensures { result ≡ block_type self.now name.now }
+    {
+        block_type(&self.config, &self.tables.units, name)
+    }
+
+    /// The role of the program of a name: that of the first PROGRAM line that gives it one (own rule).
+    pub fn role(&self, name: &str) -> Option<Role>
+        ensures { result ≡ option_map role_entry (program_role self.now name.now self.now.programs) }
+    {
+        self.tables.roles.get(name)
+    }
+
+    /// A written type.
+    pub fn type_of(&self, form: &Form) -> VariableType
+        ensures { result ≡ type_of self.now form.now }
+    {
+        type_of(&self.config, &self.tables.units, form)
+    }
+
+    /// The type of the first global of a name (2.4.3).
+    pub fn global(&self, name: &str) -> Option<VariableType>
+        ensures { result ≡ option_map (type_of self.now) (global_form self.now name.now) }
+    {
+        self.tables.globals.get(name)
+    }
+
+    /// What a name means in the unit of a number; none where it is unknown there (2.4.3).
+    pub fn meaning(&self, at: usize, name: &str) -> Option<Binding>
+        ensures { (unit : ProgramUnit) → slice_get self.now.units at ≡ Some unit → result ≡ option_map (binding_of self.now) (meaning self.now unit name.now) }
+    {
+        meaning(&self.config, &self.tables, at, name)
+    }
+
+    /// The type of a block's input by its word (2.5.2).
+    pub fn block_input(&self, block: BlockType, word: &str) -> Option<VariableType>
+        ensures { result ≡ option_map (type_of self.now) (option_and_then (λ b. entry_of b.inputs word.now) (variables_of_block self.now block)) }
+    {
+        block_input(&self.tables, block, word)
+    }
+
+    /// The type of a block's output by its word (2.5.2).
+    pub fn block_output(&self, block: BlockType, word: &str) -> Option<VariableType>
+        ensures { result ≡ option_map (type_of self.now) (option_and_then (λ b. entry_of b.outputs word.now) (variables_of_block self.now block)) }
+    {
+        block_output(&self.tables, block, word)
+    }
+}

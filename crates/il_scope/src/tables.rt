@@ -1,0 +1,188 @@
+// Tables of names.
+
+ghost use Rattle.std.specs.Prelude.{◌≡◌, IfOk, OnOk, map};
+ghost use Rattle.il_rules.specs.Names.{Spelling};
+ghost use Rattle.il_run.specs.NameMap as table;
+ghost use Rattle.il_scope.specs.Views.{place_of, type_of};
+ghost use Rattle.il_scope.specs.Tables.{with_new, with_role, AreUnits, HasForms, HasNames, HasRoles, IsScope, AreScopes, AreTables};
+
+use crate::entry::{Role, VariableType};
+use crate::numbers::block_type;
+use crate::roles::task_role;
+use il_spec::list::Items;
+use il_spec::tree::{Config, Declaration, Form, Named, ProgramLine, Unit};
+use il_table::Table;
+use std::alloc::{AllocError, Global};
+
+/// The variables of a unit's lists by their names; the first of a name in its list counts.
+#[derive(Drop)]
+pub struct Scope {
+    pub inputs: Table<VariableType>,
+    pub outputs: Table<VariableType>,
+    pub variables: Table<VariableType>,
+    pub externals: Table<VariableType>,
+}
+
+/// The names of a configuration.
+#[derive(Drop)]
+pub struct Tables {
+    /// The number of the first unit of a name, counted from 0.
+    pub units: Table<usize>,
+    pub globals: Table<VariableType>,
+    /// The roles of programs, by the programs' names.
+    pub roles: Table<Role>,
+    /// The scope of each unit.
+    pub scopes: Items<Scope>,
+}
+
+/// The names of a configuration.
+pub fn tables_of(alloc: Global, config: &Config) -> Result<Tables, AllocError>
+    ensures { IfOk result (λ t. AreTables config.now t) }
+{
+    let units = unit_table(alloc, config.units.as_slice())?;
+    scoped_tables(alloc, config, units)
+}
+
+// The names of a configuration with these units.
+fn scoped_tables(alloc: Global, config: &Config, units: Table<usize>) -> Result<Tables, AllocError>
+    requires { AreUnits config.now units }
+    ensures { IfOk result (λ t. AreTables config.now t) }
+{
+    let scopes = scopes(alloc, config, &units)?;
+    Ok(Tables {
+        globals: form_table(alloc, config, &units, config.globals.as_slice())?,
+        roles: role_table(alloc, config)?,
+        scopes,
+        units,
+    })
+}
+
+// The number of the first unit of each name.
+fn unit_table(alloc: Global, units: &[Unit]) -> Result<Table<usize>, AllocError>
+    ensures { IfOk result (λ t. (name : Spelling) → table.get t name ≡ place_of (map (λ u. u.name.name) units.now) name) }
+{
+    let mut table = Table::new(alloc);
+    for index in 0..units.len() {
+        put_new(alloc, &mut table, units[index].name.name.as_str(), index)?;
+    }
+    Ok(table)
+}
+
+// The role of each program: that of the first PROGRAM line that gives it one.
+fn role_table(alloc: Global, config: &Config) -> Result<Table<Role>, AllocError>
+    ensures { IfOk result (λ t. HasRoles config.now config.now.programs t) }
+{
+    let mut roles = Table::new(alloc);
+    for line in config.programs.as_slice() {
+        put_role(alloc, config.cars.value, line, &mut roles)?;
+    }
+    Ok(roles)
+}
+
+// Adds the role that a PROGRAM line gives, if its program has none.
+fn put_role(
+    alloc: Global,
+    cars: i64,
+    line: &ProgramLine,
+    roles: &mut Table<Role>,
+) -> Result<(), AllocError>
+    ensures { OnOk result (roles.new ≡ with_role cars line.now roles.old) }
+{
+    match task_role(cars, line.task.name.as_str()) {
+        Some(role) => put_new(alloc, roles, line.program.name.as_str(), role),
+        None => Ok(()),
+    }
+}
+
+// The scope of each unit.
+fn scopes(alloc: Global, config: &Config, units: &Table<usize>) -> Result<Items<Scope>, AllocError>
+    requires { AreUnits config.now units.now }
+    ensures { IfOk result (λ s. AreScopes config.now config.now.units s) }
+{
+    let mut scopes = Items::new(alloc);
+    for unit in config.units.as_slice() {
+        scopes.push(scope_of(alloc, config, units, unit)?)?;
+    }
+    Ok(scopes)
+}
+
+// The scope of a unit.
+fn scope_of(
+    alloc: Global,
+    config: &Config,
+    units: &Table<usize>,
+    unit: &Unit,
+) -> Result<Scope, AllocError>
+    requires { AreUnits config.now units.now }
+    ensures { IfOk result (λ s. IsScope config.now unit.now s) }
+{
+    Ok(Scope {
+        inputs: form_table(alloc, config, units, unit.inputs.as_slice())?,
+        outputs: form_table(alloc, config, units, unit.outputs.as_slice())?,
+        variables: form_table(alloc, config, units, unit.variables.as_slice())?,
+        externals: form_table(alloc, config, units, unit.externals.as_slice())?,
+    })
+}
+
+// The types of declared variables; the first of a name counts.
+fn form_table(
+    alloc: Global,
+    config: &Config,
+    units: &Table<usize>,
+    declarations: &[Declaration],
+) -> Result<Table<VariableType>, AllocError>
+    requires { AreUnits config.now units.now }
+    ensures { IfOk result (λ t. HasForms config.now declarations.now t) }
+{
+    let mut table = Table::new(alloc);
+    for declaration in declarations {
+        let declared = type_of(config, units, &declaration.declared.form);
+        put_names(alloc, declaration.names.as_slice(), declared, &mut table)?;
+    }
+    Ok(table)
+}
+
+// Adds the names that are not there, each with this type.
+fn put_names(
+    alloc: Global,
+    names: &[Named],
+    declared: VariableType,
+    table: &mut Table<VariableType>,
+) -> Result<(), AllocError>
+    ensures { OnOk result (HasNames names.now declared table.old table.new) }
+{
+    for named in names {
+        put_new(alloc, table, named.name.as_str(), declared)?;
+    }
+    Ok(())
+}
+
+// Adds a name with its entry, if it is not there.
+fn put_new<X: Copy>(
+    alloc: Global,
+    table: &mut Table<X>,
+    name: &str,
+    entry: X,
+) -> Result<(), AllocError>
+    ensures { OnOk result (table.new ≡ with_new table.old name.now entry) }
+{
+    if table.get(name).is_some() {
+        return Ok(());
+    }
+    table.put(alloc, name, entry)
+}
+
+/// A written type.
+pub fn type_of(config: &Config, units: &Table<usize>, form: &Form) -> VariableType
+    requires { AreUnits config.now units.now }
+    ensures { result ≡ type_of config.now form.now }
+{
+    match form {
+        Form::Scalar(scalar) => VariableType::Scalar(*scalar),
+        Form::Array { bounds, element } => VariableType::Array {
+            bounds: *bounds,
+            element: *element,
+        },
+        Form::Block(name) => VariableType::Instance(block_type(config, units, name.as_str())),
+    }
+}

@@ -1,0 +1,10 @@
+use Rattle.std.proofs.Common.{subst}
+use Rattle.il_spec.specs.declared.tree.Config.{Config}
+use Rattle.il_rules.specs.Faults.{HasNoFault, Broken, Typing, BreaksDeclarations}
+use Rattle.il_typed.proofs.container.Typed.into_config.Goals as goal
+
+pub returns-clause-declared : goal.returns-clause-declared
+returns-clause-declared c = subst (λ (d : Config). HasNoFault (BreaksDeclarations d)) c.self.view_is c.into_config.ensures.declared
+
+pub returns-clause-typed : goal.returns-clause-typed
+returns-clause-typed c = subst (λ (d : Config). HasNoFault (Broken Typing d)) c.self.view_is c.self.invariant

@@ -1,0 +1,20 @@
+use Rattle.std.proofs.Common.{ap, ◌∙◌}
+use Rattle.il_scope.proofs.Seen.{read_at}
+use Rattle.il_typed.specs.Writers.{noted, names_stored}
+use Rattle.il_typed.proofs.Programs.{nothing, nothing_past, body_noted}
+use Rattle.il_typed.proofs.writers.note_line.Goals as goal
+
+pub returns-in_default : goal.returns-in_default
+returns-in_default c = nothing c.args.names.now c.as_str.result.now c.args.line.now.program.name c.as_str.ensures c.args.number c.args.writers.now c.in_default.ensures
+
+pub returns-in_default-get : goal.returns-in_default-get
+returns-in_default-get c = nothing_past c.args.names.now c.as_str.result.now c.args.line.now.program.name c.as_str.ensures c.args.number c.in-Some.at c.args.writers.now c.as_slice.result.now c.in-Some.ensures (c.as_slice.ensures ∙ ap (λ k. k.units) c.config.ensures) c.in_default-get.ensures.lookup.3
+
+pub of-scope-requires-clause-unit : goal.of-scope-requires-clause-unit
+of-scope-requires-clause-unit c = read_at c.as_slice.result.now c.args.names.now.units c.in-Some.at c.in-Some-get.unit.now (c.as_slice.ensures ∙ ap (λ k. k.units) c.config.ensures) c.in-Some-get.ensures.lookup.3.0 c.in-Some-get.ensures.lookup.1
+
+pub returns : goal.returns
+returns c =
+    body_noted c.args.names.now c.as_str.result.now c.args.line.now.program.name c.as_str.ensures c.args.number c.in-Some.at c.args.writers.now c.note_steps.new.writers c.in-Some-get.unit.now c.of-scope.result.unit c.as_slice-2.result.now c.in-Some.ensures
+    (read_at c.as_slice.result.now c.args.names.now.units c.in-Some.at c.in-Some-get.unit.now (c.as_slice.ensures ∙ ap (λ k. k.units) c.config.ensures) c.in-Some-get.ensures.lookup.3.0 c.in-Some-get.ensures.lookup.1) c.of-scope.ensures.unit c.as_slice-2.ensures
+    (c.in_ok-note_steps.ensures ∙ ap (λ l. noted l c.args.number c.of-scope.result.unit c.args.writers.now (names_stored c.as_slice-2.result.now)) (c.as_slice-lines.ensures ∙ ap (λ k. k.programs) c.config-2.ensures))

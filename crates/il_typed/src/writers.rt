@@ -1,0 +1,314 @@
+// Globals that two tasks write (own rule).
+
+ghost use Rattle.std.specs.Prelude.{◌≡◌, IfOk, Some, map, flat_map, slice_get, length};
+ghost use Rattle.std.specs.List.{list_any};
+ghost use Rattle.il_rules.specs.Names.{program_named};
+ghost use Rattle.il_rules.specs.Types.{argument_targets, named_variable, stored_names};
+ghost use Rattle.il_found.specs.Least.{IsLeast};
+ghost use Rattle.il_results.specs.Faults.{HasStoreOfTwo};
+ghost use Rattle.il_typed.specs.Units.{input_types};
+ghost use Rattle.il_typed.specs.Writers.{is_same_task, writer_after, note, noted, noted_line, names_stored, is_several, is_shared, stores_shared, HasSharedStore, HasSharedStores, AreWriters};
+
+use crate::fault::TypeFault;
+use crate::names::UnitNames;
+use crate::unit_inputs::InputTypes;
+use il_found::{Found, earlier, fault_if};
+use il_scope::Scoped;
+use il_spec::tree::{Argument, Instruction, ProgramLine, Reference, Step, Unit};
+use il_table::Table;
+use std::alloc::{AllocError, Global};
+
+/// Who writes a global: the task of a PROGRAM line, by the line's number, or several tasks.
+#[derive(Clone, Copy, Debug, PartialEq, Eq)]
+pub enum Writer {
+    Task(usize),
+    Several,
+}
+
+/// The first store into a global that two tasks write (38).
+pub fn writers_fault(
+    alloc: Global,
+    names: &Scoped,
+    inputs: &InputTypes,
+) -> Result<Option<Found<TypeFault>>, AllocError>
+    requires { inputs.now ≡ map input_types names.now.units }
+    ensures { IfOk result (λ found. IsLeast found (HasStoreOfTwo names.now)) }
+{
+    let writers = writers_of(alloc, names, inputs)?;
+    Ok(shared_fault(names, inputs, &writers))
+}
+
+// Who writes each global.
+fn writers_of(
+    alloc: Global,
+    names: &Scoped,
+    inputs: &InputTypes,
+) -> Result<Table<Writer>, AllocError>
+    requires { inputs.now ≡ map input_types names.now.units }
+    ensures { IfOk result (λ t. AreWriters names.now (length names.now.programs) t) }
+{
+    let lines = names.config().programs.as_slice();
+    let mut writers = Table::new(alloc);
+    for line in 0..lines.len() {
+        note_line(alloc, names, inputs, line, &lines[line], &mut writers)?;
+    }
+    Ok(writers)
+}
+
+// Notes what the program of a PROGRAM line writes.
+fn note_line(
+    alloc: Global,
+    names: &Scoped,
+    inputs: &InputTypes,
+    number: usize,
+    line: &ProgramLine,
+    writers: &mut Table<Writer>,
+) -> Result<(), AllocError>
+    requires { inputs.now ≡ map input_types names.now.units }
+    ensures { IfOk result (λ _. writers.new ≡ noted_line names.now.programs number (program_named names.now line.now.program.name) writers.old) }
+{
+    let Some(at) = names.program(line.program.name.as_str()) else {
+        return Ok(());
+    };
+    let Some(unit) = names.config().units.as_slice().get(at) else {
+        return Ok(());
+    };
+    let scope = UnitNames::of(names, inputs, at, unit);
+    let lines = names.config().programs.as_slice();
+    note_steps(
+        alloc,
+        lines,
+        number,
+        &scope,
+        unit.body.steps.as_slice(),
+        writers,
+    )?;
+    Ok(())
+}
+
+// Notes what instructions store into.
+fn note_steps(
+    alloc: Global,
+    lines: &[ProgramLine],
+    line: usize,
+    scope: &UnitNames,
+    steps: &[Step],
+    writers: &mut Table<Writer>,
+) -> Result<(), AllocError>
+    ensures { IfOk result (λ _. writers.new ≡ noted lines.now line scope.now.unit writers.old (names_stored steps.now)) }
+{
+    for step in steps {
+        note_stores(alloc, lines, line, scope, &step.instruction, writers)?;
+    }
+    Ok(())
+}
+
+// Notes what an instruction stores into.
+fn note_stores(
+    alloc: Global,
+    lines: &[ProgramLine],
+    line: usize,
+    scope: &UnitNames,
+    instruction: &Instruction,
+    writers: &mut Table<Writer>,
+) -> Result<(), AllocError>
+    ensures { IfOk result (λ _. writers.new ≡ noted lines.now line scope.now.unit writers.old (stored_names instruction.now)) }
+{
+    match instruction {
+        Instruction::Store { target, .. } => {
+            note_target(alloc, lines, line, scope, &target.reference, writers)
+        }
+        Instruction::Call { arguments, .. } => {
+            note_outputs(alloc, lines, line, scope, arguments.as_slice(), writers)
+        }
+        _ => Ok(()),
+    }
+}
+
+// Notes the target of a store.
+fn note_target(
+    alloc: Global,
+    lines: &[ProgramLine],
+    line: usize,
+    scope: &UnitNames,
+    target: &Reference,
+    writers: &mut Table<Writer>,
+) -> Result<(), AllocError>
+    ensures { IfOk result (λ _. writers.new ≡ noted lines.now line scope.now.unit writers.old (named_variable target.now)) }
+{
+    match target {
+        Reference::Variable(name) => note(alloc, lines, line, scope, name.as_str(), writers),
+        Reference::Element(name, _) => note(alloc, lines, line, scope, name.as_str(), writers),
+        _ => Ok(()),
+    }
+}
+
+// Notes the targets of outputs.
+fn note_outputs(
+    alloc: Global,
+    lines: &[ProgramLine],
+    line: usize,
+    scope: &UnitNames,
+    arguments: &[Argument],
+    writers: &mut Table<Writer>,
+) -> Result<(), AllocError>
+    ensures { IfOk result (λ _. writers.new ≡ noted lines.now line scope.now.unit writers.old (flat_map argument_targets arguments.now)) }
+{
+    for argument in arguments {
+        note_output(alloc, lines, line, scope, argument, writers)?;
+    }
+    Ok(())
+}
+
+// Notes the target of an output.
+fn note_output(
+    alloc: Global,
+    lines: &[ProgramLine],
+    line: usize,
+    scope: &UnitNames,
+    argument: &Argument,
+    writers: &mut Table<Writer>,
+) -> Result<(), AllocError>
+    ensures { IfOk result (λ _. writers.new ≡ noted lines.now line scope.now.unit writers.old (argument_targets argument.now)) }
+{
+    match argument {
+        Argument::Output { target, .. } => {
+            note(alloc, lines, line, scope, target.name.as_str(), writers)
+        }
+        Argument::Input { .. } => Ok(()),
+    }
+}
+
+// Notes a name, if it is a global.
+fn note(
+    alloc: Global,
+    lines: &[ProgramLine],
+    line: usize,
+    scope: &UnitNames,
+    name: &str,
+    writers: &mut Table<Writer>,
+) -> Result<(), AllocError>
+    ensures { IfOk result (λ _. writers.new ≡ note lines.now line scope.now.unit writers.old name.now) }
+{
+    if !scope.is_external(name) {
+        return Ok(());
+    }
+    let writer = writer_after(lines, line, writers.get(name));
+    writers.put(alloc, name, writer)
+}
+
+// Who writes a global that the program of a PROGRAM line writes too.
+fn writer_after(lines: &[ProgramLine], line: usize, before: Option<Writer>) -> Writer
+    ensures { result ≡ writer_after lines.now line before }
+{
+    match before {
+        None => Writer::Task(line),
+        Some(Writer::Task(first)) => {
+            if is_same_task(lines, first, line) {
+                Writer::Task(first)
+            } else {
+                Writer::Several
+            }
+        }
+        Some(Writer::Several) => Writer::Several,
+    }
+}
+
+// Whether two PROGRAM lines name one task.
+fn is_same_task(lines: &[ProgramLine], one: usize, other: usize) -> bool
+    ensures { result ≡ is_same_task lines.now one other }
+{
+    match (lines.get(one), lines.get(other)) {
+        (Some(a), Some(b)) => a.task.name.as_str() == b.task.name.as_str(),
+        _ => false,
+    }
+}
+
+// The first store into a global of several writers.
+fn shared_fault(
+    names: &Scoped,
+    inputs: &InputTypes,
+    writers: &Table<Writer>,
+) -> Option<Found<TypeFault>>
+    requires { inputs.now ≡ map input_types names.now.units }
+    ensures { IsLeast result (HasSharedStores writers.now names.now.units) }
+{
+    let units = names.config().units.as_slice();
+    let mut found = None;
+    for at in 0..units.len() {
+        let unit = &units[at];
+        let scope = UnitNames::of(names, inputs, at, unit);
+        found = earlier(found, unit_shared_fault(&scope, unit, writers));
+    }
+    found
+}
+
+// The same in a unit.
+fn unit_shared_fault(
+    scope: &UnitNames,
+    unit: &Unit,
+    writers: &Table<Writer>,
+) -> Option<Found<TypeFault>>
+    requires { scope.now.unit ≡ unit.now }
+    ensures { IsLeast result (HasSharedStore writers.now unit.now) }
+{
+    let mut found = None;
+    for step in unit.body.steps.as_slice() {
+        let shared = stores_shared(scope, writers, &step.instruction);
+        found = earlier(found, fault_if(shared, TypeFault::TwoWriters, step.place));
+    }
+    found
+}
+
+// Whether an instruction stores into a global of several writers.
+fn stores_shared(scope: &UnitNames, writers: &Table<Writer>, instruction: &Instruction) -> bool
+    ensures { result ≡ list_any (is_shared scope.now.unit writers.now) (stored_names instruction.now) }
+{
+    match instruction {
+        Instruction::Store { target, .. } => is_target_shared(scope, writers, &target.reference),
+        Instruction::Call { arguments, .. } => {
+            is_output_shared(scope, writers, arguments.as_slice())
+        }
+        _ => false,
+    }
+}
+
+// Whether the target of a store is such a global.
+fn is_target_shared(scope: &UnitNames, writers: &Table<Writer>, target: &Reference) -> bool
+    ensures { result ≡ list_any (is_shared scope.now.unit writers.now) (named_variable target.now) }
+{
+    match target {
+        Reference::Variable(name) => is_shared(scope, writers, name.as_str()),
+        Reference::Element(name, _) => is_shared(scope, writers, name.as_str()),
+        _ => false,
+    }
+}
+
+// Whether the target of one of the outputs is such a global.
+fn is_output_shared(scope: &UnitNames, writers: &Table<Writer>, arguments: &[Argument]) -> bool
+    ensures { result ≡ list_any (is_shared scope.now.unit writers.now) (flat_map argument_targets arguments.now) }
+{
+    let mut shared = false;
+    for argument in arguments {
+        let here = is_argument_shared(scope, writers, argument);
+        shared = shared || here;
+    }
+    shared
+}
+
+// The same of one argument.
+fn is_argument_shared(scope: &UnitNames, writers: &Table<Writer>, argument: &Argument) -> bool
+    ensures { result ≡ list_any (is_shared scope.now.unit writers.now) (argument_targets argument.now) }
+{
+    match argument {
+        Argument::Output { target, .. } => is_shared(scope, writers, target.name.as_str()),
+        Argument::Input { .. } => false,
+    }
+}
+
+// Whether a name is a global of several writers.
+fn is_shared(scope: &UnitNames, writers: &Table<Writer>, name: &str) -> bool
+    ensures { result ≡ is_shared scope.now.unit writers.now name.now }
+{
+    scope.is_external(name) && matches!(writers.get(name), Some(Writer::Several))
+}
