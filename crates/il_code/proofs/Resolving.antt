@@ -1,6 +1,6 @@
 -- What is ordered is resolved.
 use Rattle.il_spec.specs.declared.tree.Config.{Config}
-use Rattle.il_order.specs.InOrder.{IsOrdered}
+use Rattle.il_stage.specs.Checked.{IsOrdered}
 use Rattle.il_code.specs.Resolved.{IsResolved}
 
 pub resolved_of : (c : Config) → IsOrdered c → IsResolved c

@@ -1,2 +1,0 @@
-pub mod Uses
-pub mod Slots

@@ -1,3 +1,1 @@
-pub mod Counted
-pub mod InOrder
 pub mod OrderFaults

@@ -9,11 +9,11 @@ use Rattle.il_spec.specs.declared.tree.Task.{Task}
 use Rattle.il_spec.specs.declared.tree.ProgramLine.{ProgramLine}
 use Rattle.il_rules.specs.Names.{Spelling, or_else, CarRole, GroupRole, is_program_kind, unit_named, car_number, task_role, program_role}
 use Rattle.il_rules.specs.Declarations.{names_of_tasks, predeclared_unit, size_outside, unknown_task, missing_task, unused_program}
-use Rattle.il_rules.specs.Faults.{HasNoFault, BreaksDeclarations, duplicate, initial_outside, bad_task}
+use Rattle.il_rules.specs.Faults.{HasNoFault, BreaksDeclarations, Broken, Typing, Ordering, duplicate, initial_outside, bad_task}
 use Rattle.il_rules.specs.Subset.{IsSupported, broken}
 use Rattle.il_rules.specs.Symbols.{IsProgram}
 use Rattle.il_stage.specs.Stage.{later_places}
-use Rattle.il_stage.specs.Checked.{IsDeclared}
+use Rattle.il_stage.specs.Checked.{IsDeclared, IsOrdered}
 use Rattle.il_stage.proofs.Single.{only_one}
 use Rattle.il_stage.proofs.Support.{supported_is, none_broken}
 
@@ -95,6 +95,10 @@ program_is c s fine = record { alone = s.alone; named = named_is c s fine; role 
 -- where nothing stands that isn't run, the configuration is checked
 pub declared_is : (c : Config) → HasNoFault (BreaksDeclarations c) → later_places c ≡ [] → IsDeclared c
 declared_is c fine none = record { supported = supported_is c none; program = program_is c (supported_is c none) fine; declared = none_broken c none fine }
+
+-- and what breaks nothing of types and order is run
+pub ordered_is : (c : Config) → HasNoFault (BreaksDeclarations c) → HasNoFault (Broken Typing c) → HasNoFault (Broken Ordering c) → later_places c ≡ [] → IsOrdered c
+ordered_is c fine typed ordered none = record { typed = record { declared = declared_is c fine none; typed = typed }; ordered = ordered }
 
 -- and breaks nothing of declarations
 pub unbroken : (c : Config) → IsDeclared c → HasNoFault (BreaksDeclarations c)

@@ -13,14 +13,14 @@ ghost use Rattle.std.specs.Prelude.{◌≡◌, [], IfOk, IfErr};
 ghost use Rattle.il_rules.specs.Faults.{IsRefusedBy};
 ghost use Rattle.il_rules.specs.Subset.{AreSupportedVariables};
 ghost use Rattle.il_stage.specs.Stage.{later_places, IsLater};
-ghost use Rattle.il_stage.specs.Checked.{IsDeclared, AreSymbols};
+ghost use Rattle.il_stage.specs.Checked.{IsDeclared, IsOrdered, AreSymbols};
 ghost use Rattle.il_stage.specs.Variables.{IsTableOf};
 
 use crate::first::later_place;
 use crate::image::add_image;
 use crate::variables::own_symbols;
 pub use checked::Supported;
-use il_declare::Declared;
+use il_order::Ordered;
 use il_rules::symbol::Symbol;
 use il_scope::Scoped;
 use il_spec::fault::Refusal;
@@ -31,16 +31,16 @@ use std::alloc::{AllocError, Global};
 /// The fault of what isn't run yet.
 const LATER: u16 = 90;
 
-/// What is run so far of a configuration whose declarations are checked; at the first of anything else it is refused with fault 90.
+/// What is run so far of a configuration in which no rule is broken; at the first of anything else it is refused with fault 90.
 /// Run are: one program of variables of type BOOL, INT or a subrange of INT and of the instructions LD, LDN, ST, STN, NOT, AND, OR, ADD, SUB
 /// and LIMIT with literals, variables and some names of the image, without labels; no globals, one TASK line and one PROGRAM line (own rule).
-pub fn supported(alloc: Global, declared: Declared) -> Result<Supported, Refusal>
-    ensures same { IfOk result (λ s. s ≡ declared) }
-    ensures accepted { IfOk result (λ s. IsDeclared s) }
-    ensures refused { IfErr result (IsRefusedBy (IsLater declared)) }
+pub fn supported(alloc: Global, ordered: Ordered) -> Result<Supported, Refusal>
+    ensures same { IfOk result (λ s. s ≡ ordered) }
+    ensures accepted { IfOk result (λ s. IsOrdered s) }
+    ensures refused { IfErr result (IsRefusedBy (IsLater ordered)) }
 {
-    check(declared.names())?;
-    Ok(with_symbols(alloc, declared.into_config())?)
+    check(ordered.names())?;
+    Ok(with_symbols(alloc, ordered.into_config())?)
 }
 
 // Refuses what isn't run yet.
@@ -59,7 +59,7 @@ fn check(names: &Scoped) -> Result<(), Refusal>
 
 // Finds what the names of a checked configuration mean.
 fn with_symbols(alloc: Global, config: Config) -> Result<Supported, AllocError>
-    requires { IsDeclared config }
+    requires { IsOrdered config }
     ensures { IfOk result (λ s. s ≡ config) }
 {
     let symbols = symbols(alloc, &config)?;

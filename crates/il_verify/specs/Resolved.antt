@@ -11,7 +11,7 @@ use Rattle.il_rules.specs.Symbols.{IsProgram, symbol_of}
 use Rattle.il_rules.specs.Subset.{IsSupportedProgram, BreaksInSubset}
 use Rattle.il_rules.specs.Faults.{Typing, HasNoFault, Broken}
 use Rattle.il_code.specs.Resolved.{IsResolved}
-use Rattle.il_order.specs.InOrder.{IsOrdered}
+use Rattle.il_stage.specs.Checked.{IsOrdered}
 use Rattle.il_run.specs.NameMap.{NameMap, get}
 use Rattle.il_run.specs.Annotation.{Knowledge, Annotated, IsFirstWithout}
 use Rattle.il_least.specs.Refused.{IsLeastAt}

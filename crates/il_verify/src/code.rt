@@ -7,7 +7,7 @@ ghost use Rattle.il_rules.specs.Symbols.{IsProgram, symbol_of};
 ghost use Rattle.il_run.specs.Annotation.{Annotated};
 ghost use Rattle.il_run.specs.NameMap.{NameMap};
 ghost use Rattle.il_rules.specs.declared.symbol.Symbol.{Symbol};
-ghost use Rattle.il_order.specs.InOrder.{IsOrdered};
+ghost use Rattle.il_stage.specs.Checked.{IsOrdered};
 ghost use Rattle.il_code.specs.Resolved.{IsResolved, AreSymbols};
 ghost use Rattle.il_verify.specs.Resolved.{IsChecked};
 

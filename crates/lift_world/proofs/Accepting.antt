@@ -26,8 +26,9 @@ use Rattle.il_spec.specs.declared.tree.Unit.{Unit as Organized}
 use Rattle.il_rules.specs.Faults.{Declaring, Typing, Ordering, initial_outside, bad_task, HasNoFault, Broken}
 use Rattle.il_machine.specs.Scanning.{IsRunnable, IsWithin, HasSizes}
 use Rattle.il_parse.specs.Refused.{IsSmall, IsFault}
+use Rattle.il_stage.specs.Checked.{IsOrdered}
 use Rattle.il_stage.proofs.Support.{nothing_refused}
-use Rattle.lift_world.specs.Loading.{IsSpelled, IsAccepted, IsRefusedFor, by_declarations, by_stage, by_types, by_order, by_ranges}
+use Rattle.lift_world.specs.Loading.{IsSpelled, IsAccepted, IsRefusedFor, by_declarations, by_types, by_order, by_stage, by_ranges}
 use Rattle.lift_world.proofs.Tasking.{is_one, only_task, tasked}
 
 -- SIZES
@@ -83,9 +84,9 @@ has_sizes c supported unbroken =
 -- what is named is broken, or has no ranges
 names_broken : {text : List ℕ} (c : Config) (number line : ℕ) → IsRefusedFor c (Fault number line) → IsAccepted text c → ⊥
 names_broken c number line (by_declarations (place, first, at)) a = a.declared number place (broken first.broken)
-names_broken c number line (by_stage declared (place, first, at)) a = nothing_refused c a.supported a.declared number place first.broken
-names_broken c number line (by_types carried unbroken (place, first, at)) a = a.typed number place first.broken
-names_broken c number line (by_order carried unbroken fine (place, first, at)) a = a.ordered number place first.broken
+names_broken c number line (by_types declared (place, first, at)) a = a.typed number place first.broken
+names_broken c number line (by_order declared typed (place, first, at)) a = a.ordered number place first.broken
+names_broken c number line (by_stage declared typed ordered (place, first, at)) a = nothing_refused c a.supported a.declared number place first.broken
 names_broken c number line (by_ranges carried unbroken fine fit (u, s, program, first, at)) a =
     let found = a.annotated u (among_units c u program.alone) in
     first.first.none found.0 (record { entry = found.1.entry; each = λ place k below is. found.1.each place k (within_body first.at (length u.body.steps) place (slice_get_within u.body.steps first.at s first.stands) below) is })
@@ -126,8 +127,10 @@ named_judged {X} found e (Ok x) c is refused same = absurd same
 named_judged {X} found e (Err d) c is refused same = subst (λ f. IsRefusedFor f d) (sym is) (subst (IsRefusedFor found) (sym same) refused)
 
 -- what was parsed, judged and verified is accepted
-pub accepted_is : (text : List ℕ) (c checked : Config) → checked ≡ c → IsSpelled text c → IsSupported c → HasNoFault (BreaksInSubset c) → HasNoFault (Broken Typing c) → HasNoFault (Broken Ordering c) → Annotated checked → IsAccepted text checked
-accepted_is text c checked same spelled supported declared typed ordered annotated = subst (IsAccepted text) (sym same) (record { spelled = spelled; supported = supported; declared = declared; typed = typed; ordered = ordered; annotated = subst Annotated same annotated })
+pub accepted_is : (text : List ℕ) (c checked : Config) → checked ≡ c → IsSpelled text c → IsOrdered c → Annotated checked → IsAccepted text checked
+accepted_is text c checked same spelled run annotated =
+    subst (IsAccepted text) (sym same)
+    (record { spelled = spelled; supported = run.typed.declared.supported; declared = run.typed.declared.declared; typed = run.typed.typed; ordered = run.ordered; annotated = subst Annotated same annotated })
 
 -- nothing of declarations is broken
 pub unbroken_is : (c : Config) → HasNoFault (BreaksInSubset c) → HasNoFault (Broken Declaring c)

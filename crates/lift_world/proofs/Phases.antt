@@ -1,20 +1,22 @@
 -- What the refusal of a phase says of the text.
-use Rattle.std.proofs.Common.{◌≡◌, ℕ, ◌≤◌, List, [], length, subst, ◌∙◌, Result}
+use Rattle.std.proofs.Common.{◌≡◌, ℕ, ◌≤◌, List, [], length, subst, sym, ◌∙◌, Result, arith}
 use Rattle.std.specs.Prelude.{IsErrAnd, IfErr}
+use Rattle.std.proofs.lemmas.Option.{slice_get_within, get_or_from_slice_get}
 use Rattle.il_spec.specs.declared.tree.Config.{Config}
+use Rattle.il_spec.specs.declared.tree.Unit.{Unit as Organized}
 use Rattle.il_spec.specs.declared.token.Token.{Token}
 use Rattle.il_spec.specs.declared.fault.Refusal.{Refusal}
 use Rattle.il_spec.specs.declared.fault.Refusal.TheVariants.{Memory}
 use Rattle.il_spec.specs.Text.{AreTokens}
 use Rattle.il_spec.specs.Grammar.{AfterLines, SpellsConfig, Spells, IsWithinLimits}
-use Rattle.il_rules.specs.Subset.{IsSupported, BreaksInSubset}
 use Rattle.il_rules.specs.Faults.{HasNoFault, IsRefusedBy, BreaksDeclarations, Broken, Typing, Ordering}
+use Rattle.il_typed.specs.Judged.{AreShort}
 use Rattle.il_stage.specs.Stage.{IsLater}
-use Rattle.il_stage.specs.Checked.{IsDeclared}
+use Rattle.il_stage.specs.Checked.{IsOrdered}
 use Rattle.il_parse.specs.Refused.{IsFault}
 use Rattle.il_verify.specs.Resolved.{IsUnannotatedBy}
 use Rattle.il_run.specs.Annotation.{Annotated}
-use Rattle.lift_world.specs.Loading.{IsSpelled, IsAccepted, IsRefusedFor, by_declarations, by_stage, by_types, by_order, by_ranges, IsExplained}
+use Rattle.lift_world.specs.Loading.{IsSpelled, IsAccepted, IsRefusedFor, by_declarations, by_types, by_order, by_stage, by_ranges, IsExplained}
 use Rattle.lift_world.proofs.Explaining.{handed_as, explained_by_tree}
 use Rattle.lift_world.proofs.Accepting.{handed_on, same_spelled, none_judged, named_judged, accepted_is}
 
@@ -54,24 +56,32 @@ no_fault r same fault = handed_on Config Memory r same fault
 pub at_declarations : (c : Config) (e : Refusal) → IsRefusedBy (BreaksDeclarations c) e → IsRefusedFor c e
 at_declarations c e refused = by_declarations refused
 
-pub at_stage : (c handed : Config) (e : Refusal) → handed ≡ c → HasNoFault (BreaksDeclarations c) → IsRefusedBy (IsLater handed) e → IsRefusedFor c e
-at_stage c handed e is declared refused = by_stage declared (subst (λ d. IsRefusedBy (IsLater d) e) is refused)
+pub at_types : (c declared : Config) (e : Refusal) → declared ≡ c → HasNoFault (BreaksDeclarations c) → IsRefusedBy (Broken Typing declared) e → IsRefusedFor c e
+at_types c declared e is fine refused = by_types fine (subst (λ d. IsRefusedBy (Broken Typing d) e) is refused)
 
-pub at_types : (c supported : Config) (e : Refusal) → supported ≡ c → IsDeclared supported → IsRefusedBy (Broken Typing supported) e → IsRefusedFor c e
-at_types c supported e is checked refused = by_types (subst IsSupported is checked.supported) (subst (λ d. HasNoFault (BreaksInSubset d)) is checked.declared) (subst (λ d. IsRefusedBy (Broken Typing d) e) is refused)
+pub at_order : (c declared typed : Config) (e : Refusal) → declared ≡ c → typed ≡ declared → HasNoFault (BreaksDeclarations c) → HasNoFault (Broken Typing declared) → IsRefusedBy (Broken Ordering typed) e → IsRefusedFor c e
+at_order c declared typed e is is_typed fine well_typed refused =
+    by_order fine (subst (λ d. HasNoFault (Broken Typing d)) is well_typed) (subst (λ d. IsRefusedBy (Broken Ordering d) e) (is_typed ∙ is) refused)
 
-pub at_order : (c supported typed : Config) (e : Refusal) → supported ≡ c → typed ≡ supported → IsDeclared supported → HasNoFault (Broken Typing supported) → IsRefusedBy (Broken Ordering typed) e → IsRefusedFor c e
-at_order c supported typed e is is_typed checked well_typed refused =
-    by_order (subst IsSupported is checked.supported) (subst (λ d. HasNoFault (BreaksInSubset d)) is checked.declared) (subst (λ d. HasNoFault (Broken Typing d)) is well_typed)
-    (subst (λ d. IsRefusedBy (Broken Ordering d) e) (is_typed ∙ is) refused)
+pub at_stage : (c declared typed ordered : Config) (e : Refusal) → declared ≡ c → typed ≡ declared → ordered ≡ typed → HasNoFault (BreaksDeclarations c) → HasNoFault (Broken Typing declared) → HasNoFault (Broken Ordering typed) → IsRefusedBy (IsLater ordered) e → IsRefusedFor c e
+at_stage c declared typed ordered e is is_typed is_ordered fine well_typed in_order refused =
+    by_stage fine (subst (λ d. HasNoFault (Broken Typing d)) is well_typed) (subst (λ d. HasNoFault (Broken Ordering d)) (is_typed ∙ is) in_order)
+    (subst (λ d. IsRefusedBy (IsLater d) e) (is_ordered ∙ is_typed ∙ is) refused)
 
-pub at_ranges : (c supported typed code : Config) (e : Refusal) → supported ≡ c → typed ≡ supported → code ≡ typed → IsDeclared supported → HasNoFault (Broken Typing supported) → HasNoFault (Broken Ordering typed) → IsUnannotatedBy code e → IsRefusedFor c e
-at_ranges c supported typed code e is is_typed is_code checked well_typed in_order refused =
-    by_ranges (subst IsSupported is checked.supported) (subst (λ d. HasNoFault (BreaksInSubset d)) is checked.declared) (subst (λ d. HasNoFault (Broken Typing d)) is well_typed)
-    (subst (λ d. HasNoFault (Broken Ordering d)) (is_typed ∙ is) in_order) (subst (λ d. IsUnannotatedBy d e) (is_code ∙ is_typed ∙ is) refused)
+pub at_ranges : (c supported code : Config) (e : Refusal) → supported ≡ c → code ≡ supported → IsOrdered supported → IsUnannotatedBy code e → IsRefusedFor c e
+at_ranges c supported code e is is_code run refused =
+    let there = subst IsOrdered is run in
+    by_ranges there.typed.declared.supported there.typed.declared.declared there.typed.typed there.ordered (subst (λ d. IsUnannotatedBy d e) (is_code ∙ is) refused)
+
+-- what the limits allow is short
+pub within_short : (text : List ℕ) (c declared : Config) → declared ≡ c → IsWithinLimits text c → AreShort declared.units
+within_short text c declared is limits = subst (λ (d : Config). AreShort d.units) (sym is) short
+  where
+    short : AreShort c.units
+    short at unit stands =
+        let few = subst (λ (v : Organized). length v.body.steps ≤ 4096) (get_or_from_slice_get c.units at unit unit stands) (limits.instructions at unit (slice_get_within c.units at unit stands)) in
+        omega (arith, few)
 
 -- where none refuses
-pub accepted_by : (text : List ℕ) (c supported typed checked : Config) → supported ≡ c → typed ≡ supported → checked ≡ typed → SpellsOnly text c → IsDeclared supported → HasNoFault (Broken Typing supported) → HasNoFault (Broken Ordering typed) → Annotated checked → IsAccepted text checked
-accepted_by text c supported typed checked is is_typed is_checked s declared well_typed in_order annotated =
-    accepted_is text c checked (is_checked ∙ is_typed ∙ is) s.spelled (subst IsSupported is declared.supported) (subst (λ d. HasNoFault (BreaksInSubset d)) is declared.declared) (subst (λ d. HasNoFault (Broken Typing d)) is well_typed)
-    (subst (λ d. HasNoFault (Broken Ordering d)) (is_typed ∙ is) in_order) annotated
+pub accepted_by : (text : List ℕ) (c supported checked : Config) → supported ≡ c → checked ≡ supported → SpellsOnly text c → IsOrdered supported → Annotated checked → IsAccepted text checked
+accepted_by text c supported checked is is_checked s run annotated = accepted_is text c checked (is_checked ∙ is) s.spelled (subst IsOrdered is run) annotated

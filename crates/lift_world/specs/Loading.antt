@@ -26,13 +26,13 @@ pub record IsAccepted (text : List ℕ) (c : Config) : Type 0 where
   pub ordered : HasNoFault (Broken Ordering c)
   pub annotated : Annotated c
 
--- The fault that is named: the first of declarations; where those break nothing, the first construct or name of the image that is not run yet (90); where everything is run, the
--- first of types; then the first of order; and then the first instruction without ranges.
+-- The fault that is named: the first of declarations; where those break nothing, the first of types; then the first of order; where nothing of these is broken, the first
+-- construct or name of the image that is not run yet (90); and where everything is run, the first instruction without ranges.
 pub data IsRefusedFor (c : Config) (refusal : Refusal) : Type 0 where
   by_declarations : IsRefusedBy (BreaksDeclarations c) refusal → IsRefusedFor c refusal
-  by_stage : HasNoFault (BreaksDeclarations c) → IsRefusedBy (IsLater c) refusal → IsRefusedFor c refusal
-  by_types : IsSupported c → HasNoFault (BreaksInSubset c) → IsRefusedBy (Broken Typing c) refusal → IsRefusedFor c refusal
-  by_order : IsSupported c → HasNoFault (BreaksInSubset c) → HasNoFault (Broken Typing c) → IsRefusedBy (Broken Ordering c) refusal → IsRefusedFor c refusal
+  by_types : HasNoFault (BreaksDeclarations c) → IsRefusedBy (Broken Typing c) refusal → IsRefusedFor c refusal
+  by_order : HasNoFault (BreaksDeclarations c) → HasNoFault (Broken Typing c) → IsRefusedBy (Broken Ordering c) refusal → IsRefusedFor c refusal
+  by_stage : HasNoFault (BreaksDeclarations c) → HasNoFault (Broken Typing c) → HasNoFault (Broken Ordering c) → IsRefusedBy (IsLater c) refusal → IsRefusedFor c refusal
   by_ranges : IsSupported c → HasNoFault (BreaksInSubset c) → HasNoFault (Broken Typing c) → HasNoFault (Broken Ordering c) → IsUnannotatedBy c refusal → IsRefusedFor c refusal
 
 -- The text spells a configuration, and this is the fault of its declarations, constructs, types, order or ranges.

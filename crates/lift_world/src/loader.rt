@@ -17,15 +17,15 @@ use il_spec::list::Items;
 use il_spec::tree::{Config, Unit};
 use il_stage::supported;
 use il_text::tokens;
-use il_types::typed;
+use il_typed::typed;
 use il_verify::{Checked, verify};
 use std::alloc::{AllocError, Global};
 
 /// The configuration that a text spells, verified.
 ///
 /// A text is refused with the first fault of these phases, in their order: tokens (1 to 6), grammar (10 to 12), declarations (20 to 25),
-/// what is not run yet (90), types (30 to 33, 37), order and slots (12), ranges (40, 43). From 20 on it is the phase's fault at the earliest
-/// place, at one place the one with the lowest number.
+/// types (30 to 35, 37 to 39), order and slots (36, 46, 12), what is not run yet (90), ranges (40, 43). From 20 on it is the phase's fault at
+/// the earliest place, at one place the one with the lowest number.
 pub fn load(alloc: Global, text: &[u8]) -> Result<Verified, Refusal>
     ensures found { IfOk result (λ v. IsAccepted text.now v.config) }
     ensures costs { IfOk result (λ v. v.costs ≡ map cost_of v.config.units) }
@@ -37,10 +37,10 @@ pub fn load(alloc: Global, text: &[u8]) -> Result<Verified, Refusal>
     let tokens = tokens(alloc, text)?;
     let config = parse(alloc, text, &tokens)?;
     let declared = declare(alloc, config)?;
-    let supported = supported(alloc, declared)?;
-    let typed = typed(supported)?;
-    let ordered = ordered(typed)?;
-    let code = code(alloc, ordered)?;
+    let typed = typed(alloc, declared)?;
+    let ordered = ordered(alloc, typed)?;
+    let supported = supported(alloc, ordered)?;
+    let code = code(alloc, supported)?;
     let checked = verify(alloc, code)?;
     let budget = budget(alloc, &checked)?;
     Ok(Verified::of(checked, budget))

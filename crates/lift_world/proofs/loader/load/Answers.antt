@@ -10,7 +10,7 @@ use Rattle.lift_world.proofs.Costs.{straight_costs}
 use Rattle.lift_world.proofs.Explaining.{handed_as, explained_by_tokens, explained_by_parser}
 use Rattle.il_grammar.proofs.Spelled.{spelled_written}
 use Rattle.lift_world.proofs.Accepting.{handed_on, none_spelled, runnable_is}
-use Rattle.lift_world.proofs.Phases.{spells_only, refuses, names, explains, no_fault, at_declarations, at_stage, at_types, at_order, at_ranges, accepted_by}
+use Rattle.lift_world.proofs.Phases.{spells_only, refuses, names, explains, no_fault, within_short, at_declarations, at_types, at_order, at_stage, at_ranges, accepted_by}
 use Rattle.lift_world.proofs.loader.load.Goals as goal
 
 -- TOKENS AND GRAMMAR
@@ -54,50 +54,27 @@ returns-in_err-declared-clause-number c =
     (at_declarations c.in_ok-config.config c.in_err-declared.field-0.0 c.in_err-declared.ensures.refused)
     c.from_residual-in_err-declared.ensures.1
 
--- WHAT IS NOT RUN YET
-
-pub returns-in_err-supported-clause-refused : goal.returns-in_err-supported-clause-refused
-returns-in_err-supported-clause-refused c =
-    refuses c.args.text.now c.in_ok-config.config c.in_err-supported.field-0.0 _
-    (spells_only c.args.text.now c.deref.result.now c.in_ok-config.config (λ ts cut. c.in_ok-tokens.ensures.only ts cut ∙ sym c.deref.ensures.value) c.in_ok-tokens.ensures.short c.in_ok-config.ensures.spelled c.in_ok-config.ensures.limits c.in_ok-config.ensures.only)
-    (at_stage c.in_ok-config.config c.in_ok-declared.declared c.in_err-supported.field-0.0 c.in_ok-declared.ensures.same c.in_ok-declared.ensures.accepted c.in_err-supported.ensures.refused)
-    c.from_residual-in_err-supported.ensures.1
-
-pub returns-in_err-supported-clause-named : goal.returns-in_err-supported-clause-named
-returns-in_err-supported-clause-named c = λ fault.
-    names c.args.text.now c.in_ok-config.config c.in_err-supported.field-0.0 _
-    (spells_only c.args.text.now c.deref.result.now c.in_ok-config.config (λ ts cut. c.in_ok-tokens.ensures.only ts cut ∙ sym c.deref.ensures.value) c.in_ok-tokens.ensures.short c.in_ok-config.ensures.spelled c.in_ok-config.ensures.limits c.in_ok-config.ensures.only)
-    (at_stage c.in_ok-config.config c.in_ok-declared.declared c.in_err-supported.field-0.0 c.in_ok-declared.ensures.same c.in_ok-declared.ensures.accepted c.in_err-supported.ensures.refused)
-    c.from_residual-in_err-supported.ensures.1
-
-pub returns-in_err-supported-clause-number : goal.returns-in_err-supported-clause-number
-returns-in_err-supported-clause-number c =
-    explains c.args.text.now c.in_ok-config.config c.in_err-supported.field-0.0 _
-    (spells_only c.args.text.now c.deref.result.now c.in_ok-config.config (λ ts cut. c.in_ok-tokens.ensures.only ts cut ∙ sym c.deref.ensures.value) c.in_ok-tokens.ensures.short c.in_ok-config.ensures.spelled c.in_ok-config.ensures.limits c.in_ok-config.ensures.only)
-    (at_stage c.in_ok-config.config c.in_ok-declared.declared c.in_err-supported.field-0.0 c.in_ok-declared.ensures.same c.in_ok-declared.ensures.accepted c.in_err-supported.ensures.refused)
-    c.from_residual-in_err-supported.ensures.1
-
 -- TYPES
 
 pub returns-in_err-typed-clause-refused : goal.returns-in_err-typed-clause-refused
 returns-in_err-typed-clause-refused c =
     refuses c.args.text.now c.in_ok-config.config c.in_err-typed.field-0.0 _
     (spells_only c.args.text.now c.deref.result.now c.in_ok-config.config (λ ts cut. c.in_ok-tokens.ensures.only ts cut ∙ sym c.deref.ensures.value) c.in_ok-tokens.ensures.short c.in_ok-config.ensures.spelled c.in_ok-config.ensures.limits c.in_ok-config.ensures.only)
-    (at_types c.in_ok-config.config c.in_ok-supported.supported c.in_err-typed.field-0.0 (c.in_ok-supported.ensures.same ∙ c.in_ok-declared.ensures.same) c.in_ok-supported.ensures.accepted c.in_err-typed.ensures.refused)
+    (at_types c.in_ok-config.config c.in_ok-declared.declared c.in_err-typed.field-0.0 c.in_ok-declared.ensures.same c.in_ok-declared.ensures.accepted c.in_err-typed.ensures.refused)
     c.from_residual-in_err-typed.ensures.1
 
 pub returns-in_err-typed-clause-named : goal.returns-in_err-typed-clause-named
 returns-in_err-typed-clause-named c = λ fault.
     names c.args.text.now c.in_ok-config.config c.in_err-typed.field-0.0 _
     (spells_only c.args.text.now c.deref.result.now c.in_ok-config.config (λ ts cut. c.in_ok-tokens.ensures.only ts cut ∙ sym c.deref.ensures.value) c.in_ok-tokens.ensures.short c.in_ok-config.ensures.spelled c.in_ok-config.ensures.limits c.in_ok-config.ensures.only)
-    (at_types c.in_ok-config.config c.in_ok-supported.supported c.in_err-typed.field-0.0 (c.in_ok-supported.ensures.same ∙ c.in_ok-declared.ensures.same) c.in_ok-supported.ensures.accepted c.in_err-typed.ensures.refused)
+    (at_types c.in_ok-config.config c.in_ok-declared.declared c.in_err-typed.field-0.0 c.in_ok-declared.ensures.same c.in_ok-declared.ensures.accepted c.in_err-typed.ensures.refused)
     c.from_residual-in_err-typed.ensures.1
 
 pub returns-in_err-typed-clause-number : goal.returns-in_err-typed-clause-number
 returns-in_err-typed-clause-number c =
     explains c.args.text.now c.in_ok-config.config c.in_err-typed.field-0.0 _
     (spells_only c.args.text.now c.deref.result.now c.in_ok-config.config (λ ts cut. c.in_ok-tokens.ensures.only ts cut ∙ sym c.deref.ensures.value) c.in_ok-tokens.ensures.short c.in_ok-config.ensures.spelled c.in_ok-config.ensures.limits c.in_ok-config.ensures.only)
-    (at_types c.in_ok-config.config c.in_ok-supported.supported c.in_err-typed.field-0.0 (c.in_ok-supported.ensures.same ∙ c.in_ok-declared.ensures.same) c.in_ok-supported.ensures.accepted c.in_err-typed.ensures.refused)
+    (at_types c.in_ok-config.config c.in_ok-declared.declared c.in_err-typed.field-0.0 c.in_ok-declared.ensures.same c.in_ok-declared.ensures.accepted c.in_err-typed.ensures.refused)
     c.from_residual-in_err-typed.ensures.1
 
 -- ORDER
@@ -106,22 +83,45 @@ pub returns-in_err-ordered-clause-refused : goal.returns-in_err-ordered-clause-r
 returns-in_err-ordered-clause-refused c =
     refuses c.args.text.now c.in_ok-config.config c.in_err-ordered.field-0.0 _
     (spells_only c.args.text.now c.deref.result.now c.in_ok-config.config (λ ts cut. c.in_ok-tokens.ensures.only ts cut ∙ sym c.deref.ensures.value) c.in_ok-tokens.ensures.short c.in_ok-config.ensures.spelled c.in_ok-config.ensures.limits c.in_ok-config.ensures.only)
-    (at_order c.in_ok-config.config c.in_ok-supported.supported c.in_ok-typed.typed c.in_err-ordered.field-0.0 (c.in_ok-supported.ensures.same ∙ c.in_ok-declared.ensures.same) c.in_ok-typed.ensures.same c.in_ok-supported.ensures.accepted c.in_ok-typed.ensures.accepted c.in_err-ordered.ensures.refused)
+    (at_order c.in_ok-config.config c.in_ok-declared.declared c.in_ok-typed.typed c.in_err-ordered.field-0.0 c.in_ok-declared.ensures.same c.in_ok-typed.ensures.same c.in_ok-declared.ensures.accepted c.in_ok-typed.ensures.accepted c.in_err-ordered.ensures.refused)
     c.from_residual-in_err-ordered.ensures.1
 
 pub returns-in_err-ordered-clause-named : goal.returns-in_err-ordered-clause-named
 returns-in_err-ordered-clause-named c = λ fault.
     names c.args.text.now c.in_ok-config.config c.in_err-ordered.field-0.0 _
     (spells_only c.args.text.now c.deref.result.now c.in_ok-config.config (λ ts cut. c.in_ok-tokens.ensures.only ts cut ∙ sym c.deref.ensures.value) c.in_ok-tokens.ensures.short c.in_ok-config.ensures.spelled c.in_ok-config.ensures.limits c.in_ok-config.ensures.only)
-    (at_order c.in_ok-config.config c.in_ok-supported.supported c.in_ok-typed.typed c.in_err-ordered.field-0.0 (c.in_ok-supported.ensures.same ∙ c.in_ok-declared.ensures.same) c.in_ok-typed.ensures.same c.in_ok-supported.ensures.accepted c.in_ok-typed.ensures.accepted c.in_err-ordered.ensures.refused)
+    (at_order c.in_ok-config.config c.in_ok-declared.declared c.in_ok-typed.typed c.in_err-ordered.field-0.0 c.in_ok-declared.ensures.same c.in_ok-typed.ensures.same c.in_ok-declared.ensures.accepted c.in_ok-typed.ensures.accepted c.in_err-ordered.ensures.refused)
     c.from_residual-in_err-ordered.ensures.1
 
 pub returns-in_err-ordered-clause-number : goal.returns-in_err-ordered-clause-number
 returns-in_err-ordered-clause-number c =
     explains c.args.text.now c.in_ok-config.config c.in_err-ordered.field-0.0 _
     (spells_only c.args.text.now c.deref.result.now c.in_ok-config.config (λ ts cut. c.in_ok-tokens.ensures.only ts cut ∙ sym c.deref.ensures.value) c.in_ok-tokens.ensures.short c.in_ok-config.ensures.spelled c.in_ok-config.ensures.limits c.in_ok-config.ensures.only)
-    (at_order c.in_ok-config.config c.in_ok-supported.supported c.in_ok-typed.typed c.in_err-ordered.field-0.0 (c.in_ok-supported.ensures.same ∙ c.in_ok-declared.ensures.same) c.in_ok-typed.ensures.same c.in_ok-supported.ensures.accepted c.in_ok-typed.ensures.accepted c.in_err-ordered.ensures.refused)
+    (at_order c.in_ok-config.config c.in_ok-declared.declared c.in_ok-typed.typed c.in_err-ordered.field-0.0 c.in_ok-declared.ensures.same c.in_ok-typed.ensures.same c.in_ok-declared.ensures.accepted c.in_ok-typed.ensures.accepted c.in_err-ordered.ensures.refused)
     c.from_residual-in_err-ordered.ensures.1
+
+-- WHAT IS NOT RUN YET
+
+pub returns-in_err-supported-clause-refused : goal.returns-in_err-supported-clause-refused
+returns-in_err-supported-clause-refused c =
+    refuses c.args.text.now c.in_ok-config.config c.in_err-supported.field-0.0 _
+    (spells_only c.args.text.now c.deref.result.now c.in_ok-config.config (λ ts cut. c.in_ok-tokens.ensures.only ts cut ∙ sym c.deref.ensures.value) c.in_ok-tokens.ensures.short c.in_ok-config.ensures.spelled c.in_ok-config.ensures.limits c.in_ok-config.ensures.only)
+    (at_stage c.in_ok-config.config c.in_ok-declared.declared c.in_ok-typed.typed c.in_ok-ordered.ordered c.in_err-supported.field-0.0 c.in_ok-declared.ensures.same c.in_ok-typed.ensures.same c.in_ok-ordered.ensures.same c.in_ok-declared.ensures.accepted c.in_ok-typed.ensures.accepted c.in_ok-ordered.ensures.accepted c.in_err-supported.ensures.refused)
+    c.from_residual-in_err-supported.ensures.1
+
+pub returns-in_err-supported-clause-named : goal.returns-in_err-supported-clause-named
+returns-in_err-supported-clause-named c = λ fault.
+    names c.args.text.now c.in_ok-config.config c.in_err-supported.field-0.0 _
+    (spells_only c.args.text.now c.deref.result.now c.in_ok-config.config (λ ts cut. c.in_ok-tokens.ensures.only ts cut ∙ sym c.deref.ensures.value) c.in_ok-tokens.ensures.short c.in_ok-config.ensures.spelled c.in_ok-config.ensures.limits c.in_ok-config.ensures.only)
+    (at_stage c.in_ok-config.config c.in_ok-declared.declared c.in_ok-typed.typed c.in_ok-ordered.ordered c.in_err-supported.field-0.0 c.in_ok-declared.ensures.same c.in_ok-typed.ensures.same c.in_ok-ordered.ensures.same c.in_ok-declared.ensures.accepted c.in_ok-typed.ensures.accepted c.in_ok-ordered.ensures.accepted c.in_err-supported.ensures.refused)
+    c.from_residual-in_err-supported.ensures.1
+
+pub returns-in_err-supported-clause-number : goal.returns-in_err-supported-clause-number
+returns-in_err-supported-clause-number c =
+    explains c.args.text.now c.in_ok-config.config c.in_err-supported.field-0.0 _
+    (spells_only c.args.text.now c.deref.result.now c.in_ok-config.config (λ ts cut. c.in_ok-tokens.ensures.only ts cut ∙ sym c.deref.ensures.value) c.in_ok-tokens.ensures.short c.in_ok-config.ensures.spelled c.in_ok-config.ensures.limits c.in_ok-config.ensures.only)
+    (at_stage c.in_ok-config.config c.in_ok-declared.declared c.in_ok-typed.typed c.in_ok-ordered.ordered c.in_err-supported.field-0.0 c.in_ok-declared.ensures.same c.in_ok-typed.ensures.same c.in_ok-ordered.ensures.same c.in_ok-declared.ensures.accepted c.in_ok-typed.ensures.accepted c.in_ok-ordered.ensures.accepted c.in_err-supported.ensures.refused)
+    c.from_residual-in_err-supported.ensures.1
 
 -- RANGES
 
@@ -129,30 +129,30 @@ pub returns-in_err-checked-clause-refused : goal.returns-in_err-checked-clause-r
 returns-in_err-checked-clause-refused c =
     refuses c.args.text.now c.in_ok-config.config c.in_err-checked.field-0.0 _
     (spells_only c.args.text.now c.deref.result.now c.in_ok-config.config (λ ts cut. c.in_ok-tokens.ensures.only ts cut ∙ sym c.deref.ensures.value) c.in_ok-tokens.ensures.short c.in_ok-config.ensures.spelled c.in_ok-config.ensures.limits c.in_ok-config.ensures.only)
-    (at_ranges c.in_ok-config.config c.in_ok-supported.supported c.in_ok-typed.typed c.in_ok-code.code c.in_err-checked.field-0.0 (c.in_ok-supported.ensures.same ∙ c.in_ok-declared.ensures.same) c.in_ok-typed.ensures.same (c.in_ok-code.ensures ∙ c.in_ok-ordered.ensures.same) c.in_ok-supported.ensures.accepted c.in_ok-typed.ensures.accepted c.in_ok-ordered.ensures.accepted c.in_err-checked.ensures.refused)
+    (at_ranges c.in_ok-config.config c.in_ok-supported.supported c.in_ok-code.code c.in_err-checked.field-0.0 (c.in_ok-supported.ensures.same ∙ c.in_ok-ordered.ensures.same ∙ c.in_ok-typed.ensures.same ∙ c.in_ok-declared.ensures.same) c.in_ok-code.ensures c.in_ok-supported.ensures.accepted c.in_err-checked.ensures.refused)
     c.from_residual-in_err-checked.ensures.1
 
 pub returns-in_err-checked-clause-named : goal.returns-in_err-checked-clause-named
 returns-in_err-checked-clause-named c = λ fault.
     names c.args.text.now c.in_ok-config.config c.in_err-checked.field-0.0 _
     (spells_only c.args.text.now c.deref.result.now c.in_ok-config.config (λ ts cut. c.in_ok-tokens.ensures.only ts cut ∙ sym c.deref.ensures.value) c.in_ok-tokens.ensures.short c.in_ok-config.ensures.spelled c.in_ok-config.ensures.limits c.in_ok-config.ensures.only)
-    (at_ranges c.in_ok-config.config c.in_ok-supported.supported c.in_ok-typed.typed c.in_ok-code.code c.in_err-checked.field-0.0 (c.in_ok-supported.ensures.same ∙ c.in_ok-declared.ensures.same) c.in_ok-typed.ensures.same (c.in_ok-code.ensures ∙ c.in_ok-ordered.ensures.same) c.in_ok-supported.ensures.accepted c.in_ok-typed.ensures.accepted c.in_ok-ordered.ensures.accepted c.in_err-checked.ensures.refused)
+    (at_ranges c.in_ok-config.config c.in_ok-supported.supported c.in_ok-code.code c.in_err-checked.field-0.0 (c.in_ok-supported.ensures.same ∙ c.in_ok-ordered.ensures.same ∙ c.in_ok-typed.ensures.same ∙ c.in_ok-declared.ensures.same) c.in_ok-code.ensures c.in_ok-supported.ensures.accepted c.in_err-checked.ensures.refused)
     c.from_residual-in_err-checked.ensures.1
 
 pub returns-in_err-checked-clause-number : goal.returns-in_err-checked-clause-number
 returns-in_err-checked-clause-number c =
     explains c.args.text.now c.in_ok-config.config c.in_err-checked.field-0.0 _
     (spells_only c.args.text.now c.deref.result.now c.in_ok-config.config (λ ts cut. c.in_ok-tokens.ensures.only ts cut ∙ sym c.deref.ensures.value) c.in_ok-tokens.ensures.short c.in_ok-config.ensures.spelled c.in_ok-config.ensures.limits c.in_ok-config.ensures.only)
-    (at_ranges c.in_ok-config.config c.in_ok-supported.supported c.in_ok-typed.typed c.in_ok-code.code c.in_err-checked.field-0.0 (c.in_ok-supported.ensures.same ∙ c.in_ok-declared.ensures.same) c.in_ok-typed.ensures.same (c.in_ok-code.ensures ∙ c.in_ok-ordered.ensures.same) c.in_ok-supported.ensures.accepted c.in_ok-typed.ensures.accepted c.in_ok-ordered.ensures.accepted c.in_err-checked.ensures.refused)
+    (at_ranges c.in_ok-config.config c.in_ok-supported.supported c.in_ok-code.code c.in_err-checked.field-0.0 (c.in_ok-supported.ensures.same ∙ c.in_ok-ordered.ensures.same ∙ c.in_ok-typed.ensures.same ∙ c.in_ok-declared.ensures.same) c.in_ok-code.ensures c.in_ok-supported.ensures.accepted c.in_err-checked.ensures.refused)
     c.from_residual-in_err-checked.ensures.1
 
 -- CODE AND COSTS
 
+pub typed-requires : goal.typed-requires
+typed-requires c = record { short = within_short c.args.text.now c.in_ok-config.config c.in_ok-declared.declared c.in_ok-declared.ensures.same (c.in_ok-config.ensures.limits c.in_ok-tokens.ensures.short) }
+
 pub code-requires : goal.code-requires
-code-requires c = record {
-  written =
-      subst IsWritten (sym (c.in_ok-ordered.ensures.same ∙ c.in_ok-typed.ensures.same ∙ c.in_ok-supported.ensures.same ∙ c.in_ok-declared.ensures.same)) (spelled_written c.args.text.now c.in_ok-config.config c.in_ok-config.ensures.spelled);
-}
+code-requires c = record { written = subst IsWritten (sym (c.in_ok-supported.ensures.same ∙ c.in_ok-ordered.ensures.same ∙ c.in_ok-typed.ensures.same ∙ c.in_ok-declared.ensures.same)) (spelled_written c.args.text.now c.in_ok-config.config c.in_ok-config.ensures.spelled) }
 
 pub returns-in_err-budget-clause-refused : goal.returns-in_err-budget-clause-refused
 returns-in_err-budget-clause-refused c = λ fault. absurd (no_fault _ c.from_residual-in_err-budget.ensures.1 fault)
@@ -165,25 +165,25 @@ returns-in_err-budget-clause-named c = λ fault. absurd (no_fault _ c.from_resid
 pub of-requires-clause-runnable : goal.of-requires-clause-runnable
 of-requires-clause-runnable c =
     runnable_is c.in_ok-checked.checked
-    (subst IsWritten (sym (c.in_ok-checked.ensures.same ∙ c.in_ok-code.ensures ∙ c.in_ok-ordered.ensures.same ∙ c.in_ok-typed.ensures.same ∙ c.in_ok-supported.ensures.same ∙ c.in_ok-declared.ensures.same)) (spelled_written c.args.text.now c.in_ok-config.config c.in_ok-config.ensures.spelled))
-    (subst IsSupported (sym (c.in_ok-checked.ensures.same ∙ c.in_ok-code.ensures ∙ c.in_ok-ordered.ensures.same ∙ c.in_ok-typed.ensures.same)) c.in_ok-supported.ensures.accepted.supported)
+    (subst IsWritten (sym (c.in_ok-checked.ensures.same ∙ c.in_ok-code.ensures ∙ c.in_ok-supported.ensures.same ∙ c.in_ok-ordered.ensures.same ∙ c.in_ok-typed.ensures.same ∙ c.in_ok-declared.ensures.same)) (spelled_written c.args.text.now c.in_ok-config.config c.in_ok-config.ensures.spelled))
+    (subst IsSupported (sym (c.in_ok-checked.ensures.same ∙ c.in_ok-code.ensures)) c.in_ok-supported.ensures.accepted.typed.declared.supported)
     c.in_ok-budget.ensures.checked
 
 pub of-requires-clause-costs : goal.of-requires-clause-costs
 of-requires-clause-costs c =
     subst (AreCosts c.in_ok-checked.checked c.in_ok-checked.checked.units) (sym c.in_ok-budget.ensures.costs)
-    (straight_costs c.in_ok-checked.checked c.in_ok-checked.checked (subst IsSupported (sym (c.in_ok-checked.ensures.same ∙ c.in_ok-code.ensures ∙ c.in_ok-ordered.ensures.same ∙ c.in_ok-typed.ensures.same)) c.in_ok-supported.ensures.accepted.supported))
+    (straight_costs c.in_ok-checked.checked c.in_ok-checked.checked (subst IsSupported (sym (c.in_ok-checked.ensures.same ∙ c.in_ok-code.ensures)) c.in_ok-supported.ensures.accepted.typed.declared.supported))
 
 pub returns-clause-found : goal.returns-clause-found
 returns-clause-found c =
     subst (IsAccepted c.args.text.now) (sym c.of.ensures.config)
-    (accepted_by c.args.text.now c.in_ok-config.config c.in_ok-supported.supported c.in_ok-typed.typed c.in_ok-checked.checked
-    (c.in_ok-supported.ensures.same ∙ c.in_ok-declared.ensures.same) c.in_ok-typed.ensures.same (c.in_ok-checked.ensures.same ∙ c.in_ok-code.ensures ∙ c.in_ok-ordered.ensures.same)
+    (accepted_by c.args.text.now c.in_ok-config.config c.in_ok-supported.supported c.in_ok-checked.checked
+    (c.in_ok-supported.ensures.same ∙ c.in_ok-ordered.ensures.same ∙ c.in_ok-typed.ensures.same ∙ c.in_ok-declared.ensures.same) (c.in_ok-checked.ensures.same ∙ c.in_ok-code.ensures)
     (spells_only c.args.text.now c.deref.result.now c.in_ok-config.config (λ ts cut. c.in_ok-tokens.ensures.only ts cut ∙ sym c.deref.ensures.value) c.in_ok-tokens.ensures.short c.in_ok-config.ensures.spelled c.in_ok-config.ensures.limits c.in_ok-config.ensures.only)
-    c.in_ok-supported.ensures.accepted c.in_ok-typed.ensures.accepted c.in_ok-ordered.ensures.accepted c.in_ok-checked.ensures.annotated)
+    c.in_ok-supported.ensures.accepted c.in_ok-checked.ensures.annotated)
 
 pub returns-clause-runs : goal.returns-clause-runs
 returns-clause-runs c =
     subst RunsWell (sym c.of.ensures.config)
     (runs_well c.in_ok-checked.checked
-    (runnable_is c.in_ok-checked.checked (subst IsWritten (sym (c.in_ok-checked.ensures.same ∙ c.in_ok-code.ensures ∙ c.in_ok-ordered.ensures.same ∙ c.in_ok-typed.ensures.same ∙ c.in_ok-supported.ensures.same ∙ c.in_ok-declared.ensures.same)) (spelled_written c.args.text.now c.in_ok-config.config c.in_ok-config.ensures.spelled)) (subst IsSupported (sym (c.in_ok-checked.ensures.same ∙ c.in_ok-code.ensures ∙ c.in_ok-ordered.ensures.same ∙ c.in_ok-typed.ensures.same)) c.in_ok-supported.ensures.accepted.supported) c.in_ok-budget.ensures.checked))
+    (runnable_is c.in_ok-checked.checked (subst IsWritten (sym (c.in_ok-checked.ensures.same ∙ c.in_ok-code.ensures ∙ c.in_ok-supported.ensures.same ∙ c.in_ok-ordered.ensures.same ∙ c.in_ok-typed.ensures.same ∙ c.in_ok-declared.ensures.same)) (spelled_written c.args.text.now c.in_ok-config.config c.in_ok-config.ensures.spelled)) (subst IsSupported (sym (c.in_ok-checked.ensures.same ∙ c.in_ok-code.ensures)) c.in_ok-supported.ensures.accepted.typed.declared.supported) c.in_ok-budget.ensures.checked))

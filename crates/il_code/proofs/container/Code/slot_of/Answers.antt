@@ -11,4 +11,4 @@ pub returns : goal.returns
 returns c =
     let s = c.self.inside in
     subst (λ x. (u : ProgramUnit) → IsProgram x u → c.get.result ≡ slot_at (program_cells x u) c.args.path.now) c.self.view_is
-    (λ u program. c.get.ensures ∙ slot_is s.ordered s.units s.slots s.own s.first c.self.invariant.0 (resolved_of s.ordered c.self.invariant.1) c.self.invariant.2 c.args.path.now u program)
+    (λ u program. c.get.ensures ∙ slot_is s.supported s.units s.slots s.own s.first c.self.invariant.0 (resolved_of s.supported c.self.invariant.1) c.self.invariant.2 c.args.path.now u program)

@@ -8,4 +8,4 @@ use Rattle.il_code.proofs.container.Code.units.Goals as goal
 pub returns : goal.returns
 returns c =
     let s = c.self.inside in
-    c.as_slice.ensures ∙ subst (λ x. s.units ≡ map (unit_code (program_names x) x) x.units) c.self.view_is (units_are_coded s.ordered s.units s.slots s.own s.first (resolved_of s.ordered c.self.invariant.1) c.self.invariant.2)
+    c.as_slice.ensures ∙ subst (λ x. s.units ≡ map (unit_code (program_names x) x) x.units) c.self.view_is (units_are_coded s.supported s.units s.slots s.own s.first (resolved_of s.supported c.self.invariant.1) c.self.invariant.2)

@@ -1,4 +1,0 @@
-pub mod Lowest
-pub mod Numbers
-pub mod Line
-pub mod Straight

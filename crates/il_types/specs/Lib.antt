@@ -1,4 +1,0 @@
-pub mod Lowest
-pub mod TypeFaults
-pub mod Typing
-pub mod WellTyped
