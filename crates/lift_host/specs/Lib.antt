@@ -1,3 +1,4 @@
 pub mod Messages
 pub mod Requests
 pub mod Writes
+pub mod Presses

@@ -4,10 +4,12 @@ use Rattle.il_spec.specs.declared.fault.Refusal.{Refusal}
 use Rattle.il_spec.specs.declared.fault.Refusal.TheVariants as refusal
 use Rattle.lift_host.specs.declared.files.ReadFault.{ReadFault}
 use Rattle.lift_host.specs.declared.files.ReadFault.TheVariants as read
+use Rattle.lift_host.specs.declared.press.PressFault.{PressFault}
+use Rattle.lift_host.specs.declared.press.PressFault.TheVariants as press
 use Rattle.lift_host.specs.declared.status.Status.{Status}
 use Rattle.lift_host.specs.declared.status.Status.TheVariants as status
 use Rattle.lift_host.specs.declared.status.Fault.{Fault}
-use Rattle.lift_host.specs.declared.status.Fault.TheVariants.{Misuse, Refused, Event, CannotRead, CannotWrite, NoMemory}
+use Rattle.lift_host.specs.declared.status.Fault.TheVariants.{Misuse, Refused, BadPress, Event, CannotRead, CannotWrite, NoMemory}
 
 -- the exit status
 abbrev pub code_of : Status → ℕ
@@ -21,6 +23,7 @@ code_of status.NoMemory = 4
 abbrev pub status_of : Fault → Status
 status_of (Misuse text) = status.Refused
 status_of (Refused number line) = status.Refused
+status_of BadPress = status.Refused
 status_of (Event number) = status.Refused
 status_of CannotRead = status.CannotRead
 status_of CannotWrite = status.CannotWrite
@@ -30,6 +33,7 @@ status_of NoMemory = status.NoMemory
 abbrev pub message_of : Fault → List ℕ
 message_of (Misuse text) = string_bytes text
 message_of (Refused number line) = codes "refused " ++ (decimal number ++ (codes " at line " ++ (decimal line ++ codes "\n")))
+message_of BadPress = codes "bad press\n"
 message_of (Event number) = codes "refused " ++ (decimal number ++ codes "\n")
 message_of CannotRead = codes "cannot read\n"
 message_of CannotWrite = codes "cannot write\n"
@@ -44,3 +48,8 @@ fault_of refusal.Memory = NoMemory
 abbrev pub fault_of_reading : ReadFault → Fault
 fault_of_reading read.CannotRead = CannotRead
 fault_of_reading read.NoMemory = NoMemory
+
+-- the fault of words that give no presses
+abbrev pub fault_of_press : PressFault → Fault
+fault_of_press press.Bad = BadPress
+fault_of_press press.NoMemory = NoMemory

@@ -3,6 +3,7 @@
 #![tactic(auto)]
 
 pub mod files;
+pub mod press;
 pub mod request;
 pub mod sink;
 pub mod status;

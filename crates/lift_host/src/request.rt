@@ -1,7 +1,7 @@
 // What the words ask for.
 
-ghost use Rattle.std.specs.Prelude.{◌≡◌, ◌∷◌, ◌↔◌, ℕ, IfSome, IsNone, IsTrue, codes, map, string_bytes};
-ghost use Rattle.lift_host.specs.Requests.{IsRounds, IsDigits, IsOption, Asks, name_of, word_of};
+ghost use Rattle.std.specs.Prelude.{◌≡◌, ◌∷◌, ◌↔◌, ℕ, true, false, IfSome, IsNone, IsTrue, codes, map, string_bytes};
+ghost use Rattle.lift_host.specs.Requests.{IsNumberTo, IsDigits, IsOption, AreNoOptions, Asks, name_of, word_of};
 ghost use Rattle.lift_host.specs.declared.request.Name.{Name};
 ghost use Rattle.lift_host.specs.declared.request.Request.{Request};
 
@@ -19,7 +19,12 @@ pub enum Name {
 #[derive(Clone, Copy, Debug)]
 pub enum Request<'w> {
     Check { file: &'w str },
-    Sim { file: &'w str, rounds: u16 },
+    /// The words behind ROUNDS are to be presses.
+    Sim {
+        file: &'w str,
+        rounds: u16,
+        presses: &'w [String],
+    },
 }
 
 impl Name {
@@ -62,16 +67,16 @@ fn is_digits(text: &str) -> bool
     text.as_bytes().iter().all(|b| b.is_ascii_digit())
 }
 
-/// The number that ROUNDS spells: ASCII digits alone, from 1 to 50000.
-fn rounds_of(text: &str) -> Option<u16>
-    ensures some { IfSome result (IsRounds text.now) }
-    ensures none { IsNone result → (rounds : ℕ) → IsRounds text.now rounds → ⊥ }
+/// The number that ASCII digits alone spell, from 1 to a greatest one.
+pub fn number_to(greatest: u16, text: &str) -> Option<u16>
+    ensures some { IfSome result (IsNumberTo greatest text.now) }
+    ensures none { IsNone result → (number : ℕ) → IsNumberTo greatest text.now number → ⊥ }
 {
     if !is_digits(text) {
         return None;
     }
     match text.parse::<u16>() {
-        Ok(rounds) if (1..=MOST_ROUNDS).contains(&rounds) => Some(rounds),
+        Ok(number) if (1..=greatest).contains(&number) => Some(number),
         _ => None,
     }
 }
@@ -109,11 +114,28 @@ fn asked_sim(rest: &[String]) -> Option<Request<'_>>
     ensures some { IfSome result (Asks (codes "sim" ∷ map string_bytes rest.now)) }
     ensures none { IsNone result → (request : Request) → Asks (codes "sim" ∷ map string_bytes rest.now) request → ⊥ }
 {
-    match rest {
-        [file, rounds] if !is_option(file) => {
-            let rounds = rounds_of(rounds)?;
-            Some(Request::Sim { file, rounds })
-        }
-        _ => None,
+    let (file, rest) = rest.split_first()?;
+    let (rounds, presses) = rest.split_first()?;
+    if is_option(file) || has_option(presses) {
+        return None;
     }
+    let rounds = number_to(MOST_ROUNDS, rounds)?;
+    Some(Request::Sim {
+        file,
+        rounds,
+        presses,
+    })
+}
+
+/// Whether one of the words is an option.
+fn has_option(words: &[String]) -> bool
+    ensures no { result ≡ false → AreNoOptions (map string_bytes words.now) }
+    ensures yes { result ≡ true → AreNoOptions (map string_bytes words.now) → ⊥ }
+{
+    'words: for word in words {
+        if is_option(word) {
+            return true;
+        }
+    }
+    false
 }

@@ -6,6 +6,7 @@ ghost use Rattle.lift_host.specs.Writes.{Writes, AppendsFront};
 ghost use Rattle.lift_host.specs.Messages.{message_of, status_of, code_of};
 
 use crate::files::ReadFault;
+use crate::press::PressFault;
 use crate::sink::{Sink, SinkFault, put_all};
 use il_spec::fault::Refusal;
 use itoa::Buffer;
@@ -33,6 +34,8 @@ pub enum Fault {
     Misuse(String),
     /// The text is refused with the number at the line, counted from 1.
     Refused { number: u16, line: u32 },
+    /// A PRESS word is wrong.
+    BadPress,
     /// The world refused an event that the program made.
     Event(u8),
     CannotRead,
@@ -81,6 +84,19 @@ impl From<ReadFault> for Fault {
     }
 }
 
+impl From<PressFault> for Fault {
+    ghost use Rattle.lift_host.specs.Messages.{fault_of_press};
+
+    ghost from_gives = { λ p f. f ≡ fault_of_press p };
+
+    fn from(fault: PressFault) -> Fault {
+        match fault {
+            PressFault::Bad => Fault::BadPress,
+            PressFault::NoMemory => Fault::NoMemory,
+        }
+    }
+}
+
 impl From<AllocError> for Fault {
     ghost use Rattle.std.specs.Prelude.{◌≡◌};
     ghost use Rattle.lift_host.specs.declared.status.Fault.TheVariants.{NoMemory};
@@ -100,6 +116,7 @@ impl Fault {
         match self {
             Fault::Misuse(_) => Status::Refused,
             Fault::Refused { .. } => Status::Refused,
+            Fault::BadPress => Status::Refused,
             Fault::Event(_) => Status::Refused,
             Fault::CannotRead => Status::CannotRead,
             Fault::CannotWrite => Status::CannotWrite,
@@ -115,6 +132,7 @@ impl Fault {
         match self {
             Fault::Misuse(text) => put_all(sink, text.as_bytes()),
             Fault::Refused { number, line } => put_refusal(sink, *number, *line),
+            Fault::BadPress => put_all(sink, b"bad press\n"),
             Fault::Event(number) => put_event(sink, *number),
             Fault::CannotRead => put_all(sink, b"cannot read\n"),
             Fault::CannotWrite => put_all(sink, b"cannot write\n"),
