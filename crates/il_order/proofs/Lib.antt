@@ -1,2 +1,9 @@
-pub mod Uses
-pub mod Slots
+pub mod Tabled
+pub mod Closing
+pub mod Distinct
+pub mod Using
+pub mod Reaching
+pub mod Chaining
+pub mod Counting
+pub mod Tasks
+pub mod Breaking
