@@ -1,0 +1,9 @@
+pub mod Tabled
+pub mod Closing
+pub mod Distinct
+pub mod Using
+pub mod Reaching
+pub mod Chaining
+pub mod Counting
+pub mod Tasks
+pub mod Breaking

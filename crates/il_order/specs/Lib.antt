@@ -1,1 +1,6 @@
+pub mod Breaks
+pub mod Chained
+pub mod Counted
 pub mod OrderFaults
+pub mod Related
+pub mod Used

@@ -1,13 +1,13 @@
 use Rattle.std.proofs.Common.{subst}
 use Rattle.il_spec.specs.declared.tree.Config.{Config}
 use Rattle.il_rules.specs.Faults.{HasNoFault, Broken, Typing, Ordering, BreaksDeclarations}
-use Rattle.il_order.proofs.checked.Ordered.config.Goals as goal
+use Rattle.il_order.proofs.container.Ordered.into_config.Goals as goal
 
 pub returns-clause-declared : goal.returns-clause-declared
-returns-clause-declared c = subst (λ (d : Config). HasNoFault (BreaksDeclarations d)) c.self.view_is c.config.ensures.declared
+returns-clause-declared c = subst (λ (d : Config). HasNoFault (BreaksDeclarations d)) c.self.view_is c.into_config.ensures.declared
 
 pub returns-clause-typed : goal.returns-clause-typed
-returns-clause-typed c = subst (λ (d : Config). HasNoFault (Broken Typing d)) c.self.view_is c.config.ensures.typed
+returns-clause-typed c = subst (λ (d : Config). HasNoFault (Broken Typing d)) c.self.view_is c.into_config.ensures.typed
 
 pub returns-clause-ordered : goal.returns-clause-ordered
 returns-clause-ordered c = subst (λ (d : Config). HasNoFault (Broken Ordering d)) c.self.view_is c.self.invariant

@@ -1,0 +1,121 @@
+-- What the code looks for are the rules.
+use Rattle.std.proofs.Common.{◌≡◌, ℕ, zero, suc, ◌+◌, ◌<◌, ◌≤◌, ◌⊎◌, inl, inr, Bool, true, false, nat_lt, List, length, slice_get, Option, Some, None, is_some, option_and_then, refl, sym, ap, ◌∙◌, subst, arith}
+use Rattle.std.specs.Prelude.{Contains, sum_by}
+use Rattle.std.proofs.lemmas.Bool.{ltb-true, ltb-false}
+use Rattle.std.proofs.lemmas.Option.{slice_get_within}
+use Rattle.il_spec.specs.declared.tree.Config.{Config}
+use Rattle.il_spec.specs.declared.tree.Place.{Place}
+use Rattle.il_spec.specs.declared.tree.Unit.{Unit as ProgramUnit}
+use Rattle.il_spec.specs.declared.tree.ProgramLine.{ProgramLine}
+use Rattle.il_spec.specs.declared.fault.Refusal.{Refusal}
+use Rattle.il_spec.specs.declared.fault.Refusal.TheVariants.{Fault}
+use Rattle.il_rules.specs.Names.{program_named}
+use Rattle.il_rules.specs.Faults.{HasNoFault, IsRefusedBy, Broken, Ordering, BreaksDeclarations, BreaksOrder, recursive as of_recursive, long_chain as of_long_chain, too_many_slots}
+use Rattle.il_rules.specs.Order.{HasTooManySlots, AreFunctionsOf, recursive, long_chain, of_task, of_globals, unit_slots, function_slots, global_slots}
+use Rattle.il_found.specs.Least.{NumberedFault, earlier_of, IsLeast, Either}
+use Rattle.il_found.proofs.Least.{least_both, least_same}
+use Rattle.il_scope.specs.Views.{program_number}
+use Rattle.il_scope.proofs.Laws.{program_found, program_there}
+use Rattle.il_order.specs.Related.{holds, closed}
+use Rattle.il_order.specs.Used.{uses}
+use Rattle.il_order.specs.Chained.{chained, is_long}
+use Rattle.il_order.specs.Counted.{counts, unit_counts, is_over, is_over_of, task_count, with_declared}
+use Rattle.il_order.specs.Breaks.{reached, UnitsBreak, LinesBreak, GlobalsBreak, SlotsBreak, AllUnitsBreak}
+use Rattle.il_order.proofs.Tabled.{place_in, in_place}
+use Rattle.il_order.proofs.Distinct.{AreDistinct, distinct}
+use Rattle.il_order.proofs.Using.{found_at}
+use Rattle.il_order.proofs.Reaching.{reach_to, reach_from}
+use Rattle.il_order.proofs.Chaining.{long_to, long_from}
+use Rattle.il_order.proofs.Counting.{over_cap, cap_over, globals_are}
+use Rattle.il_order.proofs.Tasks.{functions, are_functions, most_slots, task_is}
+
+below_true : (a b : ℕ) → a < b → nat_lt a b ≡ true
+below_true a b low = by_test (nat_lt a b) refl
+  where
+    by_test : (t : Bool) → nat_lt a b ≡ t → nat_lt a b ≡ true
+    by_test true e = e
+    by_test false e = let not_low = ltb-false a b e in absurd (omega (arith, low, not_low))
+
+module _ (c : Config) (apart : AreDistinct c) where
+  units_up : (n : ℕ) (p : Place) → AllUnitsBreak c n p → BreaksOrder c n p
+  units_up n p (at, u, low, there, inl (is, number, place)) = of_recursive number (recursive u (in_place c.units at u there) (reach_to c at at u u there there is) place)
+  units_up n p (at, u, low, there, inr (is, number, place)) =
+      let w = long_to c apart at u there is in of_long_chain number (long_chain u w.chain (in_place c.units at u there) w.free w.is_chain w.once w.long place)
+
+  over_is : (at : ℕ) (P : ProgramUnit) (there : slice_get c.units at ≡ Some P) → nat_lt 4096 (task_count c (reached c) (counts c (suc (length c.units + 1))) at (length c.units)) ≡ true
+      → 4096 < unit_slots c P + sum_by (function_slots c) (functions c apart at P there (length c.units))
+  over_is at P there e = over_cap _ (subst (λ k. 4096 < k) (task_is c apart at P there (length c.units)) (ltb-true 4096 _ e))
+
+  lines_up : (line : ProgramLine) → Contains c.programs line → is_over c (reached c) (counts c (suc (length c.units + 1))) line ≡ true → HasTooManySlots c line.place
+  lines_up line among e = by_number (program_number c line.program.name) refl e
+    where
+      by_unit : (at : ℕ) (o : Option ProgramUnit) → program_number c line.program.name ≡ Some at → slice_get c.units at ≡ o → nat_lt 4096 (task_count c (reached c) (counts c (suc (length c.units + 1))) at (length c.units)) ≡ true → HasTooManySlots c line.place
+      by_unit at (Some P) number there over =
+          of_task line P (functions c apart at P there (length c.units)) among (sym (program_found c line.program.name) ∙ ap (option_and_then (slice_get c.units)) number ∙ there) (are_functions c apart at P there) (over_is at P there over) refl
+      by_unit at None number there over = absurd (bad (program_there c line.program.name))
+        where
+          bad : is_some (program_number c line.program.name) ≡ is_some (program_named c line.program.name) → ⊥
+          bad same =
+              let none : program_named c line.program.name ≡ None = sym (program_found c line.program.name) ∙ ap (option_and_then (slice_get c.units)) number ∙ there in
+              let wrong : true ≡ false = sym (ap is_some number) ∙ same ∙ ap is_some none in cc
+
+      by_number : (o : Option ℕ) → program_number c line.program.name ≡ o → is_over_of c (reached c) (counts c (suc (length c.units + 1))) o ≡ true → HasTooManySlots c line.place
+      by_number None number over = let bad : false ≡ true = over in cc
+      by_number (Some at) number over = by_unit at (slice_get c.units at) number refl over
+
+  slots_up : (n : ℕ) (p : Place) → SlotsBreak c n p → BreaksOrder c n p
+  slots_up n p (inl (at, line, low, there, (is, number, place))) = too_many_slots number (subst (HasTooManySlots c) (sym place) (lines_up line (in_place c.programs at line there) is))
+  slots_up n p (inr g) = too_many_slots g.is (of_globals (over_cap _ (subst (λ k. 4096 < k) (globals_are c) (ltb-true 4096 _ g.over))) g.stands)
+
+  up : (n : ℕ) (p : Place) → Either (AllUnitsBreak c) (SlotsBreak c) n p → BreaksOrder c n p
+  up n p (inl h) = units_up n p h
+  up n p (inr h) = slots_up n p h
+
+  down : (n : ℕ) (p : Place) → BreaksOrder c n p → Either (AllUnitsBreak c) (SlotsBreak c) n p
+  down n p (of_recursive number (recursive u among way place)) =
+      let r = place_in c.units u among in inl (r.0, u, slice_get_within c.units r.0 u r.1, r.1, inl (reach_from c apart r.0 r.0 u u r.1 r.1 way, number, place))
+  down n p (of_long_chain number (long_chain u chain among free is_chain once long place)) =
+      let r = place_in c.units u among in inl (r.0, u, slice_get_within c.units r.0 u r.1, r.1, inr (long_from c apart r.0 u chain r.1 free is_chain long, number, place))
+  down n p (too_many_slots number (of_task line program fs among named are over place)) =
+      let l = place_in c.programs line among in
+      let r = found_at c (program_number c line.program.name) (program_named c line.program.name) program (program_found c line.program.name) named in
+      let most = most_slots c apart r.0 program r.2 fs are in
+      let all : 4096 < unit_slots c program + sum_by (function_slots c) (functions c apart r.0 program r.2 (length c.units)) = omega (arith, most, over) in
+      let counted = subst (λ k. 4096 < k) (sym (task_is c apart r.0 program r.2 (length c.units))) (cap_over _ all) in
+      inr (inl (l.0, line, slice_get_within c.programs l.0 line l.1, l.1, (ap (is_over_of c (reached c) (counts c (suc (length c.units + 1)))) r.1 ∙ below_true 4096 _ counted, number, place)))
+  down n p (too_many_slots number (of_globals over stands)) =
+      inr (inr (record { stands = stands; over = below_true 4096 _ (subst (λ k. 4096 < k) (sym (globals_are c)) (cap_over _ over)); is = number }))
+
+-- the first of what the code looks for is the first fault
+pub least_order : (c : Config) → HasNoFault (BreaksDeclarations c) → (units slots r : Option NumberedFault) → r ≡ earlier_of units slots → IsLeast units (AllUnitsBreak c) → IsLeast slots (SlotsBreak c) → IsLeast r (λ n p. BreaksOrder c n p)
+least_order c declared units slots r is a b =
+    least_same (Either (AllUnitsBreak c) (SlotsBreak c)) (λ n p. BreaksOrder c n p) r (least_both (AllUnitsBreak c) (SlotsBreak c) units slots r is a b) (up c (distinct c declared)) (down c (distinct c declared))
+
+-- a refusal names it
+pub refused_by : (c : Config) (found : Option NumberedFault) (f : NumberedFault) (r : Refusal) → IsLeast found (λ n p. BreaksOrder c n p) → found ≡ Some f → r ≡ Fault f.number f.place.line → IsRefusedBy (Broken Ordering c) r
+refused_by c found f r least is named = subst (IsRefusedBy (Broken Ordering c)) (sym named) (f.place, record { broken = least.holds f is; first = least.first f is }, refl)
+
+-- the slots of tasks, and of the globals
+pub slots_least : (c : Config) (r : List (List Bool)) (count : ℕ) (counted all : List ℕ) (lines globals found : Option NumberedFault)
+    → r ≡ reached c → count ≡ length c.units → counted ≡ counts c (count + 1) → all ≡ unit_counts c (count + 1) counted
+    → IsLeast lines (LinesBreak c r all (length c.programs)) → IsLeast globals (GlobalsBreak c (count + 1) counted) → found ≡ earlier_of lines globals → IsLeast found (SlotsBreak c)
+slots_least c r count counted all lines globals found reaching counting own_counts all_counts a b is =
+    least_both (LinesBreak c (reached c) (counts c (suc (length c.units + 1))) (length c.programs)) (GlobalsBreak c (length c.units + 1) (counts c (length c.units + 1))) lines globals found is
+    (subst (λ x. IsLeast lines (LinesBreak c x (counts c (suc (length c.units + 1))) (length c.programs))) reaching (subst (λ x. IsLeast lines (LinesBreak c r x (length c.programs))) every a))
+    (subst (λ x. IsLeast globals (GlobalsBreak c (x + 1) (counts c (x + 1)))) counting (subst (λ x. IsLeast globals (GlobalsBreak c (count + 1) x)) own_counts b))
+  where
+    every : all ≡ counts c (suc (length c.units + 1))
+    every = all_counts ∙ ap (unit_counts c (count + 1)) own_counts ∙ ap (λ x. unit_counts c (x + 1) (counts c (x + 1))) counting
+
+-- all of order
+pub order_least : (c : Config) → HasNoFault (BreaksDeclarations c) → (count : ℕ) (used : List (List Bool)) (long : List Bool) (r : List (List Bool)) (units slots found : Option NumberedFault)
+    → count ≡ length c.units → used ≡ uses c → long ≡ chained count used 16 → r ≡ closed count used count
+    → IsLeast units (UnitsBreak c r long (length c.units)) → IsLeast slots (SlotsBreak c) → found ≡ earlier_of units slots → IsLeast found (λ n p. BreaksOrder c n p)
+order_least c declared count used long r units slots found counting using chaining closing a b is =
+    least_order c declared units slots found is (subst (λ x. IsLeast units (UnitsBreak c (reached c) x (length c.units))) chain (subst (λ x. IsLeast units (UnitsBreak c x long (length c.units))) reach a)) b
+  where
+    chain : long ≡ chained (length c.units) (uses c) 16
+    chain = chaining ∙ ap (λ u. chained count u 16) using ∙ ap (λ n. chained n (uses c) 16) counting
+
+    reach : r ≡ reached c
+    reach = closing ∙ ap (λ u. closed count u count) using ∙ ap (λ n. closed n (uses c) n) counting

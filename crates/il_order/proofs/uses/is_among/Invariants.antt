@@ -1,0 +1,6 @@
+use Rattle.std.proofs.Common.{◌≡◌, drop}
+use Rattle.il_order.specs.Used.{is_among}
+use Rattle.il_order.proofs.uses.is_among.Given as goal
+
+abbrev pub invariant-loop-one : goal.invariant-loop-one
+invariant-loop-one l = is_among l.used l.number ≡ is_among (drop l.one-index l.used) l.number

@@ -1,0 +1,116 @@
+// The rules of order and of slots in a configuration.
+
+ghost use Rattle.std.specs.Prelude.{◌≡◌, IfOk, length};
+ghost use Rattle.il_rules.specs.Faults.{HasNoFault, BreaksDeclarations, BreaksOrder};
+ghost use Rattle.il_found.specs.Least.{IsLeast};
+ghost use Rattle.il_order.specs.Breaks as breaks;
+ghost use Rattle.il_order.specs.Breaks.{UnitBreaks, UnitsBreak, AllUnitsBreak, LinesBreak, GlobalsBreak, SlotsBreak};
+
+use crate::chains::{chained, is_long};
+use crate::fault::OrderFault;
+use crate::relation::{Relation, closed, holds};
+use crate::slots::{MOST, counts, is_over, unit_counts, with_declared};
+use crate::uses::uses;
+use il_found::{Found, earlier, fault_if};
+use il_scope::Scoped;
+use il_spec::list::Items;
+use il_spec::tree::Place;
+use std::alloc::{AllocError, Global};
+
+/// The first fault of order and of slots.
+pub fn order_fault(alloc: Global, names: &Scoped) -> Result<Option<Found<OrderFault>>, AllocError>
+    requires { HasNoFault (BreaksDeclarations names.now) }
+    ensures { IfOk result (λ found. IsLeast found (λ n p. BreaksOrder names.now n p)) }
+{
+    let count = names.config().units.as_slice().len();
+    let uses = uses(alloc, names)?;
+    let chained = chained(alloc, &uses, count)?;
+    let reached = closed(alloc, uses, count)?;
+    let units = units_fault(names, &reached, &chained);
+    let slots = slots_fault(alloc, names, &reached)?;
+    Ok(earlier(units, slots))
+}
+
+// The first unit that reaches itself, or has a chain of uses that is too long.
+fn units_fault(
+    names: &Scoped,
+    reached: &Relation,
+    chained: &Items<bool>,
+) -> Option<Found<OrderFault>>
+    ensures { IsLeast result (UnitsBreak names.now reached.now chained.now (length names.now.units)) }
+{
+    let units = names.config().units.as_slice();
+    let mut found = None;
+    for at in 0..units.len() {
+        let unit = &units[at];
+        let here = unit_fault(reached, units.len(), chained, at, unit.place);
+        found = earlier(found, here);
+    }
+    found
+}
+
+// Whether a unit does.
+fn unit_fault(
+    reached: &Relation,
+    count: usize,
+    chained: &Items<bool>,
+    at: usize,
+    place: Place,
+) -> Option<Found<OrderFault>>
+    ensures { IsLeast result (UnitBreaks count reached.now chained.now at place) }
+{
+    let recursive = fault_if(holds(reached, at, at), OrderFault::Recursive, place);
+    let long = fault_if(
+        is_long(reached, count, chained, at),
+        OrderFault::TooDeepCalls,
+        place,
+    );
+    earlier(recursive, long)
+}
+
+// The first task, or the globals, with too many slots.
+fn slots_fault(
+    alloc: Global,
+    names: &Scoped,
+    reached: &Relation,
+) -> Result<Option<Found<OrderFault>>, AllocError>
+    requires { reached.now ≡ breaks.reached names.now }
+    ensures { IfOk result (λ found. IsLeast found (SlotsBreak names.now)) }
+{
+    let depth = names.config().units.as_slice().len() + 1;
+    let counted = counts(alloc, names, depth)?;
+    let all = unit_counts(alloc, names, depth, &counted)?;
+    let lines = lines_fault(names, reached, &all);
+    let globals = globals_fault(names, depth, &counted);
+    Ok(earlier(lines, globals))
+}
+
+// The first PROGRAM line whose program needs too many slots.
+fn lines_fault(
+    names: &Scoped,
+    reached: &Relation,
+    counted: &Items<usize>,
+) -> Option<Found<OrderFault>>
+    ensures { IsLeast result (LinesBreak names.now reached.now counted.now (length names.now.programs)) }
+{
+    let lines = names.config().programs.as_slice();
+    let mut found = None;
+    for at in 0..lines.len() {
+        let line = &lines[at];
+        let over = is_over(names, reached, counted, line);
+        found = earlier(found, fault_if(over, OrderFault::TooManySlots, line.place));
+    }
+    found
+}
+
+// The globals with too many slots, at their VAR_GLOBAL.
+fn globals_fault(names: &Scoped, depth: usize, counted: &Items<usize>) -> Option<Found<OrderFault>>
+    ensures { IsLeast result (GlobalsBreak names.now depth counted.now) }
+{
+    let config = names.config();
+    let total = with_declared(names, depth, counted, 0, config.globals.as_slice());
+    match config.globals_place {
+        Some(place) => fault_if(total > MOST, OrderFault::TooManySlots, place),
+        None => None,
+    }
+}
