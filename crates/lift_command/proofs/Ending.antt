@@ -9,6 +9,7 @@ use Rattle.lift_host.specs.Messages.{status_of, message_of, fault_of, fault_of_r
 use Rattle.lift_command.specs.Runs.{Outcome, IsOutcome, unasked, asked, unread, refused, accepted}
 use Rattle.lift_host.specs.declared.files.ReadFault.{ReadFault}
 use Rattle.lift_host.specs.declared.files.ReadFault.TheVariants as read
+use Rattle.lift_host.specs.declared.request.Request.TheVariants as request
 use Rattle.lift_host.specs.declared.status.Fault.{Fault}
 use Rattle.lift_host.specs.declared.status.Fault.TheVariants as fault
 use Rattle.lift_host.specs.declared.status.Status.{Status}
@@ -18,6 +19,7 @@ use Rattle.lift_host.specs.declared.status.Status.TheVariants as status
 never_done : (f : Fault) → status_of f ≡ status.Done → ⊥
 never_done (fault.Misuse text) e = cc
 never_done (fault.Refused number line) e = cc
+never_done fault.BadPress e = cc
 never_done (fault.Event number) e = cc
 never_done fault.CannotRead e = cc
 never_done fault.CannotWrite e = cc
@@ -27,6 +29,7 @@ never_done fault.NoMemory e = cc
 cannot_write_only : (f : Fault) → status_of f ≡ status.CannotWrite → f ≡ fault.CannotWrite
 cannot_write_only (fault.Misuse text) e = cc
 cannot_write_only (fault.Refused number line) e = cc
+cannot_write_only fault.BadPress e = cc
 cannot_write_only (fault.Event number) e = cc
 cannot_write_only fault.CannotRead e = cc
 cannot_write_only fault.CannotWrite e = refl
@@ -48,7 +51,8 @@ pub never_unwritten : (gives : List ℕ → ℕ → List ℕ → Type 0) (fails 
 never_unwritten gives fails loads words (unasked none h) = absurd h
 never_unwritten gives fails loads words (asked request asks (unread why h is)) = unread_is_other why (sym (same_fault _ _ _ refl is))
 never_unwritten gives fails loads words (asked request asks (refused text why h l is)) = refused_is_other why (sym (same_fault _ _ _ refl is))
-never_unwritten gives fails loads words (asked request asks (accepted text program h l p)) = absurd p
+never_unwritten gives fails loads words (asked (request.Check file) asks (accepted text program h l p)) = absurd p
+never_unwritten gives fails loads words (asked (request.Sim file rounds presses) asks (accepted text program h l p)) = absurd p
 
 -- where it is done, the outcome was an output, and it was written
 pub done_of : (M : Outcome → Type 0) (Written : String Global → Type 0) (outcome : Outcome) (result : Status)

@@ -20,5 +20,5 @@ failed_follows gives fails loads request outcome fault name is shown (inr h) = r
 -- the output of a program that the loader has verified
 pub verified_follows : (gives : List ℕ → ℕ → List ℕ → Type 0) (fails : List ℕ → ℕ → ReadFault → Type 0) (loads : List ℕ → Result Program Refusal → Type 0) (request : Request) (outcome : Outcome) (program : Program) (name : List ℕ)
     → name ≡ name_of request → (text : List ℕ) × gives name most_bytes text × loads text (Ok program)
-    → IsProgramOutcome outcome → IsFileOutcome gives fails loads request outcome
+    → IsProgramOutcome request program outcome → IsFileOutcome gives fails loads request outcome
 verified_follows gives fails loads request outcome program name is h shown = accepted h.0 program (subst (λ n. gives n most_bytes h.0) is h.1) h.2 shown

@@ -4,12 +4,16 @@ use Rattle.std.specs.Global.{Global}
 use Rattle.il_spec.specs.declared.fault.Refusal.{Refusal}
 use Rattle.il_machine.specs.Scanning.{Program}
 use Rattle.lift_host.specs.declared.files.ReadFault.{ReadFault}
+use Rattle.lift_host.specs.declared.press.Press.{Press}
 use Rattle.lift_host.specs.declared.request.Request.{Request}
+use Rattle.lift_host.specs.declared.request.Request.TheVariants as request
 use Rattle.lift_host.specs.declared.status.Fault.{Fault}
 use Rattle.lift_host.specs.declared.status.Fault.TheVariants as fault
 use Rattle.lift_host.specs.declared.status.Status.{Status}
 use Rattle.lift_host.specs.Messages.{fault_of, fault_of_reading, message_of, status_of}
 use Rattle.lift_host.specs.Requests.{Asks, name_of}
+use Rattle.lift_host.specs.Presses.{ArePresses}
+use Rattle.lift_spec.specs.Image.{sizes_of}
 
 -- the bytes of a file that are read: one more than a text may have
 abbrev pub most_bytes : ℕ
@@ -26,18 +30,30 @@ IsWordsOutcome (Err (fault.Misuse text)) = Unit {0}
 IsWordsOutcome (Err fault.NoMemory) = Unit {0}
 IsWordsOutcome (Err _) = ⊥
 
--- A verified program gives what its command prints; memory may be missing, or an event be refused.
-abbrev pub IsProgramOutcome : Outcome → Type 0
-IsProgramOutcome (Ok text) = Unit {0}
-IsProgramOutcome (Err (fault.Event number)) = Unit {0}
-IsProgramOutcome (Err fault.NoMemory) = Unit {0}
-IsProgramOutcome (Err _) = ⊥
+-- `check` of a verified program prints; memory may be missing.
+abbrev pub IsCheckOutcome : Outcome → Type 0
+IsCheckOutcome (Ok text) = Unit {0}
+IsCheckOutcome (Err fault.NoMemory) = Unit {0}
+IsCheckOutcome (Err _) = ⊥
+
+-- `sim` prints, or an event is refused, where its further words are presses; otherwise one of them is bad. Memory may be missing.
+abbrev pub IsSimOutcome : (rounds floors : ℕ) → List (String Global) → Outcome → Type 0
+IsSimOutcome rounds floors words (Ok text) = (presses : List Press) × ArePresses rounds floors words presses
+IsSimOutcome rounds floors words (Err (fault.Event number)) = (presses : List Press) × ArePresses rounds floors words presses
+IsSimOutcome rounds floors words (Err fault.BadPress) = (presses : List Press) → ArePresses rounds floors words presses → ⊥
+IsSimOutcome rounds floors words (Err fault.NoMemory) = Unit {0}
+IsSimOutcome rounds floors words (Err _) = ⊥
+
+-- A verified program gives what its command prints.
+abbrev pub IsProgramOutcome : Request → Program → Outcome → Type 0
+IsProgramOutcome (request.Check file) program outcome = IsCheckOutcome outcome
+IsProgramOutcome (request.Sim file rounds presses) program outcome = IsSimOutcome rounds (sizes_of program.config).floors presses.now outcome
 
 -- A request has the outcome that its file and the loader make: the file may give nothing, or its text be refused.
 pub data IsFileOutcome (gives : List ℕ → ℕ → List ℕ → Type 0) (fails : List ℕ → ℕ → ReadFault → Type 0) (loads : List ℕ → Result Program Refusal → Type 0) (request : Request) (outcome : Outcome) : Type 0 where
   unread : (why : ReadFault) → fails (name_of request) most_bytes why → outcome ≡ Err (fault_of_reading why) → IsFileOutcome gives fails loads request outcome
   refused : (text : List ℕ) (why : Refusal) → gives (name_of request) most_bytes text → loads text (Err why) → outcome ≡ Err (fault_of why) → IsFileOutcome gives fails loads request outcome
-  accepted : (text : List ℕ) (program : Program) → gives (name_of request) most_bytes text → loads text (Ok program) → IsProgramOutcome outcome → IsFileOutcome gives fails loads request outcome
+  accepted : (text : List ℕ) (program : Program) → gives (name_of request) most_bytes text → loads text (Ok program) → IsProgramOutcome request program outcome → IsFileOutcome gives fails loads request outcome
 
 -- Words have the outcome of their request, where they ask for one.
 pub data IsOutcome (gives : List ℕ → ℕ → List ℕ → Type 0) (fails : List ℕ → ℕ → ReadFault → Type 0) (loads : List ℕ → Result Program Refusal → Type 0) (words : List (List ℕ)) (outcome : Outcome) : Type 0 where

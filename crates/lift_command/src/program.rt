@@ -3,9 +3,10 @@
 ghost use Rattle.std.specs.Prelude.{◌≡◌, ◌⊎◌, ℕ, List, Ok, Err, true, IfOk, IfErr, map, string_bytes};
 ghost use Rattle.std.specs.Io.KnownBytes.{Appends, Keeps};
 ghost use Rattle.il_spec.specs.declared.fault.Refusal.{Refusal};
+ghost use Rattle.lift_spec.specs.Image.{sizes_of};
 ghost use Rattle.lift_command.specs.Loaded.{IsLoaded};
 ghost use Rattle.lift_host.specs.Messages.{fault_of, fault_of_reading};
-ghost use Rattle.lift_command.specs.Runs.{IsOutcome, IsFileOutcome, IsWordsOutcome, IsProgramOutcome, HasWritten, HasTold};
+ghost use Rattle.lift_command.specs.Runs.{IsOutcome, IsFileOutcome, IsWordsOutcome, IsCheckOutcome, IsSimOutcome, IsProgramOutcome, HasWritten, HasTold};
 ghost use Rattle.lift_host.specs.Writes.{Writes, AppendsFront};
 ghost use Rattle.lift_host.specs.declared.files.ReadFault.{ReadFault};
 
@@ -13,6 +14,7 @@ use crate::loader::{Loader, Verifier};
 use il_machine::Verified;
 use lift_help::command::{Answer, answer_of};
 use lift_host::files::TextFiles;
+use lift_host::press::presses;
 use lift_host::request::{Request, asked};
 use lift_host::sink::Sink;
 use lift_host::status::{Fault, Status, show};
@@ -121,22 +123,31 @@ fn outcome_of_program(
     request: Request<'_>,
     verified: Verified,
 ) -> Result<String, Fault>
-    ensures { IsProgramOutcome result }
+    ensures { IsProgramOutcome request.entry verified result }
 {
     match request {
         Request::Check { .. } => checked(alloc, verified),
-        Request::Sim { rounds, .. } => simulated(alloc, verified, rounds),
+        Request::Sim {
+            rounds, presses, ..
+        } => simulated(alloc, verified, rounds, presses),
     }
 }
 
 fn checked(alloc: Global, verified: Verified) -> Result<String, Fault>
-    ensures { IsProgramOutcome result }
+    ensures { IsCheckOutcome result }
 {
     Ok(check_text(alloc, &verified)?)
 }
 
-fn simulated(alloc: Global, verified: Verified, rounds: u16) -> Result<String, Fault>
-    ensures { IsProgramOutcome result }
+fn simulated(
+    alloc: Global,
+    verified: Verified,
+    rounds: u16,
+    words: &[String],
+) -> Result<String, Fault>
+    ensures { IsSimOutcome rounds (sizes_of verified.config).floors words.now result }
 {
-    Ok(sim_text(alloc, verified, rounds)?)
+    let floors = u16::from(verified.sizes().floors);
+    let presses = presses(alloc, words, rounds, floors)?;
+    Ok(sim_text(alloc, verified, rounds, presses.as_slice())?)
 }

@@ -58,12 +58,20 @@ fn rounds<'a>(alloc: Global) -> Arg<'a> {
         .help("How many rounds of 100 ms, from 1 to 50000")
 }
 
+/// The arguments PRESS.
+fn presses<'a>(alloc: Global) -> Arg<'a> {
+    Arg::new(alloc, "PRESS")
+        .num_args(0..)
+        .help("A call: ROUND:FROM:TO, a round and two floors; at most 1000")
+}
+
 /// The command that simulates.
 fn sim_command<'a>(alloc: Global) -> Result<Command<'a>, AllocError> {
     Command::new(alloc, "sim")
         .about("Runs FILE on a simulated plant and prints the trace")
         .arg(file(alloc))?
-        .arg(rounds(alloc))
+        .arg(rounds(alloc))?
+        .arg(presses(alloc))
 }
 
 /// The program without its commands.
@@ -94,7 +102,7 @@ fn misuse_of(words: &[String]) -> Misuse<'_> {
         return Misuse::Option(word);
     }
     match words {
-        [_, _, rounds] => Misuse::Rounds(rounds),
+        [_, _, rounds, ..] => Misuse::Rounds(rounds),
         _ => Misuse::Missing,
     }
 }

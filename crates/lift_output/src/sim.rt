@@ -3,9 +3,11 @@
 use crate::trace::Trace;
 use il_machine::verified::is_task_name;
 use il_machine::{TaskInfo, Verified};
+use lift_host::press::Press;
 use lift_host::status::Fault;
-use lift_image::Sizes;
+use lift_image::{Fields, Sizes};
 use lift_plant::plant::{Plant, plant_step};
+use lift_spec::calls::Call;
 use lift_spec::event::{EventFault, Reply};
 use lift_spec::report::Report;
 use lift_world::{Event, World};
@@ -56,20 +58,30 @@ impl From<SimFault> for Fault {
     }
 }
 
-/// The trace of so many rounds. In each round the plant goes one step under the outputs of the
-/// image, the image is refreshed, and each task then runs one scan.
-pub fn sim_text(alloc: Global, verified: Verified, rounds: u16) -> Result<String, SimFault> {
+/// The trace of so many rounds. In each round its presses are made and gathered, the plant goes one
+/// step under the outputs of the image, the image is refreshed, and each task then runs one scan.
+pub fn sim_text(
+    alloc: Global,
+    verified: Verified,
+    rounds: u16,
+    presses: &[Press],
+) -> Result<String, SimFault> {
     match World::new(alloc, verified) {
-        Ok(mut world) => traced(alloc, &mut world, rounds),
+        Ok(mut world) => traced(alloc, &mut world, rounds, presses),
         Err(_) => Err(SimFault::NoMemory),
     }
 }
 
 /// The trace of so many rounds of a world.
-fn traced(alloc: Global, world: &mut World, rounds: u16) -> Result<String, SimFault> {
+fn traced(
+    alloc: Global,
+    world: &mut World,
+    rounds: u16,
+    presses: &[Press],
+) -> Result<String, SimFault> {
     let tasks = tasks_of(alloc, world.verified())?;
     let mut trace = Trace::new(alloc)?;
-    run_rounds(world, &tasks, &mut trace, rounds)?;
+    run_rounds(world, &tasks, &mut trace, rounds, presses)?;
     Ok(trace.finish()?)
 }
 
@@ -78,10 +90,41 @@ fn run_rounds(
     tasks: &[u8],
     trace: &mut Trace,
     rounds: u16,
+    presses: &[Press],
 ) -> Result<(), SimFault> {
     let mut plant = plant_of(world.sizes())?;
-    for _ in 0..rounds {
+    for number in 1..=rounds {
+        press_all(world, number, presses)?;
         plant = round(world, plant, tasks, trace)?;
+    }
+    Ok(())
+}
+
+/// The presses of a round, in their order; then what the desk has from each floor is gathered.
+fn press_all(world: &mut World, number: u16, presses: &[Press]) -> Result<(), SimFault> {
+    let mut pressed = false;
+    for press in presses.iter().filter(|press| press.round == number) {
+        applied(world, Event::Press(call_of(press)?))?;
+        pressed = true;
+    }
+    if pressed {
+        gather_all(world)?;
+    }
+    Ok(())
+}
+
+/// The call of a press. No group has other floors.
+fn call_of(press: &Press) -> Result<Call, SimFault> {
+    match (u8::try_from(press.from), u8::try_from(press.to)) {
+        (Ok(from), Ok(to)) => Ok(Call { from, to }),
+        _ => Err(SimFault::Event(EventFault::NoSuchActor)),
+    }
+}
+
+fn gather_all(world: &mut World) -> Result<(), SimFault> {
+    let Sizes { floors, .. } = world.sizes();
+    for floor in 1..=floors {
+        applied(world, Event::Gather(floor))?;
     }
     Ok(())
 }
@@ -123,12 +166,25 @@ fn round(
         return Err(SimFault::Event(EventFault::FieldOutOfRange));
     }
     let (plant, fields) = plant_step(plant, outputs);
-    trace.refresh(&fields)?;
-    applied(world, Event::Refresh(fields))?;
+    refreshed(world, fields, trace)?;
     for task in tasks {
         scan(world, *task, trace)?;
     }
     Ok(plant)
+}
+
+/// A refresh, with the calls that it enters.
+fn refreshed(world: &mut World, fields: Fields, trace: &mut Trace) -> Result<(), SimFault> {
+    let mut report = Report::new();
+    let event = Event::Refresh(fields);
+    if let Reply::Refused(fault) = world.apply(&event, &mut report) {
+        return Err(SimFault::Event(fault));
+    }
+    trace.entered(report.entered.as_slice())?;
+    if let Event::Refresh(fields) = &event {
+        trace.refresh(fields)?;
+    }
+    Ok(())
 }
 
 /// One scan of a task.

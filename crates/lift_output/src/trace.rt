@@ -2,9 +2,10 @@
 
 use itoa::{Buffer, Integer};
 use lift_image::{CarFields, Fields};
+use lift_spec::report::EnteredCall;
 use std::alloc::{AllocError, Global};
 
-/// A trace that is being written: a line for each refresh, start and commit.
+/// A trace that is being written: a line for each call that is entered, refresh, start and commit.
 #[derive(Drop)]
 pub struct Trace {
     text: String,
@@ -28,6 +29,31 @@ impl Trace {
             self.car(car)?;
         }
         self.text.push_str("\n")
+    }
+
+    /// Adds the calls that a refresh enters, a press for each; and a gathering of each of their
+    /// floors, rising.
+    pub fn entered(&mut self, calls: &[EnteredCall]) -> Result<(), AllocError> {
+        for entered in calls {
+            self.text.push_str("P")?;
+            self.part(entered.call.from)?;
+            self.part(entered.call.to)?;
+            self.text.push_str("\n")?;
+        }
+        self.gathered(calls)
+    }
+
+    fn gathered(&mut self, calls: &[EnteredCall]) -> Result<(), AllocError> {
+        let mut last = 0;
+        for entered in calls {
+            if entered.call.from != last {
+                self.text.push_str("G")?;
+                self.part(entered.call.from)?;
+                self.text.push_str("\n")?;
+            }
+            last = entered.call.from;
+        }
+        Ok(())
     }
 
     /// Adds the start of a task's scan.
