@@ -100,17 +100,16 @@ fn run_rounds(
     Ok(())
 }
 
-/// The presses of a round, in their order; then what the desk has from each floor is gathered.
+/// The presses of a round, in their order; then what the desk has from each floor is gathered. Where
+/// nothing is ever pressed, there is nothing to gather.
 fn press_all(world: &mut World, number: u16, presses: &[Press]) -> Result<(), SimFault> {
-    let mut pressed = false;
+    if presses.is_empty() {
+        return Ok(());
+    }
     for press in presses.iter().filter(|press| press.round == number) {
         applied(world, Event::Press(call_of(press)?))?;
-        pressed = true;
     }
-    if pressed {
-        gather_all(world)?;
-    }
-    Ok(())
+    gather_all(world)
 }
 
 /// The call of a press. No group has other floors.
