@@ -8,6 +8,7 @@ mod fault;
 mod relation;
 mod slots;
 mod uses;
+mod variables;
 
 ghost use Rattle.std.specs.Prelude.{◌≡◌, IfOk, IfErr};
 ghost use Rattle.il_rules.specs.Faults.{IsRefusedBy, Ordering, HasNoFault, Broken, BreaksOrder};
