@@ -1,5 +1,5 @@
 -- What the code looks for are the rules.
-use Rattle.std.proofs.Common.{◌≡◌, ℕ, zero, suc, ◌+◌, ◌<◌, ◌≤◌, ◌⊎◌, inl, inr, Bool, true, false, nat_lt, List, length, slice_get, Option, Some, None, is_some, option_and_then, refl, sym, ap, ◌∙◌, subst, arith}
+use Rattle.std.proofs.Common.{◌≡◌, ℕ, suc, ◌+◌, ◌<◌, inl, inr, Bool, true, false, nat_lt, List, length, slice_get, Option, Some, None, is_some, option_and_then, refl, sym, ap, ◌∙◌, subst, arith}
 use Rattle.std.specs.Prelude.{Contains, sum_by}
 use Rattle.std.proofs.lemmas.Bool.{ltb-true, ltb-false}
 use Rattle.std.proofs.lemmas.Option.{slice_get_within}
@@ -11,15 +11,16 @@ use Rattle.il_spec.specs.declared.fault.Refusal.{Refusal}
 use Rattle.il_spec.specs.declared.fault.Refusal.TheVariants.{Fault}
 use Rattle.il_rules.specs.Names.{program_named}
 use Rattle.il_rules.specs.Faults.{HasNoFault, IsRefusedBy, Broken, Ordering, BreaksDeclarations, BreaksOrder, recursive as of_recursive, long_chain as of_long_chain, too_many_slots}
-use Rattle.il_rules.specs.Order.{HasTooManySlots, AreFunctionsOf, recursive, long_chain, of_task, of_globals, unit_slots, function_slots, global_slots}
+use Rattle.il_rules.specs.Order.{HasTooManySlots, recursive, long_chain, of_task, of_globals, unit_slots, function_slots}
 use Rattle.il_found.specs.Least.{NumberedFault, earlier_of, IsLeast, Either}
 use Rattle.il_found.proofs.Least.{least_both, least_same}
 use Rattle.il_scope.specs.Views.{program_number}
 use Rattle.il_scope.proofs.Laws.{program_found, program_there}
-use Rattle.il_order.specs.Related.{holds, closed}
+use Rattle.il_order.specs.Related.{closed}
 use Rattle.il_order.specs.Used.{uses}
-use Rattle.il_order.specs.Chained.{chained, is_long}
-use Rattle.il_order.specs.Counted.{counts, unit_counts, is_over, is_over_of, task_count, with_declared}
+use Rattle.il_order.specs.Chained.{chained}
+use Rattle.il_order.specs.Counted.{counts, counts_of, unit_counts, units_listed, all_listed, with_variables, is_over, is_over_of, task_count, with_declared}
+use Rattle.il_order.specs.declared.variables.Variables.{Variables}
 use Rattle.il_order.specs.Breaks.{reached, UnitsBreak, LinesBreak, GlobalsBreak, SlotsBreak, AllUnitsBreak}
 use Rattle.il_order.proofs.Tabled.{place_in, in_place}
 use Rattle.il_order.proofs.Distinct.{AreDistinct, distinct}
@@ -96,16 +97,23 @@ pub refused_by : (c : Config) (found : Option NumberedFault) (f : NumberedFault)
 refused_by c found f r least is named = subst (IsRefusedBy (Broken Ordering c)) (sym named) (f.place, record { broken = least.holds f is; first = least.first f is }, refl)
 
 -- the slots of tasks, and of the globals
-pub slots_least : (c : Config) (r : List (List Bool)) (count : ℕ) (counted all : List ℕ) (lines globals found : Option NumberedFault)
-    → r ≡ reached c → count ≡ length c.units → counted ≡ counts c (count + 1) → all ≡ unit_counts c (count + 1) counted
-    → IsLeast lines (LinesBreak c r all (length c.programs)) → IsLeast globals (GlobalsBreak c (count + 1) counted) → found ≡ earlier_of lines globals → IsLeast found (SlotsBreak c)
-slots_least c r count counted all lines globals found reaching counting own_counts all_counts a b is =
-    least_both (LinesBreak c (reached c) (counts c (suc (length c.units + 1))) (length c.programs)) (GlobalsBreak c (length c.units + 1) (counts c (length c.units + 1))) lines globals found is
+pub slots_least : (c : Config) (r : List (List Bool)) (count total : ℕ) (units : List (List Variables)) (declared : List Variables) (counted all : List ℕ) (lines globals found : Option NumberedFault)
+    → r ≡ reached c → count ≡ length c.units → units ≡ units_listed c → declared ≡ all_listed c c.globals → counted ≡ counts_of units (count + 1) → all ≡ unit_counts (count + 1) counted units
+    → total ≡ with_variables (count + 1) counted 0 declared
+    → IsLeast lines (LinesBreak c r all (length c.programs)) → IsLeast globals (GlobalsBreak c total) → found ≡ earlier_of lines globals → IsLeast found (SlotsBreak c)
+slots_least c r count total units declared counted all lines globals found reaching counting units_are declared_are own_counts all_counts total_is a b is =
+    least_both (LinesBreak c (reached c) (counts c (suc (length c.units + 1))) (length c.programs)) (GlobalsBreak c (with_declared c (length c.units + 1) (counts c (length c.units + 1)) 0 c.globals)) lines globals found is
     (subst (λ x. IsLeast lines (LinesBreak c x (counts c (suc (length c.units + 1))) (length c.programs))) reaching (subst (λ x. IsLeast lines (LinesBreak c r x (length c.programs))) every a))
-    (subst (λ x. IsLeast globals (GlobalsBreak c (x + 1) (counts c (x + 1)))) counting (subst (λ x. IsLeast globals (GlobalsBreak c (count + 1) x)) own_counts b))
+    (subst (λ x. IsLeast globals (GlobalsBreak c x)) sum_is b)
   where
+    own : counted ≡ counts c (length c.units + 1)
+    own = own_counts ∙ ap (λ u. counts_of u (count + 1)) units_are ∙ ap (λ x. counts c (x + 1)) counting
+
     every : all ≡ counts c (suc (length c.units + 1))
-    every = all_counts ∙ ap (unit_counts c (count + 1)) own_counts ∙ ap (λ x. unit_counts c (x + 1) (counts c (x + 1))) counting
+    every = all_counts ∙ ap (λ u. unit_counts (count + 1) counted u) units_are ∙ ap (λ x. unit_counts (count + 1) x (units_listed c)) own ∙ ap (λ x. unit_counts (x + 1) (counts c (length c.units + 1)) (units_listed c)) counting
+
+    sum_is : total ≡ with_declared c (length c.units + 1) (counts c (length c.units + 1)) 0 c.globals
+    sum_is = total_is ∙ ap (λ d. with_variables (count + 1) counted 0 d) declared_are ∙ ap (λ x. with_declared c (count + 1) x 0 c.globals) own ∙ ap (λ x. with_declared c (x + 1) (counts c (length c.units + 1)) 0 c.globals) counting
 
 -- all of order
 pub order_least : (c : Config) → HasNoFault (BreaksDeclarations c) → (count : ℕ) (used : List (List Bool)) (long : List Bool) (r : List (List Bool)) (units slots found : Option NumberedFault)

@@ -1,12 +1,12 @@
 -- Chains of uses, and recursions behind them.
-use Rattle.std.proofs.Common.{◌≡◌, ◌≢◌, ℕ, zero, suc, ◌<◌, ◌≤◌, ◌⊎◌, inl, inr, Bool, true, false, ◌||◌, ◌&&◌, List, [], ◌∷◌, length, get_or, slice_get, Some, refl, sym, ap, ◌∙◌, subst, arith}
-use Rattle.std.specs.Prelude.{not, All, AllPairs}
+use Rattle.std.proofs.Common.{◌≡◌, ◌≢◌, ℕ, zero, suc, ◌<◌, ◌≤◌, inl, inr, Bool, true, false, ◌&&◌, List, [], ◌∷◌, length, get_or, slice_get, Some, refl, sym, ap, ◌∙◌, subst, arith}
+use Rattle.std.specs.Prelude.{not, All}
 use Rattle.std.proofs.lemmas.Option.{slice_get-get_or, slice_get_within}
 use Rattle.std.proofs.lemmas.List.Kept.{AllPairs-cons}
 use Rattle.il_spec.specs.declared.tree.Config.{Config}
 use Rattle.il_spec.specs.declared.tree.Unit.{Unit as ProgramUnit}
-use Rattle.il_rules.specs.Order.{Uses, IsChain, UsesThrough, Reaches, NamesNoneTwice, IsFreeOfLoops}
-use Rattle.il_order.specs.Related.{tabulate, any_below, is_entry, is_set, holds}
+use Rattle.il_rules.specs.Order.{Uses, IsChain, Reaches, NamesNoneTwice, IsFreeOfLoops}
+use Rattle.il_order.specs.Related.{any_below, is_entry, is_set, holds}
 use Rattle.il_order.specs.Used.{uses}
 use Rattle.il_order.specs.Chained.{is_longer, chained, meets_loop, is_long}
 use Rattle.il_order.proofs.Tabled.{or_left, or_right, from_or, and_both, from_and, not_both, some_same, tabulated, some_below, below_some}

@@ -1,7 +1,7 @@
 -- A relation through more and more units is transitive through these.
-use Rattle.std.proofs.Common.{◌≡◌, ℕ, zero, suc, ◌<◌, ◌≤◌, ◌⊎◌, inl, inr, Bool, true, ◌||◌, ◌&&◌, List, refl, sym, ap, ◌∙◌, subst, arith}
+use Rattle.std.proofs.Common.{◌≡◌, ℕ, zero, suc, ◌<◌, ◌≤◌, ◌⊎◌, inl, inr, Bool, true, ◌&&◌, List, sym, ap, ◌∙◌, subst, arith}
 use Rattle.std.proofs.lemmas.Bool.{cases_lt}
-use Rattle.il_order.specs.Related.{tabulate, is_entry, holds_in, holds, is_joined, joined_row, closed}
+use Rattle.il_order.specs.Related.{is_entry, holds_in, holds, is_joined, joined_row, closed}
 use Rattle.il_order.proofs.Tabled.{or_left, or_right, from_or, and_both, from_and, tabulated}
 
 module _ (n : ℕ) (relation : List (List Bool)) where

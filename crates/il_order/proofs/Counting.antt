@@ -1,6 +1,5 @@
 -- What the code counts are the slots, up to the limit.
-use Rattle.std.proofs.Common.{◌≡◌, ℕ, zero, suc, ◌+◌, ◌*◌, ◌<◌, ◌≤◌, ◌⊎◌, inl, inr, Bool, true, false, List, [], ◌∷◌, ◌++◌, length, map, slice_get, Option, Some, None, option_map, option_and_then, refl, sym, ap, ◌∙◌, subst, arith}
-use Rattle.std.specs.Prelude.{min, sum_by, fold}
+use Rattle.std.proofs.Common.{◌≡◌, ℕ, zero, suc, ◌+◌, ◌*◌, ◌<◌, ◌≤◌, inl, inr, List, [], ◌∷◌, ◌++◌, length, map, slice_get, Option, Some, None, option_map, option_and_then, refl, sym, ap, ◌∙◌, arith}
 use Rattle.std.proofs.lemmas.Bool.{cases_lt}
 use Rattle.std.proofs.lemmas.Option.{slice_get-map}
 use Rattle.std.proofs.Math.Nat.{zero-mul}
@@ -12,7 +11,7 @@ use Rattle.il_spec.specs.declared.tree.Declaration.{Declaration}
 use Rattle.il_spec.specs.declared.tree.Form.{Form}
 use Rattle.il_spec.specs.declared.tree.Form.TheVariants.{Scalar as OfScalar, Array as OfArray, Block as OfBlock}
 use Rattle.il_rules.specs.Names.{Spelling, named_forms, own_block_variables, block_variables, standard_variables}
-use Rattle.il_rules.specs.Order.{form_slots, variable_slots, known_block_slots, block_slots, instance_slots, unit_slots, global_slots}
+use Rattle.il_rules.specs.Order.{form_slots, variable_slots, known_block_slots, block_slots, unit_slots, global_slots}
 use Rattle.il_scope.specs.Entries.{shown_block}
 use Rattle.il_scope.specs.declared.entry.BlockType.{BlockType}
 use Rattle.il_scope.specs.declared.entry.BlockType.TheVariants.{Standard as StandardType, Own}
@@ -20,7 +19,8 @@ use Rattle.il_scope.specs.declared.entry.StandardBlock.{StandardBlock}
 use Rattle.il_scope.specs.declared.entry.StandardBlock.TheVariants.{Sr, Rs, RTrig, FTrig, Ctu, Ctd, Ctud, Tp, Ton, Tof}
 use Rattle.il_scope.specs.Views.{block_type, variables_of_block}
 use Rattle.il_scope.proofs.Laws.{block_found}
-use Rattle.il_order.specs.Counted.{capped, standard_slots, number_in, number_at, block_count, instance_count, form_count, with_declared, unit_count, unit_counts, counts}
+use Rattle.il_order.specs.Counted.{capped, standard_slots, number_in, number_at, block_count, type_count, form_count, all_listed, unit_listed, units_listed, with_variables, with_declared, counts}
+use Rattle.il_order.specs.declared.variables.Variables.{Variables}
 
 -- CAPS
 
@@ -88,9 +88,16 @@ declared_is c depth forms (d ∷ ds) total t is =
         ∙ ap (λ x. capped (capped t + x)) (capped_times (length d.names) (form_slots (λ n. block_slots c depth n) d.declared.form))
         ∙ capped_sum t (length d.names * form_slots (λ n. block_slots c depth n) d.declared.form)
 
-unit_from : (c : Config) (depth : ℕ) → AreForms c depth → (u : ProgramUnit) → unit_count c depth (counts c depth) u ≡ capped (known_block_slots (λ n. block_slots c depth n) (Some (own_block_variables u)))
+-- variables behind others
+variables_on : (depth : ℕ) (counted : List ℕ) (total : ℕ) (xs ys : List Variables) → with_variables depth counted total (xs ++ ys) ≡ with_variables depth counted (with_variables depth counted total xs) ys
+variables_on depth counted total [] ys = refl
+variables_on depth counted total (x ∷ xs) ys = variables_on depth counted (capped (total + capped (x.count * type_count depth counted x.declared))) xs ys
+
+unit_from : (c : Config) (depth : ℕ) → AreForms c depth → (u : ProgramUnit) → with_variables depth (counts c depth) 0 (unit_listed c u) ≡ capped (known_block_slots (λ n. block_slots c depth n) (Some (own_block_variables u)))
 unit_from c depth forms u =
-    declared_is c depth forms u.variables (with_declared c depth (counts c depth) (with_declared c depth (counts c depth) 0 u.inputs) u.outputs) (0 + variable_slots (λ n. block_slots c depth n) (named_forms u.inputs) + variable_slots (λ n. block_slots c depth n) (named_forms u.outputs))
+    variables_on depth (counts c depth) 0 (all_listed c u.inputs ++ all_listed c u.outputs) (all_listed c u.variables)
+    ∙ ap (λ t. with_declared c depth (counts c depth) t u.variables) (variables_on depth (counts c depth) 0 (all_listed c u.inputs) (all_listed c u.outputs))
+    ∙ declared_is c depth forms u.variables (with_declared c depth (counts c depth) (with_declared c depth (counts c depth) 0 u.inputs) u.outputs) (0 + variable_slots (λ n. block_slots c depth n) (named_forms u.inputs) + variable_slots (λ n. block_slots c depth n) (named_forms u.outputs))
     (declared_is c depth forms u.outputs (with_declared c depth (counts c depth) 0 u.inputs) (0 + variable_slots (λ n. block_slots c depth n) (named_forms u.inputs)) (declared_is c depth forms u.inputs 0 0 refl))
     ∙ ap capped (from_zero (variable_slots (λ n. block_slots c depth n) (named_forms u.inputs)) (variable_slots (λ n. block_slots c depth n) (named_forms u.outputs)) (variable_slots (λ n. block_slots c depth n) (named_forms u.variables)))
   where
@@ -111,9 +118,9 @@ standard_is block Ton = refl
 standard_is block Tof = refl
 
 own_is : (c : Config) (depth k : ℕ) → AreForms c depth → number_at (counts c (suc depth)) k ≡ capped (known_block_slots (λ n. block_slots c depth n) (option_map own_block_variables (slice_get c.units k)))
-own_is c depth k forms = ap number_in (slice_get-map (λ u. unit_count c depth (counts c depth) u) c.units k) ∙ by_unit (slice_get c.units k)
+own_is c depth k forms = ap number_in (slice_get-map (λ vs. with_variables depth (counts c depth) 0 vs) (units_listed c) k) ∙ ap (λ o. number_in (option_map (λ vs. with_variables depth (counts c depth) 0 vs) o)) (slice_get-map (λ u. unit_listed c u) c.units k) ∙ by_unit (slice_get c.units k)
   where
-    by_unit : (o : Option ProgramUnit) → number_in (option_map (λ u. unit_count c depth (counts c depth) u) o) ≡ capped (known_block_slots (λ n. block_slots c depth n) (option_map own_block_variables o))
+    by_unit : (o : Option ProgramUnit) → number_in (option_map (λ vs. with_variables depth (counts c depth) 0 vs) (option_map (λ u. unit_listed c u) o)) ≡ capped (known_block_slots (λ n. block_slots c depth n) (option_map own_block_variables o))
     by_unit None = refl
     by_unit (Some u) = unit_from c depth forms u
 

@@ -1,9 +1,9 @@
 -- A unit reaches another where the relation through all units holds.
-use Rattle.std.proofs.Common.{◌≡◌, ℕ, zero, suc, ◌<◌, ◌≤◌, ◌⊎◌, inl, inr, Bool, true, List, [], ◌∷◌, ◌++◌, length, get_or, slice_get, Some, refl, sym, ap, ◌∙◌, subst, arith}
+use Rattle.std.proofs.Common.{◌≡◌, ℕ, zero, suc, ◌≤◌, inl, inr, true, List, [], ◌∷◌, ◌++◌, length, get_or, slice_get, Some, refl, subst, arith}
 use Rattle.std.proofs.lemmas.Option.{slice_get-get_or, slice_get_within}
 use Rattle.il_spec.specs.declared.tree.Config.{Config}
 use Rattle.il_spec.specs.declared.tree.Unit.{Unit as ProgramUnit}
-use Rattle.il_rules.specs.Order.{Uses, UsesThrough, Reaches}
+use Rattle.il_rules.specs.Order.{UsesThrough, Reaches}
 use Rattle.il_order.specs.Related.{holds}
 use Rattle.il_order.specs.Used.{uses}
 use Rattle.il_order.specs.Breaks.{reached}

@@ -1,8 +1,8 @@
 -- The slots of a task: those of the program, and once each those of the functions that it reaches.
 use Rattle.std.proofs.Common.{◌≡◌, ◌≢◌, ℕ, zero, suc, ◌+◌, ◌<◌, ◌≤◌, ◌⊎◌, inl, inr, Bool, true, false, ◌&&◌, if◌then◌else◌, List, [], ◌∷◌, ◌++◌, length, get_or, slice_get, Option, Some, None, refl, sym, ap, ◌∙◌, subst, arith}
-use Rattle.std.specs.Prelude.{Contains, All, AllPairs, IsTrue, sum_by}
+use Rattle.std.specs.Prelude.{Contains, sum_by}
 use Rattle.std.proofs.lemmas.Bool.{cases_lt}
-use Rattle.std.proofs.lemmas.Option.{slice_get-get_or, slice_get_within}
+use Rattle.std.proofs.lemmas.Option.{slice_get_within}
 use Rattle.std.proofs.lemmas.List.Sums.{sum_by-append, sum_by-cons}
 use Rattle.std.proofs.lemmas.List.Quantifiers.{all_pairs_push}
 use Rattle.std.proofs.lemmas.List.Elements.{Contains-append_left, Contains-append_right, Contains-append_cases, Contains-get_or}
@@ -14,7 +14,7 @@ use Rattle.il_scope.specs.Views.{passes}
 use Rattle.il_declare.proofs.Members.{none_in, one_in, in_rest}
 use Rattle.il_order.specs.Related.{holds}
 use Rattle.il_order.specs.Counted.{capped, number_at, counts, function_count, task_count}
-use Rattle.il_order.proofs.Tabled.{from_and, and_both, some_same, place_in}
+use Rattle.il_order.proofs.Tabled.{from_and, and_both}
 use Rattle.il_order.proofs.Distinct.{AreDistinct}
 use Rattle.il_order.specs.Breaks.{reached}
 use Rattle.il_order.proofs.Reaching.{reached_at, reach_to, reach_from}

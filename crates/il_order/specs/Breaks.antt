@@ -24,15 +24,15 @@ UnitsBreak config reached chained = Below (λ at unit. UnitBreaks (length config
 abbrev pub LinesBreak : Config → List (List Bool) → List ℕ → ℕ → ℕ → Place → Type 0
 LinesBreak config reached counted = Below (λ at line. When (is_over config reached counted line ≡ true) 12 line.place) config.programs
 
--- globals with too many slots
-pub record GlobalsBreak (config : Config) (depth : ℕ) (counted : List ℕ) (number : ℕ) (place : Place) : Type 0 where
+-- globals with so many slots, where these are too many
+pub record GlobalsBreak (config : Config) (total : ℕ) (number : ℕ) (place : Place) : Type 0 where
   pub stands : config.globals_place ≡ Some place
-  pub over : nat_lt 4096 (with_declared config depth counted 0 config.globals) ≡ true
+  pub over : nat_lt 4096 total ≡ true
   pub is : number ≡ 12
 
 -- all of slots
 abbrev pub SlotsBreak : Config → ℕ → Place → Type 0
-SlotsBreak config = Either (LinesBreak config (reached config) (counts config (suc (length config.units + 1))) (length config.programs)) (GlobalsBreak config (length config.units + 1) (counts config (length config.units + 1)))
+SlotsBreak config = Either (LinesBreak config (reached config) (counts config (suc (length config.units + 1))) (length config.programs)) (GlobalsBreak config (with_declared config (length config.units + 1) (counts config (length config.units + 1)) 0 config.globals))
 
 -- all of order
 abbrev pub AllUnitsBreak : Config → ℕ → Place → Type 0

@@ -1,5 +1,5 @@
 -- Long chains of uses.
-use Rattle.std.specs.Prelude.{ℕ, zero, suc, Bool, true, false, ◌&&◌, ◌||◌, not, List}
+use Rattle.std.specs.Prelude.{ℕ, zero, suc, Bool, true, ◌&&◌, ◌||◌, not, List}
 use Rattle.il_order.specs.Related.{tabulate, any_below, is_set, holds}
 
 -- whether a unit uses one of some units

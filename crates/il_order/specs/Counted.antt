@@ -1,17 +1,19 @@
 -- Slots, counted up to the limit of a task.
-use Rattle.std.specs.Prelude.{ℕ, zero, suc, ◌+◌, ◌*◌, ◌-ℤ◌, nat_abs, min, nat_lt, Bool, false, ◌&&◌, if◌then◌else◌, List, [], ◌∷◌, length, map, Option, Some, None, slice_get}
+use Rattle.std.specs.Prelude.{ℕ, zero, suc, ◌+◌, ◌*◌, ◌-ℤ◌, nat_abs, min, nat_lt, Bool, false, ◌&&◌, if◌then◌else◌, List, [], ◌∷◌, ◌++◌, length, map, Option, Some, None, slice_get}
 use Rattle.il_spec.specs.declared.tree.Config.{Config}
 use Rattle.il_spec.specs.declared.tree.Unit.{Unit as ProgramUnit}
 use Rattle.il_spec.specs.declared.tree.Declaration.{Declaration}
 use Rattle.il_spec.specs.declared.tree.ProgramLine.{ProgramLine}
 use Rattle.il_spec.specs.declared.tree.Form.{Form}
-use Rattle.il_spec.specs.declared.tree.Form.TheVariants.{Scalar as OfScalar, Array as OfArray, Block as OfBlock}
 use Rattle.il_rules.specs.Names.{is_function, standard_inputs, standard_outputs, standard_inner}
 use Rattle.il_scope.specs.Entries.{shown_block}
 use Rattle.il_scope.specs.declared.entry.BlockType.{BlockType}
 use Rattle.il_scope.specs.declared.entry.BlockType.TheVariants.{Standard, Own}
 use Rattle.il_scope.specs.declared.entry.StandardBlock.{StandardBlock}
-use Rattle.il_scope.specs.Views.{passes, block_type, program_number}
+use Rattle.il_scope.specs.declared.entry.VariableType.{VariableType}
+use Rattle.il_scope.specs.declared.entry.VariableType.TheVariants.{Scalar, Array, Instance}
+use Rattle.il_scope.specs.Views.{passes, type_of, program_number}
+use Rattle.il_order.specs.declared.variables.Variables.{Variables}
 use Rattle.il_order.specs.Related.{holds}
 
 -- a number of slots, at most one more than a task may have
@@ -41,27 +43,48 @@ instance_count zero counted block = 0
 instance_count (suc depth) counted block = block_count counted block
 
 -- those of a type
+abbrev pub type_count : ℕ → List ℕ → VariableType → ℕ
+type_count depth counted (Scalar scalar) = 1
+type_count depth counted (Array bounds element) = capped (nat_abs (bounds.upper -ℤ bounds.lower) + 1)
+type_count depth counted (Instance block) = instance_count depth counted block
+
 abbrev pub form_count : Config → ℕ → List ℕ → Form → ℕ
-form_count config depth counted (OfScalar scalar) = 1
-form_count config depth counted (OfArray bounds element) = capped (nat_abs (bounds.upper -ℤ bounds.lower) + 1)
-form_count config depth counted (OfBlock name) = instance_count depth counted (block_type config name)
+form_count config depth counted form = type_count depth counted (type_of config form)
 
--- those of declared variables, added to a number
+-- the variables of a declaration
+abbrev pub listed : Config → Declaration → Variables
+listed config d = record { count = length d.names; declared = type_of config d.declared.form }
+
+abbrev pub all_listed : Config → List Declaration → List Variables
+all_listed config declarations = map (λ d. listed config d) declarations
+
+-- those of a unit: its inputs, outputs and variables
+abbrev pub unit_listed : Config → ProgramUnit → List Variables
+unit_listed config unit = all_listed config unit.inputs ++ all_listed config unit.outputs ++ all_listed config unit.variables
+
+-- those of each unit
+abbrev pub units_listed : Config → List (List Variables)
+units_listed config = map (λ unit. unit_listed config unit) config.units
+
+-- the slots of variables, added to a number
+abbrev pub with_variables : ℕ → List ℕ → ℕ → List Variables → ℕ
+with_variables depth counted total [] = total
+with_variables depth counted total (v ∷ vs) = with_variables depth counted (capped (total + capped (v.count * type_count depth counted v.declared))) vs
+
+-- the slots of declared variables, added to a number
 abbrev pub with_declared : Config → ℕ → List ℕ → ℕ → List Declaration → ℕ
-with_declared config depth counted total [] = total
-with_declared config depth counted total (d ∷ ds) = with_declared config depth counted (capped (total + capped (length d.names * form_count config depth counted d.declared.form))) ds
-
--- those of a unit
-abbrev pub unit_count : Config → ℕ → List ℕ → ProgramUnit → ℕ
-unit_count config depth counted unit = with_declared config depth counted (with_declared config depth counted (with_declared config depth counted 0 unit.inputs) unit.outputs) unit.variables
+with_declared config depth counted total declarations = with_variables depth counted total (all_listed config declarations)
 
 -- those of all units, with instances in instances down to a depth
-abbrev pub unit_counts : Config → ℕ → List ℕ → List ℕ
-unit_counts config depth counted = map (λ unit. unit_count config depth counted unit) config.units
+abbrev pub unit_counts : ℕ → List ℕ → List (List Variables) → List ℕ
+unit_counts depth counted units = map (λ variables. with_variables depth counted 0 variables) units
+
+abbrev pub counts_of : List (List Variables) → ℕ → List ℕ
+counts_of units zero = []
+counts_of units (suc depth) = unit_counts depth (counts_of units depth) units
 
 abbrev pub counts : Config → ℕ → List ℕ
-counts config zero = []
-counts config (suc depth) = unit_counts config depth (counts config depth)
+counts config depth = counts_of (units_listed config) depth
 
 -- the slots of a unit that is a function which a program reaches; its result takes one
 abbrev pub function_count : Config → List (List Bool) → List ℕ → ℕ → ℕ → ℕ

@@ -1,5 +1,5 @@
 -- Relations between units, by their numbers.
-use Rattle.std.specs.Prelude.{ℕ, zero, suc, Bool, true, false, ◌&&◌, ◌||◌, List, [], ◌∷◌, ◌++◌, Option, Some, None, slice_get}
+use Rattle.std.specs.Prelude.{ℕ, zero, suc, Bool, false, ◌&&◌, ◌||◌, List, [], ◌∷◌, ◌++◌, Option, Some, None, slice_get}
 
 -- the values at the numbers below a bound
 abbrev pub tabulate : {A : Type 0} → ℕ → (ℕ → A) → List A

@@ -9,8 +9,9 @@ ghost use Rattle.il_order.specs.Breaks.{UnitBreaks, UnitsBreak, AllUnitsBreak, L
 use crate::chains::{chained, is_long};
 use crate::fault::OrderFault;
 use crate::relation::{Relation, closed, holds};
-use crate::slots::{MOST, counts, is_over, unit_counts, with_declared};
+use crate::slots::{MOST, counts, is_over, unit_counts, with_variables};
 use crate::uses::uses;
+use crate::variables::{all_listed, units_listed};
 use il_found::{Found, earlier, fault_if};
 use il_scope::Scoped;
 use il_spec::list::Items;
@@ -78,11 +79,12 @@ fn slots_fault(
     ensures { IfOk result (λ found. IsLeast found (SlotsBreak names.now)) }
 {
     let depth = names.config().units.as_slice().len() + 1;
-    let counted = counts(alloc, names, depth)?;
-    let all = unit_counts(alloc, names, depth, &counted)?;
-    let lines = lines_fault(names, reached, &all);
-    let globals = globals_fault(names, depth, &counted);
-    Ok(earlier(lines, globals))
+    let units = units_listed(alloc, names)?;
+    let counted = counts(alloc, &units, depth)?;
+    let all = unit_counts(alloc, &units, depth, &counted)?;
+    let declared = all_listed(alloc, names, names.config().globals.as_slice())?;
+    let globals = globals_fault(names, with_variables(depth, &counted, &declared));
+    Ok(earlier(lines_fault(names, reached, &all), globals))
 }
 
 // The first PROGRAM line whose program needs too many slots.
@@ -103,13 +105,11 @@ fn lines_fault(
     found
 }
 
-// The globals with too many slots, at their VAR_GLOBAL.
-fn globals_fault(names: &Scoped, depth: usize, counted: &Items<usize>) -> Option<Found<OrderFault>>
-    ensures { IsLeast result (GlobalsBreak names.now depth counted.now) }
+// Globals with so many slots, if these are too many, at their VAR_GLOBAL.
+fn globals_fault(names: &Scoped, total: usize) -> Option<Found<OrderFault>>
+    ensures { IsLeast result (GlobalsBreak names.now total) }
 {
-    let config = names.config();
-    let total = with_declared(names, depth, counted, 0, config.globals.as_slice());
-    match config.globals_place {
+    match names.config().globals_place {
         Some(place) => fault_if(total > MOST, OrderFault::TooManySlots, place),
         None => None,
     }

@@ -3,13 +3,14 @@
 ghost use Rattle.std.specs.Prelude.{◌≡◌, ◌+◌, ◌*◌, IfOk, ◌-ℤ◌, nat_abs, slice_get, length};
 ghost use Rattle.il_rules.specs.Names.{is_function};
 ghost use Rattle.il_scope.specs.Views.{passes};
-ghost use Rattle.il_order.specs.Counted.{capped, standard_slots, number_at, block_count, instance_count, form_count, with_declared, unit_count, unit_counts, counts, function_count, task_count, is_over, is_over_of};
+ghost use Rattle.il_order.specs.Counted.{capped, standard_slots, number_at, block_count, instance_count, type_count, with_variables, unit_counts, counts_of, function_count, task_count, is_over, is_over_of};
 
 use crate::relation::{Relation, holds};
+use crate::variables::Variables;
 use il_scope::Scoped;
-use il_scope::entry::{BlockType, StandardBlock};
+use il_scope::entry::{BlockType, StandardBlock, VariableType};
 use il_spec::list::Items;
-use il_spec::tree::{Declaration, Form, ProgramLine, Subrange, Unit, UnitKind};
+use il_spec::tree::{ProgramLine, Subrange, UnitKind};
 use std::alloc::{AllocError, Global};
 
 /// The most slots of a task, and of the globals (own rule).
@@ -29,13 +30,17 @@ fn times(count: usize, slots: usize) -> usize
     count.saturating_mul(slots).min(MOST + 1)
 }
 
-/// The slots of each unit, with those of instances in instances down to a depth.
-pub fn counts(alloc: Global, names: &Scoped, depth: usize) -> Result<Items<usize>, AllocError>
-    ensures { IfOk result (λ c. c ≡ counts names.now depth) }
+/// The slots of each unit by their variables, with those of instances in instances down to a depth.
+pub fn counts(
+    alloc: Global,
+    units: &Items<Items<Variables>>,
+    depth: usize,
+) -> Result<Items<usize>, AllocError>
+    ensures { IfOk result (λ c. c ≡ counts_of units.now depth) }
 {
     let mut counted = Items::new(alloc);
     for round in 0..depth {
-        counted = unit_counts(alloc, names, round, &counted)?;
+        counted = unit_counts(alloc, units, round, &counted)?;
     }
     Ok(counted)
 }
@@ -43,54 +48,39 @@ pub fn counts(alloc: Global, names: &Scoped, depth: usize) -> Result<Items<usize
 /// The slots of each unit, with those of instances one level less deep.
 pub fn unit_counts(
     alloc: Global,
-    names: &Scoped,
+    units: &Items<Items<Variables>>,
     depth: usize,
     counted: &Items<usize>,
 ) -> Result<Items<usize>, AllocError>
-    ensures { IfOk result (λ c. c ≡ unit_counts names.now depth counted.now) }
+    ensures { IfOk result (λ c. c ≡ unit_counts depth counted.now units.now) }
 {
     let mut all = Items::new(alloc);
-    for unit in names.config().units.as_slice() {
-        all.push(unit_count(names, depth, counted, unit))?;
+    for variables in units.as_slice() {
+        all.push(with_variables(depth, counted, variables))?;
     }
     Ok(all)
 }
 
-// The slots of a unit: its inputs, outputs and variables.
-fn unit_count(names: &Scoped, depth: usize, counted: &Items<usize>, unit: &Unit) -> usize
-    ensures { result ≡ unit_count names.now depth counted.now unit.now }
+/// The slots of variables.
+pub fn with_variables(depth: usize, counted: &Items<usize>, variables: &Items<Variables>) -> usize
+    ensures { result ≡ with_variables depth counted.now 0 variables.now }
 {
-    let inputs = with_declared(names, depth, counted, 0, unit.inputs.as_slice());
-    let outputs = with_declared(names, depth, counted, inputs, unit.outputs.as_slice());
-    with_declared(names, depth, counted, outputs, unit.variables.as_slice())
-}
-
-/// The slots of declared variables, and some more.
-pub fn with_declared(
-    names: &Scoped,
-    depth: usize,
-    counted: &Items<usize>,
-    more: usize,
-    declarations: &[Declaration],
-) -> usize
-    ensures { result ≡ with_declared names.now depth counted.now more declarations.now }
-{
-    let mut total = more;
-    for declaration in declarations {
-        let each = form_count(names, depth, counted, &declaration.declared.form);
-        total = sum(total, times(declaration.names.as_slice().len(), each));
+    let mut total = 0;
+    for one in variables.as_slice() {
+        let each = type_count(depth, counted, one.declared);
+        total = sum(total, times(one.count, each));
     }
     total
 }
 
 // The slots of a type: a scalar takes one, an array one for each element, an instance those of its block.
-fn form_count(names: &Scoped, depth: usize, counted: &Items<usize>, form: &Form) -> usize
-    ensures { result ≡ form_count names.now depth counted.now form.now }
+fn type_count(depth: usize, counted: &Items<usize>, declared: VariableType) -> usize
+    ensures { result ≡ type_count depth counted.now declared }
 {
-    match form {
-        Form::Scalar(_) => 1,
-        Form::Array { bounds, .. } => array_slots(*bounds),
-        Form::Block(name) => instance_count(depth, counted, names.block(name.as_str())),
+    match declared {
+        VariableType::Scalar(_) => 1,
+        VariableType::Array { bounds, .. } => array_slots(bounds),
+        VariableType::Instance(block) => instance_count(depth, counted, block),
     }
 }
 

@@ -1,6 +1,6 @@
 use Rattle.std.proofs.Common.{◌≡◌, ◌++◌, drop, map}
-use Rattle.il_order.specs.Counted.{unit_count}
+use Rattle.il_order.specs.Counted.{with_variables}
 use Rattle.il_order.proofs.slots.unit_counts.Given as goal
 
-abbrev pub invariant-loop-unit : goal.invariant-loop-unit
-invariant-loop-unit l = l.all ++ map (λ u. unit_count l.names l.depth l.counted u) (drop l.unit-index l.unit-items) ≡ map (λ u. unit_count l.names l.depth l.counted u) l.unit-items
+abbrev pub invariant-loop-variables : goal.invariant-loop-variables
+invariant-loop-variables l = l.all ++ map (λ v. with_variables l.depth l.counted 0 v) (drop l.variables-index l.variables-items) ≡ map (λ v. with_variables l.depth l.counted 0 v) l.variables-items
