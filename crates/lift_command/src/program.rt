@@ -128,7 +128,9 @@ fn outcome_of_program(
     match request {
         Request::Check { .. } => checked(alloc, verified),
         Request::Sim {
-            rounds, presses, ..
+            rounds,
+            presses,
+            ..
         } => simulated(alloc, verified, rounds, presses),
     }
 }

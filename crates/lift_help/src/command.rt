@@ -60,9 +60,9 @@ fn rounds<'a>(alloc: Global) -> Arg<'a> {
 
 /// The arguments PRESS.
 fn presses<'a>(alloc: Global) -> Arg<'a> {
-    Arg::new(alloc, "PRESS")
-        .num_args(0..)
-        .help("A call: ROUND:FROM:TO, a round and two floors; at most 1000")
+    Arg::new(alloc, "PRESS").num_args(0..).help(
+        "A call: ROUND:FROM:TO, a round and two floors; at most 1000",
+    )
 }
 
 /// The command that simulates.

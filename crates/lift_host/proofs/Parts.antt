@@ -101,8 +101,8 @@ pub one_more : (rounds floors : ℕ) (words : List (String Global)) (presses : L
 one_more rounds floors words presses n word press long stands each is k w p at there = elim (last_or presses press k p there) [
   | inl before ↦ each k w p at before
   | inr last ↦
-    let same : w ≡ word = same_some (sym at ∙ ap (slice_get words) (last.0 ∙ long) ∙ stands) in
-    subst (λ v. IsPress rounds floors (string_bytes v) p) (sym same) (subst (λ q. IsPress rounds floors (string_bytes word) q) last.1 is)
+      let same : w ≡ word = same_some (sym at ∙ ap (slice_get words) (last.0 ∙ long) ∙ stands) in
+      subst (λ v. IsPress rounds floors (string_bytes v) p) (sym same) (subst (λ q. IsPress rounds floors (string_bytes word) q) last.1 is)
 ]
 
 -- a word that is none

@@ -18,7 +18,9 @@ pub enum Name {
 /// What the words ask for.
 #[derive(Clone, Copy, Debug)]
 pub enum Request<'w> {
-    Check { file: &'w str },
+    Check {
+        file: &'w str,
+    },
     /// The words behind ROUNDS are to be presses.
     Sim {
         file: &'w str,

@@ -15,9 +15,10 @@ returns-in-None-clause-err c = λ _.
     (λ p is. c.in-None.ensures.none refl p (subst (λ w. IsPress c.args.rounds c.args.floors w p) (sym c.deref.ensures) is))
 
 pub words-preserved : goal.words-preserved
-words-preserved c =
-    (ap length c.in_ok-push-in-Some.ensures.ok ∙ longer c.words.presses c.in-Some.press ∙ ap (λ n. n + 1) c.words.invariant.0,
-    subst (λ ps. Each c.args.rounds c.args.floors c.args.words.now ps) (sym c.in_ok-push-in-Some.ensures.ok)
-    (one_more c.args.rounds c.args.floors c.args.words.now c.words.presses c.words.word-index c.word-item.result c.in-Some.press c.words.invariant.0
-    (slice_get_read c.args.words.now (length c.args.words.now) c.words.word-index c.word-item.result refl c.words-test.true c.word-item.is) c.words.invariant.1
-    (subst (λ w. IsPress c.args.rounds c.args.floors w c.in-Some.press) c.deref.ensures c.in-Some.ensures.some)))
+words-preserved c = (
+  ap length c.in_ok-push-in-Some.ensures.ok ∙ longer c.words.presses c.in-Some.press ∙ ap (λ n. n + 1) c.words.invariant.0,
+  subst (λ ps. Each c.args.rounds c.args.floors c.args.words.now ps) (sym c.in_ok-push-in-Some.ensures.ok)
+      (one_more c.args.rounds c.args.floors c.args.words.now c.words.presses c.words.word-index c.word-item.result c.in-Some.press c.words.invariant.0
+      (slice_get_read c.args.words.now (length c.args.words.now) c.words.word-index c.word-item.result refl c.words-test.true c.word-item.is) c.words.invariant.1
+      (subst (λ w. IsPress c.args.rounds c.args.floors w c.in-Some.press) c.deref.ensures c.in-Some.ensures.some)),
+)

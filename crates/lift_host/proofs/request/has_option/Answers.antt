@@ -19,9 +19,9 @@ one_more : (words : List (List ℕ)) (n : ℕ) (bytes : List ℕ) → slice_get 
 one_more words n bytes there none before k word low at = elim (cases_lt k n) [
   | inl less ↦ before k word less at
   | inr not_less ↦
-    let last : k ≡ n = omega (arith, low, not_less) in
-    let same : word ≡ bytes = same_some (sym at ∙ ap (slice_get words) last ∙ there) in
-    λ is. none (subst IsOption same is)
+      let last : k ≡ n = omega (arith, low, not_less) in
+      let same : word ≡ bytes = same_some (sym at ∙ ap (slice_get words) last ∙ there) in
+      λ is. none (subst IsOption same is)
 ]
 
 short : (words : List (String Global)) (k n : ℕ) (word : List ℕ) → length words ≤ n → slice_get (map string_bytes words) k ≡ Some word → k < n
