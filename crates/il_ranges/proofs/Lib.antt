@@ -1,2 +1,4 @@
 mod Tables
 mod Joins
+mod Resolved
+mod Inputs

@@ -11,8 +11,8 @@ use il_row::Row;
 use il_rules::elementary::is_same_type;
 use il_run::known::{Known, KnownDeferred};
 
-// The hull of two ranges.
-fn hull(first: Interval, second: Interval) -> Interval
+/// The hull of two ranges.
+pub fn hull(first: Interval, second: Interval) -> Interval
     ensures { result ≡ interval_join first second }
 {
     Interval {
@@ -80,8 +80,8 @@ fn join_deferred(deferred: &mut Row<KnownDeferred>, other: &Row<KnownDeferred>) 
     true
 }
 
-// Each range with that of the same number.
-fn join_rows(row: &mut Row<Interval>, other: &Row<Interval>)
+/// Each range with that of the same number.
+pub fn join_rows(row: &mut Row<Interval>, other: &Row<Interval>)
     requires { length row.old ≡ length other.now }
     ensures { row.new ≡ row_join row.old other.now }
 {

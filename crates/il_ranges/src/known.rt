@@ -7,7 +7,7 @@ ghost use Rattle.il_run.specs.Step.{takes};
 ghost use Rattle.il_ranges.specs.Kinds.{IsDivision};
 ghost use Rattle.il_rules.specs.Types.{literal_type};
 ghost use Rattle.il_run.specs.Meaning.{or_dint};
-ghost use Rattle.il_run.specs.Annotation.{interval, only, numbers_of, range};
+ghost use Rattle.il_run.specs.Annotation.{interval, only, numbers_of, range, declared_known};
 ghost use Rattle.il_least.specs.Facts.{IsFineKnown};
 ghost use Rattle.il_least.specs.Found.{is_part, fits, fitting, found_literal, fits_range, found_loaded, combined, compares_flags, found_operated};
 ghost use Rattle.il_least.specs.Steps.{flag_there};
@@ -24,11 +24,18 @@ fn range_of(limits: Option<Subrange>) -> Option<Interval>
     ensures { result ≡ option_map interval limits }
 {
     match limits {
-        Some(limits) => Some(Interval {
-            lo: i128::from(limits.lower),
-            hi: i128::from(limits.upper),
-        }),
+        Some(limits) => Some(range_of_bounds(limits)),
         None => None,
+    }
+}
+
+/// The numbers of an array's bounds.
+pub fn range_of_bounds(bounds: Subrange) -> Interval
+    ensures { result ≡ interval bounds }
+{
+    Interval {
+        lo: i128::from(bounds.lower),
+        hi: i128::from(bounds.upper),
     }
 }
 
@@ -39,8 +46,18 @@ pub fn range(scalar: Scalar) -> Option<Interval>
     range_of(declared_limits(scalar))
 }
 
-// Whether a range lies in another.
-fn is_part(inner: Interval, outer: Interval) -> bool
+/// What the declaration of a scalar says of its value.
+pub fn known_of(scalar: Scalar) -> Known
+    ensures { result ≡ declared_known scalar }
+{
+    match range(scalar) {
+        Some(declared) => Known::Ranged(scalar.elementary, declared),
+        None => Known::Flag,
+    }
+}
+
+/// Whether a range lies in another.
+pub fn is_part(inner: Interval, outer: Interval) -> bool
     ensures { result ≡ is_part inner outer }
 {
     inner.within(outer)
@@ -56,8 +73,8 @@ fn fits(outer: Option<Interval>, inner: Interval) -> bool
     }
 }
 
-// A range of a type, if it lies in it.
-fn fitting(elementary: Elementary, found: Interval) -> Option<Known>
+/// A range of a type, if it lies in it.
+pub fn fitting(elementary: Elementary, found: Interval) -> Option<Known>
     ensures { result ≡ fitting elementary found }
 {
     if fits(range_of(limits(elementary)), found) {
@@ -67,8 +84,8 @@ fn fitting(elementary: Elementary, found: Interval) -> Option<Known>
     }
 }
 
-// The range of one number.
-fn only(number: i64) -> Interval
+/// The range of one number.
+pub fn only(number: i64) -> Interval
     ensures { result ≡ only number }
 {
     let number = i128::from(number);
@@ -148,8 +165,8 @@ pub fn found_loaded(negated: bool, known: Known) -> Option<Known>
     }
 }
 
-// Whether a range may be 0.
-fn may_be_zero(range: Interval) -> bool
+/// Whether a range may be 0.
+pub fn may_be_zero(range: Interval) -> bool
     ensures { result ≡ is_part (only (pos 0)) range }
 {
     is_part(only(0), range)

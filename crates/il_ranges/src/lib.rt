@@ -1,9 +1,14 @@
 //! Ranges for each instruction of a configuration: one forward pass over each unit, with joins where paths meet.
 #![tactic(auto)]
 
+mod calls;
 mod fault;
+mod functions;
 mod join;
 mod known;
+mod meant;
+mod operands;
 mod pass;
+mod scope;
 
 pub use fault::RangeFault;
