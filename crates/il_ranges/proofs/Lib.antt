@@ -2,3 +2,5 @@ mod Tables
 mod Joins
 mod Resolved
 mod Inputs
+mod Outputs
+mod Steps

@@ -17,7 +17,7 @@ use Rattle.il_run.specs.Step.{rest_of}
 use Rattle.il_run.specs.Meaning.{Denotation, denotation, inputs_of, outputs_of}
 use Rattle.il_run.specs.declared.known.Known.{Known}
 use Rattle.il_least.specs.Facts.{Names}
-use Rattle.il_least.specs.Steps.{found_result, own_result, fits_first, fit_inputs, fits_input, fits_output}
+use Rattle.il_least.specs.Steps.{found_result, own_result, fits_first, fit_inputs, fits_input, fits_output, output_row}
 
 -- what a reference denotes
 abbrev pub denoted : Names → Reference → Denotation
@@ -70,3 +70,12 @@ output_form n block word = entry_of (outputs_of (block_variables n.config block)
 abbrev pub argument_fits : Names → List Interval → Text → Argument → Bool
 argument_fits n row block (Input word o) = fits_input n row (denoted n o.reference) (input_form n block word.name)
 argument_fits n row block (Output word to) = fits_output n row (named n to.name) (output_form n block word.name)
+
+-- the row after an argument's output is copied
+abbrev pub argument_row : Names → Text → Argument → List Interval → List Interval
+argument_row n block (Input word o) row = row
+argument_row n block (Output word to) row = output_row n (output_form n block word.name) (named n to.name) row
+
+-- a name is that of an instance
+abbrev pub IsInstance : Names → Text → Type 0
+IsInstance n name = is_block (form_in n name) ≡ true

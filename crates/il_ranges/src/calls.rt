@@ -13,9 +13,8 @@ ghost use Rattle.il_ranges.specs.Standard.{shown, argument_type_of};
 ghost use Rattle.il_ranges.specs.Scopes.{denoted, named, form_in, scalar_of, all_fit, own_found, argument_fits};
 
 use crate::functions::{applied_alone, applied_to_one, applied_to_two};
-use crate::join::join_rows;
-use crate::known::{fits_range, known_of};
-use crate::meant::{Meant, natural_of, operand_in, store_in, target_fits};
+use crate::known::fits_range;
+use crate::meant::{Meant, natural_of, operand_in};
 use crate::operands::operand;
 use crate::scope::Scope;
 use il_interval::Interval;
@@ -23,8 +22,7 @@ use il_least::facts::Facts;
 use il_row::Row;
 use il_run::known::Known;
 use il_scope::entry::StandardFunction;
-use il_spec::tree::{Argument, Condition, Elementary, Operand, Reference, Scalar};
-use std::alloc::{AllocError, Global};
+use il_spec::tree::{Elementary, Operand, Reference, Scalar};
 
 // The type of a bare literal among a function's further arguments.
 fn argument_type(function: StandardFunction, first: Known, meant: Meant) -> Elementary
@@ -81,8 +79,8 @@ fn applied<S: Scope>(
     }
 }
 
-// Whether an operand fits an input, if that is scalar.
-fn fits_input<S: Scope>(
+/// Whether an operand fits an input, if that is scalar.
+pub fn fits_input<S: Scope>(
     scope: &S,
     row: &Row<Interval>,
     input: Option<Scalar>,
