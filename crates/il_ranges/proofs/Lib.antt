@@ -4,3 +4,4 @@ mod Resolved
 mod Inputs
 mod Outputs
 mod Steps
+mod Numbered

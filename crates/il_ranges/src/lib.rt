@@ -11,6 +11,7 @@ mod known;
 mod meant;
 mod operands;
 mod pass;
+mod refusals;
 mod scope;
 
 pub use fault::RangeFault;

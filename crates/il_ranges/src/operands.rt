@@ -56,8 +56,8 @@ pub fn loaded<S: Scope>(
     found_loaded(negated, loaded_operand(scope, row, reference)?)
 }
 
-// The operand behind an operator.
-fn right_operand<S: Scope>(
+/// The operand behind an operator.
+pub fn right_operand<S: Scope>(
     scope: &S,
     row: &Row<Interval>,
     left: Known,
