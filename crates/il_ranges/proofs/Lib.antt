@@ -5,3 +5,4 @@ mod Inputs
 mod Outputs
 mod Steps
 mod Numbered
+mod Proper
