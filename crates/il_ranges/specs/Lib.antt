@@ -1,0 +1,6 @@
+pub mod Tables
+pub mod RangeFaults
+pub mod Meant
+pub mod Standard
+pub mod Scopes
+pub mod Kinds
