@@ -1,0 +1,4 @@
+pub mod Ways
+pub mod Tables
+pub mod Rounds
+pub mod Costs
