@@ -16,7 +16,7 @@ use Rattle.il_rules.specs.Names as rule
 use Rattle.il_rules.specs.Names.{Spelling, Meaning, MeansVariable, MeansUnit, MeansStandard, meaning, meant_variable, image_name, standard_function, standard_block, function_named, function_block_named, form_named, is_function, is_function_block}
 use Rattle.il_rules.specs.Types.{label_place}
 use Rattle.il_run.specs.Paths as path
-use Rattle.il_run.specs.Paths.{rest_at, place_rest, rests, cost_of, callee, block_unit}
+use Rattle.il_run.specs.Paths.{rest_at, place_rest, rests, cost_of, callee, block_unit, table_of, longest_within}
 use Rattle.il_scope.specs.declared.entry.BlockType.{BlockType}
 use Rattle.il_scope.specs.declared.entry.BlockType.TheVariants.{Standard as StandardType, Own}
 use Rattle.il_scope.specs.Entries.{block_entry}
@@ -26,7 +26,9 @@ use Rattle.il_scope.specs.Views.{passes, unit_number, function_number, function_
 use Rattle.il_scope.proofs.Laws.{function_found, function_block_found}
 use Rattle.il_budget.specs.declared.table.Rest.{Rest}
 use Rattle.il_budget.specs.Ways.{own_of, callee_of, way_of}
-use Rattle.il_budget.specs.Tables.{capped, rest, no_rest, rest_or, number_at, callee_cost, rest_up, dearer, passing, jumping, way_rest, rests_above}
+use Rattle.il_budget.specs.Rounds.{unit_ways, unit_cost, costs_by, rounds}
+use Rattle.std.proofs.lemmas.Option.{slice_get-map}
+use Rattle.il_budget.specs.Tables.{capped, rest, no_rest, rest_or, number_or, number_at, callee_cost, rest_up, dearer, passing, jumping, way_rest, rests_above}
 
 -- COSTS UP TO THE LIMIT
 
@@ -176,3 +178,130 @@ finds_called c None = refl
 finds_called c (Some (MeansVariable v)) = finds_form c v.form
 finds_called c (Some (MeansUnit u)) = refl
 finds_called c (Some MeansStandard) = refl
+
+-- TABLES
+
+-- what each unit costs, by its number
+abbrev pub AreCosts : Config → (ProgramUnit → ℕ) → List ℕ → Type 0
+AreCosts c longest costs = (k : ℕ) (v : ProgramUnit) → slice_get c.units k ≡ Some v → number_at costs k ≡ capped (longest v)
+
+callee_agrees : (c : Config) (longest : ProgramUnit → ℕ) (costs : List ℕ) (number : Option ℕ) (named : Option ProgramUnit) → AreCosts c longest costs → Finds c number named → callee_cost costs number ≡ capped (cost_of longest named)
+callee_agrees c longest costs None named are found = let e : 1 ≡ capped 1 = omega arith in e ∙ ap (λ o. capped (cost_of longest o)) (sym found)
+callee_agrees c longest costs (Some k) named are (v, is, stands) =
+    let at = are k v stands in
+    let e : capped (1 + number_at costs k) ≡ capped (1 + longest v) = omega (arith, at) in
+    e ∙ ap (λ o. capped (cost_of longest o)) (sym is)
+
+-- the rest of an instruction, by those of the places behind it
+step_agrees : (c : Config) (u : ProgramUnit) (longest : ProgramUnit → ℕ) (costs : List ℕ) (table : List path.Rest) (kept : List Rest) (next : ℕ) (i : Instruction) → AreCosts c longest costs → Stacks table kept
+    → Agrees (place_rest u.body i (cost_of longest (callee c u i)) table next) (way_rest costs kept next (way_of c u i))
+step_agrees c u longest costs table kept next (Load negated operand) are s = passing_agrees table kept 1 1 next s (let e : 1 ≡ capped 1 = omega arith in e)
+step_agrees c u longest costs table kept next (Store store target) are s = passing_agrees table kept 1 1 next s (let e : 1 ≡ capped 1 = omega arith in e)
+step_agrees c u longest costs table kept next Not are s = passing_agrees table kept 1 1 next s (let e : 1 ≡ capped 1 = omega arith in e)
+step_agrees c u longest costs table kept next (Operate operator operand) are s = passing_agrees table kept 1 1 next s (let e : 1 ≡ capped 1 = omega arith in e)
+step_agrees c u longest costs table kept next (Defer operator first) are s = passing_agrees table kept 1 1 next s (let e : 1 ≡ capped 1 = omega arith in e)
+step_agrees c u longest costs table kept next Evaluate are s = passing_agrees table kept 1 1 next s (let e : 1 ≡ capped 1 = omega arith in e)
+step_agrees c u longest costs table kept next (Jump Always label) are s = jumping_agrees table kept next (label_place u.body label.name) s
+step_agrees c u longest costs table kept next (Jump WhenTrue label) are s =
+    dearer_agrees _ _ _ _ (passing_agrees table kept 1 1 next s (let e : 1 ≡ capped 1 = omega arith in e)) (jumping_agrees table kept next (label_place u.body label.name) s)
+step_agrees c u longest costs table kept next (Jump WhenFalse label) are s =
+    dearer_agrees _ _ _ _ (passing_agrees table kept 1 1 next s (let e : 1 ≡ capped 1 = omega arith in e)) (jumping_agrees table kept next (label_place u.body label.name) s)
+step_agrees c u longest costs table kept next (Return Always) are s = ends
+step_agrees c u longest costs table kept next (Return WhenTrue) are s = dearer_agrees _ _ _ _ (passing_agrees table kept 1 1 next s (let e : 1 ≡ capped 1 = omega arith in e)) ends
+step_agrees c u longest costs table kept next (Return WhenFalse) are s = dearer_agrees _ _ _ _ (passing_agrees table kept 1 1 next s (let e : 1 ≡ capped 1 = omega arith in e)) ends
+step_agrees c u longest costs table kept next (Call condition instance arguments) are s =
+    passing_agrees table kept (cost_of longest (block_unit c (form_named c u instance.name))) (callee_cost costs (callee_of (option_map (binding_of c) (meaning c u instance.name)))) next s
+    (callee_agrees c longest costs (callee_of (option_map (binding_of c) (meaning c u instance.name))) (block_unit c (form_named c u instance.name)) are (finds_called c (meaning c u instance.name)))
+step_agrees c u longest costs table kept next (Invoke function operands) are s =
+    passing_agrees table kept (cost_of longest (function_named c function.name)) (callee_cost costs (function_number c function.name)) next s
+    (callee_agrees c longest costs (function_number c function.name) (function_named c function.name) are (finds_function c function.name))
+
+-- one rest on top
+get_last : {X : Type 0} (xs : List X) (x : X) → slice_get (xs ++ x ∷ []) (length xs) ≡ Some x
+get_last [] x = refl
+get_last (y ∷ xs) x = get_last xs x
+
+get_before : {X : Type 0} (xs : List X) (x : X) (k : ℕ) → k < length xs → slice_get (xs ++ x ∷ []) k ≡ slice_get xs k
+get_before [] x k low = absurd (omega (arith, low))
+get_before (y ∷ xs) x zero low = refl
+get_before (y ∷ xs) x (suc k) low = get_before xs x k (omega (arith, low))
+
+longer : {X : Type 0} (xs : List X) (x : X) → length (xs ++ x ∷ []) ≡ length xs + 1
+longer [] x = refl
+longer (y ∷ xs) x = let more = longer xs x in omega (arith, more)
+
+up_by : (t : Bool) (r : Rest) → t ≡ true → (if t then r else no_rest) ≡ r
+up_by true r e = refl
+up_by false r e = let bad : false ≡ true = e in cc
+
+up_past : (t : Bool) (r : Rest) → t ≡ false → (if t then r else no_rest) ≡ no_rest
+up_past true r e = let bad : true ≡ false = e in cc
+up_past false r e = refl
+
+on_top : (kept : List Rest) (r : Rest) → rest_up (kept ++ r ∷ []) 0 ≡ r
+on_top kept r =
+    let long = longer kept r in
+    up_by (nat_lt 0 (length (kept ++ r ∷ []))) _ (lt-ltb _ _ (omega (arith, long)))
+    ∙ ap (λ k. rest_or (slice_get (kept ++ r ∷ []) k)) (let e : length (kept ++ r ∷ []) - 1 - 0 ≡ length kept = omega (arith, long) in e) ∙ ap rest_or (get_last kept r)
+
+below : (a b : ℕ) → (nat_lt a b ≡ true) ⊎ (nat_lt a b ≡ false)
+below a b = by (nat_lt a b)
+  where
+    by : (t : Bool) → (t ≡ true) ⊎ (t ≡ false)
+    by true = inl refl
+    by false = inr refl
+
+under_top : (kept : List Rest) (r : Rest) (k : ℕ) → rest_up (kept ++ r ∷ []) (suc k) ≡ rest_up kept k
+under_top kept r k = elim (cases_lt k (length kept)) [
+  | inl low ↦
+      up_by (nat_lt (suc k) (length (kept ++ r ∷ []))) _ (lt-ltb _ _ (let long = longer kept r in omega (arith, long, low)))
+      ∙ ap (λ j. rest_or (slice_get (kept ++ r ∷ []) j)) (let long = longer kept r in let e : length (kept ++ r ∷ []) - 1 - suc k ≡ length kept - 1 - k = omega (arith, long, low) in e)
+      ∙ ap rest_or (get_before kept r (length kept - 1 - k) (omega (arith, low))) ∙ sym (up_by (nat_lt k (length kept)) _ (lt-ltb _ _ low))
+  | inr high ↦
+      up_past (nat_lt (suc k) (length (kept ++ r ∷ []))) _ (not_below (suc k) (length (kept ++ r ∷ [])) (let long = longer kept r in omega (arith, long, high)))
+      ∙ sym (up_past (nat_lt k (length kept)) _ (not_below k (length kept) high))
+]
+  where
+    not_below : (a b : ℕ) → b ≤ a → nat_lt a b ≡ false
+    not_below a b le = elim (below a b) [
+      | inl t ↦ absurd (let less = ltb-true _ _ t in omega (arith, less, le))
+      | inr f ↦ f
+    ]
+
+on_more : (table : List path.Rest) (kept : List Rest) (exact : path.Rest) (r : Rest) → Stacks table kept → Agrees exact r → Stacks (exact ∷ table) (kept ++ r ∷ [])
+on_more table kept exact r s is = record { long = longer kept r ∙ (let l = s.long in omega (arith, l)); each = each }
+  where
+    each : (up : ℕ) → Agrees (exact_up (exact ∷ table) up) (rest_up (kept ++ r ∷ []) up)
+    each zero = subst (Agrees exact) (sym (on_top kept r)) is
+    each (suc k) = subst (Agrees (exact_up table k)) (sym (under_top kept r k)) (s.each k)
+
+same_either : (t : Bool) → (if t then no_rest else no_rest) ≡ no_rest
+same_either true = refl
+same_either false = refl
+
+-- the whole table
+pub rests_agree : (c : Config) (u : ProgramUnit) (longest : ProgramUnit → ℕ) (costs : List ℕ) (place : ℕ) (steps : List Step) → AreCosts c longest costs
+    → Stacks (rests (λ i. cost_of longest (callee c u i)) u.body place steps) (rests_above costs place (map (λ s. way_of c u s.instruction) steps))
+rests_agree c u longest costs place [] are = record { long = refl; each = each }
+  where
+    each : (up : ℕ) → Agrees (exact_up (path.rest 1 None ∷ []) up) (rest_up (rest 1 None ∷ []) up)
+    each zero = ends
+    each (suc k) = subst (Agrees path.no_rest) (sym (under_top [] (rest 1 None) k ∙ same_either (nat_lt k 0))) no_more
+rests_agree c u longest costs place (s ∷ steps) are =
+    let behind = rests_agree c u longest costs (place + 1) steps are in
+    on_more _ _ _ _ behind (step_agrees c u longest costs _ _ (place + 1) s.instruction are behind)
+
+-- ROUNDS
+
+-- what a round gives of a unit
+round_at : (c : Config) (costs : List ℕ) (k : ℕ) (v : ProgramUnit) → slice_get c.units k ≡ Some v → number_at (costs_by (map (unit_ways c) c.units) costs) k ≡ unit_cost costs (unit_ways c v)
+round_at c costs k v stands =
+    ap number_or (slice_get-map (unit_cost costs) (map (unit_ways c) c.units) k ∙ ap (option_map (unit_cost costs)) (slice_get-map (unit_ways c) c.units k ∙ ap (option_map (unit_ways c)) stands))
+
+-- the costs of all units, up to the limit
+pub rounds_agree : (c : Config) (n : ℕ) → AreCosts c (longest_within n c) (rounds n (map (unit_ways c) c.units))
+rounds_agree c zero k v stands = let e : 0 ≡ capped 0 = omega arith in e
+rounds_agree c (suc n) k v stands =
+    round_at c (rounds n (map (unit_ways c) c.units)) k v stands
+    ∙ ((rests_agree c v (longest_within n c) (rounds n (map (unit_ways c) c.units)) 0 v.body.steps (rounds_agree c n)).each 0).cost
+    ∙ ap (λ (r : path.Rest). capped r.cost) (sym (first_of (table_of (longest_within n c) c v) 0))

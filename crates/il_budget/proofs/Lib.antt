@@ -1,2 +1,3 @@
 pub mod Stacked
 pub mod Agreeing
+pub mod Following
