@@ -92,11 +92,11 @@ dearer_agrees a b x y is_x is_y = by_exact (nat_lt a.cost b.cost) refl
         ]
     by_exact false is =
         by_kept (nat_lt x.cost y.cost) refl a (λ holds. absurd (
-          let less : x.cost < y.cost = ltb-true _ _ holds in
-          let p = is_x.cost in let q = is_y.cost in
-          let not_less : b.cost ≤ a.cost = at_most is in
-          omega (arith, less, p, q, not_less)))
-          (λ _. is_x)
+        let less : x.cost < y.cost = ltb-true _ _ holds in
+        let p = is_x.cost in let q = is_y.cost in
+        let not_less : b.cost ≤ a.cost = at_most is in
+        omega (arith, less, p, q, not_less)))
+        (λ _. is_x)
       where
         at_most : nat_lt a.cost b.cost ≡ false → b.cost ≤ a.cost
         at_most fails = elim (cases_lt a.cost b.cost) [
@@ -226,7 +226,7 @@ get_before [] x k low = absurd (omega (arith, low))
 get_before (y ∷ xs) x zero low = refl
 get_before (y ∷ xs) x (suc k) low = get_before xs x k (omega (arith, low))
 
-longer : {X : Type 0} (xs : List X) (x : X) → length (xs ++ x ∷ []) ≡ length xs + 1
+pub longer : {X : Type 0} (xs : List X) (x : X) → length (xs ++ x ∷ []) ≡ length xs + 1
 longer [] x = refl
 longer (y ∷ xs) x = let more = longer xs x in omega (arith, more)
 

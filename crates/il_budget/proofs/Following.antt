@@ -73,9 +73,9 @@ module _ (c : Config) (u : ProgramUnit) (longest : ProgramUnit → ℕ) (forward
     | inl low ↦
         let b = behind own u.body place low in
         subst Lowers (sym b.is) (step_lower place low b.table b.ahead b.step.instruction (λ condition label is q there.
-          let way = forward.ahead place b.step label (record { stands = b.stands; condition = condition; jumps = is }) in
-          let same : way.0 ≡ q = some_same (sym way.1 ∙ there) in
-          (let l = way.2 in omega (arith, same, l), place_within u.body label.name q there)))
+        let way = forward.ahead place b.step label (record { stands = b.stands; condition = condition; jumps = is }) in
+        let same : way.0 ≡ q = some_same (sym way.1 ∙ there) in
+        (let l = way.2 in omega (arith, same, l), place_within u.body label.name q there)))
     | inr high ↦
         let end : place ≡ length u.body.steps = omega (arith, inside, high) in
         subst (λ p. Lowers (at_place own u.body p)) (sym end) (subst Lowers (sym (at_end own u.body)) ends_lower)

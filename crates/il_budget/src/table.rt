@@ -9,8 +9,8 @@ use il_spec::list::Items;
 use il_spec::tree::Condition;
 use std::alloc::{AllocError, Global};
 
-/// One more than a unit may cost (own rule). No cost that is kept is greater.
-pub const OVER: u32 = 1_000_001;
+/// The most that a unit may cost (own rule). No cost that is kept is greater than one more.
+pub const MOST: u32 = 1_000_000;
 
 /// What a path costs at most from a place on, and where it goes next.
 #[derive(Clone, Copy)]
@@ -29,7 +29,7 @@ const NO_REST: Rest = Rest {
 fn sum(first: u32, second: u32) -> u32
     ensures { result ≡ capped (first + second) }
 {
-    first.saturating_add(second).min(OVER)
+    first.saturating_add(second).min(MOST + 1)
 }
 
 /// A number of a list.
@@ -67,7 +67,11 @@ pub fn rest_up(rests: &[Rest], up: usize) -> Rest
 fn dearer(first: Rest, second: Rest) -> Rest
     ensures { result ≡ dearer first second }
 {
-    if first.cost < second.cost { second } else { first }
+    if first.cost < second.cost {
+        second
+    } else {
+        first
+    }
 }
 
 // A path that goes on at the next place.

@@ -19,14 +19,18 @@ use std::alloc::{AllocError, Global};
 #[derive(Clone, Copy)]
 pub enum Way {
     /// To the next place, behind the body of an own unit if it runs one.
-    Next { callee: Option<usize> },
+    Next {
+        callee: Option<usize>,
+    },
     /// To a place, with a condition also to the next.
     Jump {
         condition: Condition,
         to: Option<usize>,
     },
     /// Out of the body, with a condition also to the next place.
-    Return { condition: Condition },
+    Return {
+        condition: Condition,
+    },
 }
 
 /// The ways of a unit's instructions.
