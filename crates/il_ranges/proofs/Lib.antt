@@ -6,3 +6,6 @@ mod Outputs
 mod Steps
 mod Numbered
 mod Proper
+mod Listed
+mod Words
+mod Numbers

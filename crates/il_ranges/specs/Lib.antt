@@ -4,3 +4,5 @@ pub mod Meant
 pub mod Standard
 pub mod Scopes
 pub mod Kinds
+pub mod Units
+pub mod Numbering

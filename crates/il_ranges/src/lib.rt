@@ -9,9 +9,12 @@ mod instructions;
 mod join;
 mod known;
 mod meant;
+mod numbering;
 mod operands;
 mod pass;
 mod refusals;
 mod scope;
+mod unit_inputs;
+mod unit_names;
 
 pub use fault::RangeFault;
