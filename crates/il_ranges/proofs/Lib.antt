@@ -9,3 +9,4 @@ mod Proper
 mod Listed
 mod Words
 mod Numbers
+mod Owned

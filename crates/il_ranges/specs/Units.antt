@@ -1,14 +1,13 @@
 -- A unit of a configuration (own rules).
-use Rattle.std.specs.Prelude.{ℕ, List, Option, Some, None, map, flat_map, refl, option_map, option_and_then}
+use Rattle.std.specs.Prelude.{ℕ, List, length, Option, Some, map, flat_map, refl}
 use Rattle.std.specs.Coded.{Coded, code_by, coded×, coded_ℕ}
 use Rattle.il_spec.specs.declared.tree.Config.{Config}
 use Rattle.il_spec.specs.declared.tree.Unit.{Unit as ProgramUnit}
 use Rattle.il_spec.specs.declared.tree.Declaration.{Declaration}
 use Rattle.il_spec.specs.declared.tree.Scalar.{Scalar}
-use Rattle.il_rules.specs.Names.{named_forms, form_named}
-use Rattle.il_run.specs.NameMap.{NameMap, Text, code}
-use Rattle.il_scope.specs.declared.entry.VariableType.{VariableType}
-use Rattle.il_scope.specs.Views.{type_of}
+use Rattle.il_interval.specs.declared.Interval.{Interval}
+use Rattle.il_rules.specs.Names.{named_forms}
+use Rattle.il_run.specs.NameMap.{NameMap, code}
 use Rattle.il_least.specs.Facts.{Names}
 use Rattle.il_ranges.specs.Scopes.{scalar_of}
 use Rattle.il_spec.specs.contracts.tree.Config as config
@@ -36,3 +35,7 @@ input_scalars unit = map (λ input. scalar_of (Some input.1)) (named_forms unit.
 -- the scalar types of declared variables, one for each name
 abbrev pub declared_scalars : List Declaration → List (Option Scalar)
 declared_scalars declarations = flat_map (λ d. map (λ n. scalar_of (Some d.declared.form)) d.names) declarations
+
+-- a unit with the numbers of its variables
+abbrev pub names_of : InUnit → NameMap ℕ → List Interval → Names
+names_of u numbers declared = record { config = u.config; unit = u.unit; numbers = numbers; count = length declared }

@@ -9,6 +9,7 @@ mod instructions;
 mod join;
 mod known;
 mod meant;
+mod numbered_unit;
 mod numbering;
 mod operands;
 mod pass;

@@ -110,7 +110,7 @@ pub fn numbering_of(alloc: Global, unit: &UnitNames) -> Result<Numbering, AllocE
         numbers: Table::new(alloc),
         declared: Row::new(alloc),
     };
-    for step in unit.unit.body.steps.as_slice() {
+    for step in unit.tree().body.steps.as_slice() {
         add_step(&mut numbering, alloc, unit, &step.instruction)?;
     }
     Ok(numbering)

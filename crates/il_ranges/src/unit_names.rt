@@ -22,8 +22,8 @@ use std::marker::Model;
 /// A unit of a configuration of which no rule of declarations is broken.
 #[derive(Drop)]
 pub struct UnitNames<'n> {
-    pub names: &'n Scoped,
-    pub unit: &'n Unit,
+    names: &'n Scoped,
+    unit: &'n Unit,
     at: usize,
 }
 
@@ -77,6 +77,20 @@ impl<'n> UnitNames<'n> {
         ensures unit { result.unit ≡ unit.now }
     {
         UnitNames { names, unit, at }
+    }
+
+    /// The names of its configuration.
+    pub fn names(&self) -> &Scoped
+        ensures { result.now ≡ self.now.config }
+    {
+        self.names
+    }
+
+    /// Its tree.
+    pub fn tree(&self) -> &Unit
+        ensures { result.now ≡ self.now.unit }
+    {
+        self.unit
     }
 
     // The variable of a name.

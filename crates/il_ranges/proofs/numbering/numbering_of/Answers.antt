@@ -2,7 +2,7 @@ use Rattle.std.proofs.Common.{length, [], refl, sym, ap, ◌∙◌, arith}
 use Rattle.std.proofs.lemmas.Option.{slice_get_read}
 use Rattle.il_spec.specs.declared.tree.Step.{Step}
 use Rattle.il_run.specs.NameMap.{empty}
-use Rattle.il_ranges.specs.Units.{InUnit}
+use Rattle.il_spec.specs.declared.tree.Unit.{Unit as ProgramUnit}
 use Rattle.il_ranges.specs.Numbering.{IsStepNumbered}
 use Rattle.il_ranges.proofs.Numbers.{adds_next, kept_step, numbered_all}
 use Rattle.il_ranges.proofs.numbering.numbering_of.Goals as goal
@@ -15,4 +15,4 @@ loop-step-preserved c =
 
 pub returns : goal.returns
 returns c =
-    numbered_all c.args.unit.now c.as_slice-step-items.result.now c.loop-step.step-index c.loop-step.numbering.numbers c.loop-step.numbering.declared empty [] (c.as_slice-step-items.ensures ∙ ap (λ (u : InUnit). u.unit.body.steps) c.unit.view_is) (omega (arith, c.loop-step-test.false, c.loop-step.auto.step-index-end)) refl refl c.loop-step.invariant
+    numbered_all c.args.unit.now c.as_slice-step-items.result.now c.loop-step.step-index c.loop-step.numbering.numbers c.loop-step.numbering.declared empty [] (c.as_slice-step-items.ensures ∙ ap (λ (t : ProgramUnit). t.body.steps) c.tree.ensures) (omega (arith, c.loop-step-test.false, c.loop-step.auto.step-index-end)) refl refl c.loop-step.invariant
