@@ -10,3 +10,4 @@ mod Listed
 mod Words
 mod Numbers
 mod Owned
+mod Verdict

@@ -6,3 +6,5 @@ pub mod Scopes
 pub mod Kinds
 pub mod Units
 pub mod Numbering
+pub mod Unannotated
+pub mod Judged
