@@ -6,7 +6,7 @@ use Rattle.std.proofs.lemmas.Bool.{ne_eqb}
 use Rattle.std.proofs.lemmas.Bool.Decides.{eqb_tells}
 use Rattle.il_least.proofs.Rows.{set_again, set_here, set_there, set_length}
 use Rattle.il_least.specs.Pass.{Moves, Arrived, at_entry, with_known, merged, arrive, go_on, jump_on, spread, moves_at, advance, passed}
-use Rattle.il_ranges.specs.Tables.{IsFresh, IsAt, PassesOver, target_next, IsRefusedAt, IsInTable, flat, held, Merges, IsAheadOf, StandsFor, Goes, GoesOver, StopsHere, Comes}
+use Rattle.il_ranges.specs.Tables.{IsFresh, IsAt, PassesOver, target_next, IsRefusedAt, IsStepped, IsPassed, IsInTable, flat, held, Merges, IsAheadOf, StandsFor, Goes, GoesOver, StopsHere, Comes}
 
 pub merges_of : {K : Type 0} (join : K → K → Option K) (old : List (Option K)) (to : ℕ) (k : K) (item x joined : Option K) (found : Bool) → to < length old → item ≡ get_or old to item → joined ≡ merged join item k → found ≡ is_some joined
     → Merges join old to k found (slice_set (slice_set old to x) to joined)
@@ -242,3 +242,12 @@ fresh_is join moves entry count table f = record { long = f.long; arrived = at_e
 
 pub pushed : {X : Type 0} (old new : List X) (x : X) (t : Bool) → new ≡ (if t then old ++ x ∷ [] else old) → t ≡ true → new ≡ old ++ x ∷ []
 pushed old new x t e is = e ∙ ap (λ b. if b then old ++ x ∷ [] else old) is
+
+-- a step that goes on, and one that stops
+pub stepped_on : {K R : Type 0} (join : K → K → Option K) (moves : ℕ → K → Option (Moves K)) (refuses : ℕ → K → R → Type 0) (entry : K) (count place : ℕ) (old new : List (Option K)) (o : Option R) → IsAt join moves entry count place old → IsStepped join moves refuses place old new o → is_some o ≡ false → IsAt join moves entry count (place + 1) new
+stepped_on join moves refuses entry count place old new None at s e = goes_on join moves entry count place old new at s
+stepped_on join moves refuses entry count place old new (Some r) at s e = let bad : true ≡ false = e in cc
+
+pub stepped_off : {K R : Type 0} (join : K → K → Option K) (moves : ℕ → K → Option (Moves K)) (refuses : ℕ → K → R → Type 0) (entry : K) (count place : ℕ) (old new : List (Option K)) (o : Option R) → place < count → IsAt join moves entry count place old → IsStepped join moves refuses place old new o → is_some o ≡ true → IsPassed join moves refuses entry count o
+stepped_off join moves refuses entry count place old new None low at s e = let bad : false ≡ true = e in cc
+stepped_off join moves refuses entry count place old new (Some r) low at s e = stopped_at join moves refuses entry count place old low at r s
