@@ -1,13 +1,11 @@
 -- Arguments of functions, one after another.
-use Rattle.std.proofs.Common.{◌≡◌, ℕ, zero, suc, ◌+◌, ◌<◌, ◌≤◌, Bool, true, false, ◌&&◌, List, [], ◌∷◌, map, length, take, drop, get_or, ◌-◌, slice_get, Option, Some, None, option_map, refl, sym, ap, ◌∙◌, subst, add-one, arith}
+use Rattle.std.proofs.Common.{◌≡◌, ℕ, zero, suc, ◌+◌, ◌<◌, ◌≤◌, Bool, true, false, ◌&&◌, List, [], ◌∷◌, map, length, take, drop, get_or, ◌-◌, slice_get, Option, Some, None, option_map, refl, sym, ap, ◌∙◌, add-one, arith}
 use Rattle.std.specs.Prelude.{option_and_then}
 use Rattle.il_interval.specs.declared.Interval.{Interval}
 use Rattle.il_spec.specs.declared.tree.Config.{Config}
 use Rattle.il_spec.specs.declared.tree.Unit.{Unit as ProgramUnit}
-use Rattle.il_spec.specs.declared.tree.Elementary.{Elementary}
 use Rattle.il_spec.specs.declared.tree.Scalar.{Scalar}
 use Rattle.il_spec.specs.declared.tree.Form.{Form}
-use Rattle.il_spec.specs.declared.tree.Form.TheVariants.{Scalar as ScalarForm, Array as ArrayForm, Block as BlockForm}
 use Rattle.il_spec.specs.declared.tree.Operand.{Operand}
 use Rattle.il_spec.specs.declared.tree.Reference.{Reference}
 use Rattle.il_rules.specs.Names.{StandardFunction, Absolute, Minimum, Maximum, Limited, Selected, Converted, named_forms}
@@ -20,8 +18,7 @@ use Rattle.il_run.specs.Annotation.{known_argument_type}
 use Rattle.il_least.specs.Facts.{Names, row_at}
 use Rattle.il_least.specs.Found.{provided, found_operand, found_applied}
 use Rattle.il_least.specs.Steps.{found_arguments, applied_to, fits_form, fits_input, fits_first, fit_inputs, found_result}
-use Rattle.il_ranges.specs.declared.meant.Meant.{Meant}
-use Rattle.il_ranges.specs.Meant.{resolved, natural_of}
+use Rattle.il_ranges.specs.Meant.{resolved}
 use Rattle.il_ranges.specs.Standard.{argument_type_of}
 use Rattle.il_ranges.specs.Scopes.{denoted, scalar_of, AreInputsOf, all_fit, result_by, own_found}
 use Rattle.il_ranges.proofs.Resolved.{natural_is}

@@ -6,3 +6,8 @@ mod Outputs
 mod Steps
 mod Numbered
 mod Proper
+mod Listed
+mod Words
+mod Numbers
+mod Owned
+mod Verdict

@@ -1,5 +1,5 @@
 -- The numbers of refusals, one argument after another.
-use Rattle.std.proofs.Common.{◌≡◌, ℕ, zero, suc, ◌+◌, Bool, true, false, if◌then◌else◌, List, [], ◌∷◌, length, drop, Option, Some, None, slice_get, refl, sym, ap, ◌∙◌, subst, add-one, arith}
+use Rattle.std.proofs.Common.{◌≡◌, ℕ, zero, suc, ◌+◌, Bool, true, false, if◌then◌else◌, List, [], ◌∷◌, length, drop, Option, Some, None, slice_get, refl, sym, ap, ◌∙◌, add-one, arith}
 use Rattle.il_interval.specs.declared.Interval.{Interval}
 use Rattle.il_spec.specs.declared.tree.Elementary.{Elementary}
 use Rattle.il_spec.specs.ElementaryTypes.{is_whole}

@@ -1,18 +1,16 @@
 -- Arguments of blocks, one after another.
-use Rattle.std.proofs.Common.{◌≡◌, ℕ, zero, suc, ◌+◌, ◌<◌, Bool, true, false, ◌&&◌, List, [], ◌∷◌, length, drop, Option, Some, None, option_map, slice_get, slice_set, refl, sym, ap, ◌∙◌, subst, add-one, arith}
+use Rattle.std.proofs.Common.{◌≡◌, ℕ, zero, suc, ◌+◌, Bool, true, false, ◌&&◌, List, [], ◌∷◌, length, drop, Option, Some, None, slice_get, refl, sym, ap, ◌∙◌, add-one, arith}
 use Rattle.il_interval.specs.declared.Interval.{Interval}
 use Rattle.il_spec.specs.declared.tree.Form.{Form}
 use Rattle.il_spec.specs.declared.tree.Form.TheVariants.{Scalar as ScalarForm, Array as ArrayForm, Block as BlockForm}
 use Rattle.il_spec.specs.declared.tree.Argument.{Argument}
 use Rattle.il_spec.specs.declared.tree.Argument.TheVariants.{Input, Output}
 use Rattle.il_spec.specs.declared.tree.Condition.{Condition}
-use Rattle.il_spec.specs.declared.tree.Condition.TheVariants.{Always, WhenTrue, WhenFalse}
 use Rattle.il_run.specs.NameMap.{Text, get}
 use Rattle.il_run.specs.Meaning.{Denotation, Constant, Direct, Numbered, Indexed, Inside, Unknown}
 use Rattle.il_run.specs.declared.known.Known.{Known}
 use Rattle.il_run.specs.declared.known.Known.TheVariants.{Flag, Ranged}
 use Rattle.il_run.specs.Annotation.{declared_known}
-use Rattle.il_least.specs.Pass.{Moves}
 use Rattle.il_least.specs.declared.facts.Facts.{Facts}
 use Rattle.il_least.specs.Facts.{Names, put_by, facts}
 use Rattle.il_least.specs.Found.{provided}

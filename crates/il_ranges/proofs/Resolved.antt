@@ -1,8 +1,7 @@
 -- What operands mean with numbers is what they denote.
-use Rattle.std.proofs.Common.{◌≡◌, ℕ, Bool, true, false, ◌&&◌, List, Option, Some, None, refl, sym, ap, ◌∙◌, subst}
+use Rattle.std.proofs.Common.{◌≡◌, ◌&&◌, List, Option, Some, None, refl, sym, ap, ◌∙◌, subst}
 use Rattle.std.specs.Prelude.{option_and_then}
 use Rattle.il_interval.specs.declared.Interval.{Interval}
-use Rattle.il_interval.specs.Interval.{IsOperand}
 use Rattle.il_spec.specs.declared.tree.Elementary.{Elementary}
 use Rattle.il_spec.specs.declared.tree.Scalar.{Scalar}
 use Rattle.il_spec.specs.declared.tree.Subrange.{Subrange}
@@ -15,20 +14,20 @@ use Rattle.il_spec.specs.declared.tree.Reference.TheVariants.{Literal as OfLiter
 use Rattle.il_spec.specs.ElementaryTypes.{is_whole}
 use Rattle.il_rules.specs.Names.{form_named, or_else, entry_of, block_variables}
 use Rattle.il_run.specs.NameMap.{Text, get}
-use Rattle.il_run.specs.Meaning.{Denotation, Constant, Direct, Numbered, Indexed, Inside, Unknown, denotation, direct, indexed_by, element_of, inside, member_of, natural, inputs_of, outputs_of}
+use Rattle.il_run.specs.Meaning.{Denotation, Constant, Direct, Numbered, Indexed, Inside, Unknown, direct, indexed_by, element_of, inside, member_of, natural, inputs_of, outputs_of}
 use Rattle.il_run.specs.declared.known.Known.{Known}
 use Rattle.il_run.specs.declared.known.Known.TheVariants.{Flag, Ranged}
 use Rattle.il_run.specs.Annotation.{interval, range, form_range, declared_range, declared_known, IsVariableWithin}
 use Rattle.il_least.specs.Facts.{Names, range_by, row_at, variables_of, IsRowOf, IsFineKnown, IsFineResult}
 use Rattle.il_least.specs.Found.{provided, there_fits, found_operand, found_flow, fits_range, fits_target}
-use Rattle.il_least.specs.Steps.{loaded_operand, context, stored_row}
+use Rattle.il_least.specs.Steps.{context, stored_row}
 use Rattle.il_least.specs.Numbers.{is_inside}
 use Rattle.il_least.specs.Prepared.{IsFineDenotation}
 use Rattle.il_least.proofs.Rows.{row_is, variable_itself}
-use Rattle.il_least.proofs.Operations.{Variables, operand_agrees}
+use Rattle.il_least.proofs.Operations.{operand_agrees}
 use Rattle.il_ranges.specs.declared.meant.Meant.{Meant}
 use Rattle.il_ranges.specs.Meant.{resolved, range_in, operand_in, natural_of, context_of, target_fits, stored_in, is_inside_in}
-use Rattle.il_ranges.specs.Scopes.{denoted, named}
+use Rattle.il_ranges.specs.Scopes.{denoted}
 
 -- THE TYPES OF VARIABLES
 

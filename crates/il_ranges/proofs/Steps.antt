@@ -1,11 +1,9 @@
 -- What instructions hand on.
-use Rattle.std.proofs.Common.{◌≡◌, List, ◌∷◌, Option, Some, None, option_map, refl, sym, ap, ◌∙◌, subst}
-use Rattle.il_interval.specs.declared.Interval.{Interval}
+use Rattle.std.proofs.Common.{◌≡◌, List, ◌∷◌, Option, Some, None, option_map, refl, sym, ap, ◌∙◌}
 use Rattle.il_spec.specs.declared.tree.Operand.{Operand}
 use Rattle.il_spec.specs.declared.tree.Operator.{Operator}
 use Rattle.il_run.specs.declared.known.Known.{Known}
 use Rattle.il_run.specs.declared.known.KnownDeferred.{KnownDeferred}
-use Rattle.il_least.specs.Pass.{Moves}
 use Rattle.il_least.specs.declared.facts.Facts.{Facts}
 use Rattle.il_least.specs.Facts.{Names, facts}
 use Rattle.il_least.specs.Steps.{to_next, loaded_operand, aside, deferred, paired, moves_of_defer}

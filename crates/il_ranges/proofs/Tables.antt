@@ -1,14 +1,12 @@
 -- The table of what waits stands for what arrived.
-use Rattle.std.proofs.Common.{◌≡◌, ℕ, zero, suc, ◌+◌, ◌<◌, ◌≤◌, Bool, true, false, cond, List, [], ◌∷◌, ◌++◌, length, get_or, Option, Some, None, option_map, refl, sym, ap, ◌∙◌, subst, slice_get, arith, inl, inr}
+use Rattle.std.proofs.Common.{◌≡◌, ℕ, zero, suc, ◌+◌, ◌<◌, ◌≤◌, Bool, true, false, cond, List, [], ◌∷◌, ◌++◌, length, get_or, Option, Some, None, option_map, refl, sym, ap, ◌∙◌, subst, slice_get, add-one, arith, inl, inr}
 use Rattle.std.specs.Prelude.{if◌then◌else◌, slice_set, is_some, option_and_then}
 use Rattle.std.proofs.lemmas.Option.{slice_get-get_or}
 use Rattle.std.proofs.lemmas.Bool.{ne_eqb}
 use Rattle.std.proofs.lemmas.Bool.Decides.{eqb_tells}
 use Rattle.il_least.proofs.Rows.{set_again, set_here, set_there, set_length}
-use Rattle.il_least.specs.Pass.{Moves, Arrived, at_entry, with_known, merged, arrive, go_on, jump_on, spread, moves_at, advance}
-use Rattle.il_spec.specs.declared.fault.Refusal.{Refusal}
-use Rattle.il_spec.specs.declared.fault.Refusal.TheVariants.{Fault, Memory}
-use Rattle.il_ranges.specs.Tables.{IsFresh, IsAt, target_next, IsRefusal, IsStopped, IsRefusedAt, IsInTable, flat, held, Merges, IsAheadOf, StandsFor, Goes, GoesOver, StopsHere, Comes}
+use Rattle.il_least.specs.Pass.{Moves, Arrived, at_entry, with_known, merged, arrive, go_on, jump_on, spread, moves_at, advance, passed}
+use Rattle.il_ranges.specs.Tables.{IsFresh, IsAt, PassesOver, target_next, IsRefusedAt, IsStepped, IsPassed, IsInTable, flat, held, Merges, IsAheadOf, StandsFor, Goes, GoesOver, StopsHere, Comes}
 
 pub merges_of : {K : Type 0} (join : K → K → Option K) (old : List (Option K)) (to : ℕ) (k : K) (item x joined : Option K) (found : Bool) → to < length old → item ≡ get_or old to item → joined ≡ merged join item k → found ≡ is_some joined
     → Merges join old to k found (slice_set (slice_set old to x) to joined)
@@ -148,10 +146,9 @@ stops_moves join moves place old k low h none arrived s =
     ap (λ o. option_and_then (λ x. spread join place x arrived) (moves_at (moves place) o)) (held_at place old arrived k low s h) ∙ ap (option_and_then (λ x. spread join place x arrived)) none
 
 -- a refusal of the place, whichever it is
-pub stop_with : {K : Type 0} (join : K → K → Option K) (moves : ℕ → K → Option (Moves K)) (refuses : ℕ → K → ℕ → ℕ → Type 0) (place : ℕ) (old : List (Option K)) (k : K) → held old place ≡ Some k
-    → ((arrived : Arrived K) → StandsFor place old arrived → advance join moves place arrived ≡ None) → (r : Refusal) → IsRefusal (refuses place k) r → IsRefusal (StopsHere join moves refuses place old) r
-stop_with join moves refuses place old k h none (Fault number line) p = record { none = none; facts = k; holds = h; refused = p }
-stop_with join moves refuses place old k h none Memory p = tt
+pub stop_with : {K R : Type 0} (join : K → K → Option K) (moves : ℕ → K → Option (Moves K)) (refuses : ℕ → K → R → Type 0) (place : ℕ) (old : List (Option K)) (k : K) → held old place ≡ Some k
+    → ((arrived : Arrived K) → StandsFor place old arrived → advance join moves place arrived ≡ None) → (r : R) → refuses place k r → StopsHere join moves refuses place old r
+stop_with join moves refuses place old k h none r p = record { none = none; facts = k; holds = h; reason = p }
 
 -- a place at which nothing waits
 pub goes_past : {K : Type 0} (join : K → K → Option K) (moves : ℕ → K → Option (Moves K)) (place : ℕ) (old : List (Option K)) (x : Option K) → place + 1 < length old → held old place ≡ None → GoesOver join moves place old (slice_set old place x)
@@ -163,9 +160,9 @@ goes_past join moves place old x low h = (
 )
 
 -- the pass stops where a step does
-pub stopped_at : {K : Type 0} (join : K → K → Option K) (moves : ℕ → K → Option (Moves K)) (refuses : ℕ → K → ℕ → ℕ → Type 0) (entry : K) (count place : ℕ) (table : List (Option K)) → place < count → IsAt join moves entry count place table
-    → (r : Refusal) → IsRefusal (StopsHere join moves refuses place table) r → IsRefusal (IsRefusedAt join moves refuses entry count) r
-stopped_at join moves refuses entry count place table low at (Fault number line) p = record {
+pub stopped_at : {K R : Type 0} (join : K → K → Option K) (moves : ℕ → K → Option (Moves K)) (refuses : ℕ → K → R → Type 0) (entry : K) (count place : ℕ) (table : List (Option K)) → place < count → IsAt join moves entry count place table
+    → (r : R) → StopsHere join moves refuses place table r → IsRefusedAt join moves refuses entry count r
+stopped_at join moves refuses entry count place table low at r p = record {
   place = place;
   arrived = at.arrived;
   facts = p.facts;
@@ -173,9 +170,16 @@ stopped_at join moves refuses entry count place table low at (Fault number line)
   before = at.passed_is;
   none = p.none at.arrived at.stands;
   arrived_is = sym (at.stands.same place (omega arith) (omega (arith, at.long))) ∙ p.holds;
-  refused = p.refused;
+  reason = p.reason;
 }
-stopped_at join moves refuses entry count place table low at Memory p = tt
+
+pub goes_on : {K : Type 0} (join : K → K → Option K) (moves : ℕ → K → Option (Moves K)) (entry : K) (count place : ℕ) (old new : List (Option K)) → IsAt join moves entry count place old → GoesOver join moves place old new → IsAt join moves entry count (place + 1) new
+goes_on join moves entry count place old new at g =
+    let h = g.1 at.arrived at.stands in
+    record { long = g.0 ∙ at.long; arrived = h.next; passed_is = ap (passed join moves entry) (add-one place) ∙ ap (option_and_then (advance join moves place)) at.passed_is ∙ h.advances; stands = h.stands }
+
+pub gone_over : {K : Type 0} (join : K → K → Option K) (moves : ℕ → K → Option (Moves K)) (entry : K) (count place : ℕ) (table : List (Option K)) → IsAt join moves entry count place table → place ≡ count → PassesOver join moves entry count
+gone_over join moves entry count place table at e = (at.arrived, subst (λ n. passed join moves entry n ≡ Some at.arrived) e at.passed_is)
 
 pub held_is : {K : Type 0} (old : List (Option K)) (place : ℕ) (item : Option K) → place < length old → item ≡ get_or old place item → held old place ≡ item
 held_is old place item low is = ap flat (slice_get-get_or old place item low) ∙ sym is
@@ -238,3 +242,12 @@ fresh_is join moves entry count table f = record { long = f.long; arrived = at_e
 
 pub pushed : {X : Type 0} (old new : List X) (x : X) (t : Bool) → new ≡ (if t then old ++ x ∷ [] else old) → t ≡ true → new ≡ old ++ x ∷ []
 pushed old new x t e is = e ∙ ap (λ b. if b then old ++ x ∷ [] else old) is
+
+-- a step that goes on, and one that stops
+pub stepped_on : {K R : Type 0} (join : K → K → Option K) (moves : ℕ → K → Option (Moves K)) (refuses : ℕ → K → R → Type 0) (entry : K) (count place : ℕ) (old new : List (Option K)) (o : Option R) → IsAt join moves entry count place old → IsStepped join moves refuses place old new o → is_some o ≡ false → IsAt join moves entry count (place + 1) new
+stepped_on join moves refuses entry count place old new None at s e = goes_on join moves entry count place old new at s
+stepped_on join moves refuses entry count place old new (Some r) at s e = let bad : true ≡ false = e in cc
+
+pub stepped_off : {K R : Type 0} (join : K → K → Option K) (moves : ℕ → K → Option (Moves K)) (refuses : ℕ → K → R → Type 0) (entry : K) (count place : ℕ) (old new : List (Option K)) (o : Option R) → place < count → IsAt join moves entry count place old → IsStepped join moves refuses place old new o → is_some o ≡ true → IsPassed join moves refuses entry count o
+stepped_off join moves refuses entry count place old new None low at s e = let bad : false ≡ true = e in cc
+stepped_off join moves refuses entry count place old new (Some r) low at s e = stopped_at join moves refuses entry count place old low at r s

@@ -4,3 +4,7 @@ pub mod Meant
 pub mod Standard
 pub mod Scopes
 pub mod Kinds
+pub mod Units
+pub mod Numbering
+pub mod Unannotated
+pub mod Judged

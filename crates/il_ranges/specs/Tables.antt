@@ -1,7 +1,5 @@
 -- The table of what waits at places ahead, and what the pass answers (own rules).
 use Rattle.std.specs.Prelude.{◌≡◌, ℕ, ◌<◌, ◌≤◌, ◌+◌, Bool, true, List, Option, Some, None, length, slice_get, slice_set, is_some}
-use Rattle.il_spec.specs.declared.fault.Refusal.{Refusal}
-use Rattle.il_spec.specs.declared.fault.Refusal.TheVariants.{Fault, Memory}
 use Rattle.il_least.specs.Pass.{Moves, Arrived, at_entry, passed, advance, merged}
 use Rattle.il_ranges.specs.declared.pass.Handed.{Handed}
 
@@ -16,15 +14,6 @@ held table place = flat (slice_get table place)
 abbrev pub moved : {K : Type 0} → Handed K → Moves K
 moved h = record { next = h.next; jump = h.jump }
 
--- a refusal by a number and a line; out of memory says nothing
-abbrev pub IsRefusal : (ℕ → ℕ → Type 0) → Refusal → Type 0
-IsRefusal reason (Fault number line) = reason number line
-IsRefusal reason Memory = Unit {0}
-
--- a place whose moves are refused
-abbrev pub IsStopped : {K : Type 0} → Option (Moves K) → (ℕ → ℕ → Type 0) → ℕ → ℕ → Type 0
-IsStopped moves refuses number line = (moves ≡ None) × refuses number line
-
 abbrev pub IsAheadOf : {K : Type 0} → ℕ → ℕ → Option (ℕ × K) → Type 0
 IsAheadOf total place None = Unit {0}
 IsAheadOf total place (Some target) = (place < target.0) × (target.0 < total)
@@ -35,7 +24,7 @@ pub record Merges {K : Type 0} (join : K → K → Option K) (old : List (Option
   pub found_is : found ≡ is_some (merged join (held old to) k)
 
 -- the place at which the pass stopped, and what had arrived there
-pub record IsRefusedAt {K : Type 0} (join : K → K → Option K) (moves : ℕ → K → Option (Moves K)) (refuses : ℕ → K → ℕ → ℕ → Type 0) (entry : K) (count number line : ℕ) : Type 0 where
+pub record IsRefusedAt {K R : Type 0} (join : K → K → Option K) (moves : ℕ → K → Option (Moves K)) (refuses : ℕ → K → R → Type 0) (entry : K) (count : ℕ) (refused : R) : Type 0 where
   pub place : ℕ
   pub arrived : Arrived K
   pub facts : K
@@ -43,7 +32,7 @@ pub record IsRefusedAt {K : Type 0} (join : K → K → Option K) (moves : ℕ �
   pub before : passed join moves entry place ≡ Some arrived
   pub none : advance join moves place arrived ≡ None
   pub arrived_is : arrived place ≡ Some facts
-  pub refused : refuses place facts number line
+  pub reason : refuses place facts refused
 
 -- From a place on the table has what arrived.
 pub record StandsFor {K : Type 0} (place : ℕ) (table : List (Option K)) (arrived : Arrived K) : Type 0 where
@@ -59,11 +48,16 @@ abbrev pub GoesOver : {K : Type 0} → (K → K → Option K) → (ℕ → K →
 GoesOver {K} join moves place old new = (length new ≡ length old) × ((arrived : Arrived K) → StandsFor place old arrived → Goes join moves place old new arrived)
 
 -- the pass stops at a place
-pub record StopsHere {K : Type 0} (join : K → K → Option K) (moves : ℕ → K → Option (Moves K)) (refuses : ℕ → K → ℕ → ℕ → Type 0) (place : ℕ) (old : List (Option K)) (number line : ℕ) : Type 0 where
+pub record StopsHere {K R : Type 0} (join : K → K → Option K) (moves : ℕ → K → Option (Moves K)) (refuses : ℕ → K → R → Type 0) (place : ℕ) (old : List (Option K)) (refused : R) : Type 0 where
   pub none : (arrived : Arrived K) → StandsFor place old arrived → advance join moves place arrived ≡ None
   pub facts : K
   pub holds : held old place ≡ Some facts
-  pub refused : refuses place facts number line
+  pub reason : refuses place facts refused
+
+-- what a step of the pass answers
+abbrev pub IsStepped : {K R : Type 0} → (K → K → Option K) → (ℕ → K → Option (Moves K)) → (ℕ → K → R → Type 0) → ℕ → List (Option K) → List (Option K) → Option R → Type 0
+IsStepped join moves refuses place old new None = GoesOver join moves place old new
+IsStepped join moves refuses place old new (Some refused) = StopsHere join moves refuses place old refused
 
 -- whether it came
 abbrev pub Comes : {K : Type 0} → (K → K → Option K) → Option (ℕ × K) → List (Option K) → Bool → List (Option K) → Type 0
@@ -88,6 +82,11 @@ pub record IsFresh {K : Type 0} (entry : K) (count : ℕ) (table : List (Option 
 -- the pass went over so many places
 abbrev pub PassesOver : {K : Type 0} → (K → K → Option K) → (ℕ → K → Option (Moves K)) → K → ℕ → Type 0
 PassesOver {K} join moves entry count = (arrived : Arrived K) × (passed join moves entry count ≡ Some arrived)
+
+-- what the pass answers
+abbrev pub IsPassed : {K R : Type 0} → (K → K → Option K) → (ℕ → K → Option (Moves K)) → (ℕ → K → R → Type 0) → K → ℕ → Option R → Type 0
+IsPassed join moves refuses entry count None = PassesOver join moves entry count
+IsPassed join moves refuses entry count (Some refused) = IsRefusedAt join moves refuses entry count refused
 
 -- jumps go forward, to places that are there
 abbrev pub IsAheadBelow : {K : Type 0} → (ℕ → K → Option (Moves K)) → ℕ → Type 0

@@ -76,12 +76,7 @@ fn fit_arguments<S: Scope>(
 }
 
 // Gives a target the declared range of an output.
-fn copy_output<S: Scope>(
-    scope: &S,
-    row: &mut Row<Interval>,
-    output: Option<Scalar>,
-    target: &str,
-)
+fn copy_output<S: Scope>(scope: &S, row: &mut Row<Interval>, output: Option<Scalar>, target: &str)
     ensures { (form : Option Form) → output ≡ scalar_of form → row.new ≡ output_row (S.names scope.now) form (named (S.names scope.now) target.now) row.old }
 {
     if let Some(scalar) = output {
@@ -90,12 +85,7 @@ fn copy_output<S: Scope>(
 }
 
 // The same of an argument.
-fn copy_argument<S: Scope>(
-    scope: &S,
-    row: &mut Row<Interval>,
-    instance: &str,
-    argument: &Argument,
-)
+fn copy_argument<S: Scope>(scope: &S, row: &mut Row<Interval>, instance: &str, argument: &Argument)
     ensures { (block : Text) → form_in (S.names scope.now) instance.now ≡ Some (BlockForm block) → row.new ≡ argument_row (S.names scope.now) block argument.now row.old }
 {
     if let Argument::Output { word, target } = argument {
@@ -159,14 +149,7 @@ pub fn called<S: Scope>(
         return Ok(None);
     }
     let mut facts = facts;
-    passed_row(
-        alloc,
-        scope,
-        &mut facts.row,
-        condition,
-        instance,
-        arguments,
-    )?;
+    passed_row(alloc, scope, &mut facts.row, condition, instance, arguments)?;
     facts.result = None;
     Ok(Some(facts))
 }

@@ -9,9 +9,16 @@ mod instructions;
 mod join;
 mod known;
 mod meant;
+mod numbered_unit;
+mod numbering;
 mod operands;
 mod pass;
+mod ranges;
 mod refusals;
 mod scope;
+mod unit_flow;
+mod unit_inputs;
+mod unit_names;
 
 pub use fault::RangeFault;
+pub use ranges::annotated;

@@ -1,10 +1,9 @@
 // One forward pass over places, with joins where paths meet, over whatever is kept of a place.
 
-ghost use Rattle.std.specs.Prelude.{◌≡◌, ℕ, ◌<◌, ◌+◌, ◌^◌, Option, Some, None, option_map, OnOk, IfOk, IfErr, length, slice_set, true, false, Bool};
+ghost use Rattle.std.specs.Prelude.{◌≡◌, ℕ, ◌<◌, ◌+◌, ◌^◌, Option, Some, None, option_map, IfOk, length, slice_set, true, false, Bool};
 ghost use Rattle.il_least.specs.Pass.{Moves, Arrived, passed, advance, merged};
-ghost use Rattle.il_ranges.specs.Tables.{held, moved, IsAheadOf, IsInTable, target_next, IsRefusal, IsRefusedAt, Merges, Comes, GoesOver, StopsHere, IsFresh, PassesOver, IsAheadBelow, IsFineBelow};
+ghost use Rattle.il_ranges.specs.Tables.{held, moved, IsAheadOf, IsInTable, target_next, Merges, Comes, IsStepped, IsFresh, IsPassed, IsAheadBelow, IsFineBelow};
 
-use il_spec::fault::Refusal;
 use std::alloc::{AllocError, Global};
 
 /// What a place hands on: to the next place, and to another.
@@ -18,6 +17,9 @@ pub struct Handed<K: Drop> {
 pub trait Flow {
     type Facts: Drop;
 
+    /// What is answered of a place that is refused.
+    type Refused: Drop;
+
     /// What holds on both of two paths, if something covers both.
     ghost join: { Self.Facts → Self.Facts → Option Self.Facts };
 
@@ -30,8 +32,8 @@ pub trait Flow {
     /// Facts that it takes.
     ghost takes: { Self → Self.Facts → Type 0 };
 
-    /// The number and the line of the refusal of a place, by its facts.
-    ghost refuses: { Self → ℕ → Self.Facts → ℕ → ℕ → Type 0 };
+    /// What is answered of a place with these facts, where it is refused.
+    ghost refuses: { Self → ℕ → Self.Facts → Self.Refused → Type 0 };
 
     fn join(first: Self::Facts, second: Self::Facts) -> Option<Self::Facts>
         ensures { result ≡ join first second };
@@ -47,10 +49,10 @@ pub trait Flow {
         ensures { IfOk result (λ m. moves self.now place facts ≡ option_map moved m) };
 
     /// The refusal of a place, should it be refused.
-    fn refusal(&self, place: usize, facts: &Self::Facts) -> Refusal
+    fn refusal(&self, place: usize, facts: &Self::Facts) -> Self::Refused
         requires own { holds self.now place }
         requires fine { takes self.now facts.now }
-        ensures { IsRefusal (refuses self.now place facts.now) result };
+        ensures { refuses self.now place facts.now result };
 }
 
 // What comes to a place, joined with what waits there; false where nothing covers both.
@@ -95,29 +97,28 @@ fn step<F: Flow>(
     flow: &F,
     waiting: &mut Vec<Option<F::Facts>>,
     place: usize,
-) -> Result<(), Refusal>
+) -> Result<Option<F::Refused>, AllocError>
     requires room { place < 9223372036854775808 }
     requires low { place + 1 < length waiting.old.items }
     requires own { F.holds flow.now place }
     requires fine { (k : F.Facts) → held waiting.old.items place ≡ Some k → F.takes flow.now k }
     requires ahead { (k : F.Facts) (m : Moves F.Facts) → F.moves flow.now place k ≡ Some m → IsAheadOf (length waiting.old.items) place m.jump }
-    ensures ok { OnOk result (GoesOver F.join (F.moves flow.now) place waiting.old.items waiting.new.items) }
-    ensures err { IfErr result (IsRefusal (StopsHere F.join (F.moves flow.now) (F.refuses flow.now) place waiting.old.items)) }
+    ensures { IfOk result (IsStepped F.join (F.moves flow.now) (F.refuses flow.now) place waiting.old.items waiting.new.items) }
 {
     let Some(facts) = waiting[place].take() else {
-        return Ok(());
+        return Ok(None);
     };
     let refusal = flow.refusal(place, &facts);
     let Some(Handed { next, jump }) = flow.hand_on(alloc, place, facts)? else {
-        return Err(refusal);
+        return Ok(Some(refusal));
     };
     if !bring::<F>(waiting, onward(place, next)) {
-        return Err(refusal);
+        return Ok(Some(refusal));
     }
     if !bring::<F>(waiting, jump) {
-        return Err(refusal);
+        return Ok(Some(refusal));
     }
-    Ok(())
+    Ok(None)
 }
 
 // The table at the entry.
@@ -133,18 +134,25 @@ fn fresh<K: Drop>(alloc: Global, entry: K, count: usize) -> Result<Vec<Option<K>
     Ok(table)
 }
 
-/// Goes over so many places, from the first on.
-pub fn pass<F: Flow>(alloc: Global, flow: &F, entry: F::Facts, count: usize) -> Result<(), Refusal>
+/// Goes over so many places, from the first on, until one is refused.
+pub fn pass<F: Flow>(
+    alloc: Global,
+    flow: &F,
+    entry: F::Facts,
+    count: usize,
+) -> Result<Option<F::Refused>, AllocError>
     requires room { count < 9223372036854775808 }
     requires own { (place : ℕ) → place < count → F.holds flow.now place }
     requires ahead { IsAheadBelow (F.moves flow.now) count }
     requires fine { IsFineBelow F.join (F.moves flow.now) (F.takes flow.now) entry count }
-    ensures passed { IfOk result (λ _. PassesOver F.join (F.moves flow.now) entry count) }
-    ensures refused { IfErr result (IsRefusal (IsRefusedAt F.join (F.moves flow.now) (F.refuses flow.now) entry count)) }
+    ensures { IfOk result (IsPassed F.join (F.moves flow.now) (F.refuses flow.now) entry count) }
 {
     let mut waiting = fresh(alloc, entry, count)?;
     for place in 0..count {
-        step(alloc, flow, &mut waiting, place)?;
+        let refused = step(alloc, flow, &mut waiting, place)?;
+        if refused.is_some() {
+            return Ok(refused);
+        }
     }
-    Ok(())
+    Ok(None)
 }

@@ -135,11 +135,7 @@ fn is_argument_inside<S: Scope>(scope: &S, row: &Row<Interval>, argument: &Argum
 }
 
 // Of a block's arguments: an index, otherwise 44.
-fn arguments_fault<S: Scope>(
-    scope: &S,
-    row: &Row<Interval>,
-    arguments: &[Argument],
-) -> RangeFault
+fn arguments_fault<S: Scope>(scope: &S, row: &Row<Interval>, arguments: &[Argument]) -> RangeFault
     ensures { range_fault_number result ≡ arguments_fault (S.names scope.now).config (S.names scope.now).unit (get (variables_of (S.names scope.now) row.now)) arguments.now }
 {
     for argument in arguments {
@@ -183,9 +179,7 @@ pub fn fault_of<S: Scope>(scope: &S, facts: &Facts, instruction: &Instruction) -
         }
         Instruction::Defer { first, .. } => defer_fault(scope, row, first),
         Instruction::Evaluate => evaluate_fault(facts.deferred.as_slice(), facts.result),
-        Instruction::Call { arguments, .. } => {
-            arguments_fault(scope, row, arguments.as_slice())
-        }
+        Instruction::Call { arguments, .. } => { arguments_fault(scope, row, arguments.as_slice()) }
         Instruction::Invoke { function, operands } => {
             invoke_fault(scope, row, function.name.as_str(), operands.as_slice())
         }

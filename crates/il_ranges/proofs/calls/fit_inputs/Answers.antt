@@ -1,6 +1,5 @@
-use Rattle.std.proofs.Common.{get_or, refl, sym, ap, ◌∙◌, arith}
+use Rattle.std.proofs.Common.{get_or, refl, sym, arith}
 use Rattle.std.proofs.lemmas.Option.{slice_get-get_or}
-use Rattle.il_least.specs.Steps.{fit_inputs}
 use Rattle.il_ranges.proofs.Inputs.{other_length, misfit, fits_on, all_are}
 use Rattle.il_ranges.proofs.calls.fit_inputs.Goals as goal
 

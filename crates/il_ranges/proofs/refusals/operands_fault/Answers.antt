@@ -1,4 +1,4 @@
-use Rattle.std.proofs.Common.{length, refl, sym, arith}
+use Rattle.std.proofs.Common.{length, refl, arith}
 use Rattle.std.proofs.lemmas.Option.{slice_get_read}
 use Rattle.il_ranges.specs.RangeFaults.{range_fault_number}
 use Rattle.il_ranges.proofs.Numbered.{operand_outside, operand_inside, operands_end}

@@ -1,4 +1,3 @@
-use Rattle.std.proofs.Common.{sym, ap, ◌∙◌}
 use Rattle.il_ranges.specs.RangeFaults.{range_fault_number}
 use Rattle.il_ranges.proofs.Numbered.{operate_is}
 use Rattle.il_ranges.proofs.refusals.operate_fault.Goals as goal
