@@ -3,4 +3,4 @@ use Rattle.il_code.proofs.Openings.{own_opening}
 use Rattle.il_code.proofs.container.flat_code_means_the_tree.Goals as goal
 
 pub returns : goal.returns
-returns c = λ config p is. record { code = program_is_code config p is; is_placed = program_is_placed config p is; once = cells_once config p is; opening = own_opening config p is }
+returns c = λ config p is fits. record { code = program_is_code config p is; is_placed = program_is_placed config p is fits; once = cells_once config p is; opening = own_opening config p is }
