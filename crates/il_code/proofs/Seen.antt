@@ -29,7 +29,7 @@ shown_is c u (i ∷ is) = ap (λ es. if is_program u && is_seen_by (program_role
 
 -- ADDING
 
-pub added_all : (list vs : List Variable) → added list vs ≡ list ++ vs
+pub added_all : {A : Type 0} (list vs : List A) → added list vs ≡ list ++ vs
 added_all list [] = sym (append-nil list)
 added_all list (v ∷ vs) = added_all (list ++ v ∷ []) vs ∙ append_assoc list (v ∷ []) vs
 

@@ -9,9 +9,8 @@ ghost use Rattle.il_scope.specs.Views.{type_of};
 ghost use Rattle.il_code.specs.Making.{variable, shown, added, one, row, for_cars, for_group, common_image, car_image, group_image, car_outputs, with_read, with_written, with_image};
 ghost use Rattle.il_code.specs.Places.{seen_image, unit_entities};
 
-use il_scope::Scoped;
 use il_scope::entry::{Role, VariableType};
-use il_scope::is_program;
+use il_scope::{Scoped, is_program};
 use il_spec::list::Items;
 use il_spec::name::Name;
 use il_spec::tree::{
@@ -149,8 +148,8 @@ fn within(lower: i64, upper: i64) -> Scalar
     }
 }
 
-// An elementary type without a subrange.
-fn plain(elementary: Elementary) -> Scalar
+/// An elementary type without a subrange.
+pub fn plain(elementary: Elementary) -> Scalar
     ensures { result ≡ plain elementary }
 {
     Scalar {
@@ -159,8 +158,8 @@ fn plain(elementary: Elementary) -> Scalar
     }
 }
 
-// Adds a scalar of the image.
-fn add_one(
+/// Adds a scalar without an initial value.
+pub fn add_one(
     alloc: Global,
     list: &mut Items<Variable>,
     name: &str,
@@ -248,11 +247,7 @@ fn add_group(
 }
 
 // Adds what programs of cars write.
-fn add_car_outputs(
-    alloc: Global,
-    list: &mut Items<Variable>,
-    slots: i64,
-) -> Result<(), AllocError>
+fn add_car_outputs(alloc: Global, list: &mut Items<Variable>, slots: i64) -> Result<(), AllocError>
     ensures { OnOk result (list.new ≡ added list.old (car_outputs slots)) }
 {
     add_one(alloc, list, "MOTOR", within(-1, 1))?;
