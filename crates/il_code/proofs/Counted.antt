@@ -1,5 +1,5 @@
 -- Sizes and offsets are those of the layout.
-use Rattle.std.proofs.Common.{◌≡◌, ℕ, zero, suc, ◌+◌, Bool, true, false, List, [], ◌∷◌, ◌++◌, map, length, slice_get, refl, sym, ap, ap₂, ◌∙◌, cond, Option, Some, None, is_some, arith, length-append, ◌^◌}
+use Rattle.std.proofs.Common.{◌≡◌, ℕ, zero, suc, ◌+◌, ◌<◌, get_or, Bool, true, false, List, [], ◌∷◌, ◌++◌, map, length, slice_get, refl, sym, ap, ap₂, ◌∙◌, cond, Option, Some, None, is_some, drop, append_assoc, arith, length-append, ◌^◌}
 use Rattle.std.specs.Prelude.{option_map, option_and_then, bytes_eq, if◌then◌else◌}
 use Rattle.std.proofs.lemmas.Option.{same_Some}
 use Rattle.il_spec.specs.declared.tree.Form.{Form}
@@ -15,12 +15,13 @@ use Rattle.il_scope.specs.declared.entry.BlockType.TheVariants.{Standard, Own}
 use Rattle.il_scope.specs.Entries.{block_entry}
 use Rattle.il_scope.specs.Views.{type_of, passes, unit_number, block_type, function_block_number}
 use Rattle.il_scope.proofs.Filled.{get-with_new}
-use Rattle.il_scope.proofs.Laws.{function_block_found, block_there}
+use Rattle.il_scope.proofs.Laws.{function_block_found}
+use Rattle.il_scope.proofs.Seen.{read_at}
 use Rattle.il_code.specs.declared.variables.Variable.{Variable}
 use Rattle.il_code.specs.declared.offsets.Offsets.{Offsets}
 use Rattle.il_code.specs.Cells.{form_in, offset_in}
-use Rattle.il_code.specs.Places.{capped, form_width, entities_width, block_width}
-use Rattle.il_code.specs.Making.{shown, added, standard_list, standard_number, standard_lists, block_place, own_lists, block_lists, size_or_zero, block_size, variable_size, list_size, sizes_to, with_offset, with_offsets, no_offsets, offsets_of}
+use Rattle.il_code.specs.Places.{capped, form_width, entities_width, block_width, unit_entities}
+use Rattle.il_code.specs.Making.{shown, added, standard_list, standard_number, standard_lists, block_place, own_lists, block_lists, size_or_zero, block_size, variable_size, list_size, sizes_to, with_offset, with_offsets, no_offsets, offsets_of, sizes_of, unit_offsets}
 use Rattle.il_code.proofs.Declared.{block_is_own, block_is_standard}
 use Rattle.il_code.proofs.Seen.{added_all}
 
@@ -239,3 +240,40 @@ module _ (c : Config) where
   offsets_are es q =
       behind es no_offsets 0 refl q ∙ ap (λ x. or_else x (option_map (λ f. capped (0 + offset_in wide es q)) (form_in es q))) (get-empty q)
       ∙ ap (λ k. option_map (λ f. capped k) (form_in es q)) (let z : 0 + offset_in wide es q ≡ offset_in wide es q = omega arith in z)
+
+-- A UNIT'S LIST
+
+pub unit_list : (c : Config) (u : ProgramUnit) (mine others : List Variable) (t : NameMap ℕ) → mine ≡ map (shown c) (own_entities u) → map (shown c) (own_entities u) ++ others ≡ map (shown c) (unit_entities c u)
+    → t ≡ offsets_of (length c.units) (sizes_of c) (mine ++ others) → t ≡ unit_offsets c u
+unit_list c u mine others t is all made = made ∙ ap (λ vs. offsets_of (length c.units) (sizes_of c) (vs ++ others)) is ∙ ap (offsets_of (length c.units) (sizes_of c)) all
+
+-- the list of a unit's own variables
+other_or : {A : Type 0} (xs : List A) (k : ℕ) (d e : A) → k < length xs → get_or xs k d ≡ get_or xs k e
+other_or [] k d e low = absurd (omega arith)
+other_or (x ∷ xs) zero d e low = refl
+other_or (x ∷ xs) (suc k) d e low = other_or xs k d e (omega arith)
+
+pub own_list : (c : Config) (lists : List (List Variable)) (k : ℕ) (u : ProgramUnit) (vs d : List Variable) → lists ≡ block_lists c → slice_get c.units k ≡ Some u → k < length lists → vs ≡ get_or lists k d → vs ≡ map (shown c) (own_entities u)
+own_list c lists k u vs d are there low is =
+    let at : slice_get lists k ≡ Some vs = read_at lists lists k vs refl low (is ∙ other_or lists k d vs low) in
+    same_Some vs (map (shown c) (own_entities u)) (sym at ∙ ap (λ ls. slice_get ls k) are ∙ at_own c (λ w. map (shown c) (own_entities w)) standard_lists k u there)
+
+pub lists_many : (c : Config) (lists : List (List Variable)) (k : ℕ) → lists ≡ block_lists c → k < length c.units → k < length lists
+lists_many c lists k are low =
+    let size : length lists ≡ length c.units + length standard_lists =
+    ap length (are ∙ added_all (own_lists c) standard_lists) ∙ length-append (own_lists c) standard_lists ∙ ap (λ n. n + length standard_lists) (length_mapped (λ u. map (shown c) (own_entities u)) c.units) in
+    omega (arith, size, low)
+
+pub one_there : {A : Type 0} (xs : List A) (i : ℕ) → i < length xs → (x : A) × (slice_get xs i ≡ Some x) × (drop i xs ≡ x ∷ drop (i + 1) xs)
+one_there [] i low = absurd (omega arith)
+one_there (x ∷ xs) zero low = (x, refl, refl)
+one_there (x ∷ xs) (suc i) low = let r = one_there xs i (omega arith) in (r.0, r.1, r.2 ∙ ap (λ n. r.0 ∷ drop n (x ∷ xs)) (let e : suc (i + 1) ≡ suc i + 1 = omega arith in e))
+
+-- one more of those that are made of some
+pub next_made : {A B : Type 0} (f : A → B) (xs : List A) (i : ℕ) (ts : List B) (t : B) (after all : List B) → i < length xs → ((x : A) → slice_get xs i ≡ Some x → t ≡ f x) → after ≡ ts ++ t ∷ [] → ts ++ map f (drop i xs) ≡ all → after ++ map f (drop (i + 1) xs) ≡ all
+next_made f xs i ts t after all low made grown rest =
+    let r = one_there xs i low in
+    ap (λ bs. bs ++ map f (drop (i + 1) xs)) (grown ∙ ap (λ b. ts ++ b ∷ []) (made r.0 r.1)) ∙ append_assoc ts (f r.0 ∷ []) (map f (drop (i + 1) xs)) ∙ ap (λ ys. ts ++ map f ys) (sym r.2) ∙ rest
+
+pub sizes_found : (c : Config) (n : ℕ) (lists : List (List Variable)) (ss : List ℕ) → n ≡ length c.units → lists ≡ block_lists c → ss ≡ sizes_to 16 n lists → ss ≡ sizes_of c
+sizes_found c n lists ss count is made = made ∙ ap₂ (sizes_to 16) count is
