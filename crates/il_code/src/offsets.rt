@@ -3,7 +3,7 @@
 ghost use Rattle.std.specs.Prelude.{◌≡◌, ◌++◌, ◌<◌, ◌^◌, map, IfOk, OnOk};
 ghost use Rattle.il_code.specs.Making.{no_offsets, with_offset, with_offsets, offsets_of};
 
-use crate::sizes::variable_size;
+use crate::sizes::{sum, variable_size};
 use crate::variables::Variable;
 use il_spec::list::Items;
 use il_table::Table;
@@ -38,7 +38,7 @@ fn add_offset(
     if offsets.table.get(name).is_none() {
         offsets.table.put(alloc, name, offsets.total)?;
     }
-    offsets.total = offsets.total.saturating_add(size);
+    offsets.total = sum(offsets.total, size);
     Ok(())
 }
 

@@ -48,6 +48,16 @@ pub fn block_place(units: usize, block: BlockType) -> usize
     }
 }
 
+/// The most slots that are counted.
+const LIMIT: usize = 9_223_372_036_854_775_808;
+
+/// The sum of two numbers of slots, as far as slots are counted.
+pub fn sum(first: usize, second: usize) -> usize
+    ensures { result ≡ capped (first + second) }
+{
+    first.saturating_add(second).min(LIMIT)
+}
+
 // How many slots an array takes.
 fn array_size(bounds: Subrange) -> usize
     ensures { result ≡ capped (width bounds) }
@@ -55,7 +65,7 @@ fn array_size(bounds: Subrange) -> usize
     if bounds.upper < bounds.lower {
         return 0;
     }
-    (bounds.upper.abs_diff(bounds.lower) as usize).saturating_add(1)
+    sum(bounds.upper.abs_diff(bounds.lower) as usize, 1)
 }
 
 // How many slots a block takes, if sizes are known.
@@ -101,7 +111,7 @@ fn list_size(known: bool, units: usize, sizes: &[usize], list: &[Variable]) -> u
 {
     let mut total: usize = 0;
     'variables: for variable in list {
-        total = total.saturating_add(variable_size(known, units, sizes, variable.declared));
+        total = sum(total, variable_size(known, units, sizes, variable.declared));
     }
     total
 }
