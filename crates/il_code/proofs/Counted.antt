@@ -31,7 +31,7 @@ offsets_twice units sizes o (v ∷ vs) ws = offsets_twice units sizes (with_offs
 
 -- LISTS
 
-mapped_at : {A B : Type 0} (f : A → B) (xs : List A) (k : ℕ) (x : A) → slice_get xs k ≡ Some x → slice_get (map f xs) k ≡ Some (f x)
+pub mapped_at : {A B : Type 0} (f : A → B) (xs : List A) (k : ℕ) (x : A) → slice_get xs k ≡ Some x → slice_get (map f xs) k ≡ Some (f x)
 mapped_at f [] k x is = cc
 mapped_at f (y ∷ xs) zero x is = ap (λ z. Some (f z)) (same_Some y x is)
 mapped_at f (y ∷ xs) (suc k) x is = mapped_at f xs k x is
@@ -90,25 +90,25 @@ own_block c name k is =
 
 -- what block a name is that of
 pub data IsBlock (c : Config) (name : Text) : Option BlockType → Type 0 where
-  standard : (s : rule.StandardBlock) (b : Option BlockType) → standard_block name ≡ Some s → b ≡ Some (Standard (block_entry s)) → IsBlock c name b
-  own : (k : ℕ) (b : Option BlockType) → IsOwnBlock c name k → b ≡ Some (Own k) → IsBlock c name b
-  none : (b : Option BlockType) → block_entities c name ≡ [] → b ≡ None → IsBlock c name b
+  of_standard : (s : rule.StandardBlock) (b : Option BlockType) → standard_block name ≡ Some s → b ≡ Some (Standard (block_entry s)) → IsBlock c name b
+  of_own : (k : ℕ) (b : Option BlockType) → IsOwnBlock c name k → b ≡ Some (Own k) → IsBlock c name b
+  of_none : (b : Option BlockType) → block_entities c name ≡ [] → b ≡ None → IsBlock c name b
 
 pub which_block : (c : Config) (name : Text) → IsBlock c name (block_type c name)
 unfolding block_type
 which_block c name = by_standard (standard_block name) refl
   where
     by_number : standard_block name ≡ None → (o : Option ℕ) → function_block_number c name ≡ o → IsBlock c name (or_else (option_map (λ b. Standard (block_entry b)) (standard_block name)) (option_map Own (function_block_number c name)))
-    by_number nothing (Some k) at = own k _ (own_block c name k at) (rw nothing (rw at refl))
+    by_number nothing (Some k) at = of_own k _ (own_block c name k at) (rw nothing (rw at refl))
     by_number nothing None at =
         let no_function : function_block_named c name ≡ None = sym (function_block_found c name) ∙ ap (option_and_then (slice_get c.units)) at in
-        none _ (rw no_function (rw nothing refl)) (rw nothing (rw at refl))
+        of_none _ (rw no_function (rw nothing refl)) (rw nothing (rw at refl))
 
     by_standard : (o : Option rule.StandardBlock) → standard_block name ≡ o → IsBlock c name (or_else (option_map (λ b. Standard (block_entry b)) (standard_block name)) (option_map Own (function_block_number c name)))
-    by_standard (Some s) is = standard s _ is (rw is refl)
+    by_standard (Some s) is = of_standard s _ is (rw is refl)
     by_standard None is = by_number is (function_block_number c name) refl
 
-standard_is : (c : Config) (s : rule.StandardBlock) → map (shown c) (standard_entities (standard_variables s)) ≡ standard_list (block_entry s)
+pub standard_is : (c : Config) (s : rule.StandardBlock) → map (shown c) (standard_entities (standard_variables s)) ≡ standard_list (block_entry s)
 standard_is c rule.Sr = refl
 standard_is c rule.Rs = refl
 standard_is c rule.RTrig = refl
@@ -120,7 +120,7 @@ standard_is c rule.Tp = refl
 standard_is c rule.Ton = refl
 standard_is c rule.Tof = refl
 
-standard_at : (s : rule.StandardBlock) → slice_get standard_lists (standard_number (block_entry s)) ≡ Some (standard_list (block_entry s))
+pub standard_at : (s : rule.StandardBlock) → slice_get standard_lists (standard_number (block_entry s)) ≡ Some (standard_list (block_entry s))
 standard_at rule.Sr = refl
 standard_at rule.Rs = refl
 standard_at rule.RTrig = refl
@@ -137,13 +137,13 @@ block_list : (c : Config) (name : Text) (b : BlockType) → block_type c name �
 block_list c name b is = by_case (block_type c name) (which_block c name) is
   where
     by_case : (o : Option BlockType) → IsBlock c name o → o ≡ Some b → slice_get (block_lists c) (block_place (length c.units) b) ≡ Some (map (shown c) (block_entities c name))
-    by_case _ (standard s o at e) h =
+    by_case _ (of_standard s o at e) h =
         ap (λ d. slice_get (block_lists c) (block_place (length c.units) d)) (same_Some b (Standard (block_entry s)) (sym h ∙ e))
         ∙ at_standard c (λ u. map (shown c) (own_entities u)) standard_lists (standard_number (block_entry s)) ∙ standard_at s ∙ ap Some (sym (ap (map (shown c)) (block_is_standard c name s at) ∙ standard_is c s))
-    by_case _ (own k o v e) h =
+    by_case _ (of_own k o v e) h =
         ap (λ d. slice_get (block_lists c) (block_place (length c.units) d)) (same_Some b (Own k) (sym h ∙ e))
         ∙ at_own c (λ u. map (shown c) (own_entities u)) standard_lists k v.unit v.there ∙ ap (λ es. Some (map (shown c) es)) (sym (block_is_own c name v.unit v.is))
-    by_case _ (none o at e) h = let never : Some b ≡ None = sym h ∙ e in cc
+    by_case _ (of_none o at e) h = let never : Some b ≡ None = sym h ∙ e in cc
 
 -- SIZES
 
@@ -199,9 +199,9 @@ module _ (c : Config) where
 
       by_case : (o : Option BlockType) → IsBlock c name o → block_type c name ≡ o → AreSizes n → block_size true units (sizes_to n units (block_lists c)) o ≡ capped (block_width (suc n) c name)
       by_case (Some b) is at below = sized below b at
-      by_case None (standard s o here e) at below = cc
-      by_case None (own k o v e) at below = cc
-      by_case None (none o here e) at below = ap (λ es. capped (entities_width (block_width n c) es)) (sym here)
+      by_case None (of_standard s o here e) at below = cc
+      by_case None (of_own k o v e) at below = cc
+      by_case None (of_none o here e) at below = ap (λ es. capped (entities_width (block_width n c) es)) (sym here)
 
 -- OFFSETS
 
