@@ -1,11 +1,14 @@
 -- Names resolve to what they denote.
-use Rattle.std.proofs.Common.{◌≡◌, ℕ, ◌+◌, ◌<◌, ◌≤◌, ◌^◌, Bool, true, false, List, [], ◌∷◌, map, length, slice_get, refl, sym, ap, ap₂, ◌∙◌, subst, Option, Some, None, ℤ, pos, neg_ℤ, ◌+ℤ◌, ◌≤ℤ◌, arith}
+use Rattle.std.proofs.Common.{◌≡◌, ℕ, ◌+◌, ◌<◌, ◌≤◌, ◌^◌, Bool, true, false, List, [], ◌∷◌, ◌++◌, append_assoc, map, length, slice_get, refl, sym, ap, ap₂, ◌∙◌, subst, Option, Some, None, ℤ, pos, neg_ℤ, ◌+ℤ◌, ◌≤ℤ◌, arith}
 use Rattle.std.specs.Prelude.{option_map, option_and_then, Contains, bytes_eq, if◌then◌else◌}
 use Rattle.std.proofs.lemmas.Int.{ints}
 use Rattle.std.proofs.lemmas.Option.{same_Some}
 use Rattle.il_spec.specs.declared.tree.Subrange.{Subrange}
 use Rattle.il_spec.specs.declared.tree.Form.{Form}
 use Rattle.il_spec.specs.declared.tree.Form.TheVariants.{Scalar as ScalarForm, Array as ArrayForm, Block as BlockForm}
+use Rattle.il_spec.specs.declared.tree.Argument.{Argument}
+use Rattle.il_spec.specs.declared.tree.Argument.TheVariants.{Input, Output}
+use Rattle.il_code.specs.declared.flat.Assignment.{Assignment}
 use Rattle.il_spec.specs.declared.tree.Scalar.{Scalar}
 use Rattle.il_spec.specs.declared.tree.Literal.{Literal}
 use Rattle.il_spec.specs.declared.tree.Index.TheVariants.{Number, Variable as ByVariable}
@@ -34,7 +37,7 @@ use Rattle.il_code.specs.Flattened.{Names, slot_of, index_in, operand_of, block_
 use Rattle.il_code.specs.Places.{capped, form_width, block_width, unit_entities, declared_in}
 use Rattle.il_code.specs.Making.{shown, standard_list, standard_number, standard_lists, sizes_of, offsets_of, unit_offsets, all_offsets, IsChecked}
 use Rattle.il_code.specs.Program.{program_names}
-use Rattle.il_code.specs.Resolving.{declared_by, known, known_by, word_offset, input_known, output_known, direct_operand, numbered_operand, indexed_operand, inside_by, member_by, member_operand, resolve, by_resolved, IsSmall, IsShortType}
+use Rattle.il_code.specs.Resolving.{declared_by, known, known_by, word_offset, input_known, output_known, direct_operand, numbered_operand, indexed_operand, inside_by, member_by, member_operand, resolve, by_resolved, assigned_at, with_input, inputs_at, IsSmall, IsShortType}
 use Rattle.il_code.proofs.Declared.{own as is_own, declared_is as unit_declared, unit_form, words, block_is_standard, block_alone, block_is_no_function}
 use Rattle.il_code.proofs.Tested.{image_is}
 use Rattle.il_code.proofs.IsPlaced.{index_below, within_limits}
@@ -72,7 +75,7 @@ module _ (c : Config) (checked : IsChecked c) (at : ℕ) (u : ProgramUnit) (ther
   named : AreNamed (unit_entities c u)
   named = unit_entities_named c checked.declared u checked.written among
 
-  seen : (name : Text) (f : Form) → form_named c u name ≡ Some f → form_in (unit_entities c u) name ≡ Some f
+  pub seen : (name : Text) (f : Form) → form_named c u name ≡ Some f → form_in (unit_entities c u) name ≡ Some f
   seen name f is = unit_form c u named (image_is c u) name f is
 
   offset_is : (name : Text) (f : Form) → form_named c u name ≡ Some f → get (unit_offsets c u) name ≡ Some ((program_names c u.name.name).offset name)
@@ -173,7 +176,7 @@ module _ (c : Config) (checked : IsChecked c) (at : ℕ) (u : ProgramUnit) (ther
   word_known name b is word (Some f) found =
       ap (known_by (Some (type_of c f))) ((block_of_name c checked name b is).offsets word ∙ ap (option_map (λ g. capped (offset_in wide (block_entities c name) word))) (found f refl))
 
-  input_is : (name : Text) (b : BlockType) → block_type c name ≡ Some b → (word : Text)
+  pub input_is : (name : Text) (b : BlockType) → block_type c name ≡ Some b → (word : Text)
       → input_known c b word ≡ option_map (λ f. record { declared = type_of c f; offset = capped (offset_in wide (block_entities c name) word) }) (entry_of (inputs_of (block_variables c name)) word)
   input_is name b is word =
       ap (λ o. known_by (option_map (type_of c) (option_and_then (λ v. entry_of v.inputs word) o)) (word_offset c b word)) (block_of_name c checked name b is).variables
@@ -183,7 +186,7 @@ module _ (c : Config) (checked : IsChecked c) (at : ℕ) (u : ProgramUnit) (ther
       entry_inputs None = refl
       entry_inputs (Some v) = refl
 
-  output_is : (name : Text) (b : BlockType) → block_type c name ≡ Some b → (word : Text)
+  pub output_is : (name : Text) (b : BlockType) → block_type c name ≡ Some b → (word : Text)
       → output_known c b word ≡ option_map (λ f. record { declared = type_of c f; offset = capped (offset_in wide (block_entities c name) word) }) (entry_of (outputs_of (block_variables c name)) word)
   output_is name b is word =
       ap (λ o. known_by (option_map (type_of c) (option_and_then (λ v. entry_of v.outputs word) o)) (word_offset c b word)) (block_of_name c checked name b is).variables
@@ -194,7 +197,7 @@ module _ (c : Config) (checked : IsChecked c) (at : ℕ) (u : ProgramUnit) (ther
       entry_outputs (Some v) = refl
 
   -- the word of an instance stands as far behind the first as both lead
-  word_led : (instance name word : Text) → form_named c u instance ≡ Some (BlockForm name) → capped (n.offset instance + capped (offset_in wide (block_entities c name) word)) ≡ n.word instance word
+  pub word_led : (instance name word : Text) → form_named c u instance ≡ Some (BlockForm name) → capped (n.offset instance + capped (offset_in wide (block_entities c name) word)) ≡ n.word instance word
   word_led instance name word is =
       twice (offset_in wide (declared_in c u.name.name) instance) (offset_in wide (block_entities c name) word)
       ∙ ap (λ g. capped (offset_in wide (declared_in c u.name.name) instance + offset_in wide (block_entities c (block_of g)) word)) (sym (declared_form instance (BlockForm name) is))
@@ -271,3 +274,9 @@ module _ (c : Config) (checked : IsChecked c) (at : ℕ) (u : ProgramUnit) (ther
     resolved_is (Element name (Number z)) = sym (numbered_is name z (form_named c u name))
     resolved_is (Element name (ByVariable v)) = sym (indexed_is name v (form_named c u name))
     resolved_is (Member instance word) = sym (member_is instance word (form_named c u instance) refl)
+
+-- INPUTS
+
+pub next_input : (c : Config) (u : ProgramUnit) (b : BlockType) (base : ℕ) (inputs : List Assignment) (a : Argument) (more : List Argument) → with_input c u b base inputs a ++ inputs_at c u b base more ≡ inputs ++ inputs_at c u b base (a ∷ more)
+next_input c u b base inputs (Input word operand) more = append_assoc inputs (assigned_at c u b base word operand ∷ []) (inputs_at c u b base more)
+next_input c u b base inputs (Output word to) more = refl

@@ -1,16 +1,21 @@
 -- What names resolve to, by the tables of the code (own rules).
-use Rattle.std.specs.Prelude.{◌≡◌, ℕ, ◌+◌, ◌≤◌, ◌^◌, length, List, slice_get, Option, Some, None, option_map, option_and_then, ℤ}
+use Rattle.std.specs.Prelude.{◌≡◌, ℕ, ◌+◌, ◌≤◌, ◌^◌, length, List, [], ◌∷◌, ◌++◌, map, drop, slice_get, Option, Some, None, option_map, option_and_then, ℤ}
 use Rattle.il_spec.specs.declared.tree.Literal.{Literal}
 use Rattle.il_spec.specs.declared.tree.Index.{Index}
 use Rattle.il_spec.specs.declared.tree.Index.TheVariants.{Number, Variable as ByVariable}
 use Rattle.il_spec.specs.declared.tree.Reference.{Reference}
-use Rattle.il_spec.specs.declared.tree.Reference.TheVariants.{Literal as LiteralReference, Variable, Element, Member}
+use Rattle.il_spec.specs.declared.tree.Reference.TheVariants.{Literal as LiteralReference, Variable as VariableReference, Element, Member}
+use Rattle.il_code.specs.declared.variables.Variable.{Variable}
+use Rattle.il_spec.specs.declared.tree.Named.{Named}
+use Rattle.il_spec.specs.declared.tree.Operand.{Operand as Written}
 use Rattle.il_spec.specs.declared.tree.Unit.{Unit as ProgramUnit}
 use Rattle.il_spec.specs.declared.tree.Config.{Config}
 use Rattle.il_rules.specs.Names.{or_else, entry_of, form_named}
 use Rattle.il_rules.specs.Declarations.{is_within}
 use Rattle.il_run.specs.NameMap.{Text, get}
-use Rattle.il_run.specs.Meaning.{width}
+use Rattle.il_run.specs.Meaning.{width, natural, Constant, entities}
+use Rattle.il_scope.specs.declared.entry.StandardFunction.{StandardFunction}
+use Rattle.il_scope.specs.declared.entry.StandardFunction.TheVariants.{Absolute, Minimum, Maximum, Limited, Selected, Converted}
 use Rattle.il_code.specs.Cells.{IsShort}
 use Rattle.il_scope.specs.declared.entry.BlockType.{BlockType}
 use Rattle.il_scope.specs.declared.entry.VariableType.{VariableType}
@@ -23,9 +28,19 @@ use Rattle.il_code.specs.declared.flat.Operand.TheVariants.{At, Element as Index
 use Rattle.il_code.specs.declared.operands.Known.{Known}
 use Rattle.il_code.specs.declared.operands.Resolved.{Resolved}
 use Rattle.il_code.specs.declared.operands.Resolved.TheVariants.{Literal as OfLiteral, Place}
-use Rattle.il_code.specs.Flattened.{slot_of, index_in, numbered}
+use Rattle.il_code.specs.declared.flat.Slot.{Slot}
+use Rattle.il_code.specs.declared.flat.Slot.TheVariants.{Flag}
+use Rattle.il_code.specs.declared.flat.Assignment.{Assignment}
+use Rattle.il_code.specs.declared.flat.Copied.{Copied}
+use Rattle.il_code.specs.declared.flat.Flat.{Flat}
+use Rattle.il_code.specs.declared.flat.Flat.TheVariants.{Not as FlatNot, Call as FlatCall, CallStandard, Apply, Invoke as FlatInvoke}
+use Rattle.il_spec.specs.declared.tree.Condition.{Condition}
+use Rattle.il_spec.specs.declared.tree.Argument.{Argument}
+use Rattle.il_spec.specs.declared.tree.Argument.TheVariants.{Input, Output}
+use Rattle.il_scope.specs.declared.entry.BlockType.TheVariants.{Standard, Own}
+use Rattle.il_code.specs.Flattened.{slot_of, index_in, numbered, typed, untyped, slot_in}
 use Rattle.il_code.specs.Places.{capped}
-use Rattle.il_code.specs.Making.{block_place, all_offsets}
+use Rattle.il_code.specs.Making.{shown, block_place, all_offsets}
 use Rattle.il_code.specs.Program.{program_names}
 
 -- a type with an offset, where both are there
@@ -98,7 +113,7 @@ element_operand names name (ByVariable v) = indexed_operand (names name) (names 
 -- what an operand resolves to
 abbrev pub resolve : Config → ProgramUnit → Reference → Resolved
 resolve c u (LiteralReference l) = OfLiteral l
-resolve c u (Variable name) = Place (direct_operand (known c u name))
+resolve c u (VariableReference name) = Place (direct_operand (known c u name))
 resolve c u (Element name index) = Place (element_operand (known c u) name index)
 resolve c u (Member instance word) = Place (member_operand c (known c u instance) word)
 
@@ -116,3 +131,98 @@ IsShortType _ = Unit {0}
 abbrev pub IsSmall : Option Known → Type 0
 IsSmall None = Unit {0}
 IsSmall (Some k) = (k.offset ≤ 2 ^ 63) × IsShortType k.declared
+
+-- CALLS
+
+-- a literal for a variable that is known
+abbrev pub literal_by : VariableType → Literal → Operand
+literal_by (Scalar s) l = typed s.elementary l
+literal_by _ l = Outside
+
+abbrev pub literal_known : Option Known → Literal → Operand
+literal_known None l = Outside
+literal_known (Some k) l = literal_by k.declared l
+
+-- the slot of a word, if it is a scalar
+abbrev pub slot_by_type : VariableType → ℕ → Slot
+slot_by_type (Scalar s) k = slot_of s k
+slot_by_type _ k = Flag 0
+
+abbrev pub slot_known : ℕ → Option Known → Slot
+slot_known base None = Flag 0
+slot_known base (Some w) = slot_by_type w.declared (capped (base + w.offset))
+
+-- an input of a call of an instance at an offset, and an output
+abbrev pub assigned_at : Config → ProgramUnit → BlockType → ℕ → Named → Written → Assignment
+assigned_at c u b base word operand = record { to = slot_known base (input_known c b word.name); from = by_resolved (literal_known (input_known c b word.name)) (resolve c u operand.reference) }
+
+abbrev pub copied_at : Config → ProgramUnit → BlockType → ℕ → Named → Named → Copied
+copied_at c u b base word to = record { from = slot_known base (output_known c b word.name); to = slot_in (direct_operand (known c u to.name)) }
+
+-- one argument more, if it is an input
+abbrev pub with_input : Config → ProgramUnit → BlockType → ℕ → List Assignment → Argument → List Assignment
+with_input c u b base inputs (Input word operand) = inputs ++ assigned_at c u b base word operand ∷ []
+with_input c u b base inputs (Output word to) = inputs
+
+-- all of them
+abbrev pub inputs_at : Config → ProgramUnit → BlockType → ℕ → List Argument → List Assignment
+inputs_at c u b base [] = []
+inputs_at c u b base (Output word to ∷ more) = inputs_at c u b base more
+inputs_at c u b base (Input word operand ∷ more) =
+    assigned_at c u b base word operand ∷ inputs_at c u b base more
+
+abbrev pub outputs_at : Config → ProgramUnit → BlockType → ℕ → List Argument → List Copied
+outputs_at c u b base [] = []
+outputs_at c u b base (Input word operand ∷ more) = outputs_at c u b base more
+outputs_at c u b base (Output word to ∷ more) =
+    copied_at c u b base word to ∷ outputs_at c u b base more
+
+-- the call of a block
+abbrev pub block_call : Config → ProgramUnit → Condition → ℕ → List Argument → BlockType → Flat
+block_call c u condition base arguments (Standard b) = CallStandard condition b base (inputs_at c u (Standard b) base arguments) (outputs_at c u (Standard b) base arguments)
+block_call c u condition base arguments (Own k) = FlatCall condition k base (inputs_at c u (Own k) base arguments) (outputs_at c u (Own k) base arguments)
+
+abbrev pub type_call : Config → ProgramUnit → Condition → List Argument → VariableType → ℕ → Flat
+type_call c u condition arguments (Instance (Some b)) base = block_call c u condition base arguments b
+type_call c u condition arguments _ base = FlatNot
+
+abbrev pub call_of : Config → ProgramUnit → Condition → List Argument → Option Known → Flat
+call_of c u condition arguments None = FlatNot
+call_of c u condition arguments (Some k) = type_call c u condition arguments k.declared k.offset
+
+-- FUNCTIONS
+
+-- the literals among the further arguments of a standard function
+abbrev pub literal_beside : StandardFunction → Literal → Operand
+literal_beside Selected l = typed (natural (Constant l)) l
+literal_beside Absolute l = untyped l
+literal_beside Minimum l = untyped l
+literal_beside Maximum l = untyped l
+literal_beside Limited l = untyped l
+literal_beside (Converted from to) l = untyped l
+
+-- the inputs of the unit of a number
+abbrev pub inputs_if : Config → Option ProgramUnit → List Variable
+inputs_if c None = []
+inputs_if c (Some v) = map (shown c) (entities v.inputs)
+
+abbrev pub unit_inputs : Config → ℕ → List Variable
+unit_inputs c k = inputs_if c (slice_get c.units k)
+
+-- a function's variable, with its offset
+abbrev pub function_known : Config → ℕ → Variable → Option Known
+function_known c k v = known_by (Some v.declared) (option_and_then (λ t. get t v.name) (slice_get (all_offsets c) k))
+
+abbrev pub argument_at : Config → ProgramUnit → ℕ → Variable → Written → Assignment
+argument_at c u k v o = record { to = slot_known 0 (function_known c k v); from = by_resolved (literal_known (function_known c k v)) (resolve c u o.reference) }
+
+abbrev pub arguments_at : Config → ProgramUnit → ℕ → List Variable → List Written → List Assignment
+arguments_at c u k (v ∷ vs) (o ∷ os) = argument_at c u k v o ∷ arguments_at c u k vs os
+arguments_at c u k [] os = []
+arguments_at c u k (v ∷ vs) [] = []
+
+-- a call of a function
+abbrev pub invoke_of : Config → ProgramUnit → List Written → Option StandardFunction → Option ℕ → Flat
+invoke_of c u os (Some f) k = Apply f (map (λ o. by_resolved (literal_beside f) (resolve c u o.reference)) os)
+invoke_of c u os None (Some k) = FlatInvoke k (arguments_at c u k (drop 1 (unit_inputs c k)) os)
+invoke_of c u os None None = FlatNot

@@ -1,18 +1,21 @@
 // A unit with the tables of its names.
 
-ghost use Rattle.std.specs.Prelude.{◌≡◌, Some, option_map, option_and_then, slice_get};
+ghost use Rattle.std.specs.Prelude.{◌≡◌, Some, IfOk, option_map, option_and_then, slice_get};
 ghost use Rattle.il_rules.specs.Names.{entry_of, form_named};
 ghost use Rattle.il_run.specs.NameMap as map;
 ghost use Rattle.il_scope.specs.Views.{type_of, variables_of_block};
 ghost use Rattle.il_code.specs.Making.{IsChecked, all_offsets, unit_offsets};
-ghost use Rattle.il_code.specs.Resolving.{declared_by, known, known_by, word_offset, input_known, output_known, IsSmall};
+ghost use Rattle.il_code.specs.Resolving.{declared_by, known, known_by, word_offset, input_known, output_known, function_known, unit_inputs, IsSmall};
 
 use crate::operands::Known;
 use crate::sizes::block_place;
+use crate::variables::{Variable, input_variables};
 use il_scope::Scoped;
 use il_scope::entry::{Binding, BlockType, VariableType};
+use il_spec::list::Items;
 use il_spec::tree::Unit;
 use il_table::Table;
+use std::alloc::{AllocError, Global};
 
 /// A unit of a configuration with the offsets of all names.
 pub struct Here<'a> {
@@ -103,5 +106,33 @@ impl Here<'_> {
             self.names.block_output(block, word),
             self.word_offset(block, word),
         )
+    }
+
+    // The offset of a variable of the unit of a number.
+    fn offset_in(&self, unit: usize, name: &str) -> Option<usize>
+        ensures { result ≡ option_and_then (λ t. map.get t name.now) (slice_get (all_offsets self.now.names.now) unit) }
+    {
+        match self.tables.get(unit) {
+            Some(table) => table.get(name),
+            None => None,
+        }
+    }
+
+    /// A variable of the unit of a number, with its offset.
+    pub fn function_variable(&self, unit: usize, variable: &Variable) -> Option<Known>
+        ensures { result ≡ function_known self.now.names.now unit variable.now }
+    {
+        let offset = self.offset_in(unit, variable.name.as_str());
+        known_by(Some(variable.declared), offset)
+    }
+
+    /// The inputs of the unit of a number.
+    pub fn inputs_of(&self, alloc: Global, unit: usize) -> Result<Items<Variable>, AllocError>
+        ensures { IfOk result (λ vs. vs ≡ unit_inputs self.now.names.now unit) }
+    {
+        match self.names.config().units.as_slice().get(unit) {
+            Some(unit) => input_variables(alloc, self.names, unit),
+            None => Ok(Items::new(alloc)),
+        }
     }
 }

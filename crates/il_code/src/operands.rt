@@ -3,10 +3,11 @@
 ghost use Rattle.std.specs.Prelude.{◌≡◌, ◌+◌, ◌≤◌, ◌^◌};
 ghost use Rattle.il_rules.specs.Declarations.{is_within};
 ghost use Rattle.il_rules.specs.Names.{or_else};
-ghost use Rattle.il_run.specs.Meaning.{natural, Constant, width};
+ghost use Rattle.il_run.specs.Meaning.{natural, denotation, Constant, width};
+ghost use Rattle.il_code.specs.Program.{program_names};
 ghost use Rattle.il_code.specs.Cells.{IsShort};
-ghost use Rattle.il_code.specs.Flattened.{slot_of, index_in, numbered, typed, untyped};
-ghost use Rattle.il_code.specs.Resolving.{scalar_operand, direct_operand, numbered_by, numbered_operand, index_by, indexed_operand, inside_by, member_by, member_operand, element_operand, resolve, known, IsSmall};
+ghost use Rattle.il_code.specs.Flattened.{slot_of, index_in, numbered, typed, untyped, operand_of};
+ghost use Rattle.il_code.specs.Resolving.{scalar_operand, direct_operand, numbered_by, numbered_operand, index_by, indexed_operand, inside_by, member_by, member_operand, element_operand, resolve, known, by_resolved, literal_known, slot_known, IsSmall};
 
 use crate::flat::{Operand, Slot};
 use crate::here::Here;
@@ -212,5 +213,82 @@ pub fn resolve(here: &Here, from: &Reference) -> Resolved
         Reference::Member(instance, word) => {
             Resolved::Place(member_operand(here, here.known(instance.as_str()), word.as_str()))
         }
+    }
+}
+
+/// A variable as an operand.
+pub fn name_operand(here: &Here, name: &str) -> Operand
+    ensures { result ≡ direct_operand (known here.now.names.now here.now.unit.now name.now) }
+{
+    direct_operand(here.known(name))
+}
+
+// A loaded literal has a type of its own.
+fn loaded_by(resolved: Resolved) -> Operand
+    ensures { result ≡ by_resolved (λ l. typed (natural (Constant l)) l) resolved }
+{
+    match resolved {
+        Resolved::Literal(literal) => typed(natural(literal), literal),
+        Resolved::Place(operand) => operand,
+    }
+}
+
+// Another bare one takes the type of the current result.
+fn untyped_by(resolved: Resolved) -> Operand
+    ensures { result ≡ by_resolved untyped resolved }
+{
+    match resolved {
+        Resolved::Literal(literal) => untyped(literal),
+        Resolved::Place(operand) => operand,
+    }
+}
+
+// A literal for a variable that is known.
+fn literal_known(known: Option<Known>, literal: Literal) -> Operand
+    ensures { result ≡ literal_known known literal }
+{
+    let Some(known) = known else {
+        return Operand::Outside;
+    };
+    match known.declared {
+        VariableType::Scalar(scalar) => typed(scalar.elementary, literal),
+        _ => Operand::Outside,
+    }
+}
+
+/// The operand for a variable that is known: a bare literal takes its type.
+pub fn operand_for(known: Option<Known>, resolved: Resolved) -> Operand
+    ensures { result ≡ by_resolved (literal_known known) resolved }
+{
+    match resolved {
+        Resolved::Literal(literal) => literal_known(known, literal),
+        Resolved::Place(operand) => operand,
+    }
+}
+
+/// The operand of LD, and of a short form.
+pub fn loaded(here: &Here, from: &Reference) -> Operand
+    ensures { result ≡ operand_of (program_names here.now.names.now here.now.unit.now.name.name) (λ l. typed (natural (Constant l)) l) (denotation here.now.names.now here.now.unit.now from.now) }
+{
+    loaded_by(resolve(here, from))
+}
+
+/// An operand beside a current result.
+pub fn beside(here: &Here, from: &Reference) -> Operand
+    ensures { result ≡ operand_of (program_names here.now.names.now here.now.unit.now.name.name) untyped (denotation here.now.names.now here.now.unit.now from.now) }
+{
+    untyped_by(resolve(here, from))
+}
+
+/// The slot of a word at an offset, if it is a scalar.
+pub fn slot_known(base: usize, known: Option<Known>) -> Slot
+    ensures { result ≡ slot_known base known }
+{
+    let Some(known) = known else {
+        return Slot::Flag(0);
+    };
+    match known.declared {
+        VariableType::Scalar(scalar) => slot_of(scalar, sum(base, known.offset)),
+        _ => Slot::Flag(0),
     }
 }

@@ -355,3 +355,17 @@ pub fn other_variables(
     add_seen(alloc, names, &mut list, unit)?;
     Ok(list)
 }
+
+/// The inputs of a unit.
+#[tactic(auto, using(crate::proofs::Seen::added_all))]
+pub fn input_variables(
+    alloc: Global,
+    names: &Scoped,
+    unit: &Unit,
+) -> Result<Items<Variable>, AllocError>
+    ensures { IfOk result (λ vs. vs ≡ map (shown names.now) (entities unit.now.inputs)) }
+{
+    let mut list = Items::new(alloc);
+    add_declarations(alloc, names, &mut list, unit.inputs.as_slice())?;
+    Ok(list)
+}
