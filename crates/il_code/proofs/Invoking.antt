@@ -82,10 +82,10 @@ unfolding function_number
 function_number_is c name k is = number_is c name is_function k is
 
 -- what an own function of a number is
-record IsOwnFunction (c : Config) (name : Text) (k : ℕ) : Type 0 where
-  unit : ProgramUnit
-  there : slice_get c.units k ≡ Some unit
-  is : function_named c name ≡ Some unit
+pub record IsOwnFunction (c : Config) (name : Text) (k : ℕ) : Type 0 where
+  pub unit : ProgramUnit
+  pub there : slice_get c.units k ≡ Some unit
+  pub is : function_named c name ≡ Some unit
 
 function_at : (c : Config) (name : Text) (k : ℕ) → function_number c name ≡ Some k → IsOwnFunction c name k
 function_at c name k is = by_unit (slice_get c.units k) refl
@@ -101,7 +101,7 @@ function_at c name k is = by_unit (slice_get c.units k) refl
     by_unit None at = let wrong : true ≡ false = sym some ∙ ap is_some (sym found ∙ at) in cc
 
 -- names and forms of declarations
-abbrev pair_of : Entity → Text × Form
+abbrev pub pair_of : Entity → Text × Form
 pair_of e = (e.name, e.form)
 
 pairs-append : (xs ys : List Entity) → map pair_of (xs ++ ys) ≡ map pair_of xs ++ map pair_of ys
@@ -112,9 +112,17 @@ named_pairs : (d : Declaration) (ns : List Named) → map pair_of (map (entity d
 named_pairs d [] = refl
 named_pairs d (n ∷ ns) = ap (λ ps. (n.name, d.declared.form) ∷ ps) (named_pairs d ns)
 
-pairs_are : (ds : List Declaration) → map pair_of (entities ds) ≡ named_forms ds
+pub pairs_are : (ds : List Declaration) → map pair_of (entities ds) ≡ named_forms ds
 pairs_are [] = refl
 pairs_are (d ∷ ds) = pairs-append (map (entity d) d.names) (entities ds) ∙ ap₂ ◌++◌ (named_pairs d d.names) (pairs_are ds)
+
+pub each_pair : (ds : List Declaration) (e : Entity) → Contains (entities ds) e → Contains (named_forms ds) (e.name, e.form)
+each_pair ds e has = subst (λ ps. Contains ps (e.name, e.form)) (pairs_are ds) (in_map pair_of (entities ds) e has)
+
+pub slot_is_form : (c : Config) (f : Form) (a : ℕ) → slot_known 0 (Some (record { declared = type_of c f; offset = capped a })) ≡ slot_of_form (Some f) (capped a)
+slot_is_form c (ScalarForm s) a = ap (slot_of s) (let e : capped (0 + capped a) ≡ capped a = omega arith in e)
+slot_is_form c (ArrayForm bounds element) a = refl
+slot_is_form c (BlockForm block) a = refl
 
 module _ (c : Config) (checked : IsChecked c) (at : ℕ) (u : ProgramUnit) (there : slice_get c.units at ≡ Some u) where
   abbrev n : Names
@@ -149,7 +157,7 @@ module _ (c : Config) (checked : IsChecked c) (at : ℕ) (u : ProgramUnit) (ther
     declared_by_name = ap (entities_if c) (function_is_unit c name v own.is).0
 
     -- an input has its offset
-    input_offset : (word : Text) (f : Form) → Contains (named_forms v.inputs) (word, f) → option_and_then (λ t. get t word) (slice_get (all_offsets c) k) ≡ Some (n.input name word)
+    pub input_offset : (word : Text) (f : Form) → Contains (named_forms v.inputs) (word, f) → option_and_then (λ t. get t word) (slice_get (all_offsets c) k) ≡ Some (n.input name word)
     input_offset word f has =
         let found : form_in (unit_entities c v) word ≡ Some f = seen c checked k v own.there word f (inputs_seen c checked.declared v name (word, f) own.is has) in
         ap (option_and_then (λ t. get t word)) (table_there c v k (all_offsets c) refl own.there) ∙ offsets_are c (unit_entities c v) word

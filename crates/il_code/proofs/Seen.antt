@@ -15,6 +15,7 @@ use Rattle.il_rules.specs.Names.{ImageName, Role, CarRole, GroupRole, image_of, 
 use Rattle.il_run.specs.Meaning.{Entity, entities, own_entities, result_entities}
 use Rattle.il_scope.specs.Entries.{role_entry}
 use Rattle.il_code.specs.Making.{variable, shown, added, with_image}
+use Rattle.il_code.specs.Flattened.{function_entities}
 use Rattle.il_code.specs.Places.{seen_among, seen_image, unit_entities, is_common}
 use Rattle.il_code.proofs.Declared.{none_seen}
 
@@ -71,6 +72,10 @@ others_added c u xs ys zs vs p q r =
     ∙ sym (added_both c [] (result_entities u.kind u.name.name) (entities u.externals ++ seen_image c u) ∙ added_both c (added [] (map (shown c) (result_entities u.kind u.name.name))) (entities u.externals) (seen_image c u))
     ∙ added_all [] (map (shown c) (result_entities u.kind u.name.name ++ (entities u.externals ++ seen_image c u))))
     ∙ sym (map-append (shown c) (own_entities u) (result_entities u.kind u.name.name ++ (entities u.externals ++ seen_image c u)))
+
+pub function_added : (c : Config) (u : ProgramUnit) (xs ys : List Variable) → xs ≡ added [] (map (shown c) (own_entities u)) → ys ≡ added xs (map (shown c) (result_entities u.kind u.name.name)) → ys ≡ map (shown c) (function_entities u)
+function_added c u xs ys p q =
+    q ∙ ap (λ l. added l (map (shown c) (result_entities u.kind u.name.name))) p ∙ sym (added_both c [] (own_entities u) (result_entities u.kind u.name.name)) ∙ added_all [] (map (shown c) (function_entities u))
 
 -- THE IMAGE
 

@@ -1,5 +1,5 @@
 -- What names resolve to, by the tables of the code (own rules).
-use Rattle.std.specs.Prelude.{◌≡◌, ℕ, ◌+◌, ◌≤◌, ◌^◌, length, List, [], ◌∷◌, ◌++◌, map, drop, slice_get, Option, Some, None, option_map, option_and_then, ℤ}
+use Rattle.std.specs.Prelude.{◌≡◌, ℕ, ◌+◌, ◌≤◌, ◌^◌, length, List, [], ◌∷◌, ◌++◌, map, drop, reverse, suc, slice_get, Option, Some, None, option_map, option_and_then, ℤ}
 use Rattle.il_spec.specs.declared.tree.Literal.{Literal}
 use Rattle.il_spec.specs.declared.tree.Index.{Index}
 use Rattle.il_spec.specs.declared.tree.Index.TheVariants.{Number, Variable as ByVariable}
@@ -13,7 +13,7 @@ use Rattle.il_spec.specs.declared.tree.Config.{Config}
 use Rattle.il_rules.specs.Names.{or_else, entry_of, form_named}
 use Rattle.il_rules.specs.Declarations.{is_within}
 use Rattle.il_run.specs.NameMap.{Text, get}
-use Rattle.il_run.specs.Meaning.{width, natural, Constant, entities}
+use Rattle.il_run.specs.Meaning.{width, natural, Constant, entities, initial_value}
 use Rattle.il_scope.specs.declared.entry.StandardFunction.{StandardFunction}
 use Rattle.il_scope.specs.declared.entry.StandardFunction.TheVariants.{Absolute, Minimum, Maximum, Limited, Selected, Converted}
 use Rattle.il_code.specs.Cells.{IsShort}
@@ -24,7 +24,9 @@ use Rattle.il_scope.specs.declared.entry.Binding.{Binding}
 use Rattle.il_scope.specs.declared.entry.Binding.TheVariants as means
 use Rattle.il_scope.specs.Views.{type_of, variables_of_block}
 use Rattle.il_code.specs.declared.flat.Operand.{Operand}
-use Rattle.il_code.specs.declared.flat.Operand.TheVariants.{At, Element as IndexedBy, Outside}
+use Rattle.il_code.specs.declared.flat.Operand.TheVariants.{Constant as Fixed, At, Element as IndexedBy, Outside}
+use Rattle.il_code.specs.declared.flat.FunctionCode.{FunctionCode}
+use Rattle.il_run.specs.Step.{content}
 use Rattle.il_code.specs.declared.operands.Known.{Known}
 use Rattle.il_code.specs.declared.operands.Resolved.{Resolved}
 use Rattle.il_code.specs.declared.operands.Resolved.TheVariants.{Literal as OfLiteral, Place}
@@ -226,3 +228,22 @@ abbrev pub invoke_of : Config → ProgramUnit → List Written → Option Standa
 invoke_of c u os (Some f) k = Apply f (map (λ o. by_resolved (literal_beside f) (resolve c u o.reference)) os)
 invoke_of c u os None (Some k) = FlatInvoke k (arguments_at c u k (drop 1 (unit_inputs c k)) os)
 invoke_of c u os None None = FlatNot
+
+-- WHAT CALLS OF A FUNCTION NEED
+
+-- what a scalar begins with, at an offset (2.4.3.2)
+abbrev pub fresh_by : VariableType → Option Literal → ℕ → Assignment
+fresh_by (Scalar s) initial k = record { to = slot_of s k; from = Fixed (content s.elementary (initial_value s initial)) }
+fresh_by _ initial k = record { to = Flag 0; from = Outside }
+
+abbrev pub fresh_list : ℕ → List Variable → List Assignment
+fresh_list k [] = []
+fresh_list k (v ∷ vs) = fresh_by v.declared v.initial k ∷ fresh_list (suc k) vs
+
+-- the slot of a first input
+abbrev pub first_of : Config → ℕ → List Variable → Slot
+first_of c k [] = Flag 0
+first_of c k (v ∷ vs) = slot_known 0 (function_known c k v)
+
+abbrev pub function_code_of : Config → ProgramUnit → ℕ → List Variable → List Variable → FunctionCode
+function_code_of c u k inputs all = record { first = first_of c k inputs; result = slot_known 0 (known c u u.name.name); fresh = reverse (fresh_list 0 all) }

@@ -18,6 +18,7 @@ use il_table::Table;
 use std::alloc::{AllocError, Global};
 
 /// A unit of a configuration with the offsets of all names.
+#[derive(Drop)]
 pub struct Here<'a> {
     pub names: &'a Scoped,
     pub tables: &'a [Table<usize>],

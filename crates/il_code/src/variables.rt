@@ -7,6 +7,7 @@ ghost use Rattle.il_run.specs.Meaning.{entities, own_entities, result_entities};
 ghost use Rattle.il_scope.specs.Entries.{role_entry};
 ghost use Rattle.il_scope.specs.Views.{type_of};
 ghost use Rattle.il_code.specs.Making.{variable, shown, added, one, row, for_cars, for_group, common_image, car_image, group_image, car_outputs, with_read, with_written, with_image};
+ghost use Rattle.il_code.specs.Flattened.{function_entities};
 ghost use Rattle.il_code.specs.Places.{seen_image, unit_entities};
 
 use il_scope::entry::{Role, VariableType};
@@ -367,5 +368,20 @@ pub fn input_variables(
 {
     let mut list = Items::new(alloc);
     add_declarations(alloc, names, &mut list, unit.inputs.as_slice())?;
+    Ok(list)
+}
+
+/// A function's variables, its result behind them.
+#[tactic(auto, using(crate::proofs::Seen::function_added))]
+pub fn function_variables(
+    alloc: Global,
+    names: &Scoped,
+    unit: &Unit,
+) -> Result<Items<Variable>, AllocError>
+    ensures { IfOk result (λ vs. vs ≡ map (shown names.now) (function_entities unit.now)) }
+{
+    let mut list = Items::new(alloc);
+    add_own(alloc, names, &mut list, unit)?;
+    add_result(alloc, names, &mut list, unit)?;
     Ok(list)
 }
