@@ -3,4 +3,8 @@ pub mod Slots
 pub mod Does
 pub mod Calls
 pub mod Words
+pub mod Passing
+pub mod Parts
+pub mod Framed
 pub mod Running
+pub mod Standards
