@@ -8,3 +8,5 @@ pub mod Parts
 pub mod Framed
 pub mod Running
 pub mod Standards
+pub mod Invoking
+pub mod Steps
