@@ -25,7 +25,7 @@ use Rattle.il_costs.proofs.Longest.{is_longest, is_path}
 
 module _ (c : Config) (declaring : HasNoFault (Broken Declaring c)) (typing : HasNoFault (Broken Typing c)) (ordering : IsOrdered c) where
   -- jumps go forward to labels that are there (34, 35)
-  forward : (u : ProgramUnit) → Contains c.units u → IsForward u
+  pub forward : (u : ProgramUnit) → Contains c.units u → IsForward u
   forward u among = record { ahead = ahead }
     where
       by_way : (at to : ℕ) (s : BodyStep) (label : Named) → JumpsAt u.body at s label → label_place u.body label.name ≡ Some to → (at < to) ⊎ (to ≤ at) → at < to
@@ -75,7 +75,7 @@ module _ (c : Config) (declaring : HasNoFault (Broken Declaring c)) (typing : Ha
     deeper : IsLongest c u (longest_within (suc depth) c u)
     deeper = longest_at (suc depth) u [] refl (omega arith)
 
-    same : longest_within (suc depth) c u ≡ longest_within depth c u
+    pub same : longest_within (suc depth) c u ≡ longest_within depth c u
     same = let a = at_depth.greatest deeper.attained.0 (longest_within (suc depth) c u) deeper.attained.1 in let b = deeper.greatest at_depth.attained.0 (longest_within depth c u) at_depth.attained.1 in omega (arith, a, b)
 
     pub has_longest : HasLongest c u

@@ -32,8 +32,8 @@ use Rattle.il_least.specs.Pass.{Moves}
 use Rattle.il_least.specs.declared.facts.Facts.{Facts}
 use Rattle.il_least.specs.Facts.{Names, row_at, variables_of, IsRowOf, facts, with_result, shown, IsFineKnown, IsFineResult, IsFine}
 use Rattle.il_least.specs.Found.{provided, is_part, there_fits, found_operand, found_operated, found_loaded, fits_range, fits_target, found_applied}
-use Rattle.il_least.specs.Steps.{to_next, flag_there, loaded_operand, stored_row, stored, taken_by, context, operated_by, aside, deferred, paired, has_flag, has_condition, passing, jumping_to, is_bare, found_arguments, applied_to, moves_of_standard, moves_of}
-use Rattle.il_least.specs.Prepared.{IsFineDenotation, HasNumber}
+use Rattle.il_least.specs.Steps.{to_next, flag_there, loaded_operand, stored_row, stored, taken_by, context, operated_by, aside, deferred, paired, has_flag, has_condition, passing, jumping_to, is_bare, found_arguments, applied_to, moves_of_standard, moves_of_invoke, moves_of}
+use Rattle.il_least.specs.Prepared.{IsFineDenotation, AreFineUnits, HasNumber}
 use Rattle.il_least.proofs.Tests.{left_true, right_true, both_true, same_type, type_same, part_is, is_part_of, interval_trans}
 use Rattle.il_least.proofs.Least.{Over, OverNext, AllOver, HoldsOf, HoldsOfJump, same_some, mapped}
 use Rattle.il_least.proofs.Joins.{Under, known_itself, part_itself, part_trans, result_itself, deferred_itself, under_row}
@@ -46,10 +46,10 @@ spot c u a p k = record { config = c; unit = u; annotation = a; place = p; known
 
 -- LEADS
 
-lead : (names : Names) (a : Annotation) (p : ℕ) (f : Facts) (k : Knowledge) → IsPart k (shown names f) → Over (Under names) a p f → Leads a p k
+pub lead : (names : Names) (a : Annotation) (p : ℕ) (f : Facts) (k : Knowledge) → IsPart k (shown names f) → Over (Under names) a p f → Leads a p k
 lead names a p f k part o = (o.wide, o.stands, part_trans k (shown names f) o.wide part o.under)
 
-over_lead : (names : Names) (a : Annotation) (p : ℕ) (f : Facts) (k : Knowledge) → IsPart (shown names f) k → Leads a p k → Over (Under names) a p f
+pub over_lead : (names : Names) (a : Annotation) (p : ℕ) (f : Facts) (k : Knowledge) → IsPart (shown names f) k → Leads a p k → Over (Under names) a p f
 over_lead names a p f k part (next, stands, below) = record { wide = next; stands = stands; under = part_trans (shown names f) k next part below }
 
 -- what an instruction hands on is fine
@@ -89,8 +89,9 @@ pub record Stands (names : Names) (c : Config) (u : ProgramUnit) (f : Facts) (l 
   pub fine : IsFine names f
   pub under : Under names f l
   pub denotes : (r : Reference) → IsFineDenotation (denotation c u r)
+  pub units : AreFineUnits c
 
-variables_of_place : (names : Names) (c : Config) (u : ProgramUnit) (f : Facts) (l : Knowledge) → Stands names c u f l → Variables names f.row l.variables
+pub variables_of_place : (names : Names) (c : Config) (u : ProgramUnit) (f : Facts) (l : Knowledge) → Stands names c u f l → Variables names f.row l.variables
 variables_of_place names c u f l s = record { fine = s.fine.row; within = under_row names f l s.under }
 
 with_result_fine : (names : Names) (f : Facts) (k : Known) → IsFine names f → IsFineKnown k → IsFine names (with_result f k)
@@ -99,13 +100,13 @@ with_result_fine names f k h fk = record { row = h.row; result = fk; deferred = 
 with_result_part : (names : Names) (f : Facts) (l : Knowledge) (k w : Known) → Under names f l → IsKnownWithin k w → IsPart (shown names (with_result f k)) (knowledge l.variables (Some w) l.deferred)
 with_result_part names f l k w u h = record { variables = u.variables; result = h; deferred = u.deferred }
 
-result_agrees : (o wide : Option Known) → IsFineResult o → IsResultWithin o wide → Knows o (WithKnownResult o) (WithKnownResult wide)
+pub result_agrees : (o wide : Option Known) → IsFineResult o → IsResultWithin o wide → Knows o (WithKnownResult o) (WithKnownResult wide)
 result_agrees o None f w = record { fine = λ k e. subst IsFineResult e f; sound = λ k e go g. subst (λ x. WithKnownResult x go) (sym e) g; complete = λ go g. absurd g }
 result_agrees None (Some k) f w = absurd w
 result_agrees (Some k) (Some l) f w = finds k l f w
 
 -- an instruction that gives a result
-gives : (names : Names) (c : Config) (u : ProgramUnit) (f : Facts) (l : Knowledge) → Stands names c u f l → (o : Option Known) (narrow wide : (Known → Type 0) → Type 0) → Knows o narrow wide
+pub gives : (names : Names) (c : Config) (u : ProgramUnit) (f : Facts) (l : Knowledge) → Stands names c u f l → (o : Option Known) (narrow wide : (Known → Type 0) → Type 0) → Knows o narrow wide
     → Nexts names o (with_result f) narrow wide (λ k. knowledge (variables_of names f.row) (Some k) f.deferred) (λ k. knowledge l.variables (Some k) l.deferred)
 gives names c u f l s o narrow wide a =
     nexts IsFineKnown IsKnownWithin names o narrow wide a (with_result f) (λ k. knowledge (variables_of names f.row) (Some k) f.deferred) (λ k. knowledge l.variables (Some k) l.deferred)
@@ -227,7 +228,7 @@ works_operate names c u f l s operator operand =
 
 -- STORES
 
-fits_tests : (e : Elementary) (declared : Option Interval) (k w : Known) → IsKnownWithin k w → Tests (fits_range e declared k) (FitsRange e declared k) (FitsRange e declared w)
+pub fits_tests : (e : Elementary) (declared : Option Interval) (k w : Known) → IsKnownWithin k w → Tests (fits_range e declared k) (FitsRange e declared k) (FitsRange e declared w)
 fits_tests e None Flag Flag h = record { holds = λ x. tt; follows = λ x. refl }
 fits_tests e None (Ranged g i) (Ranged o j) h = record { holds = λ x. let bad : false ≡ true = x in cc; follows = λ x. absurd x }
 fits_tests e (Some d) Flag Flag h = record { holds = λ x. let bad : false ≡ true = x in cc; follows = λ x. absurd x }
@@ -241,7 +242,7 @@ fits_tests e declared (Ranged g i) Flag h = absurd h
 there_tests : (row narrow wide : Option Interval) (bounds : Interval) → narrow ≡ row → IsVariableWithin row wide → Tests (there_fits row bounds) (WithInterval narrow (λ i. IsWithin i bounds)) (WithInterval wide (λ i. IsWithin i bounds))
 there_tests = index_tests
 
-target_tests : (names : Names) (row : List Interval) (wide : NameMap Interval) → Variables names row wide → (d : Denotation) (k w : Known) → IsKnownWithin k w
+pub target_tests : (names : Names) (row : List Interval) (wide : NameMap Interval) → Variables names row wide → (d : Denotation) (k w : Known) → IsKnownWithin k w
     → Tests (fits_target names row d k) (WithTarget (variables_of names row) d (λ scalar. Fits scalar k)) (WithTarget wide d (λ scalar. Fits scalar w))
 target_tests names row wide v (Constant l) k w h = record { holds = λ x. let bad : false ≡ true = x in cc; follows = λ x. absurd x }
 target_tests names row wide v (Direct name s) k w h = fits_tests s.elementary (range s) k w h
@@ -273,7 +274,7 @@ taken_agrees names c u f l s d k w fk h =
     let a = λ (e : fits_target names f.row d k ≡ true). agrees_some (IsTaken names f d) IsKnownWithin k w (record { fine = fk; fits = e }) h in
     agrees_test (IsTaken names f d) IsKnownWithin (fits_target names f.row d k) (WithTarget (variables_of names f.row) d (λ scalar. Fits scalar k)) (WithTarget l.variables d (λ scalar. Fits scalar w)) (Some k) (λ go. go k) (λ go. go w) t (λ q. a (t.follows q)) a
 
-ranged_fits : (e : Elementary) (declared : Option Interval) (g : Elementary) (i : Interval) → fits_range e declared (Ranged g i) ≡ true → (j : Interval) × (declared ≡ Some j)
+pub ranged_fits : (e : Elementary) (declared : Option Interval) (g : Elementary) (i : Interval) → fits_range e declared (Ranged g i) ≡ true → (j : Interval) × (declared ≡ Some j)
 ranged_fits e None g i x = absurd (let bad : false ≡ true = x in cc)
 ranged_fits e (Some j) g i x = (j, refl)
 
@@ -299,12 +300,12 @@ stored_same names f (Indexed name bounds element variable s) k fr n fits q = ref
 stored_same names f (Inside instance word s) k fr n fits q = refl
 stored_same names f Unknown k fr n fits q = refl
 
-cond_part : (b : Bool) (i j : Interval) (o p : Option Interval) → IsWithin i j → IsVariableWithin o p → IsVariableWithin (cond b (Some i) o) (cond b (Some j) p)
+pub cond_part : (b : Bool) (i j : Interval) (o p : Option Interval) → IsWithin i j → IsVariableWithin o p → IsVariableWithin (cond b (Some i) o) (cond b (Some j) p)
 cond_part true i j o p w h = w
 cond_part false i j o p w h = h
 
 -- a store into wider ranges
-store_grows : (d : Denotation) (k w : Known) (m n : NameMap Interval) → IsKnownWithin k w → ((q : Text) → IsVariableWithin (get m q) (get n q)) → (q : Text) → IsVariableWithin (get (after_store d k m) q) (get (after_store d w n) q)
+pub store_grows : (d : Denotation) (k w : Known) (m n : NameMap Interval) → IsKnownWithin k w → ((q : Text) → IsVariableWithin (get m q) (get n q)) → (q : Text) → IsVariableWithin (get (after_store d k m) q) (get (after_store d w n) q)
 store_grows (Direct name s) (Ranged e i) (Ranged g j) m n h v q =
     subst (λ o. IsVariableWithin o (get (insert n name j) q)) (sym (get-insert m name i q)) (subst (λ o. IsVariableWithin (cond (eq_by_cmp order q name) (Some i) (get m q)) o) (sym (get-insert n name j q)) (cond_part (eq_by_cmp order q name) i j (get m q) (get n q) h.1 (v q)))
 store_grows (Direct name s) Flag Flag m n h v q = v q
@@ -316,7 +317,7 @@ store_grows (Indexed name bounds element variable s) k w m n h v q = v q
 store_grows (Inside instance word s) k w m n h v q = v q
 store_grows Unknown k w m n h v q = v q
 
-same_part : (o p : Option Interval) → o ≡ p → IsVariableWithin o p
+pub same_part : (o p : Option Interval) → o ≡ p → IsVariableWithin o p
 same_part o p e = subst (IsVariableWithin o) e (variable_itself o)
 
 pub works_store_plain : (names : Names) (c : Config) (u : ProgramUnit) (f : Facts) (l : Knowledge) → Stands names c u f l → (to : Operand) → HasNumber names (denotation c u to.reference) → Works names c u f l (Store Plain to)
@@ -507,7 +508,7 @@ works_evaluate names c u row result (d ∷ ds) variables wide [] s = absurd s.un
 
 -- JUMPS AND RETURNS
 
-condition_tests : (condition : Condition) (o wide : Option Known) → IsResultWithin o wide → Tests (has_condition condition o) (HasCondition condition o) (HasCondition condition wide)
+pub condition_tests : (condition : Condition) (o wide : Option Known) → IsResultWithin o wide → Tests (has_condition condition o) (HasCondition condition o) (HasCondition condition wide)
 condition_tests Always o wide w = record { holds = λ e. tt; follows = λ h. refl }
 condition_tests WhenTrue o wide w = flag_tests o wide w
 condition_tests WhenFalse o wide w = flag_tests o wide w
@@ -685,7 +686,7 @@ pub record Applies (names : Names) (c : Config) (u : ProgramUnit) (f : Facts) (l
   pub complete : (own : Option ProgramUnit) (a : Annotation) (p : ℕ) → WithKnownResult l.result (λ first. IsInvoked (spot c u a p l) (Some function) own operands first)
       → (m : Moves Facts) × (moves_of_standard names c u f (Some function) operands ≡ Some m) × AllOver (Under names) a p m
 
-result_map : (o : Option Known) (g h : Known → Type 0) → ((k : Known) → g k → h k) → WithKnownResult o g → WithKnownResult o h
+pub result_map : (o : Option Known) (g h : Known → Type 0) → ((k : Known) → g k → h k) → WithKnownResult o g → WithKnownResult o h
 result_map None g h map x = x
 result_map (Some k) g h map x = map k x
 
@@ -709,8 +710,8 @@ applies names c u f l s function operands = record {
         (λ k. knowledge (variables_of names f.row) (Some k) f.deferred) (λ k. knowledge l.variables (Some k) l.deferred)
     g = gives names c u f l s _ _ _ calls
 
-pub works_invoke : (names : Names) (c : Config) (u : ProgramUnit) (f : Facts) (l : Knowledge) → Stands names c u f l → (function : Named) (operands : List Operand) (standard : StandardFunction) → standard_function function.name ≡ Some standard → Works names c u f l (Invoke function operands)
-works_invoke names c u f l s function operands standard is = record {
+pub works_standard : (names : Names) (c : Config) (u : ProgramUnit) (f : Facts) (l : Knowledge) → Stands names c u f l → (function : Named) (operands : List Operand) (standard : StandardFunction) → standard_function function.name ≡ Some standard → Works names c u f l (Invoke function operands)
+works_standard names c u f l s function operands standard is = record {
   fine = λ m e. g.fine m (sym same ∙ e);
   sound = λ a p m e over. subst (λ o. WithKnownResult f.result (λ first. IsInvoked (spot c u a p (shown names f)) o (function_named c function.name) operands first)) (sym is) (g.sound (function_named c function.name) a p m (sym same ∙ e) over);
   complete = λ a p h. let r = g.complete (function_named c function.name) a p (subst (λ o. WithKnownResult l.result (λ first. IsInvoked (spot c u a p l) o (function_named c function.name) operands first)) is h) in (r.0, same ∙ r.1, r.2);
@@ -720,4 +721,4 @@ works_invoke names c u f l s function operands standard is = record {
     g = applies names c u f l s standard operands
 
     same : moves_of names c u f (Invoke function operands) ≡ moves_of_standard names c u f (Some standard) operands
-    same = ap (λ o. moves_of_standard names c u f o operands) is
+    same = ap (λ o. moves_of_invoke names c u f o (function_named c function.name) operands) is

@@ -12,11 +12,14 @@ use Rattle.il_spec.specs.declared.tree.Store.{Store as StoreKind}
 use Rattle.il_spec.specs.declared.tree.Store.TheVariants.{Plain, Negated, Set, Reset}
 use Rattle.il_spec.specs.declared.tree.Operator.{Operator}
 use Rattle.il_spec.specs.declared.tree.Operand.{Operand}
+use Rattle.il_spec.specs.declared.tree.Argument.{Argument}
+use Rattle.il_spec.specs.declared.tree.Form.{Form}
+use Rattle.il_spec.specs.declared.tree.Form.TheVariants.{Scalar as ScalarForm, Array as ArrayForm, Block as BlockForm}
 use Rattle.il_spec.specs.declared.tree.Condition.{Condition}
 use Rattle.il_spec.specs.declared.tree.Condition.TheVariants.{Always, WhenTrue, WhenFalse}
 use Rattle.il_spec.specs.declared.tree.Instruction.{Instruction}
 use Rattle.il_spec.specs.declared.tree.Instruction.TheVariants.{Load, Store, Not, Operate, Defer, Evaluate, Jump, Return, Call, Invoke}
-use Rattle.il_rules.specs.Names.{Spelling, is_one_of}
+use Rattle.il_rules.specs.Names.{Spelling, is_one_of, StandardFunction, standard_function, function_named, form_named}
 use Rattle.il_rules.specs.Types.{label_from, label_place, StandsAt}
 use Rattle.il_run.specs.NameMap.{get}
 use Rattle.il_run.specs.Meaning.{Denotation, denotation}
@@ -27,14 +30,15 @@ use Rattle.il_run.specs.Annotation.{Knowledge, Annotation, Passes, IsVariableWit
 use Rattle.il_least.specs.Pass.{Moves, Arrived, advance}
 use Rattle.il_least.specs.declared.facts.Facts.{Facts}
 use Rattle.il_least.specs.Facts.{Names, facts, facts_join, shown, IsFine}
-use Rattle.il_least.specs.Steps.{to_next, stored, aside, moves_of_store, moves_of_defer, moves_of_evaluate, has_condition, passing, jumping_to, is_bare, moves_of_standard, moves_of, moves}
+use Rattle.il_least.specs.Steps.{to_next, stored, aside, moves_of_store, moves_of_defer, moves_of_evaluate, has_condition, passing, jumping_to, is_bare, moves_of_invoke, fit_arguments, called, moves_of_call, moves_of, moves}
 use Rattle.il_least.specs.Prepared.{IsReady, IsPrepared, entry, went_over}
 use Rattle.il_least.specs.Refused.{IsRefusedWith}
 use Rattle.il_least.proofs.Least.{Over, IsInside, IsAhead, IsPass, Settled, settled, annotation, annotation_at, annotates, lies_below, refused, refused_with, same_some, mapped}
 use Rattle.il_least.proofs.Joins.{Under, part_itself, part_trans, facts_joined, facts_least}
 use Rattle.il_least.proofs.Rows.{row_is, variable_itself}
 use Rattle.il_least.proofs.Agree.{provided_is}
-use Rattle.il_least.proofs.Instructions.{spot, Works, Stands, works_load, works_store, works_not, works_operate, works_defer, works_evaluate, works_return, works_jump, works_invoke}
+use Rattle.il_least.proofs.Instructions.{spot, Works, Stands, works_load, works_store, works_not, works_operate, works_defer, works_evaluate, works_return, works_jump}
+use Rattle.il_least.proofs.Calls.{works_call, works_invoke}
 
 -- EACH INSTRUCTION
 
@@ -42,7 +46,7 @@ works : (c : Config) (u : ProgramUnit) (names : Names) (declared : List Interval
 works c u names declared j f l fine under i allowed = by_kind i allowed
   where
     s : Stands names c u f l
-    s = record { fine = fine; under = under; denotes = j.denotes }
+    s = record { fine = fine; under = under; denotes = j.denotes; units = j.units }
 
     by_kind : (i : Instruction) → IsReady names c u i → Works names c u f l i
     by_kind (Load negated operand) h = works_load names c u f l s negated operand
@@ -53,8 +57,8 @@ works c u names declared j f l fine under i allowed = by_kind i allowed
     by_kind Evaluate h = works_evaluate names c u f.row f.result f.deferred l.variables l.result l.deferred s
     by_kind (Jump condition label) h = works_jump names c u f l s condition label
     by_kind (Return condition) h = works_return names c u f l s condition
-    by_kind (Call condition instance arguments) h = absurd h
-    by_kind (Invoke function operands) h = works_invoke names c u f l s function operands h.0 h.1
+    by_kind (Call condition instance arguments) h = works_call names c u f l s condition instance arguments h
+    by_kind (Invoke function operands) h = works_invoke names c u f l s function operands
 
 -- WHERE MOVES LEAD
 
@@ -86,21 +90,33 @@ evaluate_next : (f : Facts) (ds : List KnownDeferred) (m : Moves Facts) → move
 evaluate_next f [] m e = absurd (let bad : None ≡ Some m = e in cc)
 evaluate_next f (d ∷ ds) m e = only_next (λ k. facts f.row (Some k) ds) _ m e
 
-kind_of : (names : Names) (c : Config) (u : ProgramUnit) (f : Facts) (i : Instruction) (m : Moves Facts) → IsReady names c u i → moves_of names c u f i ≡ Some m → Kind names c u f m i
-kind_of names c u f (Load negated operand) m allowed e = plain (Load negated operand) (only_next (λ k. facts f.row (Some k) f.deferred) _ m e)
-kind_of names c u f (Store kind to) m allowed e = plain (Store kind to) (store_next names f kind (denotation c u to.reference) m e)
-kind_of names c u f Not m allowed e = plain Not (only_next (λ k. facts f.row (Some k) f.deferred) _ m e)
-kind_of names c u f (Operate operator operand) m allowed e = plain (Operate operator operand) (only_next (λ k. facts f.row (Some k) f.deferred) _ m e)
-kind_of names c u f (Defer operator first) m allowed e = plain (Defer operator first) (defer_next names c u f operator first m e)
-kind_of names c u f Evaluate m allowed e = plain Evaluate (evaluate_next f f.deferred m e)
-kind_of names c u f (Jump condition label) m allowed e = by_place (label_place u.body label.name) refl (provided_is (has_condition condition f.result) (jumping_to condition f (label_place u.body label.name)) m (provided_is (is_bare f.deferred) _ m e).is).is
+invoke_next : (names : Names) (c : Config) (u : ProgramUnit) (f : Facts) (o : Option StandardFunction) (own : Option ProgramUnit) (operands : List Operand) (m : Moves Facts) → moves_of_invoke names c u f o own operands ≡ Some m → OnlyNext m
+invoke_next names c u f (Some function) own operands m e = only_next (λ k. facts f.row (Some k) f.deferred) _ m e
+invoke_next names c u f None (Some own) operands m e = only_next (λ k. facts f.row (Some k) f.deferred) _ m e
+invoke_next names c u f None None operands m e = absurd (let bad : None ≡ Some m = e in cc)
+
+call_next : (names : Names) (c : Config) (u : ProgramUnit) (f : Facts) (condition : Condition) (arguments : List Argument) (form : Option Form) (m : Moves Facts) → moves_of_call names c u f condition arguments form ≡ Some m → OnlyNext m
+call_next names c u f condition arguments (Some (BlockForm block)) m e =
+    subst OnlyNext (same_some _ m (provided_is (fit_arguments names f.row c u block arguments) (Some (to_next (called names c u f condition block arguments))) m e).is) (record { f = called names c u f condition block arguments; next = refl; jump = refl })
+call_next names c u f condition arguments None m e = absurd (let bad : None ≡ Some m = e in cc)
+call_next names c u f condition arguments (Some (ScalarForm s)) m e = absurd (let bad : None ≡ Some m = e in cc)
+call_next names c u f condition arguments (Some (ArrayForm bounds element)) m e = absurd (let bad : None ≡ Some m = e in cc)
+
+kind_of : (names : Names) (c : Config) (u : ProgramUnit) (f : Facts) (i : Instruction) (m : Moves Facts) → moves_of names c u f i ≡ Some m → Kind names c u f m i
+kind_of names c u f (Load negated operand) m e = plain (Load negated operand) (only_next (λ k. facts f.row (Some k) f.deferred) _ m e)
+kind_of names c u f (Store kind to) m e = plain (Store kind to) (store_next names f kind (denotation c u to.reference) m e)
+kind_of names c u f Not m e = plain Not (only_next (λ k. facts f.row (Some k) f.deferred) _ m e)
+kind_of names c u f (Operate operator operand) m e = plain (Operate operator operand) (only_next (λ k. facts f.row (Some k) f.deferred) _ m e)
+kind_of names c u f (Defer operator first) m e = plain (Defer operator first) (defer_next names c u f operator first m e)
+kind_of names c u f Evaluate m e = plain Evaluate (evaluate_next f f.deferred m e)
+kind_of names c u f (Jump condition label) m e = by_place (label_place u.body label.name) refl (provided_is (has_condition condition f.result) (jumping_to condition f (label_place u.body label.name)) m (provided_is (is_bare f.deferred) _ m e).is).is
   where
     by_place : (o : Option ℕ) → label_place u.body label.name ≡ o → jumping_to condition f o ≡ Some m → Kind names c u f m (Jump condition label)
     by_place None is g = absurd (let bad : None ≡ Some m = g in cc)
     by_place (Some to) is g = jumps condition label to _ is (sym (same_some _ m g))
-kind_of names c u f (Return condition) m allowed e = returns condition (sym (same_some _ m (provided_is (has_condition condition f.result) (Some (record { next = passing condition f; jump = None })) m e).is))
-kind_of names c u f (Call condition instance arguments) m allowed e = absurd allowed
-kind_of names c u f (Invoke function operands) m allowed e = plain (Invoke function operands) (only_next (λ k. facts f.row (Some k) f.deferred) _ m (sym (ap (λ o. moves_of_standard names c u f o operands) allowed.1) ∙ e))
+kind_of names c u f (Return condition) m e = returns condition (sym (same_some _ m (provided_is (has_condition condition f.result) (Some (record { next = passing condition f; jump = None })) m e).is))
+kind_of names c u f (Call condition instance arguments) m e = plain (Call condition instance arguments) (call_next names c u f condition arguments (form_named c u instance.name) m (provided_is (has_condition condition f.result) _ m e).is)
+kind_of names c u f (Invoke function operands) m e = plain (Invoke function operands) (invoke_next names c u f (standard_function function.name) (function_named c function.name) operands m e)
 
 -- a label stands no further than behind the last instruction
 label_within : (at : ℕ) (steps : List Step) (last : List Spelling) (name : Spelling) (to : ℕ) → label_from at steps last name ≡ Some to → to ≤ at + length steps
@@ -163,8 +179,7 @@ works_at c u names declared j f l fine under place low =
 
 kind_at : (c : Config) (u : ProgramUnit) (names : Names) (declared : List Interval) → IsPrepared c u names declared → (f : Facts) (m : Moves Facts) (place : ℕ) → place < length u.body.steps → moves names c u place f ≡ Some m → Kind names c u f m (instruction_at u.body place)
 kind_at c u names declared j f m place low e =
-    let a = at u.body place low in
-    kind_of names c u f (instruction_at u.body place) m (subst (IsReady names c u) (sym a.is) (j.ready place a.step a.stands)) e
+    kind_of names c u f (instruction_at u.body place) m e
 
 ahead_at : (c : Config) (u : ProgramUnit) (names : Names) (declared : List Interval) → IsPrepared c u names declared → (place : ℕ) → place < length u.body.steps → (label : Named) (condition : Condition) (to : ℕ) → instruction_at u.body place ≡ Jump condition label → label_place u.body label.name ≡ Some to → place < to
 ahead_at c u names declared j place low label condition to is there =

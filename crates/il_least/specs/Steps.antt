@@ -1,8 +1,14 @@
--- Where each instruction leads, and with which facts (own rules). Calls of own units and of blocks are not there yet.
-use Rattle.std.specs.Prelude.{ℕ, Bool, false, true, List, [], ◌∷◌, Option, Some, None, option_map, option_and_then}
+-- Where each instruction leads, and with which facts (own rules).
+use Rattle.std.specs.Prelude.{ℕ, Bool, false, true, ◌&&◌, List, [], ◌∷◌, Option, Some, None, option_map, option_and_then}
 use Rattle.il_interval.specs.declared.Interval.{Interval}
 use Rattle.il_spec.specs.declared.tree.Elementary.{Elementary}
+use Rattle.il_spec.specs.declared.tree.Scalar.{Scalar}
+use Rattle.il_spec.specs.declared.tree.Form.{Form}
+use Rattle.il_spec.specs.declared.tree.Form.TheVariants.{Scalar as ScalarForm, Block as BlockForm}
 use Rattle.il_spec.specs.declared.tree.Operand.{Operand}
+use Rattle.il_spec.specs.declared.tree.Reference.TheVariants.{Variable}
+use Rattle.il_spec.specs.declared.tree.Argument.{Argument}
+use Rattle.il_spec.specs.declared.tree.Argument.TheVariants.{Input, Output}
 use Rattle.il_spec.specs.declared.tree.Operator.{Operator}
 use Rattle.il_spec.specs.declared.tree.Store.{Store as StoreKind}
 use Rattle.il_spec.specs.declared.tree.Store.TheVariants.{Plain}
@@ -11,19 +17,22 @@ use Rattle.il_spec.specs.declared.tree.Condition.TheVariants.{Always}
 use Rattle.il_spec.specs.declared.tree.Instruction.{Instruction}
 use Rattle.il_spec.specs.declared.tree.Instruction.TheVariants.{Load, Store, Not, Operate, Defer, Evaluate, Jump, Return, Call, Invoke}
 use Rattle.il_spec.specs.declared.tree.Unit.{Unit as ProgramUnit}
+use Rattle.il_spec.specs.declared.tree.UnitKind.{UnitKind}
+use Rattle.il_spec.specs.declared.tree.UnitKind.TheVariants.{Function, FunctionBlock, Program}
 use Rattle.il_spec.specs.declared.tree.Config.{Config}
-use Rattle.il_rules.specs.Names.{StandardFunction, standard_function}
+use Rattle.il_rules.specs.Names.{StandardFunction, standard_function, function_named, entry_of, block_variables, named_forms, form_named}
 use Rattle.il_rules.specs.Types.{label_place}
-use Rattle.il_run.specs.Meaning.{Denotation, Direct, denotation, natural}
-use Rattle.il_run.specs.Step.{instruction_at}
+use Rattle.il_run.specs.NameMap.{Text}
+use Rattle.il_run.specs.Meaning.{Denotation, Direct, denotation, natural, inputs_of, outputs_of}
+use Rattle.il_run.specs.Step.{instruction_at, rest_of}
 use Rattle.il_run.specs.declared.known.Known.{Known}
 use Rattle.il_run.specs.declared.known.Known.TheVariants.{Flag, Ranged}
 use Rattle.il_run.specs.declared.known.KnownDeferred.{KnownDeferred}
-use Rattle.il_run.specs.Annotation.{result_at_target, known_argument_type}
+use Rattle.il_run.specs.Annotation.{range, declared_known, result_at_target, known_argument_type}
 use Rattle.il_least.specs.Pass.{Moves}
 use Rattle.il_least.specs.declared.facts.Facts.{Facts}
-use Rattle.il_least.specs.Facts.{Names, facts, with_result, row_at, row_put}
-use Rattle.il_least.specs.Found.{provided, found_operand, found_operated, found_loaded, fits_target, found_applied}
+use Rattle.il_least.specs.Facts.{Names, facts, with_result, row_at, row_put, row_join}
+use Rattle.il_least.specs.Found.{provided, found_operand, found_operated, found_loaded, fits_range, fits_target, found_applied}
 
 -- to the next place with these facts
 abbrev pub to_next : Facts → Moves Facts
@@ -118,6 +127,91 @@ abbrev pub moves_of_standard : Names → Config → ProgramUnit → Facts → Op
 moves_of_standard names c u f None operands = None
 moves_of_standard names c u f (Some function) operands = giving f (option_and_then (applied_to names f.row c u function operands) f.result)
 
+-- ARGUMENTS
+
+-- whether a value fits a scalar of a form
+abbrev pub fits_form : Option Form → Known → Bool
+fits_form (Some (ScalarForm s)) k = fits_range s.elementary (range s) k
+fits_form _ k = false
+
+-- whether what was found fits a scalar
+abbrev pub found_fits : Scalar → Option Known → Bool
+found_fits s None = false
+found_fits s (Some k) = fits_range s.elementary (range s) k
+
+-- whether an operand fits an input of a form
+abbrev pub fits_input : Names → List Interval → Denotation → Option Form → Bool
+fits_input names row d (Some (ScalarForm s)) = found_fits s (found_operand (row_at names row) s.elementary d)
+fits_input names row d _ = false
+
+-- whether all values of an output of a form fit a target
+abbrev pub fits_output : Names → List Interval → Denotation → Option Form → Bool
+fits_output names row d (Some (ScalarForm s)) = fits_target names row d (declared_known s)
+fits_output names row d _ = false
+
+-- OWN FUNCTIONS
+
+abbrev pub fits_first : List (Text × Form) → Known → Bool
+fits_first [] k = false
+fits_first (e ∷ es) k = fits_form (Some e.1) k
+
+abbrev pub fit_inputs : Names → List Interval → Config → ProgramUnit → List (Text × Form) → List Operand → Bool
+fit_inputs names row c u [] [] = true
+fit_inputs names row c u (e ∷ es) (o ∷ os) = fits_input names row (denotation c u o.reference) (Some e.1) && fit_inputs names row c u es os
+fit_inputs names row c u [] (o ∷ os) = false
+fit_inputs names row c u (e ∷ es) [] = false
+
+-- what a call of a unit leaves
+abbrev pub found_result : UnitKind → Option Known
+found_result (Function scalar place) = Some (declared_known scalar)
+found_result FunctionBlock = None
+found_result Program = None
+
+abbrev pub own_result : Names → List Interval → Config → ProgramUnit → ProgramUnit → List Operand → Known → Option Known
+own_result names row c u own operands first =
+    provided (fits_first (named_forms own.inputs) first) (provided (fit_inputs names row c u (rest_of (named_forms own.inputs)) operands) (found_result own.kind))
+
+-- a call of a function, standard or own
+abbrev pub moves_of_invoke : Names → Config → ProgramUnit → Facts → Option StandardFunction → Option ProgramUnit → List Operand → Option (Moves Facts)
+moves_of_invoke names c u f (Some function) own operands = moves_of_standard names c u f (Some function) operands
+moves_of_invoke names c u f None (Some own) operands = giving f (option_and_then (own_result names f.row c u own operands) f.result)
+moves_of_invoke names c u f None None operands = None
+
+-- BLOCKS
+
+abbrev pub fit_arguments : Names → List Interval → Config → ProgramUnit → Text → List Argument → Bool
+fit_arguments names row c u block [] = true
+fit_arguments names row c u block (Input word o ∷ more) =
+    fits_input names row (denotation c u o.reference) (entry_of (inputs_of (block_variables c block)) word.name) && fit_arguments names row c u block more
+fit_arguments names row c u block (Output word to ∷ more) =
+    fits_output names row (denotation c u (Variable to.name)) (entry_of (outputs_of (block_variables c block)) word.name) && fit_arguments names row c u block more
+
+-- the row after one output is copied
+abbrev pub output_row : Names → Option Form → Denotation → List Interval → List Interval
+output_row names (Some (ScalarForm s)) d row = stored_row names d (declared_known s) row
+output_row names _ d row = row
+
+-- each target of an output has the output's declared range
+abbrev pub outputs_row : Names → Config → ProgramUnit → Text → List Argument → List Interval → List Interval
+outputs_row names c u block [] row = row
+outputs_row names c u block (Input word o ∷ more) row = outputs_row names c u block more row
+outputs_row names c u block (Output word to ∷ more) row =
+    outputs_row names c u block more (output_row names (entry_of (outputs_of (block_variables c block)) word.name) (denotation c u (Variable to.name)) row)
+
+-- the row behind a call: of a conditional one both as it acts and as it passes
+abbrev pub passed_row : Condition → List Interval → List Interval → List Interval
+passed_row Always acted row = acted
+passed_row _ acted row = row_join acted row
+
+abbrev pub called : Names → Config → ProgramUnit → Facts → Condition → Text → List Argument → Facts
+called names c u f condition block arguments = facts (passed_row condition (outputs_row names c u block arguments f.row) f.row) None f.deferred
+
+-- a call of an instance of a block
+abbrev pub moves_of_call : Names → Config → ProgramUnit → Facts → Condition → List Argument → Option Form → Option (Moves Facts)
+moves_of_call names c u f condition arguments (Some (BlockForm block)) =
+    provided (fit_arguments names f.row c u block arguments) (Some (to_next (called names c u f condition block arguments)))
+moves_of_call names c u f condition arguments _ = None
+
 -- the moves of an instruction; none where it is refused
 abbrev pub moves_of : Names → Config → ProgramUnit → Facts → Instruction → Option (Moves Facts)
 moves_of names c u f (Load negated operand) = giving f (option_and_then (found_loaded negated) (loaded_operand names f.row (denotation c u operand.reference)))
@@ -128,8 +222,8 @@ moves_of names c u f (Defer operator first) = moves_of_defer names c u f operato
 moves_of names c u f Evaluate = moves_of_evaluate f f.deferred
 moves_of names c u f (Jump condition label) = provided (is_bare f.deferred) (provided (has_condition condition f.result) (jumping_to condition f (label_place u.body label.name)))
 moves_of names c u f (Return condition) = provided (has_condition condition f.result) (Some (record { next = passing condition f; jump = None }))
-moves_of names c u f (Call condition instance arguments) = None
-moves_of names c u f (Invoke function operands) = moves_of_standard names c u f (standard_function function.name) operands
+moves_of names c u f (Call condition instance arguments) = provided (has_condition condition f.result) (moves_of_call names c u f condition arguments (form_named c u instance.name))
+moves_of names c u f (Invoke function operands) = moves_of_invoke names c u f (standard_function function.name) (function_named c function.name) operands
 
 -- the moves of a place
 abbrev pub moves : Names → Config → ProgramUnit → ℕ → Facts → Option (Moves Facts)

@@ -1,5 +1,5 @@
 -- What operands are, by the meanings of names.
-use Rattle.std.proofs.Common.{◌≡◌, ◌≢◌, ℕ, ◌<◌, ◌≤◌, suc, Bool, true, false, List, [], ◌∷◌, length, get_or, Option, Some, None, option_map, refl, sym, ap, ◌∙◌, subst, arith, slice_get, codes}
+use Rattle.std.proofs.Common.{◌≡◌, ◌≢◌, ℕ, ◌<◌, ◌≤◌, suc, true, false, List, [], ◌∷◌, length, get_or, Option, Some, None, option_map, refl, sym, ap, ◌∙◌, subst, arith, slice_get, codes}
 use Rattle.std.specs.Prelude.{option_and_then, if◌then◌else◌}
 use Rattle.std.proofs.lemmas.Option.{slice_get-get_or}
 use Rattle.il_interval.specs.declared.Interval.{Interval}
@@ -14,7 +14,7 @@ use Rattle.il_spec.specs.declared.tree.Reference.{Reference}
 use Rattle.il_spec.specs.declared.tree.Reference.TheVariants.{Literal as OfLiteral, Variable as OfVariable, Element as OfElement, Member as OfMember}
 use Rattle.il_spec.specs.declared.tree.Operand.{Operand}
 use Rattle.il_spec.specs.declared.tree.Operator.{Operator}
-use Rattle.il_spec.specs.declared.tree.Operator.TheVariants.{Logic, Arithmetic, Comparison}
+use Rattle.il_spec.specs.declared.tree.Operator.TheVariants.{Logic, Arithmetic}
 use Rattle.il_spec.specs.declared.tree.Logic.TheVariants.{Conjunction, Disjunction}
 use Rattle.il_spec.specs.declared.tree.Arithmetic.TheVariants.{Add, Sub}
 use Rattle.il_spec.specs.declared.tree.Named.{Named}
@@ -23,27 +23,27 @@ use Rattle.il_spec.specs.declared.tree.Store.TheVariants.{Plain, Negated, Set, R
 use Rattle.il_spec.specs.declared.tree.Instruction.{Instruction}
 use Rattle.il_spec.specs.declared.tree.Instruction.TheVariants.{Load, Store, Not, Operate, Defer, Evaluate, Jump, Return, Call, Invoke}
 use Rattle.il_rules.specs.declared.symbol.Symbol.{Symbol}
-use Rattle.il_rules.specs.Names.{Spelling, Origin, Variable, variable_named, form_named, standard_function, Limited}
+use Rattle.il_rules.specs.Names.{Spelling, Origin, Variable, variable_named, form_named, standard_function, function_named, Limited}
 use Rattle.il_rules.specs.Subset.{IsSupportedOperand, IsSupportedPlace, IsSupportedOperator, AreSupportedOperands, IsSupportedInstruction, AreSupportedSteps}
 use Rattle.il_rules.specs.Symbols.{symbol_by, symbol_of}
 use Rattle.il_rules.proofs.Straight.{step_supported}
-use Rattle.il_run.specs.NameMap.{NameMap, get}
-use Rattle.il_run.specs.Meaning.{Denotation, Constant, Direct, Unknown, direct, denotation}
-use Rattle.il_run.specs.Step.{instruction_at, instruction_or_return}
+use Rattle.il_run.specs.NameMap.{get}
+use Rattle.il_run.specs.Meaning.{Denotation, Constant, Direct, direct, denotation}
+use Rattle.il_run.specs.Step.{instruction_or_return}
 use Rattle.il_run.specs.declared.known.Known.{Known}
 use Rattle.il_run.specs.declared.known.Known.TheVariants.{Flag, Ranged}
 use Rattle.il_run.specs.Annotation.{Knowledge, form_range, declared_range, range, IsVariableWithin}
 use Rattle.il_least.specs.Pass.{Moves}
 use Rattle.il_least.specs.declared.facts.Facts.{Facts}
-use Rattle.il_least.specs.Facts.{Names, range_by, row_at, row_put, variables_of, IsRowOf, IsFineKnown, IsFineResult, facts, with_result, shown}
+use Rattle.il_least.specs.Facts.{Names, range_by, row_at, variables_of, IsRowOf, IsFineKnown, IsFineResult, facts, shown}
 use Rattle.il_least.specs.Found.{provided, found_operand, found_flow, found_applied, fits_range, fits_target}
-use Rattle.il_least.specs.Steps.{to_next, giving, flag_there, stored, stored_row, taken_by, moves_of_store, found_arguments, applied_to, moves_of_standard, moves_of, moves}
+use Rattle.il_least.specs.Steps.{to_next, giving, flag_there, stored, stored_row, taken_by, moves_of_store, found_arguments, applied_to, moves_of_invoke, moves_of, moves}
 use Rattle.il_least.specs.Numbers.{unless_outside, is_inside, operate_fault, divisor_fault, operands_fault, invoke_fault, fault_of, Lookup}
 use Rattle.il_least.specs.Prepared.{IsFineDenotation}
 use Rattle.il_least.proofs.Rows.{row_is, variable_itself}
-use Rattle.il_least.proofs.Operations.{Variables, operand_agrees}
+use Rattle.il_least.proofs.Operations.{operand_agrees}
 use Rattle.il_verify.specs.declared.program.Program.{Program}
-use Rattle.il_verify.specs.Program.{names, symbol_range, named_by, program_names, range_in, kept_row, IsRefusalOf}
+use Rattle.il_verify.specs.Program.{symbol_range, named_by, program_names, range_in, kept_row, IsRefusalOf}
 
 -- SYMBOLS
 
@@ -157,7 +157,7 @@ limited_two n row c u first e i x y os a b is low high p q ex ey =
 
 pub limit_moves : (n : Names) (c : Config) (u : ProgramUnit) (f : Facts) (function : Named) (operands : List Operand) → function.name ≡ codes "LIMIT" → moves_of n c u f (Invoke function operands) ≡ giving f (option_and_then (applied_to n f.row c u Limited operands) f.result)
 unfolding standard_function
-limit_moves n c u f function operands is = ap (λ w. moves_of_standard n c u f (standard_function w) operands) is
+limit_moves n c u f function operands is = ap (λ w. moves_of_invoke n c u f (standard_function w) (function_named c function.name) operands) is
 
 -- STORES
 

@@ -19,7 +19,7 @@ use Rattle.il_run.specs.Annotation.{declared_range}
 use Rattle.il_least.specs.Facts.{AreOperands}
 use Rattle.il_least.proofs.Rows.{same_text, text_itself}
 use Rattle.il_least.proofs.Least.{same_some}
-use Rattle.il_verify.specs.Program.{AreNumbers, KeepNumbers, HasNumberIn, IsTargetNumbered, IsStoreNumbered, AreStoresNumbered, AreDeclaredOperands, Added, Adds, IsNumberedTo}
+use Rattle.il_verify.specs.Program.{KeepNumbers, HasNumberIn, IsTargetNumbered, IsStoreNumbered, Added, Adds, IsNumberedTo}
 
 pub on_ok_map : {X E : Type 0} (P Q : Type 0) (r : Result X E) → (P → Q) → OnOk r P → OnOk r Q
 on_ok_map P Q (Ok x) f p = f p

@@ -22,14 +22,15 @@ use Rattle.il_spec.specs.declared.tree.Reference.{Reference}
 use Rattle.il_spec.specs.declared.tree.Reference.TheVariants.{Literal as OfLiteral, Variable as OfVariable, Element as OfElement, Member as OfMember}
 use Rattle.il_interval.specs.declared.Interval.{Interval}
 use Rattle.il_interval.specs.Interval.{IsOrdered, IsOperand}
-use Rattle.il_rules.specs.Names.{Spelling, Origin, AsVariable, Variable, ImageName, image_of, image_name, is_predeclared, unit_named, own_variable, variables_of, with_origin, named_forms, sees, Meaning, MeansVariable, MeansUnit, MeansStandard, meaning, meant_variable, form_named, global_meaning, outer_meaning, or_else}
+use Rattle.il_rules.specs.Names.{Spelling, Origin, AsVariable, Variable, ImageName, image_of, image_name, is_predeclared, unit_named, own_variable, variables_of, with_origin, named_forms, sees, Meaning, MeansVariable, MeansUnit, MeansStandard, meaning, meant_variable, form_named, global_meaning, outer_meaning, or_else, entry_of, StandardBlock, standard_block, standard_variables, standard_outputs, own_block_variables, block_variables, function_block_named, is_function, is_function_kind, is_function_block, is_function_block_kind}
 use Rattle.il_rules.specs.Declarations.{has_value, is_within, unless, Admitted, AllForms, ScalarsAlone, ScalarsAndArrays, types_in, unit_types, written_types, type_numbers, subrange_numbers, admitted_variables, result_types, sizes_of, size_outside}
 use Rattle.il_rules.specs.Faults.{empty_range, initial_outside, HasNoFault}
 use Rattle.il_rules.specs.Subset.{broken, IsSupportedProgram, AreSupportedVariables, IsSupportedForm, IsSupportedScalar, BreaksInSubset}
-use Rattle.il_run.specs.Meaning.{denotation, direct, indexed_by, element_of, member_of}
-use Rattle.il_run.specs.Annotation.{interval, range, FitsType, known_by, form_range, declared_range}
+use Rattle.il_run.specs.Meaning.{outputs_of, denotation, direct, indexed_by, element_of, member_of}
+use Rattle.il_run.specs.Annotation.{interval, range, FitsType, known_by, declared_known, form_range, declared_range}
 use Rattle.il_least.specs.Facts.{IsFineKnown}
-use Rattle.il_least.specs.Prepared.{IsFineDenotation}
+use Rattle.il_least.specs.Prepared.{IsFineDenotation, AreFineUnits}
+use Rattle.il_least.proofs.Fine.{fine_entry_of, standard_outputs_fine}
 use Rattle.il_least.proofs.Tests.{left_true, right_true, le_is, type_operand}
 
 -- PROPER TYPES
@@ -297,3 +298,27 @@ denotes_fine c u alone supported declared (OfMember instance word) = by_form (fo
     by_form (Some (OfScalar s)) is = tt
     by_form (Some (OfArray bounds element)) is = tt
     by_form (Some (OfBlock block)) is = absurd (form_proper c u alone supported declared instance (OfBlock block) is)
+
+-- a kind of unit that the program is not
+other_unit : (c : Config) (u : ProgramUnit) → c.units ≡ u ∷ [] → (is_it : ProgramUnit → Bool) → is_it u ≡ false → (name : Spelling) → option_and_then (λ x. if is_it x then Some x else None) (unit_named c name) ≡ None
+other_unit c u alone is_it other name = ap (λ us. option_and_then (λ x. if is_it x then Some x else None) (if is_predeclared c name then None else find (λ x. bytes_eq x.name.name name) us)) alone ∙ by_tests (is_predeclared c name) (bytes_eq u.name.name name)
+  where
+    by_tests : (b d : Bool) → option_and_then (λ x. if is_it x then Some x else None) (if b then None else (if d then Some u else None)) ≡ None
+    by_tests true d = refl
+    by_tests false true = ap (λ b. if b then Some u else None) other
+    by_tests false false = refl
+
+-- so is what blocks and functions declare: no block is own, and no function
+pub units_fine : (c : Config) (u : ProgramUnit) → c.units ≡ u ∷ [] → u.kind ≡ Program → AreFineUnits c
+unfolding block_variables
+units_fine c u alone kind = record {
+  outputs = λ block word s e. by_standard (standard_block block) word s (subst (λ o. entry_of (outputs_of (or_else (option_map standard_variables (standard_block block)) (option_map own_block_variables o))) word ≡ Some (OfScalar s)) (other_unit c u alone is_function_block (ap is_function_block_kind kind) block) (by_words block word s e));
+  results = λ name own s place named is. let bad : ◌≡◌ {A = Option ProgramUnit} None (Some own) = sym (other_unit c u alone is_function (ap is_function_kind kind) name) ∙ named in cc;
+}
+  where
+    by_words : (block word : Spelling) (s : Scalar) → entry_of (outputs_of (block_variables c block)) word ≡ Some (OfScalar s) → entry_of (outputs_of (or_else (option_map standard_variables (standard_block block)) (option_map own_block_variables (function_block_named c block)))) word ≡ Some (OfScalar s)
+    by_words block word s e = e
+
+    by_standard : (o : Option StandardBlock) (word : Spelling) (s : Scalar) → entry_of (outputs_of (or_else (option_map standard_variables o) None)) word ≡ Some (OfScalar s) → IsFineKnown (declared_known s)
+    by_standard None word s e = absurd (let bad : ◌≡◌ {A = Option Form} None (Some (OfScalar s)) = e in cc)
+    by_standard (Some b) word s e = fine_entry_of (standard_outputs b) word s (standard_outputs_fine b) e

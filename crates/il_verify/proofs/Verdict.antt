@@ -1,12 +1,10 @@
 -- What the pass found of a program, in the words of annotations.
-use Rattle.std.proofs.Common.{◌≡◌, ℕ, ◌+◌, ◌<◌, ◌≤◌, List, [], ◌∷◌, length, Option, Some, None, Result, Ok, Err, refl, sym, ap, ◌∙◌, subst, slice_get, arith}
+use Rattle.std.proofs.Common.{◌≡◌, ℕ, ◌+◌, ◌<◌, List, [], length, Option, Some, None, Result, Ok, Err, refl, sym, ap, ◌∙◌, subst, slice_get, arith}
 use Rattle.std.specs.Prelude.{IfOk, IfErr, option_and_then}
 use Rattle.std.proofs.lemmas.Option.{slice_get_within}
 use Rattle.il_interval.specs.declared.Interval.{Interval}
 use Rattle.il_spec.specs.declared.tree.Config.{Config}
 use Rattle.il_spec.specs.declared.tree.Unit.{Unit as ProgramUnit}
-use Rattle.il_spec.specs.declared.tree.Step.{Step}
-use Rattle.il_spec.specs.declared.tree.Named.{Named}
 use Rattle.il_spec.specs.declared.tree.Form.{Form}
 use Rattle.il_spec.specs.declared.tree.Form.TheVariants.{Scalar as OfScalar, Array as OfArray, Block as OfBlock}
 use Rattle.il_spec.specs.declared.tree.Reference.{Reference}
@@ -15,21 +13,20 @@ use Rattle.il_spec.specs.declared.tree.Instruction.{Instruction}
 use Rattle.il_spec.specs.declared.tree.Instruction.TheVariants.{Load, Store, Not, Operate, Defer, Evaluate, Jump, Return, Call, Invoke}
 use Rattle.il_spec.specs.declared.fault.Refusal.{Refusal}
 use Rattle.il_spec.specs.declared.fault.Refusal.TheVariants.{Fault, Memory}
-use Rattle.il_rules.specs.Names.{form_named, standard_function, Limited}
+use Rattle.il_rules.specs.Names.{form_named}
 use Rattle.il_rules.specs.Faults.{HasNoFault}
 use Rattle.il_rules.specs.Subset.{IsSupportedProgram, IsSupportedInstruction, IsSupportedPlace, BreaksInSubset}
 use Rattle.il_rules.specs.Symbols.{IsProgram}
-use Rattle.il_rules.specs.Types.{StandsAt, JumpsAt, label_place}
 use Rattle.il_rules.proofs.Straight.{only_unit}
 use Rattle.il_run.specs.NameMap.{NameMap, get}
 use Rattle.il_run.specs.Meaning.{denotation, direct}
-use Rattle.il_run.specs.Annotation.{range, form_range, declared_range, Annotation, IsAnnotated, Annotated}
-use Rattle.il_least.specs.Pass.{Arrived, Moves, passed, advance}
+use Rattle.il_run.specs.Annotation.{form_range, declared_range, Annotation, IsAnnotated, Annotated}
+use Rattle.il_least.specs.Pass.{Arrived, passed}
 use Rattle.il_least.specs.declared.facts.Facts.{Facts}
-use Rattle.il_least.specs.Facts.{Names, range_by, row_at, IsRowOf, IsFine, facts, facts_join, shown}
+use Rattle.il_least.specs.Facts.{range_by, IsFine, facts, facts_join, shown}
 use Rattle.il_least.specs.Steps.{moves}
 use Rattle.il_least.specs.Prepared.{IsPrepared, IsReady, HasNumber, entry, went_over}
-use Rattle.il_least.specs.Refused.{IsRefusedWith, IsLeastAt}
+use Rattle.il_least.specs.Refused.{IsLeastAt}
 use Rattle.il_run.specs.declared.known.KnownDeferred.{KnownDeferred}
 use Rattle.il_least.proofs.Least.{IsAhead, same_some}
 use Rattle.il_least.proofs.Units.{accepted, first_without, arrives_fine, goes_forward}
@@ -37,7 +34,7 @@ use Rattle.il_code.specs.Resolved.{IsResolved}
 use Rattle.il_verify.specs.Resolved.{IsUnannotatedBy}
 use Rattle.il_verify.specs.Tables.{IsAheadOf, IsAheadBelow, IsFineBelow, PassesOver, IsRefusal, IsRefusedAt}
 use Rattle.il_verify.specs.Program.{names, AreNumbers, AreDeclaredOperands, IsTargetNumbered, IsStoreNumbered, IsNumberingOf, IsRefusalOf}
-use Rattle.il_verify.proofs.Proper.{declared_operand, denotes_fine}
+use Rattle.il_verify.proofs.Proper.{declared_operand, denotes_fine, units_fine}
 use Rattle.il_verify.proofs.Meanings.{supported_at}
 
 -- THE SETTING
@@ -60,7 +57,6 @@ operands c u numbers declared s = declared_operand c u s.is.alone s.supported s.
 
 -- a variable into which it stores has a number
 store_number : (c : Config) (u : ProgramUnit) (numbers : NameMap ℕ) (declared : List Interval) (i : Instruction) → IsSupportedInstruction i → IsStoreNumbered c u numbers i → IsReady (names c u numbers (length declared)) c u i
-unfolding standard_function
 store_number c u numbers declared (Store kind to) h n = by_target to.reference h.1 n
   where
     by_form : (name : List ℕ) (o : Option Form) → form_named c u name ≡ o → ((i : Interval) → declared_range c u name ≡ Some i → (n : ℕ) × (get numbers name ≡ Some n)) → HasNumber (names c u numbers (length declared)) (direct name o)
@@ -74,7 +70,7 @@ store_number c u numbers declared (Store kind to) h n = by_target to.reference h
     by_target (OfLiteral l) h n = absurd h
     by_target (OfElement name index) h n = absurd h
     by_target (OfMember name word) h n = absurd h
-store_number c u numbers declared (Invoke function operands) h n = (Limited, ap standard_function h.0)
+store_number c u numbers declared (Invoke function operands) h n = tt
 store_number c u numbers declared (Load negated operand) h n = tt
 store_number c u numbers declared Not h n = tt
 store_number c u numbers declared (Operate operator operand) h n = tt
@@ -89,6 +85,7 @@ prepared c u numbers declared s = record {
   row = record { long = refl; operands = are.operands; inside = are.inside; distinct = are.distinct; declared = operands c u numbers declared s };
   each = λ name. by_number name (get numbers name) refl;
   denotes = denotes_fine c u s.is.alone s.supported s.unbroken;
+  units = units_fine c u s.is.alone s.supported.kind;
   ready = λ at x stands. store_number c u numbers declared x.instruction (supported_at u.body.steps s.supported.steps at x stands) (s.numbering.stores s.is (operands c u numbers declared s) at x (slice_get_within u.body.steps at x stands) stands);
   forward = λ at to x label jump there. absurd (subst IsSupportedInstruction jump.jumps (supported_at u.body.steps s.supported.steps at x jump.stands));
 }

@@ -5,14 +5,9 @@ use Rattle.il_spec.specs.declared.tree.Unit.{Unit as ProgramUnit}
 use Rattle.il_spec.specs.declared.tree.Step.{Step}
 use Rattle.il_spec.specs.declared.fault.Refusal.{Refusal}
 use Rattle.il_spec.specs.declared.fault.Refusal.TheVariants.{Fault, Memory}
-use Rattle.il_rules.specs.declared.symbol.Symbol.{Symbol}
-use Rattle.il_rules.specs.Names.{Spelling}
-use Rattle.il_rules.specs.Symbols.{IsProgram, symbol_of}
-use Rattle.il_rules.specs.Subset.{IsSupportedProgram, BreaksInSubset}
-use Rattle.il_rules.specs.Faults.{Typing, HasNoFault, Broken}
+use Rattle.il_rules.specs.Symbols.{IsProgram}
 use Rattle.il_code.specs.Resolved.{IsResolved}
 use Rattle.il_stage.specs.Checked.{IsOrdered}
-use Rattle.il_run.specs.NameMap.{NameMap, get}
 use Rattle.il_run.specs.Annotation.{Knowledge, Annotated, IsFirstWithout}
 use Rattle.il_least.specs.Refused.{IsLeastAt}
 use Rattle.il_least.specs.Numbers.{fault_of}

@@ -1,4 +1,4 @@
-use Rattle.std.proofs.Common.{◌≡◌, ◌≢◌, ◌<◌, length, ap, sym, ◌∙◌, arith}
+use Rattle.std.proofs.Common.{◌≡◌, ◌<◌, length, ap, sym, ◌∙◌, arith}
 use Rattle.il_verify.proofs.Joins.{going_first, goes_on, goes_off, gone_over, no_join}
 use Rattle.il_verify.proofs.join.join_deferred.Goals as goal
 

@@ -1,5 +1,4 @@
-use Rattle.std.proofs.Common.{sym, ap, ◌∙◌, length, ◌≡◌, Option, Some, None, Bool, true, false, ℕ, refl}
-use Rattle.std.specs.Prelude.{is_some}
+use Rattle.std.proofs.Common.{sym, ap, ◌∙◌, length}
 use Rattle.il_run.specs.NameMap.{insert}
 use Rattle.il_verify.proofs.Numbers.{on_ok_map, added_one, none_is}
 use Rattle.il_verify.proofs.numbering.add.Goals as goal

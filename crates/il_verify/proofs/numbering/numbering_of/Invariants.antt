@@ -1,5 +1,3 @@
-use Rattle.std.specs.Prelude.{take}
-use Rattle.il_rules.specs.Symbols.{IsProgram}
 use Rattle.il_verify.specs.Program.{IsNumberedTo}
 use Rattle.il_verify.proofs.numbering.numbering_of.Given as goal
 

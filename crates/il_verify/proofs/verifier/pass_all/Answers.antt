@@ -1,4 +1,4 @@
-use Rattle.std.proofs.Common.{ap, sym, ◌∙◌, length}
+use Rattle.std.proofs.Common.{ap, length}
 use Rattle.il_verify.proofs.Verdict.{setting, ahead, fine, annotated_ok, refused_err, entry_is}
 use Rattle.il_verify.proofs.verifier.pass_all.Goals as goal
 

@@ -1,4 +1,4 @@
-use Rattle.std.proofs.Common.{◌≡◌, length, sym, ap, ◌∙◌, Some, arith}
+use Rattle.std.proofs.Common.{sym, ap, ◌∙◌, Some, arith}
 use Rattle.il_verify.specs.Program.{program_names}
 use Rattle.il_verify.proofs.Meanings.{limited_other, limited_two}
 use Rattle.il_verify.proofs.program.Program.limited.Goals as goal

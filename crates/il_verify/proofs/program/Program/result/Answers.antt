@@ -1,4 +1,4 @@
-use Rattle.std.proofs.Common.{◌≡◌, sym, ap, ◌∙◌, subst, codes}
+use Rattle.std.proofs.Common.{sym, ap, ◌∙◌, subst}
 use Rattle.il_least.specs.Steps.{giving}
 use Rattle.il_rules.specs.Subset.{IsSupportedInstruction}
 use Rattle.std.specs.Prelude.{option_and_then}

@@ -2,7 +2,6 @@ use Rattle.std.proofs.Common.{◌≡◌, Some, sym, ap, ◌∙◌}
 use Rattle.std.specs.Prelude.{option_map}
 use Rattle.il_rules.specs.Symbols.{symbol_of}
 use Rattle.il_least.specs.Steps.{to_next}
-use Rattle.il_least.specs.Facts.{row_put}
 use Rattle.il_verify.specs.Program.{program_names, kept_row}
 use Rattle.il_verify.proofs.Meanings.{stored_known, known_plain, known_other, store_unknown, store_outside, store_inside}
 use Rattle.il_verify.proofs.program.Program.stored.Goals as goal

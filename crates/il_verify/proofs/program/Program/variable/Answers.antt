@@ -1,4 +1,4 @@
-use Rattle.std.proofs.Common.{sym, ap, ◌∙◌}
+use Rattle.std.proofs.Common.{sym, ◌∙◌}
 use Rattle.il_least.specs.Facts.{row_at}
 use Rattle.il_verify.specs.Program.{program_names}
 use Rattle.il_verify.proofs.Meanings.{variable_none, variable_flag, variable_ranged}

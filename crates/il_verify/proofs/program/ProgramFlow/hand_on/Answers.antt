@@ -1,4 +1,4 @@
-use Rattle.std.proofs.Common.{◌≡◌, sym, ap, ◌∙◌, subst}
+use Rattle.std.proofs.Common.{ap, ◌∙◌, subst}
 use Rattle.std.specs.Prelude.{option_map}
 use Rattle.il_spec.specs.declared.tree.Step.{Step}
 use Rattle.il_rules.specs.Subset.{IsSupportedInstruction}

@@ -1,0 +1,4 @@
+pub mod Stacked
+pub mod Agreeing
+pub mod Following
+pub mod Exact

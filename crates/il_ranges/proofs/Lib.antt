@@ -1,0 +1,13 @@
+mod Tables
+mod Joins
+mod Resolved
+mod Inputs
+mod Outputs
+mod Steps
+mod Numbered
+mod Proper
+mod Listed
+mod Words
+mod Numbers
+mod Owned
+mod Verdict

@@ -1,0 +1,108 @@
+// What is known where two paths meet.
+
+ghost use Rattle.std.specs.Prelude.{◌≡◌, length, Option, Some, None, if◌then◌else◌};
+ghost use Rattle.il_interval.specs.Interval.{interval_join};
+ghost use Rattle.il_least.specs.Facts.{known_join, result_join, is_same_operator, one_join, deferred_join, row_join, facts_join};
+ghost use Rattle.il_run.specs.declared.known.KnownDeferred.{KnownDeferred};
+
+use il_interval::Interval;
+use il_least::facts::Facts;
+use il_row::Row;
+use il_rules::elementary::is_same_type;
+use il_run::known::{Known, KnownDeferred};
+
+/// The hull of two ranges.
+pub fn hull(first: Interval, second: Interval) -> Interval
+    ensures { result ≡ interval_join first second }
+{
+    Interval {
+        lo: first.lo.min(second.lo),
+        hi: first.hi.max(second.hi),
+    }
+}
+
+// What is known of a value from two paths, if it has one type.
+fn known_join(first: Known, second: Known) -> Option<Known>
+    ensures { result ≡ known_join first second }
+{
+    match (first, second) {
+        (Known::Flag, Known::Flag) => Some(Known::Flag),
+        (Known::Ranged(elementary, first), Known::Ranged(other, second)) => {
+            if is_same_type(elementary, other) {
+                Some(Known::Ranged(elementary, hull(first, second)))
+            } else {
+                None
+            }
+        }
+        _ => None,
+    }
+}
+
+// The result, where both have it with one type.
+fn result_join(first: Option<Known>, second: Option<Known>) -> Option<Known>
+    ensures { result ≡ result_join first second }
+{
+    match (first, second) {
+        (Some(first), Some(second)) => known_join(first, second),
+        _ => None,
+    }
+}
+
+// What was set aside on two paths, if it is the same operator with one type.
+fn one_join(first: KnownDeferred, second: KnownDeferred) -> Option<KnownDeferred>
+    ensures { result ≡ one_join first second }
+{
+    if first.operator != second.operator {
+        return None;
+    }
+    match known_join(first.left, second.left) {
+        Some(left) => Some(KnownDeferred {
+            operator: first.operator,
+            left,
+        }),
+        None => None,
+    }
+}
+
+// All that was set aside on two paths, if it is the same.
+fn join_deferred(deferred: &mut Row<KnownDeferred>, other: &Row<KnownDeferred>) -> bool
+    ensures { deferred_join deferred.old other.now ≡ (if result then Some deferred.new else None) }
+{
+    if deferred.as_slice().len() != other.as_slice().len() {
+        return false;
+    }
+    for number in 0..other.as_slice().len() {
+        let Some(joined) = one_join(deferred.as_slice()[number], other.as_slice()[number]) else {
+            return false;
+        };
+        deferred.set(number, joined);
+    }
+    true
+}
+
+/// Each range with that of the same number.
+pub fn join_rows(row: &mut Row<Interval>, other: &Row<Interval>)
+    requires { length row.old ≡ length other.now }
+    ensures { row.new ≡ row_join row.old other.now }
+{
+    for number in 0..other.as_slice().len() {
+        let joined = hull(row.as_slice()[number], other.as_slice()[number]);
+        row.set(number, joined);
+    }
+}
+
+/// What is known where two paths meet, if something covers both.
+pub fn join_facts(first: Facts, second: Facts) -> Option<Facts>
+    ensures { result ≡ facts_join first second }
+{
+    let mut facts = first;
+    if facts.row.as_slice().len() != second.row.as_slice().len() {
+        return None;
+    }
+    if !join_deferred(&mut facts.deferred, &second.deferred) {
+        return None;
+    }
+    join_rows(&mut facts.row, &second.row);
+    facts.result = result_join(facts.result, second.result);
+    Some(facts)
+}

@@ -1,0 +1,188 @@
+// The number of a refusal, by what is known at the place (own rules).
+
+ghost use Rattle.std.specs.Prelude.{◌≡◌};
+ghost use Rattle.il_rules.specs.Names.{standard_function};
+ghost use Rattle.il_run.specs.NameMap.{get};
+ghost use Rattle.il_least.specs.Facts.{variables_of, shown, IsRowOf, IsFine};
+ghost use Rattle.il_least.specs.Numbers.{is_inside, unless_outside, divisor_fault, operate_fault, defer_fault, evaluate_fault, operands_fault, arguments_fault, invoke_fault, fault_of};
+ghost use Rattle.il_ranges.specs.RangeFaults.{range_fault_number};
+ghost use Rattle.il_ranges.specs.Scopes.{denoted};
+ghost use Rattle.il_ranges.specs.Kinds.{is_division, is_argument_inside};
+
+use crate::fault::RangeFault;
+use crate::known::may_be_zero;
+use crate::meant::is_inside_in;
+use crate::operands::right_operand;
+use crate::scope::Scope;
+use il_interval::Interval;
+use il_least::facts::Facts;
+use il_row::Row;
+use il_run::known::{Known, KnownDeferred};
+use il_spec::tree::{Argument, Arithmetic, Instruction, Operand, Operator, Reference};
+
+// Whether an operand's index lies in its array for all of its values.
+fn is_inside<S: Scope>(scope: &S, row: &Row<Interval>, reference: &Reference) -> bool
+    ensures { result ≡ is_inside (get (variables_of (S.names scope.now) row.now)) (denoted (S.names scope.now) reference.now) }
+{
+    is_inside_in(row, scope.meant(reference))
+}
+
+// 42 where an index may lie outside of its array, otherwise this fault.
+fn unless_outside<S: Scope>(
+    scope: &S,
+    row: &Row<Interval>,
+    reference: &Reference,
+    fault: RangeFault,
+) -> RangeFault
+    ensures { range_fault_number result ≡ unless_outside (get (variables_of (S.names scope.now) row.now)) (denoted (S.names scope.now) reference.now) (range_fault_number fault) }
+{
+    if is_inside(scope, row, reference) {
+        fault
+    } else {
+        RangeFault::Index
+    }
+}
+
+// Whether it divides.
+fn is_division(operator: Operator) -> bool
+    ensures { result ≡ is_division operator }
+{
+    matches!(
+        operator,
+        Operator::Arithmetic(Arithmetic::Div) | Operator::Arithmetic(Arithmetic::Mod)
+    )
+}
+
+// 41 where the divisor may be 0, otherwise 40.
+fn divisor_fault(operator: Operator, right: Option<Known>) -> RangeFault
+    ensures { range_fault_number result ≡ divisor_fault operator right }
+{
+    match right {
+        Some(Known::Ranged(_, divisor)) => {
+            if is_division(operator) && may_be_zero(divisor) {
+                RangeFault::ZeroDivisor
+            } else {
+                RangeFault::Overflow
+            }
+        }
+        _ => RangeFault::Overflow,
+    }
+}
+
+// Of an operator: its operand's index, then its divisor.
+fn operate_fault<S: Scope>(
+    scope: &S,
+    row: &Row<Interval>,
+    operator: Operator,
+    reference: &Reference,
+    left: Option<Known>,
+) -> RangeFault
+    requires { IsRowOf (S.names scope.now) row.now }
+    ensures { range_fault_number result ≡ operate_fault (get (variables_of (S.names scope.now) row.now)) operator (denoted (S.names scope.now) reference.now) left }
+{
+    let Some(left) = left else {
+        return RangeFault::Overflow;
+    };
+    let fault = divisor_fault(operator, right_operand(scope, row, left, reference));
+    unless_outside(scope, row, reference, fault)
+}
+
+// Of a short form: its operand's index.
+fn defer_fault<S: Scope>(scope: &S, row: &Row<Interval>, first: &Option<Operand>) -> RangeFault
+    ensures { range_fault_number result ≡ defer_fault (S.names scope.now).config (S.names scope.now).unit (get (variables_of (S.names scope.now) row.now)) first.now }
+{
+    match first {
+        Some(operand) => unless_outside(scope, row, &operand.reference, RangeFault::Overflow),
+        None => RangeFault::Overflow,
+    }
+}
+
+// Of a `)`: the divisor of what was set aside.
+fn evaluate_fault(deferred: &[KnownDeferred], right: Option<Known>) -> RangeFault
+    ensures { range_fault_number result ≡ evaluate_fault deferred.now right }
+{
+    match deferred {
+        [] => RangeFault::Overflow,
+        [innermost, ..] => divisor_fault(innermost.operator, right),
+    }
+}
+
+// Of a function's arguments: an index, otherwise this fault.
+fn operands_fault<S: Scope>(
+    scope: &S,
+    row: &Row<Interval>,
+    operands: &[Operand],
+    fault: RangeFault,
+) -> RangeFault
+    ensures { range_fault_number result ≡ operands_fault (S.names scope.now).config (S.names scope.now).unit (get (variables_of (S.names scope.now) row.now)) operands.now (range_fault_number fault) }
+{
+    for operand in operands {
+        if !is_inside(scope, row, &operand.reference) {
+            return RangeFault::Index;
+        }
+    }
+    fault
+}
+
+// Whether an argument's index lies in its array.
+fn is_argument_inside<S: Scope>(scope: &S, row: &Row<Interval>, argument: &Argument) -> bool
+    ensures { result ≡ is_argument_inside (S.names scope.now) row.now argument.now }
+{
+    match argument {
+        Argument::Input { operand, .. } => is_inside(scope, row, &operand.reference),
+        Argument::Output { .. } => true,
+    }
+}
+
+// Of a block's arguments: an index, otherwise 44.
+fn arguments_fault<S: Scope>(scope: &S, row: &Row<Interval>, arguments: &[Argument]) -> RangeFault
+    ensures { range_fault_number result ≡ arguments_fault (S.names scope.now).config (S.names scope.now).unit (get (variables_of (S.names scope.now) row.now)) arguments.now }
+{
+    for argument in arguments {
+        if !is_argument_inside(scope, row, argument) {
+            return RangeFault::Index;
+        }
+    }
+    RangeFault::Argument
+}
+
+// Of a function: its arguments', which of an own function may lie outside of its inputs.
+fn invoke_fault<S: Scope>(
+    scope: &S,
+    row: &Row<Interval>,
+    name: &str,
+    operands: &[Operand],
+) -> RangeFault
+    ensures { range_fault_number result ≡ invoke_fault (S.names scope.now).config (S.names scope.now).unit (get (variables_of (S.names scope.now) row.now)) (standard_function name.now) operands.now }
+{
+    match scope.standard_function(name) {
+        Some(_) => operands_fault(scope, row, operands, RangeFault::Overflow),
+        None => operands_fault(scope, row, operands, RangeFault::Argument),
+    }
+}
+
+/// What an instruction breaks that is refused.
+pub fn fault_of<S: Scope>(scope: &S, facts: &Facts, instruction: &Instruction) -> RangeFault
+    requires { IsFine (S.names scope.now) facts.now }
+    ensures { range_fault_number result ≡ fault_of (S.names scope.now).config (S.names scope.now).unit (shown (S.names scope.now) facts.now) instruction.now }
+{
+    let row = &facts.row;
+    match instruction {
+        Instruction::Load { operand, .. } => {
+            unless_outside(scope, row, &operand.reference, RangeFault::Overflow)
+        }
+        Instruction::Store { target, .. } => {
+            unless_outside(scope, row, &target.reference, RangeFault::Subrange)
+        }
+        Instruction::Operate { operator, operand } => {
+            operate_fault(scope, row, *operator, &operand.reference, facts.result)
+        }
+        Instruction::Defer { first, .. } => defer_fault(scope, row, first),
+        Instruction::Evaluate => evaluate_fault(facts.deferred.as_slice(), facts.result),
+        Instruction::Call { arguments, .. } => { arguments_fault(scope, row, arguments.as_slice()) }
+        Instruction::Invoke { function, operands } => {
+            invoke_fault(scope, row, function.name.as_str(), operands.as_slice())
+        }
+        _ => RangeFault::Overflow,
+    }
+}

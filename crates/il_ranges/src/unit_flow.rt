@@ -1,0 +1,109 @@
+// The pass over a unit.
+
+ghost use Rattle.std.specs.Prelude.{◌≡◌, IfOk, Some, map, slice_get};
+ghost use Rattle.il_rules.specs.Faults.{BreaksDeclarations, Broken, Typing, HasNoFault};
+ghost use Rattle.il_least.specs.Facts.{facts_join};
+ghost use Rattle.il_least.specs.Prepared.{entry};
+ghost use Rattle.il_ranges.specs.Units.{input_scalars};
+ghost use Rattle.il_ranges.specs.Judged.{IsJudged};
+
+use crate::fault::RangeFault;
+use crate::instructions::hand_on;
+use crate::join::join_facts;
+use crate::numbered_unit::NumberedUnit;
+use crate::numbering::{Numbering, numbering_of};
+use crate::pass::{Flow, Handed, pass};
+use crate::refusals::fault_of;
+use crate::unit_inputs::InputScalars;
+use crate::unit_names::UnitNames;
+use il_found::Found;
+use il_labels::label_table;
+use il_least::facts::Facts;
+use il_row::Row;
+use il_scope::Scoped;
+use il_spec::tree::{Step, Unit};
+use std::alloc::{AllocError, Global};
+
+/// The instructions of a unit, with what its names mean.
+#[derive(Drop)]
+pub struct UnitFlow<'n> {
+    pub scope: &'n NumberedUnit<'n>,
+    pub steps: &'n [Step],
+}
+
+impl Flow for UnitFlow<'_> {
+    ghost use Rattle.il_least.specs.Facts.{facts_join, IsFine};
+    ghost use Rattle.il_least.specs.Steps.{moves};
+    ghost use Rattle.il_ranges.specs.Judged.{IsPlaceOf, IsRefusalOf};
+
+    type Facts = Facts;
+
+    type Refused = Found<RangeFault>;
+
+    ghost join = { facts_join };
+
+    ghost moves = { λ f place k. moves f.scope.now f.scope.now.config f.scope.now.unit place k };
+
+    ghost holds = { λ f place. IsPlaceOf f.scope.now f.steps.now place };
+
+    ghost takes = { λ f k. IsFine f.scope.now k };
+
+    ghost refuses = { λ f place k found. IsRefusalOf f.scope.now place k found };
+
+    fn join(first: Facts, second: Facts) -> Option<Facts>
+        ensures { result ≡ facts_join first second }
+    {
+        join_facts(first, second)
+    }
+
+    fn hand_on(
+        &self,
+        alloc: Global,
+        place: usize,
+        facts: Facts,
+    ) -> Result<Option<Handed<Facts>>, AllocError> {
+        hand_on(alloc, self.scope, facts, &self.steps[place].instruction)
+    }
+
+    fn refusal(&self, place: usize, facts: &Facts) -> Found<RangeFault> {
+        let step = &self.steps[place];
+        Found::of(fault_of(self.scope, facts, &step.instruction), step.place)
+    }
+}
+
+// The facts at the entry of a unit.
+fn entry(alloc: Global, numbering: &Numbering) -> Result<Facts, AllocError>
+    ensures { IfOk result (λ f. f ≡ entry numbering.now.declared) }
+{
+    Ok(Facts {
+        row: numbering.declared.try_copy(alloc)?,
+        result: None,
+        deferred: Row::new(alloc),
+    })
+}
+
+/// The fault of the first instruction of a unit up to and including which it has no ranges.
+pub fn unit_fault(
+    alloc: Global,
+    names: &Scoped,
+    inputs: &InputScalars,
+    at: usize,
+    unit: &Unit,
+) -> Result<Option<Found<RangeFault>>, AllocError>
+    requires unit { slice_get names.now.units at ≡ Some unit.now }
+    requires inputs { inputs.now ≡ map input_scalars names.now.units }
+    requires declared { HasNoFault (BreaksDeclarations names.now) }
+    requires typed { HasNoFault (Broken Typing names.now) }
+    ensures { IfOk result (IsJudged names.now unit.now) }
+{
+    let unit_names = UnitNames::of(names, at, unit);
+    let labels = label_table(alloc, &unit.body)?;
+    let numbering = numbering_of(alloc, &unit_names)?;
+    let entry = entry(alloc, &numbering)?;
+    let scope = NumberedUnit::of(&unit_names, &labels, inputs, &numbering);
+    let flow = UnitFlow {
+        scope: &scope,
+        steps: unit.body.steps.as_slice(),
+    };
+    pass(alloc, &flow, entry, flow.steps.len())
+}
