@@ -11,7 +11,7 @@ use Rattle.il_run.specs.NameMap.{Text}
 use Rattle.il_run.specs.Scan.{program_of as program_by}
 use Rattle.il_run.specs.Paths.{IsLongest}
 use Rattle.lift_spec.specs.Snapshot.{task_name}
-use Rattle.il_machine.specs.declared.verified.UnitCost.{UnitCost}
+use Rattle.il_budget.specs.declared.units.UnitCost.{UnitCost}
 use Rattle.il_machine.specs.Scanning.{Program}
 use Rattle.il_machine.specs.Costs.{AreCosts}
 use Rattle.il_machine.specs.Listing.{UnitLine, unit_line, unit_lines, TaskLine, task_by, task_of, program_line_of, unit_of, is_task_name, task_among, PrintsBudgets}

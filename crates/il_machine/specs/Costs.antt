@@ -1,20 +1,10 @@
 -- What a unit costs: the greatest cost of its control paths, and the lines of one of that cost (own rule).
-use Rattle.std.specs.Prelude.{◌≡◌, ℕ, ◌≤◌, List, [], ◌∷◌, map, Option, Some, None, slice_get}
+use Rattle.std.specs.Prelude.{◌≡◌, ℕ, ◌≤◌, List, [], ◌∷◌, map}
 use Rattle.il_spec.specs.declared.tree.Config.{Config}
-use Rattle.il_spec.specs.declared.tree.Body.{Body}
-use Rattle.il_spec.specs.declared.tree.Step.{Step}
 use Rattle.il_spec.specs.declared.tree.Unit.{Unit as Organized}
 use Rattle.il_run.specs.Paths.{Visit, IsPath}
-use Rattle.il_machine.specs.declared.verified.UnitCost.{UnitCost}
-
--- the line of an instruction, and without one that of the END word (own rule)
-abbrev pub line_or : ℕ → Option Step → ℕ
-line_or end None = end
-line_or end (Some s) = s.place.line
-
--- the line of a place; behind the last instruction that of the END word, where the implicit RET stands (own rule)
-abbrev pub line_at : Body → ℕ → ℕ
-line_at body place = line_or body.end.line (slice_get body.steps place)
+use Rattle.il_budget.specs.Rounds.{line_at}
+use Rattle.il_budget.specs.declared.units.UnitCost.{UnitCost}
 
 -- A control path of the unit has this cost, by its lines, and none costs more.
 pub record IsCostOf (c : Config) (u : Organized) (cost : UnitCost) : Type 0 where

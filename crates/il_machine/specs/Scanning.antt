@@ -2,19 +2,21 @@
 use Rattle.std.specs.Prelude.{◌≡◌, ℕ, ◌≤◌, List, [], ◌∷◌, ◌++◌, map, take, drop, length, ℤ, pos, Option, Some, None, refl, codes, slice_get}
 use Rattle.std.specs.Coded.{Coded, code_by, coded×, coded_list}
 use Rattle.il_spec.specs.contracts.tree.Config as config
-use Rattle.il_machine.specs.contracts.verified.UnitCost as unit_cost
+use Rattle.il_budget.specs.contracts.units.UnitCost as unit_cost
 use Rattle.il_spec.specs.declared.tree.Config.{Config}
 use Rattle.il_spec.specs.declared.tree.Unit.{Unit as Organized}
 use Rattle.il_rules.specs.Symbols.{IsProgram}
 use Rattle.il_rules.specs.Written.{IsWritten}
 use Rattle.il_rules.specs.Subset.{IsSupported}
-use Rattle.il_verify.specs.Resolved.{IsChecked}
+use Rattle.il_code.specs.Resolved.{IsResolved}
+use Rattle.il_stage.specs.Checked.{IsOrdered}
+use Rattle.il_run.specs.Annotation.{Annotated}
 use Rattle.il_sound.specs.Accepted.{IsAccepted}
 use Rattle.il_sound.specs.Agreement.{Agrees, left}
 use Rattle.il_run.specs.Paths.{longest}
 use Rattle.il_sound.specs.Listed.{seen_scalars}
 use Rattle.il_run.specs.Ranges.{HaveValues}
-use Rattle.il_machine.specs.declared.verified.UnitCost.{UnitCost}
+use Rattle.il_budget.specs.declared.units.UnitCost.{UnitCost}
 use Rattle.il_machine.specs.declared.frames.Frame.{Frame as FlatFrame}
 use Rattle.il_run.specs.declared.value.Content.{Content}
 use Rattle.il_run.specs.NameMap.{Text, empty, with_entries}
@@ -66,6 +68,12 @@ pub record HasCode (c : Config) (u : Organized) : Type 0 where
   pub code : IsCode (program_code c u)
   pub placed : IsPlaced c code.names (program_cells c u) u [] 0
   pub high : code.height u.name.name ≤ 16
+
+-- A configuration of which no rule is broken, each instruction of which has ranges.
+pub record IsChecked (c : Config) : Type 0 where
+  pub resolved : IsResolved c
+  pub ordered : IsOrdered c
+  pub annotated : Annotated c
 
 -- a configuration that the machine runs: it is as a text spells it, supported, accepted and checked, its program is that of its one task, and its group has one car
 pub record IsRunnable (c : Config) : Type 0 where

@@ -13,4 +13,4 @@ pub use il_run::value::Value;
 pub use opening::opening_image;
 pub use rows::Rows;
 pub use store::{Stepped, Store, scan, step};
-pub use verified::{TaskInfo, UnitCost, UnitInfo, Verified};
+pub use verified::{TaskInfo, UnitInfo, Verified};

@@ -1,39 +1,16 @@
 -- The numbers of refusals, one argument after another.
 use Rattle.std.proofs.Common.{◌≡◌, ℕ, zero, suc, ◌+◌, Bool, true, false, if◌then◌else◌, List, [], ◌∷◌, length, drop, Option, Some, None, slice_get, refl, sym, ap, ◌∙◌, add-one, arith}
 use Rattle.il_interval.specs.declared.Interval.{Interval}
-use Rattle.il_spec.specs.declared.tree.Elementary.{Elementary}
-use Rattle.il_spec.specs.ElementaryTypes.{is_whole}
 use Rattle.il_spec.specs.declared.tree.Operand.{Operand}
-use Rattle.il_spec.specs.declared.tree.Operator.{Operator}
-use Rattle.il_spec.specs.declared.tree.Reference.{Reference}
 use Rattle.il_spec.specs.declared.tree.Argument.{Argument}
 use Rattle.il_spec.specs.declared.tree.Argument.TheVariants.{Input, Output}
 use Rattle.il_run.specs.NameMap.{get}
-use Rattle.il_run.specs.Meaning.{Denotation, Constant, Direct, Numbered, Indexed, Inside, Unknown}
-use Rattle.il_run.specs.declared.known.Known.{Known}
-use Rattle.il_run.specs.Annotation.{interval, range, declared_known}
-use Rattle.il_least.specs.Facts.{Names, row_at, variables_of}
-use Rattle.il_least.specs.Found.{provided, there_fits, found_flow, found_operand}
-use Rattle.il_least.specs.Steps.{context}
-use Rattle.il_least.specs.Numbers.{is_inside, unless_outside, divisor_fault, operate_fault, operands_fault, arguments_fault}
-use Rattle.il_least.proofs.Rows.{row_is}
+use Rattle.il_least.specs.Facts.{Names, variables_of}
+use Rattle.il_least.specs.Numbers.{is_inside, unless_outside, operands_fault, arguments_fault}
 use Rattle.il_ranges.specs.Kinds.{is_argument_inside}
 use Rattle.il_ranges.specs.Scopes.{denoted}
 
 module _ (n : Names) (row : List Interval) where
-  found_same : (e : Elementary) (d : Denotation) → found_operand (row_at n row) e d ≡ found_operand (get (variables_of n row)) e d
-  found_same e (Constant l) = refl
-  found_same e (Direct name s) = ap (found_flow s.elementary (range s)) (sym (row_is n row name))
-  found_same e (Numbered name bounds element z) = refl
-  found_same e (Indexed name bounds element variable s) = ap (λ o. provided (is_whole s.elementary) (provided (there_fits o (interval bounds)) (Some (declared_known element)))) (sym (row_is n row variable))
-  found_same e (Inside instance word s) = refl
-  found_same e Unknown = refl
-
-  pub operate_is : (operator : Operator) (r : Reference) (left : Option Known) (k : Known) (right : Option Known) (inner number : ℕ) → left ≡ Some k → right ≡ found_operand (row_at n row) (context (denoted n r) k) (denoted n r) → inner ≡ divisor_fault operator right
-      → number ≡ unless_outside (get (variables_of n row)) (denoted n r) inner → number ≡ operate_fault (get (variables_of n row)) operator (denoted n r) left
-  operate_is operator r left k right inner number is found i num =
-      num ∙ ap (unless_outside (get (variables_of n row)) (denoted n r)) (i ∙ ap (divisor_fault operator) (found ∙ found_same (context (denoted n r) k) (denoted n r))) ∙ sym (ap (operate_fault (get (variables_of n row)) operator (denoted n r)) is)
-
   -- OPERANDS
 
   operands_next : (os : List Operand) (i : ℕ) (o : Operand) (number : ℕ) → slice_get os i ≡ Some o
@@ -52,8 +29,8 @@ module _ (n : Names) (row : List Interval) where
   operand_outside os i o b number on at is no_ =
       sym (on ∙ operands_next os i o number at ∙ ap (λ t. if t then operands_fault n.config n.unit (get (variables_of n row)) (drop (suc i) os) number else 42) (sym is ∙ no_))
 
-  pub operand_inside : (os : List Operand) (i : ℕ) (o : Operand) (b : Bool) (number : ℕ) → OperandsOn os i number → slice_get os i ≡ Some o → b ≡ is_inside (get (variables_of n row)) (denoted n o.reference) → b ≡ true → OperandsOn os (i + 1) number
-  operand_inside os i o b number on at is yes_ =
+  pub operand_goes_on : (os : List Operand) (i : ℕ) (o : Operand) (b : Bool) (number : ℕ) → OperandsOn os i number → slice_get os i ≡ Some o → b ≡ is_inside (get (variables_of n row)) (denoted n o.reference) → b ≡ true → OperandsOn os (i + 1) number
+  operand_goes_on os i o b number on at is yes_ =
       on ∙ operands_next os i o number at ∙ ap (λ t. if t then operands_fault n.config n.unit (get (variables_of n row)) (drop (suc i) os) number else 42) (sym is ∙ yes_)
       ∙ ap (λ k. operands_fault n.config n.unit (get (variables_of n row)) (drop k os) number) (sym (add-one i))
 

@@ -21,12 +21,12 @@ use Rattle.il_run.specs.Annotation.{interval, range, form_range, declared_range,
 use Rattle.il_least.specs.Facts.{Names, range_by, row_at, variables_of, IsRowOf, IsFineKnown, IsFineResult}
 use Rattle.il_least.specs.Found.{provided, there_fits, found_operand, found_flow, fits_range, fits_target}
 use Rattle.il_least.specs.Steps.{context, stored_row}
-use Rattle.il_least.specs.Numbers.{is_inside}
+use Rattle.il_least.specs.Numbers.{is_inside, operand_inside}
 use Rattle.il_least.specs.Prepared.{IsFineDenotation}
 use Rattle.il_least.proofs.Rows.{row_is, variable_itself}
 use Rattle.il_least.proofs.Operations.{operand_agrees}
 use Rattle.il_ranges.specs.declared.meant.Meant.{Meant}
-use Rattle.il_ranges.specs.Meant.{resolved, range_in, operand_in, natural_of, context_of, target_fits, stored_in, is_inside_in}
+use Rattle.il_ranges.specs.Meant.{resolved, range_in, operand_in, operand_inside_in, natural_of, context_of, target_fits, stored_in, is_inside_in}
 use Rattle.il_ranges.specs.Scopes.{denoted}
 
 -- THE TYPES OF VARIABLES
@@ -163,3 +163,26 @@ inside_same n row Unknown t = refl
 
 pub inside_is : (n : Names) (row : List Interval) (r : Reference) → is_inside_in row (resolved n (denoted n r)) ≡ is_inside (get (variables_of n row)) (denoted n r)
 inside_is n row r = inside_same n row (denoted n r) (typed n r)
+
+-- what is known of an operand as if its index lay in its array
+beside_same : (n : Names) (row : List Interval) (e : Elementary) (d : Denotation) → IsTyped n d → operand_inside_in row e (resolved n d) ≡ operand_inside (get (variables_of n row)) e d
+beside_same n row e (Constant l) t = refl
+beside_same n row e (Direct name s) t = operand_same n row e (Direct name s) t ∙ ap (found_flow s.elementary (range s)) (sym (row_is n row name))
+beside_same n row e (Numbered name bounds element z) t = refl
+beside_same n row e (Indexed name bounds element variable s) t = refl
+beside_same n row e (Inside instance word s) t = refl
+beside_same n row e Unknown t = refl
+
+pub beside_from : (n : Names) (row : List Interval) (e f : Elementary) (r : Reference) (m : Meant) (o : Option Known) → m ≡ resolved n (denoted n r) → e ≡ f → o ≡ operand_inside_in row e m → o ≡ operand_inside (get (variables_of n row)) f (denoted n r)
+beside_from n row e f r m o is same found = found ∙ ap (operand_inside_in row e) is ∙ ap (λ t. operand_inside_in row t (resolved n (denoted n r))) same ∙ beside_same n row f (denoted n r) (typed n r)
+
+fine_same : (n : Names) (row : List Interval) (e : Elementary) (d : Denotation) → IsRowOf n row → IsFineDenotation d → IsFineResult (found_operand (row_at n row) e d) → IsFineResult (operand_inside (get (variables_of n row)) e d)
+fine_same n row e (Constant l) f fine found = found
+fine_same n row e (Direct name s) f fine found = subst (λ o. IsFineResult (found_flow s.elementary (range s) o)) (sym (row_is n row name)) found
+fine_same n row e (Numbered name bounds element z) f fine found = fine
+fine_same n row e (Indexed name bounds element variable s) f fine found = fine
+fine_same n row e (Inside instance word s) f fine found = found
+fine_same n row e Unknown f fine found = found
+
+pub beside_fine : (n : Names) (row : List Interval) (e : Elementary) (r : Reference) (o : Option Known) → IsRowOf n row → IsFineDenotation (denoted n r) → o ≡ operand_inside (get (variables_of n row)) e (denoted n r) → IsFineResult o
+beside_fine n row e r o f fine is = subst IsFineResult (sym is) (fine_same n row e (denoted n r) f fine (operand_fine n row e r f fine))

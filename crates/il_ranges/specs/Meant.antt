@@ -43,6 +43,15 @@ operand_in row e (Indexed bounds element s number) = provided (is_whole s.elemen
 operand_in row e (Inside s) = Some (declared_known s)
 operand_in row e Unknown = None
 
+-- what is known of an operand whose index lies in its array
+abbrev pub operand_inside_in : List Interval → Elementary → Meant → Option Known
+operand_inside_in row e (Numbered bounds element z) = Some (declared_known element)
+operand_inside_in row e (Indexed bounds element s number) = Some (declared_known element)
+operand_inside_in row e (Literal l) = operand_in row e (Literal l)
+operand_inside_in row e (Variable s number) = operand_in row e (Variable s number)
+operand_inside_in row e (Inside s) = operand_in row e (Inside s)
+operand_inside_in row e Unknown = operand_in row e Unknown
+
 -- the type of a bare literal where none is given
 abbrev pub natural_of : Meant → Elementary
 natural_of (Literal l) = or_dint (literal_type l)

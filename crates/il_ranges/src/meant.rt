@@ -5,7 +5,7 @@ ghost use Rattle.il_run.specs.Annotation.{interval, declared_known};
 ghost use Rattle.il_least.specs.Facts.{put_by};
 ghost use Rattle.il_run.specs.Annotation.{range};
 ghost use Rattle.il_least.specs.Found.{found_flow};
-ghost use Rattle.il_ranges.specs.Meant.{range_in, index_fits, operand_in, natural_of, context_of, target_fits, stored_in, is_inside_in};
+ghost use Rattle.il_ranges.specs.Meant.{range_in, index_fits, operand_in, operand_inside_in, natural_of, context_of, target_fits, stored_in, is_inside_in};
 
 use crate::known::{
     fits_range, found_literal, is_part, known_of, literal_type, only, range, range_of_bounds,
@@ -114,6 +114,16 @@ pub fn operand_in(row: &Row<Interval>, elementary: Elementary, meant: Meant) -> 
         }
         Meant::Inside(scalar) => Some(known_of(scalar)),
         Meant::Unknown => None,
+    }
+}
+
+/// What is known of an operand whose index lies in its array.
+pub fn operand_inside_in(row: &Row<Interval>, elementary: Elementary, meant: Meant) -> Option<Known>
+    ensures { result ≡ operand_inside_in row.now elementary meant }
+{
+    match meant {
+        Meant::Numbered { element, .. } | Meant::Indexed { element, .. } => Some(known_of(element)),
+        _ => operand_in(row, elementary, meant),
     }
 }
 

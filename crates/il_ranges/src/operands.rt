@@ -1,13 +1,15 @@
 // What operands and operators give at a place.
 
 ghost use Rattle.std.specs.Prelude.{◌≡◌, option_and_then};
-ghost use Rattle.il_least.specs.Facts.{row_at, IsRowOf, IsFineKnown, IsFineResult};
+ghost use Rattle.il_run.specs.NameMap.{get};
+ghost use Rattle.il_least.specs.Facts.{row_at, variables_of, IsRowOf, IsFineKnown, IsFineResult};
 ghost use Rattle.il_least.specs.Found.{found_operand, found_loaded, fits_target};
+ghost use Rattle.il_least.specs.Numbers.{operand_inside};
 ghost use Rattle.il_least.specs.Steps.{loaded_operand, operated_by, context};
 ghost use Rattle.il_ranges.specs.Scopes.{denoted, named};
 
 use crate::known::{found_loaded, found_operated};
-use crate::meant::{context_of, natural_of, operand_in, target_fits};
+use crate::meant::{context_of, natural_of, operand_in, operand_inside_in, target_fits};
 use crate::scope::Scope;
 use il_interval::Interval;
 use il_row::Row;
@@ -69,6 +71,21 @@ pub fn right_operand<S: Scope>(
 {
     let meant = scope.meant(reference);
     operand_in(row, context_of(meant, left), meant)
+}
+
+/// The operand behind an operator, as if its index lay in its array.
+pub fn right_inside<S: Scope>(
+    scope: &S,
+    row: &Row<Interval>,
+    left: Known,
+    reference: &Reference,
+) -> Option<Known>
+    requires { IsRowOf (S.names scope.now) row.now }
+    ensures fine { IsFineResult result }
+    ensures is { result ≡ operand_inside (get (variables_of (S.names scope.now) row.now)) (context (denoted (S.names scope.now) reference.now) left) (denoted (S.names scope.now) reference.now) }
+{
+    let meant = scope.meant(reference);
+    operand_inside_in(row, context_of(meant, left), meant)
 }
 
 /// What an operator leaves.

@@ -3,16 +3,16 @@
 ghost use Rattle.std.specs.Prelude.{◌≡◌};
 ghost use Rattle.il_rules.specs.Names.{standard_function};
 ghost use Rattle.il_run.specs.NameMap.{get};
-ghost use Rattle.il_least.specs.Facts.{variables_of, shown, IsRowOf, IsFine};
-ghost use Rattle.il_least.specs.Numbers.{is_inside, unless_outside, divisor_fault, operate_fault, defer_fault, evaluate_fault, operands_fault, arguments_fault, invoke_fault, fault_of};
+ghost use Rattle.il_least.specs.Facts.{variables_of, shown, IsRowOf, IsFineKnown, IsFineResult, IsFine};
+ghost use Rattle.il_least.specs.Numbers.{is_inside, unless_outside, divisor_fault, operated_fault, operate_fault, defer_fault, evaluate_fault, operands_fault, arguments_fault, invoke_fault, fault_of};
 ghost use Rattle.il_ranges.specs.RangeFaults.{range_fault_number};
 ghost use Rattle.il_ranges.specs.Scopes.{denoted};
 ghost use Rattle.il_ranges.specs.Kinds.{is_division, is_argument_inside};
 
 use crate::fault::RangeFault;
-use crate::known::may_be_zero;
+use crate::known::{found_operated, may_be_zero};
 use crate::meant::is_inside_in;
-use crate::operands::right_operand;
+use crate::operands::right_inside;
 use crate::scope::Scope;
 use il_interval::Interval;
 use il_least::facts::Facts;
@@ -69,7 +69,22 @@ fn divisor_fault(operator: Operator, right: Option<Known>) -> RangeFault
     }
 }
 
-// Of an operator: its operand's index, then its divisor.
+// Of an operation: its divisor or its result; where nothing is wrong with them, its operand's index.
+fn operated_fault(operator: Operator, left: Known, right: Option<Known>) -> RangeFault
+    requires left { IsFineKnown left }
+    requires right { IsFineResult right }
+    ensures { range_fault_number result ≡ operated_fault operator left right }
+{
+    let Some(right) = right else {
+        return RangeFault::Overflow;
+    };
+    match found_operated(operator, left, right) {
+        Some(_) => RangeFault::Index,
+        None => divisor_fault(operator, Some(right)),
+    }
+}
+
+// Of an operator: by its operand, as if the index lay in the array.
 fn operate_fault<S: Scope>(
     scope: &S,
     row: &Row<Interval>,
@@ -77,14 +92,14 @@ fn operate_fault<S: Scope>(
     reference: &Reference,
     left: Option<Known>,
 ) -> RangeFault
-    requires { IsRowOf (S.names scope.now) row.now }
+    requires row { IsRowOf (S.names scope.now) row.now }
+    requires left { IsFineResult left }
     ensures { range_fault_number result ≡ operate_fault (get (variables_of (S.names scope.now) row.now)) operator (denoted (S.names scope.now) reference.now) left }
 {
-    let Some(left) = left else {
-        return RangeFault::Overflow;
-    };
-    let fault = divisor_fault(operator, right_operand(scope, row, left, reference));
-    unless_outside(scope, row, reference, fault)
+    match left {
+        Some(left) => operated_fault(operator, left, right_inside(scope, row, left, reference)),
+        None => RangeFault::Overflow,
+    }
 }
 
 // Of a short form: its operand's index.

@@ -1,15 +1,36 @@
-//! The verifier: it finds ranges for each instruction, by one forward pass with joins where paths meet.
+//! Configurations in which each instruction has ranges.
 #![tactic(auto)]
 
-mod code;
-mod fault;
-mod join;
-mod known;
-mod numbering;
-mod pass;
-mod program;
-mod verifier;
+mod container;
 
-pub use code::Checked;
-pub use fault::VerifyFault;
-pub use verifier::verify;
+ghost use Rattle.std.specs.Prelude.{◌≡◌, IfOk, IfErr};
+ghost use Rattle.il_run.specs.Annotation.{Annotated};
+ghost use Rattle.il_ranges.specs.Unannotated.{IsUnannotatedBy};
+
+pub use container::Checked;
+use il_order::Ordered;
+use il_ranges::annotated;
+use il_spec::fault::Refusal;
+use std::alloc::Global;
+
+/// Finds ranges for each instruction of each unit, by one forward pass with joins where paths meet (own rule).
+/// 40 where a result may leave its type, 41 where a divisor may be 0, 42 where an index may lie outside of its array,
+/// 43 where a stored value may leave its variable's range, 44 where an argument may: at the first instruction of a unit
+/// up to and including which no ranges exist, of several units at the one that stands earliest in the text.
+pub fn verify(alloc: Global, ordered: Ordered) -> Result<Checked, Refusal>
+    ensures same { IfOk result (λ c. c ≡ ordered) }
+    ensures accepted { IfOk result (λ _. Annotated ordered) }
+    ensures refused { IfErr result (IsUnannotatedBy ordered) }
+{
+    check(alloc, &ordered)?;
+    Ok(Checked::of(ordered))
+}
+
+// Finds ranges for each instruction.
+fn check(alloc: Global, ordered: &Ordered) -> Result<(), Refusal>
+    ensures accepted { IfOk result (λ _. Annotated ordered.now) }
+    ensures refused { IfErr result (IsUnannotatedBy ordered.now) }
+{
+    let _config = ordered.config();
+    annotated(alloc, ordered.names())
+}

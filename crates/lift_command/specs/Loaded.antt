@@ -5,13 +5,14 @@ use Rattle.il_spec.specs.declared.tree.Config.{Config}
 use Rattle.il_parse.specs.Refused.{IsFault}
 use Rattle.il_machine.specs.Scanning.{Program}
 use Rattle.lift_sound.specs.Runs.{RunsWell}
-use Rattle.lift_world.specs.Loading.{IsSpelled, IsAccepted, IsRefusedFor, IsExplained, cost_of}
+use Rattle.il_budget.specs.Costs.{cost_of}
+use Rattle.lift_world.specs.Loading.{IsSpelled, IsAccepted, IsRefusedFor, IsExplained}
 
 -- Either a program that the text spells, that breaks no rule and that runs well, or a refusal: up to 12 of a text that spells no
 -- configuration, otherwise the first fault of the one that it spells.
 pub record IsLoaded (text : List ℕ) (answer : Result Program Refusal) : Type 0 where
   pub found : IfOk answer (λ v. IsAccepted text v.config)
-  pub costs : IfOk answer (λ v. v.costs ≡ map cost_of v.config.units)
+  pub costs : IfOk answer (λ v. v.costs ≡ map (cost_of v.config) v.config.units)
   pub runs : IfOk answer (λ v. RunsWell v.config)
   pub refused : IsFault answer → (c : Config) → IsAccepted text c → ⊥
   pub named : IsFault answer → (c : Config) → IsSpelled text c → IsErrAnd answer (IsRefusedFor c)

@@ -18,9 +18,8 @@ use Rattle.il_rules.specs.Declarations.{sizes_of, is_within, size_outside, missi
 use Rattle.il_rules.specs.Written.{IsWritten}
 use Rattle.il_rules.specs.Subset.{IsSupported, broken, BreaksInSubset}
 use Rattle.il_rules.specs.Symbols.{IsProgram}
-use Rattle.il_rules.proofs.Straight.{among_units}
 use Rattle.il_run.specs.Annotation.{Annotated}
-use Rattle.il_verify.specs.Resolved.{IsChecked}
+use Rattle.il_budget.specs.Costs.{IsTooLong}
 use Rattle.std.proofs.lemmas.Option.{slice_get_within}
 use Rattle.il_spec.specs.declared.tree.Unit.{Unit as Organized}
 use Rattle.il_rules.specs.Faults.{Declaring, Typing, Ordering, initial_outside, bad_task, HasNoFault, Broken}
@@ -28,7 +27,8 @@ use Rattle.il_machine.specs.Scanning.{IsRunnable, IsWithin, HasSizes}
 use Rattle.il_parse.specs.Refused.{IsSmall, IsFault}
 use Rattle.il_stage.specs.Checked.{IsOrdered}
 use Rattle.il_stage.proofs.Support.{nothing_refused}
-use Rattle.lift_world.specs.Loading.{IsSpelled, IsAccepted, IsRefusedFor, by_declarations, by_types, by_order, by_stage, by_ranges}
+use Rattle.il_code.proofs.Resolving.{resolved_of}
+use Rattle.lift_world.specs.Loading.{IsSpelled, IsAccepted, IsRefusedFor, by_declarations, by_types, by_order, by_ranges, by_budgets, by_stage}
 use Rattle.lift_world.proofs.Tasking.{is_one, only_task, tasked}
 
 -- SIZES
@@ -86,13 +86,16 @@ names_broken : {text : List ℕ} (c : Config) (number line : ℕ) → IsRefusedF
 names_broken c number line (by_declarations (place, first, at)) a = a.declared number place (broken first.broken)
 names_broken c number line (by_types declared (place, first, at)) a = a.typed number place first.broken
 names_broken c number line (by_order declared typed (place, first, at)) a = a.ordered number place first.broken
-names_broken c number line (by_stage declared typed ordered (place, first, at)) a = nothing_refused c a.supported a.declared number place first.broken
-names_broken c number line (by_ranges carried unbroken fine fit (u, s, program, first, at)) a =
-    let found = a.annotated u (among_units c u program.alone) in
+names_broken c number line (by_ranges unbroken (s, earliest, at)) a =
+    let u = earliest.unit in
+    let first = earliest.first in
+    let found = a.annotated u earliest.among in
     first.first.none found.0 (record { entry = found.1.entry; each = λ place k below is. found.1.each place k (within_body first.at (length u.body.steps) place (slice_get_within u.body.steps first.at s first.stands) below) is })
   where
     within_body : (at n place : ℕ) → at < n → place < at + 1 → place < n + 1
     within_body at n place low below = omega (arith, low, below)
+names_broken c number line (by_budgets unbroken annotated (place, first, at)) a = a.affordable number place first.broken
+names_broken c number line (by_stage unbroken annotated affordable (place, first, at)) a = nothing_refused c a.supported a.declared number place first.broken
 
 -- a fault that is handed on is a fault
 pub handed_on : {X : Type 0} (Y : Type 0) (e : Refusal) (r : Result X Refusal) → IsErrAnd r (λ d. d ≡ e) → IsFault r → IsFault {A = Y} (Err e)
@@ -126,11 +129,10 @@ pub named_judged : {X : Type 0} (found : Config) (e : Refusal) (r : Result X Ref
 named_judged {X} found e (Ok x) c is refused same = absurd same
 named_judged {X} found e (Err d) c is refused same = subst (λ f. IsRefusedFor f d) (sym is) (subst (IsRefusedFor found) (sym same) refused)
 
--- what was parsed, judged and verified is accepted
-pub accepted_is : (text : List ℕ) (c checked : Config) → checked ≡ c → IsSpelled text c → IsOrdered c → Annotated checked → IsAccepted text checked
-accepted_is text c checked same spelled run annotated =
-    subst (IsAccepted text) (sym same)
-    (record { spelled = spelled; supported = run.typed.declared.supported; declared = run.typed.declared.declared; typed = run.typed.typed; ordered = run.ordered; annotated = subst Annotated same annotated })
+-- what was parsed and judged, and is run, is accepted
+pub accepted_is : (text : List ℕ) (c : Config) → IsSpelled text c → IsOrdered c → Annotated c → HasNoFault (IsTooLong c) → IsAccepted text c
+accepted_is text c spelled run annotated affordable =
+    record { spelled = spelled; supported = run.typed.declared.supported; declared = run.typed.declared.declared; typed = run.typed.typed; ordered = run.ordered; annotated = annotated; affordable = affordable }
 
 -- nothing of declarations is broken
 pub unbroken_is : (c : Config) → HasNoFault (BreaksInSubset c) → HasNoFault (Broken Declaring c)
@@ -142,21 +144,23 @@ program_found c u is kind =
     ap (option_and_then (λ (v : Organized). if is_program v then Some v else None)) is.named ∙ ap (λ b. if b then Some u else None) (ap is_program_kind kind)
 
 -- what is checked runs
-pub runnable_is : (c : Config) → IsWritten c → IsSupported c → IsChecked c → IsRunnable c
-runnable_is c written supported checked =
-    let declared = unbroken_is c checked.resolved.declared in
+pub runnable_is : (c : Config) → IsWritten c → IsOrdered c → Annotated c → IsRunnable c
+runnable_is c written run annotated =
+    let resolved = resolved_of c run in
+    let supported = run.typed.declared.supported in
+    let declared = unbroken_is c run.typed.declared.declared in
     let sizes = has_sizes c supported declared in
     record {
       written = written;
       supported = supported;
-      checked = checked;
-      tasked = tasked c checked.resolved.program supported sizes.cars declared checked.resolved.is.alone;
+      checked = record { resolved = resolved; ordered = run; annotated = annotated };
+      tasked = tasked c resolved.program supported sizes.cars declared resolved.is.alone;
       sizes = sizes;
       accepted = record {
         written = written;
         declared = declared;
-        typed = checked.resolved.typed;
-        ordered = λ number place other. checked.ordered.ordered number place;
-        program = program_found c checked.resolved.program checked.resolved.is checked.resolved.supported.kind;
+        typed = resolved.typed;
+        ordered = λ number place other. run.ordered number place;
+        program = program_found c resolved.program resolved.is resolved.supported.kind;
       };
     }

@@ -14,9 +14,10 @@ use Rattle.il_typed.specs.Judged.{AreShort}
 use Rattle.il_stage.specs.Stage.{IsLater}
 use Rattle.il_stage.specs.Checked.{IsOrdered}
 use Rattle.il_parse.specs.Refused.{IsFault}
-use Rattle.il_verify.specs.Resolved.{IsUnannotatedBy}
+use Rattle.il_ranges.specs.Unannotated.{IsUnannotatedBy}
+use Rattle.il_budget.specs.Costs.{IsTooLong}
 use Rattle.il_run.specs.Annotation.{Annotated}
-use Rattle.lift_world.specs.Loading.{IsSpelled, IsAccepted, IsRefusedFor, by_declarations, by_types, by_order, by_stage, by_ranges, IsExplained}
+use Rattle.lift_world.specs.Loading.{IsSpelled, IsAccepted, IsRefusedFor, by_declarations, by_types, by_order, IsUnbroken, by_ranges, by_budgets, by_stage, IsExplained}
 use Rattle.lift_world.proofs.Explaining.{handed_as, explained_by_tree}
 use Rattle.lift_world.proofs.Accepting.{handed_on, same_spelled, none_judged, named_judged, accepted_is}
 
@@ -63,15 +64,23 @@ pub at_order : (c declared typed : Config) (e : Refusal) → declared ≡ c → 
 at_order c declared typed e is is_typed fine well_typed refused =
     by_order fine (subst (λ d. HasNoFault (Broken Typing d)) is well_typed) (subst (λ d. IsRefusedBy (Broken Ordering d) e) (is_typed ∙ is) refused)
 
-pub at_stage : (c declared typed ordered : Config) (e : Refusal) → declared ≡ c → typed ≡ declared → ordered ≡ typed → HasNoFault (BreaksDeclarations c) → HasNoFault (Broken Typing declared) → HasNoFault (Broken Ordering typed) → IsRefusedBy (IsLater ordered) e → IsRefusedFor c e
-at_stage c declared typed ordered e is is_typed is_ordered fine well_typed in_order refused =
-    by_stage fine (subst (λ d. HasNoFault (Broken Typing d)) is well_typed) (subst (λ d. HasNoFault (Broken Ordering d)) (is_typed ∙ is) in_order)
-    (subst (λ d. IsRefusedBy (IsLater d) e) (is_ordered ∙ is_typed ∙ is) refused)
+-- what went through the phases up to order
+pub unbroken_by : (c declared typed : Config) → declared ≡ c → typed ≡ declared → HasNoFault (BreaksDeclarations c) → HasNoFault (Broken Typing declared) → HasNoFault (Broken Ordering typed) → IsUnbroken c
+unbroken_by c declared typed is is_typed fine well_typed in_order = record {
+  declared = fine;
+  typed = subst (λ d. HasNoFault (Broken Typing d)) is well_typed;
+  ordered = subst (λ d. HasNoFault (Broken Ordering d)) (is_typed ∙ is) in_order;
+}
 
-pub at_ranges : (c supported code : Config) (e : Refusal) → supported ≡ c → code ≡ supported → IsOrdered supported → IsUnannotatedBy code e → IsRefusedFor c e
-at_ranges c supported code e is is_code run refused =
-    let there = subst IsOrdered is run in
-    by_ranges there.typed.declared.supported there.typed.declared.declared there.typed.typed there.ordered (subst (λ d. IsUnannotatedBy d e) (is_code ∙ is) refused)
+pub at_ranges : (c ordered : Config) (e : Refusal) → ordered ≡ c → IsUnbroken c → IsUnannotatedBy ordered e → IsRefusedFor c e
+at_ranges c ordered e is unbroken refused = by_ranges unbroken (subst (λ d. IsUnannotatedBy d e) is refused)
+
+pub at_budgets : (c names ordered : Config) (e : Refusal) → names ≡ c → ordered ≡ c → IsUnbroken c → Annotated ordered → IsRefusedBy (IsTooLong names) e → IsRefusedFor c e
+at_budgets c names ordered e is is_ordered unbroken annotated refused = by_budgets unbroken (subst Annotated is_ordered annotated) (subst (λ d. IsRefusedBy (IsTooLong d) e) is refused)
+
+pub at_stage : (c names ordered : Config) (e : Refusal) → names ≡ c → ordered ≡ c → IsUnbroken c → Annotated ordered → HasNoFault (IsTooLong names) → (again : Config) → again ≡ c → IsRefusedBy (IsLater again) e → IsRefusedFor c e
+at_stage c names ordered e is is_ordered unbroken annotated affordable again is_again refused =
+    by_stage unbroken (subst Annotated is_ordered annotated) (subst (λ d. HasNoFault (IsTooLong d)) is affordable) (subst (λ d. IsRefusedBy (IsLater d) e) is_again refused)
 
 -- what the limits allow is short
 pub within_short : (text : List ℕ) (c declared : Config) → declared ≡ c → IsWithinLimits text c → AreShort declared.units
@@ -83,5 +92,7 @@ within_short text c declared is limits = subst (λ (d : Config). AreShort d.unit
         omega (arith, few)
 
 -- where none refuses
-pub accepted_by : (text : List ℕ) (c supported checked : Config) → supported ≡ c → checked ≡ supported → SpellsOnly text c → IsOrdered supported → Annotated checked → IsAccepted text checked
-accepted_by text c supported checked is is_checked s run annotated = accepted_is text c checked (is_checked ∙ is) s.spelled (subst IsOrdered is run) annotated
+pub accepted_by : (text : List ℕ) (c names ordered supported code : Config) → names ≡ c → ordered ≡ c → supported ≡ c → code ≡ c → SpellsOnly text c → IsOrdered supported → Annotated ordered → HasNoFault (IsTooLong names) → IsAccepted text code
+accepted_by text c names ordered supported code is is_ordered is_supported is_code s run annotated affordable =
+    subst (IsAccepted text) (sym is_code)
+    (accepted_is text c s.spelled (subst IsOrdered is_supported run) (subst Annotated is_ordered annotated) (subst (λ d. HasNoFault (IsTooLong d)) is affordable))

@@ -1,5 +1,5 @@
 -- Which texts are accepted (own rules).
-use Rattle.std.specs.Prelude.{ℕ, ◌+◌, ◌≤◌, List, [], ◌∷◌, ◌++◌, length, map}
+use Rattle.std.specs.Prelude.{ℕ, ◌≤◌, List}
 use Rattle.il_spec.specs.declared.fault.Refusal.{Refusal}
 use Rattle.il_spec.specs.declared.fault.Refusal.TheVariants.{Fault, Memory}
 use Rattle.il_spec.specs.declared.tree.Config.{Config}
@@ -8,16 +8,15 @@ use Rattle.il_rules.specs.Subset.{IsSupported, BreaksInSubset}
 use Rattle.il_rules.specs.Faults.{IsRefusedBy, BreaksDeclarations, Typing, Ordering, HasNoFault, Broken}
 use Rattle.il_stage.specs.Stage.{IsLater}
 use Rattle.il_run.specs.Annotation.{Annotated}
-use Rattle.il_verify.specs.Resolved.{IsUnannotatedBy}
-use Rattle.il_spec.specs.declared.tree.Unit.{Unit as ProgramUnit}
-use Rattle.il_machine.specs.declared.verified.UnitCost.{UnitCost}
+use Rattle.il_ranges.specs.Unannotated.{IsUnannotatedBy}
+use Rattle.il_budget.specs.Costs.{IsTooLong}
 
 -- The text spells the configuration within the limits.
 pub record IsSpelled (text : List ℕ) (c : Config) : Type 0 where
   pub spelled : Spells text c
   pub limits : IsWithinLimits text c
 
--- And it is of the subset that is supported so far, none of its rules is broken, and its program has an annotation by ranges.
+-- And none of its rules is broken, each instruction of its units has ranges, none of its units costs too much, and it is of the subset that is run so far.
 pub record IsAccepted (text : List ℕ) (c : Config) : Type 0 where
   pub spelled : IsSpelled text c
   pub supported : IsSupported c
@@ -25,17 +24,25 @@ pub record IsAccepted (text : List ℕ) (c : Config) : Type 0 where
   pub typed : HasNoFault (Broken Typing c)
   pub ordered : HasNoFault (Broken Ordering c)
   pub annotated : Annotated c
+  pub affordable : HasNoFault (IsTooLong c)
 
--- The fault that is named: the first of declarations; where those break nothing, the first of types; then the first of order; where nothing of these is broken, the first
--- construct or name of the image that is not run yet (90); and where everything is run, the first instruction without ranges.
+-- No rule of declarations, types and order is broken.
+pub record IsUnbroken (c : Config) : Type 0 where
+  pub declared : HasNoFault (BreaksDeclarations c)
+  pub typed : HasNoFault (Broken Typing c)
+  pub ordered : HasNoFault (Broken Ordering c)
+
+-- The fault that is named: the first of declarations; where those break nothing, the first of types; then the first of order; where nothing of these is broken, the
+-- earliest instruction without ranges; then the first unit that costs too much; and where none does, the first construct or name of the image that is not run yet (90).
 pub data IsRefusedFor (c : Config) (refusal : Refusal) : Type 0 where
   by_declarations : IsRefusedBy (BreaksDeclarations c) refusal → IsRefusedFor c refusal
   by_types : HasNoFault (BreaksDeclarations c) → IsRefusedBy (Broken Typing c) refusal → IsRefusedFor c refusal
   by_order : HasNoFault (BreaksDeclarations c) → HasNoFault (Broken Typing c) → IsRefusedBy (Broken Ordering c) refusal → IsRefusedFor c refusal
-  by_stage : HasNoFault (BreaksDeclarations c) → HasNoFault (Broken Typing c) → HasNoFault (Broken Ordering c) → IsRefusedBy (IsLater c) refusal → IsRefusedFor c refusal
-  by_ranges : IsSupported c → HasNoFault (BreaksInSubset c) → HasNoFault (Broken Typing c) → HasNoFault (Broken Ordering c) → IsUnannotatedBy c refusal → IsRefusedFor c refusal
+  by_ranges : IsUnbroken c → IsUnannotatedBy c refusal → IsRefusedFor c refusal
+  by_budgets : IsUnbroken c → Annotated c → IsRefusedBy (IsTooLong c) refusal → IsRefusedFor c refusal
+  by_stage : IsUnbroken c → Annotated c → HasNoFault (IsTooLong c) → IsRefusedBy (IsLater c) refusal → IsRefusedFor c refusal
 
--- The text spells a configuration, and this is the fault of its declarations, constructs, types, order or ranges.
+-- The text spells a configuration, and this is the fault of its declarations, types, order, ranges or budgets, or of what is not run yet.
 abbrev pub IsSpelledWith : List ℕ → Refusal → Type 0
 IsSpelledWith text refusal = (c : Config) × IsSpelled text c × IsRefusedFor c refusal
 
@@ -52,7 +59,3 @@ pub data Explains (text : List ℕ) (number line : ℕ) : Type 0 where
 abbrev pub IsExplained : List ℕ → Refusal → Type 0
 IsExplained text (Fault number line) = Explains text number line
 IsExplained text Memory = Unit {0}
-
--- What a unit on a straight line costs: its one control path takes each instruction and the implicit RET.
-abbrev pub cost_of : ProgramUnit → UnitCost
-cost_of u = record { cost = length u.body.steps + 1; path = map (λ s. s.place.line) u.body.steps ++ u.body.end.line ∷ [] }

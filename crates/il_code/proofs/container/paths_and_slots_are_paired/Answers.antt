@@ -1,7 +1,5 @@
-use Rattle.il_code.proofs.Paired.{paired}
-use Rattle.il_code.proofs.Tasks.{cells_once}
-use Rattle.il_code.specs.Program.{program_cells}
+use Rattle.il_code.proofs.Made.{pairs}
 use Rattle.il_code.proofs.container.paths_and_slots_are_paired.Goals as goal
 
 pub returns : goal.returns
-returns c = λ config p is. paired (program_cells config p) (cells_once config p is)
+returns c = λ config unit is. pairs config unit is

@@ -1,4 +1,0 @@
-pub mod Effect
-pub mod Blocks
-pub mod Going
-pub mod Framing

@@ -1,0 +1,13 @@
+use Rattle.std.proofs.Common.{◌≡◌, IfOk, sym, subst}
+use Rattle.il_rules.specs.Faults.{BreaksDeclarations, Broken, Typing, HasNoFault}
+use Rattle.il_run.specs.Annotation.{Annotated}
+use Rattle.il_verify.proofs.check.Goals as goal
+
+pub annotated-requires-clause-declared : goal.annotated-requires-clause-declared
+annotated-requires-clause-declared c = subst (λ d. HasNoFault (BreaksDeclarations d)) (sym c.names.ensures) c.config-config.ensures.declared
+
+pub annotated-requires-clause-typed : goal.annotated-requires-clause-typed
+annotated-requires-clause-typed c = subst (λ d. HasNoFault (Broken Typing d)) (sym c.names.ensures) c.config-config.ensures.typed
+
+pub returns-clause-accepted : goal.returns-clause-accepted
+returns-clause-accepted c = subst (λ d. IfOk c.annotated.result (λ _. Annotated d)) c.names.ensures c.annotated.ensures.annotated

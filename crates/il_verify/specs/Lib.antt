@@ -1,4 +1,0 @@
-pub mod Resolved
-pub mod Tables
-pub mod Program
-pub mod VerifyFaults
