@@ -18,7 +18,7 @@ use Rattle.il_least.specs.Steps.{context}
 use Rattle.il_least.specs.Numbers.{is_inside, unless_outside, divisor_fault, operate_fault, operands_fault, arguments_fault}
 use Rattle.il_least.proofs.Rows.{row_is}
 use Rattle.il_ranges.specs.Kinds.{is_argument_inside}
-use Rattle.il_ranges.specs.Scopes.{denoted}
+use Rattle.il_transfer.specs.Scopes.{denoted}
 
 module _ (n : Names) (row : List Interval) where
   found_same : (e : Elementary) (d : Denotation) → found_operand (row_at n row) e d ≡ found_operand (get (variables_of n row)) e d
