@@ -38,7 +38,7 @@ use Rattle.il_least.specs.Prepared.{IsFineDenotation, IsPrepared, IsReady, HasNu
 use Rattle.il_least.specs.Refused.{IsLeastAt}
 use Rattle.il_least.proofs.Least.{IsAhead, same_some}
 use Rattle.il_least.proofs.Units.{accepted, first_without, arrives_fine, goes_forward}
-use Rattle.il_ranges.specs.Tables.{IsAheadOf, IsAheadBelow, IsFineBelow, IsPassed}
+use Rattle.il_flow.specs.Tables.{IsAheadOf, IsAheadBelow, IsFineBelow, IsPassed}
 use Rattle.il_ranges.specs.Units.{InUnit, names_of}
 use Rattle.il_ranges.specs.Numbering.{HasNumberIn, AreNumbers, IsTargetNumbered, IsArgumentNumbered, AreNumbered, IsStepNumbered, AreDeclaredOperands, IsNumberingOf}
 use Rattle.il_ranges.specs.Unannotated.{IsFirstUnannotated, IsUnannotatedBy}

@@ -10,14 +10,12 @@ ghost use Rattle.il_run.specs.NameMap.{Text};
 ghost use Rattle.il_run.specs.Meaning.{denotation, direct, indexed_by, element_of, member_of};
 ghost use Rattle.il_scope.specs.Views.{type_of};
 ghost use Rattle.il_least.specs.Prepared.{IsFineDenotation};
-ghost use Rattle.il_ranges.specs.Meant.{resolved};
-ghost use Rattle.il_ranges.specs.Scopes.{named, form_in, scalar_of, is_block, input_form, output_form};
+ghost use Rattle.il_transfer.specs.Meant.{resolved};
+ghost use Rattle.il_transfer.specs.Scopes.{named, form_in, scalar_of, is_block, input_form, output_form};
 ghost use Rattle.il_ranges.specs.Units.{input_scalars, names_of};
 
-use crate::known::known_of;
-use crate::meant::Meant;
 use crate::numbering::Numbering;
-use crate::scope::Scope;
+use il_transfer::{Meant, Scope, known_of};
 use crate::unit_inputs::InputScalars;
 use crate::unit_names::UnitNames;
 use il_run::known::Known;

@@ -6,26 +6,16 @@ ghost use Rattle.il_run.specs.NameMap.{get};
 ghost use Rattle.il_least.specs.Facts.{variables_of, shown, IsRowOf, IsFineKnown, IsFineResult, IsFine};
 ghost use Rattle.il_least.specs.Numbers.{is_inside, unless_outside, divisor_fault, operated_fault, operate_fault, defer_fault, evaluate_fault, operands_fault, arguments_fault, invoke_fault, fault_of};
 ghost use Rattle.il_ranges.specs.RangeFaults.{range_fault_number};
-ghost use Rattle.il_ranges.specs.Scopes.{denoted};
+ghost use Rattle.il_transfer.specs.Scopes.{denoted};
 ghost use Rattle.il_ranges.specs.Kinds.{is_division, is_argument_inside};
 
 use crate::fault::RangeFault;
-use crate::known::{found_operated, may_be_zero};
-use crate::meant::is_inside_in;
-use crate::operands::right_inside;
-use crate::scope::Scope;
+use il_transfer::{Scope, found_operated, is_inside, may_be_zero, right_inside};
 use il_interval::Interval;
 use il_least::facts::Facts;
 use il_row::Row;
 use il_run::known::{Known, KnownDeferred};
 use il_spec::tree::{Argument, Arithmetic, Instruction, Operand, Operator, Reference};
-
-// Whether an operand's index lies in its array for all of its values.
-fn is_inside<S: Scope>(scope: &S, row: &Row<Interval>, reference: &Reference) -> bool
-    ensures { result ≡ is_inside (get (variables_of (S.names scope.now) row.now)) (denoted (S.names scope.now) reference.now) }
-{
-    is_inside_in(row, scope.meant(reference))
-}
 
 // 42 where an index may lie outside of its array, otherwise this fault.
 fn unless_outside<S: Scope>(

@@ -8,11 +8,11 @@ ghost use Rattle.il_ranges.specs.Units.{input_scalars};
 ghost use Rattle.il_ranges.specs.Judged.{IsJudged};
 
 use crate::fault::RangeFault;
-use crate::instructions::hand_on;
-use crate::join::join_facts;
+use il_transfer::hand_on;
+use il_flow::join::join_facts;
 use crate::numbered_unit::NumberedUnit;
 use crate::numbering::{Numbering, numbering_of};
-use crate::pass::{Flow, Handed, pass};
+use il_flow::pass::{Flow, Handed, pass};
 use crate::refusals::fault_of;
 use crate::unit_inputs::InputScalars;
 use crate::unit_names::UnitNames;

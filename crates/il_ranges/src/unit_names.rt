@@ -10,9 +10,9 @@ ghost use Rattle.il_run.specs.NameMap.{Text};
 ghost use Rattle.il_run.specs.Meaning.{inputs_of, outputs_of};
 ghost use Rattle.il_run.specs.Annotation.{declared_range};
 ghost use Rattle.il_scope.specs.Views.{block_type, type_of, variable_of};
-ghost use Rattle.il_ranges.specs.Scopes.{scalar_of, is_block};
+ghost use Rattle.il_transfer.specs.Scopes.{scalar_of, is_block};
 
-use crate::known::range;
+use il_transfer::range;
 use il_interval::Interval;
 use il_scope::Scoped;
 use il_scope::entry::{Binding, BlockType, Variable, VariableType};

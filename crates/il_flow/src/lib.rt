@@ -1,0 +1,5 @@
+//! One forward pass over places, with joins where paths meet.
+#![tactic(auto)]
+
+pub mod join;
+pub mod pass;

@@ -1,5 +1,0 @@
-use Rattle.il_ranges.proofs.Outputs.{RowOn}
-use Rattle.il_ranges.proofs.blocks.copy_outputs.Given as goal
-
-abbrev pub invariant-loop-argument : goal.invariant-loop-argument
-invariant-loop-argument g l = RowOn (g.S.Scope.names l.scope) l.instance l.arguments l.argument-index l.initial.row l.row

@@ -1,8 +1,0 @@
-use Rattle.std.proofs.Common.{rules}
-use Rattle.il_ranges.proofs.known.fitting.Goals as goal
-
-pub returns-then-fits : goal.returns-then-fits
-returns-then-fits c = search rules
-
-pub returns-else-fits : goal.returns-else-fits
-returns-else-fits c = search rules

@@ -1,5 +1,0 @@
-use Rattle.il_ranges.specs.Tables.{IsAt}
-use Rattle.il_ranges.proofs.pass.pass.Given as goal
-
-abbrev pub invariant-loop-place : goal.invariant-loop-place
-invariant-loop-place g l = IsAt g.F.Flow.join (g.F.Flow.moves l.flow) l.fn.entry l.count l.place l.waiting.items

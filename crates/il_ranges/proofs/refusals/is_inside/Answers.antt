@@ -1,7 +1,0 @@
-use Rattle.std.proofs.Common.{ap, ◌∙◌}
-use Rattle.il_ranges.specs.Meant.{is_inside_in}
-use Rattle.il_ranges.proofs.Resolved.{inside_is}
-use Rattle.il_ranges.proofs.refusals.is_inside.Goals as goal
-
-pub returns : goal.returns
-returns g c = c.is_inside_in.ensures ∙ ap (is_inside_in c.args.row.now) c.meant.ensures.is ∙ inside_is (g.S.Scope.names c.args.scope.now) c.args.row.now c.args.reference.now

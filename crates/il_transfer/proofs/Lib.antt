@@ -1,0 +1,4 @@
+mod Resolved
+mod Inputs
+mod Outputs
+mod Steps

@@ -1,0 +1,4 @@
+pub mod Meant
+pub mod Standard
+pub mod Scopes
+pub mod Kinds
