@@ -1,5 +1,6 @@
 use Rattle.std.proofs.Common.{sym, ap, ◌∙◌, subst, map}
 use Rattle.il_spec.specs.declared.tree.Config.{Config}
+use Rattle.il_rules.specs.Faults.{Broken, Declaring, Typing, Ordering, HasNoFault}
 use Rattle.il_rules.specs.Written.{IsWritten}
 use Rattle.il_run.specs.Annotation.{Annotated}
 use Rattle.il_stage.specs.Checked.{IsOrdered}
@@ -213,3 +214,14 @@ returns-clause-runs c =
     (subst IsWritten (sym (c.in_ok-code.ensures ∙ c.in_ok-supported.ensures.same ∙ c.into_ordered.ensures.is ∙ c.in_ok-checked.ensures.same ∙ c.in_ok-ordered.ensures.same ∙ c.in_ok-typed.ensures.same ∙ c.in_ok-declared.ensures.same)) (spelled_written c.args.text.now c.in_ok-config.config c.in_ok-config.ensures.spelled))
     (subst IsOrdered (sym c.in_ok-code.ensures) c.in_ok-supported.ensures.accepted)
     (subst Annotated (sym (c.in_ok-code.ensures ∙ c.in_ok-supported.ensures.same ∙ c.into_ordered.ensures.is ∙ c.in_ok-checked.ensures.same ∙ c.in_ok-ordered.ensures.same ∙ c.in_ok-typed.ensures.same ∙ c.in_ok-declared.ensures.same) ) (subst Annotated (c.in_ok-ordered.ensures.same ∙ c.in_ok-typed.ensures.same ∙ c.in_ok-declared.ensures.same) c.in_ok-checked.ensures.accepted))))
+
+-- WHAT BUDGETS ASK
+
+pub budget-requires-clause-declared : goal.budget-requires-clause-declared
+budget-requires-clause-declared c = subst (λ d. HasNoFault (Broken Declaring d)) (sym c.names.ensures.is) c.names.ensures.declared
+
+pub budget-requires-clause-typed : goal.budget-requires-clause-typed
+budget-requires-clause-typed c = subst (λ d. HasNoFault (Broken Typing d)) (sym c.names.ensures.is) c.names.ensures.typed
+
+pub budget-requires-clause-ordered : goal.budget-requires-clause-ordered
+budget-requires-clause-ordered c = subst (λ d. HasNoFault (Broken Ordering d)) (sym c.names.ensures.is) c.names.ensures.ordered
