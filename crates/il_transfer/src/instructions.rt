@@ -265,6 +265,22 @@ fn jumping_to(
     })
 }
 
+// The place to which a jump may go.
+fn target_of<S: Scope>(
+    scope: &S,
+    facts: &Facts,
+    condition: Condition,
+    label: &str,
+) -> Option<usize>
+    ensures { result ≡ provided (is_bare facts.now.deferred) (provided (has_condition condition facts.now.result) (label_place (S.names scope.now).unit.body label.now)) }
+{
+    if facts.deferred.as_slice().is_empty() && has_condition(condition, facts.result) {
+        scope.label(label)
+    } else {
+        None
+    }
+}
+
 // What a jump hands on.
 fn jumped<S: Scope>(
     alloc: Global,
@@ -275,16 +291,10 @@ fn jumped<S: Scope>(
 ) -> Result<Option<Handed<Facts>>, AllocError>
     ensures { IfOk result (λ h. option_map moved h ≡ provided (is_bare facts.deferred) (provided (has_condition condition facts.result) (jumping_to condition facts (label_place (S.names scope.now).unit.body label.now)))) }
 {
-    if !facts.deferred.as_slice().is_empty() {
-        return Ok(None);
+    match target_of(scope, &facts, condition, label) {
+        Some(to) => Ok(Some(jumping_to(alloc, facts, condition, to)?)),
+        None => Ok(None),
     }
-    if !has_condition(condition, facts.result) {
-        return Ok(None);
-    }
-    let Some(to) = scope.label(label) else {
-        return Ok(None);
-    };
-    Ok(Some(jumping_to(alloc, facts, condition, to)?))
 }
 
 /// What an instruction hands on, unless it is refused.
