@@ -40,7 +40,7 @@ use Rattle.il_least.proofs.Least.{IsAhead, same_some}
 use Rattle.il_least.proofs.Units.{accepted, first_without, arrives_fine, goes_forward}
 use Rattle.il_flow.specs.Tables.{IsAheadOf, IsAheadBelow, IsFineBelow, IsPassed}
 use Rattle.il_ranges.specs.Units.{InUnit, names_of}
-use Rattle.il_ranges.specs.Numbering.{HasNumberIn, AreNumbers, IsTargetNumbered, IsArgumentNumbered, AreNumbered, IsStepNumbered, AreDeclaredOperands, IsNumberingOf}
+use Rattle.il_ranges.specs.Numbering.{HasNumberIn, IsTargetNumbered, IsArgumentNumbered, AreNumbered, IsStepNumbered, AreDeclaredOperands, IsNumberingOf}
 use Rattle.il_ranges.specs.Unannotated.{IsFirstUnannotated, IsUnannotatedBy}
 use Rattle.il_ranges.specs.Judged.{Setting, IsPlaceOf, IsRefusalOf, IsOfUnit, IsJudged, AllBelow, AreJudged}
 use Rattle.il_ranges.proofs.Proper.{units_fine, declared_operand, denotes_fine}

@@ -10,12 +10,12 @@ ghost use Rattle.il_transfer.specs.Scopes.{denoted};
 ghost use Rattle.il_ranges.specs.Kinds.{is_division, is_argument_inside};
 
 use crate::fault::RangeFault;
-use il_transfer::{Scope, is_inside, may_be_zero, right_operand};
 use il_interval::Interval;
 use il_least::facts::Facts;
 use il_row::Row;
 use il_run::known::{Known, KnownDeferred};
 use il_spec::tree::{Argument, Arithmetic, Instruction, Operand, Operator, Reference};
+use il_transfer::{Scope, is_inside, may_be_zero, right_operand};
 
 // 42 where an index may lie outside of its array, otherwise this fault.
 fn unless_outside<S: Scope>(

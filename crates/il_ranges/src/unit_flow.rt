@@ -8,20 +8,20 @@ ghost use Rattle.il_ranges.specs.Units.{input_scalars};
 ghost use Rattle.il_ranges.specs.Judged.{Setting, IsJudged};
 
 use crate::fault::RangeFault;
-use il_transfer::hand_on;
-use il_flow::join::join_facts;
 use crate::numbered_unit::NumberedUnit;
 use crate::numbering::{Numbering, numbering_of};
-use il_flow::pass::{Flow, Handed, pass};
 use crate::refusals::fault_of;
 use crate::unit_inputs::InputScalars;
 use crate::unit_names::UnitNames;
+use il_flow::join::join_facts;
+use il_flow::pass::{Flow, Handed, pass};
 use il_found::Found;
 use il_labels::label_table;
 use il_least::facts::Facts;
 use il_row::Row;
 use il_scope::Scoped;
 use il_spec::tree::{Step, Unit};
+use il_transfer::hand_on;
 use std::alloc::{AllocError, Global};
 
 /// The instructions of a unit, with what its names mean.

@@ -14,8 +14,8 @@ use crate::calls::invoked;
 use crate::known::{flag_there, found_operated};
 use crate::meant::store_in;
 use crate::operands::{fits_target, loaded, loaded_operand, operated};
-use il_flow::pass::Handed;
 use crate::scope::Scope;
+use il_flow::pass::Handed;
 use il_least::facts::Facts;
 use il_run::known::{Known, KnownDeferred};
 use il_spec::tree::{Argument, Condition, Instruction, Operand, Operator, Reference, Store};
@@ -266,12 +266,7 @@ fn jumping_to(
 }
 
 // The place to which a jump may go.
-fn target_of<S: Scope>(
-    scope: &S,
-    facts: &Facts,
-    condition: Condition,
-    label: &str,
-) -> Option<usize>
+fn target_of<S: Scope>(scope: &S, facts: &Facts, condition: Condition, label: &str) -> Option<usize>
     ensures { result ≡ provided (is_bare facts.now.deferred) (provided (has_condition condition facts.now.result) (label_place (S.names scope.now).unit.body label.now)) }
 {
     if facts.deferred.as_slice().is_empty() && has_condition(condition, facts.result) {
