@@ -91,18 +91,29 @@ pub fn join_rows(row: &mut Row<Interval>, other: &Row<Interval>)
     }
 }
 
+// What is known on two paths, if something covers both.
+fn join_into(facts: &mut Facts, other: &Facts) -> bool
+    ensures { facts_join facts.old other.now ≡ (if result then Some facts.new else None) }
+{
+    if facts.row.as_slice().len() != other.row.as_slice().len() {
+        return false;
+    }
+    if !join_deferred(&mut facts.deferred, &other.deferred) {
+        return false;
+    }
+    join_rows(&mut facts.row, &other.row);
+    facts.result = result_join(facts.result, other.result);
+    true
+}
+
 /// What is known where two paths meet, if something covers both.
 pub fn join_facts(first: Facts, second: Facts) -> Option<Facts>
     ensures { result ≡ facts_join first second }
 {
     let mut facts = first;
-    if facts.row.as_slice().len() != second.row.as_slice().len() {
-        return None;
+    if join_into(&mut facts, &second) {
+        Some(facts)
+    } else {
+        None
     }
-    if !join_deferred(&mut facts.deferred, &second.deferred) {
-        return None;
-    }
-    join_rows(&mut facts.row, &second.row);
-    facts.result = result_join(facts.result, second.result);
-    Some(facts)
 }

@@ -40,21 +40,12 @@ use Rattle.il_least.proofs.Least.{IsAhead, same_some}
 use Rattle.il_least.proofs.Units.{accepted, first_without, arrives_fine, goes_forward}
 use Rattle.il_flow.specs.Tables.{IsAheadOf, IsAheadBelow, IsFineBelow, IsPassed}
 use Rattle.il_ranges.specs.Units.{InUnit, names_of}
-use Rattle.il_ranges.specs.Numbering.{HasNumberIn, AreNumbers, IsTargetNumbered, IsArgumentNumbered, AreNumbered, IsStepNumbered, AreDeclaredOperands, IsNumberingOf}
+use Rattle.il_ranges.specs.Numbering.{HasNumberIn, IsTargetNumbered, IsArgumentNumbered, AreNumbered, IsStepNumbered, AreDeclaredOperands, IsNumberingOf}
 use Rattle.il_ranges.specs.Unannotated.{IsFirstUnannotated, IsUnannotatedBy}
-use Rattle.il_ranges.specs.Judged.{IsPlaceOf, IsRefusalOf, IsOfUnit, IsJudged, AllBelow, AreJudged}
+use Rattle.il_ranges.specs.Judged.{Setting, IsPlaceOf, IsRefusalOf, IsOfUnit, IsJudged, AllBelow, AreJudged}
 use Rattle.il_ranges.proofs.Proper.{units_fine, declared_operand, denotes_fine}
 
 -- THE SETTING
-
--- a unit of a configuration of which no rule of declarations and of types is broken, and the numbers of its variables
-pub record Setting (n : Names) (declared : List Interval) : Type 0 where
-  pub among : Contains n.config.units n.unit
-  pub unbroken : HasNoFault (BreaksDeclarations n.config)
-  pub typed : HasNoFault (Broken Typing n.config)
-  pub count : n.count ≡ length declared
-  pub are : AreNumbers (record { config = n.config; unit = n.unit }) n.numbers declared
-  pub stores : (at : ℕ) (s : Step) → at < length n.unit.body.steps → slice_get n.unit.body.steps at ≡ Some s → IsStepNumbered (record { config = n.config; unit = n.unit }) n.numbers s.instruction
 
 pub contains_at : (units : List ProgramUnit) (at : ℕ) (u : ProgramUnit) → slice_get units at ≡ Some u → Contains units u
 contains_at [] at u e = let bad : None ≡ Some u = e in cc

@@ -15,7 +15,6 @@ ghost use Rattle.il_transfer.specs.Scopes.{named, form_in, scalar_of, is_block, 
 ghost use Rattle.il_ranges.specs.Units.{input_scalars, names_of};
 
 use crate::numbering::Numbering;
-use il_transfer::{Meant, Scope, known_of};
 use crate::unit_inputs::InputScalars;
 use crate::unit_names::UnitNames;
 use il_run::known::Known;
@@ -23,6 +22,7 @@ use il_scope::entry::{StandardFunction, VariableType};
 use il_scope::functions::standard_function;
 use il_spec::tree::{Index, Reference, Scalar, Subrange, UnitKind};
 use il_table::Table;
+use il_transfer::{Meant, Scope, known_of};
 use std::marker::Model;
 
 /// A unit of a configuration, with what its names mean and the numbers of its variables.

@@ -5,23 +5,23 @@ ghost use Rattle.il_rules.specs.Faults.{BreaksDeclarations, Broken, Typing, HasN
 ghost use Rattle.il_least.specs.Facts.{facts_join};
 ghost use Rattle.il_least.specs.Prepared.{entry};
 ghost use Rattle.il_ranges.specs.Units.{input_scalars};
-ghost use Rattle.il_ranges.specs.Judged.{IsJudged};
+ghost use Rattle.il_ranges.specs.Judged.{Setting, IsJudged};
 
 use crate::fault::RangeFault;
-use il_transfer::hand_on;
-use il_flow::join::join_facts;
 use crate::numbered_unit::NumberedUnit;
 use crate::numbering::{Numbering, numbering_of};
-use il_flow::pass::{Flow, Handed, pass};
 use crate::refusals::fault_of;
 use crate::unit_inputs::InputScalars;
 use crate::unit_names::UnitNames;
+use il_flow::join::join_facts;
+use il_flow::pass::{Flow, Handed, pass};
 use il_found::Found;
 use il_labels::label_table;
 use il_least::facts::Facts;
 use il_row::Row;
 use il_scope::Scoped;
 use il_spec::tree::{Step, Unit};
+use il_transfer::hand_on;
 use std::alloc::{AllocError, Global};
 
 /// The instructions of a unit, with what its names mean.
@@ -82,6 +82,22 @@ fn entry(alloc: Global, numbering: &Numbering) -> Result<Facts, AllocError>
     })
 }
 
+// The fault of the first instruction up to and including which a unit has no ranges, by the numbers of its variables.
+fn flow_fault(
+    alloc: Global,
+    scope: &NumberedUnit,
+    numbering: &Numbering,
+    steps: &[Step],
+) -> Result<Option<Found<RangeFault>>, AllocError>
+    requires steps { steps.now ≡ scope.now.unit.body.steps }
+    requires setting { Setting scope.now numbering.now.declared }
+    ensures { IfOk result (IsJudged scope.now.config scope.now.unit) }
+{
+    let entry = entry(alloc, numbering)?;
+    let flow = UnitFlow { scope, steps };
+    pass(alloc, &flow, entry, steps.len())
+}
+
 /// The fault of the first instruction of a unit up to and including which it has no ranges.
 pub fn unit_fault(
     alloc: Global,
@@ -99,11 +115,6 @@ pub fn unit_fault(
     let unit_names = UnitNames::of(names, at, unit);
     let labels = label_table(alloc, &unit.body)?;
     let numbering = numbering_of(alloc, &unit_names)?;
-    let entry = entry(alloc, &numbering)?;
     let scope = NumberedUnit::of(&unit_names, &labels, inputs, &numbering);
-    let flow = UnitFlow {
-        scope: &scope,
-        steps: unit.body.steps.as_slice(),
-    };
-    pass(alloc, &flow, entry, flow.steps.len())
+    flow_fault(alloc, &scope, &numbering, unit.body.steps.as_slice())
 }

@@ -12,11 +12,11 @@ ghost use Rattle.il_run.specs.Annotation.{declared_range};
 ghost use Rattle.il_scope.specs.Views.{block_type, type_of, variable_of};
 ghost use Rattle.il_transfer.specs.Scopes.{scalar_of, is_block};
 
-use il_transfer::range;
 use il_interval::Interval;
 use il_scope::Scoped;
 use il_scope::entry::{Binding, BlockType, Variable, VariableType};
 use il_spec::tree::{Scalar, Unit};
+use il_transfer::range;
 use std::marker::Model;
 
 /// A unit of a configuration of which no rule of declarations is broken.

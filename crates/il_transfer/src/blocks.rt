@@ -10,10 +10,10 @@ ghost use Rattle.il_least.specs.Found.{provided};
 ghost use Rattle.il_transfer.specs.Scopes.{named, form_in, scalar_of, argument_fits, argument_row, IsInstance};
 
 use crate::calls::fits_input;
-use il_flow::join::join_rows;
 use crate::known::known_of;
 use crate::meant::{store_in, target_fits};
 use crate::scope::Scope;
+use il_flow::join::join_rows;
 use il_interval::Interval;
 use il_least::facts::Facts;
 use il_row::Row;

@@ -14,8 +14,8 @@ use crate::calls::invoked;
 use crate::known::{flag_there, found_operated};
 use crate::meant::store_in;
 use crate::operands::{fits_target, loaded, loaded_operand, operated};
-use il_flow::pass::Handed;
 use crate::scope::Scope;
+use il_flow::pass::Handed;
 use il_least::facts::Facts;
 use il_run::known::{Known, KnownDeferred};
 use il_spec::tree::{Argument, Condition, Instruction, Operand, Operator, Reference, Store};
@@ -265,6 +265,17 @@ fn jumping_to(
     })
 }
 
+// The place to which a jump may go.
+fn target_of<S: Scope>(scope: &S, facts: &Facts, condition: Condition, label: &str) -> Option<usize>
+    ensures { result ≡ provided (is_bare facts.now.deferred) (provided (has_condition condition facts.now.result) (label_place (S.names scope.now).unit.body label.now)) }
+{
+    if facts.deferred.as_slice().is_empty() && has_condition(condition, facts.result) {
+        scope.label(label)
+    } else {
+        None
+    }
+}
+
 // What a jump hands on.
 fn jumped<S: Scope>(
     alloc: Global,
@@ -275,16 +286,10 @@ fn jumped<S: Scope>(
 ) -> Result<Option<Handed<Facts>>, AllocError>
     ensures { IfOk result (λ h. option_map moved h ≡ provided (is_bare facts.deferred) (provided (has_condition condition facts.result) (jumping_to condition facts (label_place (S.names scope.now).unit.body label.now)))) }
 {
-    if !facts.deferred.as_slice().is_empty() {
-        return Ok(None);
+    match target_of(scope, &facts, condition, label) {
+        Some(to) => Ok(Some(jumping_to(alloc, facts, condition, to)?)),
+        None => Ok(None),
     }
-    if !has_condition(condition, facts.result) {
-        return Ok(None);
-    }
-    let Some(to) = scope.label(label) else {
-        return Ok(None);
-    };
-    Ok(Some(jumping_to(alloc, facts, condition, to)?))
 }
 
 /// What an instruction hands on, unless it is refused.
