@@ -6,7 +6,7 @@ use Rattle.std.proofs.lemmas.Bool.{ne_eqb}
 use Rattle.std.proofs.lemmas.Bool.Decides.{eqb_tells}
 use Rattle.il_least.proofs.Rows.{set_again, set_here, set_there, set_length}
 use Rattle.il_least.specs.Pass.{Moves, Arrived, at_entry, with_known, merged, arrive, go_on, jump_on, spread, moves_at, advance, passed}
-use Rattle.il_flow.specs.Tables.{IsFresh, IsAt, PassesOver, target_next, IsRefusedAt, IsStepped, IsPassed, IsInTable, flat, held, Merges, IsAheadOf, StandsFor, Goes, GoesOver, StopsHere, Comes}
+use Rattle.il_flow.specs.Tables.{IsFresh, IsAt, IsFineBelow, IsAheadBelow, PassesOver, target_next, IsRefusedAt, IsStepped, IsPassed, IsInTable, flat, held, Merges, IsAheadOf, StandsFor, Goes, GoesOver, StopsHere, Comes}
 
 pub merges_of : {K : Type 0} (join : K → K → Option K) (old : List (Option K)) (to : ℕ) (k : K) (item x joined : Option K) (found : Bool) → to < length old → item ≡ get_or old to item → joined ≡ merged join item k → found ≡ is_some joined
     → Merges join old to k found (slice_set (slice_set old to x) to joined)
@@ -251,3 +251,10 @@ stepped_on join moves refuses entry count place old new (Some r) at s e = let ba
 pub stepped_off : {K R : Type 0} (join : K → K → Option K) (moves : ℕ → K → Option (Moves K)) (refuses : ℕ → K → R → Type 0) (entry : K) (count place : ℕ) (old new : List (Option K)) (o : Option R) → place < count → IsAt join moves entry count place old → IsStepped join moves refuses place old new o → is_some o ≡ true → IsPassed join moves refuses entry count o
 stepped_off join moves refuses entry count place old new None low at s e = let bad : false ≡ true = e in cc
 stepped_off join moves refuses entry count place old new (Some r) low at s e = stopped_at join moves refuses entry count place old low at r s
+
+-- what a step asks for
+pub at_fine : {K : Type 0} (join : K → K → Option K) (moves : ℕ → K → Option (Moves K)) (takes : K → Type 0) (entry : K) (count place : ℕ) (table : List (Option K)) → IsFineBelow join moves takes entry count → IsAt join moves entry count place table → place < count → (k : K) → held table place ≡ Some k → takes k
+at_fine join moves takes entry count place table fine at low k is = fine place at.arrived k low at.passed_is (sym (at.stands.same place (omega arith) (omega (arith, at.long))) ∙ is)
+
+pub at_ahead : {K : Type 0} (join : K → K → Option K) (moves : ℕ → K → Option (Moves K)) (entry : K) (count place : ℕ) (table : List (Option K)) → IsAheadBelow moves count → IsAt join moves entry count place table → place < count → (k : K) (m : Moves K) → moves place k ≡ Some m → IsAheadOf (length table) place m.jump
+at_ahead join moves entry count place table ahead at low k m is = subst (λ t. IsAheadOf t place m.jump) (sym at.long) (ahead place k m low is)

@@ -1,5 +1,6 @@
-use Rattle.std.proofs.Common.{ap, ◌∙◌, Some, None, [], ◌∷◌, ◌++◌}
+use Rattle.std.proofs.Common.{◌≡◌, ap, arith, subst, ◌∙◌, Some, None, [], ◌∷◌, ◌++◌}
 use Rattle.std.specs.Prelude.{is_ok}
+use Rattle.il_flow.specs.Tables.{IsFresh}
 use Rattle.il_flow.proofs.Tables.{fresh_one, fresh_more, pushed}
 use Rattle.il_flow.proofs.pass.fresh.Goals as goal
 
@@ -12,3 +13,8 @@ pub loop-preserved : goal.loop-preserved
 loop-preserved g c =
     fresh_more c.args.entry c.loop.counter c.loop.table.items c.push-in-loop.new.self.items c.loop.invariant
     (pushed c.loop.table.items c.push-in-loop.new.self.items None (is_ok c.push-in-loop.result) c.push-in-loop.ensures.items (ap is_ok c.in_ok-push-2.was))
+
+pub returns : goal.returns
+returns g c =
+    let all : c.loop.counter ≡ c.args.count = omega (arith, c.loop-test.false, c.loop.auto.counter-end) in
+    subst (λ n. IsFresh c.args.entry n c.loop.table.items) all c.loop.invariant

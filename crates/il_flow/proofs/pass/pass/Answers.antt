@@ -1,5 +1,5 @@
 use Rattle.std.proofs.Common.{sym, ◌∙◌, arith}
-use Rattle.il_flow.proofs.Tables.{fresh_is, stepped_on, stepped_off, gone_over}
+use Rattle.il_flow.proofs.Tables.{at_fine, at_ahead, fresh_is, stepped_on, stepped_off, gone_over}
 use Rattle.il_flow.proofs.pass.pass.Goals as goal
 
 pub loop-place-init : goal.loop-place-init
@@ -15,3 +15,11 @@ loop-place-preserved g c =
 
 pub returns : goal.returns
 returns g c = gone_over g.F.Flow.join (g.F.Flow.moves c.args.flow.now) c.args.entry c.args.count c.loop-place.place c.loop-place.waiting.items c.loop-place.invariant (omega (arith, c.loop-place-test.false, c.loop-place.auto.place-end))
+
+pub step-requires-clause-fine : goal.step-requires-clause-fine
+step-requires-clause-fine g c =
+    at_fine g.F.Flow.join (g.F.Flow.moves c.args.flow.now) (g.F.Flow.takes c.args.flow.now) c.args.entry c.args.count c.loop-place.place c.loop-place.waiting.items c.requires.fine c.loop-place.invariant c.loop-place-test.true
+
+pub step-requires-clause-ahead : goal.step-requires-clause-ahead
+step-requires-clause-ahead g c =
+    at_ahead g.F.Flow.join (g.F.Flow.moves c.args.flow.now) c.args.entry c.args.count c.loop-place.place c.loop-place.waiting.items c.requires.ahead c.loop-place.invariant c.loop-place-test.true
