@@ -2,7 +2,7 @@
 
 ghost use Rattle.std.specs.Prelude.{◌≡◌, option_map};
 ghost use Rattle.il_spec.specs.ElementaryTypes.{plain};
-ghost use Rattle.il_rules.specs.Names.{image_name, within};
+ghost use Rattle.il_rules.specs.Names.{image_name, within, or_else};
 ghost use Rattle.il_scope.specs.Views.{image_entry};
 ghost use Rattle.il_scope.specs.Words.{entry_among};
 ghost use Rattle.il_scope.specs.Images.{row, read, written, number_names, signal_names, row_names, command_names};
@@ -16,9 +16,30 @@ pub fn image_name(config: &Config, name: &str) -> Option<ImageName>
     ensures { result ≡ option_map (image_entry config.now) (image_name config.now name.now) }
 {
     let (cars, floors, slots) = (config.cars.value, config.floors.value, config.slots.value);
-    let commands = command_name(cars, slots, name);
-    let rows = row_name(cars, floors, slots, name);
-    number_name(cars, floors, slots, name).or(signal_name(name).or(rows.or(commands)))
+    match number_name(cars, floors, slots, name) {
+        Some(number) => Some(number),
+        None => other_name(cars, floors, slots, name),
+    }
+}
+
+// A signal, a row or a command.
+fn other_name(cars: i64, floors: i64, slots: i64, name: &str) -> Option<ImageName>
+    ensures { result ≡ or_else (entry_among signal_names name.now) (or_else (entry_among (row_names cars floors slots) name.now) (entry_among (command_names cars slots) name.now)) }
+{
+    match signal_name(name) {
+        Some(signal) => Some(signal),
+        None => row_or_command(cars, floors, slots, name),
+    }
+}
+
+// A row or a command.
+fn row_or_command(cars: i64, floors: i64, slots: i64, name: &str) -> Option<ImageName>
+    ensures { result ≡ or_else (entry_among (row_names cars floors slots) name.now) (entry_among (command_names cars slots) name.now) }
+{
+    match row_name(cars, floors, slots, name) {
+        Some(row) => Some(row),
+        None => command_name(cars, slots, name),
+    }
 }
 
 // One of the numbers that every program or a car's program reads.

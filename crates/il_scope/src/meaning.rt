@@ -3,7 +3,8 @@
 ghost use Rattle.std.specs.Prelude.{◌≡◌, Some, option_map, slice_get};
 ghost use Rattle.il_spec.specs.declared.tree.Config.{Config as Configuration};
 ghost use Rattle.il_spec.specs.declared.tree.Unit.{Unit as ProgramUnit};
-ghost use Rattle.il_rules.specs.Names.{own_variable, outer_meaning, image_name, meaning};
+ghost use Rattle.il_rules.specs.Names.{own_variable, outer_meaning, image_name, meaning, or_else};
+ghost use Rattle.il_scope.specs.declared.entry.Origin.TheVariants.{Output, Local, External};
 ghost use Rattle.il_run.specs.NameMap as table;
 ghost use Rattle.il_scope.specs.Views.{variable_of, binding_of};
 ghost use Rattle.il_scope.specs.Tables.{IsScope, AreTables};
@@ -114,10 +115,30 @@ fn own_variable(unit: &Unit, scope: &Scope, name: &str) -> Option<Variable>
 fn listed_variable(scope: &Scope, name: &str) -> Option<Variable>
     ensures { result ≡ listed_binding scope.now name.now }
 {
-    let external = listed(&scope.externals, Origin::External, name);
-    let local = listed(&scope.variables, Origin::Local, name);
-    let output = listed(&scope.outputs, Origin::Output, name);
-    listed(&scope.inputs, Origin::Input, name).or(output.or(local.or(external)))
+    match listed(&scope.inputs, Origin::Input, name) {
+        Some(input) => Some(input),
+        None => other_variable(scope, name),
+    }
+}
+
+// The same of the lists behind the inputs.
+fn other_variable(scope: &Scope, name: &str) -> Option<Variable>
+    ensures { result ≡ or_else (option_map (listed_as Output) (table.get scope.now.outputs name.now)) (or_else (option_map (listed_as Local) (table.get scope.now.variables name.now)) (option_map (listed_as External) (table.get scope.now.externals name.now))) }
+{
+    match listed(&scope.outputs, Origin::Output, name) {
+        Some(output) => Some(output),
+        None => inner_variable(scope, name),
+    }
+}
+
+// The same of the variables and externals.
+fn inner_variable(scope: &Scope, name: &str) -> Option<Variable>
+    ensures { result ≡ or_else (option_map (listed_as Local) (table.get scope.now.variables name.now)) (option_map (listed_as External) (table.get scope.now.externals name.now)) }
+{
+    match listed(&scope.variables, Origin::Local, name) {
+        Some(local) => Some(local),
+        None => listed(&scope.externals, Origin::External, name),
+    }
 }
 
 // The variable of one list under a name.

@@ -1,5 +1,5 @@
 -- What the map from paths answers.
-use Rattle.std.proofs.Common.{◌≡◌, List, [], ◌∷◌, sym, ap, ◌∙◌, cond, Some, HashMap}
+use Rattle.std.proofs.Common.{◌≡◌, List, [], ◌∷◌, length, sym, ap, ◌∙◌, cond, Some, None, HashMap, arith}
 use Rattle.std.specs.Prelude.{String}
 use Rattle.std.proofs.lemmas.Cmp.{nat_list_cmp_total}
 use Rattle.std.specs.Cmp.Lexicographic.{slice_cmp}
@@ -21,6 +21,10 @@ get-by_text_entries (e ∷ es) q =
     ∙ ap (λ o. cond (bytes_eq q (string_bytes e.0)) (Some e.1) o) (get-by_text_entries es q)
 
 -- it is what the table finds
+pub none_in_empty : {A X : Type 0} (es : List (String A × X)) (q : Text) → length es ≡ 0 → None ≡ get (by_text es) q
+none_in_empty [] q none = sym (get-empty q)
+none_in_empty (e ∷ es) q none = absurd (omega arith)
+
 pub get-by_text : {A X S : Type 0} (m : HashMap (String A) X S) (q : Text) → get (by_text m.entries) q ≡ hash.get_by_text m q
 get-by_text m q = get-by_text_entries m.entries q
 

@@ -40,6 +40,9 @@ impl<X: Copy> Table<X> {
     pub fn get(&self, name: &str) -> Option<X>
         ensures { result ≡ map.get self.now name.now }
     {
+        if self.map.is_empty() {
+            return None;
+        }
         self.map.get(name).copied()
     }
 

@@ -1,9 +1,11 @@
 use Rattle.std.proofs.Common.{sym, ◌∙◌, rules}
-use Rattle.il_scope.proofs.Known.{image_is, both_or}
+use Rattle.il_scope.proofs.Known.{image_is, some_first, none_first}
 use Rattle.il_scope.proofs.image.image_name.Goals as goal
 
-pub returns : goal.returns
-returns c =
-    both_or c.or-3.result c.number_name.result c.or-2.result _ _ c.or-3.ensures c.number_name.ensures
-    (both_or c.or-2.result c.signal_name.result c.or.result _ _ c.or-2.ensures c.signal_name.ensures (both_or c.or.result c.row_name-rows.result c.command_name-commands.result _ _ c.or.ensures c.row_name-rows.ensures c.command_name-commands.ensures))
-    ∙ sym (image_is c.args.config.now _ _ _ c.args.name.now (search rules) (search rules) (search rules))
+pub returns-in-Some : goal.returns-in-Some
+returns-in-Some c =
+    some_first c.number_name.result _ _ c.in-Some.number c.number_name.ensures c.in-Some.is ∙ sym (image_is c.args.config.now _ _ _ c.args.name.now (search rules) (search rules) (search rules))
+
+pub returns-in-None : goal.returns-in-None
+returns-in-None c =
+    none_first c.number_name.result _ _ c.other_name.result c.number_name.ensures c.in-None.is c.other_name.ensures ∙ sym (image_is c.args.config.now _ _ _ c.args.name.now (search rules) (search rules) (search rules))
