@@ -93,23 +93,29 @@ fn run_rounds(
     presses: &[Press],
 ) -> Result<(), SimFault> {
     let mut plant = plant_of(world.sizes())?;
+    let mut report = Report::new();
     for number in 1..=rounds {
-        press_all(world, number, presses)?;
-        plant = round(world, plant, tasks, trace)?;
+        press_all(world, number, presses, &mut report)?;
+        plant = round(world, plant, tasks, trace, &mut report)?;
     }
     Ok(())
 }
 
 /// The presses of a round, in their order; then what the desk has from each floor is gathered. Where
 /// nothing is ever pressed, there is nothing to gather.
-fn press_all(world: &mut World, number: u16, presses: &[Press]) -> Result<(), SimFault> {
+fn press_all(
+    world: &mut World,
+    number: u16,
+    presses: &[Press],
+    report: &mut Report,
+) -> Result<(), SimFault> {
     if presses.is_empty() {
         return Ok(());
     }
     for press in presses.iter().filter(|press| press.round == number) {
-        applied(world, Event::Press(call_of(press)?))?;
+        applied(world, Event::Press(call_of(press)?), report)?;
     }
-    gather_all(world)
+    gather_all(world, report)
 }
 
 /// The call of a press. No group has other floors.
@@ -120,10 +126,10 @@ fn call_of(press: &Press) -> Result<Call, SimFault> {
     }
 }
 
-fn gather_all(world: &mut World) -> Result<(), SimFault> {
+fn gather_all(world: &mut World, report: &mut Report) -> Result<(), SimFault> {
     let Sizes { floors, .. } = world.sizes();
     for floor in 1..=floors {
-        applied(world, Event::Gather(floor))?;
+        applied(world, Event::Gather(floor), report)?;
     }
     Ok(())
 }
@@ -159,24 +165,29 @@ fn round(
     plant: Plant,
     tasks: &[u8],
     trace: &mut Trace,
+    report: &mut Report,
 ) -> Result<Plant, SimFault> {
     let outputs = &world.image().outputs;
     if outputs.as_slice().len() != plant.cars() {
         return Err(SimFault::Event(EventFault::FieldOutOfRange));
     }
     let (plant, fields) = plant_step(plant, outputs);
-    refreshed(world, fields, trace)?;
+    refreshed(world, fields, trace, report)?;
     for task in tasks {
-        scan(world, *task, trace)?;
+        scan(world, *task, trace, report)?;
     }
     Ok(plant)
 }
 
 /// A refresh, with the calls that it enters.
-fn refreshed(world: &mut World, fields: Fields, trace: &mut Trace) -> Result<(), SimFault> {
-    let mut report = Report::new();
+fn refreshed(
+    world: &mut World,
+    fields: Fields,
+    trace: &mut Trace,
+    report: &mut Report,
+) -> Result<(), SimFault> {
     let event = Event::Refresh(fields);
-    if let Reply::Refused(fault) = world.apply(&event, &mut report) {
+    if let Reply::Refused(fault) = world.apply(&event, report) {
         return Err(SimFault::Event(fault));
     }
     trace.entered(report.entered.as_slice())?;
@@ -187,12 +198,17 @@ fn refreshed(world: &mut World, fields: Fields, trace: &mut Trace) -> Result<(),
 }
 
 /// One scan of a task.
-fn scan(world: &mut World, task: u8, trace: &mut Trace) -> Result<(), SimFault> {
+fn scan(
+    world: &mut World,
+    task: u8,
+    trace: &mut Trace,
+    report: &mut Report,
+) -> Result<(), SimFault> {
     trace.start(task)?;
-    applied(world, Event::Start(task))?;
+    applied(world, Event::Start(task), report)?;
     finished(world, task)?;
     trace.commit(task)?;
-    applied(world, Event::Commit(task))
+    applied(world, Event::Commit(task), report)
 }
 
 /// The open scan of a task runs to its end.
@@ -203,9 +219,9 @@ fn finished(world: &mut World, task: u8) -> Result<(), SimFault> {
     }
 }
 
-/// An event that the world takes.
-fn applied(world: &mut World, event: Event) -> Result<(), SimFault> {
-    match world.apply(&event, &mut Report::new()) {
+/// An event that the world takes. A commit writes the report.
+fn applied(world: &mut World, event: Event, report: &mut Report) -> Result<(), SimFault> {
+    match world.apply(&event, report) {
         Reply::Refused(fault) => Err(SimFault::Event(fault)),
         _ => Ok(()),
     }
