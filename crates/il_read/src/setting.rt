@@ -261,8 +261,7 @@ impl<'t> Source<'t> {
     {
         let program = self.named(tokens)?;
         tokens.skip_lines();
-        self.sign(tokens, Sign::Semicolon)?;
-        Ok(program)
+        self.closed(tokens, Sign::Semicolon, program)
     }
 
     // The names of a task and a program.
