@@ -13,13 +13,13 @@ returns-in_err-line_end-clause-refused c =
 
 pub returns-clause-refused : goal.returns-clause-refused
 returns-clause-refused c = err_through c.opened.result c.opened.ensures.refused (λ e bad.
-      let there = was_there (TheSign OpenParenthesis) c.args.tokens.now _ c.eat_sign.new.tokens c.eat_sign.ensures.eaten c.if-not-eat_sign.false in
-      (opened_refused c.args.self.now _ _ _ there (rw c.skip_lines.ensures.rest at bad)))
+    let there = was_there (TheSign OpenParenthesis) c.args.tokens.now _ c.eat_sign.new.tokens c.eat_sign.ensures.eaten c.if-not-eat_sign.false in
+    (opened_refused c.args.self.now _ _ _ there (rw c.skip_lines.ensures.rest at bad)))
 
 pub returns-clause-reads : goal.returns-clause-reads
 returns-clause-reads c = ok_through c.opened.result c.opened.ensures.reads (λ x here.
-      let there = was_there (TheSign OpenParenthesis) c.args.tokens.now _ c.eat_sign.new.tokens c.eat_sign.ensures.eaten c.if-not-eat_sign.false in
-      arguments_read c.args.self.now _ _ _ _ there (rw c.skip_lines.ensures.rest at here))
+    let there = was_there (TheSign OpenParenthesis) c.args.tokens.now _ c.eat_sign.new.tokens c.eat_sign.ensures.eaten c.if-not-eat_sign.false in
+    arguments_read c.args.self.now _ _ _ _ there (rw c.skip_lines.ensures.rest at here))
 
 pub returns-clause-shorter : goal.returns-clause-shorter
 returns-clause-shorter c = ok_through c.opened.result c.opened.ensures.shorter (λ x less. omega (arith, less, c.eat_sign.ensures.shorter, c.skip_lines.ensures.shorter))

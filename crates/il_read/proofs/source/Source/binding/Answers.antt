@@ -14,8 +14,8 @@ returns-in_err-word-clause-refused c =
 
 pub returns-clause-refused : goal.returns-clause-refused
 returns-clause-refused c = err_through c.bound.result c.bound.ensures.refused (λ e bad.
-      (behind loose (λ b. SpellsBound c.args.self.now b) (word_sure c.args.self.now word.With) c.in_ok-word.ensures.reads
-      (rw c.skip_lines.ensures.rest at bad)))
+    (behind loose (λ b. SpellsBound c.args.self.now b) (word_sure c.args.self.now word.With) c.in_ok-word.ensures.reads
+    (rw c.skip_lines.ensures.rest at bad)))
 
 pub returns-clause-reads : goal.returns-clause-reads
 returns-clause-reads c = ok_through c.bound.result c.bound.ensures.reads (λ x here.

@@ -19,13 +19,13 @@ returns-in_err-word-clause-refused c =
 
 pub returns-clause-refused : goal.returns-clause-refused
 returns-clause-refused c = err_through c.scalar.result c.scalar.ensures.refused (λ e bad.
-      (behind loose (λ s. TheWord c.args.self.now word.Of ⋯ SpellsScalar c.args.self.now s) (sign_sure CloseBracket) c.in_ok-sign.ensures.reads
-      (behind loose (λ s. SpellsScalar c.args.self.now s) (word_sure c.args.self.now word.Of) (rw c.skip_lines.ensures.rest at c.in_ok-word.ensures.reads)
-      (rw c.skip_lines-2.ensures.rest at bad))))
+    (behind loose (λ s. TheWord c.args.self.now word.Of ⋯ SpellsScalar c.args.self.now s) (sign_sure CloseBracket) c.in_ok-sign.ensures.reads
+    (behind loose (λ s. SpellsScalar c.args.self.now s) (word_sure c.args.self.now word.Of) (rw c.skip_lines.ensures.rest at c.in_ok-word.ensures.reads)
+    (rw c.skip_lines-2.ensures.rest at bad))))
 
 pub returns-clause-reads : goal.returns-clause-reads
 returns-clause-reads c = ok_through c.scalar.result c.scalar.ensures.reads (λ x here.
-      record { found = (_, c.in_ok-sign.ensures.reads.found, (_, (rw c.skip_lines.ensures.rest at c.in_ok-word.ensures.reads).found, (rw c.skip_lines-2.ensures.rest at here).found)) })
+    record { found = (_, c.in_ok-sign.ensures.reads.found, (_, (rw c.skip_lines.ensures.rest at c.in_ok-word.ensures.reads).found, (rw c.skip_lines-2.ensures.rest at here).found)) })
 
 pub returns-clause-shorter : goal.returns-clause-shorter
 returns-clause-shorter c = ok_through c.scalar.result c.scalar.ensures.shorter (λ x less. omega (arith, less, c.in_ok-sign.ensures.shorter, c.skip_lines.ensures.shorter, c.in_ok-word.ensures.shorter, c.skip_lines-2.ensures.shorter))

@@ -19,14 +19,14 @@ returns-in_err-limits-clause-refused c =
 
 pub returns-clause-refused : goal.returns-clause-refused
 returns-clause-refused c = err_through c.closed.result c.closed.ensures.misses (λ e bad.
-      (behind loose (λ s. ANumber s.lower ⋯ TheSign Range ⋯ ANumber s.upper ⋯ TheSign CloseParenthesis) (sign_sure OpenParenthesis) c.in_ok-sign.ensures.reads
-      (range_refused (λ s. s) (λ s. TheSign CloseParenthesis)
-      (later (λ s. s) loose (λ s. TheSign CloseParenthesis) range_one (rw c.skip_lines.ensures.rest at c.in_ok-limits.ensures.reads) (last_missing (rw c.skip_lines-2.ensures.rest at bad))))))
+    (behind loose (λ s. ANumber s.lower ⋯ TheSign Range ⋯ ANumber s.upper ⋯ TheSign CloseParenthesis) (sign_sure OpenParenthesis) c.in_ok-sign.ensures.reads
+    (range_refused (λ s. s) (λ s. TheSign CloseParenthesis)
+    (later (λ s. s) loose (λ s. TheSign CloseParenthesis) range_one (rw c.skip_lines.ensures.rest at c.in_ok-limits.ensures.reads) (last_missing (rw c.skip_lines-2.ensures.rest at bad))))))
 
 pub returns-clause-reads : goal.returns-clause-reads
 returns-clause-reads c = ok_both c.closed.result c.closed.ensures.value c.closed.ensures.stands (λ x same end. rw same
-      (let r = (rw (c.skip_lines.ensures.rest) at c.in_ok-limits.ensures.reads).found in
-      record { found = (_, c.in_ok-sign.ensures.reads.found, (r.0, r.1, (r.2.0, r.2.1, (_, r.2.2, (rw c.skip_lines-2.ensures.rest at end).found)))) }))
+    (let r = (rw (c.skip_lines.ensures.rest) at c.in_ok-limits.ensures.reads).found in
+    record { found = (_, c.in_ok-sign.ensures.reads.found, (r.0, r.1, (r.2.0, r.2.1, (_, r.2.2, (rw c.skip_lines-2.ensures.rest at end).found)))) }))
 
 pub returns-clause-shorter : goal.returns-clause-shorter
 returns-clause-shorter c = ok_through c.closed.result c.closed.ensures.shorter (λ x less. omega (arith, less, c.in_ok-sign.ensures.shorter, c.skip_lines.ensures.shorter, c.in_ok-limits.ensures.shorter, c.skip_lines-2.ensures.shorter))

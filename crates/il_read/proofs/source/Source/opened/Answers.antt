@@ -18,13 +18,13 @@ returns-in_err-arguments-clause-refused c =
 
 pub returns-clause-refused : goal.returns-clause-refused
 returns-clause-refused c = err_through c.ended.result c.ended.ensures.misses (λ e bad.
-      let none = was_missing (TheSign CloseParenthesis) c.args.tokens.now _ c.eat_sign.new.tokens c.eat_sign.ensures.eaten c.if-eat_sign.false in
-      (unended_refused c.args.self.now _ _ _ _ none.1 (rw none.0 at c.in_ok-arguments.ensures.reads) bad))
+    let none = was_missing (TheSign CloseParenthesis) c.args.tokens.now _ c.eat_sign.new.tokens c.eat_sign.ensures.eaten c.if-eat_sign.false in
+    (unended_refused c.args.self.now _ _ _ _ none.1 (rw none.0 at c.in_ok-arguments.ensures.reads) bad))
 
 pub returns-clause-reads : goal.returns-clause-reads
 returns-clause-reads c = ok_both c.ended.result c.ended.ensures.value c.ended.ensures.stands (λ x same end. rw same
-      (let none = was_missing (TheSign CloseParenthesis) c.args.tokens.now _ c.eat_sign.new.tokens c.eat_sign.ensures.eaten c.if-eat_sign.false in
-      inside_read c.args.self.now _ _ _ _ (rw (none.0) at c.in_ok-arguments.ensures.reads) end))
+    (let none = was_missing (TheSign CloseParenthesis) c.args.tokens.now _ c.eat_sign.new.tokens c.eat_sign.ensures.eaten c.if-eat_sign.false in
+    inside_read c.args.self.now _ _ _ _ (rw (none.0) at c.in_ok-arguments.ensures.reads) end))
 
 pub returns-clause-shorter : goal.returns-clause-shorter
 returns-clause-shorter c = ok_through c.ended.result c.ended.ensures.shorter (λ x less. omega (arith, less, c.eat_sign.ensures.shorter, c.in_ok-arguments.ensures.shorter))

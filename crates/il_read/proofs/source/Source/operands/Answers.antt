@@ -5,8 +5,8 @@ use Rattle.il_read.proofs.source.Source.operands.Goals as goal
 
 pub returns-clause-refused : goal.returns-clause-refused
 returns-clause-refused c = err_through c.some_operands.result c.some_operands.ensures.refused (λ e bad.
-      (listed_refused c.args.self.now _ _ (λ e. c.in_default.not-LineEnd (c.lead.ensures ∙ e)) bad))
+    (listed_refused c.args.self.now _ _ (λ e. c.in_default.not-LineEnd (c.lead.ensures ∙ e)) bad))
 
 pub returns-clause-reads : goal.returns-clause-reads
 returns-clause-reads c = ok_through c.some_operands.result c.some_operands.ensures.reads (λ x here.
-      listed_read c.args.self.now _ _ _ here)
+    listed_read c.args.self.now _ _ _ here)

@@ -6,11 +6,11 @@ use Rattle.il_read.proofs.source.Source.operate.Goals as goal
 
 pub returns-clause-refused : goal.returns-clause-refused
 returns-clause-refused c = err_through c.work.result c.work.ensures.refused (λ e bad.
-      (work_refused c.args.self.now _ _ _ _ _ (inl (word_there c.args.self.now _ _ c.requires)) (rw c.advance.ensures.rest at bad)))
+    (work_refused c.args.self.now _ _ _ _ _ (inl (word_there c.args.self.now _ _ c.requires)) (rw c.advance.ensures.rest at bad)))
 
 pub returns-clause-reads : goal.returns-clause-reads
 returns-clause-reads c = ok_through c.work.result c.work.ensures.reads (λ x here.
-      work_read c.args.self.now _ _ _ _ _ _ (inl (word_there c.args.self.now _ _ c.requires)) (rw c.advance.ensures.rest at here))
+    work_read c.args.self.now _ _ _ _ _ _ (inl (word_there c.args.self.now _ _ c.requires)) (rw c.advance.ensures.rest at here))
 
 pub returns-clause-shorter : goal.returns-clause-shorter
 returns-clause-shorter c = ok_through c.work.result c.work.ensures.shorter (λ x less. omega (arith, less, c.advance.ensures.shorter))

@@ -11,11 +11,11 @@ returns-in_err-program-clause-refused c = up _ c.from_residual.ensures.1 (first 
 
 pub returns-clause-refused : goal.returns-clause-refused
 returns-clause-refused c = err_through c.closed.result c.closed.ensures.misses (λ e bad.
-      (later (λ n. n) loose (λ n. TheSign Semicolon) (the_name_one c.args.self.now) c.in_ok-program.ensures.reads (last_missing (rw c.skip_lines.ensures.rest at bad))))
+    (later (λ n. n) loose (λ n. TheSign Semicolon) (the_name_one c.args.self.now) c.in_ok-program.ensures.reads (last_missing (rw c.skip_lines.ensures.rest at bad))))
 
 pub returns-clause-reads : goal.returns-clause-reads
 returns-clause-reads c = ok_both c.closed.result c.closed.ensures.value c.closed.ensures.stands (λ x same end. rw same
-      (record { found = (_, c.in_ok-program.ensures.reads.found, (rw c.skip_lines.ensures.rest at end).found) }))
+    (record { found = (_, c.in_ok-program.ensures.reads.found, (rw c.skip_lines.ensures.rest at end).found) }))
 
 pub returns-clause-shorter : goal.returns-clause-shorter
 returns-clause-shorter c = ok_through c.closed.result c.closed.ensures.shorter (λ x less. omega (arith, less, c.in_ok-program.ensures.shorter, c.skip_lines.ensures.shorter))

@@ -20,9 +20,9 @@ returns-in_err-sign-clause-refused c =
 
 pub returns-clause-refused : goal.returns-clause-refused
 returns-clause-refused c = err_through c.sized.result c.sized.ensures.refused (λ e bad.
-      (behind loose (λ s. TheSign Colon ⋯ SpellsSized c.args.self.now s) (text_sure c.args.self.now c.args.word.now) c.in_ok-plain_word.ensures.reads
-      (behind loose (λ s. SpellsSized c.args.self.now s) (sign_sure Colon) (rw c.skip_lines.ensures.rest at c.in_ok-sign.ensures.reads)
-      (rw c.skip_lines-2.ensures.rest at bad))))
+    (behind loose (λ s. TheSign Colon ⋯ SpellsSized c.args.self.now s) (text_sure c.args.self.now c.args.word.now) c.in_ok-plain_word.ensures.reads
+    (behind loose (λ s. SpellsSized c.args.self.now s) (sign_sure Colon) (rw c.skip_lines.ensures.rest at c.in_ok-sign.ensures.reads)
+    (rw c.skip_lines-2.ensures.rest at bad))))
 
 pub returns-clause-reads : goal.returns-clause-reads
 returns-clause-reads c = ok_through c.sized.result c.sized.ensures.reads (λ x here.

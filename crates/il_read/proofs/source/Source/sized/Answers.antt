@@ -21,9 +21,9 @@ returns-in_err-sign-clause-refused c =
 
 pub returns-clause-refused : goal.returns-clause-refused
 returns-clause-refused c = err_through c.placed_decimal.result c.placed_decimal.ensures.refused (λ e bad.
-      (behind loose (λ s. TheSign Assign ⋯ PlacedDecimal c.args.self.now s) (word_sure c.args.self.now (word.Elementary Int)) c.in_ok-word.ensures.reads
-      (behind loose (λ s. PlacedDecimal c.args.self.now s) (sign_sure Assign) (rw c.skip_lines.ensures.rest at c.in_ok-sign.ensures.reads)
-      (rw c.skip_lines-2.ensures.rest at bad))))
+    (behind loose (λ s. TheSign Assign ⋯ PlacedDecimal c.args.self.now s) (word_sure c.args.self.now (word.Elementary Int)) c.in_ok-word.ensures.reads
+    (behind loose (λ s. PlacedDecimal c.args.self.now s) (sign_sure Assign) (rw c.skip_lines.ensures.rest at c.in_ok-sign.ensures.reads)
+    (rw c.skip_lines-2.ensures.rest at bad))))
 
 pub returns-clause-reads : goal.returns-clause-reads
 returns-clause-reads c = ok_through c.placed_decimal.result c.placed_decimal.ensures.reads (λ x here.

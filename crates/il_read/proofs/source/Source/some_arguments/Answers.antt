@@ -30,13 +30,13 @@ pub returns-then-not-eat_sign-clause-refused : goal.returns-then-not-eat_sign-cl
 returns-then-not-eat_sign-clause-refused c =
     let none = was_missing (TheSign Comma) c.skip_lines.new.self _ c.eat_sign.new.tokens c.eat_sign.ensures.eaten c.if-not-eat_sign.true in
     err_through c.closed.result c.closed.ensures.misses (λ e bad.
-      (list_end_refused _ _ _ (argument_one c.args.self.now) _ _ _ _ _ _ c.arguments.invariant.1 c.in_ok-argument.ensures.reads (rw c.skip_lines.ensures.rest at none.1) (rw c.skip_lines.ensures.rest at (rw none.0 at bad))))
+    (list_end_refused _ _ _ (argument_one c.args.self.now) _ _ _ _ _ _ c.arguments.invariant.1 c.in_ok-argument.ensures.reads (rw c.skip_lines.ensures.rest at none.1) (rw c.skip_lines.ensures.rest at (rw none.0 at bad))))
 
 pub returns-then-not-eat_sign-clause-reads : goal.returns-then-not-eat_sign-clause-reads
 returns-then-not-eat_sign-clause-reads c =
     let none = was_missing (TheSign Comma) c.skip_lines.new.self _ c.eat_sign.new.tokens c.eat_sign.ensures.eaten c.if-not-eat_sign.true in
     ok_both c.closed.result c.closed.ensures.value c.closed.ensures.stands (λ x same end.
-      rw (same, c.in_ok-push.ensures.ok) (list_ended _ _ _ _ _ _ _ _ _ c.arguments.invariant.1 c.in_ok-argument.ensures.reads (rw c.skip_lines.ensures.rest at (rw none.0 at end))))
+    rw (same, c.in_ok-push.ensures.ok) (list_ended _ _ _ _ _ _ _ _ _ c.arguments.invariant.1 c.in_ok-argument.ensures.reads (rw c.skip_lines.ensures.rest at (rw none.0 at end))))
 
 pub returns-then-not-eat_sign-clause-shorter : goal.returns-then-not-eat_sign-clause-shorter
 returns-then-not-eat_sign-clause-shorter c = ok_through c.closed.result c.closed.ensures.shorter (λ x less. omega (arith, less, c.arguments.invariant.0, c.in_ok-argument.ensures.shorter, c.eat_sign.ensures.shorter, c.skip_lines.ensures.shorter))

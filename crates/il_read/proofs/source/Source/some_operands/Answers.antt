@@ -29,13 +29,13 @@ pub returns-then-not-eat_sign-clause-refused : goal.returns-then-not-eat_sign-cl
 returns-then-not-eat_sign-clause-refused c =
     let none = was_missing (TheSign Comma) _ _ c.eat_sign.new.tokens c.eat_sign.ensures.eaten c.if-not-eat_sign.true in
     err_through c.ended.result c.ended.ensures.misses (λ e bad.
-      (list_end_refused _ _ _ (operand_one c.args.self.now tight) _ _ _ _ _ _ c.operands.invariant.1 c.in_ok-operand.ensures.reads none.1 (rw none.0 at bad)))
+    (list_end_refused _ _ _ (operand_one c.args.self.now tight) _ _ _ _ _ _ c.operands.invariant.1 c.in_ok-operand.ensures.reads none.1 (rw none.0 at bad)))
 
 pub returns-then-not-eat_sign-clause-reads : goal.returns-then-not-eat_sign-clause-reads
 returns-then-not-eat_sign-clause-reads c =
     let none = was_missing (TheSign Comma) _ _ c.eat_sign.new.tokens c.eat_sign.ensures.eaten c.if-not-eat_sign.true in
     ok_both c.ended.result c.ended.ensures.value c.ended.ensures.stands (λ x same end.
-      rw (same, c.in_ok-push.ensures.ok) (list_ended _ _ _ _ _ _ _ _ _ c.operands.invariant.1 c.in_ok-operand.ensures.reads (rw none.0 at end)))
+    rw (same, c.in_ok-push.ensures.ok) (list_ended _ _ _ _ _ _ _ _ _ c.operands.invariant.1 c.in_ok-operand.ensures.reads (rw none.0 at end)))
 
 pub returns-then-not-eat_sign-clause-shorter : goal.returns-then-not-eat_sign-clause-shorter
 returns-then-not-eat_sign-clause-shorter c = ok_through c.ended.result c.ended.ensures.shorter (λ x less. omega (arith, less, c.operands.invariant.0, c.in_ok-operand.ensures.shorter, c.eat_sign.ensures.shorter))

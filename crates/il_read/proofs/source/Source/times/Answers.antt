@@ -27,10 +27,10 @@ returns-in_err-sign-2-clause-refused c =
 
 pub returns-clause-refused : goal.returns-clause-refused
 returns-clause-refused c = err_through c.schedule.result c.schedule.ensures.refused (λ e bad.
-      (behind loose (λ x. TheWord c.args.self.now word.Interval ⋯ TheSign Assign ⋯ SpellsSchedule c.args.self.now x) (sign_sure OpenParenthesis) c.in_ok-sign.ensures.reads
-      (behind loose (λ x. TheSign Assign ⋯ SpellsSchedule c.args.self.now x) (word_sure c.args.self.now word.Interval) (rw c.skip_lines.ensures.rest at c.in_ok-word.ensures.reads)
-      (behind loose (λ x. SpellsSchedule c.args.self.now x) (sign_sure Assign) (rw c.skip_lines-2.ensures.rest at c.in_ok-sign-2.ensures.reads)
-      (rw c.skip_lines-3.ensures.rest at bad)))))
+    (behind loose (λ x. TheWord c.args.self.now word.Interval ⋯ TheSign Assign ⋯ SpellsSchedule c.args.self.now x) (sign_sure OpenParenthesis) c.in_ok-sign.ensures.reads
+    (behind loose (λ x. TheSign Assign ⋯ SpellsSchedule c.args.self.now x) (word_sure c.args.self.now word.Interval) (rw c.skip_lines.ensures.rest at c.in_ok-word.ensures.reads)
+    (behind loose (λ x. SpellsSchedule c.args.self.now x) (sign_sure Assign) (rw c.skip_lines-2.ensures.rest at c.in_ok-sign-2.ensures.reads)
+    (rw c.skip_lines-3.ensures.rest at bad)))))
 
 pub returns-clause-reads : goal.returns-clause-reads
 returns-clause-reads c = ok_through c.schedule.result c.schedule.ensures.reads (λ x here.
