@@ -24,8 +24,7 @@ impl<'t> Source<'t> {
             let operand = self.operand(tokens, Gap::Tight)?;
             operands.push(operand)?;
             if !self.eat_sign(tokens, Sign::Comma) {
-                self.line_end(tokens)?;
-                return Ok(operands);
+                return self.ended(tokens, operands);
             }
         }
     }
@@ -41,7 +40,7 @@ impl<'t> Source<'t> {
             tokens.advance();
             return Ok(Items::new(self.alloc()));
         }
-        Ok(self.some_operands(tokens)?)
+        self.some_operands(tokens)
     }
 
     /// Arguments with commas between them, and the parenthesis that closes.
@@ -56,8 +55,7 @@ impl<'t> Source<'t> {
             arguments.push(argument)?;
             tokens.skip_lines();
             if !self.eat_sign(tokens, Sign::Comma) {
-                self.sign(tokens, Sign::CloseParenthesis)?;
-                return Ok(arguments);
+                return self.closed(tokens, Sign::CloseParenthesis, arguments);
             }
             tokens.skip_lines();
         }
@@ -74,8 +72,7 @@ impl<'t> Source<'t> {
             return Ok(Items::new(self.alloc()));
         }
         let arguments = self.some_arguments(tokens)?;
-        self.line_end(tokens)?;
-        Ok(arguments)
+        self.ended(tokens, arguments)
     }
 
     /// The arguments of a call, which may be none, with or without parentheses, and the end of the line.
@@ -89,7 +86,7 @@ impl<'t> Source<'t> {
             return Ok(Items::new(self.alloc()));
         }
         tokens.skip_lines();
-        Ok(self.opened(tokens)?)
+        self.opened(tokens)
     }
 
     /// The instance that is called, and its arguments.

@@ -156,7 +156,7 @@ impl<'t> Source<'t> {
         tokens.skip_lines();
         self.sign(tokens, Sign::Assign)?;
         tokens.skip_lines();
-        Ok(self.placed_decimal(tokens)?)
+        self.placed_decimal(tokens)
     }
 
     /// CARS, FLOORS or SLOTS, its type and its value.
@@ -169,7 +169,7 @@ impl<'t> Source<'t> {
         tokens.skip_lines();
         self.sign(tokens, Sign::Colon)?;
         tokens.skip_lines();
-        Ok(self.sized(tokens)?)
+        self.sized(tokens)
     }
 
     // The priority of a task.
@@ -216,7 +216,7 @@ impl<'t> Source<'t> {
         tokens.skip_lines();
         self.sign(tokens, Sign::Assign)?;
         tokens.skip_lines();
-        Ok(self.schedule(tokens)?)
+        self.schedule(tokens)
     }
 
     /// A reserved word with its place.
@@ -261,8 +261,7 @@ impl<'t> Source<'t> {
     {
         let program = self.named(tokens)?;
         tokens.skip_lines();
-        self.sign(tokens, Sign::Semicolon)?;
-        Ok(program)
+        self.closed(tokens, Sign::Semicolon, program)
     }
 
     // The names of a task and a program.
@@ -287,7 +286,7 @@ impl<'t> Source<'t> {
     {
         self.word(tokens, Keyword::With)?;
         tokens.skip_lines();
-        Ok(self.bound(tokens)?)
+        self.bound(tokens)
     }
 
     /// A PROGRAM line.

@@ -1,7 +1,9 @@
+use Rattle.std.proofs.Common.{arith}
 use Rattle.il_spec.specs.declared.token.Sign.TheVariants.{OpenParenthesis}
 use Rattle.il_spec.specs.Grammar.{TheSign}
 use Rattle.il_read.proofs.Chain.{up, was_there, was_missing}
 use Rattle.il_read.proofs.Instructions.{none_opens, opened_refused, arguments_read}
+use Rattle.il_read.proofs.Through.{ok_through, err_through}
 use Rattle.il_read.proofs.source.Source.arguments.Goals as goal
 
 pub returns-in_err-line_end-clause-refused : goal.returns-in_err-line_end-clause-refused
@@ -9,12 +11,15 @@ returns-in_err-line_end-clause-refused c =
     let none = was_missing (TheSign OpenParenthesis) c.args.tokens.now _ c.eat_sign.new.tokens c.eat_sign.ensures.eaten c.if-not-eat_sign.true in
     up _ c.from_residual.ensures.1 (none_opens c.args.self.now _ _ none.1 (rw none.0 at c.in_err-line_end.ensures.refused))
 
-pub returns-in_err-opened-clause-refused : goal.returns-in_err-opened-clause-refused
-returns-in_err-opened-clause-refused c =
+pub returns-clause-refused : goal.returns-clause-refused
+returns-clause-refused c = err_through c.opened.result c.opened.ensures.refused (λ e bad.
     let there = was_there (TheSign OpenParenthesis) c.args.tokens.now _ c.eat_sign.new.tokens c.eat_sign.ensures.eaten c.if-not-eat_sign.false in
-    up _ c.from_residual-in_err-opened.ensures.1 (opened_refused c.args.self.now _ _ _ there (rw c.skip_lines.ensures.rest at c.in_err-opened.ensures.refused))
+    (opened_refused c.args.self.now _ _ _ there (rw c.skip_lines.ensures.rest at bad)))
 
 pub returns-clause-reads : goal.returns-clause-reads
-returns-clause-reads c =
+returns-clause-reads c = ok_through c.opened.result c.opened.ensures.reads (λ x here.
     let there = was_there (TheSign OpenParenthesis) c.args.tokens.now _ c.eat_sign.new.tokens c.eat_sign.ensures.eaten c.if-not-eat_sign.false in
-    arguments_read c.args.self.now _ _ _ _ there (rw c.skip_lines.ensures.rest at c.in_ok-opened.ensures.reads)
+    arguments_read c.args.self.now _ _ _ _ there (rw c.skip_lines.ensures.rest at here))
+
+pub returns-clause-shorter : goal.returns-clause-shorter
+returns-clause-shorter c = ok_through c.opened.result c.opened.ensures.shorter (λ x less. omega (arith, less, c.eat_sign.ensures.shorter, c.skip_lines.ensures.shorter))

@@ -1,8 +1,10 @@
+use Rattle.std.proofs.Common.{arith}
 use Rattle.il_spec.specs.declared.token.Sign.TheVariants.{CloseBracket}
 use Rattle.il_spec.specs.declared.keyword.Keyword.TheVariants as word
 use Rattle.il_spec.specs.Grammar.{loose, ◌⋯◌, TheWord, SpellsScalar}
 use Rattle.il_grammar.proofs.Leads.{word_sure, sign_sure}
-use Rattle.il_read.proofs.Chain.{up, first_missing, behind, part}
+use Rattle.il_read.proofs.Chain.{up, first_missing, behind}
+use Rattle.il_read.proofs.Through.{ok_through, err_through}
 use Rattle.il_read.proofs.source.Source.element_type.Goals as goal
 
 pub returns-in_err-sign-clause-refused : goal.returns-in_err-sign-clause-refused
@@ -15,13 +17,15 @@ returns-in_err-word-clause-refused c =
     (behind loose (λ s. TheWord c.args.self.now word.Of ⋯ SpellsScalar c.args.self.now s) (sign_sure CloseBracket) c.in_ok-sign.ensures.reads
     (first_missing loose (λ s. SpellsScalar c.args.self.now s) (rw c.skip_lines.ensures.rest at c.in_err-word.ensures.refused)))
 
-pub returns-in_err-scalar-clause-refused : goal.returns-in_err-scalar-clause-refused
-returns-in_err-scalar-clause-refused c =
-    up _ c.from_residual-in_err-scalar.ensures.1
+pub returns-clause-refused : goal.returns-clause-refused
+returns-clause-refused c = err_through c.scalar.result c.scalar.ensures.refused (λ e bad.
     (behind loose (λ s. TheWord c.args.self.now word.Of ⋯ SpellsScalar c.args.self.now s) (sign_sure CloseBracket) c.in_ok-sign.ensures.reads
     (behind loose (λ s. SpellsScalar c.args.self.now s) (word_sure c.args.self.now word.Of) (rw c.skip_lines.ensures.rest at c.in_ok-word.ensures.reads)
-    (part (λ s. s) (rw c.skip_lines-2.ensures.rest at c.in_err-scalar.ensures.refused))))
+    (rw c.skip_lines-2.ensures.rest at bad))))
 
 pub returns-clause-reads : goal.returns-clause-reads
-returns-clause-reads c =
-    record { found = (_, c.in_ok-sign.ensures.reads.found, (_, (rw c.skip_lines.ensures.rest at c.in_ok-word.ensures.reads).found, (rw c.skip_lines-2.ensures.rest at c.in_ok-scalar.ensures.reads).found)) }
+returns-clause-reads c = ok_through c.scalar.result c.scalar.ensures.reads (λ x here.
+    record { found = (_, c.in_ok-sign.ensures.reads.found, (_, (rw c.skip_lines.ensures.rest at c.in_ok-word.ensures.reads).found, (rw c.skip_lines-2.ensures.rest at here).found)) })
+
+pub returns-clause-shorter : goal.returns-clause-shorter
+returns-clause-shorter c = ok_through c.scalar.result c.scalar.ensures.shorter (λ x less. omega (arith, less, c.in_ok-sign.ensures.shorter, c.skip_lines.ensures.shorter, c.in_ok-word.ensures.shorter, c.skip_lines-2.ensures.shorter))

@@ -1,4 +1,4 @@
-use Rattle.std.proofs.Common.{codes}
+use Rattle.std.proofs.Common.{arith, codes}
 use Rattle.il_spec.specs.declared.keyword.Keyword.TheVariants as word
 use Rattle.il_spec.specs.Grammar.{loose, ◌⋯◌, TheWord, SpellsSize}
 use Rattle.il_grammar.proofs.Configurations.{size_one}
@@ -25,3 +25,6 @@ returns-in_err-word-clause-refused c =
 
 pub returns-clause-reads : goal.returns-clause-reads
 returns-clause-reads c = record { found = (_, c.in_ok-floors.ensures.reads.found, (_, (rw c.skip_lines.ensures.rest at c.in_ok-slots.ensures.reads).found, (rw c.skip_lines-2.ensures.rest at c.in_ok-word.ensures.reads).found)) }
+
+pub returns-clause-shorter : goal.returns-clause-shorter
+returns-clause-shorter c = omega (arith, c.in_ok-floors.ensures.shorter, c.skip_lines.ensures.shorter, c.in_ok-slots.ensures.shorter, c.skip_lines-2.ensures.shorter, c.in_ok-word.ensures.shorter)

@@ -1,8 +1,10 @@
+use Rattle.std.proofs.Common.{arith}
 use Rattle.il_spec.specs.declared.token.Sign.TheVariants.{Range, OpenParenthesis, CloseParenthesis}
 use Rattle.il_spec.specs.Grammar.{loose, ◌⋯◌, TheSign, ANumber}
 use Rattle.il_grammar.proofs.Leads.{sign_sure}
 use Rattle.il_read.proofs.Chain.{up, first, later, first_missing, last_missing, behind}
 use Rattle.il_read.proofs.Alternatives.{range_one, range_refused}
+use Rattle.il_read.proofs.Through.{ok_both, ok_through, err_through}
 use Rattle.il_read.proofs.source.Source.limits.Goals as goal
 
 pub returns-in_err-sign-clause-refused : goal.returns-in_err-sign-clause-refused
@@ -15,14 +17,16 @@ returns-in_err-limits-clause-refused c =
     (behind loose (λ s. ANumber s.lower ⋯ TheSign Range ⋯ ANumber s.upper ⋯ TheSign CloseParenthesis) (sign_sure OpenParenthesis) c.in_ok-sign.ensures.reads
     (range_refused (λ s. s) (λ s. TheSign CloseParenthesis) (first (λ s. s) loose (λ s. TheSign CloseParenthesis) (rw c.skip_lines.ensures.rest at c.in_err-limits.ensures.refused))))
 
-pub returns-in_err-sign-2-clause-refused : goal.returns-in_err-sign-2-clause-refused
-returns-in_err-sign-2-clause-refused c =
-    up _ c.from_residual-in_err-sign-2.ensures.1
+pub returns-clause-refused : goal.returns-clause-refused
+returns-clause-refused c = err_through c.closed.result c.closed.ensures.misses (λ e bad.
     (behind loose (λ s. ANumber s.lower ⋯ TheSign Range ⋯ ANumber s.upper ⋯ TheSign CloseParenthesis) (sign_sure OpenParenthesis) c.in_ok-sign.ensures.reads
     (range_refused (λ s. s) (λ s. TheSign CloseParenthesis)
-    (later (λ s. s) loose (λ s. TheSign CloseParenthesis) range_one (rw c.skip_lines.ensures.rest at c.in_ok-limits.ensures.reads) (last_missing (rw c.skip_lines-2.ensures.rest at c.in_err-sign-2.ensures.refused)))))
+    (later (λ s. s) loose (λ s. TheSign CloseParenthesis) range_one (rw c.skip_lines.ensures.rest at c.in_ok-limits.ensures.reads) (last_missing (rw c.skip_lines-2.ensures.rest at bad))))))
 
 pub returns-clause-reads : goal.returns-clause-reads
-returns-clause-reads c =
-    let r = (rw c.skip_lines.ensures.rest at c.in_ok-limits.ensures.reads).found in
-    record { found = (_, c.in_ok-sign.ensures.reads.found, (r.0, r.1, (r.2.0, r.2.1, (_, r.2.2, (rw c.skip_lines-2.ensures.rest at c.in_ok-sign-2.ensures.reads).found)))) }
+returns-clause-reads c = ok_both c.closed.result c.closed.ensures.value c.closed.ensures.stands (λ x same end. rw same
+    (let r = (rw (c.skip_lines.ensures.rest) at c.in_ok-limits.ensures.reads).found in
+    record { found = (_, c.in_ok-sign.ensures.reads.found, (r.0, r.1, (r.2.0, r.2.1, (_, r.2.2, (rw c.skip_lines-2.ensures.rest at end).found)))) }))
+
+pub returns-clause-shorter : goal.returns-clause-shorter
+returns-clause-shorter c = ok_through c.closed.result c.closed.ensures.shorter (λ x less. omega (arith, less, c.in_ok-sign.ensures.shorter, c.skip_lines.ensures.shorter, c.in_ok-limits.ensures.shorter, c.skip_lines-2.ensures.shorter))

@@ -1,7 +1,9 @@
+use Rattle.std.proofs.Common.{arith}
 use Rattle.il_spec.specs.declared.token.Sign.TheVariants.{CloseParenthesis}
 use Rattle.il_spec.specs.Grammar.{TheSign}
 use Rattle.il_read.proofs.Chain.{up, was_there, was_missing}
 use Rattle.il_read.proofs.Instructions.{closed_refused, inside_refused, unended_refused, inside_read}
+use Rattle.il_read.proofs.Through.{ok_both, ok_through, err_through}
 use Rattle.il_read.proofs.source.Source.opened.Goals as goal
 
 pub returns-in_err-line_end-clause-refused : goal.returns-in_err-line_end-clause-refused
@@ -14,12 +16,15 @@ returns-in_err-arguments-clause-refused c =
     let none = was_missing (TheSign CloseParenthesis) c.args.tokens.now _ c.eat_sign.new.tokens c.eat_sign.ensures.eaten c.if-eat_sign.false in
     up _ c.from_residual-in_err-arguments.ensures.1 (inside_refused c.args.self.now _ _ none.1 (rw none.0 at c.in_err-arguments.ensures.refused))
 
-pub returns-in_err-line_end-2-clause-refused : goal.returns-in_err-line_end-2-clause-refused
-returns-in_err-line_end-2-clause-refused c =
+pub returns-clause-refused : goal.returns-clause-refused
+returns-clause-refused c = err_through c.ended.result c.ended.ensures.misses (λ e bad.
     let none = was_missing (TheSign CloseParenthesis) c.args.tokens.now _ c.eat_sign.new.tokens c.eat_sign.ensures.eaten c.if-eat_sign.false in
-    up _ c.from_residual-in_err-line_end-2.ensures.1 (unended_refused c.args.self.now _ _ _ _ none.1 (rw none.0 at c.in_ok-arguments.ensures.reads) c.in_err-line_end-2.ensures.refused)
+    (unended_refused c.args.self.now _ _ _ _ none.1 (rw none.0 at c.in_ok-arguments.ensures.reads) bad))
 
 pub returns-clause-reads : goal.returns-clause-reads
-returns-clause-reads c =
-    let none = was_missing (TheSign CloseParenthesis) c.args.tokens.now _ c.eat_sign.new.tokens c.eat_sign.ensures.eaten c.if-eat_sign.false in
-    inside_read c.args.self.now _ _ _ _ (rw none.0 at c.in_ok-arguments.ensures.reads) c.in_ok-line_end-2.ensures.reads
+returns-clause-reads c = ok_both c.ended.result c.ended.ensures.value c.ended.ensures.stands (λ x same end. rw same
+    (let none = was_missing (TheSign CloseParenthesis) c.args.tokens.now _ c.eat_sign.new.tokens c.eat_sign.ensures.eaten c.if-eat_sign.false in
+    inside_read c.args.self.now _ _ _ _ (rw (none.0) at c.in_ok-arguments.ensures.reads) end))
+
+pub returns-clause-shorter : goal.returns-clause-shorter
+returns-clause-shorter c = ok_through c.ended.result c.ended.ensures.shorter (λ x less. omega (arith, less, c.eat_sign.ensures.shorter, c.in_ok-arguments.ensures.shorter))

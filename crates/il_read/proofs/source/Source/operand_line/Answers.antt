@@ -1,14 +1,19 @@
+use Rattle.std.proofs.Common.{arith}
 use Rattle.il_spec.specs.Grammar.{tight, TheLineEnd}
 use Rattle.il_grammar.proofs.Operands.{operand_one}
 use Rattle.il_read.proofs.Chain.{up, first, later, last_missing}
+use Rattle.il_read.proofs.Through.{ok_both, ok_through, err_through}
 use Rattle.il_read.proofs.source.Source.operand_line.Goals as goal
 
 pub returns-in_err-operand-clause-refused : goal.returns-in_err-operand-clause-refused
 returns-in_err-operand-clause-refused c = up _ c.from_residual.ensures.1 (first (λ o. o) tight (λ o. TheLineEnd) c.in_err-operand.ensures.refused)
 
-pub returns-in_err-line_end-clause-refused : goal.returns-in_err-line_end-clause-refused
-returns-in_err-line_end-clause-refused c =
-    up _ c.from_residual-in_err-line_end.ensures.1 (later (λ o. o) tight (λ o. TheLineEnd) (operand_one c.args.self.now tight) c.in_ok-operand.ensures.reads (last_missing c.in_err-line_end.ensures.refused))
+pub returns-clause-refused : goal.returns-clause-refused
+returns-clause-refused c = err_through c.ended.result c.ended.ensures.misses (λ e bad. later (λ x. x) tight (λ x. TheLineEnd) (operand_one c.args.self.now tight) c.in_ok-operand.ensures.reads (last_missing bad))
 
 pub returns-clause-reads : goal.returns-clause-reads
-returns-clause-reads c = record { found = (_, c.in_ok-operand.ensures.reads.found, c.in_ok-line_end.ensures.reads.found) }
+returns-clause-reads c = ok_both c.ended.result c.ended.ensures.value c.ended.ensures.stands
+    (λ x same end. record { found = (_, rw same c.in_ok-operand.ensures.reads.found, end.found) })
+
+pub returns-clause-shorter : goal.returns-clause-shorter
+returns-clause-shorter c = ok_through c.ended.result c.ended.ensures.shorter (λ x less. omega (arith, less, c.in_ok-operand.ensures.shorter))

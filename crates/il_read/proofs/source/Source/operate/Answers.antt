@@ -1,12 +1,16 @@
-use Rattle.std.proofs.Common.{inl}
-use Rattle.il_read.proofs.Chain.{up}
+use Rattle.std.proofs.Common.{arith, inl}
 use Rattle.il_read.proofs.Leaves.{word_there}
 use Rattle.il_read.proofs.Instructions.{work_refused, work_read}
+use Rattle.il_read.proofs.Through.{ok_through, err_through}
 use Rattle.il_read.proofs.source.Source.operate.Goals as goal
 
-pub returns-in_err-work-clause-refused : goal.returns-in_err-work-clause-refused
-returns-in_err-work-clause-refused c =
-    up _ c.from_residual.ensures.1 (work_refused c.args.self.now _ _ _ _ _ (inl (word_there c.args.self.now _ _ c.requires)) (rw c.advance.ensures.rest at c.in_err-work.ensures.refused))
+pub returns-clause-refused : goal.returns-clause-refused
+returns-clause-refused c = err_through c.work.result c.work.ensures.refused (λ e bad.
+    (work_refused c.args.self.now _ _ _ _ _ (inl (word_there c.args.self.now _ _ c.requires)) (rw c.advance.ensures.rest at bad)))
 
 pub returns-clause-reads : goal.returns-clause-reads
-returns-clause-reads c = work_read c.args.self.now _ _ _ _ _ _ (inl (word_there c.args.self.now _ _ c.requires)) (rw c.advance.ensures.rest at c.in_ok-work.ensures.reads)
+returns-clause-reads c = ok_through c.work.result c.work.ensures.reads (λ x here.
+    work_read c.args.self.now _ _ _ _ _ _ (inl (word_there c.args.self.now _ _ c.requires)) (rw c.advance.ensures.rest at here))
+
+pub returns-clause-shorter : goal.returns-clause-shorter
+returns-clause-shorter c = ok_through c.work.result c.work.ensures.shorter (λ x less. omega (arith, less, c.advance.ensures.shorter))

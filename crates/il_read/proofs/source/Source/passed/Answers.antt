@@ -1,3 +1,4 @@
+use Rattle.std.proofs.Common.{arith}
 use Rattle.il_spec.specs.declared.token.Sign.TheVariants.{Assign, Arrow}
 use Rattle.il_spec.specs.Grammar.{loose, TheSign, TheName}
 use Rattle.il_grammar.proofs.Leads.{sign_sure}
@@ -25,3 +26,6 @@ pub returns-clause-reads : goal.returns-clause-reads
 returns-clause-reads c =
     let none = was_missing (TheSign Assign) c.args.tokens.now _ c.eat_sign.new.tokens c.eat_sign.ensures.eaten c.if-eat_sign.false in
     record { found = (_, (rw none.0 at c.in_ok-sign.ensures.reads).found, (rw c.skip_lines-2.ensures.rest at c.in_ok-named.ensures.reads).found) }
+
+pub returns-clause-shorter : goal.returns-clause-shorter
+returns-clause-shorter c = omega (arith, c.eat_sign.ensures.shorter, c.in_ok-sign.ensures.shorter, c.skip_lines-2.ensures.shorter, c.in_ok-named.ensures.shorter)

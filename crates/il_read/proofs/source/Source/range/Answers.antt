@@ -1,3 +1,4 @@
+use Rattle.std.proofs.Common.{arith}
 use Rattle.il_spec.specs.declared.token.Sign.TheVariants.{Range}
 use Rattle.il_spec.specs.Grammar.{loose, ◌⋯◌, TheSign, ANumber}
 use Rattle.il_grammar.proofs.Leads.{number_one, sign_sure}
@@ -19,3 +20,6 @@ returns-in_err-upper-clause-refused c =
     (later (λ s. s.lower) loose (λ s. TheSign Range ⋯ ANumber s.upper) number_one c.in_ok-lower.ensures.reads
     (behind loose (λ s. ANumber s.upper) (sign_sure Range) (rw c.skip_lines.ensures.rest at c.in_ok-sign.ensures.reads)
     (part (λ s. s.upper) (rw c.skip_lines-2.ensures.rest at c.in_err-upper.ensures.refused))))
+
+pub returns-clause-shorter : goal.returns-clause-shorter
+returns-clause-shorter c = omega (arith, c.in_ok-lower.ensures.shorter, c.skip_lines.ensures.shorter, c.in_ok-sign.ensures.shorter, c.skip_lines-2.ensures.shorter, c.in_ok-upper.ensures.shorter)

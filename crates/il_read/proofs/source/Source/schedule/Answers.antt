@@ -1,3 +1,4 @@
+use Rattle.std.proofs.Common.{arith}
 use Rattle.il_spec.specs.declared.token.Sign.TheVariants.{Comma}
 use Rattle.il_spec.specs.Grammar.{loose, ◌⋯◌, TheSign}
 use Rattle.il_grammar.proofs.Leads.{sign_sure}
@@ -22,3 +23,6 @@ returns-in_err-priority-clause-refused c =
     (later (λ x. x.0) loose (λ x. TheSign Comma ⋯ SpellsPriority c.args.self.now x.1) interval_one c.in_ok-interval.ensures.reads
     (behind loose (λ x. SpellsPriority c.args.self.now x.1) (sign_sure Comma) (rw c.skip_lines.ensures.rest at c.in_ok-sign.ensures.reads)
     (part (λ x. x.1) (rw c.skip_lines-2.ensures.rest at c.in_err-priority.ensures.refused))))
+
+pub returns-clause-shorter : goal.returns-clause-shorter
+returns-clause-shorter c = omega (arith, c.in_ok-interval.ensures.shorter, c.skip_lines.ensures.shorter, c.in_ok-sign.ensures.shorter, c.skip_lines-2.ensures.shorter, c.in_ok-priority.ensures.shorter)

@@ -1,13 +1,17 @@
-use Rattle.il_read.proofs.Chain.{up}
+use Rattle.std.proofs.Common.{arith}
 use Rattle.il_read.proofs.Instructions.{work_refused, work_read, ampersand_there}
+use Rattle.il_read.proofs.Through.{ok_through, err_through}
 use Rattle.il_read.proofs.source.Source.shortly.Goals as goal
 
-pub returns-in_err-work-clause-refused : goal.returns-in_err-work-clause-refused
-returns-in_err-work-clause-refused c =
+pub returns-clause-refused : goal.returns-clause-refused
+returns-clause-refused c = err_through c.work.result c.work.ensures.refused (λ e bad.
     let there = ampersand_there c.args.self.now _ _ _ _ _ c.in-Some.ensures.1 c.requires (rw c.advance.ensures.rest at c.eat_n-negated.ensures.eaten) in
-    up _ c.from_residual.ensures.1 (work_refused c.args.self.now _ _ _ _ _ there c.in_err-work.ensures.refused)
+    (work_refused c.args.self.now _ _ _ _ _ there bad))
 
 pub returns-clause-reads : goal.returns-clause-reads
-returns-clause-reads c =
+returns-clause-reads c = ok_through c.work.result c.work.ensures.reads (λ x here.
     let there = ampersand_there c.args.self.now _ _ _ _ _ c.in-Some.ensures.1 c.requires (rw c.advance.ensures.rest at c.eat_n-negated.ensures.eaten) in
-    work_read c.args.self.now _ _ _ _ _ _ there c.in_ok-work.ensures.reads
+    work_read c.args.self.now _ _ _ _ _ _ there here)
+
+pub returns-clause-shorter : goal.returns-clause-shorter
+returns-clause-shorter c = ok_through c.work.result c.work.ensures.shorter (λ x less. omega (arith, less, c.advance.ensures.shorter, c.eat_n-negated.ensures.shorter))

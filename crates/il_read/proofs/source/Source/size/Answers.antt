@@ -1,9 +1,11 @@
+use Rattle.std.proofs.Common.{arith}
 use Rattle.il_spec.specs.declared.token.Sign.TheVariants.{Colon}
 use Rattle.il_spec.specs.Grammar.{loose, ◌⋯◌, TheSign}
 use Rattle.il_grammar.proofs.Leads.{sign_sure}
 use Rattle.il_grammar.proofs.Configurations.{text_sure}
 use Rattle.il_read.specs.Settings.{SpellsSized}
-use Rattle.il_read.proofs.Chain.{up, first_missing, behind, part}
+use Rattle.il_read.proofs.Chain.{up, first_missing, behind}
+use Rattle.il_read.proofs.Through.{ok_through, err_through}
 use Rattle.il_read.proofs.source.Source.size.Goals as goal
 
 pub returns-in_err-plain_word-clause-refused : goal.returns-in_err-plain_word-clause-refused
@@ -16,13 +18,15 @@ returns-in_err-sign-clause-refused c =
     (behind loose (λ s. TheSign Colon ⋯ SpellsSized c.args.self.now s) (text_sure c.args.self.now c.args.word.now) c.in_ok-plain_word.ensures.reads
     (first_missing loose (λ s. SpellsSized c.args.self.now s) (rw c.skip_lines.ensures.rest at c.in_err-sign.ensures.refused)))
 
-pub returns-in_err-sized-clause-refused : goal.returns-in_err-sized-clause-refused
-returns-in_err-sized-clause-refused c =
-    up _ c.from_residual-in_err-sized.ensures.1
+pub returns-clause-refused : goal.returns-clause-refused
+returns-clause-refused c = err_through c.sized.result c.sized.ensures.refused (λ e bad.
     (behind loose (λ s. TheSign Colon ⋯ SpellsSized c.args.self.now s) (text_sure c.args.self.now c.args.word.now) c.in_ok-plain_word.ensures.reads
     (behind loose (λ s. SpellsSized c.args.self.now s) (sign_sure Colon) (rw c.skip_lines.ensures.rest at c.in_ok-sign.ensures.reads)
-    (part (λ s. s) (rw c.skip_lines-2.ensures.rest at c.in_err-sized.ensures.refused))))
+    (rw c.skip_lines-2.ensures.rest at bad))))
 
 pub returns-clause-reads : goal.returns-clause-reads
-returns-clause-reads c =
-    record { found = (_, c.in_ok-plain_word.ensures.reads.found, (_, (rw c.skip_lines.ensures.rest at c.in_ok-sign.ensures.reads).found, (rw c.skip_lines-2.ensures.rest at c.in_ok-sized.ensures.reads).found)) }
+returns-clause-reads c = ok_through c.sized.result c.sized.ensures.reads (λ x here.
+    record { found = (_, c.in_ok-plain_word.ensures.reads.found, (_, (rw c.skip_lines.ensures.rest at c.in_ok-sign.ensures.reads).found, (rw c.skip_lines-2.ensures.rest at here).found)) })
+
+pub returns-clause-shorter : goal.returns-clause-shorter
+returns-clause-shorter c = ok_through c.sized.result c.sized.ensures.shorter (λ x less. omega (arith, less, c.in_ok-plain_word.ensures.shorter, c.skip_lines.ensures.shorter, c.in_ok-sign.ensures.shorter, c.skip_lines-2.ensures.shorter))

@@ -1,10 +1,12 @@
+use Rattle.std.proofs.Common.{arith}
 use Rattle.il_spec.specs.declared.token.Sign.TheVariants.{Assign}
 use Rattle.il_spec.specs.declared.keyword.Keyword.TheVariants as word
 use Rattle.il_spec.specs.declared.tree.Elementary.TheVariants.{Int}
 use Rattle.il_spec.specs.Grammar.{loose, ◌⋯◌, TheSign}
 use Rattle.il_grammar.proofs.Leads.{word_sure, sign_sure}
 use Rattle.il_read.specs.Settings.{PlacedDecimal}
-use Rattle.il_read.proofs.Chain.{up, first_missing, behind, part}
+use Rattle.il_read.proofs.Chain.{up, first_missing, behind}
+use Rattle.il_read.proofs.Through.{ok_through, err_through}
 use Rattle.il_read.proofs.source.Source.sized.Goals as goal
 
 pub returns-in_err-word-clause-refused : goal.returns-in_err-word-clause-refused
@@ -17,13 +19,15 @@ returns-in_err-sign-clause-refused c =
     (behind loose (λ s. TheSign Assign ⋯ PlacedDecimal c.args.self.now s) (word_sure c.args.self.now (word.Elementary Int)) c.in_ok-word.ensures.reads
     (first_missing loose (λ s. PlacedDecimal c.args.self.now s) (rw c.skip_lines.ensures.rest at c.in_err-sign.ensures.refused)))
 
-pub returns-in_err-placed_decimal-clause-refused : goal.returns-in_err-placed_decimal-clause-refused
-returns-in_err-placed_decimal-clause-refused c =
-    up _ c.from_residual-in_err-placed_decimal.ensures.1
+pub returns-clause-refused : goal.returns-clause-refused
+returns-clause-refused c = err_through c.placed_decimal.result c.placed_decimal.ensures.refused (λ e bad.
     (behind loose (λ s. TheSign Assign ⋯ PlacedDecimal c.args.self.now s) (word_sure c.args.self.now (word.Elementary Int)) c.in_ok-word.ensures.reads
     (behind loose (λ s. PlacedDecimal c.args.self.now s) (sign_sure Assign) (rw c.skip_lines.ensures.rest at c.in_ok-sign.ensures.reads)
-    (part (λ s. s) (rw c.skip_lines-2.ensures.rest at c.in_err-placed_decimal.ensures.refused))))
+    (rw c.skip_lines-2.ensures.rest at bad))))
 
 pub returns-clause-reads : goal.returns-clause-reads
-returns-clause-reads c =
-    record { found = (_, c.in_ok-word.ensures.reads.found, (_, (rw c.skip_lines.ensures.rest at c.in_ok-sign.ensures.reads).found, (rw c.skip_lines-2.ensures.rest at c.in_ok-placed_decimal.ensures.reads).found)) }
+returns-clause-reads c = ok_through c.placed_decimal.result c.placed_decimal.ensures.reads (λ x here.
+    record { found = (_, c.in_ok-word.ensures.reads.found, (_, (rw c.skip_lines.ensures.rest at c.in_ok-sign.ensures.reads).found, (rw c.skip_lines-2.ensures.rest at here).found)) })
+
+pub returns-clause-shorter : goal.returns-clause-shorter
+returns-clause-shorter c = ok_through c.placed_decimal.result c.placed_decimal.ensures.shorter (λ x less. omega (arith, less, c.in_ok-word.ensures.shorter, c.skip_lines.ensures.shorter, c.in_ok-sign.ensures.shorter, c.skip_lines-2.ensures.shorter))

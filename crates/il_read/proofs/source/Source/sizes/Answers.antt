@@ -1,4 +1,4 @@
-use Rattle.std.proofs.Common.{codes}
+use Rattle.std.proofs.Common.{arith, codes}
 use Rattle.il_spec.specs.declared.keyword.Keyword.TheVariants as word
 use Rattle.il_spec.specs.Grammar.{loose, ◌⋯◌, TheWord, SpellsSize}
 use Rattle.il_grammar.proofs.Leads.{word_sure}
@@ -24,3 +24,6 @@ returns-in_err-others-clause-refused c =
 
 pub returns-clause-reads : goal.returns-clause-reads
 returns-clause-reads c = record { found = (_, c.in_ok-word.ensures.reads.found, (_, (rw c.skip_lines.ensures.rest at c.in_ok-word-2.ensures.reads).found, (_, (rw c.skip_lines-2.ensures.rest at c.in_ok-cars.ensures.reads).found, (rw c.skip_lines-3.ensures.rest at c.in_ok-others.ensures.reads).found))) }
+
+pub returns-clause-shorter : goal.returns-clause-shorter
+returns-clause-shorter c = omega (arith, c.in_ok-word.ensures.shorter, c.skip_lines.ensures.shorter, c.in_ok-word-2.ensures.shorter, c.skip_lines-2.ensures.shorter, c.in_ok-cars.ensures.shorter, c.skip_lines-3.ensures.shorter, c.in_ok-others.ensures.shorter)

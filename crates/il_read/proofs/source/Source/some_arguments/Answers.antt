@@ -5,6 +5,7 @@ use Rattle.il_spec.specs.Grammar.{TheSign}
 use Rattle.il_grammar.proofs.Leads.{sign_sure}
 use Rattle.il_grammar.proofs.Arguments.{argument_one}
 use Rattle.il_read.proofs.Chain.{up, list_starts, list_goes_on, list_item_refused, list_end_refused, list_ended, was_there, was_missing}
+use Rattle.il_read.proofs.Through.{ok_both, ok_through, err_through}
 use Rattle.il_read.proofs.source.Source.some_arguments.Goals as goal
 
 apart : (r s ts : List Token) → TheSign CloseParenthesis ts r → TheSign Comma ts s → ⊥
@@ -25,13 +26,17 @@ arguments-preserved c =
           (list_goes_on _ _ _ (argument_one c.args.self.now) (sign_sure Comma) apart _ _ _ _ _ _ c.arguments.invariant.1 c.in_ok-argument.ensures.reads (rw c.skip_lines.ensures.rest at comma)),
     )
 
-pub returns-in_err-sign-clause-refused : goal.returns-in_err-sign-clause-refused
-returns-in_err-sign-clause-refused c =
+pub returns-then-not-eat_sign-clause-refused : goal.returns-then-not-eat_sign-clause-refused
+returns-then-not-eat_sign-clause-refused c =
     let none = was_missing (TheSign Comma) c.skip_lines.new.self _ c.eat_sign.new.tokens c.eat_sign.ensures.eaten c.if-not-eat_sign.true in
-    up _ c.from_residual-in_err-sign.ensures.1
-    (list_end_refused _ _ _ (argument_one c.args.self.now) _ _ _ _ _ _ c.arguments.invariant.1 c.in_ok-argument.ensures.reads (rw c.skip_lines.ensures.rest at none.1) (rw c.skip_lines.ensures.rest at (rw none.0 at c.in_err-sign.ensures.refused)))
+    err_through c.closed.result c.closed.ensures.misses (λ e bad.
+    (list_end_refused _ _ _ (argument_one c.args.self.now) _ _ _ _ _ _ c.arguments.invariant.1 c.in_ok-argument.ensures.reads (rw c.skip_lines.ensures.rest at none.1) (rw c.skip_lines.ensures.rest at (rw none.0 at bad))))
 
 pub returns-then-not-eat_sign-clause-reads : goal.returns-then-not-eat_sign-clause-reads
 returns-then-not-eat_sign-clause-reads c =
     let none = was_missing (TheSign Comma) c.skip_lines.new.self _ c.eat_sign.new.tokens c.eat_sign.ensures.eaten c.if-not-eat_sign.true in
-    rw c.in_ok-push.ensures.ok (list_ended _ _ _ _ _ _ _ _ _ c.arguments.invariant.1 c.in_ok-argument.ensures.reads (rw c.skip_lines.ensures.rest at (rw none.0 at c.in_ok-sign.ensures.reads)))
+    ok_both c.closed.result c.closed.ensures.value c.closed.ensures.stands (λ x same end.
+    rw (same, c.in_ok-push.ensures.ok) (list_ended _ _ _ _ _ _ _ _ _ c.arguments.invariant.1 c.in_ok-argument.ensures.reads (rw c.skip_lines.ensures.rest at (rw none.0 at end))))
+
+pub returns-then-not-eat_sign-clause-shorter : goal.returns-then-not-eat_sign-clause-shorter
+returns-then-not-eat_sign-clause-shorter c = ok_through c.closed.result c.closed.ensures.shorter (λ x less. omega (arith, less, c.arguments.invariant.0, c.in_ok-argument.ensures.shorter, c.eat_sign.ensures.shorter, c.skip_lines.ensures.shorter))

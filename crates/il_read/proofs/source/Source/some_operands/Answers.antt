@@ -5,6 +5,7 @@ use Rattle.il_spec.specs.Grammar.{tight, TheSign, TheLineEnd}
 use Rattle.il_grammar.proofs.Leads.{sign_sure}
 use Rattle.il_grammar.proofs.Operands.{operand_one}
 use Rattle.il_read.proofs.Chain.{up, list_starts, list_goes_on, list_item_refused, list_end_refused, list_ended, was_there, was_missing}
+use Rattle.il_read.proofs.Through.{ok_both, ok_through, err_through}
 use Rattle.il_read.proofs.source.Source.some_operands.Goals as goal
 
 apart : (r s ts : List Token) → TheLineEnd ts r → TheSign Comma ts s → ⊥
@@ -24,13 +25,17 @@ operands-preserved c =
       rw c.in_ok-push.ensures.ok (list_goes_on _ _ _ (operand_one c.args.self.now tight) (sign_sure Comma) apart _ _ _ _ _ _ c.operands.invariant.1 c.in_ok-operand.ensures.reads comma),
     )
 
-pub returns-in_err-line_end-clause-refused : goal.returns-in_err-line_end-clause-refused
-returns-in_err-line_end-clause-refused c =
+pub returns-then-not-eat_sign-clause-refused : goal.returns-then-not-eat_sign-clause-refused
+returns-then-not-eat_sign-clause-refused c =
     let none = was_missing (TheSign Comma) _ _ c.eat_sign.new.tokens c.eat_sign.ensures.eaten c.if-not-eat_sign.true in
-    up _ c.from_residual-in_err-line_end.ensures.1
-    (list_end_refused _ _ _ (operand_one c.args.self.now tight) _ _ _ _ _ _ c.operands.invariant.1 c.in_ok-operand.ensures.reads none.1 (rw none.0 at c.in_err-line_end.ensures.refused))
+    err_through c.ended.result c.ended.ensures.misses (λ e bad.
+    (list_end_refused _ _ _ (operand_one c.args.self.now tight) _ _ _ _ _ _ c.operands.invariant.1 c.in_ok-operand.ensures.reads none.1 (rw none.0 at bad)))
 
 pub returns-then-not-eat_sign-clause-reads : goal.returns-then-not-eat_sign-clause-reads
 returns-then-not-eat_sign-clause-reads c =
     let none = was_missing (TheSign Comma) _ _ c.eat_sign.new.tokens c.eat_sign.ensures.eaten c.if-not-eat_sign.true in
-    rw c.in_ok-push.ensures.ok (list_ended _ _ _ _ _ _ _ _ _ c.operands.invariant.1 c.in_ok-operand.ensures.reads (rw none.0 at c.in_ok-line_end.ensures.reads))
+    ok_both c.ended.result c.ended.ensures.value c.ended.ensures.stands (λ x same end.
+    rw (same, c.in_ok-push.ensures.ok) (list_ended _ _ _ _ _ _ _ _ _ c.operands.invariant.1 c.in_ok-operand.ensures.reads (rw none.0 at end)))
+
+pub returns-then-not-eat_sign-clause-shorter : goal.returns-then-not-eat_sign-clause-shorter
+returns-then-not-eat_sign-clause-shorter c = ok_through c.ended.result c.ended.ensures.shorter (λ x less. omega (arith, less, c.operands.invariant.0, c.in_ok-operand.ensures.shorter, c.eat_sign.ensures.shorter))

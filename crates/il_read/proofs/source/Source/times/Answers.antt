@@ -1,9 +1,11 @@
+use Rattle.std.proofs.Common.{arith}
 use Rattle.il_spec.specs.declared.token.Sign.TheVariants.{Assign, OpenParenthesis}
 use Rattle.il_spec.specs.declared.keyword.Keyword.TheVariants as word
 use Rattle.il_spec.specs.Grammar.{loose, ◌⋯◌, TheSign, TheWord}
 use Rattle.il_grammar.proofs.Leads.{word_sure, sign_sure}
 use Rattle.il_read.specs.Settings.{SpellsSchedule}
-use Rattle.il_read.proofs.Chain.{up, first_missing, behind, part}
+use Rattle.il_read.proofs.Chain.{up, first_missing, behind}
+use Rattle.il_read.proofs.Through.{ok_through, err_through}
 use Rattle.il_read.proofs.source.Source.times.Goals as goal
 
 pub returns-in_err-sign-clause-refused : goal.returns-in_err-sign-clause-refused
@@ -23,14 +25,16 @@ returns-in_err-sign-2-clause-refused c =
     (behind loose (λ x. TheSign Assign ⋯ SpellsSchedule c.args.self.now x) (word_sure c.args.self.now word.Interval) (rw c.skip_lines.ensures.rest at c.in_ok-word.ensures.reads)
     (first_missing loose (λ x. SpellsSchedule c.args.self.now x) (rw c.skip_lines-2.ensures.rest at c.in_err-sign-2.ensures.refused))))
 
-pub returns-in_err-schedule-clause-refused : goal.returns-in_err-schedule-clause-refused
-returns-in_err-schedule-clause-refused c =
-    up _ c.from_residual-in_err-schedule.ensures.1
+pub returns-clause-refused : goal.returns-clause-refused
+returns-clause-refused c = err_through c.schedule.result c.schedule.ensures.refused (λ e bad.
     (behind loose (λ x. TheWord c.args.self.now word.Interval ⋯ TheSign Assign ⋯ SpellsSchedule c.args.self.now x) (sign_sure OpenParenthesis) c.in_ok-sign.ensures.reads
     (behind loose (λ x. TheSign Assign ⋯ SpellsSchedule c.args.self.now x) (word_sure c.args.self.now word.Interval) (rw c.skip_lines.ensures.rest at c.in_ok-word.ensures.reads)
     (behind loose (λ x. SpellsSchedule c.args.self.now x) (sign_sure Assign) (rw c.skip_lines-2.ensures.rest at c.in_ok-sign-2.ensures.reads)
-    (part (λ x. x) (rw c.skip_lines-3.ensures.rest at c.in_err-schedule.ensures.refused)))))
+    (rw c.skip_lines-3.ensures.rest at bad)))))
 
 pub returns-clause-reads : goal.returns-clause-reads
-returns-clause-reads c =
-    record { found = (_, c.in_ok-sign.ensures.reads.found, (_, (rw c.skip_lines.ensures.rest at c.in_ok-word.ensures.reads).found, (_, (rw c.skip_lines-2.ensures.rest at c.in_ok-sign-2.ensures.reads).found, (rw c.skip_lines-3.ensures.rest at c.in_ok-schedule.ensures.reads).found))) }
+returns-clause-reads c = ok_through c.schedule.result c.schedule.ensures.reads (λ x here.
+    record { found = (_, c.in_ok-sign.ensures.reads.found, (_, (rw c.skip_lines.ensures.rest at c.in_ok-word.ensures.reads).found, (_, (rw c.skip_lines-2.ensures.rest at c.in_ok-sign-2.ensures.reads).found, (rw c.skip_lines-3.ensures.rest at here).found))) })
+
+pub returns-clause-shorter : goal.returns-clause-shorter
+returns-clause-shorter c = ok_through c.schedule.result c.schedule.ensures.shorter (λ x less. omega (arith, less, c.in_ok-sign.ensures.shorter, c.skip_lines.ensures.shorter, c.in_ok-word.ensures.shorter, c.skip_lines-2.ensures.shorter, c.in_ok-sign-2.ensures.shorter, c.skip_lines-3.ensures.shorter))
