@@ -8,3 +8,5 @@ pub mod Sizes
 pub mod Lines
 pub mod Ending
 pub mod Writing
+pub mod Given
+pub mod Starts

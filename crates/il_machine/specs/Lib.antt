@@ -2,3 +2,4 @@ pub mod Nesting
 pub mod Scanning
 pub mod Listing
 pub mod Image
+pub mod Starting
