@@ -10,3 +10,4 @@ pub mod Ending
 pub mod Writing
 pub mod Given
 pub mod Starts
+pub mod Restarts

@@ -16,7 +16,10 @@ use Rattle.il_run.specs.Scan.{program_of as program_by}
 use Rattle.il_run.specs.Paths.{IsLongest, longest}
 use Rattle.il_sound.proofs.Lists.{found_in}
 use Rattle.il_sound.proofs.Meant.{program_is}
-use Rattle.il_sound.proofs.Named.{found_unit}
+use Rattle.il_sound.proofs.Named.{found_unit, name_of}
+use Rattle.il_scope.specs.Views.{program_number}
+use Rattle.il_code.specs.Whole.{number_in}
+use Rattle.il_code.proofs.Calling.{number_is}
 use Rattle.lift_spec.specs.Snapshot.{task_name, program_of, has_task}
 use Rattle.il_machine.specs.Scanning.{Program, IsRunnable, HasTask}
 use Rattle.il_machine.proofs.Sizes.{few_tasks}
@@ -207,3 +210,14 @@ budget_of c runs n has l line x shown u is = cost_found c c.units l.program.name
 -- which is there
 pub unit_of_line : (c : Config) → IsRunnable c → (n : ℕ) → HasTask c n → (l : ProgramLine) → program_line_of c.programs n ≡ Some l → unit_of (unit_lines c.units (map (cost_of c) c.units)) l.program.name ≡ None → ⊥
 unit_of_line c runs n has l line none = unit_there c c.units l.program.name has.0 (named_by c runs n has l line has.0 has.1.program) none
+
+-- THE PROGRAM'S NUMBER
+
+-- the program of a task's line is the task's
+pub line_named : (c : Config) → IsRunnable c → (task : ℕ) → HasTask c task → (l : ProgramLine) → program_line_of c.programs task ≡ Some l → (u : Organized) → program_of c task ≡ Some u → program_named c l.program.name ≡ Some u
+line_named c runs task has l at u is = sym (line_program c task (few_tasks c runs.declared task has.0 has.1) ∙ ap (program_by c) at) ∙ is
+
+-- its number is that of the first unit of its name
+pub number_first : (c : Config) (name q : Text) (at : ℕ) (u : Organized) → Some at ≡ program_number c q → q ≡ name → program_named c name ≡ Some u → at ≡ number_in c.units u.name.name
+unfolding program_number
+number_first c name q at u number same named = sym (ap (number_in c.units) (name_of c name u (program_is c name u named).0 ∙ sym same) ∙ number_is c q is_program at (sym number))

@@ -1,6 +1,7 @@
 //! The machine: it runs the tasks' programs, as flat code on rows of slots.
 #![tactic(auto)]
 
+mod globals;
 pub mod image;
 mod opening;
 pub mod rows;

@@ -55,8 +55,8 @@ pub fn copy_front(first: &mut Rows, all: &Rows)
     first.flags.as_mut_slice().copy_from_slice(flags);
 }
 
-// The value at a slot of these cells, if the rows reach so far.
-fn value(all: &Rows, cells: &[Cell], slot: usize) -> Option<Value>
+/// The value at a slot of these cells, if the rows reach so far.
+pub(crate) fn value(all: &Rows, cells: &[Cell], slot: usize) -> Option<Value>
     ensures { result ≡ value_at cells.now all.now slot }
 {
     let cell = cells.get(slot)?;
