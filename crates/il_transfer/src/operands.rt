@@ -9,7 +9,9 @@ ghost use Rattle.il_least.specs.Steps.{loaded_operand, operated_by, context};
 ghost use Rattle.il_transfer.specs.Scopes.{denoted, named};
 
 use crate::known::{found_loaded, found_operated};
-use crate::meant::{context_of, is_inside_in, natural_of, operand_in, operand_inside_in, target_fits};
+use crate::meant::{
+    context_of, is_inside_in, natural_of, operand_in, operand_inside_in, target_fits,
+};
 use crate::scope::Scope;
 use il_interval::Interval;
 use il_row::Row;

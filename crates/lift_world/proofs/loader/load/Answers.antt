@@ -187,7 +187,7 @@ of-requires-clause-runnable c =
     runnable_is c.in_ok-code.code
     (subst IsWritten (sym (c.in_ok-code.ensures ∙ c.in_ok-supported.ensures.same ∙ c.into_ordered.ensures.is ∙ c.in_ok-checked.ensures.same ∙ c.in_ok-ordered.ensures.same ∙ c.in_ok-typed.ensures.same ∙ c.in_ok-declared.ensures.same)) (spelled_written c.args.text.now c.in_ok-config.config c.in_ok-config.ensures.spelled))
     (subst IsOrdered (sym c.in_ok-code.ensures) c.in_ok-supported.ensures.accepted)
-    (subst Annotated (sym (c.in_ok-code.ensures ∙ c.in_ok-supported.ensures.same ∙ c.into_ordered.ensures.is ∙ c.in_ok-checked.ensures.same ∙ c.in_ok-ordered.ensures.same ∙ c.in_ok-typed.ensures.same ∙ c.in_ok-declared.ensures.same) ) (subst Annotated (c.in_ok-ordered.ensures.same ∙ c.in_ok-typed.ensures.same ∙ c.in_ok-declared.ensures.same) c.in_ok-checked.ensures.accepted))
+    (subst Annotated (sym (c.in_ok-code.ensures ∙ c.in_ok-supported.ensures.same ∙ c.into_ordered.ensures.is ∙ c.in_ok-checked.ensures.same ∙ c.in_ok-ordered.ensures.same ∙ c.in_ok-typed.ensures.same ∙ c.in_ok-declared.ensures.same)) (subst Annotated (c.in_ok-ordered.ensures.same ∙ c.in_ok-typed.ensures.same ∙ c.in_ok-declared.ensures.same) c.in_ok-checked.ensures.accepted))
 
 pub of-requires-clause-costs : goal.of-requires-clause-costs
 of-requires-clause-costs c =
@@ -213,7 +213,7 @@ returns-clause-runs c =
     (runnable_is c.in_ok-code.code
     (subst IsWritten (sym (c.in_ok-code.ensures ∙ c.in_ok-supported.ensures.same ∙ c.into_ordered.ensures.is ∙ c.in_ok-checked.ensures.same ∙ c.in_ok-ordered.ensures.same ∙ c.in_ok-typed.ensures.same ∙ c.in_ok-declared.ensures.same)) (spelled_written c.args.text.now c.in_ok-config.config c.in_ok-config.ensures.spelled))
     (subst IsOrdered (sym c.in_ok-code.ensures) c.in_ok-supported.ensures.accepted)
-    (subst Annotated (sym (c.in_ok-code.ensures ∙ c.in_ok-supported.ensures.same ∙ c.into_ordered.ensures.is ∙ c.in_ok-checked.ensures.same ∙ c.in_ok-ordered.ensures.same ∙ c.in_ok-typed.ensures.same ∙ c.in_ok-declared.ensures.same) ) (subst Annotated (c.in_ok-ordered.ensures.same ∙ c.in_ok-typed.ensures.same ∙ c.in_ok-declared.ensures.same) c.in_ok-checked.ensures.accepted))))
+    (subst Annotated (sym (c.in_ok-code.ensures ∙ c.in_ok-supported.ensures.same ∙ c.into_ordered.ensures.is ∙ c.in_ok-checked.ensures.same ∙ c.in_ok-ordered.ensures.same ∙ c.in_ok-typed.ensures.same ∙ c.in_ok-declared.ensures.same)) (subst Annotated (c.in_ok-ordered.ensures.same ∙ c.in_ok-typed.ensures.same ∙ c.in_ok-declared.ensures.same) c.in_ok-checked.ensures.accepted))))
 
 -- WHAT BUDGETS ASK
 
