@@ -1,0 +1,162 @@
+// What each fault means: made by tools/faults from docs/faults.
+
+use crate::Meaning;
+
+pub(crate) const TEXTS: [Meaning; 39] = [
+    Meaning {
+        number: 1,
+        text: "1: a byte that has no place in a text\n\nA byte outside 32 to 126 that is no tab, line feed, or carriage return directly before a line feed; or a byte that begins no token, such as `$`, `*`, `=` alone, or `-` without a digit behind it. Named is the line of the byte.\n\n    PROGRAM C\n    LD TRUE\n    ST OPEN $\n    END_PROGRAM\n\nrefused 1 at line 3\n\nRemove the byte; write comments in ASCII.\n\n    PROGRAM C\n    LD TRUE\n    ST OPEN\n    END_PROGRAM\n",
+    },
+    Meaning {
+        number: 2,
+        text: "2: a comment that is open\n\nA `(*` that no `*)` closes, at the line of that `(*`; or a `(*` inside a comment, at the line of the inner one.\n\n    PROGRAM C\n    (* first (* second *)\n    END_PROGRAM\n\nrefused 2 at line 2\n\nClose the comment; don't put one comment in another.\n\n    PROGRAM C\n    (* first, second *)\n    END_PROGRAM\n",
+    },
+    Meaning {
+        number: 3,
+        text: "3: a number or a typed literal that is not well formed\n\nNamed is the line of the literal. A word directly before `#` always begins a typed literal.\n\n    PROGRAM C\n    LD 1__0\n    END_PROGRAM\n\nrefused 3 at line 2\n\nWrite one underscore at most between digits; give a duration at least one part and its units in the order d, h, m, s, ms.\n\n    PROGRAM C\n    LD 1_0\n    END_PROGRAM\n",
+    },
+    Meaning {
+        number: 4,
+        text: "4: a number or a typed literal that is too large\n\nOver 4294967295 in size for a number, outside its type for a typed number, over 2147483647 ms for a duration. Named is the line of the literal. A number without a type that only its place can't hold is 22, 23 or 31.\n\n    PROGRAM C\n    LD SINT#200\n    END_PROGRAM\n\nrefused 4 at line 2\n\nWrite a smaller value.\n\n    PROGRAM C\n    LD SINT#100\n    END_PROGRAM\n",
+    },
+    Meaning {
+        number: 5,
+        text: "5: a word that is no identifier\n\nTwo underscores side by side, one at the end, one alone, or more than 32 characters. Named is the line of the word.\n\n    PROGRAM C\n    VAR\n    DOOR__OPEN : BOOL;\n    END_VAR\n    END_PROGRAM\n\nrefused 5 at line 3\n\nRename it.\n\n    PROGRAM C\n    VAR\n    DOOR_OPEN : BOOL;\n    END_VAR\n    END_PROGRAM\n",
+    },
+    Meaning {
+        number: 6,
+        text: "6: a text that is too long\n\nMore than 262144 bytes. The line is always 1, and nothing else of the text is checked. Shorten the text, for example its comments. (No example: it would be too long.)\n",
+    },
+    Meaning {
+        number: 10,
+        text: "10: an unexpected token\n\nNamed is the line of the first token with which no text of the language goes on; a missing token at the end of the text is at the end's line. A reserved word where a name must stand is 10.\n\n    PROGRAM C\n    LD TRUE\n    AND\n    END_PROGRAM\n\nrefused 10 at line 3\n\nCompare the line with the grammar in `LANGUAGE.md`. A line end is a token with the line that it ends: a missing operand is named at the operator's line, and a second operand at its own.\n\n    PROGRAM C\n    LD TRUE\n    AND LEVEL\n    END_PROGRAM\n",
+    },
+    Meaning {
+        number: 11,
+        text: "11: parentheses too deep\n\nAn operator opens a 17th parenthesis inside sixteen that are open. Named is the line of that operator. With `PROGRAM C` in line 1 and `LD 1` in line 2:\n\n    PROGRAM C\n    LD 1\n    ADD( 1           (* and 15 more such lines, up to line 18 *)\n    ADD( 1           (* line 19 *)\n\n`refused 11 at line 19`. Store what is between, and use it by its name.\n",
+    },
+    Meaning {
+        number: 12,
+        text: "12: too many units, instructions or slots\n\nA unit has more than 4096 instructions. Named is the line of the operator of the 4097th, whatever stands behind it. A text with more than 64 units is 12 at the heading of the 65th. With `PROGRAM C` in line 1 and an instruction in each line from line 2 on:\n\n    PROGRAM C\n    LD TRUE          (* and 4095 more such lines, up to line 4097 *)\n    LD TRUE          (* line 4098 *)\n    END_PROGRAM\n\n`refused 12 at line 4098`. Shorten the program.\n\n12 is also the fault of a task with more than 4096 slots: each scalar variable of its program takes one, an array one for each element, an instance those of its block's variables, and each function that the program uses, directly or through others, once those of its variables and one for its result. The globals have 4096 slots too; named is then the line of their VAR_GLOBAL. It is found behind types, and named is the task's PROGRAM line. A program of 4097 variables in lines 2 to 259, with an empty body, has END_PROGRAM in line 260 and its PROGRAM line in line 265: `refused 12 at line 265`. Declare fewer variables.\n",
+    },
+    Meaning {
+        number: 20,
+        text: "20: a name declared twice\n\nA name that another declaration of its kind has, or that is predeclared. Letter case has no meaning.\n\n| line | cause |\n|---|---|\n| of a heading | a function, a function block or a program with a predeclared name, or with that of a unit before it |\n| of the variable | a variable of a unit with a predeclared name, the name of any unit, or that of an earlier variable of its unit |\n| of the variable | a global with a predeclared name, the name of any unit, or that of an earlier global |\n| of the label | a label with the name of an earlier one in its body |\n| of the TASK line, of the PROGRAM line | one with the name of an earlier one |\n\n    PROGRAM C\n    VAR\n    DOOR : BOOL;\n    Door : BOOL;\n    END_VAR\n    END_PROGRAM\n\nrefused 20 at line 4\n\nRename one of them.\n\n    PROGRAM C\n    VAR\n    DOOR : BOOL;\n    REAR_DOOR : BOOL;\n    END_VAR\n    END_PROGRAM\n",
+    },
+    Meaning {
+        number: 21,
+        text: "21: an unknown name\n\nA name that means nothing which its place takes.\n\n| line | cause |\n|---|---|\n| of the instruction | among its names one that is no variable of the unit and no image name that the unit sees; a function that is neither standard nor own; behind a dot a word that is no output of the instance, or, where it is stored into, neither output nor input |\n| of the type | a name that is no block's |\n| of the name | an external that is no global |\n\nOnly programs see image names, each those of its role: a car's program CARNO, POS, LEVEL, TOP, BOTTOM, LOCKED, OPENED, MOTOR, OPEN and SERVE, that of GROUP CPOS, CMOTOR and ASSIGN, both the others.\n\n    PROGRAM C\n    LD TRUE\n    ST DOOR\n    END_PROGRAM\n\nrefused 21 at line 3\n\nDeclare the variable, or correct its name.\n\n    PROGRAM C\n    VAR\n    DOOR : BOOL;\n    END_VAR\n    LD TRUE\n    ST DOOR\n    END_PROGRAM\n",
+    },
+    Meaning {
+        number: 22,
+        text: "22: an empty subrange\n\nThe lower limit of a subrange is above the upper one, or one of them lies outside its base; or so with the bounds of an array, which are INT, or an array has more than 256 elements. Named is the line of the type.\n\n    PROGRAM C\n    VAR\n    V : INT (5..4);\n    END_VAR\n    END_PROGRAM\n\nrefused 22 at line 3\n\nWrite the smaller limit first, and both within the base. A subrange of one value, such as `INT (5..5)`, is good.\n\n    PROGRAM C\n    VAR\n    V : INT (4..5);\n    END_VAR\n    END_PROGRAM\n",
+    },
+    Meaning {
+        number: 23,
+        text: "23: an initial value or a size outside its range\n\nAn initial value lies outside the subrange, or outside the type where there is none. Named is the line of the value.\n\n    PROGRAM C\n    VAR\n    V : INT (0..9) := 10;\n    END_VAR\n    END_PROGRAM\n\nrefused 23 at line 3\n\nWrite a value within the subrange, or widen it.\n\n    PROGRAM C\n    VAR\n    V : INT (0..9) := 9;\n    END_VAR\n    END_PROGRAM\n",
+    },
+    Meaning {
+        number: 24,
+        text: "24: a wrong task\n\n| line | cause |\n|---|---|\n| of the program's heading | no PROGRAM line names the program |\n| of the TASK line | the task is not GROUP and not one of CAR1 to CARn, n being CARS (`CAR01` is none) |\n| of the PROGRAM line | its task has no TASK line, or an earlier PROGRAM line; what it names is no program, or one that an earlier line gives to a task of the other role |\n| of END_RESOURCE | a car has no TASK line, or a task has no PROGRAM line |\n\n    PROGRAM C\n    END_PROGRAM\n    CONFIGURATION K\n    VAR_GLOBAL CONSTANT CARS : INT := 2; FLOORS : INT := 2; SLOTS : INT := 1; END_VAR\n    RESOURCE M ON PLC\n    TASK CAR1 (INTERVAL := T#100ms, PRIORITY := 1);\n    PROGRAM P1 WITH CAR1 : C;\n    END_RESOURCE\n    END_CONFIGURATION\n\nrefused 24 at line 8\n\nThere is no task CAR2. Since one task is run so far (90), write CARS 1 and name the task CAR1.\n\n    PROGRAM C\n    END_PROGRAM\n    CONFIGURATION K\n    VAR_GLOBAL CONSTANT CARS : INT := 1; FLOORS : INT := 2; SLOTS : INT := 1; END_VAR\n    RESOURCE M ON PLC\n    TASK CAR1 (INTERVAL := T#100ms, PRIORITY := 1);\n    PROGRAM P1 WITH CAR1 : C;\n    END_RESOURCE\n    END_CONFIGURATION\n",
+    },
+    Meaning {
+        number: 25,
+        text: "25: another type than its place asks for\n\n| line | cause |\n|---|---|\n| of the value | an initial value of another kind or of another written type, such as TRUE or `SINT#5` for an INT; one of an array or of an instance. Whether the value would lie in the range doesn't matter |\n| of the type | a subrange of BOOL or TIME; an array or an instance among inputs, outputs or the variables of a function; an instance among externals or globals; an external whose type is not its global's |\n| of the instruction | an array without an index, an index on what is no array, CAL of what is no instance |\n\n    PROGRAM C\n    VAR\n    V : INT := TRUE;\n    END_VAR\n    END_PROGRAM\n\nrefused 25 at line 3\n\nWrite a literal of the variable's type: TRUE or FALSE for a BOOL; for an INT a number alone, or one with `INT#` before it.\n\n    PROGRAM C\n    VAR\n    V : INT := 1;\n    END_VAR\n    END_PROGRAM\n",
+    },
+    Meaning {
+        number: 30,
+        text: "30: a wrong kind\n\nBOOL, the whole types and TIME are three kinds, and an instruction asks for one and is given another:\n\n- a store of one kind into another; STN, S and R take BOOL alone;\n- NOT, LDN, AND, OR, XOR and their negated forms take BOOL alone; ADD, SUB, MIN, MAX and LIMIT a whole type or TIME; MUL, DIV, MOD, ABS and the conversions whole types; GT, GE, LE and LT no BOOL;\n- JMPC, JMPCN, CALC, CALCN, RETC and RETCN take a BOOL as the current result, and SEL as its first argument;\n- an operand or an argument of another kind than the current result, or than the input that it is given to.\n\n    PROGRAM C\n    VAR\n    V : INT;\n    END_VAR\n    LD TRUE\n    ST V\n    END_PROGRAM\n\nrefused 30 at line 6\n\nNothing is converted: load and store values of one kind.\n\n    PROGRAM C\n    VAR\n    V : BOOL;\n    END_VAR\n    LD TRUE\n    ST V\n    END_PROGRAM\n",
+    },
+    Meaning {
+        number: 31,
+        text: "31: another type of the same kind\n\nA whole type meets another, or a number without a type doesn't fit: behind LD, in parentheses and in SEL neither INT nor DINT has it, elsewhere the type of the current result or of the input doesn't.\n\n    PROGRAM C\n    LD 1\n    ADD 32768\n    END_PROGRAM\n\nrefused 31 at line 3\n\nThe result of `LD 1` is an INT, and 32768 is none. Write a smaller number, or one type throughout, as `LD DINT#1`. A subrange has the type of its base, so it is never 31 against INT.\n\n    PROGRAM C\n    LD 1\n    ADD 32766\n    END_PROGRAM\n",
+    },
+    Meaning {
+        number: 32,
+        text: "32: no current result\n\nAn instruction needs the current result and there is none: at the begin of a body, behind a CAL, an unconditional JMP's label, or where paths with different types meet.\n\n    PROGRAM C\n    NOT\n    ST OPEN\n    END_PROGRAM\n\nrefused 32 at line 2\n\nBegin the program with LD or LDN. What can be checked without a result still is, and the lowest number is named: `AND 5` as a first instruction is 30.\n\n    PROGRAM C\n    LD LEVEL\n    NOT\n    ST OPEN\n    END_PROGRAM\n",
+    },
+    Meaning {
+        number: 33,
+        text: "33: a name that is only read\n\nA store or an output into a name of the image that a program only reads (LANGUAGE.md lists them), into an input of the body's own unit, or into an output of an instance.\n\n    PROGRAM C\n    LD TRUE\n    ST LEVEL\n    END_PROGRAM\n\nrefused 33 at line 3\n\nStore into a variable, or into OPEN. With `LD 1` instead, the wrong kind goes first: 30.\n\n    PROGRAM C\n    LD TRUE\n    ST OPEN\n    END_PROGRAM\n",
+    },
+    Meaning {
+        number: 34,
+        text: "34: an unknown label\n\nA JMP, JMPC or JMPCN to a label that its body lacks.\n\n    PROGRAM C\n    LD TRUE\n    JMPC DONE\n    ST OPEN\n    END_PROGRAM\n\nrefused 34 at line 3\n\nWrite `DONE:` before an instruction behind the jump, or alone in the last line of the body.\n\n    PROGRAM C\n    LD TRUE\n    JMPC DONE\n    ST OPEN\n    DONE:\n    END_PROGRAM\n",
+    },
+    Meaning {
+        number: 35,
+        text: "35: a jump that does not go forward\n\nThe label stands at the jump itself or before it. So that each scan ends, jumps go forward alone.\n\n    PROGRAM C\n    AGAIN: LD TRUE\n    JMPC AGAIN\n    END_PROGRAM\n\nrefused 35 at line 3\n\nWhat is to be repeated is repeated by the next scan; keep what it needs in variables.\n\n    PROGRAM C\n    LD TRUE\n    END_PROGRAM\n",
+    },
+    Meaning {
+        number: 37,
+        text: "37: wrong arguments\n\nA standard function or an own one with another number of operands than it takes (the current result is its first argument); in a CAL a word that is no input or output of the block, an input behind which `=>` stands or an output with `:=`, or a word that is given twice.\n\n    PROGRAM C\n    LD 1\n    LIMIT 2\n    END_PROGRAM\n\nrefused 37 at line 3\n\nLoad the lower end, and write the value and the upper end behind LIMIT: `LD 0` and `LIMIT V, 9`.\n\n    PROGRAM C\n    LD 0\n    LIMIT 2, 9\n    END_PROGRAM\n",
+    },
+    Meaning {
+        number: 38,
+        text: "38: a global that two tasks write\n\nPrograms of two tasks store into one global, wherever the stores stand; a program that two tasks run counts twice. Named is the first store in the text into such a global.\n\n    PROGRAM C\n    VAR_EXTERNAL\n    G : INT;\n    END_VAR\n    LD 1\n    ST G\n    END_PROGRAM\n    CONFIGURATION K\n    VAR_GLOBAL CONSTANT CARS : INT := 2; FLOORS : INT := 2; SLOTS : INT := 1; END_VAR\n    VAR_GLOBAL G : INT; END_VAR\n    RESOURCE M ON PLC\n    TASK CAR1 (INTERVAL := T#100ms, PRIORITY := 1);\n    TASK CAR2 (INTERVAL := T#100ms, PRIORITY := 1);\n    PROGRAM P1 WITH CAR1 : C;\n    PROGRAM P2 WITH CAR2 : C;\n    END_RESOURCE\n    END_CONFIGURATION\n\nrefused 38 at line 6\n\nLet one task write it, or give each task a global of its own.\n\n    PROGRAM C\n    VAR_EXTERNAL\n    G : INT;\n    END_VAR\n    LD 1\n    ST G\n    END_PROGRAM\n    PROGRAM D\n    END_PROGRAM\n    CONFIGURATION K\n    VAR_GLOBAL CONSTANT CARS : INT := 2; FLOORS : INT := 2; SLOTS : INT := 1; END_VAR\n    VAR_GLOBAL G : INT; END_VAR\n    RESOURCE M ON PLC\n    TASK CAR1 (INTERVAL := T#100ms, PRIORITY := 1);\n    TASK CAR2 (INTERVAL := T#100ms, PRIORITY := 1);\n    PROGRAM P1 WITH CAR1 : C;\n    PROGRAM P2 WITH CAR2 : D;\n    END_RESOURCE\n    END_CONFIGURATION\n",
+    },
+    Meaning {
+        number: 39,
+        text: "39: an instruction that no control path reaches\n\nEach instruction is reached from the begin of its body, whatever conditions turn out. Behind an unconditional JMP or RET a label must stand to which a jump leads.\n\n    PROGRAM C\n    LD TRUE\n    JMP DONE\n    LD FALSE\n    DONE: LD TRUE\n    END_PROGRAM\n\nrefused 39 at line 4\n\nTake it out, or make the jump conditional. An instruction there that needs a result is 32, the lower number.\n\n    PROGRAM C\n    LD TRUE\n    JMPC DONE\n    LD FALSE\n    DONE: LD TRUE\n    END_PROGRAM\n",
+    },
+    Meaning {
+        number: 36,
+        text: "36: a unit that uses itself\n\nDirectly or through others. Named is its heading.\n\n    FUNCTION G : INT\n    VAR_INPUT A : INT; END_VAR\n    LD A\n    G\n    ST G\n    END_FUNCTION\n    PROGRAM C\n    END_PROGRAM\n\nrefused 36 at line 1\n\nTake the use out; the standard has no recursion (2.5).\n\n    FUNCTION G : INT\n    VAR_INPUT A : INT; END_VAR\n    LD A\n    ST G\n    END_FUNCTION\n    PROGRAM C\n    END_PROGRAM\n",
+    },
+    Meaning {
+        number: 46,
+        text: "46: a chain of uses that is too long\n\nA unit with a chain of more than 16 units, itself counted, of which each uses the next. Named is its heading. A unit that leads to a recursion is not judged for it. Let functions and blocks use one another less deep.\n\n12, of slots, belongs to this phase too; it stands above.\n",
+    },
+    Meaning {
+        number: 40,
+        text: "40: a result that may leave its type\n\nThe range of a sum, a difference, a product, a quotient, an absolute value or a conversion doesn't lie in the type of the result.\n\n    PROGRAM C\n    VAR\n    V : INT;\n    END_VAR\n    LD V\n    ADD 1\n    ST V\n    END_PROGRAM\n\nrefused 40 at line 6\n\nV may be 32767. Declare a subrange, so that the sum fits, or hold the operand back with LIMIT before the sum.\n\n    PROGRAM C\n    VAR\n    V : INT (0..9); W : INT;\n    END_VAR\n    LD V\n    ADD 1\n    ST W\n    END_PROGRAM\n",
+    },
+    Meaning {
+        number: 41,
+        text: "41: a divisor that may be 0\n\n    PROGRAM C\n    VAR\n    D : INT (0..9); V : INT;\n    END_VAR\n    LD 7\n    DIV D\n    ST V\n    END_PROGRAM\n\nrefused 41 at line 6\n\nD may be 0. Declare its range without 0, or divide by a variable of INT (1..9) into which `LD D`, `MAX 1` and ST store. A test and a jump before it don't help: both sides of a jump count as possible.\n\n    PROGRAM C\n    VAR\n    D : INT (1..9); V : INT;\n    END_VAR\n    LD 7\n    DIV D\n    ST V\n    END_PROGRAM\n",
+    },
+    Meaning {
+        number: 42,
+        text: "42: an index that may lie outside of its array\n\n    PROGRAM C\n    VAR\n    A : ARRAY [1..8] OF INT; I : INT (0..8); V : INT;\n    END_VAR\n    LD A[I]\n    ST V\n    END_PROGRAM\n\nrefused 42 at line 5\n\nI may be 0. Declare `I : INT (1..8)`.\n\n    PROGRAM C\n    VAR\n    A : ARRAY [1..8] OF INT; I : INT (1..8); V : INT;\n    END_VAR\n    LD A[I]\n    ST V\n    END_PROGRAM\n",
+    },
+    Meaning {
+        number: 43,
+        text: "43: a stored value that may leave its variable's range\n\nThe range of the current result doesn't lie in the declared range of the variable, element, global, image name or input of an instance into which ST stores it.\n\n    PROGRAM C\n    VAR\n    V : INT (0..9);\n    END_VAR\n    LD V\n    ADD 1\n    ST V\n    END_PROGRAM\n\nrefused 43 at line 7\n\nThe sum is 1 to 10. Hold it back with LIMIT. LIMIT takes what it limits as an operand, so store the sum first, with `NEXT : INT (0..10)` declared too:\n\n    PROGRAM C\n    VAR\n    V : INT (0..9); NEXT : INT (0..10);\n    END_VAR\n    LD V\n    ADD 1\n    ST NEXT\n    LD 0\n    LIMIT NEXT, 9\n    ST V\n    END_PROGRAM\n",
+    },
+    Meaning {
+        number: 44,
+        text: "44: an argument that may leave its input's range\n\nThe range of an argument doesn't lie in the declared range of its input; or, after `=>`, the declared range of an output not in that of the variable that takes it.\n\n    FUNCTION F : INT (1..10)\n    VAR_INPUT\n    A : INT (0..9);\n    END_VAR\n    LD A\n    ADD 1\n    ST F\n    END_FUNCTION\n    PROGRAM C\n    VAR\n    X : INT;\n    END_VAR\n    LD 10\n    F\n    ST X\n    END_PROGRAM\n\nrefused 44 at line 14\n\nA takes 0 to 9.\n\n    FUNCTION F : INT (1..10)\n    VAR_INPUT\n    A : INT (0..9);\n    END_VAR\n    LD A\n    ADD 1\n    ST F\n    END_FUNCTION\n    PROGRAM C\n    VAR\n    X : INT;\n    END_VAR\n    LD 9\n    F\n    ST X\n    END_PROGRAM\n",
+    },
+    Meaning {
+        number: 50,
+        text: "50: a unit that costs too much\n\nA control path of the unit costs more than 1000000, as `LANGUAGE.md` counts under *The scan*, with the units that it calls. Named is the heading of the first such unit. Call less in a row: one scan can do a part of the work, and the next one the rest. (No example: it would be long.)\n",
+    },
+    Meaning {
+        number: 90,
+        text: "90: a construct that is not run yet\n\nThe text is one of the language, and it has a construct that is read and not run yet; `LANGUAGE.md` lists them under *Not run yet*. Named is the first of these lines:\n\n| construct | line |\n|---|---|\n| a function or a function block | of its heading |\n| a second unit | of its heading |\n| a list of inputs, outputs, externals or globals with a declaration in it | of the first written type in it |\n| VAR_GLOBAL without CONSTANT, also when it is empty | of that word |\n| a variable of a type that is not run | of the type |\n| a label | of the label |\n| an instruction that is not run, or one with an image name that is not: NOW, MOTOR, SERVE | of its operator |\n| a second TASK or PROGRAM line | of that line |\n\n    PROGRAM C\n    LD TRUE\n    XOR FALSE\n    END_PROGRAM\n\nrefused 90 at line 3\n\nWrite it with what is run: here `LD FALSE` and `NOT`.\n\n    PROGRAM C\n    LD FALSE\n    NOT\n    END_PROGRAM\n",
+    },
+    Meaning {
+        number: 60,
+        text: "60: a field out of range\n\nRefresh with another number of cars than CARS, a POS not from 1 to FLOORS, NOW over 2147483647, or RUNLIMIT over CARS.\n\nHand in fields in range.\n",
+    },
+    Meaning {
+        number: 61,
+        text: "61: no open scan\n\nInstruction or Commit without an open scan, or Instruction behind its end.\n\nStart first; stop at the reply End.\n",
+    },
+    Meaning {
+        number: 62,
+        text: "62: a scan that is open already\n\nStart while a scan of the task is open.\n\nCommit first.\n",
+    },
+    Meaning {
+        number: 63,
+        text: "63: a scan that has not ended\n\nCommit before the scan's end.\n\nRun instructions up to the reply End.\n",
+    },
+    Meaning {
+        number: 64,
+        text: "64: no such task or floor\n\nA task that the group lacks, tested before 61 to 63; Press or Gather with a floor that is not from 1 to FLOORS.\n\nUse 0 for GROUP, k for CARk, and floors of the group.\n",
+    },
+    Meaning {
+        number: 65,
+        text: "65: a call to its own floor\n\nPress with the same floor twice.\n\nPress for another floor.\n",
+    },
+];
