@@ -11,20 +11,23 @@ use Rattle.il_spec.specs.declared.tree.Scalar.{Scalar}
 use Rattle.il_spec.specs.declared.tree.Subrange.{Subrange}
 use Rattle.il_spec.specs.declared.tree.Form.{Form}
 use Rattle.il_spec.specs.declared.tree.Form.TheVariants.{Scalar as ScalarForm, Array as ArrayForm, Block as BlockForm}
+use Rattle.il_spec.specs.declared.tree.UnitKind.{UnitKind}
+use Rattle.il_spec.specs.declared.tree.UnitKind.TheVariants.{Function, FunctionBlock, Program}
 use Rattle.il_rules.specs.Names.{StandardBlock, Sr, Rs, RTrig, FTrig, Ctu, Ctd, Ctud, Tp, Ton, Tof, standard_variables}
-use Rattle.il_rules.specs.Declarations.{Admitted, ScalarsAlone, admitted_variables, admits_arrays, written_types, all_declarations, unit_declarations, type_numbers, bounds_numbers, subrange_numbers, unless, declared_limits}
+use Rattle.il_rules.specs.Declarations.{Admitted, ScalarsAlone, admitted_variables, admits_arrays, result_types, written_types, all_declarations, unit_declarations, type_numbers, bounds_numbers, subrange_numbers, unless, declared_limits}
 use Rattle.il_rules.specs.Faults.{HasNoFault, Broken, Declaring}
 use Rattle.il_run.specs.NameMap.{Text}
 use Rattle.il_run.specs.declared.value.Value.{Value}
 use Rattle.il_run.specs.declared.value.Value.TheVariants.{Boolean, Integer}
 use Rattle.il_run.specs.Values.{IsOf, IsValueIn}
-use Rattle.il_run.specs.Meaning.{Entity, entities, own_entities, block_entities, standard_entities, initial_value}
+use Rattle.il_run.specs.Meaning.{Entity, entities, own_entities, result_entities, block_entities, standard_entities, initial_value}
 use Rattle.il_sound.proofs.Lists.{at_head, in_tail, in_flat_map}
 use Rattle.il_sound.proofs.Declared.{from_inputs, from_outputs, from_variables}
 use Rattle.il_sound.proofs.Fresh.{of_entities, IsGood, range_ok, good_type, begins_ok, default_ok}
-use Rattle.il_sound.proofs.Meant.{no_22, no_25, input_typed, output_typed, variable_typed}
-use Rattle.il_code.specs.Layout.{value_by}
-use Rattle.il_code.specs.Whole.{number_part, flag_part, HasKind, IsInitial, AreInitial}
+use Rattle.il_sound.proofs.Meant.{no_22, no_25, input_typed, output_typed, variable_typed, result_typed}
+use Rattle.il_code.specs.Layout.{value_by, number_part, flag_part, HasKind}
+use Rattle.il_code.specs.Flattened.{function_entities}
+use Rattle.il_code.specs.Whole.{IsInitial, AreInitial}
 use Rattle.il_code.proofs.Tested.{of_blocks}
 use Rattle.il_code.proofs.Distinct.{each_of}
 
@@ -41,6 +44,10 @@ kind_of s v is = by_limits (declared_limits s) v is
 pub initial_by : (es : List Entity) → ((e : Entity) → Contains es e → IsInitial e.initial e.form) → AreInitial es
 initial_by [] each = tt
 initial_by (e ∷ es) each = (each e (at_head e es), initial_by es (λ d h. each d (in_tail e es d h)))
+
+initial_both : (xs ys : List Entity) → AreInitial xs → AreInitial ys → AreInitial (xs ++ ys)
+initial_both [] ys a b = b
+initial_both (x ∷ xs) ys a b = (a.0, initial_both xs ys a.1 b)
 
 module _ (c : Config) (unbroken : HasNoFault (Broken Declaring c)) where
   -- the type of an array's elements (22, 25)
@@ -81,6 +88,20 @@ module _ (c : Config) (unbroken : HasNoFault (Broken Declaring c)) where
       by_variable : (e : Entity) → Contains (entities u.inputs ++ entities u.outputs) e ⊎ Contains (entities u.variables) e → IsInitial e.initial e.form
       by_variable e (inl a) = by_input e (Contains-append_cases (entities u.inputs) (entities u.outputs) e a)
       by_variable e (inr a) = listed_initial u.variables (admitted_variables u.kind) (λ d h. unit_declared u among d (from_variables u d h)) (λ d h. variable_typed c u d among h) e a
+
+  -- those of a function, its result among them
+  pub function_initial : (u : ProgramUnit) → Contains c.units u → AreInitial (function_entities u)
+  function_initial u among = initial_both (own_entities u) (result_entities u.kind u.name.name) (own_initial u among) (by_kind u.kind refl)
+    where
+      by_kind : (k : UnitKind) → u.kind ≡ k → AreInitial (result_entities k u.name.name)
+      by_kind FunctionBlock is = tt
+      by_kind Program is = tt
+      by_kind (Function s place) is = (
+        kind_of s (initial_value s None)
+            (default_ok s (good_type c unbroken ScalarsAlone (record { place = place; form = ScalarForm s }) s
+            (result_typed c u _ among (subst (λ (k : UnitKind). Contains (result_types k) (ScalarsAlone, record { place = place; form = ScalarForm s })) (sym is) (at_head _ []))) refl)),
+        tt,
+      )
 
   -- and those of each block
   pub blocks_initial : (block : Text) → AreInitial (block_entities c block)

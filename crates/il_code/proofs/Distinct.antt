@@ -14,24 +14,28 @@ use Rattle.il_spec.specs.declared.tree.Subrange.{Subrange}
 use Rattle.il_spec.specs.declared.tree.Elementary.TheVariants.{Int}
 use Rattle.il_spec.specs.declared.tree.Form.{Form}
 use Rattle.il_spec.specs.declared.tree.Form.TheVariants.{Scalar as ScalarForm, Array as ArrayForm, Block as BlockForm}
-use Rattle.il_rules.specs.Names.{ImageName, image_of, image_name, is_predeclared, standard_function, standard_block, standard_variables, StandardBlock, Sr, Rs, RTrig, FTrig, Ctu, Ctd, Ctud, Tp, Ton, Tof, sees}
-use Rattle.il_rules.specs.Declarations.{Admitted, ScalarsAlone, ScalarsAndArrays, admitted_variables, admits_arrays, written_types, unit_declarations, unit_names, names_in, type_numbers, bounds_numbers, subrange_numbers, unless, has_value, is_within, sizes_of, predeclared_variable, second_variable, size_outside}
+use Rattle.il_spec.specs.declared.tree.UnitKind.{UnitKind}
+use Rattle.il_spec.specs.declared.tree.UnitKind.TheVariants.{Function, FunctionBlock, Program}
+use Rattle.il_rules.specs.Names.{is_program, is_program_kind, ImageName, image_of, image_name, is_predeclared, standard_function, standard_block, standard_variables, StandardBlock, Sr, Rs, RTrig, FTrig, Ctu, Ctd, Ctud, Tp, Ton, Tof, sees}
+use Rattle.il_rules.specs.Declarations.{Admitted, ScalarsAlone, ScalarsAndArrays, admitted_variables, admits_arrays, written_types, unit_declarations, unit_names, names_in, type_numbers, bounds_numbers, subrange_numbers, unless, has_value, is_within, sizes_of, predeclared_unit, predeclared_variable, second_variable, size_outside}
 use Rattle.il_rules.specs.Faults.{duplicate, initial_outside, HasNoFault, Broken, Declaring}
 use Rattle.il_rules.specs.Written.{IsWord, IsWritten}
 use Rattle.il_run.specs.NameMap.{Text}
-use Rattle.il_run.specs.Meaning.{Entity, entities, own_entities, block_entities, standard_entities, width, width_of}
+use Rattle.il_run.specs.Meaning.{Entity, entities, own_entities, result_entities, block_entities, standard_entities, width, width_of}
 use Rattle.il_sound.proofs.Lists.{in_nothing, at_head, in_tail, in_flat_map, AreDistinct, distinct_names}
 use Rattle.il_sound.proofs.Fresh.{entity, of_entities}
 use Rattle.il_sound.proofs.Meant.{no_22, input_typed, output_typed, variable_typed, external_typed}
 use Rattle.il_sound.proofs.Words.{all_of, first_of_two, second_of_two, contains_all, is_word, word_by, are_apart_by}
 use Rattle.il_code.specs.Cells.{IsPlain, HasNone, HasShort, IsShort, AreNamed}
-use Rattle.il_code.specs.Whole.{seen_among, seen_image, is_common, are_named}
-use Rattle.il_code.proofs.Declared.{named_front}
+use Rattle.il_code.specs.Places.{seen_among, seen_image, is_common, unit_entities}
+use Rattle.il_code.specs.Whole.{are_named}
+use Rattle.il_sound.proofs.Declared.{IsListed, no_unit}
+use Rattle.il_code.proofs.Declared.{named_front, no_others}
 use Rattle.il_code.proofs.Tested.{EachOf, named_is, of_blocks}
 
 -- LISTS
 
-plain_of : (t : Text) → ¬ Contains t 46 → ¬ Contains t 91 → IsPlain t
+pub plain_of : (t : Text) → ¬ Contains t 46 → ¬ Contains t 91 → IsPlain t
 plain_of [] a b = tt
 plain_of (x ∷ xs) a b = (
   λ e. a (subst (Contains (x ∷ xs)) e (at_head x xs)),
@@ -53,7 +57,7 @@ none_both : (xs ys : List Entity) (name : Text) → HasNone xs name → HasNone 
 none_both [] ys name a b = b
 none_both (x ∷ xs) ys name a b = (a.0, none_both xs ys name a.1 b)
 
-none_each : (ys : List Entity) (name : Text) → ((y : Entity) → Contains ys y → y.name ≢ name) → HasNone ys name
+pub none_each : (ys : List Entity) (name : Text) → ((y : Entity) → Contains ys y → y.name ≢ name) → HasNone ys name
 none_each [] name each = tt
 none_each (y ∷ ys) name each = (each y (at_head y ys), none_each ys name (λ z h. each z (in_tail y ys z h)))
 
@@ -159,6 +163,12 @@ module _ (c : Config) (unbroken : HasNoFault (Broken Declaring c)) where
   own_named written u among = named_front (own_entities u) (entities u.externals) (declared_named written u among)
 
   -- a declared name is no predeclared one (20)
+  -- what a unit declares, by its declaration
+  entity_listed : (u : ProgramUnit) (e : Entity) → Contains (own_entities u ++ entities u.externals) e → IsListed (unit_declarations u) e.name e.form
+  entity_listed u e has =
+      let l = of_entities (unit_declarations u) e (subst (λ (es : List Entity). Contains es e) (sym (declared_entities u)) has) in
+      record { declaration = l.declaration; name_of = l.name_of; among = l.among; listed = l.listed; spelled = ap (λ (x : Entity). x.name) l.same; formed = ap (λ (x : Entity). x.form) l.same }
+
   declared_apart : (u : ProgramUnit) → Contains c.units u → (e : Entity) → Contains (own_entities u ++ entities u.externals) e → is_predeclared c e.name ≢ true
   declared_apart u among e has =
       let l = of_entities (unit_declarations u) e (subst (λ (es : List Entity). Contains es e) (sym (declared_entities u)) has) in
@@ -283,6 +293,38 @@ module _ (c : Config) (unbroken : HasNoFault (Broken Declaring c)) (u : ProgramU
       subst AreNamed (append_assoc (own_entities u) (entities u.externals) (seen_image c u))
       (named_both (own_entities u ++ entities u.externals) (seen_image c u) (declared_named c unbroken written u among) image_named
       (λ x y h k same. declared_apart c unbroken u among x h (ap (is_predeclared c) (sym same) ∙ image_predeclared y k)))
+
+  -- UNITS
+
+  -- no name that a unit declares or sees is that of a unit (20)
+  pub no_unit_seen : (v : ProgramUnit) → Contains c.units u → Contains c.units v → (y : Entity) → Contains (own_entities u ++ (entities u.externals ++ seen_image c u)) y → y.name ≢ v.name.name
+  no_unit_seen v among has_v y has =
+      by_side (Contains-append_cases (own_entities u ++ entities u.externals) (seen_image c u) y (subst (λ (es : List Entity). Contains es y) (sym (append_assoc (own_entities u) (entities u.externals) (seen_image c u))) has))
+    where
+      by_side : Contains (own_entities u ++ entities u.externals) y ⊎ Contains (seen_image c u) y → y.name ≢ v.name.name
+      by_side (inl a) same = no_unit c unbroken u v among has_v y.name y.form (entity_listed c unbroken u y a) (sym same)
+      by_side (inr b) same = unbroken 20 v.place (duplicate refl (predeclared_unit v has_v (subst (λ name. is_predeclared c name ≡ true) same (image_predeclared y b)) refl))
+
+  -- so all that it declares and sees stands once
+  pub unit_entities_named : IsWritten c → Contains c.units u → AreNamed (unit_entities c u)
+  unit_entities_named written among = by_kind u.kind refl
+    where
+      others : is_program u ≡ false → entities u.externals ++ seen_image c u ≡ []
+      others other = no_others c u other (written.externals u among other)
+
+      by_kind : (k : UnitKind) → u.kind ≡ k → AreNamed (own_entities u ++ (result_entities k u.name.name ++ (entities u.externals ++ seen_image c u)))
+      by_kind FunctionBlock is = seen_entities_named written among
+      by_kind Program is = seen_entities_named written among
+      by_kind (Function s place) is =
+          subst (λ (es : List Entity). AreNamed (own_entities u ++ (result_entities (Function s place) u.name.name ++ es))) (sym (others (ap is_program_kind is)))
+          (named_both (own_entities u) (result_entities (Function s place) u.name.name) (own_named c unbroken written u among)
+          (plain_of u.name.name (written.headings u among).no_point (written.headings u among).no_bracket, (written.headings u among).some, tt, tt, tt)
+          (λ x y h k. differ x y h k))
+        where
+          differ : (x y : Entity) → Contains (own_entities u) x → Contains (result_entities (Function s place) u.name.name) y → y.name ≢ x.name
+          differ x y h (zero, low, same) e =
+              no_unit_seen u among among x (Contains-append_left (own_entities u) (entities u.externals ++ seen_image c u) x h) (sym (ap (λ (z : Entity). z.name) same ∙ e))
+          differ x y h (suc k, low, same) e = absurd (omega arith)
 
 -- BLOCKS
 

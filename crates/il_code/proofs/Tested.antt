@@ -13,8 +13,8 @@ use Rattle.il_run.specs.NameMap.{Text}
 use Rattle.il_run.specs.Meaning.{Entity, width, own_entities, standard_entities, block_entities}
 use Rattle.il_code.specs.declared.flat.Cell.{Cell}
 use Rattle.il_code.specs.Cells.{Stands, form_in, IsPlain, HasNone, HasShort, AreNamed}
-use Rattle.il_code.specs.Places.{IsImage}
-use Rattle.il_code.specs.Whole.{seen_among, seen_image, is_common, is_plain, has_none, has_short, are_named}
+use Rattle.il_code.specs.Places.{seen_among, seen_image, is_common, IsImage}
+use Rattle.il_code.specs.Whole.{is_plain, has_none, has_short, are_named}
 use Rattle.il_code.proofs.Declared.{own, form_in-append, same_bytes, block_is_own, block_is_standard}
 
 -- THE IMAGE

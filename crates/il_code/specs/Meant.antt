@@ -1,4 +1,4 @@
--- What the flat code and the slots of a program mean (own rules).
+-- What the flat code and the slots of a program's task mean (own rules).
 use Rattle.std.specs.Prelude.{◌≡◌, []}
 use Rattle.il_spec.specs.declared.tree.Unit.{Unit as ProgramUnit}
 use Rattle.il_spec.specs.declared.tree.Config.{Config}
@@ -7,11 +7,14 @@ use Rattle.il_code.specs.Layout.{AreOnce, view}
 use Rattle.il_code.specs.Flattened.{IsPlaced}
 use Rattle.il_code.specs.Coded.{IsCode}
 use Rattle.il_code.specs.Whole.{first_rows}
-use Rattle.il_code.specs.Program.{own_cells, program_cells, own_values, program_names, program_code}
+use Rattle.il_code.specs.Program.{own_cells, program_cells, own_values, base_of, program_names, program_code}
 
--- The code means the tree; names lead to their variables' slots; no two slots have one path; and the first rows show the variables as they open.
-pub record MeansTree (c : Config) (u : ProgramUnit) : Type 0 where
-  pub code : IsCode (program_code c u)
-  pub is_placed : IsPlaced c (program_names c) (program_cells c u) u [] 0
-  pub once : AreOnce (program_cells c u)
-  pub opening : view (own_cells c u) (first_rows (own_values c u)) ≡ opening_variables c u
+-- The code means the tree, by the names of its units and the bases of the task's frames; names lead to their variables' slots;
+-- no two slots have one path; and the first rows show the variables as they open.
+pub record MeansTree (c : Config) (p : ProgramUnit) : Type 0 where
+  pub code : IsCode (program_code c p)
+  pub names : code.names ≡ program_names c
+  pub bases : code.bases ≡ base_of c p
+  pub is_placed : IsPlaced c (program_names c) (base_of c p) (program_cells c p) p [] (base_of c p p.name.name)
+  pub once : AreOnce (program_cells c p)
+  pub opening : view (own_cells c p) (first_rows (own_values c p)) ≡ opening_variables c p

@@ -1,6 +1,7 @@
 // Flat code.
 
 use il_run::value::Content;
+use il_scope::entry::{StandardBlock, StandardFunction};
 use il_spec::list::Items;
 use il_spec::name::Name;
 use il_spec::tree::{Condition, Elementary, Operator, Scalar, Store, Subrange};
@@ -52,12 +53,6 @@ pub struct Copied {
     pub to: Slot,
 }
 
-/// A standard function (IEC 61131-3:2003, 2.5.1.5).
-#[derive(Clone, Copy)]
-pub enum Function {
-    Limit,
-}
-
 /// A flat instruction: one for each written instruction, and one for the implicit RET.
 #[derive(Drop)]
 pub enum Flat {
@@ -96,18 +91,44 @@ pub enum Flat {
         inputs: Items<Assignment>,
         outputs: Items<Copied>,
     },
-    /// A call of a standard function, with the operands behind the current result.
+    /// A call of a standard block (IEC 61131-3:2003, 2.5.2.3), with the base of its instance from that
+    /// of the frame. Its variables stand there in the order of its inputs, outputs and inner variables.
+    CallStandard {
+        condition: Condition,
+        block: StandardBlock,
+        base: usize,
+        inputs: Items<Assignment>,
+        outputs: Items<Copied>,
+    },
+    /// A call of a standard function (2.5.1.5), with the operands behind the current result.
     Apply {
-        function: Function,
+        function: StandardFunction,
         operands: Items<Operand>,
     },
-    /// What is not supported yet: a call of an own function, and of another standard function.
-    Other,
+    /// A call of an own function (2.5.1): its unit, and its inputs behind the first, which is given the
+    /// current result. They stand in the function's frame, their operands in the frame that calls.
+    Invoke {
+        unit: usize,
+        inputs: Items<Assignment>,
+    },
 }
 
-/// The flat code of a unit.
+/// What a call of an own function needs. Slots are counted from the base of the function's frame, which
+/// each task has once for each function that it uses.
+#[derive(Drop)]
+pub struct FunctionCode {
+    /// The first input, which is given the current result.
+    pub first: Slot,
+    /// The variable of the function's own name, which is its result.
+    pub result: Slot,
+    /// What all its variables begin with at each call, the last one first.
+    pub fresh: Items<Assignment>,
+}
+
+/// The flat code of a unit, and as a function what its calls need.
 #[derive(Drop)]
 pub struct UnitCode {
     pub name: Name,
     pub code: Items<Flat>,
+    pub function: Option<FunctionCode>,
 }

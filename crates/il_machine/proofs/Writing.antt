@@ -1,25 +1,17 @@
 -- Rows into which values are written.
-use Rattle.std.proofs.Common.{◌≡◌, ℕ, zero, suc, ◌+◌, ◌-◌, ◌*◌, ◌<◌, ◌≤◌, List, [], ◌∷◌, ◌++◌, map, length, drop, get_or, set, refl, sym, ap, ap₂, ◌∙◌, arith, append_assoc}
-use Rattle.std.specs.Prelude.{replicate, ℤ, Bool, codes}
-use Rattle.std.proofs.Math.Seq.{set-append_seam}
-use Rattle.std.proofs.lemmas.List.{length-append, length-set, length-map, length-replicate, map-append, drop_more, append-nil}
+use Rattle.std.proofs.Common.{◌≡◌, ℕ, zero, suc, ◌+◌, ◌-◌, ◌*◌, ◌<◌, List, [], ◌∷◌, ◌++◌, map, length, drop, get_or, refl, sym, ap, ap₂, ◌∙◌, arith, append_assoc}
+use Rattle.std.specs.Prelude.{replicate, codes}
+use Rattle.std.proofs.lemmas.List.{length-append, length-set, length-map, length-replicate, map-append, drop_more}
 use Rattle.il_run.specs.declared.value.Value.{Value}
 use Rattle.il_run.specs.declared.value.Value.TheVariants.{Boolean}
 use Rattle.il_run.specs.NameMap.{Text}
-use Rattle.il_code.specs.Layout.{Rows, rows}
-use Rattle.il_code.specs.Whole.{number_part, flag_part, first_rows}
-use Rattle.il_code.specs.Paths.{with_value}
+use Rattle.il_code.specs.Layout.{Rows, number_part, flag_part}
 use Rattle.lift_spec.specs.declared.image.Sizes.{Sizes}
-use Rattle.lift_spec.specs.declared.image.CarFields.{CarFields}
-use Rattle.lift_spec.specs.declared.image.CarOutputs.{CarOutputs}
 use Rattle.lift_spec.specs.declared.image.Image.{Image}
 use Rattle.lift_spec.specs.declared.calls.Slot.{Slot}
-use Rattle.lift_spec.specs.Settle.{fields_of, outputs_of}
-use Rattle.lift_spec.specs.Snapshot.{number, waits, from_of, to_of, car_of, elements_of, car_entries}
+use Rattle.lift_spec.specs.Snapshot.{number, waits, from_of, to_of, car_of, elements_of, role_entries}
 use Rattle.il_machine.specs.declared.image.Column.TheVariants.{Waits, From, To, Car}
-use Rattle.il_machine.specs.Scanning.{joined}
-use Rattle.il_machine.specs.Opening.{with_row}
-use Rattle.il_machine.specs.Image.{with_slot, filled, call_value, call_values, group_values, car_values, image_values}
+use Rattle.il_machine.specs.Image.{with_slot, filled, call_value, call_values, group_values, position_value, motor_value, cars_values, role_values, image_values}
 
 -- VALUES FROM A SLOT ON
 
@@ -49,44 +41,6 @@ one_more r s place i vs v low is = ap (λ x. filled x (place + 1) (drop (i + 1) 
 pub one_more_of : {A : Type 0} (f : A → Value) (r s : Rows) (place i : ℕ) (xs : List A) (x : A) → i < length xs → s ≡ with_slot r place (f (get_or xs i x)) → filled s (place + 1) (map f (drop (i + 1) xs)) ≡ filled r place (map f (drop i xs))
 one_more_of f r s place i xs x low is = ap (λ y. filled y (place + 1) (map f (drop (i + 1) xs))) is ∙ ap (λ l. filled r place (map f l)) (sym (drop_more xs i x low))
 
-seam : {A : Type 0} (xs : List A) (y : A) (ys : List A) (n : ℕ) (v : A) → length xs ≡ n → set (xs ++ y ∷ ys) n v ≡ (xs ++ v ∷ []) ++ ys
-seam xs y ys n v is = ap (λ k. set (xs ++ y ∷ ys) k v) (sym is) ∙ set-append_seam xs y ys v ∙ sym (append_assoc xs (v ∷ []) ys)
-
--- all values behind others
-pub filled_behind : (a : Rows) (zs : List ℤ) (bs : List Bool) (n : ℕ) (es : List (Text × Value)) → length a.numbers ≡ n → length a.flags ≡ n → length zs ≡ length es → length bs ≡ length es
-    → filled (rows (a.numbers ++ zs) (a.flags ++ bs)) n (map (λ e. e.1) es) ≡ joined a (first_rows es)
-filled_behind a [] [] n [] h g l m = refl
-filled_behind a (z ∷ zs) bs n [] h g l m = cc
-filled_behind a [] (b ∷ bs) n [] h g l m = cc
-filled_behind a [] bs n (e ∷ es) h g l m = cc
-filled_behind a (z ∷ zs) [] n (e ∷ es) h g l m = cc
-filled_behind a (z ∷ zs) (b ∷ bs) n (e ∷ es) h g l m =
-    ap₂ (λ xs ys. filled (rows xs ys) (n + 1) (map (λ e. e.1) es)) (seam a.numbers z zs n (number_part e.1) h) (seam a.flags b bs n (flag_part e.1) g)
-    ∙ filled_behind (with_value a e.1) zs bs (n + 1) es (longer a.numbers (number_part e.1) h) (longer a.flags (flag_part e.1) g) (cc) (cc)
-    ∙ ap₂ rows (append_assoc a.numbers (number_part e.1 ∷ []) (map (λ w. number_part w.1) es)) (append_assoc a.flags (flag_part e.1 ∷ []) (map (λ w. flag_part w.1) es))
-  where
-    longer : {A : Type 0} (xs : List A) (v : A) → length xs ≡ n → length (xs ++ v ∷ []) ≡ n + 1
-    longer xs v is = let k = length-append xs (v ∷ []) in omega (arith, k, is)
-
--- rows with so many values more
-pub row_joined : (r : Rows) (n : ℕ) (v : Value) → with_row r n v ≡ rows (r.numbers ++ replicate n (number_part v)) (r.flags ++ replicate n (flag_part v))
-row_joined r zero v = ap₂ rows (sym (append-nil r.numbers)) (sym (append-nil r.flags))
-row_joined r (suc n) v = row_joined (with_value r v) n v ∙ ap₂ rows (append_assoc r.numbers (number_part v ∷ []) (replicate n (number_part v))) (append_assoc r.flags (flag_part v ∷ []) (replicate n (flag_part v)))
-
--- how many there are then
-pub row_room : (r s : Rows) (n : ℕ) (v : Value) → s ≡ with_row r n v → (length s.numbers ≡ length r.numbers + n) × (length s.flags ≡ length r.flags + n)
-row_room r s n v is =
-    let a = ap (λ (x : Rows). length x.numbers) (is ∙ row_joined r n v) ∙ length-append r.numbers (replicate n (number_part v)) in
-    let b = ap (λ (x : Rows). length x.flags) (is ∙ row_joined r n v) ∙ length-append r.flags (replicate n (flag_part v)) in
-    let m = length-replicate n (number_part v) in
-    let k = length-replicate n (flag_part v) in
-    (omega (arith, a, m), omega (arith, b, k))
-
--- one of them
-pub next_row : (r s initial : Rows) (slot slots : ℕ) (v : Value) → slot < slots → s ≡ with_value r v → with_row r (slots - slot) v ≡ with_row initial slots v → with_row s (slots - (slot + 1)) v ≡ with_row initial slots v
-next_row r s initial slot slots v low is rest =
-    ap (λ x. with_row x (slots - (slot + 1)) v) is ∙ (let more : suc (slots - (slot + 1)) ≡ slots - slot = omega (arith, low) in ap (λ n. with_row r n v) more) ∙ rest
-
 -- THE IMAGE
 
 element_values : (name : Text) (k : ℕ) (vs : List Value) → map (λ (e : Text × Value). e.1) (elements_of name k vs) ≡ vs
@@ -105,17 +59,6 @@ values_regroup a b d e r =
     (map-append (λ (x : Text × Value). x.1) a (b ++ (d ++ e))
     ∙ ap (λ l. map (λ (x : Text × Value). x.1) a ++ l) (map-append (λ (x : Text × Value). x.1) b (d ++ e) ∙ ap (λ l. map (λ (x : Text × Value). x.1) b ++ l) (map-append (λ (x : Text × Value). x.1) d e)))
 
--- the values of the image: the group's, the calls', the car's
-pub image_parts : (sizes : Sizes) (k : ℕ) (image : Image) (slots : List Slot)
-    → image_values sizes (suc k) image slots ≡ group_values sizes image.fields.time image.fields.run_limit ++ (call_values slots ++ car_values (suc k) (fields_of image (suc k)) (outputs_of image (suc k)))
-image_parts sizes k image slots =
-    ap (λ l. group_values sizes image.fields.time image.fields.run_limit ++ l)
-    (values_regroup (elements_of (codes "CALLWAITS") 1 (map (λ s. Boolean (waits s)) slots)) (elements_of (codes "CALLFROM") 1 (map (λ s. number (from_of s)) slots)) (elements_of (codes "CALLTO") 1 (map (λ s. number (to_of s)) slots))
-    (elements_of (codes "CALLCAR") 1 (map (λ s. number (car_of s)) slots)) (car_entries (suc k) (fields_of image (suc k)) (outputs_of image (suc k)))
-    ∙ ap (λ l. l ++ car_values (suc k) (fields_of image (suc k)) (outputs_of image (suc k)))
-    (ap₂ (λ x y. x ++ y) (element_values (codes "CALLWAITS") 1 (map (call_value Waits) slots))
-    (ap₂ (λ x y. x ++ y) (element_values (codes "CALLFROM") 1 (map (call_value From) slots)) (ap₂ (λ x y. x ++ y) (element_values (codes "CALLTO") 1 (map (call_value To) slots)) (element_values (codes "CALLCAR") 1 (map (call_value Car) slots))))))
-
 pub calls_long : (slots : List Slot) → length (call_values slots) ≡ 4 * length slots
 calls_long slots =
     let a = length-map slots (call_value Waits) in
@@ -127,19 +70,43 @@ calls_long slots =
     let n = length-append (map (call_value To) slots) (map (call_value Car) slots) in
     omega (arith, a, b, d, e, k, m, n)
 
--- written one part after another
-pub image_written : (r r1 r2 r3 : Rows) (at : ℕ) (sizes : Sizes) (car : ℕ) (image : Image) (slots : List Slot) (fields : CarFields) (outputs : CarOutputs) → 1 ≤ car → fields ≡ fields_of image car → outputs ≡ outputs_of image car
-    → r1 ≡ filled r at (group_values sizes image.fields.time image.fields.run_limit) → r2 ≡ filled r1 (at + 5) (call_values slots) → r3 ≡ filled r2 (at + (5 + 4 * length slots)) (car_values car fields outputs)
-    → r3 ≡ filled r at (image_values sizes car image slots)
-image_written r r1 r2 r3 at sizes zero image slots fields outputs low f o e1 e2 e3 = absurd (omega (arith, low))
-image_written r r1 r2 r3 at sizes (suc k) image slots fields outputs low f o e1 e2 e3 =
-    let long = calls_long slots in
-    let end : at + (5 + 4 * length slots) ≡ at + 5 + length (call_values slots) = omega (arith, long) in
-    e3 ∙ ap₂ (λ x y. filled r2 (at + (5 + 4 * length slots)) (car_values (suc k) x y)) f o
-    ∙ ap₂ (λ x n. filled x n (car_values (suc k) (fields_of image (suc k)) (outputs_of image (suc k)))) (e2 ∙ ap (λ x. filled x (at + 5) (call_values slots)) e1) end
-    ∙ sym (filled_append (filled r at (group_values sizes image.fields.time image.fields.run_limit)) (at + 5) (call_values slots) (car_values (suc k) (fields_of image (suc k)) (outputs_of image (suc k))))
-    ∙ sym (filled_append r at (group_values sizes image.fields.time image.fields.run_limit) (call_values slots ++ car_values (suc k) (fields_of image (suc k)) (outputs_of image (suc k))))
-    ∙ ap (filled r at) (sym (image_parts sizes k image slots))
+-- the values of a role
+role_parts : (task : ℕ) (image : Image) (slots : ℕ) → map (λ (e : Text × Value). e.1) (role_entries task image slots) ≡ role_values task image slots
+role_parts zero image slots =
+    map-append (λ (e : Text × Value). e.1) (elements_of (codes "CPOS") 1 (map position_value image.fields.cars) ++ elements_of (codes "CMOTOR") 1 (map motor_value image.outputs)) (elements_of (codes "ASSIGN") 1 (replicate slots (number 0)))
+    ∙ ap₂ (λ x y. x ++ y)
+    (map-append (λ (e : Text × Value). e.1) (elements_of (codes "CPOS") 1 (map position_value image.fields.cars)) (elements_of (codes "CMOTOR") 1 (map motor_value image.outputs))
+    ∙ ap₂ (λ x y. x ++ y) (element_values (codes "CPOS") 1 (map position_value image.fields.cars)) (element_values (codes "CMOTOR") 1 (map motor_value image.outputs))) (element_values (codes "ASSIGN") 1 (replicate slots (number 0)))
+    ∙ append_assoc (map position_value image.fields.cars) (map motor_value image.outputs) (replicate slots (number 0))
+role_parts (suc k) image slots = refl
+
+-- the values of the image: the group's, the calls', the role's
+pub image_parts : (sizes : Sizes) (task : ℕ) (image : Image) (slots : List Slot) → image_values sizes task image slots ≡ group_values sizes image.fields.time image.fields.run_limit ++ (call_values slots ++ role_values task image (length slots))
+image_parts sizes task image slots =
+    ap (λ l. group_values sizes image.fields.time image.fields.run_limit ++ l)
+    (values_regroup (elements_of (codes "CALLWAITS") 1 (map (λ s. Boolean (waits s)) slots)) (elements_of (codes "CALLFROM") 1 (map (λ s. number (from_of s)) slots)) (elements_of (codes "CALLTO") 1 (map (λ s. number (to_of s)) slots))
+    (elements_of (codes "CALLCAR") 1 (map (λ s. number (car_of s)) slots)) (role_entries task image (length slots))
+    ∙ ap₂ (λ x y. x ++ y)
+    (ap₂ (λ x y. x ++ y) (element_values (codes "CALLWAITS") 1 (map (call_value Waits) slots))
+    (ap₂ (λ x y. x ++ y) (element_values (codes "CALLFROM") 1 (map (call_value From) slots)) (ap₂ (λ x y. x ++ y) (element_values (codes "CALLTO") 1 (map (call_value To) slots)) (element_values (codes "CALLCAR") 1 (map (call_value Car) slots))))) (role_parts task image (length slots)))
+
+-- how many values there are
+pub image_long : (sizes : Sizes) (task : ℕ) (image : Image) (slots : List Slot) → length (image_values sizes task image slots) ≡ 5 + 4 * length slots + length (role_values task image (length slots))
+image_long sizes task image slots =
+    let all = ap length (image_parts sizes task image slots) in
+    let first = length-append (group_values sizes image.fields.time image.fields.run_limit) (call_values slots ++ role_values task image (length slots)) in
+    let rest = length-append (call_values slots) (role_values task image (length slots)) in
+    let calls = calls_long slots in
+    omega (arith, all, first, rest, calls)
+
+pub cars_long : (image : Image) (slots : ℕ) → length (cars_values image slots) ≡ length image.fields.cars + (length image.outputs + slots)
+cars_long image slots =
+    let a = length-map image.fields.cars position_value in
+    let b = length-map image.outputs motor_value in
+    let z = length-replicate slots (number 0) in
+    let first = length-append (map position_value image.fields.cars) (map motor_value image.outputs ++ replicate slots (number 0)) in
+    let rest = length-append (map motor_value image.outputs) (replicate slots (number 0)) in
+    omega (arith, a, b, z, first, rest)
 
 -- the columns one after another
 pub calls_written : (r r1 r2 r3 r4 : Rows) (at : ℕ) (slots : List Slot) → r1 ≡ filled r at (map (call_value Waits) slots) → r2 ≡ filled r1 (at + length slots) (map (call_value From) slots) → r3 ≡ filled r2 (at + 2 * length slots) (map (call_value To) slots)
@@ -159,3 +126,32 @@ calls_written r r1 r2 r3 r4 at slots e1 e2 e3 e4 =
     let three : r3 ≡ filled (filled (filled r at a) (at + length a) b) (at + length a + length b) d = e3 ∙ ap₂ (λ x n. filled x n d) two q in
     e4 ∙ ap₂ (λ x n. filled x n e) three t
     ∙ sym (filled_append r at a (b ++ (d ++ e)) ∙ filled_append (filled r at a) (at + length a) b (d ++ e) ∙ filled_append (filled (filled r at a) (at + length a) b) (at + length a + length b) d e)
+
+-- the parts one after another
+pub image_written : (r r1 r2 r3 : Rows) (at : ℕ) (sizes : Sizes) (task : ℕ) (image : Image) (slots : List Slot) → r1 ≡ filled r at (group_values sizes image.fields.time image.fields.run_limit) → r2 ≡ filled r1 (at + 5) (call_values slots)
+    → r3 ≡ filled r2 (at + (5 + 4 * length slots)) (role_values task image (length slots)) → r3 ≡ filled r at (image_values sizes task image slots)
+image_written r r1 r2 r3 at sizes task image slots e1 e2 e3 =
+    let long = calls_long slots in
+    let end : at + (5 + 4 * length slots) ≡ at + 5 + length (call_values slots) = omega (arith, long) in
+    e3 ∙ ap₂ (λ x n. filled x n (role_values task image (length slots))) (e2 ∙ ap (λ x. filled x (at + 5) (call_values slots)) e1) end
+    ∙ sym (filled_append (filled r at (group_values sizes image.fields.time image.fields.run_limit)) (at + 5) (call_values slots) (role_values task image (length slots)))
+    ∙ sym (filled_append r at (group_values sizes image.fields.time image.fields.run_limit) (call_values slots ++ role_values task image (length slots))) ∙ ap (filled r at) (sym (image_parts sizes task image slots))
+
+pub cars_written : (r r1 r2 r3 : Rows) (at : ℕ) (image : Image) (slots : ℕ) → r1 ≡ filled r at (map position_value image.fields.cars) → r2 ≡ filled r1 (at + length image.fields.cars) (map motor_value image.outputs)
+    → r3 ≡ filled r2 (at + (length image.fields.cars + length image.outputs)) (replicate slots (number 0)) → r3 ≡ filled r at (cars_values image slots)
+cars_written r r1 r2 r3 at image slots e1 e2 e3 =
+    let a = length-map image.fields.cars position_value in
+    let b = length-map image.outputs motor_value in
+    let one : at + length image.fields.cars ≡ at + length (map position_value image.fields.cars) = omega (arith, a) in
+    let two : at + (length image.fields.cars + length image.outputs) ≡ at + length (map position_value image.fields.cars) + length (map motor_value image.outputs) = omega (arith, a, b) in
+    e3 ∙ ap₂ (λ x n. filled x n (replicate slots (number 0))) (e2 ∙ ap₂ (λ x n. filled x n (map motor_value image.outputs)) e1 one) two
+    ∙ sym (filled_append (filled r at (map position_value image.fields.cars)) (at + length (map position_value image.fields.cars)) (map motor_value image.outputs) (replicate slots (number 0)))
+    ∙ sym (filled_append r at (map position_value image.fields.cars) (map motor_value image.outputs ++ replicate slots (number 0)))
+
+-- one zero more
+pub next_zero : (r s initial : Rows) (at slot count : ℕ) → slot < count → s ≡ with_slot r (at + slot) (number 0) → filled r (at + slot) (replicate (count - slot) (number 0)) ≡ filled initial at (replicate count (number 0))
+    → filled s (at + (slot + 1)) (replicate (count - (slot + 1)) (number 0)) ≡ filled initial at (replicate count (number 0))
+next_zero r s initial at slot count low is rest =
+    let more : count - slot ≡ suc (count - (slot + 1)) = omega (arith, low) in
+    let behind : at + (slot + 1) ≡ at + slot + 1 = omega arith in
+    ap₂ (λ x n. filled x n (replicate (count - (slot + 1)) (number 0))) is behind ∙ sym (ap (λ n. filled r (at + slot) (replicate n (number 0))) more) ∙ rest

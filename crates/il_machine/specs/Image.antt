@@ -1,21 +1,17 @@
--- The image in the rows, as a car's program sees it (own rules).
-use Rattle.std.specs.Prelude.{ℕ, ◌+◌, ◌*◌, List, [], ◌∷◌, ◌++◌, map, set}
+-- The image in the rows of a task (own rules).
+use Rattle.std.specs.Prelude.{ℕ, zero, suc, ◌+◌, List, replicate, [], ◌∷◌, ◌++◌, map, set}
 use Rattle.il_run.specs.declared.value.Value.{Value}
 use Rattle.il_run.specs.declared.value.Value.TheVariants.{Boolean, Integer}
-use Rattle.il_code.specs.Layout.{Rows, rows}
-use Rattle.il_code.specs.Whole.{number_part, flag_part}
+use Rattle.il_code.specs.Layout.{Rows, rows, number_part, flag_part}
 use Rattle.lift_spec.specs.declared.image.Sizes.{Sizes}
 use Rattle.lift_spec.specs.declared.image.CarFields.{CarFields}
 use Rattle.lift_spec.specs.declared.image.CarOutputs.{CarOutputs}
 use Rattle.lift_spec.specs.declared.image.Image.{Image}
 use Rattle.lift_spec.specs.declared.calls.Slot.{Slot}
+use Rattle.lift_spec.specs.Settle.{fields_of, outputs_of}
 use Rattle.lift_spec.specs.Snapshot.{number, motor_number, waits, from_of, to_of, car_of, image_entries}
 use Rattle.il_machine.specs.declared.image.Column.{Column}
 use Rattle.il_machine.specs.declared.image.Column.TheVariants.{Waits, From, To, Car}
-
--- how many slots stand before one of the car's, where the group has so many call slots
-abbrev pub car_slot : ℕ → ℕ → ℕ
-car_slot slots offset = 5 + (4 * slots + offset)
 
 -- rows with a value at a slot
 abbrev pub with_slot : Rows → ℕ → Value → Rows
@@ -45,6 +41,21 @@ group_values sizes time run_limit = number sizes.cars ∷ number sizes.floors �
 abbrev pub car_values : ℕ → CarFields → CarOutputs → List Value
 car_values car fields outputs =
     number car ∷ number fields.pos ∷ Boolean fields.level ∷ Boolean fields.top ∷ Boolean fields.bottom ∷ Boolean fields.locked ∷ Boolean fields.opened ∷ Integer (motor_number outputs.motor) ∷ Boolean outputs.opens ∷ number 0 ∷ []
+
+-- what the group's program sees of the cars, and ASSIGN
+abbrev pub position_value : CarFields → Value
+position_value f = number f.pos
+
+abbrev pub motor_value : CarOutputs → Value
+motor_value o = Integer (motor_number o.motor)
+
+abbrev pub cars_values : Image → ℕ → List Value
+cars_values image slots = map position_value image.fields.cars ++ (map motor_value image.outputs ++ replicate slots (number 0))
+
+-- what programs of one role see
+abbrev pub role_values : ℕ → Image → ℕ → List Value
+role_values zero image slots = cars_values image slots
+role_values (suc k) image slots = car_values (suc k) (fields_of image (suc k)) (outputs_of image (suc k))
 
 -- the values of the image as a task sees it
 abbrev pub image_values : Sizes → ℕ → Image → List Slot → List Value

@@ -1,11 +1,12 @@
-// The image, as a car's program sees it in its rows.
+// The image, as a task sees it in its rows.
 
-ghost use Rattle.std.specs.Prelude.{◌≡◌, ◌+◌, ◌*◌, ◌≤◌, ◌≤ℤ◌, length, map, pos, nat_abs};
+ghost use Rattle.std.specs.Prelude.{◌≡◌, ◌+◌, ◌*◌, ◌≤◌, length, map, replicate};
 ghost use Rattle.lift_spec.specs.Settle.{fields_of, outputs_of};
-ghost use Rattle.lift_spec.specs.Snapshot.{motor_number, motor_of};
-ghost use Rattle.il_machine.specs.Image.{car_slot, filled, call_value, call_values, group_values, car_values, image_values};
+ghost use Rattle.lift_spec.specs.Snapshot.{motor_number, number};
+ghost use Rattle.il_machine.specs.Image.{filled, call_value, call_values, group_values, car_values, position_value, motor_value, cars_values, role_values, image_values};
 
-use crate::rows::Rows;
+use crate::rows::{put, put_all};
+use il_exec::rows::Rows;
 use il_run::value::Value;
 use lift_spec::calls::Slot;
 use lift_spec::image::{CarFields, CarOutputs, Image, Motor, Sizes};
@@ -17,35 +18,6 @@ pub enum Column {
     From,
     To,
     Car,
-}
-
-/// How many slots of the image stand before one of the car's.
-pub fn car_slot(slots: u8, offset: u8) -> usize
-    ensures { result ≡ car_slot slots offset }
-{
-    5 + (4 * (slots as usize) + (offset as usize))
-}
-
-/// The motor of a number.
-pub fn motor_of(number: i64) -> Motor
-    ensures { result ≡ motor_of number }
-{
-    if number > 0 {
-        Motor::Up
-    } else if number < 0 {
-        Motor::Down
-    } else {
-        Motor::Still
-    }
-}
-
-/// The call slot of a number, 0 for none.
-pub fn slot_of(number: i64) -> u8
-    requires least { pos 0 ≤ℤ number }
-    requires most { number ≤ℤ pos 64 }
-    ensures { result ≡ nat_abs number }
-{
-    number as u8
 }
 
 // The number of a motor.
@@ -81,10 +53,10 @@ fn write_column(rows: &mut Rows, at: usize, column: Column, slots: &[Slot])
     requires flags { at + length slots.now ≤ length rows.old.flags }
     ensures { rows.new ≡ filled rows.old at (map (call_value column) slots.now) }
 {
-    let _room = rows.len();
+    let _room = rows.numbers.len();
     let mut place = at;
     'slots: for slot in slots {
-        rows.put(place, call_value(column, *slot));
+        put(rows, place, call_value(column, *slot));
         place += 1;
     }
 }
@@ -95,7 +67,7 @@ fn write_calls(rows: &mut Rows, at: usize, slots: &[Slot])
     requires flags { at + 4 * length slots.now ≤ length rows.old.flags }
     ensures { rows.new ≡ filled rows.old at (call_values slots.now) }
 {
-    let _room = rows.len();
+    let _room = rows.numbers.len();
     let count = slots.len();
     write_column(rows, at, Column::Waits, slots);
     write_column(rows, at + count, Column::From, slots);
@@ -116,7 +88,7 @@ fn write_group(rows: &mut Rows, at: usize, sizes: Sizes, time: u32, run_limit: u
         Value::Integer(time as i64),
         Value::Integer(run_limit as i64),
     ];
-    rows.put_all(at, &values);
+    put_all(rows, at, &values);
 }
 
 // Writes what a car's program sees of its car from a slot on.
@@ -137,7 +109,7 @@ fn write_car(rows: &mut Rows, at: usize, car: u8, fields: CarFields, outputs: Ca
         Value::Boolean(outputs.opens),
         Value::Integer(0),
     ];
-    rows.put_all(at, &values);
+    put_all(rows, at, &values);
 }
 
 // The fields of a car.
@@ -158,19 +130,94 @@ fn outputs_of(image: &Image, car: u8) -> CarOutputs
     image.outputs.as_slice()[car as usize - 1]
 }
 
-/// Writes the image, as a car's program sees it, from a slot on.
-pub fn write_image(rows: &mut Rows, at: usize, sizes: Sizes, car: u8, image: &Image, slots: &[Slot])
-    requires car { 1 ≤ car }
-    requires fields { car ≤ length image.now.fields.cars }
-    requires outputs { car ≤ length image.now.outputs }
-    requires numbers { at + (15 + 4 * length slots.now) ≤ length rows.old.numbers }
-    requires flags { at + (15 + 4 * length slots.now) ≤ length rows.old.flags }
-    ensures { rows.new ≡ filled rows.old at (image_values sizes car image.now slots.now) }
+// Writes the positions of cars from a slot on.
+fn write_positions(rows: &mut Rows, at: usize, cars: &[CarFields])
+    requires numbers { at + length cars.now ≤ length rows.old.numbers }
+    requires flags { at + length cars.now ≤ length rows.old.flags }
+    ensures { rows.new ≡ filled rows.old at (map position_value cars.now) }
 {
-    let _room = rows.len();
-    let fields = fields_of(image, car);
-    let outputs = outputs_of(image, car);
+    let _room = rows.numbers.len();
+    let mut place = at;
+    'cars: for car in cars {
+        put(rows, place, Value::Integer(car.pos as i64));
+        place += 1;
+    }
+}
+
+// Writes the motors of cars from a slot on.
+fn write_motors(rows: &mut Rows, at: usize, cars: &[CarOutputs])
+    requires numbers { at + length cars.now ≤ length rows.old.numbers }
+    requires flags { at + length cars.now ≤ length rows.old.flags }
+    ensures { rows.new ≡ filled rows.old at (map motor_value cars.now) }
+{
+    let _room = rows.numbers.len();
+    let mut place = at;
+    'cars: for car in cars {
+        put(rows, place, Value::Integer(motor_number(car.motor)));
+        place += 1;
+    }
+}
+
+// Writes so many zeros from a slot on.
+fn write_zeros(rows: &mut Rows, at: usize, count: usize)
+    requires numbers { at + count ≤ length rows.old.numbers }
+    requires flags { at + count ≤ length rows.old.flags }
+    ensures { rows.new ≡ filled rows.old at (replicate count (number 0)) }
+{
+    let _room = rows.numbers.len();
+    'slots: for slot in 0..count {
+        put(rows, at + slot, Value::Integer(0));
+    }
+}
+
+// Writes what the group's program sees of the cars from a slot on, and ASSIGN.
+fn write_cars(rows: &mut Rows, at: usize, image: &Image, slots: usize)
+    requires numbers { at + length (cars_values image.now slots) ≤ length rows.old.numbers }
+    requires flags { at + length (cars_values image.now slots) ≤ length rows.old.flags }
+    ensures { rows.new ≡ filled rows.old at (cars_values image.now slots) }
+{
+    let _room = rows.numbers.len();
+    let cars = image.fields.cars.as_slice();
+    let outputs = image.outputs.as_slice();
+    write_positions(rows, at, cars);
+    write_motors(rows, at + cars.len(), outputs);
+    write_zeros(rows, at + (cars.len() + outputs.len()), slots);
+}
+
+// Writes what programs of the task's role see from a slot on.
+fn write_role(rows: &mut Rows, at: usize, task: u8, image: &Image, slots: usize)
+    requires fields { task ≤ length image.now.fields.cars }
+    requires outputs { task ≤ length image.now.outputs }
+    requires numbers { at + length (role_values task image.now slots) ≤ length rows.old.numbers }
+    requires flags { at + length (role_values task image.now slots) ≤ length rows.old.flags }
+    ensures { rows.new ≡ filled rows.old at (role_values task image.now slots) }
+{
+    if task == 0 {
+        write_cars(rows, at, image, slots);
+    } else {
+        let fields = fields_of(image, task);
+        let outputs = outputs_of(image, task);
+        write_car(rows, at, task, fields, outputs);
+    }
+}
+
+/// Writes the image, as a task sees it, from a slot on.
+pub fn write_image(
+    rows: &mut Rows,
+    at: usize,
+    sizes: Sizes,
+    task: u8,
+    image: &Image,
+    slots: &[Slot],
+)
+    requires fields { task ≤ length image.now.fields.cars }
+    requires outputs { task ≤ length image.now.outputs }
+    requires numbers { at + length (image_values sizes task image.now slots.now) ≤ length rows.old.numbers }
+    requires flags { at + length (image_values sizes task image.now slots.now) ≤ length rows.old.flags }
+    ensures { rows.new ≡ filled rows.old at (image_values sizes task image.now slots.now) }
+{
+    let _room = rows.numbers.len();
     write_group(rows, at, sizes, image.fields.time, image.fields.run_limit);
     write_calls(rows, at + 5, slots);
-    write_car(rows, at + (5 + 4 * slots.len()), car, fields, outputs);
+    write_role(rows, at + (5 + 4 * slots.len()), task, image, slots.len());
 }

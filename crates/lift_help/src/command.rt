@@ -2,7 +2,8 @@
 
 use clap::error::ErrorKind;
 use clap::{Arg, Command};
-use lift_host::request::{MOST_ROUNDS, is_option};
+use lift_explain::explanation;
+use lift_host::request::{MOST_ROUNDS, is_option, number_to};
 use std::alloc::{AllocError, Global};
 
 const VERSION: &str = "0.1.0";
@@ -14,7 +15,13 @@ Exit status:
   3  FILE can't be read, or standard output can't be written
   4  out of memory
 
-A refused FILE prints `refused NUMBER at line LINE`: docs/FAULTS.md explains each number.";
+A refused FILE prints `refused NUMBER at line LINE`: `liftplc explain NUMBER` and docs/FAULTS.md say what it means.";
+
+/// The command that explains a number.
+const EXPLAIN: &str = "explain";
+
+/// The greatest number of a fault.
+const MOST_NUMBER: u16 = 99;
 
 /// What words say that ask for nothing.
 #[derive(Debug, Drop)]
@@ -33,6 +40,8 @@ enum Misuse<'w> {
     Option(&'w str),
     /// ROUNDS is no decimal in its range.
     Rounds(&'w str),
+    /// NUMBER is none of a fault or a refusal.
+    Number(&'w str),
     /// A command or its FILE is missing.
     Missing,
 }
@@ -74,6 +83,20 @@ fn sim_command<'a>(alloc: Global) -> Result<Command<'a>, AllocError> {
         .arg(presses(alloc))
 }
 
+/// The command that explains.
+fn explain_command<'a>(alloc: Global) -> Result<Command<'a>, AllocError> {
+    Command::new(alloc, EXPLAIN)
+        .about("Says what a fault or a refusal means")
+        .arg(number(alloc))
+}
+
+/// The argument NUMBER.
+fn number<'a>(alloc: Global) -> Arg<'a> {
+    Arg::new(alloc, "NUMBER")
+        .required(true)
+        .help("The number of a fault or a refusal")
+}
+
 /// The program without its commands.
 fn bare<'a>(alloc: Global) -> Result<Command<'a>, AllocError> {
     Command::new(alloc, "liftplc")
@@ -87,6 +110,11 @@ fn bare<'a>(alloc: Global) -> Result<Command<'a>, AllocError> {
 
 /// The program with its commands.
 fn commands<'a>(alloc: Global) -> Result<Command<'a>, AllocError> {
+    let explain = explain_command(alloc)?;
+    with_sim(alloc)?.subcommand(explain)
+}
+
+fn with_sim<'a>(alloc: Global) -> Result<Command<'a>, AllocError> {
     let sim = sim_command(alloc)?;
     with_check(alloc)?.subcommand(sim)
 }
@@ -102,6 +130,7 @@ fn misuse_of(words: &[String]) -> Misuse<'_> {
         return Misuse::Option(word);
     }
     match words {
+        [command, number] if command == EXPLAIN => Misuse::Number(number),
         [_, _, rounds, ..] => Misuse::Rounds(rounds),
         _ => Misuse::Missing,
     }
@@ -122,6 +151,10 @@ fn error_of(
             let text = format!(in alloc;
                 "invalid value '{word}' for '<ROUNDS>': not a decimal from 1 to {MOST_ROUNDS}"
             )?;
+            command.error(ErrorKind::ValueValidation, &text)
+        }
+        Misuse::Number(word) => {
+            let text = format!(in alloc; "invalid value '{word}' for '<NUMBER>': no fault or refusal has it")?;
             command.error(ErrorKind::ValueValidation, &text)
         }
         Misuse::Missing => command.error(
@@ -160,10 +193,29 @@ fn error_in(alloc: Global, words: &[String]) -> Result<clap::Error, AllocError> 
     parsed(alloc, &mut command, words)
 }
 
-/// What the program prints of words that ask for nothing.
-pub fn answer_of(alloc: Global, words: &[String]) -> Answer {
+/// What words explain, if they are `explain` and a number that has a meaning.
+fn explained(words: &[String]) -> Option<&'static str> {
+    match words {
+        [command, number] if command == EXPLAIN => explanation(number_to(MOST_NUMBER, number)?),
+        _ => None,
+    }
+}
+
+/// What the parser says of words.
+fn parser_answer(alloc: Global, words: &[String]) -> Answer {
     match error_in(alloc, words) {
         Ok(error) => answer_to(alloc, error),
+        Err(_) => Answer::NoMemory,
+    }
+}
+
+/// What the program prints of words that ask for no file.
+pub fn answer_of(alloc: Global, words: &[String]) -> Answer {
+    let Some(text) = explained(words) else {
+        return parser_answer(alloc, words);
+    };
+    match String::from_str(alloc, text) {
+        Ok(text) => Answer::Help(text),
         Err(_) => Answer::NoMemory,
     }
 }
