@@ -3,7 +3,7 @@ use Rattle.std.proofs.Common.{◌≡◌, ◌≢◌, ℕ, zero, suc, ℤ, pos, ne
 use Rattle.std.proofs.lemmas.Int.{ints}
 use Rattle.std.proofs.lemmas.List.Elements.{Contains-append_left, Contains-append_right, Contains-append_cases}
 use Rattle.std.proofs.lemmas.Slice.Eq.{bytes_eq-Decides}
-use Rattle.std.specs.Prelude.{Contains, bytes_eq, if◌then◌else◌, int_le, int_lt, is_some, find, filter, ◌||◌}
+use Rattle.std.specs.Prelude.{Contains, flat_map, bytes_eq, if◌then◌else◌, int_le, int_lt, is_some, find, filter, ◌||◌}
 use Rattle.il_spec.specs.declared.tree.Config.{Config}
 use Rattle.il_spec.specs.declared.tree.Unit.{Unit as ProgramUnit}
 use Rattle.il_spec.specs.declared.tree.Declaration.{Declaration}
@@ -17,12 +17,12 @@ use Rattle.il_spec.specs.declared.tree.Form.TheVariants.{Scalar as ScalarForm, A
 use Rattle.il_spec.specs.declared.tree.UnitKind.{UnitKind}
 use Rattle.il_spec.specs.declared.tree.UnitKind.TheVariants.{Function, FunctionBlock, Program}
 use Rattle.il_rules.specs.Names.{is_program, is_program_kind, ImageName, image_of, image_name, is_predeclared, standard_function, standard_block, standard_variables, StandardBlock, Sr, Rs, RTrig, FTrig, Ctu, Ctd, Ctud, Tp, Ton, Tof, sees}
-use Rattle.il_rules.specs.Declarations.{Admitted, ScalarsAlone, ScalarsAndArrays, admitted_variables, admits_arrays, written_types, unit_declarations, unit_names, names_in, type_numbers, bounds_numbers, subrange_numbers, unless, has_value, is_within, sizes_of, predeclared_unit, predeclared_variable, second_variable, size_outside}
+use Rattle.il_rules.specs.Declarations.{Admitted, ScalarsAlone, ScalarsAndArrays, admitted_variables, admits_arrays, types_in, unit_types, written_types, unit_declarations, unit_names, names_in, type_numbers, bounds_numbers, subrange_numbers, unless, has_value, is_within, sizes_of, predeclared_unit, predeclared_variable, second_variable, size_outside}
 use Rattle.il_rules.specs.Faults.{duplicate, initial_outside, HasNoFault, Broken, Declaring}
 use Rattle.il_rules.specs.Written.{IsWord, IsWritten}
 use Rattle.il_run.specs.NameMap.{Text}
 use Rattle.il_run.specs.Meaning.{Entity, entities, own_entities, result_entities, block_entities, standard_entities, width, width_of}
-use Rattle.il_sound.proofs.Lists.{in_nothing, at_head, in_tail, in_flat_map, AreDistinct, distinct_names}
+use Rattle.il_sound.proofs.Lists.{in_nothing, at_head, in_tail, in_map, in_flat_map, AreDistinct, distinct_names}
 use Rattle.il_sound.proofs.Fresh.{entity, of_entities}
 use Rattle.il_sound.proofs.Meant.{no_22, input_typed, output_typed, variable_typed, external_typed}
 use Rattle.il_sound.proofs.Words.{all_of, first_of_two, second_of_two, contains_all, is_word, word_by, are_apart_by}
@@ -142,6 +142,10 @@ module _ (c : Config) (unbroken : HasNoFault (Broken Declaring c)) where
       by_external : Contains (u.inputs ++ u.outputs ++ u.variables) d ⊎ Contains u.externals d → HasShort d.declared.form
       by_external (inl h) = by_variable (Contains-append_cases (u.inputs ++ u.outputs) u.variables d h)
       by_external (inr h) = short_type ScalarsAndArrays d.declared (external_typed c u d among h)
+
+  -- the types of the globals are written too
+  pub globals_short : (d : Declaration) → Contains c.globals d → HasShort d.declared.form
+  globals_short d has = short_type ScalarsAndArrays d.declared (Contains-append_right (flat_map unit_types c.units) (types_in ScalarsAndArrays c.globals) _ (in_map (λ (d : Declaration). (ScalarsAndArrays, d.declared)) c.globals d has))
 
   -- the names that a unit declares stand once (20), and are words
   unit_named_once : IsWritten c → (u : ProgramUnit) → Contains c.units u → AreNamed (entities (unit_declarations u))

@@ -158,6 +158,9 @@ module _ (c : Config) where
     are_values (suc n) path name =
         ap (λ vs. map value_of (list_openings (block_openings n units (block_lists c)) path vs)) (variables_are name) ∙ values_of_list n (are_values n) path (block_entities c name) (shorts name)
 
+    pub values_to : (n : ℕ) (path : Text) (es : List Entity) → AreShort es → map value_of (openings_to n c path es) ≡ entity_values (instance_values n c) path es
+    values_to n path es short = values_of_list n (are_values n) path es short
+
     pub values_are : (path : Text) (es : List Entity) → AreShort es → map value_of (openings_of c path es) ≡ entity_values (instance_values 16 c) path es
     values_are path es short = values_of_list 16 (are_values 16) path es short
 

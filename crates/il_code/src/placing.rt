@@ -5,7 +5,7 @@ ghost use Rattle.il_spec.specs.declared.tree.Unit.{Unit as ProgramUnit};
 ghost use Rattle.il_rules.specs.Names.{is_program, program_named};
 ghost use Rattle.il_run.specs.Meaning.{entities};
 ghost use Rattle.il_sound.specs.Accepted.{IsAccepted};
-ghost use Rattle.il_code.specs.Laying.{openings_to, program_task, all_paths};
+ghost use Rattle.il_code.specs.Laying.{openings_to, laid_task, program_task, all_paths};
 ghost use Rattle.il_code.specs.Places.{seen_image};
 ghost use Rattle.il_code.specs.Tasks.{IsTaskOf, AreTasksOf};
 
@@ -14,7 +14,7 @@ use crate::laying::{Blocks, Opening};
 use crate::reaching::all_paths;
 use crate::sizes::block_lists;
 use crate::task::TaskCode;
-use crate::variables::other_variables;
+use crate::variables::{global_variables, other_variables};
 use il_scope::{Scoped, is_program};
 use il_spec::list::Items;
 use il_spec::tree::{ProgramLine, Unit};
@@ -131,6 +131,23 @@ fn line_tasks(
         tasks.push(line_task(alloc, blocks, paths, line)?)?;
     }
     Ok(tasks)
+}
+
+/// The slots of the globals.
+pub fn globals(alloc: Global, names: &Scoped) -> Result<TaskCode, AllocError>
+    requires { length names.now.units < 2 ^ 63 }
+    ensures { IfOk result (λ t. t ≡ laid_task (openings_to 0 names.now [] (entities names.now.globals)) [] []) }
+{
+    let lists = block_lists(alloc, names)?;
+    let blocks = Blocks {
+        names,
+        units: names.config().units.as_slice().len(),
+        lists: lists.as_slice(),
+    };
+    let list = global_variables(alloc, names)?;
+    let mut openings = Items::new(alloc);
+    add_openings(alloc, &blocks, &mut openings, 0, "", list.as_slice())?;
+    TaskCode::of(alloc, openings.as_slice(), &[], Items::new(alloc))
 }
 
 /// The slots of the task of each PROGRAM line, in the written order.

@@ -371,6 +371,17 @@ pub fn input_variables(
     Ok(list)
 }
 
+/// The globals.
+#[tactic(auto, using(crate::proofs::Seen::added_all))]
+pub fn global_variables(alloc: Global, names: &Scoped) -> Result<Items<Variable>, AllocError>
+    ensures { IfOk result (λ vs. vs ≡ map (shown names.now) (entities names.now.globals)) }
+{
+    let mut list = Items::new(alloc);
+    let globals = names.config().globals.as_slice();
+    add_declarations(alloc, names, &mut list, globals)?;
+    Ok(list)
+}
+
 /// A function's variables, its result behind them.
 #[tactic(auto, using(crate::proofs::Seen::function_added))]
 pub fn function_variables(
