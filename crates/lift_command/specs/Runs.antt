@@ -23,7 +23,7 @@ most_bytes = 262145
 abbrev pub Outcome : Type 0
 Outcome = Result (String Global) Fault
 
--- Words that ask for no file give help, the version, or what is wrong with them.
+-- Words that ask for no file give help, the version, what a number means, or what is wrong with them.
 abbrev pub IsWordsOutcome : Outcome → Type 0
 IsWordsOutcome (Ok text) = Unit {0}
 IsWordsOutcome (Err (fault.Misuse text)) = Unit {0}

@@ -3,12 +3,29 @@
 
 mod texts;
 
+ghost use Rattle.std.specs.Prelude.{◌≡◌, ◌↔◌, Contains, IsSome, option_copied};
+ghost use Rattle.lift_explain.specs.Explained.{numbers, meaning_in};
+
 use crate::texts::TEXTS;
 
+/// What a number means.
+#[derive(Clone, Copy)]
+pub(crate) struct Meaning {
+    pub(crate) number: u16,
+    pub(crate) text: &'static str,
+}
+
 /// What the fault or the refusal of this number means, if there is one (own rule).
-pub fn explanation(number: u16) -> Option<&'static str> {
-    TEXTS
-        .iter()
-        .find(|entry| entry.0 == number)
-        .map(|entry| entry.1)
+pub fn explanation(number: u16) -> Option<&'static str>
+    ensures { IsSome result ↔ Contains numbers number }
+{
+    Some(meaning_in(&TEXTS, number)?.text)
+}
+
+// The first meaning of a number.
+#[tactic(auto, unfolding(crate::specs::Explained::meaning_in))]
+fn meaning_in(meanings: &[Meaning], number: u16) -> Option<&Meaning>
+    ensures { option_copied result ≡ meaning_in meanings.now number }
+{
+    meanings.iter().find(|meaning| meaning.number == number)
 }

@@ -130,7 +130,7 @@ fn misuse_of(words: &[String]) -> Misuse<'_> {
         return Misuse::Option(word);
     }
     match words {
-        [command, number] if command == EXPLAIN => Misuse::Number(number),
+        [command, number] if command.as_str() == EXPLAIN => Misuse::Number(number),
         [_, _, rounds, ..] => Misuse::Rounds(rounds),
         _ => Misuse::Missing,
     }
@@ -154,7 +154,9 @@ fn error_of(
             command.error(ErrorKind::ValueValidation, &text)
         }
         Misuse::Number(word) => {
-            let text = format!(in alloc; "invalid value '{word}' for '<NUMBER>': no fault or refusal has it")?;
+            let text = format!(in alloc;
+                "invalid value '{word}' for '<NUMBER>': no fault or refusal has it"
+            )?;
             command.error(ErrorKind::ValueValidation, &text)
         }
         Misuse::Missing => command.error(
@@ -196,7 +198,10 @@ fn error_in(alloc: Global, words: &[String]) -> Result<clap::Error, AllocError> 
 /// What words explain, if they are `explain` and a number that has a meaning.
 fn explained(words: &[String]) -> Option<&'static str> {
     match words {
-        [command, number] if command == EXPLAIN => explanation(number_to(MOST_NUMBER, number)?),
+        [command, number] if command.as_str() == EXPLAIN => explanation(number_to(
+            MOST_NUMBER,
+            number,
+        )?),
         _ => None,
     }
 }
