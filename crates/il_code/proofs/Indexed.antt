@@ -8,8 +8,8 @@ use Rattle.il_run.specs.NameMap.{NameMap, Text, get}
 use Rattle.il_scope.specs.Tables.{with_new, AreUnits}
 use Rattle.il_scope.specs.Views.{place_of}
 use Rattle.il_scope.proofs.Filled.{get-with_new, take_next, take_all}
-use Rattle.il_code.specs.declared.flat.Cell.{Cell}
-use Rattle.il_code.specs.Paths.{slot_at}
+use Rattle.il_slots.specs.declared.flat.Cell.{Cell}
+use Rattle.il_slots.specs.Paths.{slot_at}
 use Rattle.il_code.specs.Tasks.{AreIndexed}
 
 -- the place of a name behind others

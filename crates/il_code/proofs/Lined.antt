@@ -18,11 +18,11 @@ use Rattle.il_sound.specs.Accepted.{IsAccepted}
 use Rattle.il_sound.proofs.Lists.{found_in}
 use Rattle.il_sound.proofs.Meant.{program_is}
 use Rattle.il_code.specs.Laying.{used_by, all_paths, program_task}
-use Rattle.il_code.specs.Program.{program_names}
+use Rattle.il_slots.specs.Program.{program_names}
 use Rattle.il_code.specs.Tasks.{TaskLayout, IsTaskOf, AreTasksOf, Belongs}
-use Rattle.il_code.specs.Whole.{unit_code}
-use Rattle.il_code.specs.declared.flat.UnitCode.{UnitCode}
-use Rattle.il_code.proofs.Counted.{length_mapped, one_there}
+use Rattle.il_slots.specs.Whole.{unit_code}
+use Rattle.il_slots.specs.declared.flat.UnitCode.{UnitCode}
+use Rattle.il_slots.proofs.Counted.{length_mapped, one_there}
 use Rattle.il_code.proofs.Framed.{task_is}
 use Rattle.il_code.proofs.Reached.{row_is, row_many}
 

@@ -19,15 +19,15 @@ use Rattle.il_scope.specs.declared.entry.VariableType.TheVariants.{Scalar, Array
 use Rattle.il_scope.specs.declared.entry.BlockType.{BlockType}
 use Rattle.il_scope.specs.Views.{unit_number}
 use Rattle.il_order.specs.Related.{tabulate, holds}
-use Rattle.il_code.specs.declared.flat.Cell.{Cell}
+use Rattle.il_slots.specs.declared.flat.Cell.{Cell}
 use Rattle.il_code.specs.declared.framing.Frames.{Frames}
 use Rattle.il_code.specs.declared.laying.Opening.{Opening}
-use Rattle.il_code.specs.declared.variables.Variable.{Variable}
-use Rattle.il_code.specs.Flattened.{function_entities, place_or_zero}
-use Rattle.il_code.specs.Layout.{Rows, rows, cell, number_part, flag_part}
-use Rattle.il_code.specs.Making.{shown, block_place, block_lists}
-use Rattle.il_code.specs.Places.{capped, seen_image}
-use Rattle.il_code.specs.Paths.{slot_at}
+use Rattle.il_slots.specs.declared.variables.Variable.{Variable}
+use Rattle.il_slots.specs.Flattened.{function_entities, place_or_zero}
+use Rattle.il_slots.specs.Layout.{Rows, rows, cell, number_part, flag_part}
+use Rattle.il_slots.specs.Making.{shown, block_place, block_lists}
+use Rattle.il_slots.specs.Places.{capped, seen_image}
+use Rattle.il_slots.specs.Paths.{slot_at}
 use Rattle.il_code.specs.Tasks.{TaskLayout}
 
 -- OPENINGS
@@ -176,9 +176,10 @@ laid_task own seen bases = record {
   first = with_values (rows [] []) own;
 }
 
--- the task of a program, where these units are used
+-- the task of a program, behind the frames of the functions that it uses
+abbrev pub task_by : Config → ProgramUnit → Frames → TaskLayout
+task_by c p f = laid_task (f.openings ++ openings_of c [] (own_entities p)) (openings_to 17 c [] (entities p.externals ++ seen_image c p)) (map (base_or (length f.openings)) f.bases)
+
+-- and where these units are used
 abbrev pub program_task : Config → ProgramUnit → List Bool → TaskLayout
-program_task c p used = task_by (with_frames c no_frames c.units used)
-  where
-    task_by : Frames → TaskLayout
-    task_by f = laid_task (f.openings ++ openings_of c [] (own_entities p)) (openings_to 17 c [] (entities p.externals ++ seen_image c p)) (map (base_or (length f.openings)) f.bases)
+program_task c p used = task_by c p (with_frames c no_frames c.units used)

@@ -3,12 +3,12 @@
 ghost use Rattle.std.specs.Prelude.{◌≡◌, List, ◌++◌, ◌&&◌, [], length, map, IfOk, OnOk};
 ghost use Rattle.il_rules.specs.Names.{is_function};
 ghost use Rattle.il_run.specs.Meaning.{Entity, own_entities};
-ghost use Rattle.il_code.specs.Flattened.{function_entities};
+ghost use Rattle.il_slots.specs.Flattened.{function_entities};
 ghost use Rattle.il_code.specs.Laying.{openings_to, openings_of, with_frame, with_frames, no_frames, base_or};
-ghost use Rattle.il_code.specs.Making.{shown};
+ghost use Rattle.il_slots.specs.Making.{shown};
 
 use crate::laying::{Blocks, Opening, add_variables};
-use crate::variables::{Variable, function_variables, own_variables};
+use il_slots::variables::{Variable, function_variables, own_variables};
 use il_spec::list::Items;
 use il_spec::tree::{Unit, UnitKind};
 use std::alloc::{AllocError, Global};

@@ -5,17 +5,17 @@ ghost use Rattle.il_spec.specs.declared.tree.Unit.{Unit as ProgramUnit};
 ghost use Rattle.il_rules.specs.Names.{is_program, program_named};
 ghost use Rattle.il_run.specs.Meaning.{entities};
 ghost use Rattle.il_sound.specs.Accepted.{IsAccepted};
-ghost use Rattle.il_code.specs.Laying.{openings_to, laid_task, program_task, all_paths};
-ghost use Rattle.il_code.specs.Places.{seen_image};
+ghost use Rattle.il_code.specs.Laying.{openings_to, laid_task, task_by, program_task, all_paths};
+ghost use Rattle.il_slots.specs.Places.{seen_image};
 ghost use Rattle.il_code.specs.Tasks.{IsTaskOf, AreTasksOf};
 
-use crate::framing::{add_openings, add_own, bases_of, frames_of};
+use crate::framing::{Frames, add_openings, add_own, bases_of, frames_of};
 use crate::laying::{Blocks, Opening};
 use crate::reaching::all_paths;
-use crate::sizes::block_lists;
 use crate::task::TaskCode;
-use crate::variables::{global_variables, other_variables};
 use il_scope::{Scoped, is_program};
+use il_slots::sizes::block_lists;
+use il_slots::variables::{global_variables, other_variables};
 use il_spec::list::Items;
 use il_spec::tree::{ProgramLine, Unit};
 use std::alloc::{AllocError, Global};
@@ -32,6 +32,37 @@ fn seen_openings(alloc: Global, blocks: &Blocks, unit: &Unit) -> Result<Items<Op
     Ok(openings)
 }
 
+// A task with the slots that stay, and those of what its program sees beside.
+fn task_with(
+    alloc: Global,
+    blocks: &Blocks,
+    unit: &Unit,
+    own: &[Opening],
+    bases: Items<usize>,
+) -> Result<TaskCode, AllocError>
+    requires { is_program unit.now ≡ true }
+    ensures { IfOk result (λ t. t ≡ laid_task own.now (openings_to 17 blocks.now.names.now [] (entities unit.now.externals ++ seen_image blocks.now.names.now unit.now)) bases) }
+{
+    let seen = seen_openings(alloc, blocks, unit)?;
+    TaskCode::of(alloc, own, seen.as_slice(), bases)
+}
+
+// The slots of the task of a program behind the frames of the functions that it uses.
+fn framed_task(
+    alloc: Global,
+    blocks: &Blocks,
+    unit: &Unit,
+    frames: Frames,
+) -> Result<TaskCode, AllocError>
+    requires { is_program unit.now ≡ true }
+    ensures { IfOk result (λ t. t ≡ task_by blocks.now.names.now unit.now frames) }
+{
+    let mut own = frames.openings;
+    let bases = bases_of(alloc, frames.bases.as_slice(), own.as_slice().len())?;
+    add_own(alloc, blocks, &mut own, unit)?;
+    task_with(alloc, blocks, unit, own.as_slice(), bases)
+}
+
 // The slots of the task of a program, where these units are used.
 fn program_task(
     alloc: Global,
@@ -43,12 +74,8 @@ fn program_task(
     requires used { length used.now ≡ length blocks.now.names.now.units }
     ensures { IfOk result (λ t. t ≡ program_task blocks.now.names.now unit.now used.now) }
 {
-    let mut frames = frames_of(alloc, blocks, used)?;
-    let end = frames.openings.as_slice().len();
-    let bases = bases_of(alloc, frames.bases.as_slice(), end)?;
-    add_own(alloc, blocks, &mut frames.openings, unit)?;
-    let seen = seen_openings(alloc, blocks, unit)?;
-    TaskCode::of(alloc, frames.openings.as_slice(), seen.as_slice(), bases)
+    let frames = frames_of(alloc, blocks, used)?;
+    framed_task(alloc, blocks, unit, frames)
 }
 
 // No slots.
@@ -133,6 +160,24 @@ fn line_tasks(
     Ok(tasks)
 }
 
+// The slots of the globals, with the values with which they begin.
+fn global_openings(alloc: Global, blocks: &Blocks) -> Result<Items<Opening>, AllocError>
+    ensures { IfOk result (λ os. os ≡ openings_to 0 blocks.now.names.now [] (entities blocks.now.names.now.globals)) }
+{
+    let list = global_variables(alloc, blocks.names)?;
+    let mut openings = Items::new(alloc);
+    add_openings(alloc, blocks, &mut openings, 0, "", list.as_slice())?;
+    Ok(openings)
+}
+
+// The slots of the globals, with those of no task behind them.
+fn laid_globals(alloc: Global, blocks: &Blocks) -> Result<TaskCode, AllocError>
+    ensures { IfOk result (λ t. t ≡ laid_task (openings_to 0 blocks.now.names.now [] (entities blocks.now.names.now.globals)) [] []) }
+{
+    let openings = global_openings(alloc, blocks)?;
+    TaskCode::of(alloc, openings.as_slice(), &[], Items::new(alloc))
+}
+
 /// The slots of the globals.
 pub fn globals(alloc: Global, names: &Scoped) -> Result<TaskCode, AllocError>
     requires { length names.now.units < 2 ^ 63 }
@@ -144,10 +189,7 @@ pub fn globals(alloc: Global, names: &Scoped) -> Result<TaskCode, AllocError>
         units: names.config().units.as_slice().len(),
         lists: lists.as_slice(),
     };
-    let list = global_variables(alloc, names)?;
-    let mut openings = Items::new(alloc);
-    add_openings(alloc, &blocks, &mut openings, 0, "", list.as_slice())?;
-    TaskCode::of(alloc, openings.as_slice(), &[], Items::new(alloc))
+    laid_globals(alloc, &blocks)
 }
 
 /// The slots of the task of each PROGRAM line, in the written order.

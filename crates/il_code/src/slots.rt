@@ -5,8 +5,8 @@ ghost use Rattle.il_scope.specs.Tables.{with_new};
 ghost use Rattle.il_code.specs.Laying.{cell_of};
 ghost use Rattle.il_code.specs.Tasks.{AreIndexed};
 
-use crate::flat::Cell;
 use crate::laying::Opening;
+use il_slots::flat::Cell;
 use il_spec::list::Items;
 use il_spec::name::Name;
 use il_table::Table;

@@ -2,14 +2,14 @@
 
 ghost use Rattle.std.specs.Prelude.{◌≡◌, option_map, codes, IfOk};
 ghost use Rattle.il_run.specs.NameMap as map;
-ghost use Rattle.il_code.specs.Flattened.{place_or_zero};
+ghost use Rattle.il_slots.specs.Flattened.{place_or_zero};
 ghost use Rattle.il_code.specs.Laying.{laid_task};
-ghost use Rattle.il_code.specs.Paths.{slot_at, path_at};
+ghost use Rattle.il_slots.specs.Paths.{slot_at, path_at};
 
-use crate::flat::Cell;
 use crate::laying::Opening;
 use crate::rows::FirstRows;
 use crate::slots::{cells_of, index_of};
+use il_slots::flat::Cell;
 use il_spec::list::Items;
 use il_table::Table;
 use std::alloc::{AllocError, Global};

@@ -4,8 +4,8 @@ ghost use Rattle.std.specs.Prelude.{◌≡◌, ◌≢◌, ◌<◌, ◌∷◌, []
 ghost use Rattle.il_exec.specs.Going.{top_of, rest_of};
 
 use arrayvec::ArrayVec;
-use il_code::flat::UnitCode;
 use il_run::value::{Content, Value};
+use il_slots::flat::UnitCode;
 use il_spec::tree::{Elementary, Logic, Operator};
 use std::marker::Model;
 

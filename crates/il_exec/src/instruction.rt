@@ -9,9 +9,9 @@ ghost use Rattle.il_scope.specs.declared.entry.StandardFunction.TheVariants.{Lim
 ghost use Rattle.il_exec.specs.Effect.{with_some, place, operand, number_left, computed, compared_as, operated, applied_alone, applied_to, applied_to_both, applied, loaded, stored, effect, is_straight, from_base};
 
 use crate::rows::{Rows, boolean_of, number_of};
-use il_code::flat::{Flat, Operand, Slot};
 use il_run::value::{Content, Value};
 use il_scope::entry::StandardFunction;
+use il_slots::flat::{Flat, Operand, Slot};
 use il_spec::tree::{Arithmetic, Comparison, Elementary, Logic, Operator, Store};
 
 // A Boolean with its type.

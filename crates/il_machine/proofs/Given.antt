@@ -28,13 +28,13 @@ use Rattle.il_sound.proofs.Lists.{at_head, in_tail}
 use Rattle.il_sound.proofs.Externals.{shares_globals}
 use Rattle.il_sound.proofs.Meant.{program_is, no_instance, external_typed}
 use Rattle.il_sound.proofs.Paths.{Agree, agree_append, value_of, values_of}
-use Rattle.il_code.specs.declared.flat.Cell.{Cell}
-use Rattle.il_code.specs.Cells.{element_cells, cells_at, entity_cells, instance_cells}
-use Rattle.il_code.specs.Layout.{cell, value_by, number_part, flag_part}
-use Rattle.il_code.specs.Places.{deepest, seen_among, seen_image, is_common}
-use Rattle.il_code.specs.Program.{seen_cells}
-use Rattle.il_code.specs.Whole.{AreOf}
-use Rattle.il_code.proofs.Tasks.{cells-append, program_among}
+use Rattle.il_slots.specs.declared.flat.Cell.{Cell}
+use Rattle.il_slots.specs.Cells.{element_cells, cells_at, entity_cells, instance_cells}
+use Rattle.il_slots.specs.Layout.{cell, value_by, number_part, flag_part}
+use Rattle.il_slots.specs.Places.{deepest, seen_among, seen_image, is_common}
+use Rattle.il_slots.specs.Program.{seen_cells}
+use Rattle.il_slots.specs.Whole.{AreOf}
+use Rattle.il_slots.proofs.Tasks.{cells-append, program_among}
 use Rattle.lift_spec.specs.Image.{sizes_of}
 use Rattle.lift_spec.specs.Snapshot.{image_entries, given_entries}
 use Rattle.lift_spec.specs.World.{Group, snapshot_of, InRanges}

@@ -18,12 +18,12 @@ use Rattle.il_sound.proofs.Lists.{found_in}
 use Rattle.il_sound.proofs.Meant.{program_is}
 use Rattle.il_sound.proofs.Named.{found_unit, name_of}
 use Rattle.il_scope.specs.Views.{program_number}
-use Rattle.il_code.specs.Whole.{number_in}
-use Rattle.il_code.proofs.Calling.{number_is}
+use Rattle.il_slots.specs.Whole.{number_in}
+use Rattle.il_flatten.proofs.Calling.{number_is}
 use Rattle.lift_spec.specs.Snapshot.{task_name, program_of, has_task}
 use Rattle.il_machine.specs.Scanning.{Program, IsRunnable, HasTask}
 use Rattle.il_machine.proofs.Sizes.{few_tasks}
-use Rattle.il_code.specs.declared.flat.UnitCode.{UnitCode}
+use Rattle.il_slots.specs.declared.flat.UnitCode.{UnitCode}
 use Rattle.il_exec.specs.Going.{Runs}
 use Rattle.il_machine.specs.Listing.{UnitLine, unit_line, unit_lines, TaskLine, task_by, task_of, program_line_of, unit_of, is_task_name, task_among, PrintsBudgets}
 

@@ -11,9 +11,9 @@ use Rattle.il_run.specs.NameMap.{Text}
 use Rattle.il_run.specs.State.{Values}
 use Rattle.il_run.specs.Ranges.{HoldsTask}
 use Rattle.il_run.specs.Scan.{entries_at, external_paths}
-use Rattle.il_code.specs.Layout.{Rows, rows, Fits, number_part, flag_part}
-use Rattle.il_code.specs.Program.{own_cells, seen_cells, program_cells}
-use Rattle.il_code.specs.Whole.{first_rows}
+use Rattle.il_slots.specs.Layout.{Rows, rows, Fits, number_part, flag_part}
+use Rattle.il_slots.specs.Program.{own_cells, seen_cells, program_cells}
+use Rattle.il_slots.specs.Whole.{first_rows}
 use Rattle.il_exec.specs.Going.{Stored}
 use Rattle.lift_spec.specs.declared.image.Image.{Image}
 use Rattle.lift_spec.specs.declared.calls.Slot.{Slot}

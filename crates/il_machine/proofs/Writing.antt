@@ -5,7 +5,7 @@ use Rattle.std.proofs.lemmas.List.{length-append, length-set, length-map, length
 use Rattle.il_run.specs.declared.value.Value.{Value}
 use Rattle.il_run.specs.declared.value.Value.TheVariants.{Boolean}
 use Rattle.il_run.specs.NameMap.{Text}
-use Rattle.il_code.specs.Layout.{Rows, number_part, flag_part}
+use Rattle.il_slots.specs.Layout.{Rows, number_part, flag_part}
 use Rattle.lift_spec.specs.declared.image.Sizes.{Sizes}
 use Rattle.lift_spec.specs.declared.image.Image.{Image}
 use Rattle.lift_spec.specs.declared.calls.Slot.{Slot}

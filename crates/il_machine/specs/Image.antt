@@ -2,7 +2,7 @@
 use Rattle.std.specs.Prelude.{ℕ, zero, suc, ◌+◌, List, replicate, [], ◌∷◌, ◌++◌, map, set}
 use Rattle.il_run.specs.declared.value.Value.{Value}
 use Rattle.il_run.specs.declared.value.Value.TheVariants.{Boolean, Integer}
-use Rattle.il_code.specs.Layout.{Rows, rows, number_part, flag_part}
+use Rattle.il_slots.specs.Layout.{Rows, rows, number_part, flag_part}
 use Rattle.lift_spec.specs.declared.image.Sizes.{Sizes}
 use Rattle.lift_spec.specs.declared.image.CarFields.{CarFields}
 use Rattle.lift_spec.specs.declared.image.CarOutputs.{CarOutputs}

@@ -17,10 +17,10 @@ use Rattle.il_run.specs.Ranges.{HoldsTask}
 use Rattle.il_sound.specs.Agreement.{Agrees, left}
 use Rattle.il_rules.specs.Declarations.{declared_limits}
 use Rattle.il_run.specs.declared.value.Value.{Value}
-use Rattle.il_code.specs.declared.flat.Cell.{Cell}
-use Rattle.il_code.specs.Layout.{Rows, rows, Fits, view, value_by}
+use Rattle.il_slots.specs.declared.flat.Cell.{Cell}
+use Rattle.il_slots.specs.Layout.{Rows, rows, Fits, view, value_by}
 use Rattle.il_exec.specs.Effect.{with_some}
-use Rattle.il_code.specs.Program.{own_cells, seen_cells, program_code}
+use Rattle.il_slots.specs.Program.{own_cells, seen_cells, program_code}
 use Rattle.il_exec.specs.Going.{Stored}
 use Rattle.il_exec.specs.Framing.{framed, all_frames, state_by, IsFramedScan}
 use Rattle.lift_spec.specs.Snapshot.{program_of}

@@ -5,9 +5,9 @@ ghost use Rattle.il_machine.specs.Image.{filled};
 ghost use Rattle.il_machine.specs.Starting.{shared_value, listed_values};
 
 use crate::rows::{put, value};
-use il_code::flat::Cell;
 use il_exec::rows::Rows;
 use il_run::value::Value;
+use il_slots::flat::Cell;
 
 /// The globals that a program lists, in its order: their slots among all globals.
 #[derive(Clone, Copy)]

@@ -2,15 +2,15 @@
 
 ghost use Rattle.std.specs.Prelude.{◌≡◌, ◌+◌, ◌<◌, ◌≤◌, ◌++◌, IfOk, length, take, drop};
 ghost use Rattle.il_run.specs.NameMap.{get};
-ghost use Rattle.il_code.specs.Layout.{rows, number_part, flag_part};
+ghost use Rattle.il_slots.specs.Layout.{rows, number_part, flag_part};
 ghost use Rattle.il_machine.specs.Image.{with_slot, filled};
 ghost use Rattle.il_machine.specs.Scanning.{front, value_at, variables_in, FitsOwn};
 
 use crate::verified::Verified;
-use il_code::flat::Cell;
 use il_exec::rows::Rows;
 use il_rules::elementary::declared_limits;
 use il_run::value::Value;
+use il_slots::flat::Cell;
 use std::alloc::{AllocError, Global};
 
 // Copies a row to the front of another.
