@@ -1,10 +1,12 @@
 //! The world of a lift group: the image, the tasks' scans, and what each event does to them.
 #![tactic(auto)]
 
+mod calling;
 mod controller;
 mod loader;
 mod replies;
 mod shared;
+mod stub;
 mod world;
 
 pub use il_machine::Verified;

@@ -1,20 +1,26 @@
 // From a text to a verified configuration.
 
 ghost use Rattle.std.specs.Prelude.{◌≡◌, IfOk, IfErr, IsErrAnd, map};
-ghost use Rattle.il_spec.specs.declared.tree.Config.{Config};
+ghost use Rattle.il_spec.specs.declared.tree.Config.{Config as ConfigOf};
+ghost use Rattle.il_rules.specs.Faults.{HasNoFault};
+ghost use Rattle.il_rules.specs.Written.{IsWritten};
+ghost use Rattle.il_run.specs.Annotation.{Annotated};
+ghost use Rattle.il_typed.specs.Judged.{AreShort};
 ghost use Rattle.il_parse.specs.Refused.{IsFault};
-ghost use Rattle.il_budget.specs.Costs.{cost_of};
+ghost use Rattle.il_budget.specs.Costs.{IsTooLong, cost_of};
+ghost use Rattle.il_machine.specs.Nesting.{IsNested};
 ghost use Rattle.lift_sound.specs.Runs.{RunsWell};
-ghost use Rattle.lift_world.specs.Loading.{IsSpelled, IsAccepted, IsRefusedFor, IsExplained};
+ghost use Rattle.lift_world.specs.Loading.{IsSpelled, IsUnbroken, IsAccepted, IsRefusedFor, IsExplained};
 
+use crate::stub::verified_of;
 use il_budget::budget;
 use il_code::code;
 use il_declare::declare;
 use il_machine::Verified;
-use il_order::ordered;
+use il_order::{Ordered, ordered};
 use il_parse::parse;
 use il_spec::fault::Refusal;
-use il_stage::supported;
+use il_spec::tree::Config;
 use il_text::tokens;
 use il_typed::typed;
 use il_verify::verify;
@@ -23,24 +29,49 @@ use std::alloc::Global;
 /// The configuration that a text spells, verified.
 ///
 /// A text is refused with the first fault of these phases, in their order: tokens (1 to 6), grammar (10 to 12), declarations (20 to 25),
-/// types (30 to 35, 37 to 39), order and slots (36, 46, 12), ranges (40 to 44), budgets (50), what is not run yet (90). From 20 on it is the
-/// phase's fault at the earliest place, at one place the one with the lowest number.
+/// types (30 to 35, 37 to 39), order and slots (36, 46, 12), ranges (40 to 44), budgets (50). From 20 on it is the phase's fault at the
+/// earliest place, at one place the one with the lowest number.
 pub fn load(alloc: Global, text: &[u8]) -> Result<Verified, Refusal>
     ensures found { IfOk result (λ v. IsAccepted text.now v.config) }
     ensures costs { IfOk result (λ v. v.costs ≡ map (cost_of v.config) v.config.units) }
     ensures runs { IfOk result (λ v. RunsWell v.config) }
-    ensures refused { IsFault result → (c : Config) → IsAccepted text.now c → ⊥ }
-    ensures named { IsFault result → (c : Config) → IsSpelled text.now c → IsErrAnd result (IsRefusedFor c) }
+    ensures refused { IsFault result → (c : ConfigOf) → IsAccepted text.now c → ⊥ }
+    ensures named { IsFault result → (c : ConfigOf) → IsSpelled text.now c → IsErrAnd result (IsRefusedFor c) }
     ensures number { IfErr result (IsExplained text.now) }
 {
     let tokens = tokens(alloc, text)?;
     let config = parse(alloc, text, &tokens)?;
+    verified(alloc, config)
+}
+
+// A configuration that a text spells, verified, or its first fault.
+fn verified(alloc: Global, config: Config) -> Result<Verified, Refusal>
+    requires written { IsWritten config }
+    requires short { AreShort config.units }
+    requires nested { IsNested config }
+    ensures same { IfOk result (λ v. v.config ≡ config) }
+    ensures unbroken { IfOk result (λ _. IsUnbroken config) }
+    ensures annotated { IfOk result (λ _. Annotated config) }
+    ensures affordable { IfOk result (λ _. HasNoFault (IsTooLong config)) }
+    ensures costs { IfOk result (λ v. v.costs ≡ map (cost_of v.config) v.config.units) }
+    ensures refused { IfErr result (IsRefusedFor config) }
+{
+    let ordered = in_order(alloc, config)?;
+    let code = code(alloc, ordered)?;
+    let checked = verify(alloc, code)?;
+    let costs = budget(alloc, checked.names())?;
+    Ok(verified_of(alloc, checked.into_code(), costs)?)
+}
+
+// A configuration that breaks no rule of declarations, types and order, or the first that it breaks.
+fn in_order(alloc: Global, config: Config) -> Result<Ordered, Refusal>
+    requires { AreShort config.units }
+    ensures same { IfOk result (λ o. o ≡ config) }
+    ensures unbroken { IfOk result (λ _. IsUnbroken config) }
+    ensures refused { IfErr result (IsRefusedFor config) }
+{
     let declared = declare(alloc, config)?;
     let typed = typed(alloc, declared)?;
     let ordered = ordered(alloc, typed)?;
-    let checked = verify(alloc, ordered)?;
-    let costs = budget(alloc, checked.names())?;
-    let supported = supported(alloc, checked.into_ordered())?;
-    let code = code(alloc, supported)?;
-    Ok(Verified::of(code, costs))
+    Ok(ordered)
 }

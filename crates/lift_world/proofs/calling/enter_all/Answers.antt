@@ -1,14 +1,14 @@
 use Rattle.std.proofs.Common.{◌∙◌, sym, ap, arith, drop, length}
 use Rattle.lift_spec.specs.Calls.{enter_all}
 use Rattle.lift_world.proofs.Sharing.{free_few, enters, stays, enters_free, first_of, none_left, room_more}
-use Rattle.lift_world.proofs.shared.enter_all.Goals as goal
+use Rattle.lift_world.proofs.calling.enter_all.Goals as goal
 
 pub calls-init : goal.calls-init
 calls-init c =
     let few = free_few c.args.calls.now.slots in
     record {
-      room = omega (arith, few, c.slots-slots.ensures.few, ap length c.new-done.ensures);
-      rest = ap (λ done. enter_all c.args.calls.now done c.args.hand.now) (sym c.new-done.ensures);
+      room = omega (arith, few, c.slots-slots.ensures.few, ap length c.clear.ensures);
+      rest = ap (λ done. enter_all c.args.calls.now done c.args.hand.now) (sym c.clear.ensures);
     }
 
 pub returns-in_default-enter : goal.returns-in_default-enter

@@ -1,7 +1,7 @@
 use Rattle.std.proofs.Common.{◌≡◌, ◌+◌, ◌≤◌, [], length}
 use Rattle.lift_spec.specs.Calls.{enter_all}
 use Rattle.lift_world.specs.Running.{free_count}
-use Rattle.lift_world.proofs.shared.enter_all.Given as goal
+use Rattle.lift_world.proofs.calling.enter_all.Given as goal
 
 abbrev pub invariant-calls : goal.invariant-calls
 invariant-calls l = record {
