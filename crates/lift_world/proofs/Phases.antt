@@ -72,23 +72,18 @@ runs_by c (Err e) written nested same unbroken annotated = tt
 pub at_types : (c declared : Config) (e : Refusal) → declared ≡ c → HasNoFault (BreaksDeclarations c) → IsRefusedBy (Broken Typing declared) e → IsRefusedFor c e
 at_types c declared e is fine refused = by_types fine (subst (λ d. IsRefusedBy (Broken Typing d) e) is refused)
 
-pub at_order : (c declared typed : Config) (e : Refusal) → declared ≡ c → typed ≡ declared → HasNoFault (BreaksDeclarations c) → HasNoFault (Broken Typing declared) → IsRefusedBy (Broken Ordering typed) e → IsRefusedFor c e
-at_order c declared typed e is is_typed fine well_typed refused =
-    by_order fine (subst (λ d. HasNoFault (Broken Typing d)) is well_typed) (subst (λ d. IsRefusedBy (Broken Ordering d) e) (is_typed ∙ is) refused)
+pub at_order : (c typed : Config) (e : Refusal) → typed ≡ c → HasNoFault (BreaksDeclarations c) → HasNoFault (Broken Typing c) → IsRefusedBy (Broken Ordering typed) e → IsRefusedFor c e
+at_order c typed e is fine well_typed refused = by_order fine well_typed (subst (λ d. IsRefusedBy (Broken Ordering d) e) is refused)
 
 -- what went through the phases up to order
-pub unbroken_by : (c declared typed : Config) → declared ≡ c → typed ≡ declared → HasNoFault (BreaksDeclarations c) → HasNoFault (Broken Typing declared) → HasNoFault (Broken Ordering typed) → IsUnbroken c
-unbroken_by c declared typed is is_typed fine well_typed in_order = record {
-  declared = fine;
-  typed = subst (λ d. HasNoFault (Broken Typing d)) is well_typed;
-  ordered = subst (λ d. HasNoFault (Broken Ordering d)) (is_typed ∙ is) in_order;
-}
+pub unbroken_by : (c typed : Config) → typed ≡ c → HasNoFault (BreaksDeclarations c) → HasNoFault (Broken Typing c) → HasNoFault (Broken Ordering typed) → IsUnbroken c
+unbroken_by c typed is fine well_typed in_order = record { declared = fine; typed = well_typed; ordered = subst (λ d. HasNoFault (Broken Ordering d)) is in_order }
 
 pub at_ranges : (c code : Config) (e : Refusal) → code ≡ c → IsUnbroken c → IsUnannotatedBy code e → IsRefusedFor c e
 at_ranges c code e is unbroken refused = by_ranges unbroken (subst (λ d. IsUnannotatedBy d e) is refused)
 
-pub at_budgets : (c code names : Config) (e : Refusal) → code ≡ c → names ≡ c → IsUnbroken c → Annotated code → IsRefusedBy (IsTooLong names) e → IsRefusedFor c e
-at_budgets c code names e is is_names unbroken annotated refused = by_budgets unbroken (subst Annotated is annotated) (subst (λ d. IsRefusedBy (IsTooLong d) e) is_names refused)
+pub at_budgets : (c names : Config) (e : Refusal) → names ≡ c → IsUnbroken c → Annotated c → IsRefusedBy (IsTooLong names) e → IsRefusedFor c e
+at_budgets c names e is unbroken annotated refused = by_budgets unbroken annotated (subst (λ d. IsRefusedBy (IsTooLong d) e) is refused)
 
 -- out of memory says nothing
 pub at_memory : (c : Config) (e : Refusal) → e ≡ Memory → IsRefusedFor c e

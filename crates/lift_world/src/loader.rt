@@ -2,7 +2,7 @@
 
 ghost use Rattle.std.specs.Prelude.{◌≡◌, IfOk, IfErr, IsErrAnd, map};
 ghost use Rattle.il_spec.specs.declared.tree.Config.{Config as ConfigOf};
-ghost use Rattle.il_rules.specs.Faults.{HasNoFault};
+ghost use Rattle.il_rules.specs.Faults.{BreaksDeclarations, Broken, Typing, HasNoFault};
 ghost use Rattle.il_rules.specs.Written.{IsWritten};
 ghost use Rattle.il_run.specs.Annotation.{Annotated};
 ghost use Rattle.il_typed.specs.Judged.{AreShort};
@@ -14,7 +14,7 @@ ghost use Rattle.lift_world.specs.Loading.{IsSpelled, IsUnbroken, IsAccepted, Is
 
 use crate::stub::verified_of;
 use il_budget::budget;
-use il_code::code;
+use il_code::{Code, code};
 use il_declare::declare;
 use il_machine::Verified;
 use il_order::{Ordered, ordered};
@@ -22,8 +22,8 @@ use il_parse::parse;
 use il_spec::fault::Refusal;
 use il_spec::tree::Config;
 use il_text::tokens;
-use il_typed::typed;
-use il_verify::verify;
+use il_typed::{Typed, typed};
+use il_verify::{Checked, verify};
 use std::alloc::Global;
 
 /// The configuration that a text spells, verified.
@@ -56,11 +56,34 @@ fn verified(alloc: Global, config: Config) -> Result<Verified, Refusal>
     ensures costs { IfOk result (λ v. v.costs ≡ map (cost_of v.config) v.config.units) }
     ensures refused { IfErr result (IsRefusedFor config) }
 {
-    let ordered = in_order(alloc, config)?;
-    let code = code(alloc, ordered)?;
-    let checked = verify(alloc, code)?;
+    let checked = checked(alloc, config)?;
     let costs = budget(alloc, checked.names())?;
     Ok(verified_of(alloc, checked.into_code(), costs)?)
+}
+
+// The code of a configuration each of whose instructions has ranges, or the first fault before.
+fn checked(alloc: Global, config: Config) -> Result<Checked, Refusal>
+    requires written { IsWritten config }
+    requires short { AreShort config.units }
+    ensures same { IfOk result (λ k. k ≡ config) }
+    ensures unbroken { IfOk result (λ _. IsUnbroken config) }
+    ensures annotated { IfOk result (λ _. Annotated config) }
+    ensures refused { IfErr result (IsRefusedFor config) }
+{
+    let code = coded(alloc, config)?;
+    verify(alloc, code)
+}
+
+// The code of a configuration that breaks no rule of declarations, types and order, or the first that it breaks.
+fn coded(alloc: Global, config: Config) -> Result<Code, Refusal>
+    requires written { IsWritten config }
+    requires short { AreShort config.units }
+    ensures same { IfOk result (λ k. k ≡ config) }
+    ensures unbroken { IfOk result (λ _. IsUnbroken config) }
+    ensures refused { IfErr result (IsRefusedFor config) }
+{
+    let ordered = in_order(alloc, config)?;
+    Ok(code(alloc, ordered)?)
 }
 
 // A configuration that breaks no rule of declarations, types and order, or the first that it breaks.
@@ -70,8 +93,18 @@ fn in_order(alloc: Global, config: Config) -> Result<Ordered, Refusal>
     ensures unbroken { IfOk result (λ _. IsUnbroken config) }
     ensures refused { IfErr result (IsRefusedFor config) }
 {
+    let typed = well_typed(alloc, config)?;
+    ordered(alloc, typed)
+}
+
+// A configuration that breaks no rule of declarations and types, or the first that it breaks.
+fn well_typed(alloc: Global, config: Config) -> Result<Typed, Refusal>
+    requires { AreShort config.units }
+    ensures same { IfOk result (λ t. t ≡ config) }
+    ensures declared { IfOk result (λ _. HasNoFault (BreaksDeclarations config)) }
+    ensures typed { IfOk result (λ _. HasNoFault (Broken Typing config)) }
+    ensures refused { IfErr result (IsRefusedFor config) }
+{
     let declared = declare(alloc, config)?;
-    let typed = typed(alloc, declared)?;
-    let ordered = ordered(alloc, typed)?;
-    Ok(ordered)
+    typed(alloc, declared)
 }

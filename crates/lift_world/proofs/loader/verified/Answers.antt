@@ -1,19 +1,15 @@
 use Rattle.std.proofs.Common.{◌∙◌, refl, subst, sym, ap, map}
 use Rattle.il_spec.specs.declared.tree.Config.{Config}
 use Rattle.il_rules.specs.Faults.{HasNoFault, Broken, Declaring, Typing, Ordering}
-use Rattle.il_rules.specs.Written.{IsWritten}
 use Rattle.il_run.specs.Annotation.{Annotated}
 use Rattle.il_budget.specs.Costs.{IsTooLong, cost_of}
 use Rattle.il_machine.specs.Nesting.{IsNested}
 use Rattle.lift_world.specs.Loading.{IsRefusedFor}
 use Rattle.lift_world.proofs.Explaining.{handed_as}
-use Rattle.lift_world.proofs.Phases.{at_memory, at_ranges, at_budgets}
+use Rattle.lift_world.proofs.Phases.{at_budgets}
 use Rattle.lift_world.proofs.loader.verified.Goals as goal
 
 -- WHAT IS ASKED
-
-pub code-requires : goal.code-requires
-code-requires c = subst IsWritten (sym c.in_ok-ordered.ensures.same) c.requires.written
 
 pub budget-requires-clause-declared : goal.budget-requires-clause-declared
 budget-requires-clause-declared c = subst (λ d. HasNoFault (Broken Declaring d)) (sym c.names.ensures.is) c.names.ensures.declared
@@ -28,32 +24,22 @@ pub verified_of-requires-clause-annotated : goal.verified_of-requires-clause-ann
 verified_of-requires-clause-annotated c = subst Annotated (sym c.into_code.ensures.is) c.into_code.ensures.annotated
 
 pub verified_of-requires-clause-nested : goal.verified_of-requires-clause-nested
-verified_of-requires-clause-nested c = subst IsNested (sym (c.into_code.ensures.is ∙ c.in_ok-checked.ensures.same ∙ c.in_ok-code.ensures ∙ c.in_ok-ordered.ensures.same)) c.requires.nested
+verified_of-requires-clause-nested c = subst IsNested (sym (c.into_code.ensures.is ∙ c.in_ok-checked.ensures.same)) c.requires.nested
 
 pub verified_of-requires-clause-costs : goal.verified_of-requires-clause-costs
 verified_of-requires-clause-costs c = c.in_ok-costs.ensures.costs ∙ ap (λ (d : Config). map (cost_of d) d.units) (c.names.ensures.is ∙ sym c.into_code.ensures.is)
 
 -- REFUSALS
 
-pub returns-in_err-ordered-clause-refused : goal.returns-in_err-ordered-clause-refused
-returns-in_err-ordered-clause-refused c = handed_as (IsRefusedFor c.args.config) _ _ c.from_residual.ensures.1 c.in_err-ordered.ensures.refused
-
-pub returns-in_err-code-clause-refused : goal.returns-in_err-code-clause-refused
-returns-in_err-code-clause-refused c = handed_as (IsRefusedFor c.args.config) _ _ c.from_residual-in_err-code.ensures.1 (at_memory c.args.config _ refl)
-
 pub returns-in_err-checked-clause-refused : goal.returns-in_err-checked-clause-refused
-returns-in_err-checked-clause-refused c =
-    handed_as (IsRefusedFor c.args.config) _ _ c.from_residual-in_err-checked.ensures.1 (at_ranges c.args.config c.in_ok-code.code _ (c.in_ok-code.ensures ∙ c.in_ok-ordered.ensures.same) c.in_ok-ordered.ensures.unbroken c.in_err-checked.ensures.refused)
+returns-in_err-checked-clause-refused c = handed_as (IsRefusedFor c.args.config) _ _ c.from_residual.ensures.1 c.in_err-checked.ensures.refused
 
 pub returns-in_err-costs-clause-refused : goal.returns-in_err-costs-clause-refused
 returns-in_err-costs-clause-refused c =
     handed_as (IsRefusedFor c.args.config) _ _ c.from_residual-in_err-costs.ensures.1
-    (at_budgets c.args.config c.in_ok-code.code c.names.result.now _ (c.in_ok-code.ensures ∙ c.in_ok-ordered.ensures.same) (c.names.ensures.is ∙ c.in_ok-checked.ensures.same ∙ c.in_ok-code.ensures ∙ c.in_ok-ordered.ensures.same) c.in_ok-ordered.ensures.unbroken c.in_ok-checked.ensures.accepted c.in_err-costs.ensures.refused)
+    (at_budgets c.args.config c.names.result.now _ (c.names.ensures.is ∙ c.in_ok-checked.ensures.same) c.in_ok-checked.ensures.unbroken c.in_ok-checked.ensures.annotated c.in_err-costs.ensures.refused)
 
 -- WHAT IS VERIFIED
 
-pub returns-clause-annotated : goal.returns-clause-annotated
-returns-clause-annotated c = subst Annotated (c.in_ok-code.ensures ∙ c.in_ok-ordered.ensures.same) c.in_ok-checked.ensures.accepted
-
 pub returns-clause-affordable : goal.returns-clause-affordable
-returns-clause-affordable c = subst (λ d. HasNoFault (IsTooLong d)) (c.names.ensures.is ∙ c.in_ok-checked.ensures.same ∙ c.in_ok-code.ensures ∙ c.in_ok-ordered.ensures.same) c.in_ok-costs.ensures.accepted
+returns-clause-affordable c = subst (λ d. HasNoFault (IsTooLong d)) (c.names.ensures.is ∙ c.in_ok-checked.ensures.same) c.in_ok-costs.ensures.accepted
