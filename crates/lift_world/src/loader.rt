@@ -2,7 +2,7 @@
 
 ghost use Rattle.std.specs.Prelude.{◌≡◌, IfOk, IfErr, IsErrAnd, map};
 ghost use Rattle.il_spec.specs.declared.tree.Config.{Config as ConfigOf};
-ghost use Rattle.il_rules.specs.Faults.{BreaksDeclarations, Broken, Typing, HasNoFault};
+ghost use Rattle.il_rules.specs.Faults.{BreaksDeclarations, Broken, Typing, HasNoFault, IsRefusedBy};
 ghost use Rattle.il_rules.specs.Written.{IsWritten};
 ghost use Rattle.il_run.specs.Annotation.{Annotated};
 ghost use Rattle.il_typed.specs.Judged.{AreShort};
@@ -16,10 +16,11 @@ use crate::stub::verified_of;
 use il_budget::budget;
 use il_code::{Code, code};
 use il_declare::declare;
-use il_machine::Verified;
+use il_machine::{UnitCost, Verified};
 use il_order::{Ordered, ordered};
 use il_parse::parse;
 use il_spec::fault::Refusal;
+use il_spec::list::Items;
 use il_spec::tree::Config;
 use il_text::tokens;
 use il_typed::{Typed, typed};
@@ -57,8 +58,28 @@ fn verified(alloc: Global, config: Config) -> Result<Verified, Refusal>
     ensures refused { IfErr result (IsRefusedFor config) }
 {
     let checked = checked(alloc, config)?;
-    let costs = budget(alloc, checked.names())?;
+    affordable(alloc, checked)
+}
+
+// A configuration with ranges none of whose units costs too much, verified, or the first that does.
+fn affordable(alloc: Global, checked: Checked) -> Result<Verified, Refusal>
+    requires { IsNested checked }
+    ensures same { IfOk result (λ v. v.config ≡ checked) }
+    ensures affordable { IfOk result (λ _. HasNoFault (IsTooLong checked)) }
+    ensures costs { IfOk result (λ v. v.costs ≡ map (cost_of v.config) v.config.units) }
+    ensures refused { IfErr result (IsRefusedBy (IsTooLong checked)) }
+{
+    let costs = costs(alloc, &checked)?;
     Ok(verified_of(alloc, checked.into_code(), costs)?)
+}
+
+// What each unit costs, or the first that costs too much.
+fn costs(alloc: Global, checked: &Checked) -> Result<Items<UnitCost>, Refusal>
+    ensures costs { IfOk result (λ costs. costs ≡ map (cost_of checked.now) checked.now.units) }
+    ensures affordable { IfOk result (λ _. HasNoFault (IsTooLong checked.now)) }
+    ensures refused { IfErr result (IsRefusedBy (IsTooLong checked.now)) }
+{
+    budget(alloc, checked.names())
 }
 
 // The code of a configuration each of whose instructions has ranges, or the first fault before.
