@@ -86,13 +86,7 @@ fn told(calls: &mut CallBook, slot: u8, ticket: Option<u64>, car: u8) -> Answer
 }
 
 // Tells the call of a slot to the car that was assigned to it, under the ticket that the scan saw; car 0 is none.
-fn tell(
-    calls: &mut CallBook,
-    slot: u8,
-    ticket: Option<u64>,
-    car: u8,
-    answers: &mut Row<Answer, 64>,
-)
+fn tell(calls: &mut CallBook, slot: u8, ticket: Option<u64>, car: u8, answers: &mut Row<Answer, 64>)
     requires { length answers.old < 64 }
     ensures told { (tickets : List (Option ℕ)) (cars : List ℕ) → tell_all calls.old answers.old slot (ticket ∷ tickets) (car ∷ cars) ≡ tell_all calls.new answers.new (slot + 1) tickets cars }
     ensures room { length answers.new ≤ length answers.old + 1 }

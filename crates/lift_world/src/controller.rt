@@ -151,7 +151,7 @@ impl Controller {
         ensures same { IfOk result (λ w. w.verified ≡ verified) }
         ensures opening { IfOk result (λ w. world_of w ≡ model.opening verified.config) }
         ensures world { IfOk result IsWorldOf }
-        {
+    {
         let _config = verified.config();
         match opening(alloc, &verified) {
             Ok(opened) => Ok(Controller {

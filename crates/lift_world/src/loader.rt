@@ -1,6 +1,7 @@
 // From a text to a verified configuration.
 
 ghost use Rattle.std.specs.Prelude.{◌≡◌, IfOk, IfErr, IsErrAnd, map};
+ghost use Rattle.il_spec.specs.declared.fault.Refusal.TheVariants.{Memory};
 ghost use Rattle.il_spec.specs.declared.tree.Config.{Config as ConfigOf};
 ghost use Rattle.il_rules.specs.Faults.{BreaksDeclarations, Broken, Typing, HasNoFault, IsRefusedBy};
 ghost use Rattle.il_rules.specs.Written.{IsWritten};
@@ -70,6 +71,17 @@ fn affordable(alloc: Global, checked: Checked) -> Result<Verified, Refusal>
     ensures refused { IfErr result (IsRefusedBy (IsTooLong checked)) }
 {
     let costs = costs(alloc, &checked)?;
+    with_costs(alloc, checked, costs)
+}
+
+// A configuration with ranges, verified, by what its units cost.
+fn with_costs(alloc: Global, checked: Checked, costs: Items<UnitCost>) -> Result<Verified, Refusal>
+    requires nested { IsNested checked }
+    requires costs { costs ≡ map (cost_of checked) checked.units }
+    ensures same { IfOk result (λ v. v.config ≡ checked) }
+    ensures costs { IfOk result (λ v. v.costs ≡ map (cost_of v.config) v.config.units) }
+    ensures memory { IfErr result (λ e. e ≡ Memory) }
+{
     Ok(verified_of(alloc, checked.into_code(), costs)?)
 }
 

@@ -103,7 +103,15 @@ fn start_seat(
     ensures scan { IsScanOf verified.now.config task store.new }
 {
     if let Some(seat) = seat {
-        restart(store, verified, task, &seat.variables, globals, image, slots);
+        restart(
+            store,
+            verified,
+            task,
+            &seat.variables,
+            globals,
+            image,
+            slots,
+        );
         seat.tickets = Some(tickets_of(slots));
     }
 }
@@ -126,10 +134,12 @@ fn saw(seat: &Option<Seat>) -> &[Option<u64>]
     ensures { (s : SeatOf) (tickets : List (Option ℕ)) → seat.now ≡ Some s → s.tickets ≡ Some tickets → result.now ≡ tickets }
 {
     match seat {
-        Some(Seat {
-            tickets: Some(tickets),
-            ..
-        }) => tickets.as_slice(),
+        Some(
+            Seat {
+                tickets: Some(tickets),
+                ..
+            },
+        ) => tickets.as_slice(),
         _ => unreachable!(),
     }
 }

@@ -22,7 +22,11 @@ use lift_spec::calls::Slot;
 use lift_spec::image::Wishes;
 use std::alloc::{AllocError, Global};
 
-pub fn verified_of(alloc: Global, code: Code, costs: Items<UnitCost>) -> Result<Verified, AllocError>
+pub fn verified_of(
+    alloc: Global,
+    code: Code,
+    costs: Items<UnitCost>,
+) -> Result<Verified, AllocError>
     requires annotated { Annotated code }
     requires nested { IsNested code }
     requires costs { costs ≡ map (cost_of code) code.units }

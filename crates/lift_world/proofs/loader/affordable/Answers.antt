@@ -1,20 +1,17 @@
-use Rattle.std.proofs.Common.{◌∙◌, subst, sym, ap, map}
-use Rattle.il_spec.specs.declared.tree.Config.{Config}
-use Rattle.il_rules.specs.Faults.{IsRefusedBy}
-use Rattle.il_run.specs.Annotation.{Annotated}
-use Rattle.il_budget.specs.Costs.{IsTooLong, cost_of}
-use Rattle.il_machine.specs.Nesting.{IsNested}
-use Rattle.lift_world.proofs.Explaining.{handed_as}
+use Rattle.il_rules.specs.Faults.{HasNoFault, IsRefusedBy}
+use Rattle.std.proofs.Common.{◌≡◌, subst, sym}
+use Rattle.il_spec.specs.declared.fault.Refusal.TheVariants.{Memory}
+use Rattle.il_budget.specs.Costs.{IsTooLong}
+use Rattle.il_machine.specs.Scanning.{Program}
+use Rattle.lift_world.proofs.Explaining.{handed_as, if_ok, if_err}
 use Rattle.lift_world.proofs.loader.affordable.Goals as goal
-
-pub verified_of-requires-clause-annotated : goal.verified_of-requires-clause-annotated
-verified_of-requires-clause-annotated c = subst Annotated (sym c.into_code.ensures.is) c.into_code.ensures.annotated
-
-pub verified_of-requires-clause-nested : goal.verified_of-requires-clause-nested
-verified_of-requires-clause-nested c = subst IsNested (sym c.into_code.ensures.is) c.requires
-
-pub verified_of-requires-clause-costs : goal.verified_of-requires-clause-costs
-verified_of-requires-clause-costs c = c.in_ok-costs.ensures.costs ∙ ap (λ (d : Config). map (cost_of d) d.units) (sym c.into_code.ensures.is)
 
 pub returns-in_err-costs-clause-refused : goal.returns-in_err-costs-clause-refused
 returns-in_err-costs-clause-refused c = handed_as (IsRefusedBy (IsTooLong c.args.checked)) _ _ c.from_residual.ensures.1 c.in_err-costs.ensures.refused
+
+pub returns-clause-affordable : goal.returns-clause-affordable
+returns-clause-affordable c = if_ok (λ (v : Program). v.config ≡ c.args.checked) (λ _. HasNoFault (IsTooLong c.args.checked)) c.with_costs.result (λ _ _. c.in_ok-costs.ensures.affordable) c.with_costs.ensures.same
+
+pub returns-clause-refused : goal.returns-clause-refused
+returns-clause-refused c =
+    if_err (λ e. e ≡ Memory) (IsRefusedBy (IsTooLong c.args.checked)) c.with_costs.result (λ e is. subst (IsRefusedBy (IsTooLong c.args.checked)) (sym is) tt) c.with_costs.ensures.memory
