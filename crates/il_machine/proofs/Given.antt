@@ -51,7 +51,7 @@ use Rattle.lift_sound.proofs.Tasks.{is_sized, task_accepted, same_image}
 abbrev pub cells_of : List (Text × Scalar) → List Cell
 cells_of ps = map (λ p. cell p.0 p.1) ps
 
-kind_by : (o : Option Subrange) (v : Value) → IsValueIn o v → value_by o (number_part v) (flag_part v) ≡ v
+pub kind_by : (o : Option Subrange) (v : Value) → IsValueIn o v → value_by o (number_part v) (flag_part v) ≡ v
 kind_by None (Boolean b) is = refl
 kind_by None (Integer z) is = absurd is
 kind_by (Some s) (Boolean b) is = absurd is

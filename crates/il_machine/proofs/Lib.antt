@@ -11,3 +11,9 @@ pub mod Writing
 pub mod Given
 pub mod Starts
 pub mod Restarts
+pub mod Outgoing
+pub mod Opened
+pub mod Copied
+pub mod Bases
+pub mod Shared
+pub mod Seated

@@ -2,6 +2,7 @@
 use Rattle.std.proofs.Common.{◌≡◌, ℕ, zero, suc, ◌<◌, ◌≤◌, arith, length, drop, slice_get, slice_index_or, option_copied, Bor, Bool, true, false, ◌&&◌, List, [], ◌∷◌, map, Option, Some, None, option_map, option_and_then, refl, sym, ap, ◌∙◌, subst, bytes_eq, if◌then◌else◌}
 use Rattle.std.specs.Prelude.{find, nat_le, is_some, Contains}
 use Rattle.std.proofs.lemmas.Slice.Eq.{bytes_eq-Decides}
+use Rattle.std.proofs.lemmas.Bool.{le-leb}
 use Rattle.il_spec.specs.declared.tree.Config.{Config}
 use Rattle.il_spec.specs.declared.tree.Unit.{Unit as Organized}
 use Rattle.il_spec.specs.declared.tree.Task.{Task}
@@ -22,7 +23,8 @@ use Rattle.il_slots.specs.Whole.{number_in}
 use Rattle.il_flatten.proofs.Calling.{number_is}
 use Rattle.lift_spec.specs.Snapshot.{task_name, program_of, has_task}
 use Rattle.il_machine.specs.Scanning.{Program, IsRunnable, HasTask}
-use Rattle.il_machine.proofs.Sizes.{few_tasks}
+use Rattle.lift_spec.specs.Image.{sizes_of}
+use Rattle.il_machine.proofs.Sizes.{few_cars, few_tasks}
 use Rattle.il_slots.specs.declared.flat.UnitCode.{UnitCode}
 use Rattle.il_exec.specs.Going.{Runs}
 use Rattle.il_machine.specs.Listing.{UnitLine, unit_line, unit_lines, TaskLine, task_by, task_of, program_line_of, unit_of, is_task_name, task_among, PrintsBudgets}
@@ -180,6 +182,28 @@ no_line c runs n has none = none_some (program_of c n) has.0 (line_program c n (
 pub line_of_task : (c : Config) → IsRunnable c → (n at : ℕ) → HasTask c n → (ls : List ProgramLine) → ls ≡ c.programs → slice_get ls at ≡ program_line_of ls n → (u : Organized) → program_of c n ≡ Some u → program_by c (slice_get c.programs at) ≡ Some u
 line_of_task c runs n at has ls same some u is =
     ap (program_by c) (ap (λ x. slice_get x at) (sym same) ∙ some ∙ ap (λ x. program_line_of x n) same) ∙ sym (line_program c n (few_tasks c runs.declared n has.0 has.1)) ∙ is
+
+get_there : {X : Type 0} (xs : List X) (at : ℕ) → at < length xs → is_some (slice_get xs at) ≡ true
+get_there [] at low = let no : ⊥ = omega (arith, low) in absurd no
+get_there (x ∷ xs) zero low = refl
+get_there (x ∷ xs) (suc at) low = get_there xs at (omega (arith, low))
+
+-- what stands at an index stands below the length
+pub got_within : {X : Type 0} (xs : List X) (at : ℕ) (x : X) → slice_get xs at ≡ Some x → at < length xs
+got_within [] at x is = cc
+got_within (y ∷ xs) zero x is = omega arith
+got_within (y ∷ xs) (suc at) x is = let low = got_within xs at x is in omega (arith, low)
+
+-- a task that has a line is there
+pub task_there : (c : Config) → IsRunnable c → (n at : ℕ) → n ≤ (sizes_of c).cars → at < length c.programs → slice_get c.programs at ≡ program_line_of c.programs n → HasTask c n
+task_there c runs n at within low same = by (program_of c n) refl
+  where
+    few : nat_le n 8 ≡ true
+    few = let most = few_cars c runs.declared in le-leb n 8 (omega (arith, most, within))
+
+    by : (o : Option Organized) → program_of c n ≡ o → HasTask c n
+    by None is = let bad : true ≡ false = sym (get_there c.programs at low) ∙ ap is_some same ∙ has_line c runs.declared n few ∙ ap is_some is in cc
+    by (Some u) is = (u, record { within = within; program = is })
 
 pub copied_there : (o : Option (Bor ProgramLine)) → is_some o ≡ is_some (option_copied o)
 copied_there None = refl

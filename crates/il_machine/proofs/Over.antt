@@ -20,7 +20,7 @@ or_else_cond : (b : Bool) (v : Value) (o p : Option Value) → cond b (Some v) (
 or_else_cond true v o p = refl
 or_else_cond false v o p = refl
 
-get-with_entries : (m : Values) (es : List (Text × Value)) (q : Text) → get (with_entries m es) q ≡ or_else (find order q es) (get m q)
+pub get-with_entries : (m : Values) (es : List (Text × Value)) (q : Text) → get (with_entries m es) q ≡ or_else (find order q es) (get m q)
 get-with_entries m [] q = refl
 get-with_entries m (e ∷ es) q =
     get-insert (with_entries m es) e.0 e.1 q

@@ -3,3 +3,4 @@ pub mod Scanning
 pub mod Listing
 pub mod Image
 pub mod Starting
+pub mod Sharing

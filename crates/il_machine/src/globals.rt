@@ -1,13 +1,15 @@
 // The globals that a program lists.
 
-ghost use Rattle.std.specs.Prelude.{◌≡◌, ◌+◌, ◌≤◌, length};
+ghost use Rattle.std.specs.Prelude.{◌≡◌, ◌+◌, ◌<◌, ◌≤◌, All, length};
 ghost use Rattle.il_machine.specs.Image.{filled};
+ghost use Rattle.il_machine.specs.Sharing.{taken};
 ghost use Rattle.il_machine.specs.Starting.{shared_value, listed_values};
 
 use crate::rows::{put, value};
+use crate::sharing::Transfer;
+use il_slots::flat::Cell;
 use il_exec::rows::Rows;
 use il_run::value::Value;
-use il_slots::flat::Cell;
 
 /// The globals that a program lists, in its order: their slots among all globals.
 #[derive(Clone, Copy)]
@@ -38,5 +40,20 @@ pub fn write_listed(rows: &mut Rows, at: usize, listed: Listed<'_>)
     'slots: for slot in listed.slots {
         put(rows, place, shared_value(listed.rows, listed.cells, *slot));
         place += 1;
+    }
+}
+
+/// Takes the values of some globals from a task's rows.
+pub fn take_written(globals: &mut Rows, rows: &Rows, cells: &[Cell], written: &[Transfer])
+    requires numbers { All (λ t. t.to < length globals.old.numbers) written.now }
+    requires flags { All (λ t. t.to < length globals.old.flags) written.now }
+    ensures { globals.new ≡ taken globals.old rows.now cells.now written.now }
+{
+    'written: for transfer in written {
+        put(
+            globals,
+            transfer.to,
+            shared_value(rows, cells, transfer.from),
+        );
     }
 }

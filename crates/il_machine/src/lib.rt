@@ -4,7 +4,10 @@
 mod globals;
 pub mod image;
 mod opening;
+mod outputs;
 pub mod rows;
+mod seats;
+mod sharing;
 pub mod store;
 pub mod verified;
 

@@ -7,10 +7,10 @@ ghost use Rattle.il_machine.specs.Image.{with_slot, filled};
 ghost use Rattle.il_machine.specs.Scanning.{front, value_at, variables_in, FitsOwn};
 
 use crate::verified::Verified;
+use il_slots::flat::Cell;
 use il_exec::rows::Rows;
 use il_rules::elementary::declared_limits;
 use il_run::value::Value;
-use il_slots::flat::Cell;
 use std::alloc::{AllocError, Global};
 
 // Copies a row to the front of another.

@@ -5,7 +5,7 @@ use Rattle.il_spec.specs.declared.tree.Config.{Config}
 use Rattle.il_run.specs.State.{Values, Frame, State}
 use Rattle.il_run.specs.Step.{step, Next}
 use Rattle.il_run.specs.Scan.{has_ended}
-use Rattle.il_code.specs.Layout.{Rows}
+use Rattle.il_slots.specs.Layout.{Rows}
 use Rattle.il_exec.specs.Going.{Stored}
 use Rattle.il_machine.specs.Scanning.{Kept, kept_of, state_of}
 use Rattle.lift_spec.specs.declared.image.Image.{Image}

@@ -4,7 +4,7 @@ use Rattle.std.specs.Prelude.{slice_get, slice_set, is_some, ◌==◌, option_co
 use Rattle.std.proofs.lemmas.Bool.Decides.{nat_tests}
 use Rattle.il_spec.specs.declared.tree.Config.{Config}
 use Rattle.il_run.specs.State.{Values, Frame}
-use Rattle.il_code.specs.Layout.{Rows}
+use Rattle.il_slots.specs.Layout.{Rows}
 use Rattle.il_exec.specs.Going.{Stored}
 use Rattle.il_machine.specs.Scanning.{Program, IsRunnable, IsScanOf, kept_of, state_of}
 use Rattle.lift_spec.specs.declared.image.Fields.{Fields}

@@ -5,7 +5,7 @@ use Rattle.il_spec.specs.declared.tree.Config.{Config}
 use Rattle.il_spec.specs.declared.tree.Unit.{Unit as Organized}
 use Rattle.il_run.specs.State.{Values}
 use Rattle.il_run.specs.Scan.{opening_variables}
-use Rattle.il_code.specs.Layout.{Rows}
+use Rattle.il_slots.specs.Layout.{Rows}
 use Rattle.il_exec.specs.Going.{Stored}
 use Rattle.il_machine.specs.Scanning.{IsRunnable, IsScanOf, HasTask, FitsOwn, OwnsDeclared, variables_in, kept_of, state_of}
 use Rattle.il_machine.proofs.Sizes.{cars_within, floors_within, slots_within}

@@ -7,7 +7,7 @@ use Rattle.il_run.specs.Scan.{Reaches}
 use Rattle.il_machine.specs.Scanning.{IsRunnable, IsScanOf, OwnsDeclared, FitsOwn, variables_in, kept_of, state_of}
 use Rattle.lift_world.specs.Stub.{globals_in, FitsGlobals}
 use Rattle.il_run.specs.Step.{step, Next}
-use Rattle.il_code.specs.Layout.{Rows}
+use Rattle.il_slots.specs.Layout.{Rows}
 use Rattle.il_exec.specs.Going.{Stored}
 use Rattle.lift_spec.specs.Image.{sizes_of}
 use Rattle.lift_spec.specs.World.{World, Group, TaskState, flat, committed_group}

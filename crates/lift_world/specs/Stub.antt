@@ -3,9 +3,9 @@ use Rattle.std.specs.Prelude.{ℕ, zero, List, []}
 use Rattle.il_spec.specs.declared.tree.Config.{Config}
 use Rattle.il_run.specs.State.{Values}
 use Rattle.il_run.specs.Meaning.{entities}
-use Rattle.il_code.specs.declared.flat.Cell.{Cell}
-use Rattle.il_code.specs.Layout.{Rows, Fits, view}
-use Rattle.il_code.specs.Cells.{entity_cells, instance_cells}
+use Rattle.il_slots.specs.declared.flat.Cell.{Cell}
+use Rattle.il_slots.specs.Layout.{Rows, Fits, view}
+use Rattle.il_slots.specs.Cells.{entity_cells, instance_cells}
 
 abbrev pub global_cells : Config → List Cell
 global_cells c = entity_cells (instance_cells zero c) [] (entities c.globals)

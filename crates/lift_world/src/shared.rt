@@ -6,7 +6,7 @@ ghost use Rattle.il_run.specs.NameMap as values;
 ghost use Rattle.il_run.specs.Ranges.{HoldGlobals};
 ghost use Rattle.il_run.specs.Scan.{restricted, opening_globals};
 ghost use Rattle.lift_world.specs.declared.shared.Seat.{Seat as SeatOf};
-ghost use Rattle.il_code.specs.Layout.{Rows as RowsOf};
+ghost use Rattle.il_slots.specs.Layout.{Rows as RowsOf};
 ghost use Rattle.il_machine.specs.Scanning.{IsScanOf, FitsOwn, OwnsDeclared, variables_in, kept_of, state_of};
 ghost use Rattle.lift_spec.specs.Image.{sizes_of, FieldsInRange};
 ghost use Rattle.lift_spec.specs.Calls.{ticket_of, enter_all, SlotInRange};
