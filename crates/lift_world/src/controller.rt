@@ -153,6 +153,7 @@ impl Controller {
         ensures world { IfOk result IsWorldOf }
     {
         let _config = verified.config();
+        let _costs = verified.costs();
         match opening(alloc, &verified) {
             Ok(opened) => Ok(Controller {
                 verified,

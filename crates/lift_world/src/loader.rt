@@ -70,8 +70,10 @@ fn affordable(alloc: Global, checked: Checked) -> Result<Verified, Refusal>
     ensures costs { IfOk result (λ v. v.costs ≡ map (cost_of v.config) v.config.units) }
     ensures refused { IfErr result (IsRefusedBy (IsTooLong checked)) }
 {
-    let costs = costs(alloc, &checked)?;
-    with_costs(alloc, checked, costs)
+    match costs(alloc, &checked) {
+        Ok(costs) => with_costs(alloc, checked, costs),
+        Err(refusal) => Err(refusal),
+    }
 }
 
 // A configuration with ranges, verified, by what its units cost.
