@@ -1,34 +1,13 @@
 // The words of the standard blocks (IEC 61131-3:2003, 2.5.2.3).
 
 ghost use Rattle.std.specs.Prelude.{◌≡◌, ◌++◌, ◌∷◌, [], OnOk};
-ghost use Rattle.il_slots.specs.Making.{added, flag, count, time, ctu_list, ctd_list, ctud_list, timer_list, tp_list, standard_list, standard_number, standard_lists};
+ghost use Rattle.il_slots.specs.Making.{added, flag, ctu_list, ctd_list, ctud_list, timer_list, tp_list, standard_list, standard_number, standard_lists};
 
-use crate::variables::{Variable, add_one, plain};
+use crate::variables::{Variable, add_scalars, plain};
 use il_scope::entry::StandardBlock;
 use il_spec::list::Items;
 use il_spec::tree::Elementary;
 use std::alloc::{AllocError, Global};
-
-// Adds a word of BOOL.
-fn add_flag(alloc: Global, list: &mut Items<Variable>, name: &str) -> Result<(), AllocError>
-    ensures { OnOk result (list.new ≡ list.old ++ flag name.now ∷ []) }
-{
-    add_one(alloc, list, name, plain(Elementary::Bool))
-}
-
-// Adds a word of INT.
-fn add_count(alloc: Global, list: &mut Items<Variable>, name: &str) -> Result<(), AllocError>
-    ensures { OnOk result (list.new ≡ list.old ++ count name.now ∷ []) }
-{
-    add_one(alloc, list, name, plain(Elementary::Int))
-}
-
-// Adds a word of TIME.
-fn add_time(alloc: Global, list: &mut Items<Variable>, name: &str) -> Result<(), AllocError>
-    ensures { OnOk result (list.new ≡ list.old ++ time name.now ∷ []) }
-{
-    add_one(alloc, list, name, plain(Elementary::Time))
-}
 
 // Adds three words of BOOL.
 fn add_flags(
@@ -40,78 +19,103 @@ fn add_flags(
 ) -> Result<(), AllocError>
     ensures { OnOk result (list.new ≡ added list.old (flag first.now ∷ flag second.now ∷ flag third.now ∷ [])) }
 {
-    add_flag(alloc, list, first)?;
-    add_flag(alloc, list, second)?;
-    add_flag(alloc, list, third)
+    let flag = plain(Elementary::Bool);
+    let words = [(first, flag), (second, flag), (third, flag)];
+    add_scalars(alloc, list, &words)
 }
 
 // Adds the words of CTU.
 fn add_ctu(alloc: Global, list: &mut Items<Variable>) -> Result<(), AllocError>
     ensures { OnOk result (list.new ≡ added list.old ctu_list) }
 {
-    add_flag(alloc, list, "CU")?;
-    add_flag(alloc, list, "R")?;
-    add_count(alloc, list, "PV")?;
-    add_flag(alloc, list, "Q")?;
-    add_count(alloc, list, "CV")?;
-    add_flag(alloc, list, "M")
+    let flag = plain(Elementary::Bool);
+    let count = plain(Elementary::Int);
+    let words = [
+        ("CU", flag),
+        ("R", flag),
+        ("PV", count),
+        ("Q", flag),
+        ("CV", count),
+        ("M", flag),
+    ];
+    add_scalars(alloc, list, &words)
 }
 
 // Adds the words of CTD.
 fn add_ctd(alloc: Global, list: &mut Items<Variable>) -> Result<(), AllocError>
     ensures { OnOk result (list.new ≡ added list.old ctd_list) }
 {
-    add_flag(alloc, list, "CD")?;
-    add_flag(alloc, list, "LD")?;
-    add_count(alloc, list, "PV")?;
-    add_flag(alloc, list, "Q")?;
-    add_count(alloc, list, "CV")?;
-    add_flag(alloc, list, "M")
+    let flag = plain(Elementary::Bool);
+    let count = plain(Elementary::Int);
+    let words = [
+        ("CD", flag),
+        ("LD", flag),
+        ("PV", count),
+        ("Q", flag),
+        ("CV", count),
+        ("M", flag),
+    ];
+    add_scalars(alloc, list, &words)
 }
 
 // Adds the words of CTUD.
 fn add_ctud(alloc: Global, list: &mut Items<Variable>) -> Result<(), AllocError>
     ensures { OnOk result (list.new ≡ added list.old ctud_list) }
 {
-    add_flag(alloc, list, "CU")?;
-    add_flag(alloc, list, "CD")?;
-    add_flag(alloc, list, "R")?;
-    add_flag(alloc, list, "LD")?;
-    add_count(alloc, list, "PV")?;
-    add_flag(alloc, list, "QU")?;
-    add_flag(alloc, list, "QD")?;
-    add_count(alloc, list, "CV")?;
-    add_flag(alloc, list, "MU")?;
-    add_flag(alloc, list, "MD")
+    let flag = plain(Elementary::Bool);
+    let count = plain(Elementary::Int);
+    let words = [
+        ("CU", flag),
+        ("CD", flag),
+        ("R", flag),
+        ("LD", flag),
+        ("PV", count),
+        ("QU", flag),
+        ("QD", flag),
+        ("CV", count),
+        ("MU", flag),
+        ("MD", flag),
+    ];
+    add_scalars(alloc, list, &words)
 }
 
 // Adds the words of TON and TOF.
 fn add_timer(alloc: Global, list: &mut Items<Variable>) -> Result<(), AllocError>
     ensures { OnOk result (list.new ≡ added list.old timer_list) }
 {
-    add_flag(alloc, list, "IN")?;
-    add_time(alloc, list, "PT")?;
-    add_flag(alloc, list, "Q")?;
-    add_time(alloc, list, "ET")?;
-    add_flag(alloc, list, "RUN")?;
-    add_time(alloc, list, "LAST")
+    let flag = plain(Elementary::Bool);
+    let time = plain(Elementary::Time);
+    let words = [
+        ("IN", flag),
+        ("PT", time),
+        ("Q", flag),
+        ("ET", time),
+        ("RUN", flag),
+        ("LAST", time),
+    ];
+    add_scalars(alloc, list, &words)
 }
 
 // Adds the words of TP.
 fn add_tp(alloc: Global, list: &mut Items<Variable>) -> Result<(), AllocError>
     ensures { OnOk result (list.new ≡ added list.old tp_list) }
 {
-    add_flag(alloc, list, "IN")?;
-    add_time(alloc, list, "PT")?;
-    add_flag(alloc, list, "Q")?;
-    add_time(alloc, list, "ET")?;
-    add_flag(alloc, list, "RUN")?;
-    add_flag(alloc, list, "M")?;
-    add_time(alloc, list, "LAST")
+    let flag = plain(Elementary::Bool);
+    let time = plain(Elementary::Time);
+    let words = [
+        ("IN", flag),
+        ("PT", time),
+        ("Q", flag),
+        ("ET", time),
+        ("RUN", flag),
+        ("M", flag),
+        ("LAST", time),
+    ];
+    add_scalars(alloc, list, &words)
 }
 
 // Adds the words of a block.
-fn add_words(
+fn add_standard(
     alloc: Global,
     list: &mut Items<Variable>,
     block: StandardBlock,
@@ -140,7 +144,7 @@ fn add_list(
     ensures { OnOk result (lists.new ≡ lists.old ++ standard_list block ∷ []) }
 {
     let mut list = Items::new(alloc);
-    add_words(alloc, &mut list, block)?;
+    add_standard(alloc, &mut list, block)?;
     lists.push(list)
 }
 
@@ -148,16 +152,22 @@ fn add_list(
 pub fn add_lists(alloc: Global, lists: &mut Items<Items<Variable>>) -> Result<(), AllocError>
     ensures { OnOk result (lists.new ≡ added lists.old standard_lists) }
 {
-    add_list(alloc, lists, StandardBlock::Sr)?;
-    add_list(alloc, lists, StandardBlock::Rs)?;
-    add_list(alloc, lists, StandardBlock::RTrig)?;
-    add_list(alloc, lists, StandardBlock::FTrig)?;
-    add_list(alloc, lists, StandardBlock::Ctu)?;
-    add_list(alloc, lists, StandardBlock::Ctd)?;
-    add_list(alloc, lists, StandardBlock::Ctud)?;
-    add_list(alloc, lists, StandardBlock::Tp)?;
-    add_list(alloc, lists, StandardBlock::Ton)?;
-    add_list(alloc, lists, StandardBlock::Tof)
+    let blocks = [
+        StandardBlock::Sr,
+        StandardBlock::Rs,
+        StandardBlock::RTrig,
+        StandardBlock::FTrig,
+        StandardBlock::Ctu,
+        StandardBlock::Ctd,
+        StandardBlock::Ctud,
+        StandardBlock::Tp,
+        StandardBlock::Ton,
+        StandardBlock::Tof,
+    ];
+    'all: for block in blocks {
+        add_list(alloc, lists, block)?;
+    }
+    Ok(())
 }
 
 /// The number of a standard block.

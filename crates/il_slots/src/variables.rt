@@ -177,16 +177,18 @@ pub(crate) fn plain(elementary: Elementary) -> Scalar
     }
 }
 
-/// Adds a scalar without an initial value.
-pub(crate) fn add_one(
+/// Adds scalars without initial values, by their names and types.
+pub(crate) fn add_scalars(
     alloc: Global,
     list: &mut Items<Variable>,
-    name: &str,
-    scalar: Scalar,
+    scalars: &[(&str, Scalar)],
 ) -> Result<(), AllocError>
-    ensures { OnOk result (list.new ≡ list.old ++ one name.now scalar ∷ []) }
+    ensures { OnOk result (list.new ≡ added list.old (map (λ s. one s.0.now s.1) scalars.now)) }
 {
-    push(alloc, list, name, VariableType::Scalar(scalar), None)
+    'all: for (name, scalar) in scalars {
+        push(alloc, list, name, VariableType::Scalar(*scalar), None)?;
+    }
+    Ok(())
 }
 
 // Adds an array of the image.
@@ -203,13 +205,23 @@ fn add_row(
         lower: 1,
         upper: count,
     };
-    push(
-        alloc,
-        list,
-        name,
-        VariableType::Array { bounds, element },
-        None,
-    )
+    let declared = VariableType::Array { bounds, element };
+    push(alloc, list, name, declared, None)
+}
+
+// Adds arrays of the image, by their names and the types of their elements.
+fn add_rows(
+    alloc: Global,
+    list: &mut Items<Variable>,
+    count: i64,
+    rows: &[(&str, Scalar)],
+) -> Result<(), AllocError>
+    ensures { OnOk result (list.new ≡ added list.old (map (λ r. row r.0.now count r.1) rows.now)) }
+{
+    'all: for (name, element) in rows {
+        add_row(alloc, list, name, count, *element)?;
+    }
+    Ok(())
 }
 
 // Adds what every program sees.
@@ -222,15 +234,21 @@ fn add_common(
 ) -> Result<(), AllocError>
     ensures { OnOk result (list.new ≡ added list.old (common_image cars floors slots)) }
 {
-    add_one(alloc, list, "CARS", within(cars, cars))?;
-    add_one(alloc, list, "FLOORS", within(floors, floors))?;
-    add_one(alloc, list, "SLOTS", within(slots, slots))?;
-    add_one(alloc, list, "NOW", plain(Elementary::Time))?;
-    add_one(alloc, list, "RUNLIMIT", within(0, cars))?;
-    add_row(alloc, list, "CALLWAITS", slots, plain(Elementary::Bool))?;
-    add_row(alloc, list, "CALLFROM", slots, within(0, floors))?;
-    add_row(alloc, list, "CALLTO", slots, within(0, floors))?;
-    add_row(alloc, list, "CALLCAR", slots, within(0, cars))
+    let scalars = [
+        ("CARS", within(cars, cars)),
+        ("FLOORS", within(floors, floors)),
+        ("SLOTS", within(slots, slots)),
+        ("NOW", plain(Elementary::Time)),
+        ("RUNLIMIT", within(0, cars)),
+    ];
+    let rows = [
+        ("CALLWAITS", plain(Elementary::Bool)),
+        ("CALLFROM", within(0, floors)),
+        ("CALLTO", within(0, floors)),
+        ("CALLCAR", within(0, cars)),
+    ];
+    add_scalars(alloc, list, &scalars)?;
+    add_rows(alloc, list, slots, &rows)
 }
 
 // Adds what programs of cars read of their car.
@@ -243,13 +261,16 @@ fn add_car(
     ensures { OnOk result (list.new ≡ added list.old (car_image cars floors)) }
 {
     let signal = plain(Elementary::Bool);
-    add_one(alloc, list, "CARNO", within(1, cars))?;
-    add_one(alloc, list, "POS", within(1, floors))?;
-    add_one(alloc, list, "LEVEL", signal)?;
-    add_one(alloc, list, "TOP", signal)?;
-    add_one(alloc, list, "BOTTOM", signal)?;
-    add_one(alloc, list, "LOCKED", signal)?;
-    add_one(alloc, list, "OPENED", signal)
+    let scalars = [
+        ("CARNO", within(1, cars)),
+        ("POS", within(1, floors)),
+        ("LEVEL", signal),
+        ("TOP", signal),
+        ("BOTTOM", signal),
+        ("LOCKED", signal),
+        ("OPENED", signal),
+    ];
+    add_scalars(alloc, list, &scalars)
 }
 
 // Adds what the program of the group reads of all cars.
@@ -261,17 +282,20 @@ fn add_group(
 ) -> Result<(), AllocError>
     ensures { OnOk result (list.new ≡ added list.old (group_image cars floors)) }
 {
-    add_row(alloc, list, "CPOS", cars, within(1, floors))?;
-    add_row(alloc, list, "CMOTOR", cars, within(-1, 1))
+    let rows = [("CPOS", within(1, floors)), ("CMOTOR", within(-1, 1))];
+    add_rows(alloc, list, cars, &rows)
 }
 
 // Adds what programs of cars write.
 fn add_car_outputs(alloc: Global, list: &mut Items<Variable>, slots: i64) -> Result<(), AllocError>
     ensures { OnOk result (list.new ≡ added list.old (car_outputs slots)) }
 {
-    add_one(alloc, list, "MOTOR", within(-1, 1))?;
-    add_one(alloc, list, "OPEN", plain(Elementary::Bool))?;
-    add_one(alloc, list, "SERVE", within(0, slots))
+    let scalars = [
+        ("MOTOR", within(-1, 1)),
+        ("OPEN", plain(Elementary::Bool)),
+        ("SERVE", within(0, slots)),
+    ];
+    add_scalars(alloc, list, &scalars)
 }
 
 // Whether programs of a role see what is meant for cars; without a role they see all (own rule).
