@@ -27,7 +27,7 @@ use Rattle.lift_world.specs.declared.shared.Core.{Core}
 use Rattle.lift_world.specs.declared.shared.Seat.{Seat}
 use Rattle.lift_world.specs.declared.controller.Controller.{Controller}
 use Rattle.lift_world.specs.Running.{seat_at, open_by, is_open, task_in, group_in, group_by, with_seat, world_by, world_of, CoreFits, HasOpenScan, StoresFit, IsWorldOf, Steps, RunsOut, instructions, up_to_end}
-use Rattle.lift_world.specs.Stub.{globals_in}
+use Rattle.il_machine.specs.Sharing.{globals_in}
 use Rattle.lift_world.proofs.Views.{set_same, flat_some, some_of, within}
 use Rattle.lift_world.proofs.Keeping.{seats_put, stores_step, stores_seat}
 use Rattle.lift_world.proofs.Opening.{sizes_fit}

@@ -9,7 +9,7 @@ use Rattle.lift_spec.specs.World.{flat}
 use Rattle.lift_world.specs.declared.shared.Core.{Core}
 use Rattle.lift_world.specs.declared.shared.Seat.{Seat}
 use Rattle.lift_world.specs.Running.{seat_at, with_seat, SeatsFit, CoreFits, StoresFit}
-use Rattle.lift_world.specs.Stub.{FitsGlobals}
+use Rattle.il_machine.specs.Sharing.{FitsGlobals}
 use Rattle.lift_world.proofs.Views.{length_set, after_set, there_set}
 
 -- the rows fit once a task has others that do

@@ -18,7 +18,7 @@ use Rattle.std.proofs.lemmas.Int.{ints}
 use Rattle.lift_world.specs.declared.shared.Seat.{Seat}
 use Rattle.lift_world.specs.declared.shared.Core.{Core}
 use Rattle.lift_world.specs.Running.{seat_at, task_in, seated, tasks_in, scanned, scans_in, group_in, world_by, StoresFit}
-use Rattle.lift_world.specs.Stub.{globals_in}
+use Rattle.il_machine.specs.Sharing.{globals_in}
 use Rattle.lift_world.proofs.Views.{after_set, flat_of, task_here, beyond}
 
 -- a task that is there has a program

@@ -1,3 +1,2 @@
 pub mod Running
 pub mod Loading
-pub mod Stub

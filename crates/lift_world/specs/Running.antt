@@ -5,7 +5,7 @@ use Rattle.il_budget.specs.Costs.{cost_of}
 use Rattle.il_run.specs.State.{Values, State}
 use Rattle.il_run.specs.Scan.{Reaches}
 use Rattle.il_machine.specs.Scanning.{IsRunnable, IsScanOf, OwnsDeclared, FitsOwn, variables_in, kept_of, state_of}
-use Rattle.lift_world.specs.Stub.{globals_in, FitsGlobals}
+use Rattle.il_machine.specs.Sharing.{globals_in, FitsGlobals}
 use Rattle.il_run.specs.Step.{step, Next}
 use Rattle.il_slots.specs.Layout.{Rows}
 use Rattle.il_exec.specs.Going.{Stored}

@@ -17,7 +17,6 @@ ghost use Rattle.lift_spec.specs.declared.event.Event.TheVariants as event;
 
 use crate::replies::Replies;
 use crate::shared::Core;
-use crate::stub::new_store;
 use il_machine::{Stepped, Store, Verified, scan, step};
 use lift_image::{Fields, in_range, is_floor};
 use lift_spec::calls::Call;
@@ -47,7 +46,7 @@ fn opening_store(alloc: Global, verified: &Verified, task: u8) -> Result<Option<
     if !verified.has_task(task) {
         return Ok(None);
     }
-    Ok(Some(new_store(alloc, verified, task)?))
+    Ok(Some(Store::new(alloc, verified, task)?))
 }
 
 // A store for each task: GROUP, and then the cars.

@@ -6,7 +6,6 @@ mod controller;
 mod loader;
 mod replies;
 mod shared;
-mod stub;
 mod world;
 
 pub use il_machine::Verified;

@@ -13,7 +13,6 @@ ghost use Rattle.il_machine.specs.Nesting.{IsNested};
 ghost use Rattle.lift_sound.specs.Runs.{RunsWell};
 ghost use Rattle.lift_world.specs.Loading.{IsSpelled, IsUnbroken, IsAccepted, IsRefusedFor, IsExplained};
 
-use crate::stub::verified_of;
 use il_budget::budget;
 use il_code::{Code, code};
 use il_declare::declare;
@@ -84,7 +83,7 @@ fn with_costs(alloc: Global, checked: Checked, costs: Items<UnitCost>) -> Result
     ensures costs { IfOk result (λ v. v.costs ≡ map (cost_of v.config) v.config.units) }
     ensures memory { IfErr result (λ e. e ≡ Memory) }
 {
-    Ok(verified_of(alloc, checked.into_code(), costs)?)
+    Ok(Verified::of(alloc, checked.into_code(), costs)?)
 }
 
 // What each unit costs, or the first that costs too much.

@@ -14,10 +14,9 @@ ghost use Rattle.lift_spec.specs.Settle.{settled_car, with_outputs, denials_of};
 ghost use Rattle.lift_spec.specs.Snapshot.{scan_begins, program_of, written_globals};
 ghost use Rattle.lift_spec.specs.World.{InRanges, flat, opening_task, opening_tasks_from, opening_group, beginning_of, refreshed_group};
 ghost use Rattle.lift_world.specs.Running.{seat_at, task_in, seated, tasks_in, group_in, is_open, CoreFits, with_seat, HasOpenScan, Commits};
-ghost use Rattle.lift_world.specs.Stub.{globals_in, FitsGlobals};
+ghost use Rattle.il_machine.specs.Sharing.{globals_in, FitsGlobals};
 
 use crate::calling::{clear, denials_of, enter_all, serve, tell_all, tickets_of};
-use crate::stub::{assigned, copy_globals, global, globals, opening_variables, restart, wishes};
 use il_machine::{Rows, Store, Value, Verified, opening_image, variable};
 use lift_calls::book::CallBook;
 use lift_image::{Fields, Image, Motor, Row};
@@ -53,7 +52,7 @@ fn opening_seat(alloc: Global, verified: &Verified, task: u8) -> Result<Option<S
     if !verified.has_task(task) {
         return Ok(None);
     }
-    let variables = opening_variables(verified, alloc, task)?;
+    let variables = verified.opening_variables(alloc, task)?;
     Ok(Some(Seat {
         variables,
         tickets: None,
@@ -103,15 +102,7 @@ fn start_seat(
     ensures scan { IsScanOf verified.now.config task store.new }
 {
     if let Some(seat) = seat {
-        restart(
-            store,
-            verified,
-            task,
-            &seat.variables,
-            globals,
-            image,
-            slots,
-        );
+        store.restart(verified, task, &seat.variables, globals, image, slots);
         seat.tickets = Some(tickets_of(slots));
     }
 }
@@ -167,7 +158,7 @@ impl Core {
     {
         let _config = verified.config();
         let sizes = verified.sizes();
-        let globals = globals(verified, alloc)?;
+        let globals = verified.globals(alloc)?;
         let seats = opening_seats(alloc, verified, sizes.cars)?;
         Ok(Core {
             image: opening_image(sizes),
@@ -212,7 +203,7 @@ impl Core {
         requires { CoreFits verified.now.config self.now }
         ensures { result ≡ values.get (globals_in verified.now.config self.now.globals) path.now }
     {
-        global(verified, &self.globals, path)
+        verified.global(&self.globals, path)
     }
 
     /// Whether a scan of a task is open.
@@ -273,7 +264,7 @@ impl Core {
         requires scan { IsScanOf verified.now.config car store.now }
         ensures { Commits verified.now.config car self.old (state_of (kept_of verified.now.config car store.now)).values self.new report.new }
     {
-        let wishes = wishes(store, verified, car);
+        let wishes = store.wishes(verified, car);
         settle(&mut self.image, car, wishes.motor, wishes.opens, report);
         let tickets = saw(&self.seats[usize::from(car)]);
         serve(
@@ -296,7 +287,7 @@ impl Core {
     {
         let _config = verified.config();
         let _room = self.image.outputs.len();
-        let cars = assigned(store, verified);
+        let cars = store.assigned(verified);
         let tickets = saw(&self.seats[0]);
         tell_all(
             &mut self.calls,
@@ -320,7 +311,7 @@ impl Core {
         ensures closed { (s : SeatOf) → seat_at self.old task ≡ Some s → (v : RowsOf) × (self.new.seats.items ≡ with_seat self.old task v None) × (variables_in verified.now.config task v ≡ restricted (variables_in verified.now.config task s.variables) (state_of (kept_of verified.now.config task store.now)).values) }
         ensures fits { CoreFits verified.now.config self.new }
     {
-        copy_globals(store, verified, task, &mut self.globals);
+        store.copy_globals(verified, task, &mut self.globals);
         close_seat(&mut self.seats[usize::from(task)], verified, task, store);
     }
 

@@ -8,5 +8,5 @@ has_task-requires c =
     let few = few_cars c.args.verified.now.config c.config-config.ensures.runnable.declared in
     omega (arith, c.requires, few)
 
-pub new_store-requires : goal.new_store-requires
-new_store-requires c = record { there = task_there _ _ c.requires (sym c.has_task.ensures ∙ c.if-not-has_task.false) }
+pub new-requires : goal.new-requires
+new-requires c = record { there = task_there _ _ c.requires (sym c.has_task.ensures ∙ c.if-not-has_task.false) }

@@ -5,11 +5,11 @@ use Rattle.il_budget.specs.Costs.{cost_of}
 use Rattle.il_machine.specs.Nesting.{IsNested}
 use Rattle.lift_world.proofs.loader.with_costs.Goals as goal
 
-pub verified_of-requires-clause-annotated : goal.verified_of-requires-clause-annotated
-verified_of-requires-clause-annotated c = subst Annotated (sym c.into_code.ensures.is) c.into_code.ensures.annotated
+pub of-requires-clause-annotated : goal.of-requires-clause-annotated
+of-requires-clause-annotated c = subst Annotated (sym c.into_code.ensures.is) c.into_code.ensures.annotated
 
-pub verified_of-requires-clause-nested : goal.verified_of-requires-clause-nested
-verified_of-requires-clause-nested c = subst IsNested (sym c.into_code.ensures.is) c.requires.nested
+pub of-requires-clause-nested : goal.of-requires-clause-nested
+of-requires-clause-nested c = subst IsNested (sym c.into_code.ensures.is) c.requires.nested
 
-pub verified_of-requires-clause-costs : goal.verified_of-requires-clause-costs
-verified_of-requires-clause-costs c = c.requires.costs ∙ ap (λ (d : Config). map (cost_of d) d.units) (sym c.into_code.ensures.is)
+pub of-requires-clause-costs : goal.of-requires-clause-costs
+of-requires-clause-costs c = c.requires.costs ∙ ap (λ (d : Config). map (cost_of d) d.units) (sym c.into_code.ensures.is)

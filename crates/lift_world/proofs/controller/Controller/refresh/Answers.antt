@@ -1,6 +1,6 @@
 use Rattle.std.proofs.Common.{◌∙◌, sym, ap, subst}
 use Rattle.lift_spec.specs.Image.{fields_in_range}
-use Rattle.lift_world.specs.Stub.{FitsGlobals}
+use Rattle.il_machine.specs.Sharing.{FitsGlobals}
 use Rattle.lift_world.specs.Running.{world_of}
 use Rattle.lift_world.proofs.Events.{refresh_outside}
 use Rattle.lift_world.proofs.Keeping.{seats_same, stores_same}

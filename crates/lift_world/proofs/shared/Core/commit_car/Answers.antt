@@ -2,7 +2,7 @@ use Rattle.std.proofs.Common.{rules, ◌∙◌, sym, ap, arith, refl}
 use Rattle.std.specs.Prelude.{is_some}
 use Rattle.il_machine.specs.Scanning.{kept_of, state_of}
 use Rattle.lift_spec.specs.World.{serve_wish}
-use Rattle.lift_world.specs.Stub.{globals_in}
+use Rattle.il_machine.specs.Sharing.{globals_in}
 use Rattle.lift_world.proofs.Views.{here, within}
 use Rattle.lift_world.proofs.Committing.{commit_car}
 use Rattle.lift_world.proofs.shared.Core.commit_car.Goals as goal

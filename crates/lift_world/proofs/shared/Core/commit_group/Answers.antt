@@ -3,7 +3,7 @@ use Rattle.std.specs.Prelude.{is_some}
 use Rattle.il_machine.specs.Scanning.{kept_of, state_of}
 use Rattle.lift_spec.specs.Snapshot.{assigned}
 use Rattle.lift_spec.specs.World.{tell_all}
-use Rattle.lift_world.specs.Stub.{globals_in}
+use Rattle.il_machine.specs.Sharing.{globals_in}
 use Rattle.lift_world.specs.declared.shared.Seat.{Seat}
 use Rattle.lift_world.proofs.Views.{here, within, the_seat}
 use Rattle.lift_world.proofs.Committing.{commit_group, assigned_each}

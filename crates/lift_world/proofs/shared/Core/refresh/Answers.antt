@@ -1,6 +1,6 @@
 use Rattle.std.proofs.Common.{◌∙◌}
 use Rattle.lift_spec.specs.Settle.{AllSettled}
-use Rattle.lift_world.specs.Stub.{globals_in}
+use Rattle.il_machine.specs.Sharing.{globals_in}
 use Rattle.lift_world.proofs.Committing.{refresh_group}
 use Rattle.lift_world.proofs.shared.Core.refresh.Goals as goal
 

@@ -2,7 +2,7 @@ use Rattle.std.proofs.Common.{◌∙◌, sym, ap, ap₂, Some, map, slice_set}
 use Rattle.il_machine.specs.Scanning.{variables_in}
 use Rattle.lift_spec.specs.Snapshot.{scan_begins}
 use Rattle.lift_spec.specs.Calls.{ticket_of}
-use Rattle.lift_world.specs.Stub.{globals_in}
+use Rattle.il_machine.specs.Sharing.{globals_in}
 use Rattle.lift_world.specs.Running.{with_seat}
 use Rattle.lift_world.proofs.Views.{here}
 use Rattle.lift_world.proofs.shared.Core.start.Goals as goal
