@@ -1,27 +1,24 @@
 -- Values that are copied from some slots to others.
-use Rattle.std.proofs.Common.{◌≡◌, ℕ, zero, suc, ◌+◌, ◌-◌, ◌<◌, Bool, true, false, List, [], ◌∷◌, ◌++◌, map, filter, take, drop, set, length, slice_get, refl, sym, ap, ap₂, ◌∙◌, cond, subst, Some, None, Option, ℤ, Contains, append-nil, arith}
+use Rattle.std.proofs.Common.{◌≡◌, ℕ, zero, suc, ◌-◌, Bool, true, false, List, [], ◌∷◌, ◌++◌, map, take, set, length, slice_get, refl, sym, ap, ap₂, ◌∙◌, cond, subst, Some, None, Option, ℤ, Contains, append-nil, arith}
 use Rattle.std.specs.Prelude.{option_map, option_and_then, bytes_eq, if◌then◌else◌}
 use Rattle.std.specs.Ordering.{eq_by_cmp}
 use Rattle.std.specs.FinMap.Entries.{find}
 use Rattle.std.proofs.lemmas.List.{length-append, length-set}
 use Rattle.std.proofs.lemmas.Option.{same_Some}
 use Rattle.std.proofs.lemmas.Slice.Eq.{bytes_eq-Decides}
-use Rattle.il_spec.specs.declared.tree.Scalar.{Scalar}
 use Rattle.il_rules.specs.Declarations.{declared_limits}
 use Rattle.il_rules.specs.Names.{or_else}
 use Rattle.il_run.specs.declared.value.Value.{Value}
-use Rattle.il_run.specs.NameMap.{Text, order, get, insert, with_entries, get-insert, same_map}
+use Rattle.il_run.specs.NameMap.{Text, order, get, with_entries, get-insert, same_map}
 use Rattle.il_run.specs.State.{Values}
 use Rattle.il_run.specs.Scan.{entries_at}
 use Rattle.il_sound.proofs.Lists.{at_head, in_tail}
 use Rattle.il_table.proofs.Copies.{same_text}
 use Rattle.il_slots.specs.declared.flat.Cell.{Cell}
 use Rattle.il_slots.specs.Flattened.{place_or_zero}
-use Rattle.il_slots.specs.Layout.{cell, Rows, rows, Fits, HasKind, number_part, flag_part, value_by, view, view_of}
+use Rattle.il_slots.specs.Layout.{Rows, Fits, HasKind, number_part, flag_part, value_by, view, view_of}
 use Rattle.il_slots.specs.Paths.{slot_at}
-use Rattle.il_slots.proofs.Kept.{itself}
-use Rattle.il_machine.specs.declared.sharing.Transfer.{Transfer}
-use Rattle.il_machine.specs.Image.{with_slot}
+use Rattle.il_image.specs.Image.{with_slot}
 use Rattle.il_machine.specs.Scanning.{value_at}
 use Rattle.il_machine.specs.Sharing.{between, slot_in, transfer, taken}
 use Rattle.il_machine.specs.Starting.{value_or_zero, shared_value}

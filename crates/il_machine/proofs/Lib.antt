@@ -7,7 +7,6 @@ pub mod Reading
 pub mod Sizes
 pub mod Lines
 pub mod Ending
-pub mod Writing
 pub mod Given
 pub mod Starts
 pub mod Restarts

@@ -1,5 +1,5 @@
 -- The variables of a task as the group opens.
-use Rattle.std.proofs.Common.{◌≡◌, ◌≤◌, refl, sym, ap, ◌∙◌, Some, subst, ℕ, List, All, length, replicate, arith}
+use Rattle.std.proofs.Common.{◌≡◌, sym, ap, ◌∙◌, Some, subst, ℕ, List, All, length, replicate, arith}
 use Rattle.std.proofs.lemmas.Int.{ints}
 use Rattle.std.proofs.lemmas.List.{length-replicate}
 use Rattle.std.proofs.lemmas.List.Elements.{All-replicate}

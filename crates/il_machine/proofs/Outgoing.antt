@@ -1,8 +1,8 @@
 -- What a scan's rows hold of its outputs.
-use Rattle.std.proofs.Common.{◌≡◌, ◌<◌, ◌≤◌, ℕ, zero, suc, ◌+◌, ◌-◌, List, [], ◌∷◌, ◌++◌, map, length, slice_get, refl, sym, ap, ap₂, ◌∙◌, Some, None, Option, subst, Contains, ℤ, pos, negsuc, ◌≤ℤ◌, nat_abs, codes, append-nil, append_assoc, arith}
+use Rattle.std.proofs.Common.{◌≡◌, ◌<◌, ◌≤◌, ℕ, zero, suc, ◌+◌, ◌-◌, List, [], ◌∷◌, ◌++◌, length, slice_get, refl, sym, ap, ap₂, ◌∙◌, Some, Option, subst, Contains, ℤ, pos, ◌≤ℤ◌, nat_abs, codes, append-nil, append_assoc, arith}
 use Rattle.std.specs.Prelude.{option_and_then}
 use Rattle.std.proofs.lemmas.Int.{ints}
-use Rattle.std.proofs.lemmas.List.{length-append, length-map, map-append}
+use Rattle.std.proofs.lemmas.List.{length-append, map-append}
 use Rattle.il_spec.specs.declared.tree.Config.{Config}
 use Rattle.il_spec.specs.declared.tree.Scalar.{Scalar}
 use Rattle.il_spec.specs.declared.tree.Unit.{Unit as ProgramUnit}
@@ -23,7 +23,7 @@ use Rattle.il_sound.proofs.Starting.{values_are}
 use Rattle.il_slots.specs.declared.flat.Cell.{Cell}
 use Rattle.il_slots.specs.Layout.{cell, Rows, Fits, view}
 use Rattle.il_slots.specs.Paths.{slot_at}
-use Rattle.il_slots.specs.Program.{own_cells, seen_cells, program_cells, program_code}
+use Rattle.il_slots.specs.Program.{own_cells, program_cells, program_code}
 use Rattle.il_slots.proofs.Paired.{stands_slot}
 use Rattle.il_slots.proofs.Tasks.{cells_once}
 use Rattle.il_exec.specs.Going.{Stored}
@@ -33,7 +33,7 @@ use Rattle.lift_spec.specs.Snapshot.{whole_of, assigned, assigned_from}
 use Rattle.lift_sound.specs.Tasks.{IsTaskOf, output_scalars}
 use Rattle.lift_sound.proofs.Given.{outputs_have}
 use Rattle.lift_sound.proofs.Kept.{as_many}
-use Rattle.lift_sound.proofs.Seen.{given_scalars, firsts, calls, places, motors, assigns}
+use Rattle.lift_sound.proofs.Seen.{firsts, calls, places, motors, assigns}
 use Rattle.lift_sound.proofs.Tasks.{same_image}
 use Rattle.il_machine.specs.Scanning.{IsRunnable, value_at, kept_of, state_of, IsScanOf}
 use Rattle.il_machine.proofs.Given.{cells_of, seen_cells_are}

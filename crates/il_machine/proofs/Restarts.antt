@@ -22,14 +22,14 @@ use Rattle.lift_spec.specs.Calls.{SlotInRange}
 use Rattle.lift_spec.specs.Snapshot.{scan_begins, given_entries, image_entries}
 use Rattle.lift_spec.specs.World.{Group, snapshot_of, InRanges}
 use Rattle.lift_sound.specs.Tasks.{IsTaskOf}
-use Rattle.il_machine.specs.Image.{filled, image_values}
+use Rattle.il_image.specs.Image.{filled, image_values}
 use Rattle.il_machine.specs.Scanning.{IsRunnable, OwnsDeclared, FitsOwn, IsScanOf, own_view, variables_in, kept_of, state_of}
 use Rattle.il_machine.specs.Starting.{joined, start_of, FitsTask, AreListed}
 use Rattle.il_machine.proofs.Given.{given_are}
 use Rattle.il_machine.proofs.Owned.{fits_of}
 use Rattle.il_machine.proofs.Scans.{sound_of}
 use Rattle.il_machine.proofs.Starts.{task_scan, task_begins}
-use Rattle.il_machine.proofs.Writing.{filled_append, same_numbers, same_flags}
+use Rattle.il_image.proofs.Writing.{filled_append, same_numbers, same_flags}
 
 -- VALUES BEHIND OTHERS
 

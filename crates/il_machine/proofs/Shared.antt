@@ -1,5 +1,5 @@
 -- The globals that a task's program lists, and those that it writes.
-use Rattle.std.proofs.Common.{◌≡◌, ℕ, zero, suc, ◌+◌, ◌*◌, ◌≤◌, ◌<◌, Bool, true, false, List, [], ◌∷◌, ◌++◌, map, filter, drop, length, slice_get, refl, sym, ap, ap₂, ◌∙◌, cond, subst, Some, None, Option, ℤ, pos, ◌+ℤ◌, ◌≤ℤ◌, nat_abs, Contains, All, codes, arith}
+use Rattle.std.proofs.Common.{◌≡◌, ℕ, zero, suc, ◌*◌, ◌≤◌, ◌<◌, Bool, true, false, List, [], ◌∷◌, ◌++◌, map, filter, drop, length, slice_get, refl, sym, ap, ap₂, ◌∙◌, cond, subst, Some, ℤ, pos, ◌+ℤ◌, ◌≤ℤ◌, nat_abs, Contains, All, codes, arith}
 use Rattle.std.specs.Prelude.{◌==◌, bytes_eq, option_map, slice_index_or, if◌then◌else◌}
 use Rattle.std.specs.Ordering.{eq_by_cmp}
 use Rattle.std.specs.Fmt.{signed_decimal}
@@ -20,18 +20,16 @@ use Rattle.il_rules.specs.Written.{IsWritten}
 use Rattle.il_run.specs.declared.value.Value.{Value}
 use Rattle.il_run.specs.NameMap.{Text, order, get, from_entries, with_entries, get-insert, same_map}
 use Rattle.il_run.specs.Values.{IsOf}
-use Rattle.il_run.specs.State.{State, Values}
+use Rattle.il_run.specs.State.{Values}
 use Rattle.il_run.specs.Meaning.{Entity, under, element_path, width, entities, own_entities}
-use Rattle.il_run.specs.Ranges.{HasValue, HaveValues, HoldGlobals, element_scalars, scalars_at, entity_scalars, instance_scalars, external_scalars, global_scalars, task_scalars}
-use Rattle.il_run.specs.Scan.{entries_at, external_paths, written_paths, paths_of, names_stored, opening_globals}
+use Rattle.il_run.specs.Ranges.{HasValue, HaveValues, HoldGlobals, element_scalars, scalars_at, entity_scalars, instance_scalars, external_scalars, global_scalars}
+use Rattle.il_run.specs.Scan.{entries_at, written_paths, paths_of, opening_globals}
 use Rattle.il_sound.specs.Accepted.{IsAccepted}
-use Rattle.il_sound.specs.Agreement.{Holds}
-use Rattle.il_sound.specs.Listed.{HaveOneType, SharesGlobals, seen_scalars, given_scalars as scan_scalars}
+use Rattle.il_sound.specs.Listed.{HaveOneType, SharesGlobals}
 use Rattle.il_sound.proofs.Externals.{shares_globals}
 use Rattle.il_sound.proofs.Lists.{in_nothing, at_head, in_tail}
 use Rattle.il_sound.proofs.Opening.{globals_open}
-use Rattle.il_sound.proofs.Paths.{value_of, values_of, have_first, have_second}
-use Rattle.il_sound.proofs.Starting.{values_are}
+use Rattle.il_sound.proofs.Paths.{value_of, values_of}
 use Rattle.il_sound.proofs.Texts.{element_is}
 use Rattle.il_table.proofs.Copies.{same_text}
 use Rattle.il_slots.specs.declared.flat.Cell.{Cell}
@@ -39,10 +37,9 @@ use Rattle.il_slots.specs.Cells.{element_cells, cells_at, entity_cells, instance
 use Rattle.il_slots.specs.Flattened.{place_or_zero}
 use Rattle.il_slots.specs.Layout.{cell, Rows, Fits, value_by, number_part, flag_part, view}
 use Rattle.il_slots.specs.Paths.{slot_at}
-use Rattle.il_slots.specs.Program.{own_cells, seen_cells, program_cells, global_cells, global_values}
-use Rattle.il_slots.specs.Whole.{first_rows, AreOf, AreInitial}
+use Rattle.il_slots.specs.Program.{own_cells, program_cells, global_cells, global_values}
+use Rattle.il_slots.specs.Whole.{first_rows}
 use Rattle.il_slots.proofs.Distinct.{declared_named}
-use Rattle.il_slots.proofs.Opening.{shown, entities_of}
 use Rattle.il_slots.proofs.Tasks.{program_among}
 use Rattle.il_exec.specs.Going.{Stored}
 use Rattle.lift_spec.specs.Image.{sizes_of}
@@ -53,13 +50,12 @@ use Rattle.lift_sound.proofs.Kept.{as_many}
 use Rattle.lift_sound.proofs.Seen.{given_scalars, row, firsts, calls, waiting, from_row, to_row, car_row, fields, outputs, places, motors, assigns}
 use Rattle.lift_sound.proofs.Tasks.{is_sized}
 use Rattle.il_machine.specs.declared.sharing.Transfer.{Transfer}
-use Rattle.il_machine.specs.Scanning.{IsRunnable, IsScanOf, kept_of, state_of, value_at}
+use Rattle.il_machine.specs.Scanning.{IsRunnable, IsScanOf, kept_of, state_of}
 use Rattle.il_machine.specs.Sharing.{globals_in, FitsGlobals, external_cells, image_count, between, slot_in, base_name, is_stored, stores_cell, transfer, transfers, taken}
 use Rattle.il_machine.specs.Starting.{shared_value, AreListed}
 use Rattle.il_machine.proofs.Copied.{between_is, reads_path, shared_is, IsShared, taken_is, taken_fits}
 use Rattle.il_machine.proofs.Given.{cells_of, kind_by, seen_cells_are}
 use Rattle.il_machine.proofs.Outgoing.{kept_have, reads_here}
-use Rattle.il_machine.proofs.Owned.{fits_of}
 use Rattle.il_machine.proofs.Scans.{sound_of, accepted}
 
 -- CELLS

@@ -20,7 +20,7 @@ use Rattle.lift_spec.specs.declared.image.Sizes.{Sizes}
 use Rattle.lift_sound.specs.Tasks.{IsTaskOf}
 use Rattle.il_machine.specs.declared.sharing.Transfer.{Transfer}
 use Rattle.il_machine.specs.declared.seats.Seat.{Seat}
-use Rattle.il_machine.specs.Image.{with_slot}
+use Rattle.il_image.specs.Image.{with_slot}
 use Rattle.il_machine.specs.Starting.{shared_value}
 
 -- GLOBALS

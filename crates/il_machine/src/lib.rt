@@ -2,8 +2,6 @@
 #![tactic(auto)]
 
 mod globals;
-pub mod image;
-mod opening;
 mod outputs;
 pub mod rows;
 mod seats;
@@ -13,8 +11,8 @@ pub mod verified;
 
 pub use il_budget::UnitCost;
 pub use il_exec::rows::Rows;
+pub use il_image::opening_image;
 pub use il_run::value::Value;
-pub use opening::opening_image;
 pub use rows::variable;
 pub use store::{Stepped, Store, scan, step};
 pub use verified::{TaskInfo, UnitInfo, Verified};

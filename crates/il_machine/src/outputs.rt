@@ -9,9 +9,9 @@ ghost use Rattle.il_machine.specs.Scanning.{state_of, kept_of, value_at, IsScanO
 use crate::rows::value;
 use crate::store::Store;
 use crate::verified::Verified;
-use il_slots::flat::Cell;
 use il_exec::rows::Rows;
 use il_run::value::Value;
+use il_slots::flat::Cell;
 use lift_spec::image::{Motor, Wishes};
 use lift_spec::row::Row;
 

@@ -2,15 +2,14 @@
 
 ghost use Rattle.std.specs.Prelude.{◌≡◌, ◌+◌, ◌<◌, ◌≤◌, ◌++◌, IfOk, length, take, drop};
 ghost use Rattle.il_run.specs.NameMap.{get};
-ghost use Rattle.il_slots.specs.Layout.{rows, number_part, flag_part};
-ghost use Rattle.il_machine.specs.Image.{with_slot, filled};
+ghost use Rattle.il_slots.specs.Layout.{rows};
 ghost use Rattle.il_machine.specs.Scanning.{front, value_at, variables_in, FitsOwn};
 
 use crate::verified::Verified;
-use il_slots::flat::Cell;
 use il_exec::rows::Rows;
 use il_rules::elementary::declared_limits;
 use il_run::value::Value;
+use il_slots::flat::Cell;
 use std::alloc::{AllocError, Global};
 
 // Copies a row to the front of another.
@@ -77,48 +76,4 @@ pub fn variable(variables: &Rows, verified: &Verified, task: u8, path: &str) -> 
     let code = verified.task_code(task);
     let slot = code.slot_of(path)?;
     value(variables, code.cells(), slot)
-}
-
-// What the row of numbers keeps of a value.
-fn number_part(value: Value) -> i64
-    ensures { result ≡ number_part value }
-{
-    match value {
-        Value::Boolean(_) => 0,
-        Value::Integer(number) => number,
-    }
-}
-
-// What the row of Booleans keeps of a value.
-fn flag_part(value: Value) -> bool
-    ensures { result ≡ flag_part value }
-{
-    match value {
-        Value::Boolean(truth) => truth,
-        Value::Integer(_) => false,
-    }
-}
-
-/// Gives a slot a value.
-pub fn put(all: &mut Rows, at: usize, value: Value)
-    requires numbers { at < length all.old.numbers }
-    requires flags { at < length all.old.flags }
-    ensures { all.new ≡ with_slot all.old at value }
-{
-    all.numbers[at] = number_part(value);
-    all.flags[at] = flag_part(value);
-}
-
-/// Gives slots from one on values.
-pub fn put_all(all: &mut Rows, at: usize, values: &[Value])
-    requires numbers { at + length values.now ≤ length all.old.numbers }
-    requires flags { at + length values.now ≤ length all.old.flags }
-    ensures { all.new ≡ filled all.old at values.now }
-{
-    let _room = all.numbers.len();
-    let mut place = at;
-    'values: for value in values {
-        put(all, place, *value);
-        place += 1;
-    }
 }

@@ -1,4 +1,4 @@
-use Rattle.std.proofs.Common.{◌≡◌, ◌≤◌, ◌∙◌, refl, ap, sym, subst, arith, length, slice_get}
+use Rattle.std.proofs.Common.{◌∙◌, refl, ap, sym, subst, arith, length, slice_get}
 use Rattle.il_spec.specs.declared.tree.Config.{Config}
 use Rattle.il_rules.specs.Faults.{Broken, Declaring, HasNoFault}
 use Rattle.lift_spec.specs.declared.image.Sizes.{Sizes}

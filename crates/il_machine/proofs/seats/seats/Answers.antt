@@ -1,4 +1,4 @@
-use Rattle.std.proofs.Common.{◌≡◌, [], ◌∷◌, ap, length, arith}
+use Rattle.std.proofs.Common.{[], ◌∷◌, ap, length, arith}
 use Rattle.std.proofs.lemmas.List.{length-append}
 use Rattle.il_machine.proofs.Seated.{none_yet, one_more}
 use Rattle.il_machine.proofs.seats.seats.Goals as goal

@@ -1,5 +1,5 @@
-use Rattle.std.proofs.Common.{◌≡◌, ◌≤◌, ◌+◌, ◌-◌, ◌++◌, length}
-use Rattle.lift_spec.specs.Snapshot.{assigned, assigned_from}
+use Rattle.std.proofs.Common.{◌≡◌, ◌+◌, ◌-◌, ◌++◌, length}
+use Rattle.lift_spec.specs.Snapshot.{assigned_from}
 use Rattle.il_machine.specs.Scanning.{state_of, kept_of}
 use Rattle.il_machine.proofs.store.Store.assigned.Given as goal
 

@@ -1,4 +1,4 @@
-use Rattle.std.proofs.Common.{◌≡◌, ◌<◌, ◌∙◌, ap, ap₂, sym, subst, All, ℕ, List, length}
+use Rattle.std.proofs.Common.{◌<◌, ◌∙◌, ap, ap₂, sym, subst, All, ℕ, List, length}
 use Rattle.il_slots.specs.declared.flat.Cell.{Cell}
 use Rattle.il_slots.specs.Layout.{Rows}
 use Rattle.il_machine.specs.declared.sharing.Transfer.{Transfer}

@@ -1,4 +1,4 @@
-use Rattle.std.proofs.Common.{sym, ap, ap₂, ◌∙◌, List, ℕ}
+use Rattle.std.proofs.Common.{sym, ap, ap₂, ◌∙◌, List}
 use Rattle.std.specs.Prelude.{option_and_then}
 use Rattle.il_slots.specs.declared.flat.Cell.{Cell}
 use Rattle.il_slots.specs.Layout.{Rows}

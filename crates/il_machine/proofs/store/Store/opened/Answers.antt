@@ -1,6 +1,6 @@
-use Rattle.std.proofs.Common.{◌≡◌, ◌≤◌, ap, arith}
+use Rattle.std.proofs.Common.{ap, arith}
 use Rattle.lift_spec.specs.declared.image.Sizes.{Sizes}
-use Rattle.il_machine.proofs.Opened.{opening_in, free_in}
+use Rattle.il_machine.proofs.Opened.{opening_in}
 use Rattle.il_machine.proofs.Sizes.{few_cars}
 use Rattle.il_machine.proofs.store.Store.opened.Goals as goal
 
