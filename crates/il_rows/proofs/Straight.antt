@@ -12,8 +12,8 @@ use Rattle.il_spec.specs.declared.tree.Elementary.{Elementary}
 use Rattle.il_spec.specs.declared.tree.Instruction.{Instruction}
 use Rattle.il_spec.specs.declared.tree.Instruction.TheVariants.{Load, Store, Not, Operate, Invoke}
 use Rattle.il_rules.specs.Types.{type_behind, type_after, typing_numbers, opener, opened_behind, opened_after, innermost, goes_on, Opened, JumpsAt, Follows, onward, jumped, IsReached, IsResultAt, IsDeferredAt}
-use Rattle.il_rules.specs.Subset.{AreSupportedSteps, IsSupportedInstruction}
-use Rattle.il_rules.specs.Straight.{type_line, line_type, AreTyped}
+use Rattle.il_rows.specs.Straight.{AreStraightSteps, IsStraightInstruction}
+use Rattle.il_rows.specs.Straight.{type_line, line_type, AreTyped}
 use Rattle.il_rules.specs.Faults.{BreaksTypes, of_instruction, Typing, HasNoFault, Broken}
 use Rattle.il_rules.proofs.Passes.{leads_on, result_is, join_of_paths, paths_of_join, GivesBehind, entry-none}
 
@@ -31,13 +31,13 @@ pub among_units : (config : Config) (unit : ProgramUnit) → config.units ≡ un
 among_units config unit alone = subst (λ l. Contains l unit) (sym alone) (0, omega arith, refl)
 
 -- each instruction of a body that is supported is supported, and has no label
-pub step_supported : (steps : List Step) → AreSupportedSteps steps → (at : ℕ) (s : Step) → slice_get steps at ≡ Some s → (s.labels ≡ []) × IsSupportedInstruction s.instruction
+pub step_supported : (steps : List Step) → AreStraightSteps steps → (at : ℕ) (s : Step) → slice_get steps at ≡ Some s → (s.labels ≡ []) × IsStraightInstruction s.instruction
 step_supported [] c at s e = let bad : None ≡ Some s = e in cc
-step_supported (x ∷ xs) c zero s e = let same : x ≡ s = cc in subst (λ y. (y.labels ≡ []) × IsSupportedInstruction y.instruction) same (c.0, c.1)
+step_supported (x ∷ xs) c zero s e = let same : x ≡ s = cc in subst (λ y. (y.labels ≡ []) × IsStraightInstruction y.instruction) same (c.0, c.1)
 step_supported (x ∷ xs) c (suc at) s e = step_supported xs c.2 at s e
 
 -- the next place follows it
-pub on_and_on : (i : Instruction) → IsSupportedInstruction i → goes_on i ≡ true
+pub on_and_on : (i : Instruction) → IsStraightInstruction i → goes_on i ≡ true
 on_and_on (Load negated operand) c = refl
 on_and_on (Store kind to) c = refl
 on_and_on Not c = refl
@@ -46,7 +46,7 @@ on_and_on (Invoke function operands) c = refl
 on_and_on _ c = absurd c
 
 -- it opens no parenthesis
-pub opens_none : (opened : List Opened) (at : ℕ) (i : Instruction) → IsSupportedInstruction i → opened_after opened at i ≡ opened
+pub opens_none : (opened : List Opened) (at : ℕ) (i : Instruction) → IsStraightInstruction i → opened_after opened at i ≡ opened
 opens_none opened at (Load negated operand) c = refl
 opens_none opened at (Store kind to) c = refl
 opens_none opened at Not c = refl
@@ -55,22 +55,22 @@ opens_none opened at (Invoke function operands) c = refl
 opens_none opened at _ c = absurd c
 
 -- no instruction jumps
-pub no_jump : (body : Body) → AreSupportedSteps body.steps → (at : ℕ) (s : Step) (label : Named) → JumpsAt body at s label → ⊥
-no_jump body c at s label j = subst IsSupportedInstruction j.jumps (step_supported body.steps c at s j.stands).1
+pub no_jump : (body : Body) → AreStraightSteps body.steps → (at : ℕ) (s : Step) (label : Named) → JumpsAt body at s label → ⊥
+no_jump body c at s label j = subst IsStraightInstruction j.jumps (step_supported body.steps c at s j.stands).1
 
 -- only the next place follows
-follows_next : (body : Body) → AreSupportedSteps body.steps → (at to : ℕ) → Follows body at to → to ≡ at + 1
+follows_next : (body : Body) → AreStraightSteps body.steps → (at to : ℕ) → Follows body at to → to ≡ at + 1
 follows_next body c at to (onward s stands on next) = next
 follows_next body c at to (jumped s label jumps known up) = absurd (no_jump body c at s label jumps)
 
 -- nothing is open
-open_none : (steps : List Step) → AreSupportedSteps steps → (start at : ℕ) → opened_behind [] start steps at ≡ []
+open_none : (steps : List Step) → AreStraightSteps steps → (start at : ℕ) → opened_behind [] start steps at ≡ []
 open_none [] c start at = refl
 open_none (s ∷ steps) c start zero = refl
 open_none (s ∷ steps) c start (suc at) = ap (λ o. opened_behind o (start + 1) steps at) (opens_none [] start s.instruction c.1) ∙ open_none steps c.2 (start + 1) at
 
 -- no parenthesis is open
-pub opener_none : (body : Body) → AreSupportedSteps body.steps → (at : ℕ) → opener body at ≡ None
+pub opener_none : (body : Body) → AreStraightSteps body.steps → (at : ℕ) → opener body at ≡ None
 unfolding opener
 opener_none body c at = ap innermost (open_none body.steps c 0 at)
 
@@ -91,7 +91,7 @@ pub record IsOnLine (config : Config) (unit : ProgramUnit) (at : ℕ) : Type 0 w
   pub result : IsResultAt config unit at (line_type config unit at)
 
 -- from one place to the next
-line_next : (config : Config) (unit : ProgramUnit) → AreSupportedSteps unit.body.steps → (n : ℕ) (s : Step) → slice_get unit.body.steps n ≡ Some s → IsOnLine config unit n → IsOnLine config unit (n + 1)
+line_next : (config : Config) (unit : ProgramUnit) → AreStraightSteps unit.body.steps → (n : ℕ) (s : Step) → slice_get unit.body.steps n ≡ Some s → IsOnLine config unit n → IsOnLine config unit (n + 1)
 line_next config unit supported n s e here =
     record { reached = there; result = result_at (line_type config unit (n + 1)) refl }
   where
@@ -120,7 +120,7 @@ line_next config unit supported n s e here =
         none_is g a b = let bad : None ≡ Some g = sym a ∙ b in cc
 
 -- each place of the body, and its end
-pub on_line : (config : Config) (unit : ProgramUnit) → AreSupportedSteps unit.body.steps → (n : ℕ) → n ≤ length unit.body.steps → IsOnLine config unit n
+pub on_line : (config : Config) (unit : ProgramUnit) → AreStraightSteps unit.body.steps → (n : ℕ) → n ≤ length unit.body.steps → IsOnLine config unit n
 on_line config unit supported zero low = record { reached = ([], refl); result = entry-none config unit }
 on_line config unit supported (suc n) low =
     let here = on_line config unit supported n (omega arith) in
@@ -133,7 +133,7 @@ one_result config unit at None r None other = refl
 one_result config unit at None r (Some g) other = absurd (r g other)
 
 -- a rule of types that an instruction of the line breaks
-pub breaks_on_line : (config : Config) (unit : ProgramUnit) → config.units ≡ unit ∷ [] → AreSupportedSteps unit.body.steps → (n : ℕ) (p : Place) (at : ℕ) (s : Step) → slice_get unit.body.steps at ≡ Some s
+pub breaks_on_line : (config : Config) (unit : ProgramUnit) → config.units ≡ unit ∷ [] → AreStraightSteps unit.body.steps → (n : ℕ) (p : Place) (at : ℕ) (s : Step) → slice_get unit.body.steps at ≡ Some s
     → Contains (typing_numbers config unit s.instruction (line_type config unit at) None) n → p ≡ s.place → BreaksTypes config n p
 breaks_on_line config unit alone supported n p at s e c is = of_instruction (record {
   unit = unit;
@@ -149,5 +149,5 @@ breaks_on_line config unit alone supported n p at s e c is = of_instruction (rec
 })
 
 -- where nothing of types is broken, no instruction of the line breaks one of its rules
-pub are_typed : (config : Config) (unit : ProgramUnit) → config.units ≡ unit ∷ [] → AreSupportedSteps unit.body.steps → HasNoFault (Broken Typing config) → AreTyped config unit
+pub are_typed : (config : Config) (unit : ProgramUnit) → config.units ≡ unit ∷ [] → AreStraightSteps unit.body.steps → HasNoFault (Broken Typing config) → AreTyped config unit
 are_typed config unit alone supported unbroken at s e number c = unbroken number s.place (breaks_on_line config unit alone supported number s.place at s e c refl)
