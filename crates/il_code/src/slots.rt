@@ -1,108 +1,69 @@
-// The slots of a task with their paths, and the first rows.
+// The slots of a task, and the slot of each path.
 
-ghost use Rattle.std.specs.Prelude.{◌≡◌, [], OnOk};
-ghost use Rattle.il_code.specs.Layout.{rows};
-ghost use Rattle.il_code.specs.Paths.{pushed, with_value};
-ghost use Rattle.il_code.specs.Making.{no_slots};
+ghost use Rattle.std.specs.Prelude.{◌≡◌, ◌++◌, map, IfOk, OnOk};
+ghost use Rattle.il_scope.specs.Tables.{with_new};
+ghost use Rattle.il_code.specs.Laying.{cell_of};
+ghost use Rattle.il_code.specs.Tasks.{AreIndexed};
 
-use crate::flat::Cell;
-use il_run::value::Value;
+use crate::laying::Opening;
+use il_slots::flat::Cell;
 use il_spec::list::Items;
 use il_spec::name::Name;
-use il_spec::tree::Scalar;
 use il_table::Table;
 use std::alloc::{AllocError, Global};
-use std::marker::Model;
 
-/// What each slot keeps, and the slot of each path.
-#[derive(Drop)]
-pub(crate) struct Slots {
-    pub(crate) cells: Items<Cell>,
-    pub(crate) paths: Table<usize>,
+/// Adds a name with its entry, if it is not there.
+pub fn put_new(
+    alloc: Global,
+    table: &mut Table<usize>,
+    name: &str,
+    entry: usize,
+) -> Result<(), AllocError>
+    ensures { OnOk result (table.new ≡ with_new table.old name.now entry) }
+{
+    if table.get(name).is_some() {
+        return Ok(());
+    }
+    table.put(alloc, name, entry)
 }
 
-impl Slots {
-    /// No slot.
-    pub(crate) fn new(alloc: Global) -> Slots
-        ensures { result ≡ no_slots }
-    {
-        Slots {
-            cells: Items::new(alloc),
-            paths: Table::new(alloc),
-        }
+/// The slot of each path.
+pub fn index_of(alloc: Global, cells: &[Cell]) -> Result<Table<usize>, AllocError>
+    ensures { IfOk result (λ t. AreIndexed t cells.now) }
+{
+    let mut table = Table::new(alloc);
+    for slot in 0..cells.len() {
+        put_new(alloc, &mut table, cells[slot].path.as_str(), slot)?;
     }
-
-    /// Adds a slot at the end.
-    pub(crate) fn push(
-        &mut self,
-        alloc: Global,
-        path: &str,
-        scalar: Scalar,
-    ) -> Result<(), AllocError>
-        ensures { OnOk result (self.new ≡ pushed self.old path.now scalar) }
-    {
-        let slot = self.cells.as_slice().len();
-        let cell = Cell {
-            path: Name::of(alloc, path)?,
-            scalar,
-        };
-        self.paths.put(alloc, path, slot)?;
-        self.cells.push(cell)
-    }
+    Ok(table)
 }
 
-/// The number and the Boolean with which each own slot begins.
-#[derive(Drop)]
-pub struct FirstRows {
-    numbers: Vec<i64>,
-    flags: Vec<bool>,
+// What a slot keeps.
+fn cell_of(alloc: Global, opening: &Opening) -> Result<Cell, AllocError>
+    ensures { IfOk result (λ c. c ≡ cell_of opening.now) }
+{
+    Ok(Cell {
+        path: Name::of(alloc, opening.path.as_str())?,
+        scalar: opening.scalar,
+    })
 }
 
-impl Model for FirstRows {
-    ghost use Rattle.il_code.specs.Layout.{Rows, rows_code};
-
-    ghost Value = { Rows };
-
-    ghost coded = { rows_code };
-
-    ghost view = { λ r. record { numbers = r.numbers.items; flags = r.flags.items } };
+// Adds slots.
+fn add_cells(alloc: Global, cells: &mut Items<Cell>, openings: &[Opening]) -> Result<(), AllocError>
+    ensures { OnOk result (cells.new ≡ cells.old ++ map cell_of openings.now) }
+{
+    for opening in openings {
+        cells.push(cell_of(alloc, opening)?)?;
+    }
+    Ok(())
 }
 
-impl FirstRows {
-    /// No slot.
-    pub(crate) fn new(alloc: Global) -> FirstRows
-        ensures { result ≡ rows [] [] }
-    {
-        FirstRows {
-            numbers: Vec::new(alloc),
-            flags: Vec::new(alloc),
-        }
-    }
-
-    /// Adds the value of one slot more.
-    pub(crate) fn push(&mut self, value: Value) -> Result<(), AllocError>
-        ensures { OnOk result (self.new ≡ with_value self.old value) }
-    {
-        let (number, flag) = match value {
-            Value::Boolean(flag) => (0, flag),
-            Value::Integer(number) => (number, false),
-        };
-        self.numbers.push(number)?;
-        self.flags.push(flag)?;
-        Ok(())
-    }
-
-    /// The numbers; 0 at a slot of a Boolean.
-    pub fn numbers(&self) -> &[i64]
-        ensures { result.now ≡ self.now.numbers }
-    {
-        self.numbers.as_slice()
-    }
-
-    /// The Booleans; FALSE at a slot of a number.
-    pub fn flags(&self) -> &[bool]
-        ensures { result.now ≡ self.now.flags }
-    {
-        self.flags.as_slice()
-    }
+/// Slots that stay from one scan to the next, and behind them others.
+pub fn cells_of(alloc: Global, own: &[Opening], seen: &[Opening]) -> Result<Items<Cell>, AllocError>
+    ensures { IfOk result (λ cs. cs ≡ map cell_of own.now ++ map cell_of seen.now) }
+{
+    let mut cells = Items::new(alloc);
+    add_cells(alloc, &mut cells, own)?;
+    add_cells(alloc, &mut cells, seen)?;
+    Ok(cells)
 }

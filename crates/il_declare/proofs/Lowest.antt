@@ -9,7 +9,7 @@ use Rattle.std.proofs.lemmas.Option.{slice_get_read, get_or_from_slice_get}
 use Rattle.il_spec.specs.declared.tree.Place.{Place}
 use Rattle.il_rules.specs.Declarations.{unless}
 use Rattle.il_rules.specs.Faults.{IsNoLater, same_place}
-use Rattle.il_rules.proofs.Straight.{only_one}
+use Rattle.il_rules.proofs.Passes.{only_one}
 use Rattle.il_found.specs.Least.{NumberedFault, fault_at, fault_of, earlier_of, IsLeast, Below}
 use Rattle.il_found.proofs.Least.{least_none, least_same}
 use Rattle.il_declare.specs.Places.{lower_of, lowest, lowest_at, At, Among}

@@ -20,7 +20,6 @@ use Rattle.il_rules.specs.Declarations.{Admitted, ScalarsAlone, ScalarsAndArrays
 use Rattle.il_rules.specs.Types.{HasUnknownLabel, unknown_label as label_unknown, JumpsBackward, backward, IsUnreached, unreached as never_reached, HasTwoWriters, two_writers as written_twice}
 use Rattle.il_rules.specs.Order.{recursive as reaches_itself, long_chain as chain_too_long, of_task, of_globals}
 use Rattle.il_rules.specs.Faults.{BreaksDeclarations, duplicate, unknown, empty_range, initial_outside, bad_task, other_type, BreaksTypes, of_instruction, unknown_label, backward_jump, two_writers, unreached, BreaksOrder, recursive, long_chain, too_many_slots, Phase, Declaring, Typing, Ordering, Broken}
-use Rattle.il_rules.specs.Subset.{BreaksInSubset, broken, unsupported}
 use Rattle.il_grammar.specs.Places.{name_places, initial_places, declaration_places, step_places, body_places, result_places, inner_places, unit_places, globals_places, task_places, line_places, instruction_places, resource_places, places, BreaksAtPlaces}
 use Rattle.il_grammar.proofs.Members.{none_in, first_in, later_in, image_in, left_in, right_in, given_in, of_both, of_given, of_mapped, standing_in, middle_in}
 
@@ -322,7 +321,3 @@ pub broken_place : (phase : Phase) (c : Config) → BreaksAtPlaces c (λ n p. Br
 broken_place Declaring c = declarations_place c
 broken_place Typing c = types_place c
 broken_place Ordering c = order_place c
-
-pub subset_place : (c : Config) → BreaksAtPlaces c (λ n p. BreaksInSubset c n p)
-subset_place c n p (broken h) = declarations_place c n p h
-subset_place c n p (unsupported e (u, s, name, h, g, named, is, at)) = at_step c u s p h g at

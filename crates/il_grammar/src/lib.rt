@@ -6,7 +6,6 @@ ghost use Rattle.il_spec.specs.declared.token.Token.{Token};
 ghost use Rattle.il_spec.specs.declared.tree.Config.{Config};
 ghost use Rattle.il_spec.specs.Grammar.{AfterLines, SpellsConfig, Spells};
 ghost use Rattle.il_rules.specs.Faults.{Phase, Broken};
-ghost use Rattle.il_rules.specs.Subset.{BreaksInSubset};
 ghost use Rattle.il_rules.specs.Written.{IsWritten};
 ghost use Rattle.il_grammar.specs.Places.{places, AreInText, BreaksAtPlaces, IsFirstAtOneLine};
 
@@ -32,12 +31,10 @@ pub fn places_are_in_the_text()
 
 /// A law: what breaks a rule stands at a place of the tree.
 pub fn faults_are_at_places()
-    ensures whole { (phase : Phase) (config : Config) → BreaksAtPlaces config (Broken phase config) }
-    ensures subset { (config : Config) → BreaksAtPlaces config (BreaksInSubset config) }
+    ensures { (phase : Phase) (config : Config) → BreaksAtPlaces config (Broken phase config) }
 {}
 
 /// A law: a spelled tree has at most one first fault, by its number and its line.
 pub fn first_fault_is_at_one_line()
-    ensures whole { (text : List ℕ) (c : Config) (phase : Phase) → Spells text c → IsFirstAtOneLine (Broken phase c) }
-    ensures subset { (text : List ℕ) (c : Config) → Spells text c → IsFirstAtOneLine (BreaksInSubset c) }
+    ensures { (text : List ℕ) (c : Config) (phase : Phase) → Spells text c → IsFirstAtOneLine (Broken phase c) }
 {}

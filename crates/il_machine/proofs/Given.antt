@@ -1,88 +1,241 @@
--- What a scan is given of an image in its ranges has values of the declared sets.
-use Rattle.std.proofs.Common.{◌≡◌, ℕ, ◌≤◌, List, [], length, sym, ap, subst, arith}
-use Rattle.std.specs.Prelude.{All, Contains, nat_abs}
-use Rattle.std.proofs.lemmas.List.{length-replicate}
-use Rattle.std.proofs.lemmas.List.Elements.{All-replicate, Contains-append_right}
+-- What a scan is given, as the cells of its slots: the externals of its program, and the image of its role.
+use Rattle.std.proofs.Common.{◌≡◌, ℕ, zero, suc, Bool, true, List, [], ◌∷◌, ◌++◌, map, drop, refl, sym, ap, ap₂, ◌∙◌, subst, Some, None, Option, ℤ, pos, negsuc, ◌+ℤ◌, Contains, codes, append_assoc, append-nil, arith}
+use Rattle.std.specs.Prelude.{option_map, filter, not, ◌&&◌, if◌then◌else◌, ◌≤ℤ◌}
+use Rattle.std.proofs.lemmas.List.{map-append}
+use Rattle.std.proofs.lemmas.Int.{ints}
 use Rattle.il_spec.specs.declared.tree.Config.{Config}
-use Rattle.il_spec.specs.declared.tree.Unit.{Unit as Organized}
+use Rattle.il_spec.specs.declared.tree.Unit.{Unit as ProgramUnit}
 use Rattle.il_spec.specs.declared.tree.Scalar.{Scalar}
-use Rattle.il_run.specs.NameMap.{Text, from_entries}
-use Rattle.il_run.specs.Ranges.{HaveValues, task_scalars, external_scalars}
-use Rattle.il_run.specs.Scan.{opening_globals}
-use Rattle.il_sound.specs.Listed.{HaveOneType, seen_scalars, given_scalars, kept_scalars}
-use Rattle.il_sound.proofs.Listing.{keeps_listed}
-use Rattle.il_sound.proofs.Opening.{globals_open}
-use Rattle.lift_spec.specs.declared.image.Image.{Image}
-use Rattle.lift_spec.specs.declared.image.CarFields.{CarFields}
-use Rattle.lift_spec.specs.declared.calls.Slot.{Slot}
-use Rattle.lift_spec.specs.declared.calls.Slot.TheVariants.{Free}
-use Rattle.lift_spec.specs.Image.{sizes_of, FieldsInRange, IsFloor, opening_image, opening_car, opening_outputs}
-use Rattle.lift_spec.specs.Calls.{SlotInRange, opening_calls}
-use Rattle.lift_spec.specs.Snapshot.{image_entries}
-use Rattle.lift_sound.specs.Tasks.{IsSized}
-use Rattle.lift_sound.specs.Seeing.{image_scalars}
+use Rattle.il_spec.specs.declared.tree.Subrange.{Subrange}
+use Rattle.il_spec.specs.declared.tree.Declaration.{Declaration}
+use Rattle.il_spec.specs.declared.tree.Named.{Named}
+use Rattle.il_spec.specs.declared.tree.Form.{Form}
+use Rattle.il_spec.specs.declared.tree.Form.TheVariants.{Scalar as ScalarForm, Array as ArrayForm, Block as BlockForm}
+use Rattle.il_rules.specs.Faults.{HasNoFault, Broken, Declaring}
+use Rattle.il_rules.specs.Declarations.{declared_limits}
+use Rattle.il_rules.specs.Names.{ImageName, Role, CarRole, GroupRole, image_of, is_program, is_seen_by, program_role}
+use Rattle.il_run.specs.declared.value.Value.{Value}
+use Rattle.il_run.specs.declared.value.Value.TheVariants.{Boolean, Integer}
+use Rattle.il_run.specs.NameMap.{Text}
+use Rattle.il_run.specs.Values.{IsValueIn}
+use Rattle.il_run.specs.Meaning.{Entity, under, element_path, width, entities}
+use Rattle.il_run.specs.Ranges.{HaveValues, element_scalars, scalars_at, entity_scalars, instance_scalars, external_scalars, global_scalars}
+use Rattle.il_run.specs.Scan.{entries_at, external_paths}
+use Rattle.il_run.specs.State.{Values}
+use Rattle.il_sound.specs.Accepted.{IsAccepted}
+use Rattle.il_sound.specs.Listed.{image_entity}
+use Rattle.il_sound.proofs.Lists.{at_head, in_tail}
+use Rattle.il_sound.proofs.Externals.{shares_globals}
+use Rattle.il_sound.proofs.Meant.{program_is, no_instance, external_typed}
+use Rattle.il_sound.proofs.Paths.{Agree, agree_append, value_of, values_of}
+use Rattle.il_slots.specs.declared.flat.Cell.{Cell}
+use Rattle.il_slots.specs.Cells.{element_cells, cells_at, entity_cells, instance_cells}
+use Rattle.il_slots.specs.Layout.{cell, value_by, number_part, flag_part}
+use Rattle.il_slots.specs.Places.{deepest, seen_among, seen_image, is_common}
+use Rattle.il_slots.specs.Program.{seen_cells}
+use Rattle.il_slots.specs.Whole.{AreOf}
+use Rattle.il_slots.proofs.Tasks.{cells-append, program_among}
+use Rattle.lift_spec.specs.Image.{sizes_of}
+use Rattle.lift_spec.specs.Snapshot.{image_entries, given_entries}
+use Rattle.lift_spec.specs.World.{Group, snapshot_of, InRanges}
 use Rattle.lift_sound.specs.Accepted.{IsSound}
-use Rattle.lift_sound.proofs.Tasks.{is_sized, same_image}
-use Rattle.lift_sound.proofs.Seen.{image_is_seen}
-use Rattle.il_machine.specs.Scanning.{HasImage, HasSizes, IsRunnable}
-use Rattle.il_machine.proofs.Codes.{car_program}
-use Rattle.il_machine.proofs.Scans.{same_program}
+use Rattle.lift_sound.specs.Tasks.{IsSized, IsTaskOf, role_of}
+use Rattle.lift_sound.specs.Seeing.{image_scalars}
+use Rattle.lift_sound.proofs.Given.{external_are}
+use Rattle.lift_sound.proofs.Kept.{as_many}
+use Rattle.lift_sound.proofs.Seen.{given_scalars, image_agrees, firsts, fields, outputs, places, motors, assigns, waiting, from_row, to_row, car_row}
+use Rattle.lift_sound.proofs.Tasks.{is_sized, task_accepted, same_image}
 
--- an image in its ranges, with slots in theirs
-pub record IsGiven (c : Config) (image : Image) (calls : List Slot) : Type 0 where
-  pub fields : FieldsInRange (sizes_of c) image.fields
-  pub outputs : length image.outputs ≡ (sizes_of c).cars
-  pub slots : length calls ≡ (sizes_of c).slots
-  pub last : ℕ
-  pub each : All (SlotInRange (sizes_of c) last) calls
+-- CELLS OF SCALARS
 
-module _ (c : Config) (runs : IsRunnable c) where
-  abbrev u : Organized
-  u = runs.checked.resolved.program
+abbrev pub cells_of : List (Text × Scalar) → List Cell
+cells_of ps = map (λ p. cell p.0 p.1) ps
 
-  sound : IsSound c
-  sound = record { written = runs.written; declared = runs.accepted.declared; typed = runs.accepted.typed; ordered = runs.accepted.ordered; annotated = runs.checked.annotated }
+pub kind_by : (o : Option Subrange) (v : Value) → IsValueIn o v → value_by o (number_part v) (flag_part v) ≡ v
+kind_by None (Boolean b) is = refl
+kind_by None (Integer z) is = absurd is
+kind_by (Some s) (Boolean b) is = absurd is
+kind_by (Some s) (Integer z) is = refl
 
-  sized : IsSized c
-  sized = is_sized c runs.accepted.declared
+-- entries that agree with their types have rows
+pub agreed_are : (ps : List (Text × Scalar)) (es : List (Text × Value)) → Agree ps es → AreOf (cells_of ps) es
+agreed_are [] [] all = tt
+agreed_are [] (e ∷ es) all = absurd all
+agreed_are (p ∷ ps) [] all = absurd all
+agreed_are (p ∷ ps) (e ∷ es) all = (all.0, kind_by (declared_limits p.1) e.1 all.1, agreed_are ps es all.2)
 
-  pub one_car : 1 ≤ (sizes_of c).cars
-  one_car = let e = ap nat_abs runs.sizes.cars in omega (arith, e)
+-- a form of no instance
+abbrev IsFlat : Form → Type 0
+IsFlat (BlockForm block) = ⊥
+IsFlat _ = Unit {0}
 
-  pub same_scalars : seen_scalars c u ≡ image_scalars c 1
-  same_scalars = same_image c sound 1 u (record { within = one_car; program = car_program c runs })
+abbrev AreFlat : List Entity → Type 0
+AreFlat [] = Unit {0}
+AreFlat (e ∷ es) = IsFlat e.form × AreFlat es
 
-  once : HaveOneType (image_scalars c 1)
-  once =
-      let listed = keeps_listed c u runs.accepted in
-      let there : (x : Text × Scalar) → Contains (image_scalars c 1) x → Contains (kept_scalars c u) x =
-      λ x h. Contains-append_right (task_scalars c u) (given_scalars c u) x (Contains-append_right (external_scalars c u) (seen_scalars c u) x (subst (λ ps. Contains ps x) (sym same_scalars) h)) in
-      λ x y a b. listed.once x y (there x a) (there y b)
+module _ (inner : Text → Text → List Cell) (below : Text → Text → List (Text × Scalar)) where
+  element_same : (n : ℕ) (path : Text) (z : ℤ) (s : Scalar) → element_cells n path z s ≡ cells_of (element_scalars n path z s)
+  element_same zero path z s = refl
+  element_same (suc n) path z s = ap (λ xs. cell (element_path path z) s ∷ xs) (element_same n path (z +ℤ pos 1) s)
 
-  -- such an image has a value of its declared set for each name
-  pub given_has_image : (image : Image) (slots : List Slot) → IsGiven c image slots → HasImage c (from_entries (image_entries (sizes_of c) 1 image slots))
-  given_has_image image slots is v program =
-      let seen : HaveValues (from_entries (image_entries (sizes_of c) 1 image slots)) (image_scalars c 1) =
-      image_is_seen c 1 (record { image = image; calls = record { slots = slots; last_ticket = is.last }; globals = opening_globals c; tasks = [] }) sized one_car
-      (record { fields = is.fields; outputs = is.outputs; slots = is.slots; each_slot = is.each; globals = globals_open c runs.written runs.accepted.declared }) once in
-      subst (λ w. HaveValues (from_entries (image_entries (sizes_of c) 1 image slots)) (seen_scalars c w)) (same_program c u v runs.checked.resolved.is program)
-      (subst (HaveValues (from_entries (image_entries (sizes_of c) 1 image slots))) (sym same_scalars) seen)
+  form_same : (path : Text) (f : Form) → IsFlat f → cells_at inner path f ≡ cells_of (scalars_at below path f)
+  form_same path (ScalarForm s) flat = refl
+  form_same path (ArrayForm bounds element) flat = element_same (width bounds) path bounds.lower element
+  form_same path (BlockForm block) flat = absurd flat
 
--- the opening image lies in its ranges
-pub opening_given : (c : Config) → HasSizes c → IsGiven c (opening_image (sizes_of c)) (opening_calls (sizes_of c)).slots
-opening_given c sizes = record {
-  fields =
-      record {
-        cars = length-replicate (sizes_of c).cars opening_car;
-        positions = All-replicate (λ (car : CarFields). IsFloor (sizes_of c) car.pos) (sizes_of c).cars opening_car (omega arith, floors (sizes_of c).floors sizes.floors.number sizes.floors.least (ap nat_abs sizes.floors.is));
-        time = omega arith;
-        run_limit = omega arith;
-      };
-  outputs = length-replicate (sizes_of c).cars opening_outputs;
-  slots = length-replicate (sizes_of c).slots Free;
-  last = 0;
-  each = All-replicate (SlotInRange (sizes_of c) 0) (sizes_of c).slots Free tt;
-}
-  where
-    floors : (n k : ℕ) → 2 ≤ k → n ≡ k → 1 ≤ n
-    floors n k low is = omega (arith, low, is)
+  entities_same : (path : Text) (es : List Entity) → AreFlat es → entity_cells inner path es ≡ cells_of (entity_scalars below path es)
+  entities_same path [] all = refl
+  entities_same path (e ∷ es) all =
+      ap₂ (λ xs ys. xs ++ ys) (form_same (under path e.name) e.form all.0) (entities_same path es all.1)
+      ∙ sym (map-append (λ (p : Text × Scalar). cell p.0 p.1) (scalars_at below (under path e.name) e.form) (entity_scalars below path es))
+
+-- EXTERNALS
+
+flat_names : (d : Declaration) (ns : List Named) (rest : List Entity) → IsFlat d.declared.form → AreFlat rest
+    → AreFlat (map (λ n. record { name = n.name; form = d.declared.form; initial = option_map (λ i. i.literal) d.initial }) ns ++ rest)
+flat_names d [] rest is more = more
+flat_names d (n ∷ ns) rest is more = (is, flat_names d ns rest is more)
+
+flat_entities : (ds : List Declaration) → ((d : Declaration) → Contains ds d → IsFlat d.declared.form) → AreFlat (entities ds)
+flat_entities [] each = tt
+flat_entities (d ∷ ds) each = flat_names d d.names (entities ds) (each d (at_head d ds)) (flat_entities ds (λ e has. each e (in_tail d ds e has)))
+
+module _ (c : Config) (unbroken : HasNoFault (Broken Declaring c)) (u : ProgramUnit) (among : Contains c.units u) where
+  flat_external : (d : Declaration) → Contains u.externals d → IsFlat d.declared.form
+  flat_external d has = by d.declared.form refl
+    where
+      by : (f : Form) → d.declared.form ≡ f → IsFlat f
+      by (ScalarForm s) is = tt
+      by (ArrayForm bounds element) is = tt
+      by (BlockForm block) is = absurd (no_instance c unbroken d.declared block (external_typed c u d among has) is)
+
+  -- an external is no instance
+  external_cells : entity_cells (instance_cells deepest c) [] (entities u.externals) ≡ cells_of (external_scalars c u)
+  external_cells = entities_same (instance_cells deepest c) (instance_scalars zero c) [] (entities u.externals) (flat_entities u.externals flat_external)
+
+-- THE IMAGE
+
+abbrev images : Config → List ImageName
+images c = image_of c.cars.value c.floors.value c.slots.value
+
+-- what a role sees, in the order of the table, and in that of the slots
+abbrev seen_by : Config → Bool → Option Role → List (Text × Scalar)
+seen_by c b r = entity_scalars (λ _ _. []) [] (map image_entity (filter (λ i. b && is_seen_by r i.audience) (images c)))
+
+abbrev shown_to : Bool → Option Role → List ImageName → List Entity
+shown_to b r [] = []
+shown_to b r (i ∷ is) = if b && is_seen_by r i.audience then image_entity i ∷ shown_to b r is else shown_to b r is
+
+abbrev shown_all : Config → Bool → Option Role → List Entity
+shown_all c b r = shown_to b r (filter is_common (images c)) ++ shown_to b r (filter (λ i. not (is_common i)) (images c))
+
+shown_is : (c : Config) (u : ProgramUnit) (is : List ImageName) → seen_among c u is ≡ shown_to (is_program u) (program_role c u.name.name c.programs) is
+shown_is c u [] = refl
+shown_is c u (i ∷ is) = ap (λ es. if is_program u && is_seen_by (program_role c u.name.name c.programs) i.audience then image_entity i ∷ es else es) (shown_is c u is)
+
+-- ROLES
+
+-- a row has a first element
+long_row : (z : ℤ) → pos 1 ≤ℤ z → (n : ℕ) × (width (record { lower = pos 1; upper = z }) ≡ suc n)
+long_row (pos zero) some = absurd (omega (arith, ints, some))
+long_row (pos (suc n)) some = (n, as_many (pos (suc n)) some)
+long_row (negsuc n) some = absurd (omega (arith, ints, some))
+
+abbrev second : Text → ℕ
+second (a ∷ b ∷ bs) = b
+second _ = 0
+
+abbrev first_path : List (Text × Scalar) → Text
+first_path [] = []
+first_path (x ∷ xs) = x.0
+
+first_of : (n m : ℕ) (name : Text) (s : Scalar) (rest : List (Text × Scalar)) → n ≡ suc m → first_path (element_scalars n name (pos 1) s ++ rest) ≡ element_path name (pos 1)
+first_of n m name s rest is = ap (λ k. first_path (element_scalars k name (pos 1) s ++ rest)) is
+
+module _ (c : Config) (sized : IsSized c) where
+  abbrev cars : ℕ
+  cars = width (record { lower = pos 1; upper = c.cars.value })
+
+  abbrev slots : ℕ
+  slots = width (record { lower = pos 1; upper = c.slots.value })
+
+  car_or_places : (s : Scalar) (rest : List (Text × Scalar)) → codes "CARNO" ≡ first_path (element_scalars cars (codes "CPOS") (pos 1) s ++ rest) → ⊥
+  car_or_places s rest is = let w = long_row c.cars.value sized.cars in let bad : 65 ≡ 80 = ap second (is ∙ first_of cars w.0 (codes "CPOS") s rest w.1) in omega (arith, bad)
+
+  places_or_calls : (s k : Scalar) (rest more : List (Text × Scalar)) → first_path (element_scalars cars (codes "CPOS") (pos 1) s ++ rest) ≡ first_path (element_scalars slots (codes "CALLWAITS") (pos 1) k ++ more) → ⊥
+  places_or_calls s k rest more is =
+      let w = long_row c.cars.value sized.cars in
+      let v = long_row c.slots.value sized.slots in
+      let bad : 80 ≡ 65 = ap second (sym (first_of cars w.0 (codes "CPOS") s rest w.1) ∙ is ∙ first_of slots v.0 (codes "CALLWAITS") k more v.1) in omega (arith, bad)
+
+  -- what is seen says by which role
+  role_seen : (r : Option Role) (t : ℕ) → seen_by c true r ≡ image_scalars c t → r ≡ Some (role_of t)
+  role_seen (Some CarRole) (suc k) same = refl
+  role_seen (Some GroupRole) zero same = refl
+  role_seen (Some CarRole) zero same = absurd (car_or_places _ _ (ap (λ l. first_path (drop 5 l)) same))
+  role_seen (Some GroupRole) (suc k) same = absurd (car_or_places _ _ (sym (ap (λ l. first_path (drop 5 l)) same)))
+  role_seen None zero same = absurd (car_or_places _ _ (ap (λ l. first_path (drop 5 l)) same))
+  role_seen None (suc k) same = absurd (places_or_calls _ _ _ _ (ap (λ l. first_path (drop 12 l)) same))
+
+-- THE SLOTS' ORDER
+
+in_line : {A : Type 0} (a b d e r : List A) → a ++ (b ++ (d ++ (e ++ r))) ≡ (((a ++ b) ++ d) ++ e) ++ r
+in_line a b d e r = sym (append_assoc ((a ++ b) ++ d) e r ∙ append_assoc (a ++ b) d (e ++ r) ∙ append_assoc a b (d ++ (e ++ r)))
+
+group_order : {A : Type 0} (x y z : List A) → x ++ (y ++ (z ++ [])) ≡ (x ++ y) ++ z
+group_order x y z = ap (λ l. x ++ (y ++ l)) (append-nil z) ∙ sym (append_assoc x y z)
+
+module _ (c : Config) where
+  in_order : (t : ℕ) → entity_scalars (λ _ _. []) [] (shown_all c true (Some (role_of t))) ≡ given_scalars c t
+  in_order zero =
+      ap (λ l. firsts c ++ (waiting c ++ (from_row c ++ (to_row c ++ (car_row c ++ l))))) (group_order (places c) (motors c) (assigns c))
+      ∙ ap (λ l. firsts c ++ l) (in_line (waiting c) (from_row c) (to_row c) (car_row c) (places c ++ motors c ++ assigns c))
+  in_order (suc k) = ap (λ l. firsts c ++ l) (in_line (waiting c) (from_row c) (to_row c) (car_row c) (fields c ++ outputs c))
+
+  flat_image : (t : ℕ) → AreFlat (shown_all c true (Some (role_of t)))
+  flat_image zero = (tt, (tt, (tt, (tt, (tt, (tt, (tt, (tt, (tt, (tt, (tt, (tt, tt))))))))))))
+  flat_image (suc k) = (tt, (tt, (tt, (tt, (tt, (tt, (tt, (tt, (tt, (tt, (tt, (tt, (tt, (tt, (tt, (tt, (tt, (tt, (tt, tt)))))))))))))))))))
+
+  -- the cells of the image, as a role sees it
+  image_cells : (u : ProgramUnit) (t : ℕ) → is_program u ≡ true → program_role c u.name.name c.programs ≡ Some (role_of t) → entity_cells (instance_cells deepest c) [] (seen_image c u) ≡ cells_of (given_scalars c t)
+  image_cells u t program role =
+      ap (entity_cells (instance_cells deepest c) [])
+      (ap₂ (λ xs ys. xs ++ ys) (shown_is c u (filter is_common (images c))) (shown_is c u (filter (λ i. not (is_common i)) (images c)))
+      ∙ ap₂ (shown_all c) program role)
+      ∙ entities_same (instance_cells deepest c) (λ _ _. []) [] (shown_all c true (Some (role_of t))) (flat_image t) ∙ ap cells_of (in_order t)
+
+-- WHAT IS GIVEN
+
+module _ (c : Config) (sound : IsSound c) (t : ℕ) (u : ProgramUnit) (is : IsTaskOf c t u) where
+  accepted : IsAccepted c u
+  accepted = task_accepted c sound t u is
+
+  program : is_program u ≡ true
+  program = (program_is c u.name.name u accepted.program).1
+
+  role : program_role c u.name.name c.programs ≡ Some (role_of t)
+  role = role_seen c (is_sized c sound.declared) (program_role c u.name.name c.programs) t (ap (λ b. seen_by c b (program_role c u.name.name c.programs)) (sym program) ∙ same_image c sound t u is)
+
+  -- the cells of what a scan is given
+  pub seen_cells_are : seen_cells c u ≡ cells_of (external_scalars c u ++ given_scalars c t)
+  seen_cells_are =
+      cells-append (instance_cells deepest c) [] (entities u.externals) (seen_image c u)
+      ∙ ap₂ (λ xs ys. xs ++ ys) (external_cells c sound.declared u (program_among c u accepted)) (image_cells c u t program role)
+      ∙ sym (map-append (λ (p : Text × Scalar). cell p.0 p.1) (external_scalars c u) (given_scalars c t))
+
+  globals_agree : (globals : Values) (ps : List (Text × Scalar)) → HaveValues globals ps → Agree ps (entries_at globals (map (λ p. p.0) ps))
+  globals_agree globals [] have = tt
+  globals_agree globals (p ∷ ps) have = rw have.0.1 (refl, have.0.2, globals_agree globals ps have.1)
+
+  -- in a group in its ranges there is a value for each, of its kind
+  pub given_are : (g : Group) → InRanges c g → AreOf (seen_cells c u) (given_entries c t u (snapshot_of g))
+  given_are g ranges =
+      subst (λ xs. AreOf xs (given_entries c t u (snapshot_of g))) (sym seen_cells_are)
+      (agreed_are (external_scalars c u ++ given_scalars c t) (given_entries c t u (snapshot_of g))
+      (agree_append (external_scalars c u) (given_scalars c t) (entries_at g.globals (external_paths u)) (image_entries (sizes_of c) t g.image g.calls.slots) listed (image_agrees c t g (is_sized c sound.declared) is.within ranges)))
+    where
+      shared : HaveValues g.globals (external_scalars c u)
+      shared = values_of g.globals (external_scalars c u) (λ p at. value_of g.globals (global_scalars c) p ranges.globals ((shares_globals c u accepted).externals p at))
+
+      listed : Agree (external_scalars c u) (entries_at g.globals (external_paths u))
+      listed = subst (λ l. Agree (external_scalars c u) (entries_at g.globals l)) (sym (external_are c (entities u.externals))) (globals_agree g.globals (external_scalars c u) shared)

@@ -12,15 +12,15 @@ use Rattle.il_run.specs.State.{Values}
 use Rattle.il_run.specs.Scan.{entries_at, restricted}
 use Rattle.il_table.specs.ByText.{HaveSameNames}
 use Rattle.il_table.proofs.Copies.{same_text, same_names-insert}
-use Rattle.il_code.specs.declared.flat.Cell.{Cell}
-use Rattle.il_code.specs.Layout.{Rows, Fits, value_by, view_of, view}
+use Rattle.il_slots.specs.declared.flat.Cell.{Cell}
+use Rattle.il_slots.specs.Layout.{Rows, Fits, value_by, view_of, view}
 use Rattle.il_machine.specs.Scanning.{over, front, behind}
 
 or_else_cond : (b : Bool) (v : Value) (o p : Option Value) → cond b (Some v) (or_else o p) ≡ or_else (cond b (Some v) o) p
 or_else_cond true v o p = refl
 or_else_cond false v o p = refl
 
-get-with_entries : (m : Values) (es : List (Text × Value)) (q : Text) → get (with_entries m es) q ≡ or_else (find order q es) (get m q)
+pub get-with_entries : (m : Values) (es : List (Text × Value)) (q : Text) → get (with_entries m es) q ≡ or_else (find order q es) (get m q)
 get-with_entries m [] q = refl
 get-with_entries m (e ∷ es) q =
     get-insert (with_entries m es) e.0 e.1 q

@@ -7,14 +7,13 @@ use Rattle.il_rules.specs.Declarations.{declared_limits}
 use Rattle.il_run.specs.declared.value.Value.{Value}
 use Rattle.il_run.specs.NameMap.{Text, order, get, get-empty, get-insert}
 use Rattle.il_table.proofs.Copies.{same_text}
-use Rattle.il_code.specs.declared.flat.Cell.{Cell}
-use Rattle.il_code.specs.Layout.{Rows, rows, view_of, value_by}
-use Rattle.il_code.specs.Paths.{slot_at}
-use Rattle.il_code.proofs.Kept.{itself}
-use Rattle.il_machine.specs.Effect.{with_some}
+use Rattle.il_slots.specs.declared.flat.Cell.{Cell}
+use Rattle.il_slots.specs.Layout.{Rows, rows, view_of, value_by}
+use Rattle.il_slots.specs.Paths.{slot_at}
+use Rattle.il_slots.proofs.Kept.{itself}
+use Rattle.il_exec.specs.Effect.{with_some}
 use Rattle.il_spec.specs.declared.tree.Config.{Config}
-use Rattle.il_spec.specs.declared.tree.Unit.{Unit as Organized}
-use Rattle.il_code.specs.Program.{own_cells, seen_cells, program_cells}
+use Rattle.il_slots.specs.Program.{own_cells, seen_cells, program_cells}
 use Rattle.il_machine.specs.Scanning.{value_at, own_view, variables_in, FitsOwn}
 
 -- no rows, no value
@@ -55,8 +54,6 @@ reads_slot (c ∷ own) seen (z ∷ zs) (b ∷ bs) path n f = by_test (reads_slot
         ∙ sym (get-insert (view_of own zs bs) c.path value path ∙ ap (λ x. cond x (Some value) (get (view_of own zs bs) path)) is)
 
 -- the same of a task's variables
-pub reads_variable : (c : Config) (task : ℕ) (u : Organized) (r : Rows) (fits : FitsOwn c task r) → fits.0 ≡ u → (path : Text) → option_and_then (value_at (program_cells c u) r) (slot_at (program_cells c u) path) ≡ get (variables_in c task r) path
+pub reads_variable : (c : Config) (task : ℕ) (r : Rows) (fits : FitsOwn c task r) (path : Text) → option_and_then (value_at (program_cells c fits.0) r) (slot_at (program_cells c fits.0) path) ≡ get (variables_in c task r) path
 unfolding own_view
-reads_variable c task u r (v, is, fits) same path =
-    ap (λ w. option_and_then (value_at (program_cells c w) r) (slot_at (program_cells c w) path)) (sym same)
-    ∙ reads_slot (own_cells c v) (seen_cells c v) r.numbers r.flags path fits.numbers fits.flags ∙ ap (λ o. get (own_view c o r) path) (sym is)
+reads_variable c task r (v, is, fits) path = reads_slot (own_cells c v) (seen_cells c v) r.numbers r.flags path fits.numbers fits.flags ∙ ap (λ o. get (own_view c o r) path) (sym is.program)

@@ -1,137 +1,171 @@
--- Where a program's scan starts.
-use Rattle.std.proofs.Common.{◌≡◌, ℕ, zero, ◌+◌, ◌≤◌, List, [], ◌∷◌, ◌++◌, take, drop, length, refl, sym, ap, ap₂, ◌∙◌, Some, None, Option, subst, arith}
+-- A scan starts as the definitions say.
+use Rattle.std.proofs.Common.{◌≡◌, ℕ, ◌+◌, ◌^◌, ◌<◌, List, [], ◌∷◌, ◌++◌, take, drop, length, refl, sym, ap, ap₂, ◌∙◌, Some, None, subst, arith}
 use Rattle.std.proofs.lemmas.List.{length-append}
+use Rattle.std.proofs.lemmas.List.Elements.{Contains-append_right}
+use Rattle.std.proofs.lemmas.Option.{same_Some}
 use Rattle.il_spec.specs.declared.tree.Config.{Config}
-use Rattle.il_spec.specs.declared.tree.Unit.{Unit as Organized}
-use Rattle.il_rules.specs.Symbols.{IsProgram}
+use Rattle.il_spec.specs.declared.tree.Unit.{Unit as ProgramUnit}
+use Rattle.il_rules.specs.Names.{unit_named}
 use Rattle.il_run.specs.declared.value.Value.{Value}
 use Rattle.il_run.specs.NameMap.{Text, from_entries}
-use Rattle.il_run.specs.State.{Values, State}
-use Rattle.il_run.specs.Meaning.{entities}
-use Rattle.il_run.specs.Ranges.{entity_scalars, instance_scalars, HaveValues, HoldsTask}
+use Rattle.il_run.specs.Ranges.{HaveValues, HoldsTask, task_scalars, external_scalars}
 use Rattle.il_run.specs.Scan.{begins}
-use Rattle.il_run.specs.Annotation.{Annotated}
 use Rattle.il_sound.specs.Accepted.{IsAccepted}
-use Rattle.il_run.specs.Paths.{longest}
-use Rattle.il_sound.specs.Soundness.{StartsWell}
-use Rattle.il_sound.specs.Agreement.{Agrees, left}
-use Rattle.il_sound.specs.Listed.{seen_scalars, given_scalars}
-use Rattle.il_sound.proofs.Scanning.{starts as scan_starts}
-use Rattle.il_sound.proofs.Starting.{starts_in_sets}
+use Rattle.il_sound.specs.Agreement.{Agrees, Holds, left}
+use Rattle.il_sound.specs.Listed.{HaveOneType, seen_scalars, given_scalars}
+use Rattle.il_sound.specs.Soundness.{IsInOrder, StartsWell}
+use Rattle.il_sound.proofs.Externals.{shares_globals}
+use Rattle.il_sound.proofs.Listing.{keeps_listed}
 use Rattle.il_sound.proofs.Premises.{in_order}
-use Rattle.il_code.specs.Layout.{Rows, rows, Fits}
-use Rattle.il_code.specs.Program.{own_cells, seen_cells, program_cells}
-use Rattle.lift_spec.specs.Snapshot.{program_of}
-use Rattle.il_machine.specs.declared.frames.Frame.{Frame as FlatFrame}
-use Rattle.il_machine.specs.Going.{Stored, going}
-use Rattle.il_machine.specs.Scanning.{IsRunnable, HasImage, OwnsDeclared, FitsOwn, FitsSeen, IsScanOf, IsScanState, Kept, state_of, frames_at, over, front, behind, joined, own_count, own_view, seen_view, name_of, kept_by, kept_of, variables_in, image_in}
-use Rattle.il_machine.proofs.Codes.{number_is, task_is}
-use Rattle.il_machine.proofs.Over.{entries_are}
+use Rattle.il_sound.proofs.Scanning.{starts}
+use Rattle.il_sound.proofs.Starting.{starts_in_sets}
+use Rattle.il_slots.specs.Layout.{Rows, rows, Fits, view}
+use Rattle.il_slots.specs.Coded.{IsUnit, IsNumbered, IsCode}
+use Rattle.il_slots.specs.Flattened.{IsPlaced}
+use Rattle.il_slots.specs.Program.{own_cells, seen_cells, program_cells, base_of, program_names, program_code}
+use Rattle.il_slots.specs.Whole.{AreOf, first_rows, number_in}
+use Rattle.il_slots.proofs.Opening.{shown}
+use Rattle.il_slots.proofs.Tasks.{program_is_code, names_are, bases_are, program_is_placed}
+use Rattle.il_exec.specs.Framing.{name_of_code, framed, all_frames, state_by, IsFramed}
+use Rattle.il_exec.specs.Going.{Stored}
+use Rattle.lift_spec.specs.Snapshot.{scan_begins, begins_by, given_entries}
+use Rattle.lift_spec.specs.World.{Group, snapshot_of, InRanges}
+use Rattle.lift_sound.specs.Seeing.{image_scalars}
+use Rattle.lift_sound.specs.Tasks.{IsTaskOf}
+use Rattle.lift_sound.proofs.Given.{given_have}
+use Rattle.lift_sound.proofs.Tasks.{is_sized, same_image}
+use Rattle.il_machine.specs.Scanning.{IsRunnable, over, front, behind, own_view, variables_in, kept_of, state_of, IsScanOf}
+use Rattle.il_machine.specs.Starting.{first_frame, joined, start_of}
+use Rattle.il_machine.proofs.Given.{given_are}
+use Rattle.il_machine.proofs.Over.{parts_are}
+use Rattle.il_machine.proofs.Owned.{fits_of}
+use Rattle.il_machine.proofs.Scans.{sound_of, accepted, state_is}
 
 -- ROWS
 
-take_front : {A : Type 0} (xs ys : List A) → take (length xs) (xs ++ ys) ≡ xs
+pub take_front : {A : Type 0} (xs ys : List A) → take (length xs) (xs ++ ys) ≡ xs
 take_front [] ys = refl
 take_front (x ∷ xs) ys = ap (λ zs. x ∷ zs) (take_front xs ys)
 
-drop_front : {A : Type 0} (xs ys : List A) → drop (length xs) (xs ++ ys) ≡ ys
+pub drop_front : {A : Type 0} (xs ys : List A) → drop (length xs) (xs ++ ys) ≡ ys
 drop_front [] ys = refl
 drop_front (x ∷ xs) ys = drop_front xs ys
 
-joined_front : (n : ℕ) (v s : Rows) → length v.numbers ≡ n → length v.flags ≡ n → front n (joined v s) ≡ v
+pub joined_front : (n : ℕ) (v s : Rows) → length v.numbers ≡ n → length v.flags ≡ n → front n (joined v s) ≡ v
 joined_front n v s numbers flags =
     ap₂ rows (ap (λ k. take k (v.numbers ++ s.numbers)) (sym numbers) ∙ take_front v.numbers s.numbers) (ap (λ k. take k (v.flags ++ s.flags)) (sym flags) ∙ take_front v.flags s.flags)
 
-joined_behind : (n : ℕ) (v s : Rows) → length v.numbers ≡ n → length v.flags ≡ n → behind n (joined v s) ≡ s
+pub joined_behind : (n : ℕ) (v s : Rows) → length v.numbers ≡ n → length v.flags ≡ n → behind n (joined v s) ≡ s
 joined_behind n v s numbers flags =
     ap₂ rows (ap (λ k. drop k (v.numbers ++ s.numbers)) (sym numbers) ∙ drop_front v.numbers s.numbers) (ap (λ k. drop k (v.flags ++ s.flags)) (sym flags) ∙ drop_front v.flags s.flags)
 
-joined_fits : (c : Config) (u : Organized) (v s : Rows) → Fits (own_cells c u) v → Fits (seen_cells c u) s → Fits (program_cells c u) (joined v s)
+pub joined_fits : (c : Config) (u : ProgramUnit) (v s : Rows) → Fits (own_cells c u) v → Fits (seen_cells c u) s → Fits (program_cells c u) (joined v s)
 joined_fits c u v s own seen = record {
   numbers = length-append v.numbers s.numbers ∙ ap₂ (λ a b. a + b) own.numbers seen.numbers ∙ sym (length-append (own_cells c u) (seen_cells c u));
   flags = length-append v.flags s.flags ∙ ap₂ (λ a b. a + b) own.flags seen.flags ∙ sym (length-append (own_cells c u) (seen_cells c u));
 }
 
--- THE START
+module _ (c : Config) (runs : IsRunnable c) (task : ℕ) (u : ProgramUnit) (is : IsTaskOf c task u) (short : length (program_cells c u) < 2 ^ 63) where
+  abbrev well : IsAccepted c u
+  well = accepted c runs task u is
 
--- a store at a start: these rows, and the program's frame at the first place
-abbrev pub first_frame : FlatFrame
-first_frame = record { unit = 0; base = 0; place = 0 }
+  abbrev order : IsInOrder c u
+  order = in_order c u well
 
-abbrev pub start_of : Rows → Rows → Stored
-start_of v s = going (joined v s) first_frame [] [] None
+  abbrev code : IsCode (program_code c u)
+  code = program_is_code c u well
 
--- a store of a scan that takes other rows stands at a start
-pub start_is : {c : Config} {u : Organized} (inside before : Stored) (r v s : Rows) → IsScanState c u before → inside ≡ before → r ≡ joined v s → going r first_frame inside.pairs inside.callers None ≡ start_of v s
-start_is inside before r v s scan same is =
-    ap₂ (λ qs ds. going r first_frame qs ds None) (ap (λ k. k.pairs) same ∙ scan.pairs) (ap (λ k. k.callers) same ∙ scan.callers) ∙ ap (λ x. going x first_frame [] [] None) is
+  -- THE FRAME
 
--- what it keeps
-abbrev pub kept_start : Config → Option Organized → Rows → Rows → Kept
-kept_start c o v s = record { unit = name_of o; variables = own_view c o v; written = seen_view c o s; place = Some 0; result = None }
+  numbered : IsNumbered (program_code c u) code.bases (number_in c.units u.name.name) u.name.name
+  numbered = subst (λ n. IsNumbered (program_code c u) code.bases ((n u.name.name).unit u.name.name) u.name.name) (names_are c u well) (code.numbered u.name.name u.name.name u order.named)
 
-start_by : (c : Config) (o : Option Organized) (v s : Rows) → length v.numbers ≡ own_count c o → length v.flags ≡ own_count c o → kept_by c o (start_of v s) ≡ kept_start c o v s
-start_by c o v s numbers flags =
-    ap₂ (λ a b. record { unit = name_of o; variables = own_view c o a; written = seen_view c o b; place = Some 0; result = None }) (joined_front (own_count c o) v s numbers flags) (joined_behind (own_count c o) v s numbers flags)
+  unit_is : IsUnit c code.names numbered.code u
+  unit_is =
+      let found = code.units (number_in c.units u.name.name) numbered.code numbered.stands in
+      subst (IsUnit c code.names numbered.code) (same_Some found.0 u (sym found.1.found ∙ ap (unit_named c) numbered.named ∙ order.named)) found.1
 
--- a store at a start keeps the variables and the image of its rows
-pub start_keeps : (c : Config) (task : ℕ) (v s : Rows) → FitsOwn c task v → kept_of c task (start_of v s) ≡ kept_start c (program_of c task) v s
-start_keeps c task v s fits =
-    start_by c (program_of c task) v s (fits.2.numbers ∙ ap (own_count c) (sym fits.1)) (fits.2.flags ∙ ap (own_count c) (sym fits.1))
+  placed : IsPlaced c code.names code.bases (program_cells c u) u [] (base_of c u u.name.name)
+  placed =
+      subst (λ n. IsPlaced c n code.bases (program_cells c u) u [] (base_of c u u.name.name)) (sym (names_are c u well))
+      (subst (λ b. IsPlaced c (program_names c) b (program_cells c u) u [] (base_of c u u.name.name)) (sym (bases_are c u well)) (program_is_placed c u well short))
 
--- where a scan begins
-abbrev entry : Organized → Values → Values → State
-entry u variables image = record { values = over image variables; frames = frames_at u.name.name (Some 0); result = None }
+  abbrev first : IsFramed (program_code c u) code [] (first_frame c u)
+  first = record { unit = u; code_at = numbered.code; stands = numbered.stands; is = unit_is; placed_at = placed; within = omega arith }
 
--- values of the declared sets agree with it, and the greatest cost of a scan is left
-start_agrees : (c : Config) (u : Organized) → IsAccepted c u → Annotated c → u.externals ≡ [] → (variables image : Values) → HoldsTask c u variables → HaveValues image (seen_scalars c u)
-    → Agrees c u (entry u variables image) × (left c (frames_at u.name.name (Some 0)) ≤ longest c u)
-unfolding begins
-start_agrees c u accepted annotated none variables image holds have = (subst (λ m. Agrees c u (entry u variables m)) (entries_are image) well.agrees, let all = well.budget in omega (arith, all))
-  where
-    listed : HaveValues image (given_scalars c u)
-    listed = subst (λ ds. HaveValues image (entity_scalars (instance_scalars zero c) [] (entities ds) ++ seen_scalars c u)) (sym none) have
+  frames_are : framed c (program_code c u).units (all_frames (Some (first_frame c u)) [] []) ≡ record { unit = u.name.name; path = []; place = 0; deferred = [] } ∷ []
+  frames_are = ap (λ n. record { unit = n; path = []; place = 0; deferred = [] } ∷ []) (ap name_of_code numbered.stands ∙ numbered.named)
 
-    given : HaveValues (from_entries image.list) (given_scalars c u)
-    given = subst (λ m. HaveValues m (given_scalars c u)) (sym (entries_are image)) listed
+  -- THE START
 
-    well : StartsWell c u variables image.list
-    well = scan_starts c u annotated (in_order c u accepted) variables image.list (starts_in_sets c u accepted variables image.list holds given)
+  module _ (v : Rows) (own : Fits (own_cells c u) v) (given : List (Text × Value)) (are : AreOf (seen_cells c u) given) where
+    abbrev all : Rows
+    all = joined v (first_rows given)
 
-module _ (c : Config) (runs : IsRunnable c) (task : ℕ) (v s : Rows) (own : FitsOwn c task v) (seen : FitsSeen c task s) where
-  abbrev u : Organized
-  u = runs.checked.resolved.program
+    abbrev store : Stored
+    store = start_of c u all
 
-  program : program_of c task ≡ Some u
-  program = own.1 ∙ ap Some (task_is c u runs.checked.resolved.is task own.0 own.1)
+    pub start_fits : Fits (program_cells c u) all
+    start_fits = joined_fits c u v (first_rows given) own (fits_of (seen_cells c u) given are)
 
-  own_fits : Fits (own_cells c u) v
-  own_fits = subst (λ w. Fits (own_cells c w) v) (task_is c u runs.checked.resolved.is task own.0 own.1) own.2
+    values_are : view (program_cells c u) all ≡ over (from_entries given) (view (own_cells c u) v)
+    values_are =
+        sym (parts_are (own_cells c u) (seen_cells c u) all start_fits)
+        ∙ ap₂ over (ap (view (seen_cells c u)) (joined_behind (length (own_cells c u)) v (first_rows given) own.numbers own.flags) ∙ shown (seen_cells c u) given are)
+        (ap (view (own_cells c u)) (joined_front (length (own_cells c u)) v (first_rows given) own.numbers own.flags))
 
-  seen_fits : Fits (seen_cells c u) s
-  seen_fits = subst (λ w. Fits (seen_cells c w) s) (task_is c u runs.checked.resolved.is task seen.0 seen.1) seen.2
+    begun : state_by (program_code c u) store ≡ begins u (view (own_cells c u) v) given
+    unfolding begins
+    begun = ap₂ (λ m fs. record { values = m; frames = fs; result = None }) values_are frames_are
 
-  -- it is a store of a scan
-  pub start_scan : OwnsDeclared c (variables_in c task v) → HasImage c (image_in c task s) → IsScanOf c task (start_of v s)
-  start_scan holds have =
-      let at = start_agrees c u runs.accepted runs.checked.annotated runs.checked.resolved.supported.externals (own_view c (Some u) v) (seen_view c (Some u) s)
-      (subst (λ o. OwnsDeclared c (own_view c o v)) program holds u runs.checked.resolved.is).each (subst (λ o. HasImage c (seen_view c o s)) program have u runs.checked.resolved.is) in (
-        u,
-        program,
-        record {
-          fits = joined_fits c u v s own_fits seen_fits;
-          frame = (sym (number_is c u runs.checked.resolved.is), refl, omega arith);
-          callers = refl;
-          pairs = refl;
-          agrees = subst (λ k. Agrees c u (state_of k)) (sym (start_by c (Some u) v s own_fits.numbers own_fits.flags)) at.0;
-          budget = at.1;
-        },
-      )
+    -- it begins as the definitions say
+    pub start_begins : state_of (kept_of c task store) ≡ begins u (variables_in c task v) given
+    unfolding own_view
+    start_begins = sym (state_is c runs task u is store start_fits) ∙ begun ∙ ap (λ o. begins u (own_view c o v) given) (sym is.program)
 
-  -- as the definitions begin it
-  pub start_begins : (w : Organized) (given : List (Text × Value)) → IsProgram c w → image_in c task s ≡ from_entries given → state_of (kept_of c task (start_of v s)) ≡ begins w (variables_in c task v) given
-  unfolding begins
-  start_begins w given is shown =
-      ap state_of (start_keeps c task v s own)
-      ∙ ap (λ n. state_of (record { unit = n; variables = variables_in c task v; written = image_in c task s; place = Some 0; result = None })) (ap name_of own.1 ∙ ap (λ (x : Organized). x.name.name) (task_is c w is task own.0 own.1))
-      ∙ ap (λ m. state_of (record { unit = w.name.name; variables = variables_in c task v; written = m; place = Some 0; result = None })) shown
+    -- with values of the declared sets it is a store of a scan
+    pub start_scan : Holds c u (begins u (view (own_cells c u) v) given).values → IsScanOf c task store
+    start_scan holds =
+        let agreed : StartsWell c u (view (own_cells c u) v) given = starts c u runs.annotated order (view (own_cells c u) v) given holds in
+        let most = agreed.budget in
+        let same = ap (λ s. left c s.frames) begun in (
+          u,
+          is,
+          record {
+            framed = record { code = code; fits = start_fits; frames = ((first, tt, (let high = code.most u order.named in omega (arith, high))), tt) };
+            agrees = subst (Agrees c u) (sym begun) agreed.agrees;
+            nested = (λ w found. omega arith, tt);
+            budget = omega (arith, most, same);
+          },
+        )
+
+  -- IN A GROUP IN ITS RANGES
+
+  module _ (v : Rows) (own : Fits (own_cells c u) v) (g : Group) (ranges : InRanges c g) where
+    abbrev given : List (Text × Value)
+    given = given_entries c task u (snapshot_of g)
+
+    abbrev at_start : Stored
+    at_start = start_of c u (joined v (first_rows given))
+
+    are : AreOf (seen_cells c u) given
+    are = given_are c (sound_of c runs) task u is g ranges
+
+    once : HaveOneType (given_scalars c u)
+    once x y a b = (keeps_listed c u well).once x y (Contains-append_right (task_scalars c u) (given_scalars c u) x a) (Contains-append_right (task_scalars c u) (given_scalars c u) y b)
+
+    same : seen_scalars c u ≡ image_scalars c task
+    same = same_image c (sound_of c runs) task u is
+
+    -- the variables in their declared sets give a scan
+    pub task_scan : HoldsTask c u (view (own_cells c u) v) → IsScanOf c task at_start
+    task_scan holds =
+        start_scan v own given are
+        (starts_in_sets c u well (view (own_cells c u) v) given holds
+        (subst (λ ps. HaveValues (from_entries given) (external_scalars c u ++ ps)) (sym same)
+        (given_have c task u g (is_sized c runs.declared) is.within (shares_globals c u well) (subst (λ ps. HaveOneType (external_scalars c u ++ ps)) same once) ranges)))
+
+    -- where the definitions begin it
+    pub task_begins : state_of (kept_of c task at_start) ≡ scan_begins c task (record { variables = variables_in c task v; snapshot = snapshot_of g })
+    unfolding scan_begins
+    task_begins = start_begins v own given are ∙ ap (begins_by c task (record { variables = variables_in c task v; snapshot = snapshot_of g })) (sym is.program)

@@ -1,9 +1,5 @@
-pub mod Effect
-pub mod Going
-pub mod Framing
-pub mod Held
+pub mod Nesting
 pub mod Scanning
-pub mod Image
-pub mod Opening
 pub mod Listing
-pub mod Costs
+pub mod Starting
+pub mod Sharing

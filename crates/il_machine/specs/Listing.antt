@@ -1,5 +1,5 @@
 -- What a verified configuration shows: its tasks, and what its units cost (own rules).
-use Rattle.std.specs.Prelude.{◌≡◌, ℕ, Bool, ◌&&◌, List, [], ◌∷◌, ℤ, Option, Some, find, option_map, option_and_then, nat_le, bytes_eq, codes, refl}
+use Rattle.std.specs.Prelude.{◌≡◌, ℕ, Bool, ◌&&◌, List, [], ◌∷◌, ℤ, Option, Some, find, option_map, option_and_then, nat_le, bytes_eq, refl}
 use Rattle.std.specs.List.{filter_map}
 use Rattle.std.specs.Coded.{Coded, code_by, coded×, coded_list, coded_ℕ, coded_ℤ}
 use Rattle.il_spec.specs.declared.tree.Unit.{Unit as Organized}
@@ -11,7 +11,7 @@ use Rattle.il_machine.specs.declared.verified.TaskInfo.{TaskInfo}
 use Rattle.il_run.specs.NameMap.{Text}
 use Rattle.il_run.specs.Paths.{IsLongest}
 use Rattle.lift_spec.specs.Snapshot.{task_name, program_of}
-use Rattle.il_machine.specs.Scanning.{Program, IsRunnable}
+use Rattle.il_machine.specs.Scanning.{Program}
 
 -- UNITS
 
@@ -98,16 +98,6 @@ task_order = 1 ∷ 2 ∷ 3 ∷ 4 ∷ 5 ∷ 6 ∷ 7 ∷ 8 ∷ 0 ∷ []
 -- the tasks in that order, those that are there (own rule)
 abbrev pub task_lines : Program → List TaskLine
 task_lines p = tasks_of p task_order
-
--- the task of the TASK line of CAR1, with the cost of its program (own rule)
-abbrev pub car_line : Task → ProgramLine → UnitCost → TaskLine
-car_line t l c = record { name = codes "CAR1"; interval = t.interval; priority = t.priority; program = l.name.name; budget = c.cost }
-
--- where the TASK line of a runnable configuration is that of CAR1 and its program has a cost, that task alone is shown (own rule)
-abbrev pub ShowsOne : Program → List TaskLine → Type 0
-ShowsOne p shown =
-    (r : IsRunnable p.config) (c : UnitCost) (cs : List UnitCost) → r.supported.task.name.name ≡ codes "CAR1" → p.costs ≡ c ∷ cs
-    → shown ≡ car_line r.supported.task r.supported.line c ∷ []
 
 -- what is shown of a task (own rule)
 abbrev pub task_shown : TaskInfo → TaskLine

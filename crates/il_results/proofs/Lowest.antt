@@ -5,7 +5,7 @@ use Rattle.std.proofs.lemmas.Bool.Decides.{nat_tests}
 use Rattle.std.proofs.lemmas.List.Elements.{Contains-append_left, Contains-append_right, Contains-append_cases}
 use Rattle.il_spec.specs.declared.tree.Place.{Place}
 use Rattle.il_rules.specs.Faults.{IsNoLater, same_place}
-use Rattle.il_rules.proofs.Straight.{only_one}
+use Rattle.il_rules.proofs.Passes.{only_one}
 use Rattle.il_found.specs.Least.{NumberedFault, IsLeast}
 use Rattle.il_found.proofs.Least.{least_none}
 use Rattle.il_results.specs.Lowest.{lower_of, lowest, fault_at}

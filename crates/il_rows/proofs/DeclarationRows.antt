@@ -8,7 +8,7 @@ use Rattle.il_rules.specs.Names.{Spelling, GroupRole, car_number, image_name, st
 use Rattle.il_rules.specs.Declarations.{type_numbers, name_numbers, predeclared_unit as unit_predeclared, second_unit, predeclared_variable as variable_predeclared, variable_as_unit as named_as_unit, second_label, predeclared_global as global_predeclared, global_as_unit as global_named_as_unit, second_global, second_task, second_program_line, unknown_type as type_unknown, unknown_global, unknown_name as name_unknown, size_outside, unknown_task as task_unknown, second_line, unknown_program as program_unknown, other_role, missing_task, missing_line as line_missing, unused_program as program_unused, type_misplaced, external_differs}
 use Rattle.il_rules.specs.Types.{scalar_type}
 use Rattle.il_rules.specs.Faults.{Broken, Declaring, duplicate, unknown, empty_range, initial_outside, bad_task, other_type}
-use Rattle.il_rules.proofs.Straight.{only_one}
+use Rattle.il_rules.proofs.Passes.{only_one}
 use Rattle.il_rules.proofs.Rows.{not_both}
 use Rattle.il_rows.specs.Trees.{place, named}
 use Rattle.il_rows.specs.Cases.{predeclared_unit, two_units, two_units_b, variable_as_unit, predeclared_variable, label_twice, two_globals, global_as_unit, predeclared_global, task_twice, line_twice, unknown_type, external_of_none, unknown_name, empty_subrange, wrong_element, no_cars, unknown_task, two_lines, unknown_program, two_roles, missing_car, missing_line, unused_program, boolean_subrange, other_external, array_input}

@@ -12,10 +12,10 @@ use Rattle.il_spec.specs.declared.tree.Elementary.{Elementary}
 use Rattle.il_rules.specs.Names.{Spelling, standard_function}
 use Rattle.il_rules.specs.Types.{typing_numbers, type_after, opener, IsTypingBroken, IsDeferredAt, IsResultAt, IsReached, IsJump, JumpsAt, Deferred, Opened, TaskWrites, unknown_label as label_unknown, backward, unreached as never_reached, two_writers as written_twice}
 use Rattle.il_rules.specs.Order.{HasTooManySlots, of_task, of_globals}
-use Rattle.il_rules.specs.Straight.{line_type}
-use Rattle.il_rules.specs.Subset.{AreSupportedSteps}
+use Rattle.il_rows.specs.Straight.{line_type, AreStraightSteps}
 use Rattle.il_rules.specs.Faults.{Broken, Declaring, Typing, Ordering, duplicate, unknown, empty_range, initial_outside, bad_task, other_type, of_instruction, unknown_label, backward_jump, two_writers, unreached, recursive, long_chain, too_many_slots, BreaksDeclarations, BreaksTypes, BreaksOrder, IsNoLater, earlier, same_place, IsFirst}
-use Rattle.il_rules.proofs.Straight.{only_one, only_unit, on_line, one_result, opener_none, no_jump}
+use Rattle.il_rows.proofs.Straight.{only_unit, on_line, opener_none, no_jump}
+use Rattle.il_rules.proofs.Passes.{only_one, one_result}
 use Rattle.il_rows.specs.Trees.{place}
 use Rattle.il_rows.specs.Cases.{predeclared_unit, calls_itself, negated_number, negated_number_unit, added_boolean, added_boolean_unit, great_literal, great_literal_unit, no_result, no_result_unit, one_argument, one_argument_unit}
 use Rattle.il_rows.proofs.DeclarationRows.{predeclared_unit-row}
@@ -75,7 +75,7 @@ waits_for_none config unit None d e h = h
 waits_for_none config unit (Some o) d e h = let bad : Some o ≡ None = e in absurd cc
 
 -- a broken instruction of the unit
-of_unit : (config : Config) (unit : ProgramUnit) → AreSupportedSteps unit.body.steps → (n : ℕ) (p : Place) (h : IsTypingBroken config n p) → h.unit ≡ unit → BreaksOnLine config unit n p
+of_unit : (config : Config) (unit : ProgramUnit) → AreStraightSteps unit.body.steps → (n : ℕ) (p : Place) (h : IsTypingBroken config n p) → h.unit ≡ unit → BreaksOnLine config unit n p
 of_unit config unit supported n p h same =
     let stands : slice_get unit.body.steps h.at ≡ Some h.step = subst (λ (u : ProgramUnit). slice_get u.body.steps h.at ≡ Some h.step) same h.is_step.stands in
     let low = slice_get_within unit.body.steps h.at h.step stands in
@@ -88,7 +88,7 @@ of_unit config unit supported n p h same =
     record { at = h.at; step = h.step; stands = stands; broken = subst (λ (d : Option Deferred). Contains (typing_numbers config unit h.step.instruction (line_type config unit h.at) d) n) deferred of_line; is_place = h.is_place }
 
 -- no instruction of the unit jumps
-no_jump_of : (config : Config) (unit : ProgramUnit) → config.units ≡ unit ∷ [] → AreSupportedSteps unit.body.steps → (u : ProgramUnit) (at : ℕ) (s : Step) (l : Named) → IsJump config u at s l → ⊥
+no_jump_of : (config : Config) (unit : ProgramUnit) → config.units ≡ unit ∷ [] → AreStraightSteps unit.body.steps → (u : ProgramUnit) (at : ℕ) (s : Step) (l : Named) → IsJump config u at s l → ⊥
 no_jump_of config unit alone supported u at s l j =
     no_jump unit.body supported at s l (subst (λ (v : ProgramUnit). JumpsAt v.body at s l) (only_unit config unit alone u j.written) j.jumps)
 
@@ -98,7 +98,7 @@ one_task config line lines task name w =
     sym w.of_task ∙ ap (λ (l : ProgramLine). l.task.name) (only_one line w.line (subst (λ ls. Contains ls w.line) lines w.listed))
 
 -- what is broken on a straight line that one task runs
-on_the_line : (config : Config) (unit : ProgramUnit) → config.units ≡ unit ∷ [] → AreSupportedSteps unit.body.steps → (line : ProgramLine) → config.programs ≡ line ∷ [] → (n : ℕ) (p : Place) → BreaksTypes config n p → BreaksOnLine config unit n p
+on_the_line : (config : Config) (unit : ProgramUnit) → config.units ≡ unit ∷ [] → AreStraightSteps unit.body.steps → (line : ProgramLine) → config.programs ≡ line ∷ [] → (n : ℕ) (p : Place) → BreaksTypes config n p → BreaksOnLine config unit n p
 on_the_line config unit alone supported line lines n p (of_instruction h) = of_unit config unit supported n p h (only_unit config unit alone h.unit h.is_step.written)
 on_the_line config unit alone supported line lines n p (unknown_label e (label_unknown u at s l j none is)) = absurd (no_jump_of config unit alone supported u at s l j)
 on_the_line config unit alone supported line lines n p (backward_jump e (backward u at to s l j found up is)) = absurd (no_jump_of config unit alone supported u at s l j)

@@ -14,7 +14,7 @@ use Rattle.il_rules.specs.Names.{image_name, standard_function, standard_block, 
 use Rattle.il_rules.specs.Types.{typing_numbers, type_after, type_along, opener, label_place, reference_type, goes_on, StandsAt, Follows, onward, jumped, Leads, IsResultAt, stored_names, StoresAt, unknown_label as label_unknown, unreached as never_reached, two_writers as written_twice}
 use Rattle.il_rules.specs.Order.{calls, recursive as reaches_itself}
 use Rattle.il_rules.specs.Faults.{Broken, Typing, Ordering, of_instruction, unknown_label as of_unknown_label, unreached, two_writers as of_two_writers, recursive}
-use Rattle.il_rules.proofs.Straight.{only_one}
+use Rattle.il_rules.proofs.Passes.{only_one}
 use Rattle.il_rules.proofs.Rows.{one_step, not_both, one_instruction, both}
 use Rattle.il_rows.specs.Trees.{place, named}
 use Rattle.il_rows.specs.Cases.{negated_number, negated_number_unit, added_boolean, added_boolean_unit, great_literal, great_literal_unit, no_result, no_result_unit, written_input, written_input_a, unknown_label, unknown_label_c, calls_itself, calls_itself_a, one_argument, one_argument_unit, two_writers, two_writers_unit, behind_return, behind_return_c}

@@ -1,3 +1,4 @@
 pub mod Trees
 pub mod EveryConstruct
 pub mod Cases
+pub mod Straight

@@ -4,21 +4,17 @@ use crate::elementary::{
     declared_limits, has_value, is_counted, is_same_type, is_whole, is_within, is_within_any,
     limits,
 };
-use crate::symbol::Symbol;
 use il_spec::tree::{Elementary, Scalar, Subrange};
 use std::test::Fail;
 
 #[test]
 fn numbers_of_types(rt: HostRuntime) -> Result<(), Fail> {
     let digits = Subrange { lower: 0, upper: 9 };
-    let symbol = Symbol {
-        scalar: Scalar {
-            elementary: Elementary::Int,
-            subrange: Some(digits),
-        },
-        written: true,
+    let digit = Scalar {
+        elementary: Elementary::Int,
+        subrange: Some(digits),
     };
-    assert!(rt; declared_limits(symbol.scalar) == Some(digits));
+    assert!(rt; declared_limits(digit) == Some(digits));
     assert!(rt; limits(Elementary::Bool) == None && has_value(Elementary::Sint, -128));
     assert!(rt;
         !has_value(Elementary::Usint, 256)

@@ -1,19 +1,19 @@
 -- Predeclared names, looked up in tables one behind another.
 use Rattle.std.proofs.Common.{◌≡◌, Bool, true, false, List, [], ◌∷◌, ◌++◌, map, refl, sym, ap, ◌∙◌, Option, Some, None, option_map, bytes_eq, if◌then◌else◌}
-use Rattle.std.specs.Prelude.{find, ℤ}
+use Rattle.std.specs.Prelude.{find}
 use Rattle.std.specs.Option.{option_or}
 use Rattle.il_spec.specs.declared.tree.Config.{Config}
 use Rattle.il_spec.specs.declared.tree.Elementary.{Elementary}
 use Rattle.il_spec.specs.declared.tree.Form.{Form}
 use Rattle.il_rules.specs.Names as rule
 use Rattle.il_rules.specs.Names.{Spelling, or_else, entry_of, standard_functions, standard_function, standard_blocks, standard_block, standard_inputs, standard_outputs, image_of, image_name}
-use Rattle.il_scope.specs.declared.entry.ImageName.{ImageName}
 use Rattle.il_scope.specs.declared.entry.StandardBlock.{StandardBlock}
 use Rattle.il_scope.specs.declared.entry.StandardBlock.TheVariants.{Sr, Rs, RTrig, FTrig, Ctu, Ctd, Ctud, Tp, Ton, Tof}
 use Rattle.il_scope.specs.Words.{is_name, entry_among}
 use Rattle.il_scope.specs.Entries.{function_entry, block_entry, shown_block, word_form}
 use Rattle.il_scope.specs.Standard.{uniform_functions, from_sint, from_int, from_dint, from_usint, from_uint, from_udint, block_words, input_words, output_words, sr_inputs, rs_inputs, trigger_inputs, ctu_inputs, ctd_inputs, ctud_inputs, timer_inputs, flip_flop_outputs, trigger_outputs, counter_outputs, ctud_outputs, timer_outputs}
-use Rattle.il_scope.specs.Images.{number_names, signal_names, row_names, command_names}
+use Rattle.il_scope.specs.Images.{image_in, named, row_among, image_entries}
+use Rattle.il_scope.specs.declared.image.ImageRow.{ImageRow}
 use Rattle.il_scope.specs.Views.{image_entry}
 
 -- a table with its words closed, one behind another
@@ -111,30 +111,29 @@ pub output_is : (block : StandardBlock) (word : Spelling) → option_map word_fo
 output_is block word = among-words (output_words block) word ∙ ap (λ t. entry_of t word) (output_table block)
 
 -- the image names as a table
-abbrev image_table : Config → List rule.ImageName → List (Spelling × ImageName)
-image_table config images = map (λ i. (i.variable.name, image_entry config i)) images
-
-image_among : (config : Config) (images : List rule.ImageName) (name : Spelling) → option_map (image_entry config) (find (λ i. bytes_eq i.variable.name name) images) ≡ entry_among (image_table config images) name
+image_among : (config : Config) (images : List rule.ImageName) (name : Spelling) → option_map (image_entry config) (find (λ i. bytes_eq i.variable.name name) images) ≡ entry_among (map (λ i. (i.variable.name, image_entry config i)) images) name
 unfolding is_name
 image_among config [] name = refl
 image_among config (i ∷ is) name = go (bytes_eq i.variable.name name) (image_among config is name)
   where
-    go : (b : Bool) → option_map (image_entry config) (find (λ j. bytes_eq j.variable.name name) is) ≡ entry_among (image_table config is) name → option_map (image_entry config) (if b then Some i else find (λ j. bytes_eq j.variable.name name) is) ≡ (if b then Some (image_entry config i) else entry_among (image_table config is) name)
+    go : (b : Bool) → option_map (image_entry config) (find (λ j. bytes_eq j.variable.name name) is) ≡ entry_among (map (λ j. (j.variable.name, image_entry config j)) is) name
+        → option_map (image_entry config) (if b then Some i else find (λ j. bytes_eq j.variable.name name) is) ≡ (if b then Some (image_entry config i) else entry_among (map (λ j. (j.variable.name, image_entry config j)) is) name)
     go true rest = refl
     go false rest = rest
 
-images_are : (config : Config) (cars floors slots : ℤ) → image_table config (image_of cars floors slots) ≡ number_names cars floors slots ++ (signal_names ++ (row_names cars floors slots ++ command_names cars slots))
-unfolding number_names signal_names row_names command_names
-images_are config cars floors slots = refl
+-- the row of a spelling, and what is found in the table
+row_is : (config : Config) (rows : List ImageRow) (name : Spelling) → option_map (image_in config) (row_among rows name) ≡ entry_among (map (named config) rows) name
+row_is config [] name = refl
+row_is config (r ∷ rs) name = go (is_name r.name.now name) (row_is config rs name)
+  where
+    go : (b : Bool) → option_map (image_in config) (row_among rs name) ≡ entry_among (map (named config) rs) name → option_map (image_in config) (if b then Some r else row_among rs name) ≡ (if b then Some (image_in config r) else entry_among (map (named config) rs) name)
+    go true rest = refl
+    go false rest = rest
 
-pub image_is : (config : Config) (cars floors slots : ℤ) (name : Spelling) → cars ≡ config.cars.value → floors ≡ config.floors.value → slots ≡ config.slots.value
-    → option_map (image_entry config) (image_name config name) ≡ or_else (entry_among (number_names cars floors slots) name) (or_else (entry_among signal_names name) (or_else (entry_among (row_names cars floors slots) name) (entry_among (command_names cars slots) name)))
+pub image_is : (config : Config) (rows : List ImageRow) (name : Spelling) → map (named config) rows ≡ image_entries config → option_map (image_in config) (row_among rows name) ≡ option_map (image_entry config) (image_name config name)
 unfolding image_name
-image_is config cars floors slots name c f s = rw (c, f, s) (
-    image_among config (image_of config.cars.value config.floors.value config.slots.value) name
-    ∙ ap (λ t. entry_among t name) (images_are config config.cars.value config.floors.value config.slots.value)
-    ∙ among-append (number_names config.cars.value config.floors.value config.slots.value) (signal_names ++ (row_names config.cars.value config.floors.value config.slots.value ++ command_names config.cars.value config.slots.value)) name
-    ∙ ap (or_else (entry_among (number_names config.cars.value config.floors.value config.slots.value) name)) (three signal_names (row_names config.cars.value config.floors.value config.slots.value) (command_names config.cars.value config.slots.value) name))
+image_is config rows name are =
+    row_is config rows name ∙ ap (λ t. entry_among t name) are ∙ sym (image_among config (image_of config.cars.value config.floors.value config.slots.value) name)
 
 -- the first of two, found or not
 pub some_first : {A : Type 0} (a x y : Option A) (v : A) → a ≡ x → a ≡ Some v → Some v ≡ or_else x y

@@ -97,7 +97,8 @@ own_found config unit scope q r own listed e o l is = or_is r own listed e ∙ a
 
 -- IMAGE NAMES
 
-seen_is : (role : Option rule.Role) (audience : rule.Audience) → seen_by (option_map role_entry role) (audience_entry audience) ≡ is_seen_by role audience
+-- whether programs of a role see what is meant for an audience
+pub seen_is : (role : Option rule.Role) (audience : rule.Audience) → seen_by (option_map role_entry role) (audience_entry audience) ≡ is_seen_by role audience
 seen_is role Everybody = refl
 seen_is None CarPrograms = refl
 seen_is None GroupPrograms = refl

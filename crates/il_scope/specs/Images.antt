@@ -1,66 +1,51 @@
--- The image names, group by group.
-use Rattle.std.specs.Prelude.{ℤ, pos, negsuc, List, [], ◌∷◌, codes}
+-- The table of image names, in a configuration.
+use Rattle.std.specs.Prelude.{ℤ, pos, List, map, Option, find}
+use Rattle.il_spec.specs.declared.tree.Config.{Config}
 use Rattle.il_spec.specs.declared.tree.Scalar.{Scalar as ScalarOf}
-use Rattle.il_spec.specs.declared.tree.Elementary.TheVariants.{Bool as Boolean, Time}
 use Rattle.il_spec.specs.ElementaryTypes.{plain}
-use Rattle.il_rules.specs.Names.{Spelling, within}
+use Rattle.il_rules.specs.Names.{Spelling, within, image_of}
 use Rattle.il_scope.specs.declared.entry.VariableType.{VariableType}
 use Rattle.il_scope.specs.declared.entry.VariableType.TheVariants.{Scalar, Array}
-use Rattle.il_scope.specs.declared.entry.Origin.TheVariants.{ReadImage, WrittenImage}
-use Rattle.il_scope.specs.declared.entry.Audience.{Audience}
-use Rattle.il_scope.specs.declared.entry.Audience.TheVariants.{Everybody, CarPrograms, GroupPrograms}
 use Rattle.il_scope.specs.declared.entry.ImageName.{ImageName}
+use Rattle.il_scope.specs.declared.image.Limit.{Limit}
+use Rattle.il_scope.specs.declared.image.Limit.TheVariants.{Fixed, Cars, Floors, Slots}
+use Rattle.il_scope.specs.declared.image.ImageScalar.{ImageScalar}
+use Rattle.il_scope.specs.declared.image.ImageScalar.TheVariants.{Plain, Within}
+use Rattle.il_scope.specs.declared.image.ImageType.{ImageType}
+use Rattle.il_scope.specs.declared.image.ImageType.TheVariants.{Single, Row}
+use Rattle.il_scope.specs.declared.image.ImageRow.{ImageRow}
+use Rattle.il_scope.specs.Views.{image_entry}
+use Rattle.il_scope.specs.Words.{is_name}
 
--- a row of so many elements
-abbrev pub row : ℤ → ScalarOf → VariableType
-row count element = Array (record { lower = pos 1; upper = count }) element
+-- a limit in a configuration
+abbrev pub limit_in : Config → Limit → ℤ
+limit_in config (Fixed number) = number
+limit_in config Cars = config.cars.value
+limit_in config Floors = config.floors.value
+limit_in config Slots = config.slots.value
 
--- an image name that is read
-abbrev pub read : Audience → VariableType → ImageName
-read audience declared = record { variable = record { declared = declared; origin = ReadImage }; audience = audience }
+-- the type of an image name, or of the elements of its array
+abbrev pub scalar_in : Config → ImageScalar → ScalarOf
+scalar_in config (Plain elementary) = plain elementary
+scalar_in config (Within lower upper) = within (limit_in config lower) (limit_in config upper)
 
--- an image name that is written
-abbrev pub written : Audience → VariableType → ImageName
-written audience declared = record { variable = record { declared = declared; origin = WrittenImage }; audience = audience }
+-- the type of an image name
+abbrev pub type_in : Config → ImageType → VariableType
+type_in config (Single scalar) = Scalar (scalar_in config scalar)
+type_in config (Row length element) = Array (record { lower = pos 1; upper = limit_in config length }) (scalar_in config element)
 
--- numbers that every program or a car's program reads (own rule)
-unfoldable pub number_names : ℤ → ℤ → ℤ → List (Spelling × ImageName)
-number_names cars floors slots =
-    (codes "CARS", read Everybody (Scalar (within cars cars)))
-    ∷ (codes "FLOORS", read Everybody (Scalar (within floors floors)))
-    ∷ (codes "SLOTS", read Everybody (Scalar (within slots slots)))
-    ∷ (codes "NOW", read Everybody (Scalar (plain Time)))
-    ∷ (codes "RUNLIMIT", read Everybody (Scalar (within (pos 0) cars)))
-    ∷ (codes "CARNO", read CarPrograms (Scalar (within (pos 1) cars)))
-    ∷ (codes "POS", read CarPrograms (Scalar (within (pos 1) floors)))
-    ∷ []
+-- the image name of a row
+abbrev pub image_in : Config → ImageRow → ImageName
+image_in config row = record { variable = record { declared = type_in config row.declared; origin = row.origin }; audience = row.audience }
 
--- signals that a car's program reads (own rule)
-unfoldable pub signal_names : List (Spelling × ImageName)
-signal_names =
-    (codes "LEVEL", read CarPrograms (Scalar (plain Boolean)))
-    ∷ (codes "TOP", read CarPrograms (Scalar (plain Boolean)))
-    ∷ (codes "BOTTOM", read CarPrograms (Scalar (plain Boolean)))
-    ∷ (codes "LOCKED", read CarPrograms (Scalar (plain Boolean)))
-    ∷ (codes "OPENED", read CarPrograms (Scalar (plain Boolean)))
-    ∷ []
+-- a row's name, with what it is
+abbrev pub named : Config → ImageRow → Spelling × ImageName
+named config row = (row.name.now, image_in config row)
 
--- rows that are read (own rule)
-unfoldable pub row_names : ℤ → ℤ → ℤ → List (Spelling × ImageName)
-row_names cars floors slots =
-    (codes "CPOS", read GroupPrograms (row cars (within (pos 1) floors)))
-    ∷ (codes "CMOTOR", read GroupPrograms (row cars (within (negsuc 0) (pos 1))))
-    ∷ (codes "CALLWAITS", read Everybody (row slots (plain Boolean)))
-    ∷ (codes "CALLFROM", read Everybody (row slots (within (pos 0) floors)))
-    ∷ (codes "CALLTO", read Everybody (row slots (within (pos 0) floors)))
-    ∷ (codes "CALLCAR", read Everybody (row slots (within (pos 0) cars)))
-    ∷ []
+-- the image names of a configuration, each by its spelling
+abbrev pub image_entries : Config → List (Spelling × ImageName)
+image_entries config = map (λ i. (i.variable.name, image_entry config i)) (image_of config.cars.value config.floors.value config.slots.value)
 
--- commands, which are written (own rule)
-unfoldable pub command_names : ℤ → ℤ → List (Spelling × ImageName)
-command_names cars slots =
-    (codes "MOTOR", written CarPrograms (Scalar (within (negsuc 0) (pos 1))))
-    ∷ (codes "OPEN", written CarPrograms (Scalar (plain Boolean)))
-    ∷ (codes "SERVE", written CarPrograms (Scalar (within (pos 0) slots)))
-    ∷ (codes "ASSIGN", written GroupPrograms (row slots (within (pos 0) cars)))
-    ∷ []
+-- the row of a spelling
+abbrev pub row_among : List ImageRow → Spelling → Option ImageRow
+row_among rows name = find (λ r. is_name r.name.now name) rows

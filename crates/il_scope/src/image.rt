@@ -1,186 +1,282 @@
 // The image names (own rule).
 
-ghost use Rattle.std.specs.Prelude.{◌≡◌, option_map};
+ghost use Rattle.std.specs.Prelude.{◌≡◌, map, option_map};
+ghost use Rattle.il_spec.specs.declared.tree.Config.{Config as Configuration};
 ghost use Rattle.il_spec.specs.ElementaryTypes.{plain};
-ghost use Rattle.il_rules.specs.Names.{image_name, within, or_else};
+ghost use Rattle.il_rules.specs.Names.{image_name, within};
 ghost use Rattle.il_scope.specs.Views.{image_entry};
-ghost use Rattle.il_scope.specs.Words.{entry_among};
-ghost use Rattle.il_scope.specs.Images.{row, read, written, number_names, signal_names, row_names, command_names};
+ghost use Rattle.il_scope.specs.Images.{limit_in, scalar_in, type_in, image_in, named, row_among, image_entries};
 
 use crate::entry::{Audience, ImageName, Origin, Variable, VariableType};
 use crate::words::is_name;
 use il_spec::tree::{Config, Elementary, Scalar, Subrange};
 
+/// A limit in the type of an image name: a number, or one that the configuration gives.
+#[derive(Clone, Copy)]
+enum Limit {
+    Fixed(i64),
+    Cars,
+    Floors,
+    Slots,
+}
+
+/// The type of an image name, or of the elements of its array.
+#[derive(Clone, Copy)]
+enum ImageScalar {
+    Plain(Elementary),
+    /// INT within these limits.
+    Within(Limit, Limit),
+}
+
+/// The type of an image name.
+#[derive(Clone, Copy)]
+enum ImageType {
+    Single(ImageScalar),
+    /// ARRAY [1..length] of this element.
+    Row { length: Limit, element: ImageScalar },
+}
+
+/// A row of the table of image names.
+#[derive(Clone, Copy)]
+pub struct ImageRow {
+    pub name: &'static str,
+    audience: Audience,
+    origin: Origin,
+    declared: ImageType,
+}
+
+/// The table of image names.
+static IMAGE: [ImageRow; 22] = [
+    ImageRow {
+        name: "CARS",
+        audience: Audience::Everybody,
+        origin: Origin::ReadImage,
+        declared: ImageType::Single(ImageScalar::Within(Limit::Cars, Limit::Cars)),
+    },
+    ImageRow {
+        name: "FLOORS",
+        audience: Audience::Everybody,
+        origin: Origin::ReadImage,
+        declared: ImageType::Single(ImageScalar::Within(Limit::Floors, Limit::Floors)),
+    },
+    ImageRow {
+        name: "SLOTS",
+        audience: Audience::Everybody,
+        origin: Origin::ReadImage,
+        declared: ImageType::Single(ImageScalar::Within(Limit::Slots, Limit::Slots)),
+    },
+    ImageRow {
+        name: "NOW",
+        audience: Audience::Everybody,
+        origin: Origin::ReadImage,
+        declared: ImageType::Single(ImageScalar::Plain(Elementary::Time)),
+    },
+    ImageRow {
+        name: "RUNLIMIT",
+        audience: Audience::Everybody,
+        origin: Origin::ReadImage,
+        declared: ImageType::Single(ImageScalar::Within(Limit::Fixed(0), Limit::Cars)),
+    },
+    ImageRow {
+        name: "CARNO",
+        audience: Audience::CarPrograms,
+        origin: Origin::ReadImage,
+        declared: ImageType::Single(ImageScalar::Within(Limit::Fixed(1), Limit::Cars)),
+    },
+    ImageRow {
+        name: "POS",
+        audience: Audience::CarPrograms,
+        origin: Origin::ReadImage,
+        declared: ImageType::Single(ImageScalar::Within(Limit::Fixed(1), Limit::Floors)),
+    },
+    ImageRow {
+        name: "LEVEL",
+        audience: Audience::CarPrograms,
+        origin: Origin::ReadImage,
+        declared: ImageType::Single(ImageScalar::Plain(Elementary::Bool)),
+    },
+    ImageRow {
+        name: "TOP",
+        audience: Audience::CarPrograms,
+        origin: Origin::ReadImage,
+        declared: ImageType::Single(ImageScalar::Plain(Elementary::Bool)),
+    },
+    ImageRow {
+        name: "BOTTOM",
+        audience: Audience::CarPrograms,
+        origin: Origin::ReadImage,
+        declared: ImageType::Single(ImageScalar::Plain(Elementary::Bool)),
+    },
+    ImageRow {
+        name: "LOCKED",
+        audience: Audience::CarPrograms,
+        origin: Origin::ReadImage,
+        declared: ImageType::Single(ImageScalar::Plain(Elementary::Bool)),
+    },
+    ImageRow {
+        name: "OPENED",
+        audience: Audience::CarPrograms,
+        origin: Origin::ReadImage,
+        declared: ImageType::Single(ImageScalar::Plain(Elementary::Bool)),
+    },
+    ImageRow {
+        name: "CPOS",
+        audience: Audience::GroupPrograms,
+        origin: Origin::ReadImage,
+        declared: ImageType::Row {
+            length: Limit::Cars,
+            element: ImageScalar::Within(Limit::Fixed(1), Limit::Floors),
+        },
+    },
+    ImageRow {
+        name: "CMOTOR",
+        audience: Audience::GroupPrograms,
+        origin: Origin::ReadImage,
+        declared: ImageType::Row {
+            length: Limit::Cars,
+            element: ImageScalar::Within(Limit::Fixed(-1), Limit::Fixed(1)),
+        },
+    },
+    ImageRow {
+        name: "CALLWAITS",
+        audience: Audience::Everybody,
+        origin: Origin::ReadImage,
+        declared: ImageType::Row {
+            length: Limit::Slots,
+            element: ImageScalar::Plain(Elementary::Bool),
+        },
+    },
+    ImageRow {
+        name: "CALLFROM",
+        audience: Audience::Everybody,
+        origin: Origin::ReadImage,
+        declared: ImageType::Row {
+            length: Limit::Slots,
+            element: ImageScalar::Within(Limit::Fixed(0), Limit::Floors),
+        },
+    },
+    ImageRow {
+        name: "CALLTO",
+        audience: Audience::Everybody,
+        origin: Origin::ReadImage,
+        declared: ImageType::Row {
+            length: Limit::Slots,
+            element: ImageScalar::Within(Limit::Fixed(0), Limit::Floors),
+        },
+    },
+    ImageRow {
+        name: "CALLCAR",
+        audience: Audience::Everybody,
+        origin: Origin::ReadImage,
+        declared: ImageType::Row {
+            length: Limit::Slots,
+            element: ImageScalar::Within(Limit::Fixed(0), Limit::Cars),
+        },
+    },
+    ImageRow {
+        name: "MOTOR",
+        audience: Audience::CarPrograms,
+        origin: Origin::WrittenImage,
+        declared: ImageType::Single(ImageScalar::Within(Limit::Fixed(-1), Limit::Fixed(1))),
+    },
+    ImageRow {
+        name: "OPEN",
+        audience: Audience::CarPrograms,
+        origin: Origin::WrittenImage,
+        declared: ImageType::Single(ImageScalar::Plain(Elementary::Bool)),
+    },
+    ImageRow {
+        name: "SERVE",
+        audience: Audience::CarPrograms,
+        origin: Origin::WrittenImage,
+        declared: ImageType::Single(ImageScalar::Within(Limit::Fixed(0), Limit::Slots)),
+    },
+    ImageRow {
+        name: "ASSIGN",
+        audience: Audience::GroupPrograms,
+        origin: Origin::WrittenImage,
+        declared: ImageType::Row {
+            length: Limit::Slots,
+            element: ImageScalar::Within(Limit::Fixed(0), Limit::Cars),
+        },
+    },
+];
+
+/// The rows of the image names, in their order.
+pub fn image_rows() -> &'static [ImageRow]
+    ensures { (config : Configuration) → map (named config) result.now ≡ image_entries config }
+{
+    &IMAGE
+}
+
 /// The image name of this spelling.
 pub fn image_name(config: &Config, name: &str) -> Option<ImageName>
     ensures { result ≡ option_map (image_entry config.now) (image_name config.now name.now) }
 {
-    let (cars, floors, slots) = (config.cars.value, config.floors.value, config.slots.value);
-    match number_name(cars, floors, slots, name) {
-        Some(number) => Some(number),
-        None => other_name(cars, floors, slots, name),
+    match row_named(image_rows(), name) {
+        Some(row) => Some(image_in(config, row)),
+        None => None,
     }
 }
 
-// A signal, a row or a command.
-fn other_name(cars: i64, floors: i64, slots: i64, name: &str) -> Option<ImageName>
-    ensures { result ≡ or_else (entry_among signal_names name.now) (or_else (entry_among (row_names cars floors slots) name.now) (entry_among (command_names cars slots) name.now)) }
+// The row of this spelling.
+fn row_named<'a>(rows: &'a [ImageRow], name: &str) -> Option<&'a ImageRow>
+    ensures { option_map (λ r. r.now) result ≡ row_among rows.now name.now }
 {
-    match signal_name(name) {
-        Some(signal) => Some(signal),
-        None => row_or_command(cars, floors, slots, name),
-    }
+    rows.iter().find(|row| is_name(name, row.name))
 }
 
-// A row or a command.
-fn row_or_command(cars: i64, floors: i64, slots: i64, name: &str) -> Option<ImageName>
-    ensures { result ≡ or_else (entry_among (row_names cars floors slots) name.now) (entry_among (command_names cars slots) name.now) }
-{
-    match row_name(cars, floors, slots, name) {
-        Some(row) => Some(row),
-        None => command_name(cars, slots, name),
-    }
-}
-
-// One of the numbers that every program or a car's program reads.
-#[tactic(auto, unfolding(crate::specs::Images::number_names))]
-fn number_name(cars: i64, floors: i64, slots: i64, name: &str) -> Option<ImageName>
-    ensures { result ≡ entry_among (number_names cars floors slots) name.now }
-{
-    if is_name(name, "CARS") {
-        Some(read(
-            Audience::Everybody,
-            VariableType::Scalar(within(cars, cars)),
-        ))
-    } else if is_name(name, "FLOORS") {
-        Some(read(
-            Audience::Everybody,
-            VariableType::Scalar(within(floors, floors)),
-        ))
-    } else if is_name(name, "SLOTS") {
-        Some(read(
-            Audience::Everybody,
-            VariableType::Scalar(within(slots, slots)),
-        ))
-    } else if is_name(name, "NOW") {
-        Some(read(
-            Audience::Everybody,
-            VariableType::Scalar(plain(Elementary::Time)),
-        ))
-    } else if is_name(name, "RUNLIMIT") {
-        Some(read(Audience::Everybody, VariableType::Scalar(within(0, cars))))
-    } else if is_name(name, "CARNO") {
-        Some(read(Audience::CarPrograms, VariableType::Scalar(within(1, cars))))
-    } else if is_name(name, "POS") {
-        Some(read(
-            Audience::CarPrograms,
-            VariableType::Scalar(within(1, floors)),
-        ))
-    } else {
-        None
-    }
-}
-
-// One of the signals that a car's program reads.
-#[tactic(auto, unfolding(crate::specs::Images::signal_names))]
-fn signal_name(name: &str) -> Option<ImageName>
-    ensures { result ≡ entry_among signal_names name.now }
-{
-    if is_name(name, "LEVEL")
-        || is_name(name, "TOP")
-        || is_name(name, "BOTTOM")
-        || is_name(name, "LOCKED")
-        || is_name(name, "OPENED")
-    {
-        Some(read(
-            Audience::CarPrograms,
-            VariableType::Scalar(plain(Elementary::Bool)),
-        ))
-    } else {
-        None
-    }
-}
-
-// One of the rows that are read.
-#[tactic(auto, unfolding(crate::specs::Images::row_names))]
-fn row_name(cars: i64, floors: i64, slots: i64, name: &str) -> Option<ImageName>
-    ensures { result ≡ entry_among (row_names cars floors slots) name.now }
-{
-    if is_name(name, "CPOS") {
-        Some(read(Audience::GroupPrograms, row(cars, within(1, floors))))
-    } else if is_name(name, "CMOTOR") {
-        Some(read(Audience::GroupPrograms, row(cars, within(-1, 1))))
-    } else if is_name(name, "CALLWAITS") {
-        Some(read(Audience::Everybody, row(slots, plain(Elementary::Bool))))
-    } else if is_name(name, "CALLFROM") || is_name(name, "CALLTO") {
-        Some(read(Audience::Everybody, row(slots, within(0, floors))))
-    } else if is_name(name, "CALLCAR") {
-        Some(read(Audience::Everybody, row(slots, within(0, cars))))
-    } else {
-        None
-    }
-}
-
-// One of the commands, which are written.
-#[tactic(auto, unfolding(crate::specs::Images::command_names))]
-fn command_name(cars: i64, slots: i64, name: &str) -> Option<ImageName>
-    ensures { result ≡ entry_among (command_names cars slots) name.now }
-{
-    if is_name(name, "MOTOR") {
-        Some(written(Audience::CarPrograms, VariableType::Scalar(within(-1, 1))))
-    } else if is_name(name, "OPEN") {
-        Some(written(
-            Audience::CarPrograms,
-            VariableType::Scalar(plain(Elementary::Bool)),
-        ))
-    } else if is_name(name, "SERVE") {
-        Some(written(
-            Audience::CarPrograms,
-            VariableType::Scalar(within(0, slots)),
-        ))
-    } else if is_name(name, "ASSIGN") {
-        Some(written(Audience::GroupPrograms, row(slots, within(0, cars))))
-    } else {
-        None
-    }
-}
-
-// An image name that is read.
-fn read(audience: Audience, declared: VariableType) -> ImageName
-    ensures { result ≡ read audience declared }
+/// The image name of a row.
+pub fn image_in(config: &Config, row: &ImageRow) -> ImageName
+    ensures { result ≡ image_in config.now row.now }
 {
     ImageName {
         variable: Variable {
-            declared,
-            origin: Origin::ReadImage,
+            declared: type_in(config, row.declared),
+            origin: row.origin,
         },
-        audience,
+        audience: row.audience,
     }
 }
 
-// An image name that is written.
-fn written(audience: Audience, declared: VariableType) -> ImageName
-    ensures { result ≡ written audience declared }
+// The type of an image name.
+fn type_in(config: &Config, declared: ImageType) -> VariableType
+    ensures { result ≡ type_in config.now declared }
 {
-    ImageName {
-        variable: Variable {
-            declared,
-            origin: Origin::WrittenImage,
+    match declared {
+        ImageType::Single(scalar) => VariableType::Scalar(scalar_in(config, scalar)),
+        ImageType::Row { length, element } => VariableType::Array {
+            bounds: Subrange {
+                lower: 1,
+                upper: limit_in(config, length),
+            },
+            element: scalar_in(config, element),
         },
-        audience,
     }
 }
 
-// ARRAY [1..count] of this element.
-fn row(count: i64, element: Scalar) -> VariableType
-    ensures { result ≡ row count element }
+// The type of an image name, or of the elements of its array.
+fn scalar_in(config: &Config, scalar: ImageScalar) -> Scalar
+    ensures { result ≡ scalar_in config.now scalar }
 {
-    VariableType::Array {
-        bounds: Subrange {
-            lower: 1,
-            upper: count,
-        },
-        element,
+    match scalar {
+        ImageScalar::Plain(elementary) => plain(elementary),
+        ImageScalar::Within(lower, upper) => within(
+            limit_in(config, lower),
+            limit_in(config, upper),
+        ),
+    }
+}
+
+// A limit in a configuration.
+fn limit_in(config: &Config, limit: Limit) -> i64
+    ensures { result ≡ limit_in config.now limit }
+{
+    match limit {
+        Limit::Fixed(number) => number,
+        Limit::Cars => config.cars.value,
+        Limit::Floors => config.floors.value,
+        Limit::Slots => config.slots.value,
     }
 }
 

@@ -13,5 +13,7 @@ mod scoped;
 mod tables;
 mod words;
 
+pub use image::{ImageRow, image_rows};
+pub use meaning::is_seen_by;
 pub use numbers::is_program;
 pub use scoped::Scoped;

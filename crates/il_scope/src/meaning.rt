@@ -76,8 +76,8 @@ fn image_meaning(kind: UnitKind, role: Option<Role>, image: ImageName) -> Option
     }
 }
 
-// Whether programs of a role see what is meant for an audience; without a role they see all (own rule).
-fn is_seen_by(role: Option<Role>, audience: Audience) -> bool
+/// Whether programs of a role see what is meant for an audience; without a role they see all (own rule).
+pub fn is_seen_by(role: Option<Role>, audience: Audience) -> bool
     ensures { result ≡ seen_by role audience }
 {
     match (audience, role) {

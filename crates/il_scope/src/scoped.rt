@@ -5,9 +5,11 @@ ghost use Rattle.il_spec.specs.declared.tree.Unit.{Unit as ProgramUnit};
 ghost use Rattle.il_rules.specs.Names.{entry_of, is_one_of, is_predeclared, meaning, program_role};
 ghost use Rattle.il_rules.specs.Declarations.{global_form, names_of_units};
 ghost use Rattle.il_scope.specs.Entries.{role_entry};
+ghost use Rattle.il_scope.specs.Images.{image_in};
 ghost use Rattle.il_scope.specs.Views.{block_type, function_number, program_number, type_of, binding_of, variables_of_block};
 
-use crate::entry::{Binding, BlockType, Role, VariableType};
+use crate::entry::{Binding, BlockType, ImageName, Role, VariableType};
+use crate::image::{ImageRow, image_in};
 use crate::lookup::{block_input, block_output, is_unit};
 use crate::meaning::meaning;
 use crate::numbers::{block_type, function_number, program_number};
@@ -119,6 +121,13 @@ impl Scoped {
         ensures { (unit : ProgramUnit) → slice_get self.now.units at ≡ Some unit → result ≡ option_map (binding_of self.now) (meaning self.now unit name.now) }
     {
         meaning(&self.config, &self.tables, at, name)
+    }
+
+    /// The image name of a row of the table (own rule).
+    pub fn image_name(&self, row: &ImageRow) -> ImageName
+        ensures { result ≡ image_in self.now row.now }
+    {
+        image_in(&self.config, row)
     }
 
     /// The type of a block's input by its word (2.5.2).

@@ -1,17 +1,18 @@
-// Configurations with ranges.
+// Code with ranges.
 
 ghost use Rattle.std.specs.Prelude.{◌≡◌};
 ghost use Rattle.il_rules.specs.Faults.{Broken, Declaring, Typing, Ordering, HasNoFault};
 ghost use Rattle.il_run.specs.Annotation.{Annotated};
 
-use il_order::Ordered;
+use il_code::Code;
 use il_scope::Scoped;
 use std::marker::Model;
 
-/// A configuration of which no rule of declarations, types and order is broken, each instruction of which has ranges, so that none of its scans traps.
+/// The code of a configuration of which no rule of declarations, types and order is broken, each instruction of which has ranges, so that
+/// none of its scans traps.
 #[derive(Drop)]
 pub struct Checked {
-    ordered: Ordered,
+    code: Code,
 }
 
 impl Model for Checked {
@@ -20,18 +21,18 @@ impl Model for Checked {
 
     ghost Value = { Config };
 
-    ghost view = { λ c. c.ordered };
+    ghost view = { λ c. c.code };
 
-    ghost invariant = { λ c. Annotated c.ordered };
+    ghost invariant = { λ c. Annotated c.code };
 }
 
 impl Checked {
-    // A configuration with ranges.
-    pub(crate) fn of(ordered: Ordered) -> Checked
-        requires { Annotated ordered }
-        ensures { result ≡ ordered }
+    // Code with ranges.
+    pub(crate) fn of(code: Code) -> Checked
+        requires { Annotated code }
+        ensures { result ≡ code }
     {
-        Checked { ordered }
+        Checked { code }
     }
 
     /// The configuration, with what its names mean.
@@ -42,15 +43,14 @@ impl Checked {
         ensures ordered { HasNoFault (Broken Ordering self.now) }
         ensures annotated { Annotated self.now }
     {
-        let _config = self.ordered.config();
-        self.ordered.names()
+        self.code.names()
     }
 
-    /// The configuration whose order is checked.
-    pub fn into_ordered(self) -> Ordered
+    /// The code.
+    pub fn into_code(self) -> Code
         ensures is { result ≡ self }
         ensures annotated { Annotated self }
     {
-        self.ordered
+        self.code
     }
 }

@@ -8,7 +8,7 @@ ghost use Rattle.il_run.specs.Annotation.{Annotated};
 ghost use Rattle.il_ranges.specs.Unannotated.{IsUnannotatedBy};
 
 pub use container::Checked;
-use il_order::Ordered;
+use il_code::Code;
 use il_ranges::annotated;
 use il_spec::fault::Refusal;
 use std::alloc::Global;
@@ -17,20 +17,19 @@ use std::alloc::Global;
 /// 40 where a result may leave its type, 41 where a divisor may be 0, 42 where an index may lie outside of its array,
 /// 43 where a stored value may leave its variable's range, 44 where an argument may: at the first instruction of a unit
 /// up to and including which no ranges exist, of several units at the one that stands earliest in the text.
-pub fn verify(alloc: Global, ordered: Ordered) -> Result<Checked, Refusal>
-    ensures same { IfOk result (λ c. c ≡ ordered) }
-    ensures accepted { IfOk result (λ _. Annotated ordered) }
-    ensures refused { IfErr result (IsUnannotatedBy ordered) }
+pub fn verify(alloc: Global, code: Code) -> Result<Checked, Refusal>
+    ensures same { IfOk result (λ c. c ≡ code) }
+    ensures accepted { IfOk result (λ _. Annotated code) }
+    ensures refused { IfErr result (IsUnannotatedBy code) }
 {
-    check(alloc, &ordered)?;
-    Ok(Checked::of(ordered))
+    check(alloc, &code)?;
+    Ok(Checked::of(code))
 }
 
 // Finds ranges for each instruction.
-fn check(alloc: Global, ordered: &Ordered) -> Result<(), Refusal>
-    ensures accepted { IfOk result (λ _. Annotated ordered.now) }
-    ensures refused { IfErr result (IsUnannotatedBy ordered.now) }
+fn check(alloc: Global, code: &Code) -> Result<(), Refusal>
+    ensures accepted { IfOk result (λ _. Annotated code.now) }
+    ensures refused { IfErr result (IsUnannotatedBy code.now) }
 {
-    let _config = ordered.config();
-    annotated(alloc, ordered.names())
+    annotated(alloc, code.names())
 }

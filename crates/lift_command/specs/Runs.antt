@@ -13,6 +13,7 @@ use Rattle.lift_host.specs.declared.status.Status.{Status}
 use Rattle.lift_host.specs.Messages.{fault_of, fault_of_reading, message_of, status_of}
 use Rattle.lift_host.specs.Requests.{Asks, name_of}
 use Rattle.lift_host.specs.Presses.{ArePresses}
+use Rattle.lift_output.specs.Listing.{listing}
 use Rattle.lift_spec.specs.Image.{sizes_of}
 
 -- the bytes of a file that are read: one more than a text may have
@@ -30,11 +31,11 @@ IsWordsOutcome (Err (fault.Misuse text)) = Unit {0}
 IsWordsOutcome (Err fault.NoMemory) = Unit {0}
 IsWordsOutcome (Err _) = ⊥
 
--- `check` of a verified program prints; memory may be missing.
-abbrev pub IsCheckOutcome : Outcome → Type 0
-IsCheckOutcome (Ok text) = Unit {0}
-IsCheckOutcome (Err fault.NoMemory) = Unit {0}
-IsCheckOutcome (Err _) = ⊥
+-- `check` of a verified program prints its listing; memory may be missing.
+abbrev pub IsCheckOutcome : Program → Outcome → Type 0
+IsCheckOutcome program (Ok text) = string_bytes text ≡ listing program
+IsCheckOutcome program (Err fault.NoMemory) = Unit {0}
+IsCheckOutcome program (Err _) = ⊥
 
 -- `sim` prints, or an event is refused, where its further words are presses; otherwise one of them is bad. Memory may be missing.
 abbrev pub IsSimOutcome : (rounds floors : ℕ) → List (String Global) → Outcome → Type 0
@@ -46,7 +47,7 @@ IsSimOutcome rounds floors words (Err _) = ⊥
 
 -- A verified program gives what its command prints.
 abbrev pub IsProgramOutcome : Request → Program → Outcome → Type 0
-IsProgramOutcome (request.Check file) program outcome = IsCheckOutcome outcome
+IsProgramOutcome (request.Check file) program outcome = IsCheckOutcome program outcome
 IsProgramOutcome (request.Sim file rounds presses) program outcome = IsSimOutcome rounds (sizes_of program.config).floors presses.now outcome
 
 -- A request has the outcome that its file and the loader make: the file may give nothing, or its text be refused.

@@ -136,7 +136,7 @@ fn outcome_of_program(
 }
 
 fn checked(alloc: Global, verified: Verified) -> Result<String, Fault>
-    ensures { IsCheckOutcome result }
+    ensures { IsCheckOutcome verified result }
 {
     Ok(check_text(alloc, &verified)?)
 }

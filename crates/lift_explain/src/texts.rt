@@ -2,7 +2,7 @@
 
 use crate::Meaning;
 
-pub(crate) const TEXTS: [Meaning; 39] = [
+pub(crate) const TEXTS: [Meaning; 38] = [
     Meaning {
         number: 1,
         text: "1: a byte that has no place in a text\n\nA byte outside 32 to 126 that is no tab, line feed, or carriage return directly before a line feed; or a byte that begins no token, such as `$`, `*`, `=` alone, or `-` without a digit behind it. Named is the line of the byte.\n\n    PROGRAM C\n    LD TRUE\n    ST OPEN $\n    END_PROGRAM\n\nrefused 1 at line 3\n\nRemove the byte; write comments in ASCII.\n\n    PROGRAM C\n    LD TRUE\n    ST OPEN\n    END_PROGRAM\n",
@@ -57,7 +57,7 @@ pub(crate) const TEXTS: [Meaning; 39] = [
     },
     Meaning {
         number: 24,
-        text: "24: a wrong task\n\n| line | cause |\n|---|---|\n| of the program's heading | no PROGRAM line names the program |\n| of the TASK line | the task is not GROUP and not one of CAR1 to CARn, n being CARS (`CAR01` is none) |\n| of the PROGRAM line | its task has no TASK line, or an earlier PROGRAM line; what it names is no program, or one that an earlier line gives to a task of the other role |\n| of END_RESOURCE | a car has no TASK line, or a task has no PROGRAM line |\n\n    PROGRAM C\n    END_PROGRAM\n    CONFIGURATION K\n    VAR_GLOBAL CONSTANT CARS : INT := 2; FLOORS : INT := 2; SLOTS : INT := 1; END_VAR\n    RESOURCE M ON PLC\n    TASK CAR1 (INTERVAL := T#100ms, PRIORITY := 1);\n    PROGRAM P1 WITH CAR1 : C;\n    END_RESOURCE\n    END_CONFIGURATION\n\nrefused 24 at line 8\n\nThere is no task CAR2. Since one task is run so far (90), write CARS 1 and name the task CAR1.\n\n    PROGRAM C\n    END_PROGRAM\n    CONFIGURATION K\n    VAR_GLOBAL CONSTANT CARS : INT := 1; FLOORS : INT := 2; SLOTS : INT := 1; END_VAR\n    RESOURCE M ON PLC\n    TASK CAR1 (INTERVAL := T#100ms, PRIORITY := 1);\n    PROGRAM P1 WITH CAR1 : C;\n    END_RESOURCE\n    END_CONFIGURATION\n",
+        text: "24: a wrong task\n\n| line | cause |\n|---|---|\n| of the program's heading | no PROGRAM line names the program |\n| of the TASK line | the task is not GROUP and not one of CAR1 to CARn, n being CARS (`CAR01` is none) |\n| of the PROGRAM line | its task has no TASK line, or an earlier PROGRAM line; what it names is no program, or one that an earlier line gives to a task of the other role |\n| of END_RESOURCE | a car has no TASK line, or a task has no PROGRAM line |\n\n    PROGRAM C\n    END_PROGRAM\n    CONFIGURATION K\n    VAR_GLOBAL CONSTANT CARS : INT := 2; FLOORS : INT := 2; SLOTS : INT := 1; END_VAR\n    RESOURCE M ON PLC\n    TASK CAR1 (INTERVAL := T#100ms, PRIORITY := 1);\n    PROGRAM P1 WITH CAR1 : C;\n    END_RESOURCE\n    END_CONFIGURATION\n\nrefused 24 at line 8\n\nThere is no task CAR2: add it, with a PROGRAM line, or write CARS 1.\n\n    PROGRAM C\n    END_PROGRAM\n    CONFIGURATION K\n    VAR_GLOBAL CONSTANT CARS : INT := 2; FLOORS : INT := 2; SLOTS : INT := 1; END_VAR\n    RESOURCE M ON PLC\n    TASK CAR1 (INTERVAL := T#100ms, PRIORITY := 1);\n    TASK CAR2 (INTERVAL := T#100ms, PRIORITY := 1);\n    PROGRAM P1 WITH CAR1 : C;\n    PROGRAM P2 WITH CAR2 : C;\n    END_RESOURCE\n    END_CONFIGURATION\n",
     },
     Meaning {
         number: 25,
@@ -130,10 +130,6 @@ pub(crate) const TEXTS: [Meaning; 39] = [
     Meaning {
         number: 50,
         text: "50: a unit that costs too much\n\nA control path of the unit costs more than 1000000, as `LANGUAGE.md` counts under *The scan*, with the units that it calls. Named is the heading of the first such unit. Call less in a row: one scan can do a part of the work, and the next one the rest. (No example: it would be long.)\n",
-    },
-    Meaning {
-        number: 90,
-        text: "90: a construct that is not run yet\n\nThe text is one of the language, and it has a construct that is read and not run yet; `LANGUAGE.md` lists them under *Not run yet*. Named is the first of these lines:\n\n| construct | line |\n|---|---|\n| a function or a function block | of its heading |\n| a second unit | of its heading |\n| a list of inputs, outputs, externals or globals with a declaration in it | of the first written type in it |\n| VAR_GLOBAL without CONSTANT, also when it is empty | of that word |\n| a variable of a type that is not run | of the type |\n| a label | of the label |\n| an instruction that is not run, or one with an image name that is not: NOW, MOTOR, SERVE | of its operator |\n| a second TASK or PROGRAM line | of that line |\n\n    PROGRAM C\n    LD TRUE\n    XOR FALSE\n    END_PROGRAM\n\nrefused 90 at line 3\n\nWrite it with what is run: here `LD FALSE` and `NOT`.\n\n    PROGRAM C\n    LD FALSE\n    NOT\n    END_PROGRAM\n",
     },
     Meaning {
         number: 60,

@@ -114,11 +114,13 @@ fn commands<'a>(alloc: Global) -> Result<Command<'a>, AllocError> {
     with_sim(alloc)?.subcommand(explain)
 }
 
+/// The program with `check` and `sim`.
 fn with_sim<'a>(alloc: Global) -> Result<Command<'a>, AllocError> {
     let sim = sim_command(alloc)?;
     with_check(alloc)?.subcommand(sim)
 }
 
+/// The program with `check`.
 fn with_check<'a>(alloc: Global) -> Result<Command<'a>, AllocError> {
     let check = check_command(alloc)?;
     bare(alloc)?.subcommand(check)

@@ -1,41 +1,64 @@
 // What `check` prints.
 
+ghost use Rattle.std.specs.Prelude.{◌≡◌, ◌++◌, flat_map, IfOk, OnOk, string_bytes};
+ghost use Rattle.il_machine.specs.Listing.{task_lines, unit_lines, task_shown, unit_shown};
+ghost use Rattle.lift_output.specs.Listing.{task_text, unit_text, path_text, listing};
+
 use il_machine::{TaskInfo, UnitInfo, Verified};
 use std::alloc::{AllocError, Global};
 
 /// The output of `check`: that the text is accepted, then its tasks, CAR1 to CARn and then GROUP,
 /// with their intervals in milliseconds, then what each unit costs and the lines of its most
 /// expensive path.
-pub fn check_text(alloc: Global, verified: &Verified) -> Result<String, AllocError> {
+pub fn check_text(alloc: Global, verified: &Verified) -> Result<String, AllocError>
+    ensures { IfOk result (λ text. string_bytes text ≡ listing verified.now) }
+{
     let mut text = String::from_str(alloc, "accepted\n")?;
-    put_all(&mut text, verified)?;
+    put_tasks(&mut text, verified)?;
+    put_units(&mut text, verified)?;
     Ok(text)
 }
 
-fn put_all(text: &mut String, verified: &Verified) -> Result<(), AllocError> {
-    for task in verified.tasks() {
+fn put_tasks(text: &mut String, verified: &Verified) -> Result<(), AllocError>
+    ensures { OnOk result (string_bytes text.new ≡ string_bytes text.old ++ flat_map task_text (task_lines verified.now)) }
+{
+    'tasks: for task in verified.tasks() {
         put_task(text, task)?;
     }
-    for unit in verified.units() {
+    Ok(())
+}
+
+fn put_units(text: &mut String, verified: &Verified) -> Result<(), AllocError>
+    ensures { OnOk result (string_bytes text.new ≡ string_bytes text.old ++ flat_map unit_text (unit_lines verified.now.config.units verified.now.costs)) }
+{
+    'units: for unit in verified.units() {
         put_unit(text, unit)?;
     }
     Ok(())
 }
 
-fn put_task(text: &mut String, task: TaskInfo<'_>) -> Result<(), AllocError> {
+#[tactic(auto, unfolding(crate::specs::Listing::task_text))]
+fn put_task(text: &mut String, task: TaskInfo<'_>) -> Result<(), AllocError>
+    ensures { OnOk result (string_bytes text.new ≡ string_bytes text.old ++ task_text (task_shown task.entry)) }
+{
     write!(text, "task {} interval {}", task.name, task.interval)?;
     write!(text, " priority {} program {}", task.priority, task.program)?;
     writeln!(text, " budget {}", task.budget)
 }
 
-fn put_unit(text: &mut String, unit: UnitInfo<'_>) -> Result<(), AllocError> {
+#[tactic(auto, unfolding(crate::specs::Listing::unit_text))]
+fn put_unit(text: &mut String, unit: UnitInfo<'_>) -> Result<(), AllocError>
+    ensures { OnOk result (string_bytes text.new ≡ string_bytes text.old ++ unit_text (unit_shown unit.entry)) }
+{
     write!(text, "unit {} cost {} path", unit.name, unit.cost)?;
     put_path(text, unit.path)?;
     text.push_str("\n")
 }
 
-fn put_path(text: &mut String, path: &[u32]) -> Result<(), AllocError> {
-    for line in path {
+fn put_path(text: &mut String, path: &[u32]) -> Result<(), AllocError>
+    ensures { OnOk result (string_bytes text.new ≡ string_bytes text.old ++ path_text path.now) }
+{
+    'lines: for line in path {
         write!(text, " {line}")?;
     }
     Ok(())

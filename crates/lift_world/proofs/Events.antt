@@ -1,12 +1,12 @@
 -- What each event does, by the parts of a world.
-use Rattle.std.proofs.Common.{◌≡◌, ◌≢◌, ℕ, true, false, ◌&&◌, List, [], map, length, Option, Some, None, Ok, refl, sym, ap, ◌∙◌, if◌then◌else◌}
+use Rattle.std.proofs.Common.{◌≡◌, ◌≢◌, ℕ, true, false, ◌&&◌, List, [], ◌∷◌, map, length, Option, Some, None, Ok, refl, sym, ap, ◌∙◌, if◌then◌else◌}
 use Rattle.std.specs.Prelude.{Result, slice_get, slice_set, is_some, ◌==◌}
 use Rattle.il_spec.specs.declared.tree.Config.{Config}
-use Rattle.il_run.specs.State.{State}
+use Rattle.il_run.specs.State.{Values, Frame, State}
 use Rattle.il_run.specs.Step.{step, Next}
 use Rattle.il_run.specs.Scan.{has_ended}
-use Rattle.il_code.specs.Layout.{Rows}
-use Rattle.il_machine.specs.Going.{Stored}
+use Rattle.il_slots.specs.Layout.{Rows}
+use Rattle.il_exec.specs.Going.{Stored}
 use Rattle.il_machine.specs.Scanning.{Kept, kept_of, state_of}
 use Rattle.lift_spec.specs.declared.image.Image.{Image}
 use Rattle.lift_spec.specs.declared.image.Fields.{Fields}
@@ -26,27 +26,27 @@ use Rattle.lift_world.proofs.Views.{task_here, task_put, scan_here, scan_put, se
 
 -- WHERE A SCAN STANDS
 
-pub ended_so : (k : Kept) → k.place ≡ None → has_ended (state_of k) ≡ true
-ended_so k is = ap (λ p. has_ended (state_of (record k { place = p }))) is
+pub ended_so : (k : Kept) → k.frames ≡ [] → has_ended (state_of k) ≡ true
+ended_so k is = ap (λ fs. has_ended (state_of (record k { frames = fs }))) is
 
-pub going_so : (k : Kept) → k.place ≢ None → has_ended (state_of k) ≡ false
-going_so k going = by k.place refl
+pub going_so : (k : Kept) → k.frames ≢ [] → has_ended (state_of k) ≡ false
+going_so k going = by k.frames refl
   where
-    by : (o : Option ℕ) → k.place ≡ o → has_ended (state_of k) ≡ false
-    by None is = absurd (going is)
-    by (Some at) is = ap (λ p. has_ended (state_of (record k { place = p }))) is
+    by : (fs : List Frame) → k.frames ≡ fs → has_ended (state_of k) ≡ false
+    by [] is = absurd (going is)
+    by (f ∷ rest) is = ap (λ fs. has_ended (state_of (record k { frames = fs }))) is
 
 -- the parts of a world
-module _ (c : Config) (i : Image) (k : Calls) (seats : List (Option Seat)) (stores : List (Option Stored)) (desk hand : List Call) where
+module _ (c : Config) (i : Image) (k : Calls) (g : Values) (seats : List (Option Seat)) (stores : List (Option Stored)) (desk hand : List Call) where
   abbrev here : World
-  here = world_by c i k seats stores desk hand
+  here = world_by c i k g seats stores desk hand
 
   -- NO SUCH TASK
 
-  no_task : (t : ℕ) → flat (slice_get seats t) ≡ None → task_at (group_by c i k seats) t ≡ None
+  no_task : (t : ℕ) → flat (slice_get seats t) ≡ None → task_at (group_by c i k g seats) t ≡ None
   no_task t none = task_here c seats t ∙ ap (seated c t) none
 
-  pub the_task : (t : ℕ) (s : Seat) → flat (slice_get seats t) ≡ Some s → task_at (group_by c i k seats) t ≡ Some (task_in c t s)
+  pub the_task : (t : ℕ) (s : Seat) → flat (slice_get seats t) ≡ Some s → task_at (group_by c i k g seats) t ≡ Some (task_in c t s)
   the_task t s there = task_here c seats t ∙ ap (seated c t) there
 
   pub start_nowhere : (t : ℕ) → flat (slice_get seats t) ≡ None → happens c here (Start t) ≡ Ok (here, Refused NoSuchActor)
@@ -96,12 +96,12 @@ module _ (c : Config) (i : Image) (k : Calls) (seats : List (Option Seat)) (stor
         ap (commits c here t) (the_task t s there) ∙ ap (commits_scan c here t (task_in c t s)) (open_scan is) ∙ ap (commits_ended c here t (task_in c t s) (state_of (kept_of c t st))) going
 
     -- Start
-    pub start_is : (new : Stored) → is_some s.tickets ≡ false → state_of (kept_of c t new) ≡ scan_begins c t (beginning_of (group_by c i k seats) (task_in c t s))
-        → happens c here (Start t) ≡ Ok (world_by c i k (slice_set seats t (Some (record { variables = s.variables; tickets = Some (map ticket_of k.slots) }))) (slice_set stores t (Some new)) desk hand, Started)
+    pub start_is : (new : Stored) → is_some s.tickets ≡ false → state_of (kept_of c t new) ≡ scan_begins c t (beginning_of (group_by c i k g seats) (task_in c t s))
+        → happens c here (Start t) ≡ Ok (world_by c i k g (slice_set seats t (Some (record { variables = s.variables; tickets = Some (map ticket_of k.slots) }))) (slice_set stores t (Some new)) desk hand, Started)
     unfolding happens
     start_is new is begins =
         ap (starts c here t) (the_task t s there) ∙ ap (starts_from c here t (task_in c t s)) (no_scan is)
-        ∙ ap (λ ts. left ts (slice_set here.scans t (Some (scan_begins c t (beginning_of (group_by c i k seats) (task_in c t s)))))) (sym (task_put c seats t seat))
+        ∙ ap (λ ts. left ts (slice_set here.scans t (Some (scan_begins c t (beginning_of (group_by c i k g seats) (task_in c t s)))))) (sym (task_put c seats t seat))
         ∙ ap (λ scan. left (tasks_now) (slice_set here.scans t (Some scan))) (sym begins)
         ∙ ap (left tasks_now) (sym (scan_put c seats stores t seat new many))
       where
@@ -109,36 +109,36 @@ module _ (c : Config) (i : Image) (k : Calls) (seats : List (Option Seat)) (stor
         seat = record { variables = s.variables; tickets = Some (map ticket_of k.slots) }
 
         tasks_now : List (Option TaskState)
-        tasks_now = (group_by c i k (slice_set seats t (Some seat))).tasks
+        tasks_now = (group_by c i k g (slice_set seats t (Some seat))).tasks
 
         left : List (Option TaskState) → List (Option State) → Result (World × Reply) Halt
-        left ts scans = Ok (record { group = record { image = i; calls = k; globals = here.group.globals; tasks = ts }; scans = scans; desk = desk; hand = hand }, Started)
+        left ts scans = Ok (record { group = record { image = i; calls = k; globals = g; tasks = ts }; scans = scans; desk = desk; hand = hand }, Started)
 
     -- Instruction
     pub instruction_is : (new : Stored) → is_some s.tickets ≡ true → has_ended (state_of (kept_of c t st)) ≡ false → step c (state_of (kept_of c t st)) ≡ Next (state_of (kept_of c t new))
-        → happens c here (Instruction t) ≡ Ok (world_by c i k seats (slice_set stores t (Some new)) desk hand, reply_to (state_of (kept_of c t new)))
+        → happens c here (Instruction t) ≡ Ok (world_by c i k g seats (slice_set stores t (Some new)) desk hand, reply_to (state_of (kept_of c t new)))
     unfolding happens
     instruction_is new is going steps =
         ap (instructs c here t) (the_task t s there) ∙ ap (instructs_in c here t) (open_scan is) ∙ ap (instructs_scan c here t (state_of (kept_of c t st))) going ∙ ap (stepped here t) steps
         ∙ ap (λ scans. Ok (record { group = here.group; scans = scans; desk = desk; hand = hand }, reply_to (state_of (kept_of c t new)))) (sym scans_now)
       where
-        scans_now : (world_by c i k seats (slice_set stores t (Some new)) desk hand).scans ≡ slice_set here.scans t (Some (state_of (kept_of c t new)))
+        scans_now : (world_by c i k g seats (slice_set stores t (Some new)) desk hand).scans ≡ slice_set here.scans t (Some (state_of (kept_of c t new)))
         scans_now =
-            ap (λ ss. (world_by c i k ss (slice_set stores t (Some new)) desk hand).scans) (sym (set_same seats t (Some s) (flat_some _ s there)))
+            ap (λ ss. (world_by c i k g ss (slice_set stores t (Some new)) desk hand).scans) (sym (set_same seats t (Some s) (flat_some _ s there)))
             ∙ scan_put c seats stores t s new many ∙ ap (λ b. slice_set here.scans t (if b then Some (state_of (kept_of c t new)) else None)) is
 
     -- Commit
-    pub commit_is : (tickets : List (Option ℕ)) (v : Rows) (image : Image) (calls : Calls) (report : Report) → s.tickets ≡ Some tickets → has_ended (state_of (kept_of c t st)) ≡ true
-        → committed_group c (group_by c i k seats) t (task_in c t s) tickets (state_of (kept_of c t st)).values ≡ (group_by c image calls (slice_set seats t (Some (record { variables = v; tickets = None }))), report)
-        → happens c here (Commit t) ≡ Ok (world_by c image calls (slice_set seats t (Some (record { variables = v; tickets = None }))) stores desk hand, Committed report)
+    pub commit_is : (tickets : List (Option ℕ)) (v : Rows) (image : Image) (calls : Calls) (globals : Values) (report : Report) → s.tickets ≡ Some tickets → has_ended (state_of (kept_of c t st)) ≡ true
+        → committed_group c (group_by c i k g seats) t (task_in c t s) tickets (state_of (kept_of c t st)).values ≡ (group_by c image calls globals (slice_set seats t (Some (record { variables = v; tickets = None }))), report)
+        → happens c here (Commit t) ≡ Ok (world_by c image calls globals (slice_set seats t (Some (record { variables = v; tickets = None }))) stores desk hand, Committed report)
     unfolding happens
-    commit_is tickets v image calls report saw ended commits_to =
+    commit_is tickets v image calls globals report saw ended commits_to =
         ap (commits c here t) (the_task t s there) ∙ ap (commits_scan c here t (task_in c t s)) (open_scan (ap is_some saw)) ∙ ap (commits_ended c here t (task_in c t s) (state_of (kept_of c t st))) ended
-        ∙ ap (λ o. told (committed_group c (group_by c i k seats) t (task_in c t s) (saw_by o) (state_of (kept_of c t st)).values)) saw
+        ∙ ap (λ o. told (committed_group c (group_by c i k g seats) t (task_in c t s) (saw_by o) (state_of (kept_of c t st)).values)) saw
         ∙ ap told commits_to ∙ ap (λ scans. Ok (record { group = after; scans = scans; desk = desk; hand = hand }, Committed report)) (sym scans_now)
       where
         after : Group
-        after = group_by c image calls (slice_set seats t (Some (record { variables = v; tickets = None })))
+        after = group_by c image calls globals (slice_set seats t (Some (record { variables = v; tickets = None })))
 
         saw_by : Option (List (Option ℕ)) → List (Option ℕ)
         saw_by None = []
@@ -147,20 +147,20 @@ module _ (c : Config) (i : Image) (k : Calls) (seats : List (Option Seat)) (stor
         told : Group × Report → Result (World × Reply) Halt
         told committed = Ok (record { group = committed.0; scans = slice_set here.scans t None; desk = desk; hand = hand }, Committed committed.1)
 
-        scans_now : (world_by c image calls (slice_set seats t (Some (record { variables = v; tickets = None }))) stores desk hand).scans ≡ slice_set here.scans t None
+        scans_now : (world_by c image calls globals (slice_set seats t (Some (record { variables = v; tickets = None }))) stores desk hand).scans ≡ slice_set here.scans t None
         scans_now =
-            ap (λ ss. (world_by c image calls (slice_set seats t (Some (record { variables = v; tickets = None }))) ss desk hand).scans) (sym (set_same stores t (Some st) (flat_some _ st kept)))
+            ap (λ ss. (world_by c image calls globals (slice_set seats t (Some (record { variables = v; tickets = None }))) ss desk hand).scans) (sym (set_same stores t (Some st) (flat_some _ st kept)))
             ∙ scan_put c seats stores t (record { variables = v; tickets = None }) st many
 
   -- Refresh
   pub refresh_is : (fields : Fields) (image : Image) (calls : Calls) (after : List Call) (report : Report) → fields_in_range (sizes_of c) fields ≡ true
-      → refreshed_group (group_by c i k seats) fields hand ≡ (group_by c image calls seats, report) → after ≡ (enter_all k [] hand).hand
-      → happens c here (Refresh fields) ≡ Ok (world_by c image calls seats stores desk after, Refreshed report)
+      → refreshed_group (group_by c i k g seats) fields hand ≡ (group_by c image calls g seats, report) → after ≡ (enter_all k [] hand).hand
+      → happens c here (Refresh fields) ≡ Ok (world_by c image calls g seats stores desk after, Refreshed report)
   unfolding happens
   refresh_is fields image calls after report inside refreshed left =
       ap (refreshes here fields) inside
       ∙ ap (λ (r : Group × Report). Ok (record { group = r.0; scans = here.scans; desk = desk; hand = (enter_all k [] hand).hand }, Refreshed r.1)) refreshed
-      ∙ ap (λ h. Ok (record { group = group_by c image calls seats; scans = here.scans; desk = desk; hand = h }, Refreshed report)) (sym left)
+      ∙ ap (λ h. Ok (record { group = group_by c image calls g seats; scans = here.scans; desk = desk; hand = h }, Refreshed report)) (sym left)
 
 -- ANY WORLD
 

@@ -1,6 +1,6 @@
 -- What each phase's refusal says of the text.
 use Rattle.std.proofs.Common.{◌≡◌, ℕ, ◌<◌, ◌≤◌, List, length, arith, sym, subst, ap, inl, inr, Result, Ok, Err}
-use Rattle.std.specs.Prelude.{IsErrAnd, IfErr}
+use Rattle.std.specs.Prelude.{IsErrAnd, IfOk, IfErr}
 use Rattle.std.proofs.lemmas.Bool.{cases_lt}
 use Rattle.il_spec.specs.declared.fault.Refusal.{Refusal}
 use Rattle.il_spec.specs.declared.fault.Refusal.TheVariants.{Fault, Memory}
@@ -14,6 +14,15 @@ use Rattle.lift_world.specs.Loading.{IsSpelled, IsRefusedFor, SpellsNone, of_tex
 pub handed_as : {X : Type 0} (P : Refusal → Type 0) (e : Refusal) (r : Result X Refusal) → IsErrAnd r (λ d. d ≡ e) → P e → IfErr r P
 handed_as {X} P e (Ok x) same is = absurd same
 handed_as {X} P e (Err d) same is = subst P (sym same) is
+
+-- what an answer says, said otherwise
+pub if_ok : {X E : Type 0} (P Q : X → Type 0) (r : Result X E) → ((x : X) → P x → Q x) → IfOk r P → IfOk r Q
+if_ok P Q (Ok x) goes is = goes x is
+if_ok P Q (Err e) goes is = tt
+
+pub if_err : {X E : Type 0} (P Q : E → Type 0) (r : Result X E) → ((e : E) → P e → Q e) → IfErr r P → IfErr r Q
+if_err P Q (Ok x) goes is = tt
+if_err P Q (Err e) goes is = goes e is
 
 -- a fault of the tree
 pub explained_by_tree : (text : List ℕ) (c : Config) (e : Refusal) → IsSpelled text c → IsRefusedFor c e → IsExplained text e

@@ -3,10 +3,10 @@ use Rattle.std.proofs.Common.{◌≡◌, ℕ, zero, suc, ◌≤◌, ◌+◌, tru
 use Rattle.std.specs.Prelude.{slice_get, slice_set, is_some}
 use Rattle.std.proofs.lemmas.List.{append_assoc}
 use Rattle.il_spec.specs.declared.tree.Config.{Config}
-use Rattle.il_run.specs.State.{Frame, State}
+use Rattle.il_run.specs.State.{Values, Frame, State}
 use Rattle.il_run.specs.Step.{Next, Stuck, step, step_of}
 use Rattle.il_run.specs.Scan.{Reaches, has_ended}
-use Rattle.il_machine.specs.Going.{Stored}
+use Rattle.il_exec.specs.Going.{Stored}
 use Rattle.il_machine.specs.Scanning.{kept_of, state_of}
 use Rattle.lift_spec.specs.declared.event.Event.TheVariants.{Instruction}
 use Rattle.lift_spec.specs.declared.calls.Call.{Call}
@@ -34,13 +34,13 @@ scans_length c n [] (k ∷ stores) many = absurd (omega (arith, many))
 scans_length c n (s ∷ seats) [] many = absurd (omega (arith, many))
 scans_length c n (s ∷ seats) (k ∷ stores) many = ap suc (scans_length c (n + 1) seats stores (omega (arith, many)))
 
-module _ (c : Config) (i : Image) (k : Calls) (seats : List (Option Seat)) (stores : List (Option Stored)) (desk hand : List Call) (t : ℕ) (s : Seat) (many : length stores ≡ length seats) (there : flat (slice_get seats t) ≡ Some s) where
+module _ (c : Config) (i : Image) (k : Calls) (g : Values) (seats : List (Option Seat)) (stores : List (Option Stored)) (desk hand : List Call) (t : ℕ) (s : Seat) (many : length stores ≡ length seats) (there : flat (slice_get seats t) ≡ Some s) where
   abbrev scans : List (Option State)
   scans = scans_in c 0 seats stores
 
   -- the world, where the scan of the task stands so
   abbrev at : State → World
-  at x = record { group = group_by c i k seats; scans = slice_set scans t (Some x); desk = desk; hand = hand }
+  at x = record { group = group_by c i k g seats; scans = slice_set scans t (Some x); desk = desk; hand = hand }
 
   found : (x : State) → flat (slice_get (slice_set scans t (Some x)) t) ≡ Some x
   found x = set_there scans t x (let below = within seats t s there in let n = scans_length c 0 seats stores many in omega (arith, below, n))
@@ -48,8 +48,8 @@ module _ (c : Config) (i : Image) (k : Calls) (seats : List (Option Seat)) (stor
   one : (x m : State) → step c x ≡ Next m → happens c (at x) (Instruction t) ≡ Ok (at m, reply_to m)
   unfolding happens
   one x m is =
-      ap (instructs c (at x) t) (the_task c i k seats stores desk hand t s there) ∙ ap (instructs_in c (at x) t) (found x) ∙ ap (instructs_scan c (at x) t x) (unended c x m is) ∙ ap (stepped (at x) t) is
-      ∙ ap (λ ss. Ok (record { group = group_by c i k seats; scans = ss; desk = desk; hand = hand }, reply_to m)) (set_again scans t (Some x) (Some m))
+      ap (instructs c (at x) t) (the_task c i k g seats stores desk hand t s there) ∙ ap (instructs_in c (at x) t) (found x) ∙ ap (instructs_scan c (at x) t x) (unended c x m is) ∙ ap (stepped (at x) t) is
+      ∙ ap (λ ss. Ok (record { group = group_by c i k g seats; scans = ss; desk = desk; hand = hand }, reply_to m)) (set_again scans t (Some x) (Some m))
 
   all : (n : ℕ) (x y : State) (earlier : List Reply) → has_ended y ≡ true → Reaches c (suc n) x y → run c (at x) earlier (instructions t (suc n)) ≡ Ok (at y, earlier ++ up_to_end (suc n))
   all zero x y earlier ended (mid, first, last) =
@@ -65,18 +65,18 @@ module _ (c : Config) (i : Image) (k : Calls) (seats : List (Option Seat)) (stor
   some_steps (suc n) x y some ended reaches = all n x y [] ended reaches
 
   -- the world with this store is that whose scan stands there
-  put : (st : Stored) → is_some s.tickets ≡ true → (world_by c i k seats (slice_set stores t (Some st)) desk hand).scans ≡ slice_set scans t (Some (state_of (kept_of c t st)))
+  put : (st : Stored) → is_some s.tickets ≡ true → (world_by c i k g seats (slice_set stores t (Some st)) desk hand).scans ≡ slice_set scans t (Some (state_of (kept_of c t st)))
   put st busy =
-      ap (λ ss. (world_by c i k ss (slice_set stores t (Some st)) desk hand).scans) (sym (set_same seats t (Some s) (flat_some _ s there)))
+      ap (λ ss. (world_by c i k g ss (slice_set stores t (Some st)) desk hand).scans) (sym (set_same seats t (Some s) (flat_some _ s there)))
       ∙ scan_put c seats stores t s st many ∙ ap (λ b. slice_set scans t (if b then Some (state_of (kept_of c t st)) else None)) busy
 
   -- an open scan of a world runs to its end
   pub finishes : (st : Stored) (after : Option Stored) (n : ℕ) (out : RunsOut c t st after n) → is_some s.tickets ≡ true → flat (slice_get stores t) ≡ Some st
-      → run c (world_by c i k seats stores desk hand) [] (instructions t n) ≡ Ok (world_by c i k seats (slice_set stores t after) desk hand, up_to_end n)
+      → run c (world_by c i k g seats stores desk hand) [] (instructions t n) ≡ Ok (world_by c i k g seats (slice_set stores t after) desk hand, up_to_end n)
   finishes st after n out busy kept =
       let end = state_of (kept_of c t out.store) in
-      ap (λ ss. run c (record { group = group_by c i k seats; scans = (world_by c i k seats ss desk hand).scans; desk = desk; hand = hand }) [] (instructions t n)) (sym (set_same stores t (Some st) (flat_some _ st kept)))
-      ∙ ap (λ ss. run c (record { group = group_by c i k seats; scans = ss; desk = desk; hand = hand }) [] (instructions t n)) (put st busy)
+      ap (λ ss. run c (record { group = group_by c i k g seats; scans = (world_by c i k g seats ss desk hand).scans; desk = desk; hand = hand }) [] (instructions t n)) (sym (set_same stores t (Some st) (flat_some _ st kept)))
+      ∙ ap (λ ss. run c (record { group = group_by c i k g seats; scans = ss; desk = desk; hand = hand }) [] (instructions t n)) (put st busy)
       ∙ some_steps n (state_of (kept_of c t st)) end out.some (ended_so (kept_of c t out.store) out.ended) out.steps
-      ∙ ap (λ ss. Ok (record { group = group_by c i k seats; scans = ss; desk = desk; hand = hand }, up_to_end n)) (sym (put out.store busy))
-      ∙ ap (λ o. Ok (world_by c i k seats (slice_set stores t o) desk hand, up_to_end n)) (sym out.is)
+      ∙ ap (λ ss. Ok (record { group = group_by c i k g seats; scans = ss; desk = desk; hand = hand }, up_to_end n)) (sym (put out.store busy))
+      ∙ ap (λ o. Ok (world_by c i k g seats (slice_set stores t o) desk hand, up_to_end n)) (sym out.is)

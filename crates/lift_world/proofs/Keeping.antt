@@ -2,22 +2,27 @@
 use Rattle.std.proofs.Common.{◌≡◌, ℕ, inl, inr, List, length, Option, Some, sym, ap, ◌∙◌, subst}
 use Rattle.std.specs.Prelude.{slice_get, slice_set, is_some}
 use Rattle.il_spec.specs.declared.tree.Config.{Config}
-use Rattle.il_code.specs.Layout.{Rows}
-use Rattle.il_machine.specs.Going.{Stored}
+use Rattle.il_slots.specs.Layout.{Rows}
+use Rattle.il_exec.specs.Going.{Stored}
 use Rattle.il_machine.specs.Scanning.{IsScanOf, OwnsDeclared, FitsOwn, variables_in}
 use Rattle.lift_spec.specs.World.{flat}
 use Rattle.lift_world.specs.declared.shared.Core.{Core}
 use Rattle.lift_world.specs.declared.shared.Seat.{Seat}
-use Rattle.lift_world.specs.Running.{seat_at, with_seat, SeatsFit, StoresFit}
+use Rattle.lift_world.specs.Running.{seat_at, with_seat, SeatsFit, CoreFits, StoresFit}
+use Rattle.il_machine.specs.Sharing.{FitsGlobals}
 use Rattle.lift_world.proofs.Views.{length_set, after_set, there_set}
 
 -- the rows fit once a task has others that do
-pub seats_put : (c : Config) (k after : Core) (t : ℕ) (v : Rows) (tickets : Option (List (Option ℕ))) → SeatsFit c k → after.seats.items ≡ with_seat k t v tickets → FitsOwn c t v → OwnsDeclared c (variables_in c t v) → SeatsFit c after
+pub seats_put : (c : Config) (k after : Core) (t : ℕ) (v : Rows) (tickets : Option (List (Option ℕ))) → SeatsFit c k → after.seats.items ≡ with_seat k t v tickets → FitsOwn c t v → OwnsDeclared c t (variables_in c t v) → SeatsFit c after
 seats_put c k after t v tickets before put fits own j s there =
     elim (after_set k.seats.items t j (record { variables = v; tickets = tickets }) s (ap (λ l. flat (slice_get l j)) (sym put) ∙ there)) [
-      | inl now ↦ subst (λ (x : Seat). FitsOwn c j x.variables × OwnsDeclared c (variables_in c j x.variables)) now.1 (subst (λ n. FitsOwn c n v × OwnsDeclared c (variables_in c n v)) (sym now.0) (fits, own))
+      | inl now ↦ subst (λ (x : Seat). FitsOwn c j x.variables × OwnsDeclared c j (variables_in c j x.variables)) now.1 (subst (λ n. FitsOwn c n v × OwnsDeclared c n (variables_in c n v)) (sym now.0) (fits, own))
       | inr was ↦ before j s was
     ]
+
+-- and so do all rows, once the globals have others that do
+pub rows_put : (c : Config) (k after : Core) (t : ℕ) (v : Rows) (tickets : Option (List (Option ℕ))) → CoreFits c k → after.seats.items ≡ with_seat k t v tickets → FitsOwn c t v → OwnsDeclared c t (variables_in c t v) → FitsGlobals c after.globals → CoreFits c after
+rows_put c k after t v tickets before put fits own globals = record { seats = seats_put c k after t v tickets before.seats put fits own; globals = globals }
 
 -- the same rows fit
 pub seats_same : (c : Config) (k after : Core) → SeatsFit c k → after.seats ≡ k.seats → SeatsFit c after

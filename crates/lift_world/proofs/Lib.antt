@@ -1,9 +1,6 @@
 pub mod Explaining
-pub mod Costs
-pub mod Naming
 pub mod Accepting
 pub mod Runs
-pub mod Tasking
 pub mod Sound
 pub mod Views
 pub mod Events

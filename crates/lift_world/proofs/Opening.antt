@@ -1,23 +1,24 @@
 -- The opening tasks and stores.
-use Rattle.std.proofs.Common.{◌≡◌, ℕ, zero, suc, ◌+◌, ◌⊎◌, inl, inr, ap₂, ◌≤◌, ◌<◌, ℤ, Bool, true, List, [], ◌∷◌, ◌++◌, length, Option, Some, None, refl, sym, ap, ◌∙◌, subst, arith, if◌then◌else◌}
+use Rattle.std.proofs.Common.{◌≡◌, ℕ, zero, suc, ◌+◌, ◌⊎◌, inl, inr, ap₂, ◌≤◌, ◌<◌, ℤ, pos, negsuc, ◌≤ℤ◌, Bool, true, List, [], ◌∷◌, ◌++◌, length, Option, Some, None, refl, sym, ap, ◌∙◌, subst, arith, if◌then◌else◌}
 use Rattle.std.specs.Prelude.{slice_get, slice_set, is_some, nat_abs, replicate}
 use Rattle.il_spec.specs.declared.tree.Config.{Config}
 use Rattle.il_spec.specs.declared.tree.Unit.{Unit as Organized}
-use Rattle.il_rules.specs.Symbols.{IsProgram}
 use Rattle.il_run.specs.State.{Values}
 use Rattle.il_run.specs.Scan.{opening_variables}
-use Rattle.il_code.specs.Layout.{Rows}
-use Rattle.il_machine.specs.Going.{Stored}
-use Rattle.il_machine.specs.Scanning.{IsRunnable, IsWithin, IsScanOf, FitsOwn, OwnsDeclared, variables_in, kept_of, state_of}
-use Rattle.il_machine.proofs.Codes.{task_is}
+use Rattle.il_slots.specs.Layout.{Rows}
+use Rattle.il_exec.specs.Going.{Stored}
+use Rattle.il_machine.specs.Scanning.{IsRunnable, IsScanOf, HasTask, FitsOwn, OwnsDeclared, variables_in, kept_of, state_of}
+use Rattle.il_machine.proofs.Sizes.{cars_within, floors_within, slots_within}
 use Rattle.lift_spec.specs.Image.{sizes_of}
 use Rattle.lift_spec.specs.Snapshot.{program_of, has_task}
 use Rattle.lift_spec.specs.World.{Group, TaskState, flat, opening, opening_group, opening_task, opening_tasks_from}
 use Rattle.std.proofs.lemmas.List.{length-append}
 use Rattle.std.proofs.lemmas.Bool.{cases_eq, cases_lt}
+use Rattle.std.proofs.lemmas.Int.{ints}
 use Rattle.lift_world.specs.declared.shared.Seat.{Seat}
 use Rattle.lift_world.specs.declared.shared.Core.{Core}
 use Rattle.lift_world.specs.Running.{seat_at, task_in, seated, tasks_in, scanned, scans_in, group_in, world_by, StoresFit}
+use Rattle.il_machine.specs.Sharing.{globals_in}
 use Rattle.lift_world.proofs.Views.{after_set, flat_of, task_here, beyond}
 
 -- a task that is there has a program
@@ -26,14 +27,15 @@ there_is None e = cc
 there_is (Some x) e = (x, refl)
 
 -- a task whose rows hold the opening variables opens so
-pub seat_opens : (c : Config) (runs : IsRunnable c) (t : ℕ) (v : Rows) → has_task c t ≡ true → ((u : Organized) → IsProgram c u → variables_in c t v ≡ opening_variables c u)
+pub seat_opens : (c : Config) (t : ℕ) (v : Rows) → has_task c t ≡ true → ((u : Organized) → program_of c t ≡ Some u → variables_in c t v ≡ opening_variables c u)
     → Some (task_in c t (record { variables = v; tickets = None })) ≡ opening_task c (program_of c t)
-seat_opens c runs t v there opens =
+seat_opens c t v there opens =
     let found = there_is (program_of c t) there in
-    let u = runs.checked.resolved.program in
-    let same = task_is c u runs.checked.resolved.is t found.0 found.1 in
-    ap (λ (m : Values). Some (record { variables = m; tickets = None })) (opens u runs.checked.resolved.is)
-    ∙ ap (λ o. opening_task c o) (ap Some (sym same)) ∙ ap (opening_task c) (sym found.1)
+    ap (λ (m : Values). Some (record { variables = m; tickets = None })) (opens found.0 found.1) ∙ ap (opening_task c) (sym found.1)
+
+-- a number that is a task's is a task of the group
+pub task_there : (c : Config) (t : ℕ) → t ≤ (sizes_of c).cars → has_task c t ≡ true → HasTask c t
+task_there c t few there = let found = there_is (program_of c t) there in (found.0, record { within = few; program = found.1 })
 
 -- ONE MORE
 
@@ -73,37 +75,15 @@ seats_more c seats o t as_many so_far next =
     tasks_more c 0 seats o ∙ ap₂ (λ ts n. ts ++ seated c n o ∷ []) so_far many ∙ ap (λ s. opening_tasks_from c 0 t ++ s ∷ []) next
     ∙ ap (λ m. opening_tasks_from c 0 t ++ opening_task c (program_of c m) ∷ []) (sym here) ∙ sym (opening_more c 0 t) ∙ ap (opening_tasks_from c 0) (sym e)
 
-pub fits_more : (c : Config) (seats : List (Option Seat)) (o : Option Seat) (n : ℕ) → length seats ≡ n
-    → ((t : ℕ) (s : Seat) → flat (slice_get seats t) ≡ Some s → FitsOwn c t s.variables × OwnsDeclared c (variables_in c t s.variables))
-    → ((s : Seat) → o ≡ Some s → FitsOwn c n s.variables × OwnsDeclared c (variables_in c n s.variables))
-    → (t : ℕ) (s : Seat) → flat (slice_get (seats ++ o ∷ []) t) ≡ Some s → FitsOwn c t s.variables × OwnsDeclared c (variables_in c t s.variables)
-fits_more c seats o n many so_far next t s e =
-    elim (last_or_before seats o t s e) [
-      | inl before ↦ so_far t s before
-      | inr here ↦ subst (λ k. FitsOwn c k s.variables × OwnsDeclared c (variables_in c k s.variables)) (sym (here.0 ∙ many)) (next s here.1)
-    ]
-
 -- THE SIZES OF A GROUP
 
 -- a number within limits, as a size
-sized : (lo hi : ℕ) (z : ℤ) → IsWithin lo hi z → (lo ≤ nat_abs z) × (nat_abs z ≤ hi)
-sized lo hi z h = (subst (λ n. lo ≤ n) (sym (ap nat_abs h.is)) h.least, subst (λ n. n ≤ hi) (sym (ap nat_abs h.is)) h.most)
+sized : (lo hi : ℕ) (z : ℤ) → (pos lo ≤ℤ z) × (z ≤ℤ pos hi) → (lo ≤ nat_abs z) × (nat_abs z ≤ hi)
+sized lo hi (pos n) h = (omega (arith, ints, h.0), omega (arith, ints, h.1))
+sized lo hi (negsuc n) h = absurd (omega (arith, ints, h.0))
 
 pub sizes_fit : (c : Config) (runs : IsRunnable c) → ((1 ≤ (sizes_of c).cars) × ((sizes_of c).cars ≤ 8)) × ((2 ≤ (sizes_of c).floors) × ((sizes_of c).floors ≤ 16)) × ((1 ≤ (sizes_of c).slots) × ((sizes_of c).slots ≤ 64))
-sizes_fit c runs =
-    let one = ap nat_abs runs.sizes.cars in
-    ((omega (arith, one), omega (arith, one)), sized 2 16 c.floors.value runs.sizes.floors, sized 1 64 c.slots.value runs.sizes.slots)
-
--- the seats still fit once one was closed
-pub fits_set : (c : Config) (seats : List (Option Seat)) (k : ℕ) (v : Rows)
-    → ((t : ℕ) (s : Seat) → flat (slice_get seats t) ≡ Some s → FitsOwn c t s.variables × OwnsDeclared c (variables_in c t s.variables))
-    → FitsOwn c k v → OwnsDeclared c (variables_in c k v)
-    → (t : ℕ) (s : Seat) → flat (slice_get (slice_set seats k (Some (record { variables = v; tickets = None }))) t) ≡ Some s → FitsOwn c t s.variables × OwnsDeclared c (variables_in c t s.variables)
-fits_set c seats k v before fits own t s there =
-    elim (after_set seats k t (record { variables = v; tickets = None }) s there) [
-      | inl now ↦ subst (λ (x : Seat). FitsOwn c t x.variables × OwnsDeclared c (variables_in c t x.variables)) now.1 (subst (λ n. FitsOwn c n v × OwnsDeclared c (variables_in c n v)) (sym now.0) (fits, own))
-      | inr was ↦ before t s was
-    ]
+sizes_fit c runs = (sized 1 8 c.cars.value (cars_within c runs.declared), sized 2 16 c.floors.value (floors_within c runs.declared), sized 1 64 c.slots.value (slots_within c runs.declared))
 
 -- STORES
 
@@ -160,7 +140,7 @@ all_idle c n (suc k) (s ∷ seats) (st ∷ stores) e many =
     ap₂ (λ o os. o ∷ os) (idle c n s (program_of c n) st first) (all_idle c (n + 1) k seats stores rest (omega (arith, many)))
 
 -- the group as it opens, with a store for each task, is the opening world
-pub world_opens : (c : Config) (k : Core) (stores : List (Option Stored)) → group_in c k ≡ opening_group c → length stores ≡ suc (sizes_of c).cars → world_by c k.image k.calls k.seats.items stores [] [] ≡ opening c
+pub world_opens : (c : Config) (k : Core) (stores : List (Option Stored)) → group_in c k ≡ opening_group c → length stores ≡ suc (sizes_of c).cars → world_by c k.image k.calls (globals_in c k.globals) k.seats.items stores [] [] ≡ opening c
 unfolding opening
 world_opens c k stores group many =
     ap₂ (λ (g : Group) ss. record { group = g; scans = ss; desk = []; hand = [] }) group (all_idle c 0 (suc (sizes_of c).cars) k.seats.items stores (ap (λ (g : Group). g.tasks) group) many)

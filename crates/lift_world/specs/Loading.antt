@@ -4,9 +4,7 @@ use Rattle.il_spec.specs.declared.fault.Refusal.{Refusal}
 use Rattle.il_spec.specs.declared.fault.Refusal.TheVariants.{Fault, Memory}
 use Rattle.il_spec.specs.declared.tree.Config.{Config}
 use Rattle.il_spec.specs.Grammar.{Spells, IsWithinLimits}
-use Rattle.il_rules.specs.Subset.{IsSupported, BreaksInSubset}
 use Rattle.il_rules.specs.Faults.{IsRefusedBy, BreaksDeclarations, Typing, Ordering, HasNoFault, Broken}
-use Rattle.il_stage.specs.Stage.{IsLater}
 use Rattle.il_run.specs.Annotation.{Annotated}
 use Rattle.il_ranges.specs.Unannotated.{IsUnannotatedBy}
 use Rattle.il_budget.specs.Costs.{IsTooLong}
@@ -16,11 +14,10 @@ pub record IsSpelled (text : List ℕ) (c : Config) : Type 0 where
   pub spelled : Spells text c
   pub limits : IsWithinLimits text c
 
--- And none of its rules is broken, each instruction of its units has ranges, none of its units costs too much, and it is of the subset that is run so far.
+-- And none of its rules is broken, each instruction of its units has ranges, and none of its units costs too much.
 pub record IsAccepted (text : List ℕ) (c : Config) : Type 0 where
   pub spelled : IsSpelled text c
-  pub supported : IsSupported c
-  pub declared : HasNoFault (BreaksInSubset c)
+  pub declared : HasNoFault (BreaksDeclarations c)
   pub typed : HasNoFault (Broken Typing c)
   pub ordered : HasNoFault (Broken Ordering c)
   pub annotated : Annotated c
@@ -33,16 +30,15 @@ pub record IsUnbroken (c : Config) : Type 0 where
   pub ordered : HasNoFault (Broken Ordering c)
 
 -- The fault that is named: the first of declarations; where those break nothing, the first of types; then the first of order; where nothing of these is broken, the
--- earliest instruction without ranges; then the first unit that costs too much; and where none does, the first construct or name of the image that is not run yet (90).
+-- earliest instruction without ranges; and then the first unit that costs too much.
 pub data IsRefusedFor (c : Config) (refusal : Refusal) : Type 0 where
   by_declarations : IsRefusedBy (BreaksDeclarations c) refusal → IsRefusedFor c refusal
   by_types : HasNoFault (BreaksDeclarations c) → IsRefusedBy (Broken Typing c) refusal → IsRefusedFor c refusal
   by_order : HasNoFault (BreaksDeclarations c) → HasNoFault (Broken Typing c) → IsRefusedBy (Broken Ordering c) refusal → IsRefusedFor c refusal
   by_ranges : IsUnbroken c → IsUnannotatedBy c refusal → IsRefusedFor c refusal
   by_budgets : IsUnbroken c → Annotated c → IsRefusedBy (IsTooLong c) refusal → IsRefusedFor c refusal
-  by_stage : IsUnbroken c → Annotated c → HasNoFault (IsTooLong c) → IsRefusedBy (IsLater c) refusal → IsRefusedFor c refusal
 
--- The text spells a configuration, and this is the fault of its declarations, types, order, ranges or budgets, or of what is not run yet.
+-- The text spells a configuration, and this is the fault of its declarations, types, order, ranges or budgets.
 abbrev pub IsSpelledWith : List ℕ → Refusal → Type 0
 IsSpelledWith text refusal = (c : Config) × IsSpelled text c × IsRefusedFor c refusal
 

@@ -1,14 +1,16 @@
 -- What a world keeps, as rows and as the world of the definitions (own rules).
-use Rattle.std.specs.Prelude.{◌≡◌, ◌≢◌, ℕ, zero, suc, ◌≤◌, ◌+◌, Bool, false, List, [], ◌∷◌, length, slice_get, slice_set, if◌then◌else◌, Option, Some, None, is_some}
+use Rattle.std.specs.Prelude.{◌≡◌, ◌≢◌, ℕ, zero, suc, ◌≤◌, ◌+◌, Bool, false, List, [], ◌∷◌, length, map, slice_get, slice_set, if◌then◌else◌, Option, Some, None, is_some}
 use Rattle.il_spec.specs.declared.tree.Config.{Config}
-use Rattle.il_run.specs.State.{State}
-use Rattle.il_run.specs.Scan.{Reaches, opening_globals}
-use Rattle.il_machine.specs.Scanning.{IsRunnable, IsScanOf, OwnsDeclared, FitsOwn, variables_in, kept_of, place_of, state_of}
+use Rattle.il_budget.specs.Costs.{cost_of}
+use Rattle.il_run.specs.State.{Values, State}
+use Rattle.il_run.specs.Scan.{Reaches}
+use Rattle.il_machine.specs.Scanning.{IsRunnable, IsScanOf, OwnsDeclared, FitsOwn, variables_in, kept_of, state_of}
+use Rattle.il_machine.specs.Sharing.{globals_in, FitsGlobals}
 use Rattle.il_run.specs.Step.{step, Next}
-use Rattle.il_code.specs.Layout.{Rows}
-use Rattle.il_machine.specs.Going.{Stored}
-use Rattle.il_machine.specs.Costs.{AreCosts}
-use Rattle.lift_spec.specs.World.{World, Group, TaskState, flat}
+use Rattle.il_slots.specs.Layout.{Rows}
+use Rattle.il_exec.specs.Going.{Stored}
+use Rattle.lift_spec.specs.Image.{sizes_of}
+use Rattle.lift_spec.specs.World.{World, Group, TaskState, flat, committed_group}
 use Rattle.lift_spec.specs.declared.image.Image.{Image}
 use Rattle.lift_spec.specs.declared.calls.Call.{Call}
 use Rattle.lift_spec.specs.declared.calls.Slot.{Slot}
@@ -120,11 +122,11 @@ tasks_in c t [] = []
 tasks_in c t (s ∷ seats) = seated c t s ∷ tasks_in c (t + 1) seats
 
 -- the group of the definitions, by its parts
-abbrev pub group_by : Config → Image → Calls → List (Option Seat) → Group
-group_by c image calls seats = record { image = image; calls = calls; globals = opening_globals c; tasks = tasks_in c 0 seats }
+abbrev pub group_by : Config → Image → Calls → Values → List (Option Seat) → Group
+group_by c image calls globals seats = record { image = image; calls = calls; globals = globals; tasks = tasks_in c 0 seats }
 
 abbrev pub group_in : Config → Core → Group
-group_in c k = group_by c k.image k.calls k.seats.items
+group_in c k = group_by c k.image k.calls (globals_in c k.globals) k.seats.items
 
 -- SCANS
 
@@ -143,17 +145,22 @@ scans_in c t (s ∷ seats) (k ∷ stores) = scanned c t s k ∷ scans_in c (t + 
 -- THE WORLD
 
 -- the world of the definitions, by its parts
-abbrev pub world_by : Config → Image → Calls → List (Option Seat) → List (Option Stored) → List Call → List Call → World
-world_by c image calls seats stores desk hand = record { group = group_by c image calls seats; scans = scans_in c 0 seats stores; desk = desk; hand = hand }
+abbrev pub world_by : Config → Image → Calls → Values → List (Option Seat) → List (Option Stored) → List Call → List Call → World
+world_by c image calls globals seats stores desk hand = record { group = group_by c image calls globals seats; scans = scans_in c 0 seats stores; desk = desk; hand = hand }
 
 abbrev pub world_of : Controller → World
-world_of w = world_by w.verified.config w.core.image w.core.calls w.core.seats.items w.stores.items w.desk w.hand
+world_of w = world_by w.verified.config w.core.image w.core.calls (globals_in w.verified.config w.core.globals) w.core.seats.items w.stores.items w.desk w.hand
 
 -- WHAT HOLDS OF IT
 
 -- each task that is there has a row for each of its variables, each with a value of its declared set
 abbrev pub SeatsFit : Config → Core → Type 0
-SeatsFit c k = (t : ℕ) (s : Seat) → seat_at k t ≡ Some s → FitsOwn c t s.variables × OwnsDeclared c (variables_in c t s.variables)
+SeatsFit c k = (t : ℕ) (s : Seat) → seat_at k t ≡ Some s → FitsOwn c t s.variables × OwnsDeclared c t (variables_in c t s.variables)
+
+-- the rows of what the tasks share fit: those of each task, and those of the globals
+pub record CoreFits (c : Config) (k : Core) : Type 0 where
+  pub seats : SeatsFit c k
+  pub globals : FitsGlobals c k.globals
 
 -- there is a store for each task, of a scan of it
 pub record StoresFit (c : Config) (k : Core) (stores : List (Option Stored)) : Type 0 where
@@ -164,14 +171,30 @@ pub record StoresFit (c : Config) (k : Core) (stores : List (Option Stored)) : T
 -- what holds of every world: some history of events has led to it from the opening world, and its rows fit
 pub record IsWorldOf (w : Controller) : Type 0 where
   pub runnable : IsRunnable w.verified.config
-  pub costs : AreCosts w.verified.config w.verified.config.units w.verified.costs
-  pub seats : SeatsFit w.verified.config w.core
+  pub costs : w.verified.costs ≡ map (cost_of w.verified.config) w.verified.config.units
+  pub rows : CoreFits w.verified.config w.core
   pub stores : StoresFit w.verified.config w.core w.stores.items
   pub reached : IsReached w.verified.config (world_of w)
 
 -- the tasks once one has another variables and tickets
 abbrev pub with_seat : Core → ℕ → Rows → Option (List (Option ℕ)) → List (Option Seat)
 with_seat k t v tickets = slice_set k.seats.items t (Some (record { variables = v; tickets = tickets }))
+
+-- COMMITS
+
+-- a task whose scan is open, with the ticket of each slot
+pub record HasOpenScan (c : Config) (k : Core) (t : ℕ) : Type 0 where
+  pub seat : Seat
+  pub there : seat_at k t ≡ Some seat
+  pub tickets : List (Option ℕ)
+  pub saw : seat.tickets ≡ Some tickets
+  pub each : length tickets ≡ (sizes_of c).slots
+
+-- what the commit of a task leaves, whose scan left these values: the definitions' group and report; the task is between scans, and the rows fit
+pub record Commits (c : Config) (t : ℕ) (before : Core) (values : Values) (after : Core) (report : Report) : Type 0 where
+  pub group : (s : Seat) (tickets : List (Option ℕ)) → seat_at before t ≡ Some s → s.tickets ≡ Some tickets → committed_group c (group_in c before) t (task_in c t s) tickets values ≡ (group_in c after, report)
+  pub closed : (v : Rows) × (after.seats.items ≡ with_seat before t v None)
+  pub fits : CoreFits c after
 
 -- how many slots are free
 abbrev pub free_count : List Slot → ℕ
@@ -201,8 +224,8 @@ pub record Steps (c : Config) (t : ℕ) (before : Stored) (after : Option Stored
   pub is : after ≡ Some store
   pub scan : IsScanOf c t store
   pub step : step c (state_of (kept_of c t before)) ≡ Next (state_of (kept_of c t store))
-  pub more : place_of store.running ≢ None → reply ≡ answer.More
-  pub end : place_of store.running ≡ None → reply ≡ answer.End
+  pub more : (kept_of c t store).frames ≢ [] → reply ≡ answer.More
+  pub end : (kept_of c t store).frames ≡ [] → reply ≡ answer.End
 
 -- so many steps to the end of a task's scan
 pub record RunsOut (c : Config) (t : ℕ) (before : Stored) (after : Option Stored) (n : ℕ) : Type 0 where
@@ -211,4 +234,4 @@ pub record RunsOut (c : Config) (t : ℕ) (before : Stored) (after : Option Stor
   pub scan : IsScanOf c t store
   pub some : 1 ≤ n
   pub steps : Reaches c n (state_of (kept_of c t before)) (state_of (kept_of c t store))
-  pub ended : place_of store.running ≡ None
+  pub ended : (kept_of c t store).frames ≡ []

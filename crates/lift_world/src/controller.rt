@@ -1,9 +1,8 @@
 // A lift group, without its history: what the tasks share, and where their scans stand.
 
-ghost use Rattle.std.specs.Prelude.{◌≡◌, ◌≢◌, ℕ, suc, ◌+◌, ◌≤◌, [], length, map, slice_get, is_some, None, Some, Ok, IfOk, IfErr, IsSome};
-ghost use Rattle.il_spec.specs.declared.fault.Refusal.TheVariants.{Memory};
-ghost use Rattle.il_machine.specs.Going.{Stored};
-ghost use Rattle.il_machine.specs.Scanning.{IsScanOf, kept_of, place_of, state_of};
+ghost use Rattle.std.specs.Prelude.{◌≡◌, ◌≢◌, ℕ, suc, ◌+◌, ◌≤◌, [], length, map, slice_get, is_some, Some, Ok, IfOk, IfErr, IsSome};
+ghost use Rattle.il_exec.specs.Going.{Stored};
+ghost use Rattle.il_machine.specs.Scanning.{IsScanOf, kept_of, state_of};
 ghost use Rattle.lift_spec.specs.Calls.{ticket_of};
 ghost use Rattle.lift_spec.specs.Image.{sizes_of};
 ghost use Rattle.lift_spec.specs.declared.event.EventFault.TheVariants.{NoOpenScan};
@@ -13,19 +12,18 @@ ghost use Rattle.lift_spec.specs.declared.report.Report.{Report as ReportOf};
 ghost use Rattle.lift_spec.specs.Replies.{reply_with};
 ghost use Rattle.lift_spec.specs.Replies as replies;
 ghost use Rattle.lift_spec.specs.World as model;
-ghost use Rattle.lift_world.specs.Running.{seat_at, task_in, group_in, with_seat, Steps, RunsOut, world_of, IsWorldOf, SeatsFit, StoresFit, reports_by, may_report, reporting, instructions, up_to_end};
+ghost use Rattle.lift_world.specs.Running.{seat_at, task_in, group_in, with_seat, Steps, RunsOut, world_of, IsWorldOf, CoreFits, StoresFit, reports_by, may_report, reporting, instructions, up_to_end};
 ghost use Rattle.lift_spec.specs.declared.event.Event.TheVariants as event;
 
 use crate::replies::Replies;
 use crate::shared::Core;
 use il_machine::{Stepped, Store, Verified, scan, step};
-use il_spec::fault::Refusal;
 use lift_image::{Fields, in_range, is_floor};
 use lift_spec::calls::Call;
 use lift_spec::event::{Event, EventFault, Reply};
 use lift_spec::hand::Hand;
 use lift_spec::report::Report;
-use std::alloc::Global;
+use std::alloc::{AllocError, Global};
 
 /// A lift group: its verified configuration, what its tasks share, where each task's scan stands, the calls on the desk and those
 /// in the hand.
@@ -39,11 +37,10 @@ pub struct Controller {
 }
 
 // A store for a task, if the group has it.
-fn opening_store(alloc: Global, verified: &Verified, task: u8) -> Result<Option<Store>, Refusal>
-    requires { task ≤ 8 }
+fn opening_store(alloc: Global, verified: &Verified, task: u8) -> Result<Option<Store>, AllocError>
+    requires { task ≤ (sizes_of verified.now.config).cars }
     ensures there { IfOk result (λ o. is_some o ≡ is_some (program_of verified.now.config task)) }
     ensures scan { IfOk result (λ o. (s : Stored) → o ≡ Some s → IsScanOf verified.now.config task s) }
-    ensures memory { IfErr result (λ e. e ≡ Memory) }
 {
     let _config = verified.config();
     if !verified.has_task(task) {
@@ -57,12 +54,12 @@ fn opening_stores(
     alloc: Global,
     verified: &Verified,
     cars: u8,
-) -> Result<Vec<Option<Store>>, Refusal>
-    requires { cars ≤ 8 }
+) -> Result<Vec<Option<Store>>, AllocError>
+    requires few { cars ≤ 8 }
+    requires all { cars ≡ (sizes_of verified.now.config).cars }
     ensures as_many { IfOk result (λ ss. length ss.items ≡ suc cars) }
     ensures there { IfOk result (λ ss. (t : ℕ) → t ≤ cars → is_some (model.flat (slice_get ss.items t)) ≡ is_some (program_of verified.now.config t)) }
     ensures each { IfOk result (λ ss. (t : ℕ) (s : Stored) → model.flat (slice_get ss.items t) ≡ Some s → IsScanOf verified.now.config t s) }
-    ensures memory { IfErr result (λ e. e ≡ Memory) }
 {
     let mut stores = Vec::new(alloc);
     for task in 0..cars + 1 {
@@ -75,10 +72,10 @@ fn opening_stores(
 fn begin(core: &mut Core, verified: &Verified, task: u8, store: &mut Option<Store>)
     requires there { IsSome (seat_at core.old task) }
     requires kept { IsSome store.old }
-    requires fits { SeatsFit verified.now.config core.old }
+    requires fits { CoreFits verified.now.config core.old }
     requires ranges { model.InRanges verified.now.config (group_in verified.now.config core.old) }
     requires scan { (st : Stored) → store.old ≡ Some st → IsScanOf verified.now.config task st }
-    ensures shared { (core.new.image ≡ core.old.image) × (core.new.calls ≡ core.old.calls) }
+    ensures shared { (core.new.image ≡ core.old.image) × (core.new.calls ≡ core.old.calls) × (core.new.globals ≡ core.old.globals) }
     ensures seats { (s : SeatOf) → seat_at core.old task ≡ Some s → core.new.seats.items ≡ with_seat core.old task s.variables (Some (map ticket_of core.old.calls.slots)) }
     ensures store { (s : SeatOf) → seat_at core.old task ≡ Some s → (st : Stored) × (store.new ≡ Some st) × IsScanOf verified.now.config task st × (state_of (kept_of verified.now.config task st) ≡ scan_begins verified.now.config task (model.beginning_of (group_in verified.now.config core.old) (task_in verified.now.config task s))) }
 {
@@ -91,13 +88,13 @@ fn begin(core: &mut Core, verified: &Verified, task: u8, store: &mut Option<Stor
 fn advance(verified: &Verified, task: u8, store: &mut Option<Store>) -> Reply
     requires kept { IsSome store.old }
     requires scan { (st : Stored) → store.old ≡ Some st → IsScanOf verified.now.config task st }
-    ensures ended { (st : Stored) → store.old ≡ Some st → place_of st.running ≡ None → (result ≡ Reply.Refused NoOpenScan) × (store.new ≡ store.old) }
-    ensures step { (st : Stored) → store.old ≡ Some st → place_of st.running ≢ None → Steps verified.now.config task st store.new result }
+    ensures ended { (st : Stored) → store.old ≡ Some st → (kept_of verified.now.config task st).frames ≡ [] → (result ≡ Reply.Refused NoOpenScan) × (store.new ≡ store.old) }
+    ensures step { (st : Stored) → store.old ≡ Some st → (kept_of verified.now.config task st).frames ≢ [] → Steps verified.now.config task st store.new result }
     ensures plain { reports_by result ≡ 0 }
 {
     match store {
         Some(store) => {
-            if store.has_ended() {
+            if store.has_ended(verified, task) {
                 return Reply::Refused(EventFault::NoOpenScan);
             }
             match step(verified, task, store) {
@@ -113,12 +110,12 @@ fn advance(verified: &Verified, task: u8, store: &mut Option<Store>) -> Reply
 fn run_out(verified: &Verified, task: u8, store: &mut Option<Store>) -> Result<u32, EventFault>
     requires kept { IsSome store.old }
     requires scan { (st : Stored) → store.old ≡ Some st → IsScanOf verified.now.config task st }
-    ensures ended { IfErr result (λ fault. (fault ≡ NoOpenScan) × (store.new ≡ store.old) × ((st : Stored) → store.old ≡ Some st → place_of st.running ≡ None)) }
+    ensures ended { IfErr result (λ fault. (fault ≡ NoOpenScan) × (store.new ≡ store.old) × ((st : Stored) → store.old ≡ Some st → (kept_of verified.now.config task st).frames ≡ [])) }
     ensures steps { IfOk result (λ n. (st : Stored) → store.old ≡ Some st → RunsOut verified.now.config task st store.new n) }
 {
     match store {
         Some(store) => {
-            if store.has_ended() {
+            if store.has_ended(verified, task) {
                 return Err(EventFault::NoOpenScan);
             }
             Ok(scan(verified, task, store))
@@ -135,12 +132,11 @@ struct Opened {
 }
 
 // What a group of a configuration opens with.
-fn opening(alloc: Global, verified: &Verified) -> Result<Opened, Refusal>
+fn opening(alloc: Global, verified: &Verified) -> Result<Opened, AllocError>
     ensures group { IfOk result (λ o. group_in verified.now.config o.core ≡ model.opening_group verified.now.config) }
     ensures many { IfOk result (λ o. length o.stores.items ≡ suc (sizes_of verified.now.config).cars) }
-    ensures seats { IfOk result (λ o. SeatsFit verified.now.config o.core) }
+    ensures rows { IfOk result (λ o. CoreFits verified.now.config o.core) }
     ensures stores { IfOk result (λ o. StoresFit verified.now.config o.core o.stores.items) }
-    ensures memory { IfErr result (λ e. e ≡ Memory) }
 {
     let _config = verified.config();
     let core = Core::new(alloc, verified)?;
@@ -150,13 +146,13 @@ fn opening(alloc: Global, verified: &Verified) -> Result<Opened, Refusal>
 
 impl Controller {
     /// The group as it opens: no scan is open, and no call waits.
-    pub fn new(alloc: Global, verified: Verified) -> Result<Controller, Refusal>
+    pub fn new(alloc: Global, verified: Verified) -> Result<Controller, AllocError>
         ensures same { IfOk result (λ w. w.verified ≡ verified) }
         ensures opening { IfOk result (λ w. world_of w ≡ model.opening verified.config) }
         ensures world { IfOk result IsWorldOf }
-        ensures memory { IfErr result (λ e. e ≡ Memory) }
     {
         let _config = verified.config();
+        let _costs = verified.costs();
         match opening(alloc, &verified) {
             Ok(opened) => Ok(Controller {
                 verified,
@@ -175,7 +171,7 @@ impl Controller {
         ensures model { (r : ReportOf) → model.happens self.old.verified.config (world_of self.old) (event.Start task) ≡ Ok (world_of self.new, reply_with result r) }
         ensures plain { reports_by result ≡ 0 }
         ensures same { self.new.verified ≡ self.old.verified }
-        ensures seats { SeatsFit self.new.verified.config self.new.core }
+        ensures rows { CoreFits self.new.verified.config self.new.core }
         ensures stores { StoresFit self.new.verified.config self.new.core self.new.stores.items }
     {
         if self.core.seat(task).is_none() {
@@ -199,7 +195,7 @@ impl Controller {
         ensures model { (r : ReportOf) → model.happens self.old.verified.config (world_of self.old) (event.Instruction task) ≡ Ok (world_of self.new, reply_with result r) }
         ensures plain { reports_by result ≡ 0 }
         ensures same { self.new.verified ≡ self.old.verified }
-        ensures seats { SeatsFit self.new.verified.config self.new.core }
+        ensures rows { CoreFits self.new.verified.config self.new.core }
         ensures stores { StoresFit self.new.verified.config self.new.core self.new.stores.items }
     {
         if self.core.seat(task).is_none() {
@@ -217,7 +213,7 @@ impl Controller {
         ensures model { model.happens self.old.verified.config (world_of self.old) (event.Commit task) ≡ Ok (world_of self.new, reply_with result report.new) }
         ensures one { reports_by result ≤ 1 }
         ensures same { self.new.verified ≡ self.old.verified }
-        ensures seats { SeatsFit self.new.verified.config self.new.core }
+        ensures rows { CoreFits self.new.verified.config self.new.core }
         ensures stores { StoresFit self.new.verified.config self.new.core self.new.stores.items }
     {
         if self.core.seat(task).is_none() {
@@ -229,10 +225,10 @@ impl Controller {
         let Some(store) = &self.stores[usize::from(task)] else {
             unreachable!()
         };
-        if !store.has_ended() {
+        if !store.has_ended(&self.verified, task) {
             return Reply::Refused(EventFault::NotAtEnd);
         }
-        *report = self.core.commit(&self.verified, task, store);
+        self.core.commit(&self.verified, task, store, report);
         Reply::Committed
     }
 
@@ -242,13 +238,13 @@ impl Controller {
         ensures model { model.happens self.old.verified.config (world_of self.old) (event.Refresh fields.now) ≡ Ok (world_of self.new, reply_with result report.new) }
         ensures one { reports_by result ≤ 1 }
         ensures same { self.new.verified ≡ self.old.verified }
-        ensures seats { SeatsFit self.new.verified.config self.new.core }
+        ensures rows { CoreFits self.new.verified.config self.new.core }
         ensures stores { StoresFit self.new.verified.config self.new.core self.new.stores.items }
     {
         if !in_range(fields, self.verified.sizes()) {
             return Reply::Refused(EventFault::FieldOutOfRange);
         }
-        *report = self.core.refresh(fields, &mut self.hand);
+        self.core.refresh(fields, &mut self.hand, report);
         Reply::Refreshed
     }
 
@@ -258,7 +254,7 @@ impl Controller {
         ensures model { (r : ReportOf) → model.happens self.old.verified.config (world_of self.old) (event.Press call) ≡ Ok (world_of self.new, reply_with result r) }
         ensures plain { reports_by result ≡ 0 }
         ensures same { self.new.verified ≡ self.old.verified }
-        ensures seats { SeatsFit self.new.verified.config self.new.core }
+        ensures rows { CoreFits self.new.verified.config self.new.core }
         ensures stores { StoresFit self.new.verified.config self.new.core self.new.stores.items }
     {
         let sizes = self.verified.sizes();
@@ -281,7 +277,7 @@ impl Controller {
         ensures model { (r : ReportOf) → model.happens self.old.verified.config (world_of self.old) (event.Gather floor) ≡ Ok (world_of self.new, reply_with result r) }
         ensures plain { reports_by result ≡ 0 }
         ensures same { self.new.verified ≡ self.old.verified }
-        ensures seats { SeatsFit self.new.verified.config self.new.core }
+        ensures rows { CoreFits self.new.verified.config self.new.core }
         ensures stores { StoresFit self.new.verified.config self.new.core self.new.stores.items }
     {
         if !is_floor(floor, self.verified.sizes()) {

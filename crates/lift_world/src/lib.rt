@@ -1,6 +1,7 @@
 //! The world of a lift group: the image, the tasks' scans, and what each event does to them.
 #![tactic(auto)]
 
+mod calling;
 mod controller;
 mod loader;
 mod replies;

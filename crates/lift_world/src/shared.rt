@@ -1,30 +1,30 @@
 // What the tasks share, and the work of the events on it.
 
-ghost use Rattle.std.specs.Prelude.{◌≡◌, ℕ, suc, ◌≤◌, ◌∷◌, [], All, List, Option, length, map, slice_get, slice_set, Some, None, IfOk, IfErr, IsSome, option_and_then, option_copied};
-ghost use Rattle.il_spec.specs.declared.fault.Refusal.TheVariants.{Memory};
+ghost use Rattle.std.specs.Prelude.{◌≡◌, ℕ, suc, ◌≤◌, ◌∷◌, [], All, List, Option, length, map, slice_get, Some, None, IfOk, IsSome, option_and_then, option_copied};
 ghost use Rattle.il_spec.specs.declared.tree.Config.{Config as ConfigOf};
 ghost use Rattle.il_run.specs.NameMap as values;
-ghost use Rattle.il_run.specs.Scan.{restricted};
+ghost use Rattle.il_run.specs.Ranges.{HoldGlobals};
+ghost use Rattle.il_run.specs.Scan.{restricted, opening_globals};
 ghost use Rattle.lift_world.specs.declared.shared.Seat.{Seat as SeatOf};
-ghost use Rattle.il_code.specs.Layout.{Rows as RowsOf};
+ghost use Rattle.il_slots.specs.Layout.{Rows as RowsOf};
 ghost use Rattle.il_machine.specs.Scanning.{IsScanOf, FitsOwn, OwnsDeclared, variables_in, kept_of, state_of};
-ghost use Rattle.il_run.specs.State.{Values};
 ghost use Rattle.lift_spec.specs.Image.{sizes_of, FieldsInRange};
 ghost use Rattle.lift_spec.specs.Calls.{ticket_of, enter_all, SlotInRange};
-ghost use Rattle.lift_spec.specs.Settle.{denials_of};
-ghost use Rattle.lift_spec.specs.Snapshot.{scan_begins, program_of};
-ghost use Rattle.lift_spec.specs.World.{InRanges, flat, opening_task, opening_tasks_from, opening_group, beginning_of, committed_group, refreshed_group, serve_wish};
-ghost use Rattle.lift_world.specs.Running.{seat_at, task_in, seated, tasks_in, group_in, is_open, SeatsFit, with_seat};
+ghost use Rattle.lift_spec.specs.Settle.{settled_car, with_outputs, denials_of};
+ghost use Rattle.lift_spec.specs.Snapshot.{scan_begins, program_of, written_globals};
+ghost use Rattle.lift_spec.specs.World.{InRanges, flat, opening_task, opening_tasks_from, opening_group, beginning_of, refreshed_group};
+ghost use Rattle.lift_world.specs.Running.{seat_at, task_in, seated, tasks_in, group_in, is_open, CoreFits, with_seat, HasOpenScan, Commits};
+ghost use Rattle.il_machine.specs.Sharing.{globals_in, FitsGlobals};
 
-use il_machine::{Rows, Store, Value, Verified, opening_image};
-use il_spec::fault::Refusal;
+use crate::calling::{clear, denials_of, enter_all, serve, tell_all, tickets_of};
+use il_machine::{Rows, Store, Value, Verified, opening_image, variable};
 use lift_calls::book::CallBook;
-use lift_image::{Fields, Image, Row};
+use lift_image::{Fields, Image, Motor, Row};
 use lift_interlock::{settle_all, settle_car};
-use lift_spec::calls::{Answer, Entering, Slot};
+use lift_spec::calls::Slot;
 use lift_spec::hand::Hand;
-use lift_spec::report::{Denial, EnteredCall, Report, Rule};
-use std::alloc::Global;
+use lift_spec::report::Report;
+use std::alloc::{AllocError, Global};
 
 /// A task: its variables as its last commit left them, and the tickets of the call slots that its open scan saw, if it has one.
 #[derive(Drop)]
@@ -38,88 +38,21 @@ pub struct Seat {
 pub struct Core {
     image: Image,
     calls: CallBook,
+    globals: Rows,
     seats: Vec<Option<Seat>>,
 }
 
-// The ticket of a slot that isn't Free.
-fn ticket_of(slot: Slot) -> Option<u64>
-    ensures { result ≡ ticket_of slot }
-{
-    match slot {
-        Slot::Free => None,
-        Slot::Waiting { ticket, .. } => Some(ticket),
-        Slot::Told { ticket, .. } => Some(ticket),
-    }
-}
-
-// The tickets of the slots.
-fn tickets_of(slots: &[Slot]) -> Row<Option<u64>, 64>
-    requires { length slots.now ≤ 64 }
-    ensures { result ≡ map ticket_of slots.now }
-{
-    let mut tickets = Row::new();
-    'slots: for slot in slots {
-        tickets.push(ticket_of(*slot));
-    }
-    tickets
-}
-
-// The denials of a car.
-fn denials_of(car: u8, rules: &[Rule]) -> Row<Denial, 16>
-    requires { length rules.now ≤ 16 }
-    ensures { result ≡ denials_of car rules.now }
-{
-    let mut denials = Row::new();
-    'rules: for rule in rules {
-        denials.push(Denial { car, rule: *rule });
-    }
-    denials
-}
-
-// What a car serves: the call in the slot of its wish, under the ticket that its scan saw.
-fn serve(calls: &mut CallBook, car: u8, tickets: &[Option<u64>], slot: u8) -> Row<Answer, 64>
-    ensures { serve_wish calls.old car tickets.now slot ≡ (calls.new, result) }
-{
-    let mut answers = Row::new();
-    if slot > 0 {
-        let answer = match tickets.get(usize::from(slot - 1)) {
-            Some(Some(ticket)) => calls.serve(slot, *ticket, car),
-            _ => Answer::Stale,
-        };
-        answers.push(answer);
-    }
-    answers
-}
-
-// The calls of the hand enter in its order; from the first without a slot on they stay.
-fn enter_all(calls: &mut CallBook, hand: &mut Hand) -> Row<EnteredCall, 64>
-    ensures { enter_all calls.old [] hand.old ≡ record { calls = calls.new; hand = hand.new; done = result } }
-{
-    let _slots = calls.slots();
-    let mut done = Row::new();
-    'calls: while let Some(call) = hand.first() {
-        let Entering::Done { slot, ticket } = calls.enter(call) else {
-            return done;
-        };
-        done.push(EnteredCall { slot, ticket, call });
-        hand.take_first();
-    }
-    done
-}
-
 // A task as it opens, if the group has it.
-fn opening_seat(alloc: Global, verified: &Verified, task: u8) -> Result<Option<Seat>, Refusal>
-    requires { task ≤ 8 }
+fn opening_seat(alloc: Global, verified: &Verified, task: u8) -> Result<Option<Seat>, AllocError>
+    requires { task ≤ (sizes_of verified.now.config).cars }
     ensures task { IfOk result (λ s. seated verified.now.config task s ≡ opening_task verified.now.config (program_of verified.now.config task)) }
-    ensures fits { IfOk result (λ o. (s : SeatOf) → o ≡ Some s → FitsOwn verified.now.config task s.variables × OwnsDeclared verified.now.config (variables_in verified.now.config task s.variables)) }
-    ensures memory { IfErr result (λ e. e ≡ Memory) }
+    ensures fits { IfOk result (λ o. (s : SeatOf) → o ≡ Some s → FitsOwn verified.now.config task s.variables × OwnsDeclared verified.now.config task (variables_in verified.now.config task s.variables)) }
 {
     let _config = verified.config();
     if !verified.has_task(task) {
         return Ok(None);
     }
-    let store = Store::new(alloc, verified, task)?;
-    let variables = store.variables(alloc, verified, task)?;
+    let variables = verified.opening_variables(alloc, task)?;
     Ok(Some(Seat {
         variables,
         tickets: None,
@@ -127,11 +60,15 @@ fn opening_seat(alloc: Global, verified: &Verified, task: u8) -> Result<Option<S
 }
 
 // The tasks as they open: GROUP, and then the cars'.
-fn opening_seats(alloc: Global, verified: &Verified, cars: u8) -> Result<Vec<Option<Seat>>, Refusal>
-    requires { cars ≤ 8 }
+fn opening_seats(
+    alloc: Global,
+    verified: &Verified,
+    cars: u8,
+) -> Result<Vec<Option<Seat>>, AllocError>
+    requires few { cars ≤ 8 }
+    requires all { cars ≡ (sizes_of verified.now.config).cars }
     ensures tasks { IfOk result (λ ss. tasks_in verified.now.config 0 ss.items ≡ opening_tasks_from verified.now.config 0 (suc cars)) }
-    ensures fits { IfOk result (λ ss. (t : ℕ) (s : SeatOf) → flat (slice_get ss.items t) ≡ Some s → FitsOwn verified.now.config t s.variables × OwnsDeclared verified.now.config (variables_in verified.now.config t s.variables)) }
-    ensures memory { IfErr result (λ e. e ≡ Memory) }
+    ensures fits { IfOk result (λ ss. (t : ℕ) (s : SeatOf) → flat (slice_get ss.items t) ≡ Some s → FitsOwn verified.now.config t s.variables × OwnsDeclared verified.now.config t (variables_in verified.now.config t s.variables)) }
 {
     let mut seats = Vec::new(alloc);
     for task in 0..cars + 1 {
@@ -145,83 +82,88 @@ fn start_seat(
     seat: &mut Option<Seat>,
     verified: &Verified,
     task: u8,
+    globals: &Rows,
     image: &Image,
     slots: &[Slot],
     store: &mut Store,
 )
     requires there { IsSome seat.old }
     requires few { length slots.now ≤ 64 }
-    requires variables { (s : SeatOf) → seat.old ≡ Some s → FitsOwn verified.now.config task s.variables × OwnsDeclared verified.now.config (variables_in verified.now.config task s.variables) }
+    requires variables { (s : SeatOf) → seat.old ≡ Some s → FitsOwn verified.now.config task s.variables × OwnsDeclared verified.now.config task (variables_in verified.now.config task s.variables) }
+    requires globals { FitsGlobals verified.now.config globals.now }
+    requires shared { HoldGlobals verified.now.config (globals_in verified.now.config globals.now) }
     requires fields { FieldsInRange (sizes_of verified.now.config) image.now.fields }
     requires outputs { length image.now.outputs ≡ (sizes_of verified.now.config).cars }
     requires slots { length slots.now ≡ (sizes_of verified.now.config).slots }
     requires each { (last : ℕ) × All (SlotInRange (sizes_of verified.now.config) last) slots.now }
     requires scan { IsScanOf verified.now.config task store.old }
     ensures seat { (s : SeatOf) → seat.old ≡ Some s → seat.new ≡ Some (record { variables = s.variables; tickets = Some (map ticket_of slots.now) }) }
-    ensures begins { (s : SeatOf) (globals : Values) → seat.old ≡ Some s → state_of (kept_of verified.now.config task store.new) ≡ scan_begins verified.now.config task (record { variables = variables_in verified.now.config task s.variables; snapshot = record { image = image.now; slots = slots.now; globals = globals } }) }
+    ensures begins { (s : SeatOf) → seat.old ≡ Some s → state_of (kept_of verified.now.config task store.new) ≡ scan_begins verified.now.config task (record { variables = variables_in verified.now.config task s.variables; snapshot = record { image = image.now; slots = slots.now; globals = globals_in verified.now.config globals.now } }) }
     ensures scan { IsScanOf verified.now.config task store.new }
 {
     if let Some(seat) = seat {
-        store.restart(verified, task, &seat.variables, image, slots);
+        store.restart(verified, task, &seat.variables, globals, image, slots);
         seat.tickets = Some(tickets_of(slots));
     }
 }
 
-// A task between scans, with what its scan left of its variables, and what it served.
-fn close_seat(
-    seat: &mut Option<Seat>,
-    calls: &mut CallBook,
-    verified: &Verified,
-    task: u8,
-    store: &Store,
-    serves: u8,
-) -> Row<Answer, 64>
-    requires open { (s : SeatOf) × (tickets : List (Option ℕ)) × (seat.old ≡ Some s) × (s.tickets ≡ Some tickets) }
+// A task between scans, with what its scan left of its variables.
+fn close_seat(seat: &mut Option<Seat>, verified: &Verified, task: u8, store: &Store)
     requires variables { (s : SeatOf) → seat.old ≡ Some s → FitsOwn verified.now.config task s.variables }
     requires scan { IsScanOf verified.now.config task store.now }
-    ensures calls { (s : SeatOf) (tickets : List (Option ℕ)) → seat.old ≡ Some s → s.tickets ≡ Some tickets → serve_wish calls.old task tickets serves ≡ (calls.new, result) }
-    ensures seat { (s : SeatOf) → seat.old ≡ Some s → (v : RowsOf) × (seat.new ≡ Some (record { variables = v; tickets = None })) × FitsOwn verified.now.config task v × OwnsDeclared verified.now.config (variables_in verified.now.config task v) × (variables_in verified.now.config task v ≡ restricted (variables_in verified.now.config task s.variables) (state_of (kept_of verified.now.config task store.now)).values) }
+    ensures { (s : SeatOf) → seat.old ≡ Some s → (v : RowsOf) × (seat.new ≡ Some (record { variables = v; tickets = None })) × FitsOwn verified.now.config task v × OwnsDeclared verified.now.config task (variables_in verified.now.config task v) × (variables_in verified.now.config task v ≡ restricted (variables_in verified.now.config task s.variables) (state_of (kept_of verified.now.config task store.now)).values) }
 {
-    match seat {
-        Some(seat) => {
-            let answers = serve_saw(calls, task, &seat.tickets, serves);
-            store.copy_variables(verified, task, &mut seat.variables);
-            seat.tickets = None;
-            answers
-        }
-        None => unreachable!(),
+    if let Some(seat) = seat {
+        store.copy_variables(verified, task, &mut seat.variables);
+        seat.tickets = None;
     }
 }
 
-// What a car serves, by the tickets that its open scan saw.
-fn serve_saw(
-    calls: &mut CallBook,
-    car: u8,
-    tickets: &Option<Row<Option<u64>, 64>>,
-    slot: u8,
-) -> Row<Answer, 64>
-    requires { IsSome tickets.now }
-    ensures { (ts : List (Option ℕ)) → tickets.now ≡ Some ts → serve_wish calls.old car ts slot ≡ (calls.new, result) }
+// The tickets of the slots, as the open scan of a task saw them.
+fn saw(seat: &Option<Seat>) -> &[Option<u64>]
+    requires { (s : SeatOf) × (tickets : List (Option ℕ)) × (seat.now ≡ Some s) × (s.tickets ≡ Some tickets) }
+    ensures { (s : SeatOf) (tickets : List (Option ℕ)) → seat.now ≡ Some s → s.tickets ≡ Some tickets → result.now ≡ tickets }
 {
-    match tickets {
-        Some(tickets) => serve(calls, car, tickets.as_slice(), slot),
-        None => unreachable!(),
+    match seat {
+        Some(
+            Seat {
+                tickets: Some(tickets),
+                ..
+            },
+        ) => tickets.as_slice(),
+        _ => unreachable!(),
     }
+}
+
+// A car's outputs are settled, and reported.
+fn settle(image: &mut Image, car: u8, motor: Motor, opens: bool, report: &mut Report)
+    requires car { (1 ≤ car) × (car ≤ length image.old.fields.cars) }
+    requires outputs { length image.old.outputs ≡ length image.old.fields.cars }
+    ensures image { image.new ≡ record { fields = image.old.fields; outputs = with_outputs image.old.outputs car (settled_car image.old car motor opens).outputs } }
+    ensures report { report.new ≡ record { outputs = with_outputs image.old.outputs car (settled_car image.old car motor opens).outputs; denials = denials_of car (settled_car image.old car motor opens).denials; answers = report.old.answers; entered = [] } }
+{
+    let _room = image.outputs.len();
+    let settled = settle_car(image, car, motor, opens);
+    image.outputs.set(usize::from(car - 1), settled.outputs);
+    report.outputs = Row::from_slice(image.outputs.as_slice());
+    report.denials = denials_of(car, settled.denials.as_slice());
+    clear(&mut report.entered);
 }
 
 impl Core {
     /// What the tasks share as the group opens, and the tasks (own rule).
-    pub fn new(alloc: Global, verified: &Verified) -> Result<Core, Refusal>
+    pub fn new(alloc: Global, verified: &Verified) -> Result<Core, AllocError>
         ensures group { IfOk result (λ k. group_in verified.now.config k ≡ opening_group verified.now.config) }
-        ensures fits { IfOk result (SeatsFit verified.now.config) }
-        ensures memory { IfErr result (λ e. e ≡ Memory) }
+        ensures fits { IfOk result (CoreFits verified.now.config) }
     {
         let _config = verified.config();
         let sizes = verified.sizes();
+        let globals = verified.globals(alloc)?;
         let seats = opening_seats(alloc, verified, sizes.cars)?;
         Ok(Core {
             image: opening_image(sizes),
             calls: CallBook::new(sizes),
+            globals,
             seats,
         })
     }
@@ -249,11 +191,19 @@ impl Core {
 
     /// The value of a variable of a task, as its last commit left it.
     pub fn variable(&self, verified: &Verified, task: u8, path: &str) -> Option<Value>
-        requires { SeatsFit verified.now.config self.now }
+        requires { CoreFits verified.now.config self.now }
         ensures { result ≡ option_and_then (λ s. values.get (variables_in verified.now.config task s.variables) path.now) (seat_at self.now task) }
     {
         let seat = self.seat(task)?;
-        seat.variables.variable(verified, task, path)
+        variable(&seat.variables, verified, task, path)
+    }
+
+    /// The value of a global, as the last commit left it.
+    pub fn global(&self, verified: &Verified, path: &str) -> Option<Value>
+        requires { CoreFits verified.now.config self.now }
+        ensures { result ≡ values.get (globals_in verified.now.config self.now.globals) path.now }
+    {
+        verified.global(&self.globals, path)
     }
 
     /// Whether a scan of a task is open.
@@ -269,11 +219,11 @@ impl Core {
     /// A task's scan begins, and the task holds the tickets that it sees. No scan of it is open.
     pub fn start(&mut self, verified: &Verified, task: u8, store: &mut Store)
         requires there { IsSome (seat_at self.old task) }
-        requires fits { SeatsFit verified.now.config self.old }
+        requires fits { CoreFits verified.now.config self.old }
         requires ranges { InRanges verified.now.config (group_in verified.now.config self.old) }
         requires scan { IsScanOf verified.now.config task store.old }
         ensures begins { (s : SeatOf) → seat_at self.old task ≡ Some s → state_of (kept_of verified.now.config task store.new) ≡ scan_begins verified.now.config task (beginning_of (group_in verified.now.config self.old) (task_in verified.now.config task s)) }
-        ensures shared { (self.new.image ≡ self.old.image) × (self.new.calls ≡ self.old.calls) }
+        ensures shared { (self.new.image ≡ self.old.image) × (self.new.calls ≡ self.old.calls) × (self.new.globals ≡ self.old.globals) }
         ensures seats { (s : SeatOf) → seat_at self.old task ≡ Some s → self.new.seats.items ≡ with_seat self.old task s.variables (Some (map ticket_of self.old.calls.slots)) }
         ensures scan { IsScanOf verified.now.config task store.new }
     {
@@ -282,77 +232,106 @@ impl Core {
             &mut self.seats[usize::from(task)],
             verified,
             task,
+            &self.globals,
             &self.image,
             slots,
             store,
         );
     }
 
-    /// A car's scan, which has ended, hands over its variables; its outputs are settled, and it may serve a call.
-    pub fn commit(&mut self, verified: &Verified, task: u8, store: &Store) -> Report
-        requires open { (s : SeatOf) → seat_at self.old task ≡ Some s → IsSome s.tickets }
-        requires there { IsSome (seat_at self.old task) }
-        requires fits { SeatsFit verified.now.config self.old }
+    /// A task's scan, which has ended, hands over its variables and the globals that its program writes. A car's outputs are settled,
+    /// and it may serve a call; GROUP tells each call to the car that it assigned.
+    pub fn commit(&mut self, verified: &Verified, task: u8, store: &Store, report: &mut Report)
+        requires open { HasOpenScan verified.now.config self.old task }
+        requires fits { CoreFits verified.now.config self.old }
         requires ranges { InRanges verified.now.config (group_in verified.now.config self.old) }
         requires scan { IsScanOf verified.now.config task store.now }
-        ensures group { (s : SeatOf) (tickets : List (Option ℕ)) → seat_at self.old task ≡ Some s → s.tickets ≡ Some tickets → committed_group verified.now.config (group_in verified.now.config self.old) task (task_in verified.now.config task s) tickets (state_of (kept_of verified.now.config task store.now)).values ≡ (group_in verified.now.config self.new, result) }
-        ensures closed { (v : RowsOf) × (self.new.seats.items ≡ with_seat self.old task v None) }
-        ensures fits { SeatsFit verified.now.config self.new }
+        ensures { Commits verified.now.config task self.old (state_of (kept_of verified.now.config task store.now)).values self.new report.new }
     {
-        let _config = verified.config();
-        let wishes = store.wishes(verified, task);
-        let settled = settle_car(&self.image, task, wishes.motor, wishes.opens);
-        self.image
-            .outputs
-            .set(usize::from(task - 1), settled.outputs);
-        let answers = self.close(verified, task, store, wishes.serve);
-        Report {
-            outputs: Row::from_slice(self.image.outputs.as_slice()),
-            denials: denials_of(task, settled.denials.as_slice()),
-            answers,
-            entered: Row::new(),
+        if task == 0 {
+            self.commit_group(verified, store, report);
+        } else {
+            self.commit_car(verified, task, store, report);
         }
     }
 
-    // A task between scans, with what its scan left of its variables, and what it served.
-    fn close(&mut self, verified: &Verified, task: u8, store: &Store, serves: u8) -> Row<Answer, 64>
-        requires there { IsSome (seat_at self.old task) }
-        requires open { (s : SeatOf) → seat_at self.old task ≡ Some s → IsSome s.tickets }
-        requires fits { SeatsFit verified.now.config self.old }
-        requires scan { IsScanOf verified.now.config task store.now }
-        ensures image { self.new.image ≡ self.old.image }
-        ensures calls { (s : SeatOf) (tickets : List (Option ℕ)) → seat_at self.old task ≡ Some s → s.tickets ≡ Some tickets → serve_wish self.old.calls task tickets serves ≡ (self.new.calls, result) }
-        ensures closed { (s : SeatOf) → seat_at self.old task ≡ Some s → (v : RowsOf) × (self.new.seats.items ≡ with_seat self.old task v None) × FitsOwn verified.now.config task v × OwnsDeclared verified.now.config (variables_in verified.now.config task v) × (variables_in verified.now.config task v ≡ restricted (variables_in verified.now.config task s.variables) (state_of (kept_of verified.now.config task store.now)).values) }
+    // A car's commit.
+    fn commit_car(&mut self, verified: &Verified, car: u8, store: &Store, report: &mut Report)
+        requires car { 1 ≤ car }
+        requires open { HasOpenScan verified.now.config self.old car }
+        requires fits { CoreFits verified.now.config self.old }
+        requires ranges { InRanges verified.now.config (group_in verified.now.config self.old) }
+        requires scan { IsScanOf verified.now.config car store.now }
+        ensures { Commits verified.now.config car self.old (state_of (kept_of verified.now.config car store.now)).values self.new report.new }
     {
-        close_seat(
-            &mut self.seats[usize::from(task)],
+        let wishes = store.wishes(verified, car);
+        settle(&mut self.image, car, wishes.motor, wishes.opens, report);
+        let tickets = saw(&self.seats[usize::from(car)]);
+        serve(
             &mut self.calls,
-            verified,
-            task,
-            store,
-            serves,
-        )
+            car,
+            tickets,
+            wishes.serve,
+            &mut report.answers,
+        );
+        self.close(verified, car, store);
+    }
+
+    // GROUP's commit.
+    fn commit_group(&mut self, verified: &Verified, store: &Store, report: &mut Report)
+        requires open { HasOpenScan verified.now.config self.old 0 }
+        requires fits { CoreFits verified.now.config self.old }
+        requires ranges { InRanges verified.now.config (group_in verified.now.config self.old) }
+        requires scan { IsScanOf verified.now.config 0 store.now }
+        ensures { Commits verified.now.config 0 self.old (state_of (kept_of verified.now.config 0 store.now)).values self.new report.new }
+    {
+        let _config = verified.config();
+        let _room = self.image.outputs.len();
+        let cars = store.assigned(verified);
+        let tickets = saw(&self.seats[0]);
+        tell_all(
+            &mut self.calls,
+            tickets,
+            cars.as_slice(),
+            &mut report.answers,
+        );
+        self.close(verified, 0, store);
+        report.outputs = Row::from_slice(self.image.outputs.as_slice());
+        clear(&mut report.denials);
+        clear(&mut report.entered);
+    }
+
+    // A task between scans, with what its scan left of its variables and of the globals that its program writes.
+    fn close(&mut self, verified: &Verified, task: u8, store: &Store)
+        requires there { IsSome (seat_at self.old task) }
+        requires fits { CoreFits verified.now.config self.old }
+        requires scan { IsScanOf verified.now.config task store.now }
+        ensures shared { (self.new.image ≡ self.old.image) × (self.new.calls ≡ self.old.calls) }
+        ensures globals { globals_in verified.now.config self.new.globals ≡ written_globals (program_of verified.now.config task) (globals_in verified.now.config self.old.globals) (state_of (kept_of verified.now.config task store.now)).values }
+        ensures closed { (s : SeatOf) → seat_at self.old task ≡ Some s → (v : RowsOf) × (self.new.seats.items ≡ with_seat self.old task v None) × (variables_in verified.now.config task v ≡ restricted (variables_in verified.now.config task s.variables) (state_of (kept_of verified.now.config task store.now)).values) }
+        ensures fits { CoreFits verified.now.config self.new }
+    {
+        store.copy_globals(verified, task, &mut self.globals);
+        close_seat(&mut self.seats[usize::from(task)], verified, task, store);
     }
 
     /// The image takes fields of as many cars, the outputs are settled under them, and the calls of the hand enter.
-    pub fn refresh(&mut self, fields: &Fields, hand: &mut Hand) -> Report
+    pub fn refresh(&mut self, fields: &Fields, hand: &mut Hand, report: &mut Report)
         requires cars { length self.old.image.outputs ≡ length fields.now.cars }
-        ensures group { (c : ConfigOf) → refreshed_group (group_in c self.old) fields.now hand.old ≡ (group_in c self.new, result) }
+        ensures group { (c : ConfigOf) → refreshed_group (group_in c self.old) fields.now hand.old ≡ (group_in c self.new, report.new) }
         ensures hand { hand.new ≡ (enter_all self.old.calls [] hand.old).hand }
         ensures seats { self.new.seats ≡ self.old.seats }
+        ensures globals { self.new.globals ≡ self.old.globals }
     {
         let settled = settle_all(&self.image.outputs, fields);
-        let entered = enter_all(&mut self.calls, hand);
+        enter_all(&mut self.calls, hand, &mut report.entered);
         self.image = Image {
             fields: copied(fields),
             outputs: Row::from_slice(settled.outputs.as_slice()),
         };
-        Report {
-            outputs: settled.outputs,
-            denials: settled.denials,
-            answers: Row::new(),
-            entered,
-        }
+        report.outputs = settled.outputs;
+        report.denials = settled.denials;
+        clear(&mut report.answers);
     }
 }
 

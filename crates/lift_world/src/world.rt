@@ -128,6 +128,13 @@ impl World {
         self.group.verified.sizes()
     }
 
+    /// The value of a global, by its path, as the last commit left it.
+    pub fn global(&self, path: &str) -> Option<Value>
+        ensures { result ≡ values.get (world_of self.now).group.globals path.now }
+    {
+        self.group.core.global(&self.group.verified, path)
+    }
+
     /// The value of a variable of a task, as its last commit left it.
     pub fn variable(&self, task: u8, path: &str) -> Option<Value>
         ensures { result ≡ option_and_then (λ t. values.get t.variables path.now) (model.task_at (world_of self.now).group task) }

@@ -4,10 +4,10 @@ use Rattle.il_run.specs.Annotation.{Annotated}
 use Rattle.il_verify.proofs.check.Goals as goal
 
 pub annotated-requires-clause-declared : goal.annotated-requires-clause-declared
-annotated-requires-clause-declared c = subst (λ d. HasNoFault (BreaksDeclarations d)) (sym c.names.ensures) c.config-config.ensures.declared
+annotated-requires-clause-declared c = subst (λ d. HasNoFault (BreaksDeclarations d)) (sym c.names.ensures.is) c.names.ensures.declared
 
 pub annotated-requires-clause-typed : goal.annotated-requires-clause-typed
-annotated-requires-clause-typed c = subst (λ d. HasNoFault (Broken Typing d)) (sym c.names.ensures) c.config-config.ensures.typed
+annotated-requires-clause-typed c = subst (λ d. HasNoFault (Broken Typing d)) (sym c.names.ensures.is) c.names.ensures.typed
 
 pub returns-clause-accepted : goal.returns-clause-accepted
-returns-clause-accepted c = subst (λ d. IfOk c.annotated.result (λ _. Annotated d)) c.names.ensures c.annotated.ensures.annotated
+returns-clause-accepted c = subst (λ d. IfOk c.annotated.result (λ _. Annotated d)) c.names.ensures.is c.annotated.ensures.annotated

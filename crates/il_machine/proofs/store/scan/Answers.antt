@@ -1,39 +1,28 @@
-use Rattle.std.proofs.Common.{ap}
-use Rattle.std.specs.Prelude.{is_some}
-use Rattle.il_machine.proofs.Ending.{within, finishes, end_scan, end_over, end_reaches, end_own}
+use Rattle.il_machine.proofs.Ending.{end_there, run_out}
+use Rattle.il_machine.proofs.Keeping.{variables_declared}
 use Rattle.il_machine.proofs.store.scan.Goals as goal
 
 pub run-requires : goal.run-requires
 run-requires c =
-    let config = c.args.verified.now.config in
-    let runs = c.config-config.ensures.runnable in
-    let few = within config runs c.args.task c.budget-budget.result (c.budget-budget.ensures runs.checked.resolved.program runs.checked.resolved.is) c.args.store.now c.requires.scan in
-    rw (c.units.ensures, c.code-code.ensures.same) (ap is_some (finishes config runs c.args.task c.budget-budget.result c.args.store.now c.requires.scan c.requires.going few).is)
+    end_there c.args.verified.now.config c.config-config.ensures.runnable c.args.task c.args.store.now _ c.store.view_is c.requires.scan c.requires.going _ c.running.ensures _ c.budget-budget.ensures
 
 pub returns-clause-scan : goal.returns-clause-scan
 returns-clause-scan c =
-    let config = c.args.verified.now.config in
-    let runs = c.config-config.ensures.runnable in
-    let few = within config runs c.args.task c.budget-budget.result (c.budget-budget.ensures runs.checked.resolved.program runs.checked.resolved.is) c.args.store.now c.requires.scan in
-    end_scan config runs c.args.task c.budget-budget.result c.args.store.now c.requires.scan c.requires.going few c.run.result c.run.new.self (rw (c.units.ensures, c.code-code.ensures.same) at c.run.ensures)
+    (run_out c.args.verified.now.config c.config-config.ensures.runnable c.args.task c.args.store.now _ c.run.new.self c.run.result c.store.view_is c.requires.scan c.requires.going _ c.running.ensures _ c.budget-budget.ensures c.run.ensures).scan
 
 pub returns-clause-ended : goal.returns-clause-ended
 returns-clause-ended c =
-    let config = c.args.verified.now.config in
-    let runs = c.config-config.ensures.runnable in
-    let few = within config runs c.args.task c.budget-budget.result (c.budget-budget.ensures runs.checked.resolved.program runs.checked.resolved.is) c.args.store.now c.requires.scan in
-    end_over config runs c.args.task c.budget-budget.result c.args.store.now c.requires.scan c.requires.going few c.run.result c.run.new.self (rw (c.units.ensures, c.code-code.ensures.same) at c.run.ensures)
+    (run_out c.args.verified.now.config c.config-config.ensures.runnable c.args.task c.args.store.now _ c.run.new.self c.run.result c.store.view_is c.requires.scan c.requires.going _ c.running.ensures _ c.budget-budget.ensures c.run.ensures).over
 
 pub returns-clause-steps : goal.returns-clause-steps
 returns-clause-steps c =
-    let config = c.args.verified.now.config in
-    let runs = c.config-config.ensures.runnable in
-    let few = within config runs c.args.task c.budget-budget.result (c.budget-budget.ensures runs.checked.resolved.program runs.checked.resolved.is) c.args.store.now c.requires.scan in
-    end_reaches config runs c.args.task c.budget-budget.result c.args.store.now c.requires.scan c.requires.going few c.run.result c.run.new.self (rw (c.units.ensures, c.code-code.ensures.same) at c.run.ensures)
+    (run_out c.args.verified.now.config c.config-config.ensures.runnable c.args.task c.args.store.now _ c.run.new.self c.run.result c.store.view_is c.requires.scan c.requires.going _ c.running.ensures _ c.budget-budget.ensures c.run.ensures).reaches
+
+pub returns-clause-some : goal.returns-clause-some
+returns-clause-some c =
+    (run_out c.args.verified.now.config c.config-config.ensures.runnable c.args.task c.args.store.now _ c.run.new.self c.run.result c.store.view_is c.requires.scan c.requires.going _ c.running.ensures _ c.budget-budget.ensures c.run.ensures).some
 
 pub returns-clause-own : goal.returns-clause-own
 returns-clause-own c =
-    let config = c.args.verified.now.config in
-    let runs = c.config-config.ensures.runnable in
-    let few = within config runs c.args.task c.budget-budget.result (c.budget-budget.ensures runs.checked.resolved.program runs.checked.resolved.is) c.args.store.now c.requires.scan in
-    end_own config runs c.args.task c.budget-budget.result c.args.store.now c.requires.scan c.requires.going few c.run.result c.run.new.self (rw (c.units.ensures, c.code-code.ensures.same) at c.run.ensures)
+    variables_declared c.args.verified.now.config c.config-config.ensures.runnable c.args.task c.run.new.self
+    (run_out c.args.verified.now.config c.config-config.ensures.runnable c.args.task c.args.store.now _ c.run.new.self c.run.result c.store.view_is c.requires.scan c.requires.going _ c.running.ensures _ c.budget-budget.ensures c.run.ensures).scan

@@ -1,18 +1,40 @@
-use Rattle.std.proofs.Common.{rules}
-use Rattle.il_machine.proofs.Stepping.{step_there, step_is, step_scan, step_own}
+use Rattle.std.proofs.Common.{◌≡◌, sym, subst}
+use Rattle.il_slots.specs.Coded.{Code}
+use Rattle.il_slots.specs.Program.{program_code}
+use Rattle.il_exec.specs.Going.{Stored, runs_of, runs_in}
+use Rattle.il_exec.specs.Framing.{IsFramedScan, Goes}
+use Rattle.il_machine.proofs.Scans.{goes, stepped}
+use Rattle.il_machine.proofs.Keeping.{variables_declared}
 use Rattle.il_machine.proofs.store.step.Goals as goal
 
 pub advance-requires : goal.advance-requires
-advance-requires c = rw (c.units.ensures, c.code-code.ensures.same) (step_there c.args.verified.now.config c.code-code.ensures.runnable c.args.task c.args.store.now c.requires.scan c.requires.going)
+advance-requires c =
+    let scan = c.requires.scan in
+    subst (λ (s : Stored). (x : Code) × (runs_of c.running.result ≡ runs_in x) × IsFramedScan x s × Goes x s) (sym c.store.view_is)
+    (program_code c.args.verified.now.config scan.0, c.running.ensures scan.0 scan.1.program, scan.2.framed, goes c.args.verified.now.config c.config-config.ensures.runnable c.args.task scan.0 scan.1 c.args.store.now scan.2 c.requires.going)
 
-pub returns-clause-step : goal.returns-clause-step
-returns-clause-step c = step_is c.args.verified.now.config c.code-code.ensures.runnable c.args.task c.args.store.now c.advance.new.self c.requires.scan c.requires.going (rw (c.units.ensures, c.code-code.ensures.same) at c.advance.ensures)
+pub returns-in-Some-clause-step : goal.returns-in-Some-clause-step
+returns-in-Some-clause-step c =
+    (stepped c.args.verified.now.config c.config-config.ensures.runnable c.args.task c.args.store.now _ c.advance.new.self c.store.view_is c.requires.scan c.requires.going _ c.running.ensures c.advance.ensures.step c.advance.ensures.scan).step_is
 
-pub returns-clause-scan : goal.returns-clause-scan
-returns-clause-scan c = step_scan c.args.verified.now.config c.code-code.ensures.runnable c.args.task c.args.store.now c.advance.new.self c.requires.scan c.requires.going (rw (c.units.ensures, c.code-code.ensures.same) at c.advance.ensures)
+pub returns-in-None-clause-step : goal.returns-in-None-clause-step
+returns-in-None-clause-step c =
+    (stepped c.args.verified.now.config c.config-config.ensures.runnable c.args.task c.args.store.now _ c.advance.new.self c.store.view_is c.requires.scan c.requires.going _ c.running.ensures c.advance.ensures.step c.advance.ensures.scan).step_is
 
-pub returns-clause-own : goal.returns-clause-own
-returns-clause-own c = step_own c.args.verified.now.config c.code-code.ensures.runnable c.args.task c.args.store.now c.advance.new.self c.requires.scan c.requires.going (rw (c.units.ensures, c.code-code.ensures.same) at c.advance.ensures)
+pub returns-in-Some-clause-scan : goal.returns-in-Some-clause-scan
+returns-in-Some-clause-scan c =
+    (stepped c.args.verified.now.config c.config-config.ensures.runnable c.args.task c.args.store.now _ c.advance.new.self c.store.view_is c.requires.scan c.requires.going _ c.running.ensures c.advance.ensures.step c.advance.ensures.scan).scan
 
-pub returns-clause-end : goal.returns-clause-end
-returns-clause-end c = search rules
+pub returns-in-None-clause-scan : goal.returns-in-None-clause-scan
+returns-in-None-clause-scan c =
+    (stepped c.args.verified.now.config c.config-config.ensures.runnable c.args.task c.args.store.now _ c.advance.new.self c.store.view_is c.requires.scan c.requires.going _ c.running.ensures c.advance.ensures.step c.advance.ensures.scan).scan
+
+pub returns-in-Some-clause-own : goal.returns-in-Some-clause-own
+returns-in-Some-clause-own c =
+    variables_declared c.args.verified.now.config c.config-config.ensures.runnable c.args.task c.advance.new.self
+    (stepped c.args.verified.now.config c.config-config.ensures.runnable c.args.task c.args.store.now _ c.advance.new.self c.store.view_is c.requires.scan c.requires.going _ c.running.ensures c.advance.ensures.step c.advance.ensures.scan).scan
+
+pub returns-in-None-clause-own : goal.returns-in-None-clause-own
+returns-in-None-clause-own c =
+    variables_declared c.args.verified.now.config c.config-config.ensures.runnable c.args.task c.advance.new.self
+    (stepped c.args.verified.now.config c.config-config.ensures.runnable c.args.task c.args.store.now _ c.advance.new.self c.store.view_is c.requires.scan c.requires.going _ c.running.ensures c.advance.ensures.step c.advance.ensures.scan).scan

@@ -1,11 +1,17 @@
-use Rattle.std.proofs.Common.{sym, ◌∙◌, rules}
-use Rattle.il_scope.proofs.Known.{image_is, some_first, none_first}
+use Rattle.std.proofs.Common.{Some, option_map, ap, sym, ◌∙◌}
+use Rattle.il_scope.specs.Images.{image_in}
+use Rattle.il_scope.proofs.Known.{image_is}
 use Rattle.il_scope.proofs.image.image_name.Goals as goal
 
 pub returns-in-Some : goal.returns-in-Some
 returns-in-Some c =
-    some_first c.number_name.result _ _ c.in-Some.number c.number_name.ensures c.in-Some.is ∙ sym (image_is c.args.config.now _ _ _ c.args.name.now (search rules) (search rules) (search rules))
+    ap Some c.image_in.ensures
+    ∙ sym (ap (λ o. option_map (image_in c.args.config.now) (option_map (λ r. r.now) o)) c.in-Some.is)
+    ∙ ap (option_map (image_in c.args.config.now)) c.row_named.ensures
+    ∙ image_is c.args.config.now c.image_rows.result.now c.args.name.now (c.image_rows.ensures c.args.config.now)
 
 pub returns-in-None : goal.returns-in-None
 returns-in-None c =
-    none_first c.number_name.result _ _ c.other_name.result c.number_name.ensures c.in-None.is c.other_name.ensures ∙ sym (image_is c.args.config.now _ _ _ c.args.name.now (search rules) (search rules) (search rules))
+    sym (ap (λ o. option_map (image_in c.args.config.now) (option_map (λ r. r.now) o)) c.in-None.is)
+    ∙ ap (option_map (image_in c.args.config.now)) c.row_named.ensures
+    ∙ image_is c.args.config.now c.image_rows.result.now c.args.name.now (c.image_rows.ensures c.args.config.now)

@@ -1,6 +1,12 @@
-use Rattle.std.proofs.Common.{sym, ◌∙◌}
-use Rattle.il_machine.proofs.Tasked.{only_car}
+use Rattle.std.proofs.Common.{◌∙◌, sym, arith}
+use Rattle.il_machine.proofs.Sizes.{few_cars}
+use Rattle.lift_world.proofs.Opening.{task_there}
 use Rattle.lift_world.proofs.controller.opening_store.Goals as goal
 
+pub has_task-requires : goal.has_task-requires
+has_task-requires c =
+    let few = few_cars c.args.verified.now.config c.config-config.ensures.runnable.declared in
+    omega (arith, c.requires, few)
+
 pub new-requires : goal.new-requires
-new-requires c = record { task = only_car _ c.config-config.ensures.runnable _ c.requires (sym c.has_task.ensures ∙ c.if-not-has_task.false) }
+new-requires c = record { there = task_there _ _ c.requires (sym c.has_task.ensures ∙ c.if-not-has_task.false) }

@@ -1,4 +1,4 @@
-use Rattle.std.proofs.Common.{◌∙◌, ap, ◌+◌}
+use Rattle.std.proofs.Common.{◌∙◌, ap, ◌+◌, arith}
 use Rattle.std.specs.Prelude.{is_some}
 use Rattle.il_machine.specs.Scanning.{IsScanOf}
 use Rattle.lift_spec.specs.Snapshot.{program_of}
@@ -13,3 +13,6 @@ loop-task-preserved c =
       there = there_more (λ t. is_some (program_of config t)) c.loop-task.stores.items c.in_ok-opening_store.field-0 c.loop-task.task c.loop-task.invariant.many c.loop-task.invariant.there c.in_ok-opening_store.ensures.there;
       each = holds_more (λ t s. IsScanOf config t s) c.loop-task.stores.items c.in_ok-opening_store.field-0 c.loop-task.task c.loop-task.invariant.many c.loop-task.invariant.each c.in_ok-opening_store.ensures.scan;
     })
+
+pub opening_store-requires : goal.opening_store-requires
+opening_store-requires c = omega (arith, c.loop-task-test.true, c.requires.all)

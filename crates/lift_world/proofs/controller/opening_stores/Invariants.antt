@@ -1,6 +1,6 @@
 use Rattle.std.proofs.Common.{◌≡◌, ℕ, ◌<◌, length, Some}
 use Rattle.std.specs.Prelude.{slice_get, is_some}
-use Rattle.il_machine.specs.Going.{Stored}
+use Rattle.il_exec.specs.Going.{Stored}
 use Rattle.il_machine.specs.Scanning.{IsScanOf}
 use Rattle.lift_spec.specs.Snapshot.{program_of}
 use Rattle.lift_spec.specs.World.{flat}

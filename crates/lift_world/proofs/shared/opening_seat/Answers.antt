@@ -1,11 +1,15 @@
-use Rattle.std.proofs.Common.{◌∙◌, sym}
-use Rattle.il_machine.proofs.Tasked.{only_car}
-use Rattle.lift_world.proofs.Opening.{seat_opens}
+use Rattle.std.proofs.Common.{◌∙◌, sym, arith}
+use Rattle.il_machine.proofs.Sizes.{few_cars}
+use Rattle.lift_world.proofs.Opening.{seat_opens, task_there}
 use Rattle.lift_world.proofs.shared.opening_seat.Goals as goal
 
-pub new-requires : goal.new-requires
-new-requires c = record { task = only_car _ c.config-config.ensures.runnable _ c.requires (sym c.has_task.ensures ∙ c.if-not-has_task.false) }
+pub has_task-requires : goal.has_task-requires
+has_task-requires c =
+    let few = few_cars c.args.verified.now.config c.config-config.ensures.runnable.declared in
+    omega (arith, c.requires, few)
+
+pub opening_variables-requires : goal.opening_variables-requires
+opening_variables-requires c = record { there = task_there _ _ c.requires (sym c.has_task.ensures ∙ c.if-not-has_task.false) }
 
 pub returns-clause-task : goal.returns-clause-task
-returns-clause-task c =
-    seat_opens _ c.config-config.ensures.runnable _ _ (sym c.has_task.ensures ∙ c.if-not-has_task.false) (λ u program. c.in_ok-variables.ensures.variables ∙ c.in_ok-store.ensures.variables u program)
+returns-clause-task c = seat_opens _ _ _ (sym c.has_task.ensures ∙ c.if-not-has_task.false) c.in_ok-variables.ensures.variables

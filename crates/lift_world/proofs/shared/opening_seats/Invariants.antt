@@ -11,5 +11,5 @@ abbrev pub invariant-loop-task : goal.invariant-loop-task
 invariant-loop-task l = record {
   many : length l.seats.items ≡ l.task;
   tasks : tasks_in l.verified.config 0 l.seats.items ≡ opening_tasks_from l.verified.config 0 l.task;
-  fits : (t : ℕ) (s : Seat) → flat (slice_get l.seats.items t) ≡ Some s → FitsOwn l.verified.config t s.variables × OwnsDeclared l.verified.config (variables_in l.verified.config t s.variables);
+  fits : (t : ℕ) (s : Seat) → flat (slice_get l.seats.items t) ≡ Some s → FitsOwn l.verified.config t s.variables × OwnsDeclared l.verified.config t (variables_in l.verified.config t s.variables);
 }

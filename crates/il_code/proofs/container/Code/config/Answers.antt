@@ -1,12 +1,11 @@
-use Rattle.std.proofs.Common.{subst}
-use Rattle.il_rules.specs.declared.symbol.Symbol.{Symbol}
-use Rattle.il_run.specs.NameMap.{NameMap}
-use Rattle.il_code.specs.Resolved.{IsResolved, AreSymbols}
-use Rattle.il_code.proofs.Resolving.{resolved_of}
+use Rattle.il_code.proofs.Contained.{declared_along, typed_along, ordered_along}
 use Rattle.il_code.proofs.container.Code.config.Goals as goal
 
-pub returns-clause-resolved : goal.returns-clause-resolved
-returns-clause-resolved c = subst IsResolved c.self.view_is (resolved_of c.self.inside.supported c.config.ensures.ordered)
+pub returns-clause-declared : goal.returns-clause-declared
+returns-clause-declared c = declared_along c.self.inside.ordered c.args.self.now c.self.view_is c.self.invariant.0.declared
 
-pub returns-clause-symbols : goal.returns-clause-symbols
-returns-clause-symbols c = subst (λ x. (symbols : NameMap Symbol) × AreSymbols x symbols) c.self.view_is (c.symbols-symbols.result.now, c.symbols-symbols.ensures)
+pub returns-clause-typed : goal.returns-clause-typed
+returns-clause-typed c = typed_along c.self.inside.ordered c.args.self.now c.self.view_is c.self.invariant.0.typed
+
+pub returns-clause-ordered : goal.returns-clause-ordered
+returns-clause-ordered c = ordered_along c.self.inside.ordered c.args.self.now c.self.view_is c.self.invariant.0.ordered

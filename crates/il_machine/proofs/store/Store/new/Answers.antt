@@ -1,17 +1,15 @@
-use Rattle.il_machine.proofs.Opens.{scan_opens, variables_open_as, own_opens, image_opens_as, starts_as}
+use Rattle.std.proofs.Common.{◌∙◌, sym, subst}
+use Rattle.il_run.specs.Ranges.{HoldGlobals}
+use Rattle.il_sound.proofs.Opening.{globals_open}
 use Rattle.il_machine.proofs.store.Store.new.Goals as goal
 
-pub returns-clause-scan : goal.returns-clause-scan
-returns-clause-scan c = rw (c.new.ensures, c.new-2.ensures) (scan_opens c.args.verified.now.config c.config-config.ensures.runnable c.args.task c.requires.task _ c.in_ok-opening_rows.ensures)
+pub opened-requires-clause-rows : goal.opened-requires-clause-rows
+opened-requires-clause-rows c =
+    let u = c.requires.there.0 in
+    let is = c.requires.there.1 in
+    (u, is, record { numbers = c.in_ok-rows.ensures.numbers ∙ c.slot_count.ensures.count u is.program; flags = c.in_ok-rows.ensures.flags ∙ c.slot_count.ensures.count u is.program })
 
-pub returns-clause-start : goal.returns-clause-start
-returns-clause-start c = starts_as c.args.verified.now.config c.config-config.ensures.runnable c.args.task c.requires.task _ c.in_ok-opening_rows.ensures
-
-pub returns-clause-variables : goal.returns-clause-variables
-returns-clause-variables c = variables_open_as c.args.verified.now.config c.config-config.ensures.runnable c.args.task c.requires.task _ c.in_ok-opening_rows.ensures
-
-pub returns-clause-written : goal.returns-clause-written
-returns-clause-written c = image_opens_as c.args.verified.now.config c.config-config.ensures.runnable c.args.task c.requires.task _ c.in_ok-opening_rows.ensures
-
-pub returns-clause-own : goal.returns-clause-own
-returns-clause-own c = own_opens c.args.verified.now.config c.config-config.ensures.runnable c.args.task c.requires.task _ c.in_ok-opening_rows.ensures
+pub opened-requires-clause-shared : goal.opened-requires-clause-shared
+opened-requires-clause-shared c =
+    let runs = c.config-config.ensures.runnable in
+    subst (HoldGlobals c.args.verified.now.config) (sym c.in_ok-globals.ensures.opening) (globals_open c.args.verified.now.config runs.written runs.declared)

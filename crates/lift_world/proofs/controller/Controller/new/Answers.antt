@@ -1,6 +1,3 @@
-use Rattle.std.proofs.Common.{subst}
-use Rattle.il_machine.specs.Scanning.{Program}
-use Rattle.il_machine.specs.Costs.{AreCosts}
 use Rattle.lift_world.proofs.Opening.{world_opens}
 use Rattle.lift_world.proofs.Sound.{opening_reached}
 use Rattle.lift_world.proofs.controller.Controller.new.Goals as goal
@@ -13,8 +10,8 @@ returns-in-Ok-clause-world c =
     let config = c.args.verified.config in
     record {
       runnable = c.config-config.ensures.runnable;
-      costs = subst (λ (p : Program). AreCosts p.config p.config.units p.costs) c.verified.view_is c.verified.invariant.1;
-      seats = c.in-Ok.ensures.seats;
+      costs = c.costs-costs.ensures.greatest;
+      rows = c.in-Ok.ensures.rows;
       stores = c.in-Ok.ensures.stores;
       reached = opening_reached config _ (rw (c.new.ensures, c.new-in-Ok.ensures) (world_opens config c.in-Ok.opened.core c.in-Ok.opened.stores.items c.in-Ok.ensures.group c.in-Ok.ensures.many));
     }

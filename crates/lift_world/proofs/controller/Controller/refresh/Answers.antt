@@ -1,5 +1,6 @@
-use Rattle.std.proofs.Common.{◌∙◌, sym, ap}
+use Rattle.std.proofs.Common.{◌∙◌, sym, ap, subst}
 use Rattle.lift_spec.specs.Image.{fields_in_range}
+use Rattle.il_machine.specs.Sharing.{FitsGlobals}
 use Rattle.lift_world.specs.Running.{world_of}
 use Rattle.lift_world.proofs.Events.{refresh_outside}
 use Rattle.lift_world.proofs.Keeping.{seats_same, stores_same}
@@ -17,10 +18,15 @@ refresh-requires c = record { cars = cars_many c.args.self.now c.requires c.args
 pub returns-clause-model : goal.returns-clause-model
 returns-clause-model c =
     let w = c.args.self.now in
-    refreshed_world w c.args.fields.now c.refresh.new.self c.refresh.new.hand c.refresh.result (ap (λ s. fields_in_range s c.args.fields.now) (sym c.sizes.ensures) ∙ sym c.in_range.ensures ∙ c.if-not-in_range.false) (c.refresh.ensures.group w.verified.config) c.refresh.ensures.hand c.refresh.ensures.seats
+    refreshed_world w c.args.fields.now c.refresh.new.self c.refresh.new.hand c.refresh.new.report (ap (λ s. fields_in_range s c.args.fields.now) (sym c.sizes.ensures) ∙ sym c.in_range.ensures ∙ c.if-not-in_range.false) (c.refresh.ensures.group w.verified.config) c.refresh.ensures.hand c.refresh.ensures.seats c.refresh.ensures.globals
 
-pub returns-clause-seats : goal.returns-clause-seats
-returns-clause-seats c = seats_same c.args.self.now.verified.config c.args.self.now.core c.refresh.new.self c.requires.seats c.refresh.ensures.seats
+pub returns-clause-rows : goal.returns-clause-rows
+returns-clause-rows c =
+    let w = c.args.self.now in
+    record {
+      seats = seats_same w.verified.config w.core c.refresh.new.self c.requires.rows.seats c.refresh.ensures.seats;
+      globals = subst (λ r. FitsGlobals w.verified.config r) (sym c.refresh.ensures.globals) c.requires.rows.globals;
+    }
 
 pub returns-clause-stores : goal.returns-clause-stores
 returns-clause-stores c = stores_same c.args.self.now.verified.config c.args.self.now.core c.refresh.new.self c.args.self.now.stores.items c.requires.stores c.refresh.ensures.seats

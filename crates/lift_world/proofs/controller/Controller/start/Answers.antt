@@ -2,7 +2,7 @@ use Rattle.std.proofs.Common.{rules, ap, true, false}
 use Rattle.std.specs.Prelude.{is_some}
 use Rattle.lift_world.proofs.Views.{here}
 use Rattle.lift_world.proofs.Sound.{world_ranges}
-use Rattle.lift_world.proofs.Happening.{none_there, some_there, standing, tickets_so, store_within, lent_some, lent_scan, start_none, start_again, started, started_seats, started_stores}
+use Rattle.lift_world.proofs.Happening.{none_there, some_there, standing, tickets_so, store_within, lent_some, lent_scan, start_none, start_again, started, started_rows, started_stores}
 use Rattle.lift_world.proofs.controller.Controller.start.Goals as goal
 
 pub returns-then-is_none-clause-model : goal.returns-then-is_none-clause-model
@@ -37,14 +37,14 @@ returns-clause-model c = λ _.
     let w = c.args.self.now in
     let x = standing w c.requires c.args.task (some_there _ _ c.seat.ensures c.if-is_none.ensures) in
     let s = c.begin.ensures.store x.seat x.there in
-    started w c.requires c.args.task x c.begin.new.core s.0 (c.begin.ensures.seats x.seat x.there) c.begin.new.store c.from.result c.from.ensures (tickets_so w c.requires c.args.task x false c.if-is_open.ensures) c.begin.ensures.shared.0 c.begin.ensures.shared.1 s.1 s.3
+    started w c.requires c.args.task x c.begin.new.core s.0 (c.begin.ensures.seats x.seat x.there) c.begin.new.store c.from.result c.from.ensures (tickets_so w c.requires c.args.task x false c.if-is_open.ensures) c.begin.ensures.shared.0 c.begin.ensures.shared.1 c.begin.ensures.shared.2 s.1 s.3
 
-pub returns-clause-seats : goal.returns-clause-seats
-returns-clause-seats c =
+pub returns-clause-rows : goal.returns-clause-rows
+returns-clause-rows c =
     let w = c.args.self.now in
     let x = standing w c.requires c.args.task (some_there _ _ c.seat.ensures c.if-is_none.ensures) in
     let s = c.begin.ensures.store x.seat x.there in
-    started_seats w c.requires c.args.task x c.begin.new.core s.0 (c.begin.ensures.seats x.seat x.there)
+    started_rows w c.requires c.args.task x c.begin.new.core s.0 (c.begin.ensures.seats x.seat x.there) c.begin.ensures.shared.2
 
 pub returns-clause-stores : goal.returns-clause-stores
 returns-clause-stores c =

@@ -1,0 +1,111 @@
+-- The tasks of PROGRAM lines are those of their programs.
+use Rattle.std.proofs.Common.{◌≡◌, ℕ, zero, suc, ◌+◌, ◌<◌, Bool, true, false, List, [], ◌∷◌, ◌++◌, map, take, length, get_or, slice_get, refl, sym, ap, ◌∙◌, subst, length-append, Option, Some, None, arith}
+use Rattle.std.specs.Prelude.{option_and_then, find, bytes_eq, if◌then◌else◌}
+use Rattle.std.proofs.lemmas.Option.{same_Some, slice_get_read, slice_get_within}
+use Rattle.std.proofs.lemmas.Slice.Eq.{bytes_eq-Decides}
+use Rattle.il_spec.specs.declared.tree.ProgramLine.{ProgramLine}
+use Rattle.il_spec.specs.declared.tree.Unit.{Unit as ProgramUnit}
+use Rattle.il_spec.specs.declared.tree.Config.{Config}
+use Rattle.il_rules.specs.Faults.{Broken, Declaring, Typing, Ordering, HasNoFault}
+use Rattle.il_rules.specs.Names.{is_program, is_predeclared, program_named}
+use Rattle.il_rules.specs.Written.{IsWritten}
+use Rattle.il_run.specs.NameMap.{Text}
+use Rattle.il_run.specs.Scan.{program_of}
+use Rattle.il_scope.specs.Views.{program_number}
+use Rattle.il_scope.proofs.Filled.{take_next, take_all}
+use Rattle.il_scope.proofs.Laws.{program_found}
+use Rattle.il_sound.specs.Accepted.{IsAccepted}
+use Rattle.il_sound.proofs.Lists.{found_in}
+use Rattle.il_sound.proofs.Meant.{program_is}
+use Rattle.il_code.specs.Laying.{used_by, all_paths, program_task}
+use Rattle.il_slots.specs.Program.{program_names}
+use Rattle.il_code.specs.Tasks.{TaskLayout, IsTaskOf, AreTasksOf, Belongs}
+use Rattle.il_slots.specs.Whole.{unit_code}
+use Rattle.il_slots.specs.declared.flat.UnitCode.{UnitCode}
+use Rattle.il_slots.proofs.Counted.{length_mapped, one_there}
+use Rattle.il_code.proofs.Framed.{task_is}
+use Rattle.il_code.proofs.Reached.{row_is, row_many}
+
+pub task_there : (c : Config) (units : List ProgramUnit) (paths : List (List Bool)) (at : ℕ) (u : ProgramUnit) (row used : List Bool) (t : TaskLayout) → units ≡ c.units → paths ≡ all_paths c → at < length units → at < length paths → u ≡ get_or units at u → row ≡ get_or paths at row
+    → used ≡ row → (is_program u ≡ true → t ≡ program_task c u used) → (p : ProgramUnit) → slice_get c.units at ≡ Some p → IsAccepted c p → IsTaskOf c p t
+task_there c units paths at u row used t units_are paths_are low below is has same made p found accepted =
+    let here : slice_get units at ≡ Some u = slice_get_read units (length units) at u refl low is in
+    let one : u ≡ p = same_Some u p (sym here ∙ ap (λ xs. slice_get xs at) units_are ∙ found) in
+    let there : slice_get (all_paths c) at ≡ Some row = sym (ap (λ xs. slice_get xs at) paths_are) ∙ slice_get_read paths (length paths) at row refl below has in
+    task_is c p accepted used t (same ∙ row_is c accepted.declared at p row found there) (made (ap is_program one ∙ (program_is c p.name.name p accepted.program).1) ∙ ap (λ w. program_task c w used) one)
+
+pub none_there : (c : Config) (units : List ProgramUnit) (at : ℕ) (p : ProgramUnit) → units ≡ c.units → length units < at + 1 → slice_get c.units at ≡ Some p → ⊥
+none_there c units at p same high found = let low : at < length units = slice_get_within units at p (ap (λ xs. slice_get xs at) same ∙ found) in omega (arith, low, high)
+
+pub paths_low : (c : Config) (units : List ProgramUnit) (paths : List (List Bool)) (at : ℕ) → units ≡ c.units → paths ≡ all_paths c → at < length units → at < length paths
+paths_low c units paths at same are low =
+    let many : length paths ≡ length c.units = ap length are ∙ length_mapped _ (map (used_by c) c.units) ∙ length_mapped (used_by c) c.units in
+    let size : length units ≡ length c.units = ap length same in omega (arith, many, size, low)
+
+pub used_many : (c : Config) (units : List ProgramUnit) (paths : List (List Bool)) (at : ℕ) (row used : List Bool) → units ≡ c.units → paths ≡ all_paths c → at < length units → at < length paths → row ≡ get_or paths at row → used ≡ row → length used ≡ length c.units
+used_many c units paths at row used same are low below has is =
+    let r = one_there units at low in
+    ap length is ∙ row_many c at r.0 row (ap (λ xs. slice_get xs at) (sym same) ∙ r.1) (sym (ap (λ xs. slice_get xs at) are) ∙ slice_get_read paths (length paths) at row refl below has)
+
+-- LINES
+
+pub line_there : (c : Config) (name q : Text) (at : ℕ) (p : ProgramUnit) → Some at ≡ program_number c q → q ≡ name → program_named c name ≡ Some p → slice_get c.units at ≡ Some p
+line_there c name q at p number same named = ap (option_and_then (slice_get c.units)) number ∙ program_found c q ∙ ap (program_named c) same ∙ named
+
+pub line_none : (c : Config) (name q : Text) (p : ProgramUnit) → None ≡ program_number c q → q ≡ name → program_named c name ≡ Some p → ⊥
+line_none c name q p number same named = let wrong : None ≡ Some p = ap (option_and_then (slice_get c.units)) number ∙ program_found c q ∙ ap (program_named c) same ∙ named in cc
+
+last_pair : {A B : Type 0} (R : A → B → Type 0) (xs : List A) (ys : List B) (x : A) (y : B) → length ys ≡ length xs → ((k : ℕ) (a : A) (b : B) → slice_get xs k ≡ Some a → slice_get ys k ≡ Some b → R a b) → R x y
+    → (k : ℕ) (a : A) (b : B) → slice_get (xs ++ x ∷ []) k ≡ Some a → slice_get (ys ++ y ∷ []) k ≡ Some b → R a b
+last_pair {A = A} {B = B} R [] [] x y size each last zero a b e f = subst (λ (v : A). R v b) (same_Some x a e) (subst (λ (w : B). R x w) (same_Some y b f) last)
+last_pair R [] [] x y size each last (suc k) a b e f = cc
+last_pair R [] (w ∷ ys) x y size each last k a b e f = absurd (let none : ⊥ = omega (arith, size) in none)
+last_pair R (v ∷ xs) [] x y size each last k a b e f = absurd (let none : ⊥ = omega (arith, size) in none)
+last_pair R (v ∷ xs) (w ∷ ys) x y size each last zero a b e f = each zero a b e f
+last_pair R (v ∷ xs) (w ∷ ys) x y size each last (suc k) a b e f = last_pair R xs ys x y (omega (arith, size)) (λ i c d g h. each (suc i) c d g h) last k a b e f
+
+abbrev IsLineTask : Config → ProgramLine → TaskLayout → Type 0
+IsLineTask c l t = (p : ProgramUnit) → program_named c l.program.name ≡ Some p → IsAccepted c p → IsTaskOf c p t
+
+more_tasks : (c : Config) (ls : List ProgramLine) (ts : List TaskLayout) (l : ProgramLine) (t : TaskLayout) → AreTasksOf c ls ts → IsLineTask c l t → AreTasksOf c (ls ++ l ∷ []) (ts ++ t ∷ [])
+more_tasks c ls ts l t are last = record {
+  count = length-append ts (t ∷ []) ∙ ap (λ n. n + 1) are.count ∙ sym (length-append ls (l ∷ []));
+  each = λ k a b p e f. last_pair (IsLineTask c) ls ts l t are.count (λ i x y g h q. are.each i x y q g h) last k a b e f p;
+}
+
+pub tasks_next : (c : Config) (lines : List ProgramLine) (ts after : List TaskLayout) (i : ℕ) (l : ProgramLine) (t : TaskLayout) → i < length lines → l ≡ get_or lines i l → AreTasksOf c (take i lines) ts → after ≡ ts ++ t ∷ [] → IsLineTask c l t → AreTasksOf c (take (i + 1) lines) after
+tasks_next c lines ts after i l t low is are grown last = subst (λ ls. AreTasksOf c ls after) (sym (take_next lines i l low is)) (subst (AreTasksOf c (take i lines ++ l ∷ [])) (sym grown) (more_tasks c (take i lines) ts l t are last))
+
+pub tasks_none : (c : Config) (lines : List ProgramLine) (ts : List TaskLayout) → ts ≡ [] → AreTasksOf c (take 0 lines) ts
+tasks_none c lines ts is = subst (AreTasksOf c (take 0 lines)) (sym is) (record { count = empty lines; each = λ k l t p e f. cc })
+  where
+    empty : (ls : List ProgramLine) → 0 ≡ length (take 0 ls)
+    empty [] = refl
+    empty (l ∷ ls) = refl
+
+pub tasks_all : (c : Config) (lines : List ProgramLine) (i : ℕ) (ts : List TaskLayout) → length lines < i + 1 → AreTasksOf c (take i lines) ts → AreTasksOf c lines ts
+tasks_all c lines i ts high are = subst (λ ls. AreTasksOf c ls ts) (take_all lines i high) are
+
+-- THE CONTAINER
+
+named_itself : (c : Config) (q : Text) (p : ProgramUnit) → program_named c q ≡ Some p → program_named c p.name.name ≡ Some p
+named_itself c q p named = subst (λ name. program_named c name ≡ Some p) (by_test (is_predeclared c q) (program_is c q p named).0) named
+  where
+    by_test : (b : Bool) → (if b then None else find (λ u. bytes_eq u.name.name q) c.units) ≡ Some p → q ≡ p.name.name
+    by_test true e = cc
+    by_test false e = sym ((bytes_eq-Decides p.name.name q).0 (found_in (λ (w : ProgramUnit). bytes_eq w.name.name q) c.units p e).1)
+
+pub belongs : (c : Config) (flat : List UnitCode) (ts : List TaskLayout) → IsWritten c → HasNoFault (Broken Declaring c) → HasNoFault (Broken Typing c) → HasNoFault (Broken Ordering c) → flat ≡ map (unit_code (program_names c) c) c.units → AreTasksOf c c.programs ts → Belongs c flat ts
+belongs c flat ts written declared typed ordered units are = record {
+  written = written;
+  declared = declared;
+  typed = typed;
+  ordered = ordered;
+  units = units;
+  tasks = record { count = are.count; each = λ line t p e found. by_line line t p e (slice_get c.programs line) refl found };
+}
+  where
+    by_line : (line : ℕ) (t : TaskLayout) (p : ProgramUnit) → slice_get ts line ≡ Some t → (o : Option ProgramLine) → slice_get c.programs line ≡ o → program_of c o ≡ Some p → IsTaskOf c p t
+    by_line line t p e None at found = cc
+    by_line line t p e (Some l) at found =
+        are.each line l t p at e found (record { written = written; declared = declared; typed = typed; ordered = λ number place differs. ordered number place; program = named_itself c l.program.name p found })

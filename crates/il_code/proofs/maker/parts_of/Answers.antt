@@ -1,0 +1,12 @@
+use Rattle.std.proofs.Common.{sym}
+use Rattle.il_code.proofs.Contained.{declared_along, typed_along, ordered_along}
+use Rattle.il_code.proofs.maker.parts_of.Goals as goal
+
+pub parts_by-requires-clause-declared : goal.parts_by-requires-clause-declared
+parts_by-requires-clause-declared c = declared_along c.args.ordered.now c.names.result.now (sym c.names.ensures) c.config-config.ensures.declared
+
+pub parts_by-requires-clause-typed : goal.parts_by-requires-clause-typed
+parts_by-requires-clause-typed c = typed_along c.args.ordered.now c.names.result.now (sym c.names.ensures) c.config-config.ensures.typed
+
+pub parts_by-requires-clause-ordered : goal.parts_by-requires-clause-ordered
+parts_by-requires-clause-ordered c = ordered_along c.args.ordered.now c.names.result.now (sym c.names.ensures) c.config-config.ensures.ordered

@@ -1,0 +1,185 @@
+-- The parts of laying out the slots of a task (own rules).
+use Rattle.std.specs.Prelude.{ℕ, zero, suc, ℤ, pos, ◌+ℤ◌, Bool, true, false, ◌&&◌, ◌||◌, nat_eq, if◌then◌else◌, List, [], ◌∷◌, ◌++◌, map, length, slice_get, Option, Some, None, codes}
+use Rattle.il_spec.specs.declared.tree.Scalar.{Scalar as ScalarType}
+use Rattle.il_spec.specs.declared.tree.Literal.{Literal}
+use Rattle.il_spec.specs.declared.tree.Named.{Named}
+use Rattle.il_spec.specs.declared.tree.Form.{Form}
+use Rattle.il_spec.specs.declared.tree.Form.TheVariants.{Block as BlockForm}
+use Rattle.il_spec.specs.declared.tree.Instruction.{Instruction}
+use Rattle.il_spec.specs.declared.tree.Instruction.TheVariants.{Invoke}
+use Rattle.il_spec.specs.declared.tree.Step.{Step}
+use Rattle.il_spec.specs.declared.tree.Unit.{Unit as ProgramUnit}
+use Rattle.il_spec.specs.declared.tree.Config.{Config}
+use Rattle.il_rules.specs.Names.{is_function}
+use Rattle.il_run.specs.NameMap.{Text}
+use Rattle.il_run.specs.declared.value.Value.{Value}
+use Rattle.il_run.specs.Meaning.{Entity, entities, own_entities, under, element_path, initial_value, width}
+use Rattle.il_scope.specs.declared.entry.VariableType.{VariableType}
+use Rattle.il_scope.specs.declared.entry.VariableType.TheVariants.{Scalar, Array, Instance}
+use Rattle.il_scope.specs.declared.entry.BlockType.{BlockType}
+use Rattle.il_scope.specs.Views.{unit_number}
+use Rattle.il_order.specs.Related.{tabulate, holds}
+use Rattle.il_slots.specs.declared.flat.Cell.{Cell}
+use Rattle.il_code.specs.declared.framing.Frames.{Frames}
+use Rattle.il_code.specs.declared.laying.Opening.{Opening}
+use Rattle.il_slots.specs.declared.variables.Variable.{Variable}
+use Rattle.il_slots.specs.Flattened.{function_entities, place_or_zero}
+use Rattle.il_slots.specs.Layout.{Rows, rows, cell, number_part, flag_part}
+use Rattle.il_slots.specs.Making.{shown, block_place, block_lists}
+use Rattle.il_slots.specs.Places.{capped, seen_image}
+use Rattle.il_slots.specs.Paths.{slot_at}
+use Rattle.il_code.specs.Tasks.{TaskLayout}
+
+-- OPENINGS
+
+-- a slot with the value with which it begins
+abbrev pub opening : Text → ScalarType → Value → Opening
+opening path scalar value = record { path = path; scalar = scalar; value = value }
+
+-- its cell, and its value with its path
+abbrev pub cell_of : Opening → Cell
+cell_of o = cell o.path o.scalar
+
+abbrev pub value_of : Opening → Text × Value
+value_of o = (o.path, o.value)
+
+-- an element of an array, so far from the first
+abbrev pub element_opening : Text → ℤ → ScalarType → ℕ → Opening
+element_opening path lower s k = opening (element_path path (lower +ℤ pos k)) s (initial_value s None)
+
+-- those of a variable at a path; `inner` gives those of an instance
+abbrev pub variable_openings : (Text → Option BlockType → List Opening) → Text → Option Literal → VariableType → List Opening
+variable_openings inner path initial (Scalar s) = opening path s (initial_value s initial) ∷ []
+variable_openings inner path initial (Array bounds element) = tabulate (capped (width bounds)) (element_opening path bounds.lower element)
+variable_openings inner path initial (Instance b) = inner path b
+
+-- those of some variables
+abbrev pub list_openings : (Text → Option BlockType → List Opening) → Text → List Variable → List Opening
+list_openings inner path [] = []
+list_openings inner path (v ∷ vs) = variable_openings inner (under path v.name) v.initial v.declared ++ list_openings inner path vs
+
+-- the variables of a block, by their lists
+abbrev pub list_if : Option (List Variable) → List Variable
+list_if None = []
+list_if (Some vs) = vs
+
+abbrev pub block_variables : ℕ → List (List Variable) → Option BlockType → List Variable
+block_variables units lists None = []
+block_variables units lists (Some b) = list_if (slice_get lists (block_place units b))
+
+-- those of an instance, so many deep
+abbrev pub block_openings : ℕ → ℕ → List (List Variable) → Text → Option BlockType → List Opening
+block_openings zero units lists path b = []
+block_openings (suc n) units lists path b = list_openings (block_openings n units lists) path (block_variables units lists b)
+
+-- those of declarations, with those of instances so many deep
+abbrev pub openings_to : ℕ → Config → Text → List Entity → List Opening
+openings_to n c path es = list_openings (block_openings n (length c.units) (block_lists c)) path (map (shown c) es)
+
+abbrev pub openings_of : Config → Text → List Entity → List Opening
+openings_of c path es = openings_to 16 c path es
+
+-- ROWS
+
+-- the first rows with one value more
+abbrev pub with_value : Rows → Value → Rows
+with_value r v = rows (r.numbers ++ number_part v ∷ []) (r.flags ++ flag_part v ∷ [])
+
+-- and with those of some slots
+abbrev pub with_values : Rows → List Opening → Rows
+with_values r [] = r
+with_values r (o ∷ os) = with_values (with_value r o.value) os
+
+-- USES
+
+-- a number more, if it is not there
+abbrev pub is_there : List ℕ → ℕ → Bool
+is_there [] n = false
+is_there (m ∷ ms) n = nat_eq m n || is_there ms n
+
+abbrev pub noted : List ℕ → Option ℕ → List ℕ
+noted ns None = ns
+noted ns (Some n) = if is_there ns n then ns else ns ++ n ∷ []
+
+-- the units of which instances are declared
+abbrev pub with_instance : Config → List ℕ → Form → List ℕ
+with_instance c ns (BlockForm block) = noted ns (unit_number c block)
+with_instance c ns _ = ns
+
+abbrev pub with_instances : Config → List ℕ → List Entity → List ℕ
+with_instances c ns [] = ns
+with_instances c ns (e ∷ es) = with_instances c (with_instance c ns e.form) es
+
+-- of one type, by the names that have it
+abbrev pub with_named : Config → List ℕ → Form → List Named → List ℕ
+with_named c ns form [] = ns
+with_named c ns form (name ∷ names) = with_named c (with_instance c ns form) form names
+
+-- and those that are called
+abbrev pub with_call : Config → List ℕ → Instruction → List ℕ
+with_call c ns (Invoke function operands) = noted ns (unit_number c function.name)
+with_call c ns _ = ns
+
+abbrev pub with_calls : Config → List ℕ → List Step → List ℕ
+with_calls c ns [] = ns
+with_calls c ns (s ∷ ss) = with_calls c (with_call c ns s.instruction) ss
+
+-- all that a unit uses, by number
+abbrev pub used_by : Config → ProgramUnit → List ℕ
+used_by c u = with_calls c (with_instances c [] (own_entities u)) u.body.steps
+
+-- whether one of some units is another, or leads to it
+abbrev pub leads : List (List Bool) → List ℕ → ℕ → Bool
+leads paths [] to = false
+leads paths (n ∷ ns) to = (nat_eq n to || holds paths n to) || leads paths ns to
+
+abbrev pub path_row : ℕ → List (List Bool) → List ℕ → List Bool
+path_row count paths ns = tabulate count (leads paths ns)
+
+-- which units lead to which, by so many uses
+abbrev pub paths_to : ℕ → ℕ → List (List ℕ) → List (List Bool)
+paths_to zero count uses = []
+paths_to (suc n) count uses = map (path_row count (paths_to n count uses)) uses
+
+abbrev pub all_paths : Config → List (List Bool)
+all_paths c = paths_to 16 (length c.units) (map (used_by c) c.units)
+
+-- FRAMES
+
+-- one unit more: a function has a frame if it is used
+abbrev pub with_frame : Config → Frames → ProgramUnit → Bool → Frames
+with_frame c f u true = record { openings = f.openings ++ openings_of c u.name.name (function_entities u); bases = f.bases ++ Some (length f.openings) ∷ [] }
+with_frame c f u false = record { openings = f.openings; bases = f.bases ++ None ∷ [] }
+
+abbrev pub with_frames : Config → Frames → List ProgramUnit → List Bool → Frames
+with_frames c f [] bs = f
+with_frames c f (u ∷ us) [] = f
+with_frames c f (u ∷ us) (b ∷ bs) = with_frames c (with_frame c f u (is_function u && b)) us bs
+
+abbrev pub no_frames : Frames
+no_frames = record { openings = []; bases = [] }
+
+-- a base, where there is none the end
+abbrev pub base_or : ℕ → Option ℕ → ℕ
+base_or end None = end
+base_or end (Some base) = base
+
+-- TASKS
+
+-- a task with the slots that stay, and those of what a scan is given
+abbrev pub laid_task : List Opening → List Opening → List ℕ → TaskLayout
+laid_task own seen bases = record {
+  cells = map cell_of own ++ map cell_of seen;
+  own = length own;
+  bases = bases;
+  clock = place_or_zero (slot_at (map cell_of own ++ map cell_of seen) (codes "NOW"));
+  first = with_values (rows [] []) own;
+}
+
+-- the task of a program, behind the frames of the functions that it uses
+abbrev pub task_by : Config → ProgramUnit → Frames → TaskLayout
+task_by c p f = laid_task (f.openings ++ openings_of c [] (own_entities p)) (openings_to 17 c [] (entities p.externals ++ seen_image c p)) (map (base_or (length f.openings)) f.bases)
+
+-- and where these units are used
+abbrev pub program_task : Config → ProgramUnit → List Bool → TaskLayout
+program_task c p used = task_by c p (with_frames c no_frames c.units used)

@@ -1,0 +1,216 @@
+// The slots of variables, with the values with which they begin.
+
+ghost use Rattle.std.specs.Prelude.{◌≡◌, length, slice_get, ◌++◌, ◌∷◌, [], ◌+ℤ◌, pos, codes, ◌<◌, ◌^◌, IfOk, OnOk, None};
+ghost use Rattle.std.specs.String.{string_bytes};
+ghost use Rattle.il_run.specs.Meaning.{under, element_path, initial_value};
+ghost use Rattle.il_order.specs.Related.{tabulate};
+ghost use Rattle.il_slots.specs.Making.{block_lists};
+ghost use Rattle.il_code.specs.Laying.{opening, element_opening, variable_openings, list_if, list_openings, block_variables, block_openings};
+
+use il_run::value::Value;
+use il_scope::Scoped;
+use il_scope::entry::{BlockType, VariableType};
+use il_slots::sizes::{array_size, block_place};
+use il_slots::variables::{Variable, initial_value};
+use il_spec::list::Items;
+use il_spec::name::Name;
+use il_spec::tree::Scalar;
+use std::alloc::{AllocError, Global};
+
+/// A slot: its path and type, and the value with which it begins.
+#[derive(Drop)]
+pub struct Opening {
+    pub path: Name,
+    pub scalar: Scalar,
+    pub value: Value,
+}
+
+/// A configuration with the variables of all blocks: of units by their numbers, and behind them of the standard ones.
+#[derive(Drop)]
+pub struct Blocks<'a> {
+    pub names: &'a Scoped,
+    pub units: usize,
+    pub lists: &'a [Items<Variable>],
+    pub ghost few: { units < 2 ^ 63 },
+    pub ghost count: { units ≡ length names.now.units },
+    pub ghost all: { lists.now ≡ block_lists names.now },
+}
+
+// The path of a variable of a body that has a path.
+fn member_path(alloc: Global, path: &str, name: &str) -> Result<String, AllocError>
+    ensures { IfOk result (λ p. string_bytes p ≡ path.now ++ codes "." ++ name.now) }
+{
+    let path = format!(in alloc; "{path}.{name}")?;
+    Ok(path)
+}
+
+// The path of a variable of a body (own rule).
+fn under(alloc: Global, path: &str, name: &str) -> Result<String, AllocError>
+    ensures { IfOk result (λ p. string_bytes p ≡ under path.now name.now) }
+{
+    if path.is_empty() {
+        return Ok(String::from_str(alloc, name)?);
+    }
+    member_path(alloc, path, name)
+}
+
+// The path of an element by its number.
+fn numbered_path(alloc: Global, path: &str, number: i128) -> Result<String, AllocError>
+    ensures { IfOk result (λ p. string_bytes p ≡ element_path path.now number) }
+{
+    let path = format!(in alloc; "{path}[{number}]")?;
+    Ok(path)
+}
+
+// The path of an element that stands so far from the first (IEC 61131-3:2003, 2.4.1.2).
+fn path_of_element(
+    alloc: Global,
+    path: &str,
+    lower: i64,
+    before: usize,
+) -> Result<String, AllocError>
+    ensures { IfOk result (λ p. string_bytes p ≡ element_path path.now (lower +ℤ pos before)) }
+{
+    numbered_path(alloc, path, i128::from(lower) + before as i128)
+}
+
+// Adds a slot.
+fn push(
+    alloc: Global,
+    openings: &mut Items<Opening>,
+    path: &str,
+    scalar: Scalar,
+    value: Value,
+) -> Result<(), AllocError>
+    ensures { OnOk result (openings.new ≡ openings.old ++ opening path.now scalar value ∷ []) }
+{
+    let path = Name::of(alloc, path)?;
+    openings.push(Opening {
+        path,
+        scalar,
+        value,
+    })
+}
+
+// Adds an element of an array.
+fn add_element(
+    alloc: Global,
+    openings: &mut Items<Opening>,
+    path: &str,
+    lower: i64,
+    element: Scalar,
+    before: usize,
+) -> Result<(), AllocError>
+    ensures { OnOk result (openings.new ≡ openings.old ++ element_opening path.now lower element before ∷ []) }
+{
+    let path = path_of_element(alloc, path, lower, before)?;
+    push(
+        alloc,
+        openings,
+        path.as_str(),
+        element,
+        initial_value(element, None),
+    )
+}
+
+// Adds the elements of an array (2.3.3.1).
+fn add_elements(
+    alloc: Global,
+    openings: &mut Items<Opening>,
+    path: &str,
+    lower: i64,
+    element: Scalar,
+    count: usize,
+) -> Result<(), AllocError>
+    ensures { OnOk result (openings.new ≡ openings.old ++ tabulate count (element_opening path.now lower element)) }
+{
+    'elements: for before in 0..count {
+        add_element(alloc, openings, path, lower, element, before)?;
+    }
+    Ok(())
+}
+
+// The variables of a block.
+fn block_variables<'a>(blocks: &Blocks<'a>, block: Option<BlockType>) -> &'a [Variable]
+    ensures { result.now ≡ block_variables blocks.now.units blocks.now.lists.now block }
+{
+    match block {
+        Some(block) => list_at(blocks.lists, block_place(blocks.units, block)),
+        None => &[],
+    }
+}
+
+// The list of a number, or none.
+fn list_at(lists: &[Items<Variable>], place: usize) -> &[Variable]
+    ensures { result.now ≡ list_if (slice_get lists.now place) }
+{
+    match lists.get(place) {
+        Some(list) => list.as_slice(),
+        None => &[],
+    }
+}
+
+// Adds the slots of an instance, with those of the instances in it, so many deep.
+#[cycle(laying)]
+fn add_instance(
+    alloc: Global,
+    blocks: &Blocks,
+    openings: &mut Items<Opening>,
+    depth: usize,
+    path: &str,
+    block: Option<BlockType>,
+) -> Result<(), AllocError>
+    ensures { OnOk result (openings.new ≡ openings.old ++ block_openings depth blocks.now.units blocks.now.lists.now path.now block) }
+{
+    if depth == 0 {
+        return Ok(());
+    }
+    let variables = block_variables(blocks, block);
+    add_variables(alloc, blocks, openings, depth - 1, path, variables)
+}
+
+// Adds the slots of a variable at a path.
+#[cycle(laying)]
+fn add_variable(
+    alloc: Global,
+    blocks: &Blocks,
+    openings: &mut Items<Opening>,
+    depth: usize,
+    path: &str,
+    variable: &Variable,
+) -> Result<(), AllocError>
+    ensures { OnOk result (openings.new ≡ openings.old ++ variable_openings (block_openings depth blocks.now.units blocks.now.lists.now) path.now variable.now.initial variable.now.declared) }
+{
+    match variable.declared {
+        VariableType::Scalar(scalar) => {
+            let value = initial_value(scalar, variable.initial);
+            push(alloc, openings, path, scalar, value)
+        }
+        VariableType::Array { bounds, element } => {
+            let count = array_size(bounds);
+            add_elements(alloc, openings, path, bounds.lower, element, count)
+        }
+        VariableType::Instance(block) => {
+            add_instance(alloc, blocks, openings, depth, path, block)
+        }
+    }
+}
+
+/// Adds the slots of variables of the body at a path, with those of instances, so many deep.
+#[cycle(laying)]
+pub fn add_variables(
+    alloc: Global,
+    blocks: &Blocks,
+    openings: &mut Items<Opening>,
+    depth: usize,
+    path: &str,
+    list: &[Variable],
+) -> Result<(), AllocError>
+    ensures { OnOk result (openings.new ≡ openings.old ++ list_openings (block_openings depth blocks.now.units blocks.now.lists.now) path.now list.now) }
+{
+    'variables: for variable in list {
+        let path = under(alloc, path, variable.name.as_str())?;
+        add_variable(alloc, blocks, openings, depth, path.as_str(), variable)?;
+    }
+    Ok(())
+}

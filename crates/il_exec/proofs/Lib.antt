@@ -1,0 +1,12 @@
+pub mod Numbers
+pub mod Slots
+pub mod Does
+pub mod Calls
+pub mod Words
+pub mod Passing
+pub mod Parts
+pub mod Framed
+pub mod Running
+pub mod Standards
+pub mod Invoking
+pub mod Steps

@@ -1,0 +1,4 @@
+pub mod Effect
+pub mod Blocks
+pub mod Going
+pub mod Framing

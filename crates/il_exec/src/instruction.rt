@@ -1,0 +1,326 @@
+// One instruction that goes on to the next.
+
+ghost use Rattle.std.specs.Prelude.{◌≡◌, IsSome, Some, None, true, false, pos, nat_abs};
+ghost use Rattle.std.specs.Int.{int_min, int_max};
+ghost use Rattle.il_run.specs.Step.{logic, negated_if, truth, content, compared, chosen, integer_equal};
+ghost use Rattle.il_run.specs.declared.value.Value.TheVariants.{Integer};
+ghost use Rattle.il_run.specs.declared.value.Content.{Content as Left};
+ghost use Rattle.il_scope.specs.declared.entry.StandardFunction.TheVariants.{Limited};
+ghost use Rattle.il_exec.specs.Effect.{with_some, place, operand, number_left, computed, compared_as, operated, applied_alone, applied_to, applied_to_both, applied, loaded, stored, effect, is_straight, from_base};
+
+use crate::rows::{Rows, boolean_of, number_of};
+use il_run::value::{Content, Value};
+use il_scope::entry::StandardFunction;
+use il_slots::flat::{Flat, Operand, Slot};
+use il_spec::tree::{Arithmetic, Comparison, Elementary, Logic, Operator, Store};
+
+// A Boolean with its type.
+fn truth(value: bool) -> Content
+    ensures { result ≡ truth value }
+{
+    Content {
+        elementary: Elementary::Bool,
+        value: Value::Boolean(value),
+    }
+}
+
+// A number with its type.
+fn content(elementary: Elementary, number: i64) -> Content
+    ensures { result ≡ content elementary (Integer number) }
+{
+    Content {
+        elementary,
+        value: Value::Integer(number),
+    }
+}
+
+// A Boolean, or its negation.
+fn negated_if(negated: bool, value: bool) -> bool
+    ensures { result ≡ negated_if negated value }
+{
+    if negated { !value } else { value }
+}
+
+// AND, OR and XOR.
+fn connected(kind: Logic, left: bool, right: bool) -> bool
+    ensures { result ≡ logic kind left right }
+{
+    match kind {
+        Logic::Conjunction => left && right,
+        Logic::Disjunction => left || right,
+        Logic::Exclusive => { if left { !right } else { right } }
+    }
+}
+
+// What arithmetic gives, in a type that has it. DIV truncates toward zero, and MOD is what it leaves.
+fn computed(kind: Arithmetic, elementary: Elementary, left: i64, right: i64) -> Content
+    requires { IsSome (computed kind elementary left right) }
+    ensures { computed kind elementary left right ≡ Some result }
+{
+    match kind {
+        Arithmetic::Add => content(elementary, left + right),
+        Arithmetic::Sub => content(elementary, left - right),
+        Arithmetic::Mul => content(elementary, left * right),
+        Arithmetic::Div => content(elementary, left / right),
+        Arithmetic::Mod => content(elementary, left.wrapping_rem(right)),
+    }
+}
+
+// A comparison of numbers.
+fn compared(kind: Comparison, left: i64, right: i64) -> bool
+    ensures { result ≡ compared kind left right }
+{
+    match kind {
+        Comparison::Greater => left > right,
+        Comparison::GreaterOrEqual => left >= right,
+        Comparison::Equal => left == right,
+        Comparison::NotEqual => left != right,
+        Comparison::LessOrEqual => left <= right,
+        Comparison::Less => left < right,
+    }
+}
+
+// A comparison. EQ and NE alone compare Booleans.
+fn compared_as(kind: Comparison, left: Value, right: Value) -> Content
+    requires { IsSome (compared_as kind left right) }
+    ensures { compared_as kind left right ≡ Some result }
+{
+    match (left, right) {
+        (Value::Integer(x), Value::Integer(y)) => truth(compared(kind, x, y)),
+        (Value::Boolean(x), Value::Boolean(y)) => match kind {
+            Comparison::Equal => truth(!connected(Logic::Exclusive, x, y)),
+            Comparison::NotEqual => truth(connected(Logic::Exclusive, x, y)),
+            _ => unreachable!(),
+        },
+        _ => unreachable!(),
+    }
+}
+
+// `left OP right`
+pub fn operated(operator: Operator, left: Content, right: Content) -> Content
+    requires { IsSome (operated operator left right) }
+    ensures { operated operator left right ≡ Some result }
+{
+    match operator {
+        Operator::Logic { logic, negated } => truth(connected(
+            logic,
+            boolean_of(left.value),
+            negated_if(negated, boolean_of(right.value)),
+        )),
+        Operator::Arithmetic(kind) => computed(
+            kind,
+            left.elementary,
+            number_of(left.value),
+            number_of(right.value),
+        ),
+        Operator::Comparison(kind) => compared_as(kind, left.value, right.value),
+    }
+}
+
+// What a load leaves of an operand.
+fn loaded(negated: bool, operand: Content) -> Content
+    requires { IsSome (loaded negated operand) }
+    ensures { loaded negated operand ≡ Some result }
+{
+    if negated {
+        truth(!boolean_of(operand.value))
+    } else {
+        operand
+    }
+}
+
+// A standard function of the current result alone (2.5.1.5).
+fn applied_alone(function: StandardFunction, first: Content) -> Content
+    requires { IsSome (applied_alone function first) }
+    ensures { applied_alone function first ≡ Some result }
+{
+    match function {
+        StandardFunction::Absolute => content(first.elementary, number_of(first.value).abs()),
+        StandardFunction::Converted(_, to) => content(to, number_of(first.value)),
+        _ => unreachable!(),
+    }
+}
+
+// MIN and MAX.
+fn applied_to(function: StandardFunction, first: Content, second: Content) -> Content
+    requires { IsSome (applied_to function first second) }
+    ensures { applied_to function first second ≡ Some result }
+{
+    let x = number_of(first.value);
+    let y = number_of(second.value);
+    match function {
+        StandardFunction::Minimum => content(first.elementary, x.min(y)),
+        StandardFunction::Maximum => content(first.elementary, x.max(y)),
+        _ => unreachable!(),
+    }
+}
+
+// LIMIT(MN, IN, MX) = MIN(MAX(IN, MN), MX)
+fn limited(least: Content, input: Content, most: Content) -> Content
+    requires { IsSome (applied_to_both Limited least input most) }
+    ensures { applied_to_both Limited least input most ≡ Some result }
+{
+    let raised = number_of(input.value).max(number_of(least.value));
+    content(least.elementary, raised.min(number_of(most.value)))
+}
+
+// SEL: IN0 where G is FALSE, IN1 where it is TRUE.
+fn chosen(selector: bool, in0: Content, in1: Content) -> Content
+    ensures { result ≡ chosen selector in0 in1 }
+{
+    if selector { in1 } else { in0 }
+}
+
+// LIMIT and SEL.
+fn applied_to_both(
+    function: StandardFunction,
+    first: Content,
+    second: Content,
+    third: Content,
+) -> Content
+    requires { IsSome (applied_to_both function first second third) }
+    ensures { applied_to_both function first second third ≡ Some result }
+{
+    match function {
+        StandardFunction::Limited => limited(first, second, third),
+        StandardFunction::Selected => chosen(boolean_of(first.value), second, third),
+        _ => unreachable!(),
+    }
+}
+
+// A standard function of the current result and further operands.
+fn applied(
+    function: StandardFunction,
+    rows: &Rows,
+    base: usize,
+    first: Content,
+    operands: &[Operand],
+) -> Content
+    requires { IsSome (applied function rows.now base first operands.now) }
+    ensures { applied function rows.now base first operands.now ≡ Some result }
+{
+    match operands {
+        [] => applied_alone(function, first),
+        [second] => applied_to(
+            function,
+            first,
+            operand(rows, base, first.elementary, second),
+        ),
+        [second, third] => applied_to_both(
+            function,
+            first,
+            operand(rows, base, first.elementary, second),
+            operand(rows, base, first.elementary, third),
+        ),
+        _ => unreachable!(),
+    }
+}
+
+/// What an operand gives.
+pub fn operand(rows: &Rows, base: usize, wanted: Elementary, from: &Operand) -> Content
+    requires { IsSome (operand rows.now base wanted from.now) }
+    ensures { operand rows.now base wanted from.now ≡ Some result }
+{
+    match *from {
+        Operand::Constant(constant) => constant,
+        Operand::Bare(number) => content(wanted, number),
+        Operand::At(slot) => rows.read(base, slot),
+        Operand::Element {
+            first,
+            bounds,
+            index,
+        } => rows.read(rows.element(base, bounds, index), first),
+        Operand::Outside => unreachable!(),
+    }
+}
+
+/// A store into the variable of an operand.
+pub fn store(rows: &mut Rows, base: usize, kind: Store, target: &Operand, put: Content)
+    requires { IsSome (with_some (place rows.old base target.now) (λ p. stored kind rows.old p put)) }
+    ensures { with_some (place rows.old base target.now) (λ p. stored kind rows.old p put) ≡ Some rows.new }
+{
+    match *target {
+        Operand::At(slot) => put_down(rows, base, slot, kind, put),
+        Operand::Element {
+            first,
+            bounds,
+            index,
+        } => {
+            let at = rows.element(base, bounds, index);
+            put_down(rows, at, first, kind, put);
+        }
+        _ => unreachable!(),
+    }
+}
+
+// A store at a slot.
+fn put_down(rows: &mut Rows, base: usize, slot: Slot, kind: Store, put: Content)
+    requires { IsSome (stored kind rows.old (from_base base slot) put) }
+    ensures { stored kind rows.old (from_base base slot) put ≡ Some rows.new }
+{
+    match kind {
+        Store::Plain => rows.write(base, slot, put),
+        Store::Negated => rows.write(base, slot, truth(!boolean_of(put.value))),
+        Store::Set => {
+            if boolean_of(put.value) {
+                rows.write(base, slot, truth(true));
+            }
+        }
+        Store::Reset => {
+            if boolean_of(put.value) {
+                rows.write(base, slot, truth(false));
+            }
+        }
+    }
+}
+
+/// What an instruction that goes on to the next does to the rows, and the current result that it leaves; none where the
+/// instruction is another.
+#[inline(always)]
+pub fn exec(
+    rows: &mut Rows,
+    base: usize,
+    before: Option<Content>,
+    instruction: &Flat,
+) -> Option<Content>
+    requires { is_straight instruction.now ≡ true → IsSome (effect instruction.now rows.old base before) }
+    ensures goes_on { (c : Left) → result ≡ Some c → effect instruction.now rows.old base before ≡ Some (rows.new, c) }
+    ensures other { result ≡ None → (is_straight instruction.now ≡ false) × (rows.new ≡ rows.old) }
+    ensures straight { IsSome result → is_straight instruction.now ≡ true }
+{
+    match (instruction, before) {
+        (
+            Flat::Load {
+                negated,
+                operand: from,
+            },
+            _,
+        ) => Some(loaded(*negated, operand(rows, base, Elementary::Int, from))),
+        (
+            Flat::Store {
+                store: kind,
+                target,
+            },
+            Some(left),
+        ) => {
+            store(rows, base, *kind, target, left);
+            Some(left)
+        }
+        (Flat::Not, Some(left)) => Some(loaded(true, left)),
+        (
+            Flat::Operate {
+                operator,
+                operand: from,
+            },
+            Some(left),
+        ) => Some(operated(*operator, left, operand(rows, base, left.elementary, from))),
+        (Flat::Apply { function, operands }, Some(left)) => Some(applied(
+            *function,
+            rows,
+            base,
+            left,
+            operands.as_slice(),
+        )),
+        _ => None,
+    }
+}

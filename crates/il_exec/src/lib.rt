@@ -1,0 +1,10 @@
+//! A step of a scan: flat code on rows of slots.
+#![tactic(auto)]
+
+pub mod blocks;
+pub mod frames;
+pub mod instruction;
+pub mod rows;
+pub mod store;
+
+pub use store::Store;

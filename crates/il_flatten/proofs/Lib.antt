@@ -1,0 +1,5 @@
+pub mod LabelTable
+pub mod Resolve
+pub mod Calling
+pub mod Invoking
+pub mod Functions

@@ -1,0 +1,10 @@
+use Rattle.std.proofs.Common.{◌≡◌, ◌++◌, drop}
+use Rattle.il_slots.specs.Flattened.{flat_code}
+use Rattle.il_slots.specs.Program.{program_names}
+use Rattle.il_flatten.proofs.bodies.steps_code.Given as goal
+
+-- the code so far, with that of what is left, is that of the body
+abbrev pub invariant-loop-step : goal.invariant-loop-step
+invariant-loop-step l =
+    l.code ++ flat_code (program_names l.here.names.now l.here.unit.now.name.name) l.here.names.now l.here.unit.now (drop l.step-index l.here.unit.now.body.steps)
+    ≡ flat_code (program_names l.here.names.now l.here.unit.now.name.name) l.here.names.now l.here.unit.now l.here.unit.now.body.steps

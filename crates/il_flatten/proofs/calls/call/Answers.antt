@@ -1,0 +1,12 @@
+use Rattle.std.proofs.Common.{◌≡◌, ◌∙◌, ap, subst}
+use Rattle.std.specs.Prelude.{IfOk}
+use Rattle.il_flatten.specs.Resolving.{known, call_of}
+use Rattle.il_flatten.proofs.Calling.{call_is}
+use Rattle.il_flatten.proofs.calls.call.Goals as goal
+
+pub returns : goal.returns
+returns c =
+    let h = c.args.here.now in
+    subst (λ f. IfOk c.call_of.result (λ g. g ≡ f))
+    (ap (call_of h.names.now h.unit.now c.args.condition c.args.arguments.now) (c.known-known.ensures.is ∙ ap (known h.names.now h.unit.now) c.as_str.ensures) ∙ call_is h.names.now h.checked h.at h.unit.now h.there c.args.condition c.args.instance.now.name c.args.arguments.now)
+    c.call_of.ensures

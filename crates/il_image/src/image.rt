@@ -1,0 +1,223 @@
+// The image, as a task sees it in its rows.
+
+ghost use Rattle.std.specs.Prelude.{◌≡◌, ◌+◌, ◌*◌, ◌≤◌, length, map, replicate};
+ghost use Rattle.lift_spec.specs.Settle.{fields_of, outputs_of};
+ghost use Rattle.lift_spec.specs.Snapshot.{motor_number, number};
+ghost use Rattle.il_image.specs.Image.{filled, call_value, call_values, group_values, car_values, position_value, motor_value, cars_values, role_values, image_values};
+
+use crate::rows::{put, put_all};
+use il_exec::rows::Rows;
+use il_run::value::Value;
+use lift_spec::calls::Slot;
+use lift_spec::image::{CarFields, CarOutputs, Image, Motor, Sizes};
+
+/// What a program sees of each call slot: CALLWAITS, CALLFROM, CALLTO or CALLCAR.
+#[derive(Clone, Copy, Debug, PartialEq, Eq)]
+pub enum Column {
+    Waits,
+    From,
+    To,
+    Car,
+}
+
+// The number of a motor.
+fn motor_number(motor: Motor) -> i64
+    ensures { result ≡ motor_number motor }
+{
+    match motor {
+        Motor::Up => 1,
+        Motor::Down => -1,
+        Motor::Still => 0,
+    }
+}
+
+// What a column shows of a call slot.
+fn call_value(column: Column, slot: Slot) -> Value
+    ensures { result ≡ call_value column slot }
+{
+    match (column, slot) {
+        (Column::Waits, Slot::Waiting { .. }) => Value::Boolean(true),
+        (Column::Waits, _) => Value::Boolean(false),
+        (Column::From, Slot::Waiting { call, .. }) => Value::Integer(call.from as i64),
+        (Column::From, Slot::Told { call, .. }) => Value::Integer(call.from as i64),
+        (Column::To, Slot::Waiting { call, .. }) => Value::Integer(call.to as i64),
+        (Column::To, Slot::Told { call, .. }) => Value::Integer(call.to as i64),
+        (Column::Car, Slot::Told { car, .. }) => Value::Integer(car as i64),
+        _ => Value::Integer(0),
+    }
+}
+
+// Writes a column from a slot on.
+fn write_column(rows: &mut Rows, at: usize, column: Column, slots: &[Slot])
+    requires numbers { at + length slots.now ≤ length rows.old.numbers }
+    requires flags { at + length slots.now ≤ length rows.old.flags }
+    ensures { rows.new ≡ filled rows.old at (map (call_value column) slots.now) }
+{
+    let _room = rows.numbers.len();
+    let mut place = at;
+    'slots: for slot in slots {
+        put(rows, place, call_value(column, *slot));
+        place += 1;
+    }
+}
+
+// Writes all columns from a slot on.
+fn write_calls(rows: &mut Rows, at: usize, slots: &[Slot])
+    requires numbers { at + 4 * length slots.now ≤ length rows.old.numbers }
+    requires flags { at + 4 * length slots.now ≤ length rows.old.flags }
+    ensures { rows.new ≡ filled rows.old at (call_values slots.now) }
+{
+    let _room = rows.numbers.len();
+    let count = slots.len();
+    write_column(rows, at, Column::Waits, slots);
+    write_column(rows, at + count, Column::From, slots);
+    write_column(rows, at + 2 * count, Column::To, slots);
+    write_column(rows, at + 3 * count, Column::Car, slots);
+}
+
+// Writes what each program sees of the group from a slot on.
+fn write_group(rows: &mut Rows, at: usize, sizes: Sizes, time: u32, run_limit: u8)
+    requires numbers { at + 5 ≤ length rows.old.numbers }
+    requires flags { at + 5 ≤ length rows.old.flags }
+    ensures { rows.new ≡ filled rows.old at (group_values sizes time run_limit) }
+{
+    let values = [
+        Value::Integer(sizes.cars as i64),
+        Value::Integer(sizes.floors as i64),
+        Value::Integer(sizes.slots as i64),
+        Value::Integer(time as i64),
+        Value::Integer(run_limit as i64),
+    ];
+    put_all(rows, at, &values);
+}
+
+// Writes what a car's program sees of its car from a slot on.
+fn write_car(rows: &mut Rows, at: usize, car: u8, fields: CarFields, outputs: CarOutputs)
+    requires numbers { at + 10 ≤ length rows.old.numbers }
+    requires flags { at + 10 ≤ length rows.old.flags }
+    ensures { rows.new ≡ filled rows.old at (car_values car fields outputs) }
+{
+    let values = [
+        Value::Integer(car as i64),
+        Value::Integer(fields.pos as i64),
+        Value::Boolean(fields.level),
+        Value::Boolean(fields.top),
+        Value::Boolean(fields.bottom),
+        Value::Boolean(fields.locked),
+        Value::Boolean(fields.opened),
+        Value::Integer(motor_number(outputs.motor)),
+        Value::Boolean(outputs.opens),
+        Value::Integer(0),
+    ];
+    put_all(rows, at, &values);
+}
+
+// The fields of a car.
+fn fields_of(image: &Image, car: u8) -> CarFields
+    requires car { 1 ≤ car }
+    requires there { car ≤ length image.now.fields.cars }
+    ensures { result ≡ fields_of image.now car }
+{
+    image.fields.cars.as_slice()[car as usize - 1]
+}
+
+// The outputs of a car.
+fn outputs_of(image: &Image, car: u8) -> CarOutputs
+    requires car { 1 ≤ car }
+    requires there { car ≤ length image.now.outputs }
+    ensures { result ≡ outputs_of image.now car }
+{
+    image.outputs.as_slice()[car as usize - 1]
+}
+
+// Writes the positions of cars from a slot on.
+fn write_positions(rows: &mut Rows, at: usize, cars: &[CarFields])
+    requires numbers { at + length cars.now ≤ length rows.old.numbers }
+    requires flags { at + length cars.now ≤ length rows.old.flags }
+    ensures { rows.new ≡ filled rows.old at (map position_value cars.now) }
+{
+    let _room = rows.numbers.len();
+    let mut place = at;
+    'cars: for car in cars {
+        put(rows, place, Value::Integer(car.pos as i64));
+        place += 1;
+    }
+}
+
+// Writes the motors of cars from a slot on.
+fn write_motors(rows: &mut Rows, at: usize, cars: &[CarOutputs])
+    requires numbers { at + length cars.now ≤ length rows.old.numbers }
+    requires flags { at + length cars.now ≤ length rows.old.flags }
+    ensures { rows.new ≡ filled rows.old at (map motor_value cars.now) }
+{
+    let _room = rows.numbers.len();
+    let mut place = at;
+    'cars: for car in cars {
+        put(rows, place, Value::Integer(motor_number(car.motor)));
+        place += 1;
+    }
+}
+
+// Writes so many zeros from a slot on.
+fn write_zeros(rows: &mut Rows, at: usize, count: usize)
+    requires numbers { at + count ≤ length rows.old.numbers }
+    requires flags { at + count ≤ length rows.old.flags }
+    ensures { rows.new ≡ filled rows.old at (replicate count (number 0)) }
+{
+    let _room = rows.numbers.len();
+    'slots: for slot in 0..count {
+        put(rows, at + slot, Value::Integer(0));
+    }
+}
+
+// Writes what the group's program sees of the cars from a slot on, and ASSIGN.
+fn write_cars(rows: &mut Rows, at: usize, image: &Image, slots: usize)
+    requires numbers { at + length (cars_values image.now slots) ≤ length rows.old.numbers }
+    requires flags { at + length (cars_values image.now slots) ≤ length rows.old.flags }
+    ensures { rows.new ≡ filled rows.old at (cars_values image.now slots) }
+{
+    let _room = rows.numbers.len();
+    let cars = image.fields.cars.as_slice();
+    let outputs = image.outputs.as_slice();
+    write_positions(rows, at, cars);
+    write_motors(rows, at + cars.len(), outputs);
+    write_zeros(rows, at + (cars.len() + outputs.len()), slots);
+}
+
+// Writes what programs of the task's role see from a slot on.
+fn write_role(rows: &mut Rows, at: usize, task: u8, image: &Image, slots: usize)
+    requires fields { task ≤ length image.now.fields.cars }
+    requires outputs { task ≤ length image.now.outputs }
+    requires numbers { at + length (role_values task image.now slots) ≤ length rows.old.numbers }
+    requires flags { at + length (role_values task image.now slots) ≤ length rows.old.flags }
+    ensures { rows.new ≡ filled rows.old at (role_values task image.now slots) }
+{
+    if task == 0 {
+        write_cars(rows, at, image, slots);
+    } else {
+        let fields = fields_of(image, task);
+        let outputs = outputs_of(image, task);
+        write_car(rows, at, task, fields, outputs);
+    }
+}
+
+/// Writes the image, as a task sees it, from a slot on.
+pub fn write_image(
+    rows: &mut Rows,
+    at: usize,
+    sizes: Sizes,
+    task: u8,
+    image: &Image,
+    slots: &[Slot],
+)
+    requires fields { task ≤ length image.now.fields.cars }
+    requires outputs { task ≤ length image.now.outputs }
+    requires numbers { at + length (image_values sizes task image.now slots.now) ≤ length rows.old.numbers }
+    requires flags { at + length (image_values sizes task image.now slots.now) ≤ length rows.old.flags }
+    ensures { rows.new ≡ filled rows.old at (image_values sizes task image.now slots.now) }
+{
+    let _room = rows.numbers.len();
+    write_group(rows, at, sizes, image.fields.time, image.fields.run_limit);
+    write_calls(rows, at + 5, slots);
+    write_role(rows, at + (5 + 4 * slots.len()), task, image, slots.len());
+}

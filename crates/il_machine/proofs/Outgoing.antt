@@ -1,0 +1,227 @@
+-- What a scan's rows hold of its outputs.
+use Rattle.std.proofs.Common.{◌≡◌, ◌<◌, ◌≤◌, ℕ, zero, suc, ◌+◌, ◌-◌, List, [], ◌∷◌, ◌++◌, length, slice_get, refl, sym, ap, ap₂, ◌∙◌, Some, Option, subst, Contains, ℤ, pos, ◌≤ℤ◌, nat_abs, codes, append-nil, append_assoc, arith}
+use Rattle.std.specs.Prelude.{option_and_then}
+use Rattle.std.proofs.lemmas.Int.{ints}
+use Rattle.std.proofs.lemmas.List.{length-append, map-append}
+use Rattle.il_spec.specs.declared.tree.Config.{Config}
+use Rattle.il_spec.specs.declared.tree.Scalar.{Scalar}
+use Rattle.il_spec.specs.declared.tree.Unit.{Unit as ProgramUnit}
+use Rattle.il_rules.specs.Names.{within}
+use Rattle.il_run.specs.declared.value.Value.{Value}
+use Rattle.il_run.specs.declared.value.Value.TheVariants.{Boolean, Integer}
+use Rattle.il_run.specs.NameMap.{Text, get}
+use Rattle.il_run.specs.Values.{IsOf}
+use Rattle.il_run.specs.State.{State, Values}
+use Rattle.il_run.specs.Meaning.{element_path, width}
+use Rattle.il_run.specs.Ranges.{HasValue, HaveValues, element_scalars, external_scalars, task_scalars}
+use Rattle.il_sound.specs.Accepted.{IsAccepted}
+use Rattle.il_sound.specs.Agreement.{Holds}
+use Rattle.il_sound.specs.Listed.{seen_scalars, given_scalars as scan_scalars}
+use Rattle.il_sound.proofs.Lists.{at_head, in_tail}
+use Rattle.il_sound.proofs.Paths.{value_of, have_first, have_second}
+use Rattle.il_sound.proofs.Starting.{values_are}
+use Rattle.il_slots.specs.declared.flat.Cell.{Cell}
+use Rattle.il_slots.specs.Layout.{cell, Rows, Fits, view}
+use Rattle.il_slots.specs.Paths.{slot_at}
+use Rattle.il_slots.specs.Program.{own_cells, program_cells, program_code}
+use Rattle.il_slots.proofs.Paired.{stands_slot}
+use Rattle.il_slots.proofs.Tasks.{cells_once}
+use Rattle.il_exec.specs.Going.{Stored}
+use Rattle.il_exec.specs.Framing.{state_by}
+use Rattle.lift_spec.specs.Image.{sizes_of}
+use Rattle.lift_spec.specs.Snapshot.{whole_of, assigned, assigned_from}
+use Rattle.lift_sound.specs.Tasks.{IsTaskOf, output_scalars}
+use Rattle.lift_sound.proofs.Given.{outputs_have}
+use Rattle.lift_sound.proofs.Kept.{as_many}
+use Rattle.lift_sound.proofs.Seen.{firsts, calls, places, motors, assigns}
+use Rattle.lift_sound.proofs.Tasks.{same_image}
+use Rattle.il_machine.specs.Scanning.{IsRunnable, value_at, kept_of, state_of, IsScanOf}
+use Rattle.il_machine.proofs.Given.{cells_of, seen_cells_are}
+use Rattle.il_machine.proofs.Reading.{reads_slot}
+use Rattle.il_machine.proofs.Restarts.{same_unit}
+use Rattle.il_machine.proofs.Scans.{sound_of, accepted, state_is}
+use Rattle.il_machine.proofs.Sizes.{cars_within, slots_within}
+
+-- NUMBERS
+
+-- a value of a subrange from 0 on lies in it
+whole_in : (high most : ℤ) → pos 0 ≤ℤ high → high ≤ℤ most → (o : Option Value) (v : Value) → o ≡ Some v → IsOf (within (pos 0) high) v → (pos 0 ≤ℤ whole_of o) × (whole_of o ≤ℤ most)
+whole_in high most some low o (Boolean b) is lies = absurd lies
+whole_in high most some low o (Integer z) is lies = rw is (lies.0, (let a = lies.1 in omega (arith, ints, a, low)))
+
+-- ELEMENTS
+
+element_stands : (n k at : ℕ) (name : Text) (s : Scalar) → k < n → slice_get (cells_of (element_scalars n name (pos at) s)) k ≡ Some (cell (element_path name (pos (at + k))) s)
+element_stands zero k at name s low = absurd (omega (arith, low))
+element_stands (suc n) zero at name s low = let e : at ≡ at + 0 = omega arith in ap (λ (m : ℕ). Some (cell (element_path name (pos m)) s)) e
+element_stands (suc n) (suc k) at name s low =
+    let e : at + 1 + k ≡ at + suc k = omega arith in
+    element_stands n k (at + 1) name s (omega (arith, low)) ∙ ap (λ (m : ℕ). Some (cell (element_path name (pos m)) s)) e
+
+element_among : (n k at : ℕ) (name : Text) (s : Scalar) → k < n → Contains (element_scalars n name (pos at) s) (element_path name (pos (at + k)), s)
+element_among zero k at name s low = absurd (omega (arith, low))
+element_among (suc n) zero at name s low =
+    let e : at ≡ at + 0 = omega arith in
+    subst (λ (m : ℕ). Contains (element_scalars (suc n) name (pos at) s) (element_path name (pos m), s)) e (at_head (element_path name (pos at), s) (element_scalars n name (pos (at + 1)) s))
+element_among (suc n) (suc k) at name s low =
+    let e : at + 1 + k ≡ at + suc k = omega arith in
+    subst (λ (m : ℕ). Contains (element_scalars (suc n) name (pos at) s) (element_path name (pos m), s)) e
+    (in_tail (element_path name (pos at), s) (element_scalars n name (pos (at + 1)) s) (element_path name (pos (at + 1 + k)), s) (element_among n k (at + 1) name s (omega (arith, low))))
+
+behind_first : (xs ys : List Cell) (k : ℕ) → slice_get (xs ++ ys) (length xs + k) ≡ slice_get ys k
+behind_first [] ys k = let e : 0 + k ≡ k = omega arith in ap (slice_get ys) e
+behind_first (x ∷ xs) ys k = let e : suc (length xs) + k ≡ suc (length xs + k) = omega arith in ap (slice_get (x ∷ xs ++ ys)) e ∙ behind_first xs ys k
+
+element_count : (n : ℕ) (name : Text) (z : ℤ) (s : Scalar) → length (cells_of (element_scalars n name z s)) ≡ n
+element_count zero name z s = refl
+element_count (suc n) name z s = ap suc (element_count n name _ s)
+
+-- A SCAN'S VALUES
+
+module _ (c : Config) (runs : IsRunnable c) (task : ℕ) (s : Stored) (scan : IsScanOf c task s) where
+  abbrev u : ProgramUnit
+  u = scan.0
+
+  abbrev is : IsTaskOf c task u
+  is = scan.1
+
+  abbrev well : IsAccepted c u
+  well = accepted c runs task u is
+
+  abbrev values : Values
+  values = (state_of (kept_of c task s)).values
+
+  state_same : state_by (program_code c u) s ≡ state_of (kept_of c task s)
+  state_same = state_is c runs task u is s scan.2.framed.fits
+
+  all_have : HaveValues values (scan_scalars c u)
+  all_have = have_second values (task_scalars c u) (scan_scalars c u) (values_are c u well values (subst (λ (t : State). Holds c u t.values) state_same scan.2.agrees.holds))
+
+  -- each external has a value of its declared set
+  pub kept_have : (w : ProgramUnit) → IsTaskOf c task w → HaveValues values (external_scalars c w)
+  kept_have w other = subst (λ v. HaveValues values (external_scalars c v)) (same_unit c task u w is other) (have_first values (external_scalars c u) (seen_scalars c u) all_have)
+
+  -- each output has a value of its declared set
+  pub outputs_in : HaveValues values (output_scalars c task)
+  outputs_in =
+      outputs_have values c task
+      (subst (HaveValues values) (same_image c (sound_of c runs) task u is)
+      (have_second values (external_scalars c u) (seen_scalars c u) all_have))
+
+  -- the slot of a path holds its value
+  pub reads_kept : (path : Text) → option_and_then (value_at (program_cells c u) s.rows) (slot_at (program_cells c u) path) ≡ get values path
+  reads_kept path =
+      let fits : Fits (program_cells c u) s.rows = scan.2.framed.fits in
+      subst (λ xs. option_and_then (value_at xs s.rows) (slot_at xs path) ≡ get (view (program_cells c u) s.rows) path) (append-nil (program_cells c u)) (reads_slot (program_cells c u) [] s.rows.numbers s.rows.flags path fits.numbers fits.flags)
+      ∙ ap (λ (t : State). get t.values path) state_same
+
+  -- the same of the task's program
+  pub reads_here : (w : ProgramUnit) → IsTaskOf c task w → (path : Text) → option_and_then (value_at (program_cells c w) s.rows) (slot_at (program_cells c w) path) ≡ get values path
+  reads_here w other path = subst (λ v. option_and_then (value_at (program_cells c v) s.rows) (slot_at (program_cells c v) path) ≡ get values path) (same_unit c task u w is other) (reads_kept path)
+
+-- SERVE
+
+pub serve_in : (c : Config) (runs : IsRunnable c) (k : ℕ) (s : Stored) → IsScanOf c (suc k) s → let v = get (state_of (kept_of c (suc k) s)).values (codes "SERVE") in (pos 0 ≤ℤ whole_of v) × (whole_of v ≤ℤ pos 64)
+serve_in c runs k s scan =
+    let all = outputs_in c runs (suc k) s scan in
+    let here : HasValue (state_of (kept_of c (suc k) s)).values (codes "SERVE", within (pos 0) c.slots.value) = all.1.1.0 in
+    let high = slots_within c runs.declared in
+    whole_in c.slots.value (pos 64) (omega (arith, ints, high.0)) high.1 (get (state_of (kept_of c (suc k) s)).values (codes "SERVE")) here.0 here.1 here.2
+
+pub car_serves : (c : Config) (runs : IsRunnable c) (car : ℕ) (s : Stored) → 1 ≤ car → IsScanOf c car s → let v = get (state_of (kept_of c car s)).values (codes "SERVE") in (pos 0 ≤ℤ whole_of v) × (whole_of v ≤ℤ pos 64)
+car_serves c runs zero s some scan = absurd (omega (arith, some))
+car_serves c runs (suc k) s some scan = serve_in c runs k s scan
+
+-- ASSIGN
+
+module _ (c : Config) (runs : IsRunnable c) (s : Stored) (scan : IsScanOf c 0 s) where
+  abbrev program : ProgramUnit
+  program = scan.0
+
+  abbrev group_values : Values
+  group_values = (state_of (kept_of c 0 s)).values
+
+  abbrev count : ℕ
+  count = (sizes_of c).slots
+
+  abbrev limits : Scalar
+  limits = within (pos 0) c.cars.value
+
+  abbrev front : List Cell
+  front = own_cells c program ++ cells_of (external_scalars c program ++ (firsts c ++ calls c ++ (places c ++ motors c)))
+
+  many : width (record { lower = pos 1; upper = c.slots.value }) ≡ count
+  many = as_many c.slots.value (slots_within c runs.declared).0
+
+  abbrev cell_list : List Cell
+  cell_list = cells_of (element_scalars count (codes "ASSIGN") (pos 1) limits)
+
+  cells_end : program_cells c program ≡ front ++ cell_list
+  cells_end =
+      ap (λ xs. own_cells c program ++ xs)
+      (seen_cells_are c (sound_of c runs) 0 program scan.1
+      ∙ ap cells_of
+      (ap (λ xs. external_scalars c program ++ xs) (sym (append_assoc (firsts c ++ calls c) (places c ++ motors c) (assigns c)))
+      ∙ sym (append_assoc (external_scalars c program) (firsts c ++ calls c ++ (places c ++ motors c)) (assigns c)))
+      ∙ map-append (λ (p : Text × Scalar). cell p.0 p.1) (external_scalars c program ++ (firsts c ++ calls c ++ (places c ++ motors c))) (assigns c)
+      ∙ ap (λ (n : ℕ). cells_of (external_scalars c program ++ (firsts c ++ calls c ++ (places c ++ motors c))) ++ cells_of (element_scalars n (codes "ASSIGN") (pos 1) limits)) many)
+      ∙ sym (append_assoc (own_cells c program) (cells_of (external_scalars c program ++ (firsts c ++ calls c ++ (places c ++ motors c)))) cell_list)
+
+  -- they stand last
+  pub ends_with : length (program_cells c program) ≡ length front + count
+  ends_with = ap length cells_end ∙ length-append front cell_list ∙ ap (λ (n : ℕ). length front + n) (element_count count (codes "ASSIGN") (pos 1) limits)
+
+  stands : (k : ℕ) → k < count → slice_get (program_cells c program) (length front + k) ≡ Some (cell (element_path (codes "ASSIGN") (pos (1 + k))) limits)
+  stands k low = ap (λ xs. slice_get xs (length front + k)) cells_end ∙ behind_first front cell_list k ∙ element_stands count k 1 (codes "ASSIGN") limits low
+
+  assign_at : (k first : ℕ) → k < count → first + count ≡ length (program_cells c program) → value_at (program_cells c program) s.rows (first + k) ≡ get group_values (element_path (codes "ASSIGN") (pos (k + 1)))
+  assign_at k first low starts =
+      let e = ends_with in
+      let same : first + k ≡ length front + k = omega (arith, starts, e) in
+      let next : 1 + k ≡ k + 1 = omega arith in
+      ap (value_at (program_cells c program) s.rows) same
+      ∙ ap (option_and_then (value_at (program_cells c program) s.rows)) (sym (stands_slot (program_cells c program) (cells_once c program (accepted c runs 0 program scan.1)) (length front + k) (cell (element_path (codes "ASSIGN") (pos (1 + k))) limits) (stands k low)))
+      ∙ reads_kept c runs 0 s scan (element_path (codes "ASSIGN") (pos (1 + k))) ∙ ap (λ (n : ℕ). get group_values (element_path (codes "ASSIGN") (pos n))) next
+
+  assign_in : (k : ℕ) → k < count → (o : Option Value) → o ≡ get group_values (element_path (codes "ASSIGN") (pos (k + 1))) → (pos 0 ≤ℤ whole_of o) × (whole_of o ≤ℤ pos 64)
+  assign_in k low o same =
+      let high = cars_within c runs.declared in
+      let next : 1 + k ≡ k + 1 = omega arith in
+      let have : HaveValues group_values (element_scalars count (codes "ASSIGN") (pos 1) limits) =
+      subst (λ (n : ℕ). HaveValues group_values (element_scalars n (codes "ASSIGN") (pos 1) limits)) many (subst (HaveValues group_values) (append-nil (assigns c)) (outputs_in c runs 0 s scan)) in
+      let here : HasValue group_values (element_path (codes "ASSIGN") (pos (1 + k)), limits) =
+      value_of group_values (element_scalars count (codes "ASSIGN") (pos 1) limits) (element_path (codes "ASSIGN") (pos (1 + k)), limits) have (element_among count k 1 (codes "ASSIGN") limits low) in
+      whole_in c.cars.value (pos 64) (omega (arith, ints, high.0)) (omega (arith, ints, high.1)) o here.0 (same ∙ ap (λ (n : ℕ). get group_values (element_path (codes "ASSIGN") (pos n))) (sym next) ∙ here.1) here.2
+
+  -- as code reads them
+  module _ (cells : List Cell) (r : Rows) (n : ℕ) (cells_is : cells ≡ program_cells c program) (rows_is : r ≡ s.rows) (n_is : n ≡ count) where
+    pub assign_room : n ≤ length cells
+    assign_room = let e = ends_with in let same = ap length cells_is in omega (arith, e, same, n_is)
+
+    pub few_slots : n ≤ 64
+    few_slots = let h = slots_within c runs.declared in omega (arith, ints, h.0, h.1, n_is)
+
+    here_at : (k : ℕ) → k < n → value_at cells r (length cells - n + k) ≡ get group_values (element_path (codes "ASSIGN") (pos (k + 1)))
+    here_at k low =
+        let room = assign_room in
+        let same = ap length cells_is in
+        ap₂ (λ xs x. value_at xs x (length cells - n + k)) cells_is rows_is ∙ assign_at k (length cells - n) (omega (arith, low, n_is)) (omega (arith, room, same, n_is))
+
+    pub assign_low : (k : ℕ) → k < n → (pos 0 ≤ℤ whole_of (value_at cells r (length cells - n + k))) × (whole_of (value_at cells r (length cells - n + k)) ≤ℤ pos 64)
+    assign_low k low = assign_in k (omega (arith, low, n_is)) (value_at cells r (length cells - n + k)) (here_at k low)
+
+    -- one more of them
+    pub assign_next : (k : ℕ) → k < n → (cars new : List ℕ) (car : ℕ) → car ≡ nat_abs (whole_of (value_at cells r (length cells - n + k))) → new ≡ cars ++ car ∷ []
+        → cars ++ assigned_from (n - k) (k + 1) group_values ≡ assigned_from n 1 group_values → new ++ assigned_from (n - (k + 1)) (k + 1 + 1) group_values ≡ assigned_from n 1 group_values
+    assign_next k low cars new car is grown before =
+        let more : n - k ≡ suc (n - (k + 1)) = omega (arith, low) in
+        ap (λ l. l ++ assigned_from (n - (k + 1)) (k + 1 + 1) group_values) (grown ∙ ap (λ (m : ℕ). cars ++ m ∷ []) (is ∙ ap (λ o. nat_abs (whole_of o)) (here_at k low)))
+        ∙ append_assoc cars (nat_abs (whole_of (get group_values (element_path (codes "ASSIGN") (pos (k + 1))))) ∷ []) (assigned_from (n - (k + 1)) (k + 1 + 1) group_values)
+        ∙ ap (λ (m : ℕ). cars ++ assigned_from m (k + 1) group_values) (sym more) ∙ before
+
+    -- all of them
+    pub assign_all : (k : ℕ) → k ≤ n → n ≤ k → (cars : List ℕ) → cars ++ assigned_from (n - k) (k + 1) group_values ≡ assigned_from n 1 group_values → cars ≡ assigned count group_values
+    unfolding assigned
+    assign_all k low high cars all =
+        let none : n - k ≡ 0 = omega (arith, low, high) in
+        sym (append-nil cars) ∙ ap (λ (m : ℕ). cars ++ assigned_from m (k + 1) group_values) (sym none) ∙ all ∙ ap (λ (m : ℕ). assigned_from m 1 group_values) n_is

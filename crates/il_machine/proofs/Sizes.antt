@@ -1,0 +1,53 @@
+-- The sizes of a group lie within their limits.
+use Rattle.std.proofs.Common.{◌≡◌, ◌<◌, ◌≤◌, ℕ, ℤ, pos, Bool, true, false, refl, Contains, arith}
+use Rattle.std.proofs.lemmas.Int.{ints}
+use Rattle.std.specs.Prelude.{◌≤ℤ◌, negsuc, nat_le}
+use Rattle.std.proofs.lemmas.Bool.{le-leb}
+use Rattle.il_spec.specs.declared.tree.Config.{Config}
+use Rattle.il_spec.specs.declared.tree.Size.{Size}
+use Rattle.il_spec.specs.declared.tree.Subrange.{Subrange}
+use Rattle.il_rules.specs.Declarations.{is_within, sizes_of as sizes_with_limits, size_outside}
+use Rattle.il_rules.specs.Faults.{HasNoFault, Broken, Declaring, initial_outside}
+use Rattle.il_sound.proofs.Fresh.{within_is}
+use Rattle.lift_spec.specs.Image.{sizes_of}
+use Rattle.lift_sound.specs.Tasks.{IsTaskOf}
+use Rattle.il_spec.specs.declared.tree.Unit.{Unit as ProgramUnit}
+
+module _ (c : Config) (unbroken : HasNoFault (Broken Declaring c)) where
+  size_within : (s : Size) (limits : Subrange) → Contains (sizes_with_limits c) (s, limits) → (limits.lower ≤ℤ s.value) × (s.value ≤ℤ limits.upper)
+  size_within s limits among = by_test (is_within limits s.value) refl
+    where
+      by_test : (b : Bool) → is_within limits s.value ≡ b → (limits.lower ≤ℤ s.value) × (s.value ≤ℤ limits.upper)
+      by_test true is = within_is limits s.value is
+      by_test false is = absurd (unbroken 23 s.place (initial_outside refl (size_outside (s, limits) among is refl)))
+
+  pub cars_within : (pos 1 ≤ℤ c.cars.value) × (c.cars.value ≤ℤ pos 8)
+  cars_within = size_within c.cars (record { lower = pos 1; upper = pos 8 }) (0, omega arith, refl)
+
+  pub floors_within : (pos 2 ≤ℤ c.floors.value) × (c.floors.value ≤ℤ pos 16)
+  floors_within = size_within c.floors (record { lower = pos 2; upper = pos 16 }) (1, omega arith, refl)
+
+  pub slots_within : (pos 1 ≤ℤ c.slots.value) × (c.slots.value ≤ℤ pos 64)
+  slots_within = size_within c.slots (record { lower = pos 1; upper = pos 64 }) (2, omega arith, refl)
+
+  -- there are at most 8 cars
+  pub few_cars : (sizes_of c).cars ≤ 8
+  few_cars = let h = cars_within in omega (arith, ints, h.0, h.1)
+
+  -- so a task's number is at most 8
+  pub few_tasks : (task : ℕ) (u : ProgramUnit) → IsTaskOf c task u → nat_le task 8 ≡ true
+  few_tasks task u is = let few = few_cars in let within = is.within in le-leb task 8 (omega (arith, few, within))
+
+-- a size is a number in a byte
+pub byte_of : (z : ℤ) → pos 1 ≤ℤ z → z ≤ℤ pos 64 → (n : ℕ) × (z ≡ pos n) × (n < 256)
+byte_of (pos n) low high = (n, refl, omega (arith, ints, high))
+byte_of (negsuc n) low high = let no : ⊥ = omega (arith, ints, low) in absurd no
+
+pub cars_byte : (c : Config) → HasNoFault (Broken Declaring c) → (n : ℕ) × (c.cars.value ≡ pos n) × (n < 256)
+cars_byte c unbroken = let h = cars_within c unbroken in byte_of c.cars.value h.0 (omega (arith, ints, h.1))
+
+pub floors_byte : (c : Config) → HasNoFault (Broken Declaring c) → (n : ℕ) × (c.floors.value ≡ pos n) × (n < 256)
+floors_byte c unbroken = let h = floors_within c unbroken in byte_of c.floors.value (omega (arith, ints, h.0)) (omega (arith, ints, h.1))
+
+pub slots_byte : (c : Config) → HasNoFault (Broken Declaring c) → (n : ℕ) × (c.slots.value ≡ pos n) × (n < 256)
+slots_byte c unbroken = let h = slots_within c unbroken in byte_of c.slots.value h.0 h.1

@@ -1,5 +1,0 @@
-use Rattle.std.proofs.Common.{rules}
-use Rattle.il_machine.proofs.image.write_car.Goals as goal
-
-pub returns : goal.returns
-returns c = search rules

@@ -1,0 +1,51 @@
+-- Where a task's scan starts (own rules).
+use Rattle.std.specs.Prelude.{◌≡◌, ℕ, List, [], ◌++◌, map, Option, Some, None}
+use Rattle.il_spec.specs.declared.tree.Config.{Config}
+use Rattle.il_spec.specs.declared.tree.Unit.{Unit as ProgramUnit}
+use Rattle.il_run.specs.declared.value.Value.{Value}
+use Rattle.il_run.specs.State.{Values}
+use Rattle.il_run.specs.Ranges.{HoldGlobals}
+use Rattle.il_run.specs.Scan.{entries_at, external_paths}
+use Rattle.il_slots.specs.declared.flat.Cell.{Cell}
+use Rattle.il_slots.specs.Layout.{Rows, rows, Fits}
+use Rattle.il_slots.specs.Whole.{number_in}
+use Rattle.il_slots.specs.Program.{base_of, program_cells}
+use Rattle.il_exec.specs.declared.frames.Frame.{Frame}
+use Rattle.il_exec.specs.Going.{Stored, going}
+use Rattle.lift_spec.specs.Snapshot.{number}
+use Rattle.lift_sound.specs.Tasks.{IsTaskOf}
+use Rattle.il_machine.specs.declared.globals.Listed.{Listed}
+use Rattle.il_machine.specs.Scanning.{value_at}
+
+-- the first frame of a program: its unit, from its base, at the first place
+abbrev pub first_frame : Config → ProgramUnit → Frame
+first_frame c u = record { unit = number_in c.units u.name.name; base = base_of c u u.name.name; place = 0 }
+
+-- some rows, and others behind them
+abbrev pub joined : Rows → Rows → Rows
+joined first others = rows (first.numbers ++ others.numbers) (first.flags ++ others.flags)
+
+-- a store of a program at its first place, with these rows
+abbrev pub start_of : Config → ProgramUnit → Rows → Stored
+start_of c u r = going r (first_frame c u) [] [] None
+
+-- a row for each slot of a task
+abbrev pub FitsTask : Config → ℕ → Rows → Type 0
+FitsTask c task r = (u : ProgramUnit) × IsTaskOf c task u × Fits (program_cells c u) r
+
+-- a value, and 0 for what is none
+abbrev pub value_or_zero : Option Value → Value
+value_or_zero None = number 0
+value_or_zero (Some v) = v
+
+-- the value of a global at its slot
+abbrev pub shared_value : List Cell → Rows → ℕ → Value
+shared_value cells r slot = value_or_zero (value_at cells r slot)
+
+-- the values of the globals that a program lists
+abbrev pub listed_values : Listed → List Value
+listed_values l = map (shared_value l.cells.now l.rows.now) l.slots.now
+
+-- the task's program lists these values of the globals
+abbrev pub AreListed : Config → ℕ → List Value → Values → Type 0
+AreListed c task values globals = (u : ProgramUnit) × IsTaskOf c task u × HoldGlobals c globals × (map (λ e. e.1) (entries_at globals (external_paths u)) ≡ values)

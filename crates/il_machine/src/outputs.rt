@@ -1,0 +1,120 @@
+// What a scan leaves of its outputs: the wishes of a car, and the cars that the group assigns.
+
+ghost use Rattle.std.specs.Prelude.{◌≡◌, ◌≤◌, ◌≤ℤ◌, pos, nat_abs, codes};
+ghost use Rattle.il_run.specs.NameMap.{get};
+ghost use Rattle.lift_spec.specs.Image.{sizes_of};
+ghost use Rattle.lift_spec.specs.Snapshot.{whole_of, truth_of, motor_of, wishes_of, assigned};
+ghost use Rattle.il_machine.specs.Scanning.{state_of, kept_of, value_at, IsScanOf};
+
+use crate::rows::value;
+use crate::store::Store;
+use crate::verified::Verified;
+use il_exec::rows::Rows;
+use il_run::value::Value;
+use il_slots::flat::Cell;
+use lift_spec::image::{Motor, Wishes};
+use lift_spec::row::Row;
+
+// A whole number; 0 for what is none.
+fn whole_of(value: Option<Value>) -> i64
+    ensures { result ≡ whole_of value }
+{
+    match value {
+        Some(Value::Integer(number)) => number,
+        _ => 0,
+    }
+}
+
+// A Boolean; FALSE for what is none.
+fn truth_of(value: Option<Value>) -> bool
+    ensures { result ≡ truth_of value }
+{
+    match value {
+        Some(Value::Boolean(truth)) => truth,
+        _ => false,
+    }
+}
+
+// The motor of a number.
+fn motor_of(number: i64) -> Motor
+    ensures { result ≡ motor_of number }
+{
+    if number > 0 {
+        Motor::Up
+    } else if number < 0 {
+        Motor::Down
+    } else {
+        Motor::Still
+    }
+}
+
+// The car or the call slot of a number, 0 for none.
+fn one_of(number: i64) -> u8
+    requires least { pos 0 ≤ℤ number }
+    requires most { number ≤ℤ pos 64 }
+    ensures { result ≡ nat_abs number }
+{
+    number as u8
+}
+
+// The car or the call slot that a slot of rows names, 0 for none.
+fn named_at(rows: &Rows, cells: &[Cell], slot: usize) -> u8
+    requires least { pos 0 ≤ℤ whole_of (value_at cells.now rows.now slot) }
+    requires most { whole_of (value_at cells.now rows.now slot) ≤ℤ pos 64 }
+    ensures { result ≡ nat_abs (whole_of (value_at cells.now rows.now slot)) }
+{
+    one_of(whole_of(value(rows, cells, slot)))
+}
+
+impl Store {
+    // A variable of the scan, by its path.
+    fn kept_value(&self, verified: &Verified, task: u8, path: &str) -> Option<Value>
+        requires scan { IsScanOf verified.now.config task self.now }
+        ensures { result ≡ get (state_of (kept_of verified.now.config task self.now)).values path.now }
+    {
+        let _config = verified.config();
+        let code = verified.task_code(task);
+        let slot = code.slot_of(path)?;
+        value(self.rows(), code.cells(), slot)
+    }
+
+    // SERVE, as a car's scan left it.
+    fn served(&self, verified: &Verified, car: u8) -> u8
+        requires car { 1 ≤ car }
+        requires scan { IsScanOf verified.now.config car self.now }
+        ensures { result ≡ nat_abs (whole_of (get (state_of (kept_of verified.now.config car self.now)).values (codes "SERVE"))) }
+    {
+        let _config = verified.config();
+        one_of(whole_of(self.kept_value(verified, car, "SERVE")))
+    }
+
+    /// MOTOR, OPEN and SERVE, as a car's scan left them.
+    #[tactic(auto, unfolding(lift_spec::specs::Snapshot::wishes_of))]
+    pub fn wishes(&self, verified: &Verified, car: u8) -> Wishes
+        requires car { 1 ≤ car }
+        requires scan { IsScanOf verified.now.config car self.now }
+        ensures { result ≡ wishes_of (state_of (kept_of verified.now.config car self.now)).values }
+    {
+        Wishes {
+            motor: motor_of(whole_of(self.kept_value(verified, car, "MOTOR"))),
+            opens: truth_of(self.kept_value(verified, car, "OPEN")),
+            serve: self.served(verified, car),
+        }
+    }
+
+    /// ASSIGN, as GROUP's scan left it: a car for each call slot, 0 for none.
+    pub fn assigned(&self, verified: &Verified) -> Row<u8, 64>
+        requires scan { IsScanOf verified.now.config 0 self.now }
+        ensures { result ≡ assigned (sizes_of verified.now.config).slots (state_of (kept_of verified.now.config 0 self.now)).values }
+    {
+        let _config = verified.config();
+        let count = verified.sizes().slots as usize;
+        let cells = verified.task_code(0).cells();
+        let first = cells.len() - count;
+        let mut cars = Row::new();
+        'slots: for slot in 0..count {
+            cars.push(named_at(self.rows(), cells, first + slot));
+        }
+        cars
+    }
+}

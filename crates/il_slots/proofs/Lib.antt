@@ -1,0 +1,16 @@
+pub mod Kept
+pub mod Placed
+pub mod Declared
+pub mod Tested
+pub mod Heights
+pub mod Uses
+pub mod IsPlaced
+pub mod Distinct
+pub mod Begins
+pub mod Opening
+pub mod Paired
+pub mod Frames
+pub mod Tasks
+pub mod Openings
+pub mod Seen
+pub mod Counted

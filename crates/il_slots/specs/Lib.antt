@@ -1,0 +1,10 @@
+pub mod Layout
+pub mod Cells
+pub mod Flattened
+pub mod Coded
+pub mod Places
+pub mod Whole
+pub mod Program
+pub mod Paths
+pub mod Meant
+pub mod Making

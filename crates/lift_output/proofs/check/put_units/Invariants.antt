@@ -1,0 +1,7 @@
+use Rattle.std.proofs.Common.{◌≡◌, ◌++◌, flat_map, string_bytes}
+use Rattle.il_machine.specs.Listing.{unit_lines}
+use Rattle.lift_output.specs.Listing.{unit_text}
+use Rattle.lift_output.proofs.check.put_units.Given as goal
+
+abbrev pub invariant-units : goal.invariant-units
+invariant-units l = string_bytes l.text ++ flat_map unit_text l.unit-iterator ≡ string_bytes l.initial.text ++ flat_map unit_text (unit_lines l.verified.config.units l.verified.costs)

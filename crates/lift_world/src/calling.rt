@@ -1,0 +1,131 @@
+// What events do to the calls, and the rows of a report.
+
+ghost use Rattle.std.specs.Prelude.{◌≡◌, ℕ, List, Option, ◌≤◌, ◌<◌, ◌+◌, ◌∷◌, [], length, map};
+ghost use Rattle.lift_spec.specs.Calls.{ticket_of, enter_all};
+ghost use Rattle.lift_spec.specs.Settle.{denials_of};
+ghost use Rattle.lift_spec.specs.World.{serve_wish, tell_with, tell_all};
+
+use lift_calls::book::CallBook;
+use lift_image::Row;
+use lift_spec::calls::{Answer, Entering, Slot};
+use lift_spec::hand::Hand;
+use lift_spec::report::{Denial, EnteredCall, Rule};
+
+/// Takes all items out of a row.
+pub fn clear<T: Drop + Default, const N: usize>(row: &mut Row<T, N>)
+    ensures { row.new ≡ [] }
+{
+    if row.len() > 0 {
+        *row = Row::new();
+    }
+}
+
+// The ticket of a slot that isn't Free.
+fn ticket_of(slot: Slot) -> Option<u64>
+    ensures { result ≡ ticket_of slot }
+{
+    match slot {
+        Slot::Free => None,
+        Slot::Waiting { ticket, .. } => Some(ticket),
+        Slot::Told { ticket, .. } => Some(ticket),
+    }
+}
+
+/// The tickets of the slots.
+pub fn tickets_of(slots: &[Slot]) -> Row<Option<u64>, 64>
+    requires { length slots.now ≤ 64 }
+    ensures { result ≡ map ticket_of slots.now }
+{
+    let mut tickets = Row::new();
+    'slots: for slot in slots {
+        tickets.push(ticket_of(*slot));
+    }
+    tickets
+}
+
+/// The denials of a car.
+pub fn denials_of(car: u8, rules: &[Rule]) -> Row<Denial, 16>
+    requires { length rules.now ≤ 16 }
+    ensures { result ≡ denials_of car rules.now }
+{
+    let mut denials = Row::new();
+    'rules: for rule in rules {
+        denials.push(Denial { car, rule: *rule });
+    }
+    denials
+}
+
+/// What a car serves: the call in the slot of its wish, under the ticket that its scan saw.
+pub fn serve(
+    calls: &mut CallBook,
+    car: u8,
+    tickets: &[Option<u64>],
+    slot: u8,
+    answers: &mut Row<Answer, 64>,
+)
+    ensures { serve_wish calls.old car tickets.now slot ≡ (calls.new, answers.new) }
+{
+    clear(answers);
+    if slot > 0 {
+        let answer = match tickets.get(usize::from(slot - 1)) {
+            Some(Some(ticket)) => calls.serve(slot, *ticket, car),
+            _ => Answer::Stale,
+        };
+        answers.push(answer);
+    }
+}
+
+// Tells the call of a slot to a car, under the ticket that the scan saw.
+fn told(calls: &mut CallBook, slot: u8, ticket: Option<u64>, car: u8) -> Answer
+    ensures { tell_with calls.old slot car ticket ≡ (calls.new, result) }
+{
+    match ticket {
+        Some(ticket) => calls.tell(slot, ticket, car),
+        None => Answer::Stale,
+    }
+}
+
+// Tells the call of a slot to the car that was assigned to it, under the ticket that the scan saw; car 0 is none.
+fn tell(calls: &mut CallBook, slot: u8, ticket: Option<u64>, car: u8, answers: &mut Row<Answer, 64>)
+    requires { length answers.old < 64 }
+    ensures told { (tickets : List (Option ℕ)) (cars : List ℕ) → tell_all calls.old answers.old slot (ticket ∷ tickets) (car ∷ cars) ≡ tell_all calls.new answers.new (slot + 1) tickets cars }
+    ensures room { length answers.new ≤ length answers.old + 1 }
+{
+    if car == 0 {
+        return;
+    }
+    let answer = told(calls, slot, ticket, car);
+    answers.push(answer);
+}
+
+/// Tells each call to the car that GROUP assigned to its slot, in the order of the slots, under the tickets that its scan saw.
+pub fn tell_all(
+    calls: &mut CallBook,
+    tickets: &[Option<u64>],
+    cars: &[u8],
+    answers: &mut Row<Answer, 64>,
+)
+    requires few { length tickets.now ≤ 64 }
+    requires each { length cars.now ≡ length tickets.now }
+    ensures { tell_all calls.old [] 1 tickets.now cars.now ≡ (calls.new, answers.new) }
+{
+    clear(answers);
+    for slot in 0..tickets.len() {
+        tell(calls, slot as u8 + 1, tickets[slot], cars[slot], answers);
+    }
+}
+
+/// The calls of the hand enter in its order; from the first without a slot on they stay.
+pub fn enter_all(calls: &mut CallBook, hand: &mut Hand, done: &mut Row<EnteredCall, 64>)
+    ensures { enter_all calls.old [] hand.old ≡ record { calls = calls.new; hand = hand.new; done = done.new } }
+{
+    let _slots = calls.slots();
+    clear(done);
+    'calls: while let Some(call) = hand.first() {
+        let Entering::Done { slot, ticket } = calls.enter(call) else {
+            return; // no slot is left
+        };
+        done.push(EnteredCall { slot, ticket, call });
+        hand.take_first();
+    }
+}
