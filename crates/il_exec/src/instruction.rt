@@ -15,6 +15,7 @@ use il_slots::flat::{Flat, Operand, Slot};
 use il_spec::tree::{Arithmetic, Comparison, Elementary, Logic, Operator, Store};
 
 // A Boolean with its type.
+#[inline(always)]
 fn truth(value: bool) -> Content
     ensures { result ≡ truth value }
 {
@@ -25,6 +26,7 @@ fn truth(value: bool) -> Content
 }
 
 // A number with its type.
+#[inline(always)]
 fn content(elementary: Elementary, number: i64) -> Content
     ensures { result ≡ content elementary (Integer number) }
 {
@@ -35,6 +37,7 @@ fn content(elementary: Elementary, number: i64) -> Content
 }
 
 // A Boolean, or its negation.
+#[inline(always)]
 fn negated_if(negated: bool, value: bool) -> bool
     ensures { result ≡ negated_if negated value }
 {
@@ -42,6 +45,7 @@ fn negated_if(negated: bool, value: bool) -> bool
 }
 
 // AND, OR and XOR.
+#[inline(always)]
 fn connected(kind: Logic, left: bool, right: bool) -> bool
     ensures { result ≡ logic kind left right }
 {
@@ -53,6 +57,7 @@ fn connected(kind: Logic, left: bool, right: bool) -> bool
 }
 
 // What arithmetic gives, in a type that has it. DIV truncates toward zero, and MOD is what it leaves.
+#[inline(always)]
 fn computed(kind: Arithmetic, elementary: Elementary, left: i64, right: i64) -> Content
     requires { IsSome (computed kind elementary left right) }
     ensures { computed kind elementary left right ≡ Some result }
@@ -67,6 +72,7 @@ fn computed(kind: Arithmetic, elementary: Elementary, left: i64, right: i64) -> 
 }
 
 // A comparison of numbers.
+#[inline(always)]
 fn compared(kind: Comparison, left: i64, right: i64) -> bool
     ensures { result ≡ compared kind left right }
 {
@@ -81,6 +87,7 @@ fn compared(kind: Comparison, left: i64, right: i64) -> bool
 }
 
 // A comparison. EQ and NE alone compare Booleans.
+#[inline(always)]
 fn compared_as(kind: Comparison, left: Value, right: Value) -> Content
     requires { IsSome (compared_as kind left right) }
     ensures { compared_as kind left right ≡ Some result }
@@ -97,6 +104,7 @@ fn compared_as(kind: Comparison, left: Value, right: Value) -> Content
 }
 
 // `left OP right`
+#[inline(always)]
 pub fn operated(operator: Operator, left: Content, right: Content) -> Content
     requires { IsSome (operated operator left right) }
     ensures { operated operator left right ≡ Some result }
@@ -118,6 +126,7 @@ pub fn operated(operator: Operator, left: Content, right: Content) -> Content
 }
 
 // What a load leaves of an operand.
+#[inline(always)]
 fn loaded(negated: bool, operand: Content) -> Content
     requires { IsSome (loaded negated operand) }
     ensures { loaded negated operand ≡ Some result }
@@ -130,6 +139,7 @@ fn loaded(negated: bool, operand: Content) -> Content
 }
 
 // A standard function of the current result alone (2.5.1.5).
+#[inline(always)]
 fn applied_alone(function: StandardFunction, first: Content) -> Content
     requires { IsSome (applied_alone function first) }
     ensures { applied_alone function first ≡ Some result }
@@ -142,6 +152,7 @@ fn applied_alone(function: StandardFunction, first: Content) -> Content
 }
 
 // MIN and MAX.
+#[inline(always)]
 fn applied_to(function: StandardFunction, first: Content, second: Content) -> Content
     requires { IsSome (applied_to function first second) }
     ensures { applied_to function first second ≡ Some result }
@@ -156,6 +167,7 @@ fn applied_to(function: StandardFunction, first: Content, second: Content) -> Co
 }
 
 // LIMIT(MN, IN, MX) = MIN(MAX(IN, MN), MX)
+#[inline(always)]
 fn limited(least: Content, input: Content, most: Content) -> Content
     requires { IsSome (applied_to_both Limited least input most) }
     ensures { applied_to_both Limited least input most ≡ Some result }
@@ -165,6 +177,7 @@ fn limited(least: Content, input: Content, most: Content) -> Content
 }
 
 // SEL: IN0 where G is FALSE, IN1 where it is TRUE.
+#[inline(always)]
 fn chosen(selector: bool, in0: Content, in1: Content) -> Content
     ensures { result ≡ chosen selector in0 in1 }
 {
@@ -172,6 +185,7 @@ fn chosen(selector: bool, in0: Content, in1: Content) -> Content
 }
 
 // LIMIT and SEL.
+#[inline(always)]
 fn applied_to_both(
     function: StandardFunction,
     first: Content,
@@ -189,6 +203,7 @@ fn applied_to_both(
 }
 
 // A standard function of the current result and further operands.
+#[inline(always)]
 fn applied(
     function: StandardFunction,
     rows: &Rows,
@@ -217,6 +232,7 @@ fn applied(
 }
 
 /// What an operand gives.
+#[inline(always)]
 pub fn operand(rows: &Rows, base: usize, wanted: Elementary, from: &Operand) -> Content
     requires { IsSome (operand rows.now base wanted from.now) }
     ensures { operand rows.now base wanted from.now ≡ Some result }
@@ -235,6 +251,7 @@ pub fn operand(rows: &Rows, base: usize, wanted: Elementary, from: &Operand) -> 
 }
 
 /// A store into the variable of an operand.
+#[inline(always)]
 pub fn store(rows: &mut Rows, base: usize, kind: Store, target: &Operand, put: Content)
     requires { IsSome (with_some (place rows.old base target.now) (λ p. stored kind rows.old p put)) }
     ensures { with_some (place rows.old base target.now) (λ p. stored kind rows.old p put) ≡ Some rows.new }
@@ -254,6 +271,7 @@ pub fn store(rows: &mut Rows, base: usize, kind: Store, target: &Operand, put: C
 }
 
 // A store at a slot.
+#[inline(always)]
 fn put_down(rows: &mut Rows, base: usize, slot: Slot, kind: Store, put: Content)
     requires { IsSome (stored kind rows.old (from_base base slot) put) }
     ensures { stored kind rows.old (from_base base slot) put ≡ Some rows.new }

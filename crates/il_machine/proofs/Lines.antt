@@ -212,29 +212,6 @@ copied_there (Some l) = refl
 pub same_runs : (a b : List UnitCode) (m n : List ℕ) (k l : ℕ) → a ≡ b → m ≡ n → k ≡ l → ◌≡◌ {A = Runs} (record { units = a; bases = m; clock = k }) (record { units = b; bases = n; clock = l })
 same_runs a b m n k l p q r = ap (λ x. record { units = x; bases = m; clock = k }) p ∙ ap (λ x. record { units = b; bases = x; clock = k }) q ∙ ap (λ x. record { units = b; bases = n; clock = x }) r
 
--- THE BUDGET OF A TASK
-
-unit_there : (c : Config) (units : List Organized) (name : Text) (u : Organized) → find (λ u. bytes_eq u.name.name name) units ≡ Some u → unit_of (unit_lines units (map (cost_of c) units)) name ≡ None → ⊥
-unit_there c [] name u first none = none_some {X = Organized} None u refl first
-unit_there c (v ∷ vs) name u first none = by (λ e f. unit_there c vs name u e f) (bytes_eq v.name.name name) first none
-  where
-    by : (find (λ u. bytes_eq u.name.name name) vs ≡ Some u → unit_of (unit_lines vs (map (cost_of c) vs)) name ≡ None → ⊥)
-        → (b : Bool) → (if b then Some v else find (λ u. bytes_eq u.name.name name) vs) ≡ Some u → (if b then Some (unit_line v (cost_of c v)) else unit_of (unit_lines vs (map (cost_of c) vs)) name) ≡ None → ⊥
-    by rest true e f = none_some {X = UnitLine} None (unit_line v (cost_of c v)) refl (sym f)
-    by rest false e f = rest e f
-
-named_by : (c : Config) → IsRunnable c → (n : ℕ) → HasTask c n → (l : ProgramLine) → program_line_of c.programs n ≡ Some l → (u : Organized) → program_of c n ≡ Some u → find (λ v. bytes_eq v.name.name l.program.name) c.units ≡ Some u
-named_by c runs n has l line u is = program_is_first c l.program.name u (sym (line_program c n (few_tasks c runs.declared n has.0 has.1) ∙ ap (program_by c) line) ∙ is)
-
--- the cost of the unit of a task's line
-pub budget_of : (c : Config) → IsRunnable c → (n : ℕ) → HasTask c n → (l : ProgramLine) → program_line_of c.programs n ≡ Some l → (x : UnitLine) → unit_of (unit_lines c.units (map (cost_of c) c.units)) l.program.name ≡ Some x → (u : Organized) → program_of c n ≡ Some u
-    → x.cost ≡ longest c u
-budget_of c runs n has l line x shown u is = cost_found c c.units l.program.name u x (named_by c runs n has l line u is) shown
-
--- which is there
-pub unit_of_line : (c : Config) → IsRunnable c → (n : ℕ) → HasTask c n → (l : ProgramLine) → program_line_of c.programs n ≡ Some l → unit_of (unit_lines c.units (map (cost_of c) c.units)) l.program.name ≡ None → ⊥
-unit_of_line c runs n has l line none = unit_there c c.units l.program.name has.0 (named_by c runs n has l line has.0 has.1.program) none
-
 -- THE PROGRAM'S NUMBER
 
 -- the program of a task's line is the task's

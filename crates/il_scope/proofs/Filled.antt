@@ -16,11 +16,14 @@ use Rattle.il_run.specs.NameMap.{NameMap, get, insert, get-insert, empty, get-em
 use Rattle.il_rules.specs.Names.{Spelling, or_else, entry_of, is_one_of, named_forms, program_role, role_from, task_role}
 use Rattle.il_rules.specs.Names as rule
 use Rattle.il_scope.specs.declared.entry.VariableType.{VariableType}
+use Rattle.il_scope.specs.declared.entry.Variable.{Variable}
+use Rattle.il_scope.specs.declared.entry.Origin.{Origin}
 use Rattle.il_scope.specs.declared.entry.Role.{Role}
 use Rattle.il_scope.specs.declared.tables.Scope.{Scope}
 use Rattle.il_scope.specs.Entries.{role_entry}
 use Rattle.il_scope.specs.Views.{place_of, type_of}
-use Rattle.il_scope.specs.Tables.{with_new, with_role, with_role_of, HasForms, HasNames, HasRoles, IsScope, AreScopes}
+use Rattle.il_scope.specs.Tables.{with_new, with_role, with_role_of, HasForms, HasNames, HasList, HasRoles, IsScope, AreScopes}
+use Rattle.il_scope.specs.Meanings.{listed_as}
 
 -- what a table has after an insertion
 pub get-inserted : {X : Type 0} (m : NameMap X) (k : Spelling) (v : X) (q : Spelling) → get (insert m k v) q ≡ (if bytes_eq k q then Some v else get m q)
@@ -123,11 +126,11 @@ by_either None true b x = refl
 by_either None false b x = refl
 
 -- no name
-pub names_none : (declared : VariableType) (names : List Named) (old : NameMap VariableType) → HasNames (take 0 names) declared old old
-names_none declared names old q = sym (or_else_none (get old q))
+pub names_none : {X : Type 0} (entry : X) (names : List Named) (old : NameMap X) → HasNames (take 0 names) entry old old
+names_none entry names old q = sym (or_else_none (get old q))
 
 -- one name more
-pub names_next : (names : List Named) (i : ℕ) (n : Named) (key : Spelling) (declared : VariableType) (old mid new : NameMap VariableType) → i < length names → n ≡ get_or names i n → key ≡ n.name → new ≡ with_new mid key declared → HasNames (take i names) declared old mid → HasNames (take (i + 1) names) declared old new
+pub names_next : {X : Type 0} (names : List Named) (i : ℕ) (n : Named) (key : Spelling) (declared : X) (old mid new : NameMap X) → i < length names → n ≡ get_or names i n → key ≡ n.name → new ≡ with_new mid key declared → HasNames (take i names) declared old mid → HasNames (take (i + 1) names) declared old new
 names_next names i n key declared old mid new low there named is before q =
     ap (λ m. get m q) is ∙ get-with_new mid key declared q
     ∙ ap (λ o. or_else o (if bytes_eq key q then Some declared else None)) (before q)
@@ -193,6 +196,35 @@ forms_next config ds i d names declared mid new low there listed typed added bef
     ∙ ap (or_else (option_map (type_of config) (entry_of (named_forms (take i ds)) q))) (sym (map-if (type_of config) (is_one_of (map (λ (n : Named). n.name) d.names) q) d.declared.form) ∙ ap (option_map (type_of config)) (sym (forms-one d.declared.form d.names q)))
     ∙ sym (map-or_else (type_of config) (entry_of (named_forms (take i ds)) q) (entry_of (map (λ (n : Named). (n.name, d.declared.form)) d.names) q))
     ∙ ap (option_map (type_of config)) (sym (entry-append (named_forms (take i ds)) (map (λ (n : Named). (n.name, d.declared.form)) d.names) q) ∙ ap (λ l. entry_of l q) (sym (forms-last (take i ds) d) ∙ ap named_forms (sym (take_next ds i d low there))))
+
+-- LISTS OF A UNIT
+
+-- no declaration
+pub list_none : (config : Config) (origin : Origin) (declarations : List Declaration) (old : NameMap Variable) → HasList config origin (take 0 declarations) old old
+list_none config origin declarations old q = sym (or_else_none (get old q))
+
+-- one declaration more
+pub list_next : (config : Config) (origin : Origin) (ds : List Declaration) (i : ℕ) (d : Declaration) (names : List Named) (variable : Variable) (old mid new : NameMap Variable) → i < length ds → d ≡ get_or ds i d → names ≡ d.names → variable ≡ listed_as origin (type_of config d.declared.form) → HasNames names variable mid new → HasList config origin (take i ds) old mid → HasList config origin (take (i + 1) ds) old new
+list_next config origin ds i d names variable old mid new low there listed typed added before q =
+    added q
+    ∙ ap (λ o. or_else o (if is_one_of (map (λ (n : Named). n.name) names) q then Some variable else None)) (before q)
+    ∙ or_else_assoc (get old q) (meant (entry_of (named_forms (take i ds)) q)) (if is_one_of (map (λ (n : Named). n.name) names) q then Some variable else None)
+    ∙ ap (or_else (get old q)) (
+    ap (λ l. or_else (meant (entry_of (named_forms (take i ds)) q)) (if is_one_of (map (λ (n : Named). n.name) l) q then Some variable else None)) listed
+    ∙ ap (λ v. or_else (meant (entry_of (named_forms (take i ds)) q)) (if is_one_of (map (λ (n : Named). n.name) d.names) q then Some v else None)) typed
+    ∙ ap (or_else (meant (entry_of (named_forms (take i ds)) q))) (sym (map-if (listed_as origin) named (type_of config d.declared.form)) ∙ ap (option_map (listed_as origin)) (sym (map-if (type_of config) named d.declared.form)) ∙ ap meant (sym (forms-one d.declared.form d.names q)))
+    ∙ sym (meant-both (entry_of (named_forms (take i ds)) q) (entry_of (map (λ (n : Named). (n.name, d.declared.form)) d.names) q))
+    ∙ ap meant (sym (entry-append (named_forms (take i ds)) (map (λ (n : Named). (n.name, d.declared.form)) d.names) q) ∙ ap (λ l. entry_of l q) (sym (forms-last (take i ds) d) ∙ ap named_forms (sym (take_next ds i d low there)))))
+  where
+    meant : Option Form → Option Variable
+    meant o = option_map (listed_as origin) (option_map (type_of config) o)
+
+    named : Bool
+    named = is_one_of (map (λ (n : Named). n.name) d.names) q
+
+    meant-both : (a b : Option Form) → meant (or_else a b) ≡ or_else (meant a) (meant b)
+    meant-both (Some x) b = refl
+    meant-both None b = refl
 
 -- ROLES
 

@@ -135,15 +135,8 @@ unfolding image_name
 image_is config rows name are =
     row_is config rows name ∙ ap (λ t. entry_among t name) are ∙ sym (image_among config (image_of config.cars.value config.floors.value config.slots.value) name)
 
--- the first of two, found or not
-pub some_first : {A : Type 0} (a x y : Option A) (v : A) → a ≡ x → a ≡ Some v → Some v ≡ or_else x y
-some_first a x y v is found = ap (λ o. or_else o y) (sym found ∙ is)
-
-pub none_first : {A : Type 0} (a x y r : Option A) → a ≡ x → a ≡ None → r ≡ y → r ≡ or_else x y
-none_first a x y r is found same = same ∙ ap (λ o. or_else o y) (sym found ∙ is)
-
 -- the first of two, as std has it
-pub or_is : {A : Type 0} (r a b : Option A) → r ≡ option_or a b → r ≡ or_else a b
+or_is : {A : Type 0} (r a b : Option A) → r ≡ option_or a b → r ≡ or_else a b
 or_is r (Some x) b e = e
 or_is r None b e = e
 

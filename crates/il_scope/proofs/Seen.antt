@@ -1,20 +1,24 @@
 -- What names mean, as the rules say it.
 use Rattle.std.proofs.Common.{◌≡◌, ℕ, zero, suc, Bool, true, false, ◌&&◌, ◌||◌, List, [], ◌∷◌, ◌++◌, map, refl, sym, ap, ◌∙◌, subst, Option, Some, None, is_some, option_map, option_and_then, bytes_eq, slice_get, if◌then◌else◌, ◌<◌, ◌≤◌, length, get_or, arith}
 use Rattle.std.proofs.lemmas.Option.{slice_get_read}
-use Rattle.std.specs.Prelude.{find}
-use Rattle.std.specs.Option.{option_or}
+use Rattle.std.specs.Prelude.{find, OnOk, Result, Ok, Err}
 use Rattle.il_spec.specs.declared.tree.Config.{Config}
 use Rattle.il_spec.specs.declared.tree.Unit.{Unit as ProgramUnit}
 use Rattle.il_spec.specs.declared.tree.UnitKind.{UnitKind}
 use Rattle.il_spec.specs.declared.tree.UnitKind.TheVariants.{Function, FunctionBlock, Program}
 use Rattle.il_spec.specs.declared.tree.Declaration.{Declaration}
+use Rattle.il_spec.specs.declared.tree.Scalar.{Scalar}
+use Rattle.il_spec.specs.declared.tree.Place.{Place}
 use Rattle.il_spec.specs.declared.tree.Form.{Form}
 use Rattle.il_spec.specs.declared.tree.Form.TheVariants.{Scalar as OfScalar}
-use Rattle.il_run.specs.NameMap.{NameMap, get}
+use Rattle.il_run.specs.NameMap.{NameMap, get, empty, get-empty}
 use Rattle.il_rules.specs.Names as rule
 use Rattle.il_rules.specs.Names.{Spelling, or_else, entry_of, is_one_of, BlockVariables, own_block_variables, named_forms, with_origin, result_of, variables_of, own_variable, is_predeclared, is_program_kind, is_seen_by, Everybody, CarPrograms, GroupPrograms, CarRole, GroupRole, sees, image_meaning, unit_named, global_meaning, outer_meaning, image_name, program_role, meaning, MeansVariable, MeansUnit, MeansStandard, AsInput, AsOutput, AsVariable, AsExternal}
 use Rattle.il_rules.specs.Declarations.{names_of_units}
 use Rattle.il_scope.specs.declared.entry.VariableType.{VariableType}
+use Rattle.il_scope.specs.declared.entry.VariableType.TheVariants.{Scalar as OfScalarType}
+use Rattle.il_scope.specs.declared.entry.Origin.{Origin}
+use Rattle.il_scope.specs.declared.entry.Origin.TheVariants.{Input, Output, Local, External, FunctionResult}
 use Rattle.il_scope.specs.declared.entry.Variable.{Variable}
 use Rattle.il_scope.specs.declared.entry.Role.{Role}
 use Rattle.il_scope.specs.declared.entry.ImageName.{ImageName}
@@ -23,10 +27,9 @@ use Rattle.il_scope.specs.declared.entry.Binding.TheVariants as means
 use Rattle.il_scope.specs.declared.tables.Scope.{Scope}
 use Rattle.il_scope.specs.Entries.{origin_entry, audience_entry, role_entry}
 use Rattle.il_scope.specs.Views.{place_of, unit_number, type_of, variable_of, image_entry, binding_of}
-use Rattle.il_scope.specs.Tables.{HasForms, IsScope, AreScopes}
-use Rattle.il_scope.specs.Meanings.{listed_as, own_result, listed_binding, seen_by, image_binding, global_binding}
-use Rattle.il_scope.proofs.Filled.{or_else_assoc, map-or_else}
-use Rattle.il_scope.proofs.Known.{or_is}
+use Rattle.il_scope.specs.Tables.{with_new, HasList, HasOwn, IsScope, AreScopes}
+use Rattle.il_scope.specs.Meanings.{listed_as, own_result, seen_by, image_binding, global_binding}
+use Rattle.il_scope.proofs.Filled.{or_else_assoc, map-or_else, get-with_new}
 
 -- OWN VARIABLES
 
@@ -49,10 +52,6 @@ one_list config origin (v ∷ vs) q = go (bytes_eq v.0 q) (one_list config origi
         → option_map (variable_of config) (if b then Some (record { name = v.0; form = v.1; origin = origin }) else find (λ v. bytes_eq v.name q) (map (λ (v : Spelling × Form). record { name = v.0; form = v.1; origin = origin }) vs)) ≡ option_map (listed_as (origin_entry origin)) (option_map (type_of config) (option_map (λ (e : Spelling × Form). e.1) (if b then Some v else find (λ e. bytes_eq e.0 q) vs)))
     go true rest = refl
     go false rest = rest
-
--- the same, by its table
-by_table : (config : Config) (origin : rule.Origin) (ds : List Declaration) (table : NameMap VariableType) (q : Spelling) → HasForms config ds table → option_map (variable_of config) (find (λ v. bytes_eq v.name q) (with_origin origin ds)) ≡ option_map (listed_as (origin_entry origin)) (get table q)
-by_table config origin ds table q has = one_list config origin (named_forms ds) q ∙ ap (option_map (listed_as (origin_entry origin))) (sym (has q))
 
 -- a function's result
 by_result : (config : Config) (kind : UnitKind) (own q : Spelling) → option_map (variable_of config) (find (λ v. bytes_eq v.name q) (result_of kind own)) ≡ own_result kind own q
@@ -79,21 +78,41 @@ find-five p a b c d e =
 either_of : {A B : Type 0} (f : A → B) (a b : Option A) (x y : Option B) → option_map f a ≡ x → option_map f b ≡ y → option_map f (or_else a b) ≡ or_else x y
 either_of f a b x y first second = map-or_else f a b ∙ ap (λ o. or_else o (option_map f b)) first ∙ ap (or_else x) second
 
--- all own variables
-pub own_is : (config : Config) (unit : ProgramUnit) (scope : Scope) (q : Spelling) → IsScope config unit scope → or_else (own_result unit.kind unit.name.name q) (listed_binding scope q) ≡ option_map (variable_of config) (own_variable unit q)
-own_is config unit scope q is = sym (
+-- all own variables, as a table of them is filled
+pub own_filled : (config : Config) (unit : ProgramUnit) (none result inputs outputs variables own : NameMap Variable) → none ≡ empty → ((q : Spelling) → get result q ≡ or_else (get none q) (own_result unit.kind unit.name.name q))
+    → HasList config Input unit.inputs result inputs → HasList config Output unit.outputs inputs outputs → HasList config Local unit.variables outputs variables → HasList config External unit.externals variables own → HasOwn config unit own
+own_filled config unit none result inputs outputs variables own start first second third fourth fifth q =
+    fifth q ∙ ap (λ o. or_else o (list External unit.externals)) (fourth q ∙ ap (λ o. or_else o (list Local unit.variables)) (third q ∙ ap (λ o. or_else o (list Output unit.outputs)) (second q ∙ ap (λ o. or_else o (list Input unit.inputs)) (first q ∙ ap (λ m. or_else (get m q) made) start ∙ ap (λ o. or_else o made) (get-empty q)))))
+    ∙ or_else_assoc (or_else (or_else made (list Input unit.inputs)) (list Output unit.outputs)) (list Local unit.variables) (list External unit.externals)
+    ∙ or_else_assoc (or_else made (list Input unit.inputs)) (list Output unit.outputs) (or_else (list Local unit.variables) (list External unit.externals))
+    ∙ or_else_assoc made (list Input unit.inputs) (or_else (list Output unit.outputs) (or_else (list Local unit.variables) (list External unit.externals)))
+    ∙ sym (
     ap (option_map (variable_of config)) (find-five p (result_of unit.kind unit.name.name) (with_origin AsInput unit.inputs) (with_origin AsOutput unit.outputs) (with_origin AsVariable unit.variables) (with_origin AsExternal unit.externals))
     ∙ either_of (variable_of config) (find p (result_of unit.kind unit.name.name)) _ _ _ (by_result config unit.kind unit.name.name q)
-    (either_of (variable_of config) (find p (with_origin AsInput unit.inputs)) _ _ _ (by_table config AsInput unit.inputs scope.inputs q is.inputs)
-    (either_of (variable_of config) (find p (with_origin AsOutput unit.outputs)) _ _ _ (by_table config AsOutput unit.outputs scope.outputs q is.outputs)
-    (either_of (variable_of config) (find p (with_origin AsVariable unit.variables)) _ _ _ (by_table config AsVariable unit.variables scope.variables q is.variables) (by_table config AsExternal unit.externals scope.externals q is.externals)))))
+    (either_of (variable_of config) (find p (with_origin AsInput unit.inputs)) _ _ _ (one_list config AsInput (named_forms unit.inputs) q)
+    (either_of (variable_of config) (find p (with_origin AsOutput unit.outputs)) _ _ _ (one_list config AsOutput (named_forms unit.outputs) q)
+    (either_of (variable_of config) (find p (with_origin AsVariable unit.variables)) _ _ _ (one_list config AsVariable (named_forms unit.variables) q) (one_list config AsExternal (named_forms unit.externals) q)))))
   where
     p : rule.Variable → Bool
     p v = bytes_eq v.name q
 
--- as the code finds them
-pub own_found : (config : Config) (unit : ProgramUnit) (scope : Scope) (q : Spelling) (r own listed : Option Variable) → r ≡ option_or own listed → own ≡ own_result unit.kind unit.name.name q → listed ≡ listed_binding scope q → IsScope config unit scope → r ≡ option_map (variable_of config) (own_variable unit q)
-own_found config unit scope q r own listed e o l is = or_is r own listed e ∙ ap (λ x. or_else x listed) o ∙ ap (or_else (own_result unit.kind unit.name.name q)) l ∙ own_is config unit scope q is
+    made : Option Variable
+    made = own_result unit.kind unit.name.name q
+
+    list : Origin → List Declaration → Option Variable
+    list origin ds = option_map (listed_as origin) (option_map (type_of config) (entry_of (named_forms ds) q))
+
+-- what follows where a call went well
+pub on_ok : {X E P Q : Type 0} (r : Result X E) → (P → Q) → OnOk r P → OnOk r Q
+on_ok (Ok x) f p = f p
+on_ok (Err e) f p = p
+
+-- a function's result where there is none yet
+pub result_put : (kind : UnitKind) (own : Spelling) (scalar : Scalar) (place : Place) (old new : NameMap Variable) (key : Spelling) → kind ≡ Function scalar place → key ≡ own → new ≡ with_new old key (listed_as FunctionResult (OfScalarType scalar)) → (q : Spelling) → get new q ≡ or_else (get old q) (own_result kind own q)
+result_put kind own scalar place old new key is named added q =
+    ap (λ m. get m q) added ∙ get-with_new old key (listed_as FunctionResult (OfScalarType scalar)) q
+    ∙ ap (λ k. or_else (get old q) (if bytes_eq k q then Some (listed_as FunctionResult (OfScalarType scalar)) else None)) named
+    ∙ ap (λ k. or_else (get old q) (own_result k own q)) (sym is)
 
 -- IMAGE NAMES
 

@@ -1,13 +1,13 @@
 -- What names mean, step by step.
-use Rattle.std.specs.Prelude.{Bool, true, false, ◌&&◌, if◌then◌else◌, Option, Some, None, is_some, option_map, bytes_eq}
+use Rattle.std.specs.Prelude.{Bool, true, false, ◌&&◌, if◌then◌else◌, Option, Some, None, is_some, bytes_eq}
 use Rattle.il_spec.specs.declared.tree.Config.{Config}
 use Rattle.il_spec.specs.declared.tree.UnitKind.{UnitKind}
 use Rattle.il_spec.specs.declared.tree.UnitKind.TheVariants.{Function, FunctionBlock, Program}
-use Rattle.il_rules.specs.Names.{Spelling, or_else, is_predeclared, is_program_kind}
+use Rattle.il_rules.specs.Names.{Spelling, is_predeclared, is_program_kind}
 use Rattle.il_scope.specs.declared.entry.VariableType.{VariableType}
 use Rattle.il_scope.specs.declared.entry.VariableType.TheVariants.{Scalar}
 use Rattle.il_scope.specs.declared.entry.Origin.{Origin}
-use Rattle.il_scope.specs.declared.entry.Origin.TheVariants.{Input, Output, Local, External, FunctionResult}
+use Rattle.il_scope.specs.declared.entry.Origin.TheVariants.{FunctionResult}
 use Rattle.il_scope.specs.declared.entry.Variable.{Variable}
 use Rattle.il_scope.specs.declared.entry.Audience.{Audience}
 use Rattle.il_scope.specs.declared.entry.Audience.TheVariants.{Everybody, CarPrograms, GroupPrograms}
@@ -16,8 +16,6 @@ use Rattle.il_scope.specs.declared.entry.Role.TheVariants.{Car, Group}
 use Rattle.il_scope.specs.declared.entry.ImageName.{ImageName}
 use Rattle.il_scope.specs.declared.entry.Binding.{Binding}
 use Rattle.il_scope.specs.declared.entry.Binding.TheVariants as means
-use Rattle.il_run.specs.NameMap.{get}
-use Rattle.il_scope.specs.declared.tables.Scope.{Scope}
 use Rattle.il_scope.specs.Views.{unit_number}
 
 -- a variable of one list
@@ -29,12 +27,6 @@ abbrev pub own_result : UnitKind → Spelling → Spelling → Option Variable
 own_result (Function scalar place) own name = if bytes_eq own name then Some (listed_as FunctionResult (Scalar scalar)) else None
 own_result FunctionBlock own name = None
 own_result Program own name = None
-
--- a variable of a unit's lists: the first with the name
-abbrev pub listed_binding : Scope → Spelling → Option Variable
-listed_binding scope name =
-    or_else (option_map (listed_as Input) (get scope.inputs name))
-    (or_else (option_map (listed_as Output) (get scope.outputs name)) (or_else (option_map (listed_as Local) (get scope.variables name)) (option_map (listed_as External) (get scope.externals name))))
 
 -- whether programs of a role see what is meant for an audience; without a role they see all
 abbrev pub seen_by : Option Role → Audience → Bool

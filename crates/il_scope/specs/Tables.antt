@@ -6,14 +6,17 @@ use Rattle.il_spec.specs.declared.tree.ProgramLine.{ProgramLine}
 use Rattle.il_spec.specs.declared.tree.Declaration.{Declaration}
 use Rattle.il_spec.specs.declared.tree.Named.{Named}
 use Rattle.il_run.specs.NameMap.{NameMap, get, insert}
-use Rattle.il_rules.specs.Names.{Spelling, or_else, entry_of, is_one_of, named_forms, task_role, program_role}
+use Rattle.il_rules.specs.Names.{Spelling, or_else, entry_of, is_one_of, named_forms, own_variable, task_role, program_role}
 use Rattle.il_rules.specs.Declarations.{names_of_units}
 use Rattle.il_scope.specs.declared.entry.VariableType.{VariableType}
+use Rattle.il_scope.specs.declared.entry.Variable.{Variable}
+use Rattle.il_scope.specs.declared.entry.Origin.{Origin}
 use Rattle.il_scope.specs.declared.entry.Role.{Role}
 use Rattle.il_scope.specs.declared.tables.Scope.{Scope}
 use Rattle.il_scope.specs.declared.tables.Tables.{Tables}
 use Rattle.il_scope.specs.Entries.{role_entry}
-use Rattle.il_scope.specs.Views.{place_of, type_of}
+use Rattle.il_scope.specs.Views.{place_of, type_of, variable_of}
+use Rattle.il_scope.specs.Meanings.{listed_as}
 
 -- a table with a name that it did not have
 abbrev pub with_new : {X : Type 0} → NameMap X → Spelling → X → NameMap X
@@ -28,8 +31,16 @@ abbrev pub HasForms : Config → List Declaration → NameMap VariableType → T
 HasForms config declarations table = (name : Spelling) → get table name ≡ option_map (type_of config) (entry_of (named_forms declarations) name)
 
 -- what a table has, and these names where it had none
-abbrev pub HasNames : List Named → VariableType → NameMap VariableType → NameMap VariableType → Type 0
-HasNames names declared old new = (name : Spelling) → get new name ≡ or_else (get old name) (if is_one_of (map (λ n. n.name) names) name then Some declared else None)
+abbrev pub HasNames : {X : Type 0} → List Named → X → NameMap X → NameMap X → Type 0
+HasNames names entry old new = (name : Spelling) → get new name ≡ or_else (get old name) (if is_one_of (map (λ n. n.name) names) name then Some entry else None)
+
+-- what a table has, and the variables of a list where it had none of their names
+abbrev pub HasList : Config → Origin → List Declaration → NameMap Variable → NameMap Variable → Type 0
+HasList config origin declarations old new = (name : Spelling) → get new name ≡ or_else (get old name) (option_map (listed_as origin) (option_map (type_of config) (entry_of (named_forms declarations) name)))
+
+-- the variables of a unit; the first of a name counts
+abbrev pub HasOwn : Config → ProgramUnit → NameMap Variable → Type 0
+HasOwn config unit table = (name : Spelling) → get table name ≡ option_map (variable_of config) (own_variable unit name)
 
 -- a table with the role that a PROGRAM line gives, if its program has none
 abbrev pub with_role_of : Option Role → Spelling → NameMap Role → NameMap Role
@@ -47,8 +58,7 @@ HasRoles config lines roles = (name : Spelling) → get roles name ≡ option_ma
 pub record IsScope (config : Config) (unit : ProgramUnit) (scope : Scope) : Type 0 where
   pub inputs : HasForms config unit.inputs scope.inputs
   pub outputs : HasForms config unit.outputs scope.outputs
-  pub variables : HasForms config unit.variables scope.variables
-  pub externals : HasForms config unit.externals scope.externals
+  pub own : HasOwn config unit scope.own
 
 -- the scope of each unit
 abbrev pub AreScopes : Config → List ProgramUnit → List Scope → Type 0

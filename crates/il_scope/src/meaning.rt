@@ -3,20 +3,17 @@
 ghost use Rattle.std.specs.Prelude.{◌≡◌, Some, option_map, slice_get};
 ghost use Rattle.il_spec.specs.declared.tree.Config.{Config as Configuration};
 ghost use Rattle.il_spec.specs.declared.tree.Unit.{Unit as ProgramUnit};
-ghost use Rattle.il_rules.specs.Names.{own_variable, outer_meaning, image_name, meaning, or_else};
-ghost use Rattle.il_scope.specs.declared.entry.Origin.TheVariants.{Output, Local, External};
-ghost use Rattle.il_run.specs.NameMap as table;
-ghost use Rattle.il_scope.specs.Views.{variable_of, binding_of};
+ghost use Rattle.il_rules.specs.Names.{outer_meaning, image_name, meaning};
+ghost use Rattle.il_scope.specs.Views.{binding_of};
 ghost use Rattle.il_scope.specs.Tables.{IsScope, AreTables};
-ghost use Rattle.il_scope.specs.Meanings.{listed_as, listed_binding, own_result, seen_by, image_binding, global_binding};
+ghost use Rattle.il_scope.specs.Meanings.{seen_by, image_binding, global_binding};
 
-use crate::entry::{Audience, Binding, ImageName, Origin, Role, Variable, VariableType};
+use crate::entry::{Audience, Binding, ImageName, Role};
 use crate::image::image_name;
 use crate::numbers::{is_program, unit_number};
 use crate::tables::{Scope, Tables};
 use crate::words::is_predeclared;
 use il_spec::tree::{Config, Unit, UnitKind};
-use il_table::Table;
 
 /// What a name means in the unit of a number; none where it is unknown there.
 pub fn meaning(config: &Config, tables: &Tables, at: usize, name: &str) -> Option<Binding>
@@ -45,7 +42,7 @@ fn meaning_in(
     requires scope { IsScope config.now unit.now scope.now }
     ensures { result ≡ option_map (binding_of config.now) (meaning config.now unit.now name.now) }
 {
-    match own_variable(unit, scope, name) {
+    match scope.own.get(name) {
         Some(variable) => Some(Binding::Variable(variable)),
         None => outer_meaning(config, tables, unit, name),
     }
@@ -100,72 +97,5 @@ fn global_meaning(config: &Config, tables: &Tables, name: &str) -> Option<Bindin
         Some(Binding::Standard)
     } else {
         None
-    }
-}
-
-// The variable of a unit under a name: the first with it.
-fn own_variable(unit: &Unit, scope: &Scope, name: &str) -> Option<Variable>
-    ensures { (config : Configuration) → IsScope config unit.now scope.now → result ≡ option_map (variable_of config) (own_variable unit.now name.now) }
-{
-    let listed = listed_variable(scope, name);
-    result_variable(unit, name).or(listed)
-}
-
-// The variable of a unit's lists under a name: the first with it.
-fn listed_variable(scope: &Scope, name: &str) -> Option<Variable>
-    ensures { result ≡ listed_binding scope.now name.now }
-{
-    match listed(&scope.inputs, Origin::Input, name) {
-        Some(input) => Some(input),
-        None => other_variable(scope, name),
-    }
-}
-
-// The same of the lists behind the inputs.
-fn other_variable(scope: &Scope, name: &str) -> Option<Variable>
-    ensures { result ≡ or_else (option_map (listed_as Output) (table.get scope.now.outputs name.now)) (or_else (option_map (listed_as Local) (table.get scope.now.variables name.now)) (option_map (listed_as External) (table.get scope.now.externals name.now))) }
-{
-    match listed(&scope.outputs, Origin::Output, name) {
-        Some(output) => Some(output),
-        None => inner_variable(scope, name),
-    }
-}
-
-// The same of the variables and externals.
-fn inner_variable(scope: &Scope, name: &str) -> Option<Variable>
-    ensures { result ≡ or_else (option_map (listed_as Local) (table.get scope.now.variables name.now)) (option_map (listed_as External) (table.get scope.now.externals name.now)) }
-{
-    match listed(&scope.variables, Origin::Local, name) {
-        Some(local) => Some(local),
-        None => listed(&scope.externals, Origin::External, name),
-    }
-}
-
-// The variable of one list under a name.
-fn listed(variables: &Table<VariableType>, origin: Origin, name: &str) -> Option<Variable>
-    ensures { result ≡ option_map (listed_as origin) (table.get variables.now name.now) }
-{
-    match variables.get(name) {
-        Some(declared) => Some(Variable { declared, origin }),
-        None => None,
-    }
-}
-
-// A function's variable of its own name, which is its result (2.5.1).
-fn result_variable(unit: &Unit, name: &str) -> Option<Variable>
-    ensures { result ≡ own_result unit.now.kind unit.now.name.name name.now }
-{
-    match unit.kind {
-        UnitKind::Function(scalar, _) => {
-            if unit.name.name.as_str() == name {
-                Some(Variable {
-                    declared: VariableType::Scalar(scalar),
-                    origin: Origin::FunctionResult,
-                })
-            } else {
-                None
-            }
-        }
-        _ => None,
     }
 }

@@ -1,26 +1,29 @@
 // Tables of names.
 
 ghost use Rattle.std.specs.Prelude.{◌≡◌, IfOk, OnOk, map};
-ghost use Rattle.il_rules.specs.Names.{Spelling};
+ghost use Rattle.il_rules.specs.Names.{Spelling, or_else};
 ghost use Rattle.il_run.specs.NameMap as table;
 ghost use Rattle.il_scope.specs.Views.{place_of, type_of};
-ghost use Rattle.il_scope.specs.Tables.{with_new, with_role, AreUnits, HasForms, HasNames, HasRoles, IsScope, AreScopes, AreTables};
+ghost use Rattle.il_scope.specs.Meanings.{own_result};
+ghost use Rattle.il_scope.specs.Tables.{with_new, with_role, AreUnits, HasForms, HasNames, HasRoles, HasList, HasOwn, IsScope, AreScopes, AreTables};
 
-use crate::entry::{Role, VariableType};
+use crate::entry::{Origin, Role, Variable, VariableType};
 use crate::numbers::block_type;
 use crate::roles::task_role;
 use il_spec::list::Items;
-use il_spec::tree::{Config, Declaration, Form, Named, ProgramLine, Unit};
+use il_spec::tree::{Config, Declaration, Form, Named, ProgramLine, Unit, UnitKind};
 use il_table::Table;
 use std::alloc::{AllocError, Global};
 
-/// The variables of a unit's lists by their names; the first of a name in its list counts.
+/// The variables of a unit by their names.
 #[derive(Drop)]
 pub struct Scope {
+    /// The types of its inputs; the first of a name counts.
     pub inputs: Table<VariableType>,
+    /// The types of its outputs.
     pub outputs: Table<VariableType>,
-    pub variables: Table<VariableType>,
-    pub externals: Table<VariableType>,
+    /// What its body names: a function's result, then the variables of all lists; the first of a name counts.
+    pub own: Table<Variable>,
 }
 
 /// The names of a configuration.
@@ -119,9 +122,91 @@ fn scope_of(
     Ok(Scope {
         inputs: form_table(alloc, config, units, unit.inputs.as_slice())?,
         outputs: form_table(alloc, config, units, unit.outputs.as_slice())?,
-        variables: form_table(alloc, config, units, unit.variables.as_slice())?,
-        externals: form_table(alloc, config, units, unit.externals.as_slice())?,
+        own: own_table(alloc, config, units, unit)?,
     })
+}
+
+// The variables of a unit.
+fn own_table(
+    alloc: Global,
+    config: &Config,
+    units: &Table<usize>,
+    unit: &Unit,
+) -> Result<Table<Variable>, AllocError>
+    requires { AreUnits config.now units.now }
+    ensures { IfOk result (HasOwn config.now unit.now) }
+{
+    let mut own = Table::new(alloc);
+    put_result(alloc, unit, &mut own)?;
+    put_list(
+        alloc,
+        config,
+        units,
+        Origin::Input,
+        unit.inputs.as_slice(),
+        &mut own,
+    )?;
+    put_list(
+        alloc,
+        config,
+        units,
+        Origin::Output,
+        unit.outputs.as_slice(),
+        &mut own,
+    )?;
+    put_list(
+        alloc,
+        config,
+        units,
+        Origin::Local,
+        unit.variables.as_slice(),
+        &mut own,
+    )?;
+    put_list(
+        alloc,
+        config,
+        units,
+        Origin::External,
+        unit.externals.as_slice(),
+        &mut own,
+    )?;
+    Ok(own)
+}
+
+// Adds a function's variable of its own name, which is its result (2.5.1).
+fn put_result(alloc: Global, unit: &Unit, own: &mut Table<Variable>) -> Result<(), AllocError>
+    ensures { OnOk result ((name : Spelling) → table.get own.new name ≡ or_else (table.get own.old name) (own_result unit.now.kind unit.now.name.name name)) }
+{
+    match unit.kind {
+        UnitKind::Function(scalar, _) => {
+            let result = Variable {
+                declared: VariableType::Scalar(scalar),
+                origin: Origin::FunctionResult,
+            };
+            put_new(alloc, own, unit.name.name.as_str(), result)
+        }
+        _ => Ok(()),
+    }
+}
+
+// Adds the variables of a list whose names are not there.
+fn put_list(
+    alloc: Global,
+    config: &Config,
+    units: &Table<usize>,
+    origin: Origin,
+    declarations: &[Declaration],
+    own: &mut Table<Variable>,
+) -> Result<(), AllocError>
+    requires { AreUnits config.now units.now }
+    ensures { OnOk result (HasList config.now origin declarations.now own.old own.new) }
+{
+    for declaration in declarations {
+        let declared = type_of(config, units, &declaration.declared.form);
+        let variable = Variable { declared, origin };
+        put_names(alloc, declaration.names.as_slice(), variable, own)?;
+    }
+    Ok(())
 }
 
 // The types of declared variables; the first of a name counts.
@@ -142,17 +227,17 @@ fn form_table(
     Ok(table)
 }
 
-// Adds the names that are not there, each with this type.
-fn put_names(
+// Adds the names that are not there, each with this value.
+fn put_names<X: Copy>(
     alloc: Global,
     names: &[Named],
-    declared: VariableType,
-    table: &mut Table<VariableType>,
+    value: X,
+    table: &mut Table<X>,
 ) -> Result<(), AllocError>
-    ensures { OnOk result (HasNames names.now declared table.old table.new) }
+    ensures { OnOk result (HasNames names.now value table.old table.new) }
 {
     for named in names {
-        put_new(alloc, table, named.name.as_str(), declared)?;
+        put_new(alloc, table, named.name.as_str(), value)?;
     }
     Ok(())
 }

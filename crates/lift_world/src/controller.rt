@@ -15,6 +15,7 @@ ghost use Rattle.lift_spec.specs.World as model;
 ghost use Rattle.lift_world.specs.Running.{seat_at, task_in, group_in, with_seat, Steps, RunsOut, world_of, IsWorldOf, CoreFits, StoresFit, reports_by, may_report, reporting, instructions, up_to_end};
 ghost use Rattle.lift_spec.specs.declared.event.Event.TheVariants as event;
 
+use crate::pair::both;
 use crate::replies::Replies;
 use crate::shared::Core;
 use il_machine::{Stepped, Store, Verified, scan, step};
@@ -153,15 +154,24 @@ impl Controller {
     {
         let _config = verified.config();
         let _costs = verified.costs();
-        match opening(alloc, &verified) {
-            Ok(opened) => Ok(Controller {
-                verified,
-                core: opened.core,
-                stores: opened.stores,
-                desk: Hand::new(),
-                hand: Hand::new(),
-            }),
-            Err(refusal) => Err(refusal),
+        let opened = opening(alloc, &verified);
+        let (verified, opened) = both(verified, opened)?;
+        Ok(Controller::of(verified, opened))
+    }
+
+    // The group of a configuration that opens with this: no scan is open, and no call waits.
+    fn of(verified: Verified, opened: Opened) -> Controller
+        ensures verified { result.verified ≡ verified }
+        ensures core { result.core ≡ opened.core }
+        ensures stores { result.stores ≡ opened.stores }
+        ensures calls { (result.desk ≡ []) × (result.hand ≡ []) }
+    {
+        Controller {
+            verified,
+            core: opened.core,
+            stores: opened.stores,
+            desk: Hand::new(),
+            hand: Hand::new(),
         }
     }
 

@@ -4,6 +4,7 @@
 mod calling;
 mod controller;
 mod loader;
+mod pair;
 mod replies;
 mod shared;
 mod world;

@@ -13,6 +13,7 @@ ghost use Rattle.il_machine.specs.Nesting.{IsNested};
 ghost use Rattle.lift_sound.specs.Runs.{RunsWell};
 ghost use Rattle.lift_world.specs.Loading.{IsSpelled, IsUnbroken, IsAccepted, IsRefusedFor, IsExplained};
 
+use crate::pair::both;
 use il_budget::budget;
 use il_code::{Code, code};
 use il_declare::declare;
@@ -69,10 +70,9 @@ fn affordable(alloc: Global, checked: Checked) -> Result<Verified, Refusal>
     ensures costs { IfOk result (λ v. v.costs ≡ map (cost_of v.config) v.config.units) }
     ensures refused { IfErr result (IsRefusedBy (IsTooLong checked)) }
 {
-    match costs(alloc, &checked) {
-        Ok(costs) => with_costs(alloc, checked, costs),
-        Err(refusal) => Err(refusal),
-    }
+    let costs = costs(alloc, &checked);
+    let (checked, costs) = both(checked, costs)?;
+    with_costs(alloc, checked, costs)
 }
 
 // A configuration with ranges, verified, by what its units cost.

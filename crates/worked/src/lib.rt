@@ -1,4 +1,4 @@
-//! Worked rows of the lower crates: calls whose answers were found by hand, which no command shows.
+//! Worked rows of the crates below the commands: calls whose answers were found by hand, which no command shows.
 #![tactic(auto)]
 
 #[cfg(test)]
@@ -10,6 +10,8 @@ mod call_sets;
 #[cfg(test)]
 mod field_ranges;
 #[cfg(test)]
+mod group;
+#[cfg(test)]
 mod interlock_rows;
 #[cfg(test)]
 mod plant_steps;
@@ -19,3 +21,5 @@ mod range_rows;
 mod table_entries;
 #[cfg(test)]
 mod token_places;
+#[cfg(test)]
+mod world_rows;

@@ -3,4 +3,4 @@ use Rattle.il_scope.specs.Tables.{HasNames}
 use Rattle.il_scope.proofs.tables.put_names.Given as goal
 
 abbrev pub invariant-loop-named : goal.invariant-loop-named
-invariant-loop-named l = HasNames (take l.named-index l.names) l.declared l.fn.table l.table
+invariant-loop-named g l = HasNames (take l.named-index l.names) l.value l.fn.table l.table

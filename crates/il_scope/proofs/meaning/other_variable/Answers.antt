@@ -1,8 +1,0 @@
-use Rattle.il_scope.proofs.Known.{some_first, none_first}
-use Rattle.il_scope.proofs.meaning.other_variable.Goals as goal
-
-pub returns-in-Some : goal.returns-in-Some
-returns-in-Some c = some_first c.listed.result _ _ c.in-Some.output c.listed.ensures c.in-Some.is
-
-pub returns-in-None : goal.returns-in-None
-returns-in-None c = none_first c.listed.result _ _ c.inner_variable.result c.listed.ensures c.in-None.is c.inner_variable.ensures

@@ -1,0 +1,364 @@
+// What groups reply to events in any order, and what these leave. No command shows it: `sim` hands in what its plant gives.
+
+use crate::group::{Given, play};
+use lift_image::{CarOutputs, Motor};
+use lift_spec::calls::{Answer, Call, Slot};
+use lift_spec::event::{EventFault, Reply};
+use lift_spec::report::{Denial, Rule};
+use std::test::Fail;
+
+// Two cars whose motors are asked to go up; a scan has three steps.
+const RISING: &[u8] = b"PROGRAM C
+LD 1
+ST MOTOR
+END_PROGRAM
+CONFIGURATION K
+VAR_GLOBAL CONSTANT CARS : INT := 2; FLOORS : INT := 2; SLOTS : INT := 1; END_VAR
+RESOURCE M ON PLC
+TASK CAR1 (INTERVAL := T#100ms, PRIORITY := 1);
+TASK CAR2 (INTERVAL := T#100ms, PRIORITY := 1);
+PROGRAM P1 WITH CAR1 : C;
+PROGRAM P2 WITH CAR2 : C;
+END_RESOURCE
+END_CONFIGURATION
+";
+
+// One car with an empty program; a scan has one step.
+const IDLE: &[u8] = b"PROGRAM C
+END_PROGRAM
+CONFIGURATION K
+VAR_GLOBAL CONSTANT CARS : INT := 1; FLOORS : INT := 2; SLOTS : INT := 1; END_VAR
+RESOURCE M ON PLC
+TASK CAR1 (INTERVAL := T#100ms, PRIORITY := 1);
+PROGRAM P1 WITH CAR1 : C;
+END_RESOURCE
+END_CONFIGURATION
+";
+
+// One car that serves slot 1 in each scan, and a group that tells it slot 1; a scan has three steps.
+const TELLING: &[u8] = b"PROGRAM C
+LD 1
+ST SERVE
+END_PROGRAM
+PROGRAM D
+LD 1
+ST ASSIGN[1]
+END_PROGRAM
+CONFIGURATION K
+VAR_GLOBAL CONSTANT CARS : INT := 1; FLOORS : INT := 8; SLOTS : INT := 1; END_VAR
+RESOURCE M ON PLC
+TASK CAR1 (INTERVAL := T#100ms, PRIORITY := 1);
+TASK GROUP (INTERVAL := T#100ms, PRIORITY := 1);
+PROGRAM P1 WITH CAR1 : C;
+PROGRAM P2 WITH GROUP : D;
+END_RESOURCE
+END_CONFIGURATION
+";
+
+const UP: CarOutputs = CarOutputs {
+    motor: Motor::Up,
+    opens: false,
+};
+
+const STILL: CarOutputs = CarOutputs {
+    motor: Motor::Still,
+    opens: false,
+};
+
+// Events handed to the group of a text, what it replies, and its last report and its slots then.
+struct WorldRow {
+    text: &'static [u8],
+    given: &'static [Given],
+    replies: &'static [Reply],
+    outputs: &'static [CarOutputs],
+    denials: &'static [Denial],
+    answers: &'static [Answer],
+    slots: &'static [Slot],
+}
+
+static ROWS: [WorldRow; 6] = [
+    // Of two cars, that which commits first under a run limit of 1 runs.
+    WorldRow {
+        text: RISING,
+        given: &[
+            Given::Refresh {
+                run_limit: 1,
+                cars: 2,
+                pos: 1,
+            },
+            Given::Start(1),
+            Given::Start(2),
+            Given::Instruction(1),
+            Given::Instruction(1),
+            Given::Instruction(1),
+            Given::Instruction(2),
+            Given::Instruction(2),
+            Given::Instruction(2),
+            Given::Commit(2),
+            Given::Commit(1),
+        ],
+        replies: &[
+            Reply::Refreshed,
+            Reply::Started,
+            Reply::Started,
+            Reply::More,
+            Reply::More,
+            Reply::End,
+            Reply::More,
+            Reply::More,
+            Reply::End,
+            Reply::Committed,
+            Reply::Committed,
+        ],
+        outputs: &[STILL, UP],
+        denials: &[Denial {
+            car: 1,
+            rule: Rule::Crowded,
+        }],
+        answers: &[],
+        slots: &[Slot::Free],
+    },
+    // Under a lower run limit a refresh stops the car of the highest number.
+    WorldRow {
+        text: RISING,
+        given: &[
+            Given::Refresh {
+                run_limit: 2,
+                cars: 2,
+                pos: 1,
+            },
+            Given::Start(1),
+            Given::Instruction(1),
+            Given::Instruction(1),
+            Given::Instruction(1),
+            Given::Commit(1),
+            Given::Start(2),
+            Given::Instruction(2),
+            Given::Instruction(2),
+            Given::Instruction(2),
+            Given::Commit(2),
+            Given::Refresh {
+                run_limit: 1,
+                cars: 2,
+                pos: 1,
+            },
+        ],
+        replies: &[
+            Reply::Refreshed,
+            Reply::Started,
+            Reply::More,
+            Reply::More,
+            Reply::End,
+            Reply::Committed,
+            Reply::Started,
+            Reply::More,
+            Reply::More,
+            Reply::End,
+            Reply::Committed,
+            Reply::Refreshed,
+        ],
+        outputs: &[UP, STILL],
+        denials: &[Denial {
+            car: 2,
+            rule: Rule::Crowded,
+        }],
+        answers: &[],
+        slots: &[Slot::Free],
+    },
+    // Events out of turn, of tasks and floors that are not there, and fields out of range.
+    WorldRow {
+        text: IDLE,
+        given: &[
+            Given::Instruction(1),
+            Given::Commit(1),
+            Given::Start(1),
+            Given::Start(1),
+            Given::Commit(1),
+            Given::Instruction(1),
+            Given::Instruction(1),
+            Given::Start(5),
+            Given::Start(0),
+            Given::Commit(1),
+            Given::Refresh {
+                run_limit: 1,
+                cars: 1,
+                pos: 3,
+            },
+            Given::Refresh {
+                run_limit: 2,
+                cars: 1,
+                pos: 1,
+            },
+            Given::Press(Call { from: 1, to: 3 }),
+        ],
+        replies: &[
+            Reply::Refused(EventFault::NoOpenScan),
+            Reply::Refused(EventFault::NoOpenScan),
+            Reply::Started,
+            Reply::Refused(EventFault::AlreadyOpen),
+            Reply::Refused(EventFault::NotAtEnd),
+            Reply::End,
+            Reply::Refused(EventFault::NoOpenScan),
+            Reply::Refused(EventFault::NoSuchActor),
+            Reply::Refused(EventFault::NoSuchActor),
+            Reply::Committed,
+            Reply::Refused(EventFault::FieldOutOfRange),
+            Reply::Refused(EventFault::FieldOutOfRange),
+            Reply::Refused(EventFault::NoSuchActor),
+        ],
+        outputs: &[STILL],
+        denials: &[],
+        answers: &[],
+        slots: &[Slot::Free],
+    },
+    // A call is pressed, gathered and entered; another of its floor waits on the desk as long as the hand has one.
+    WorldRow {
+        text: TELLING,
+        given: &[
+            Given::Press(Call { from: 3, to: 3 }),
+            Given::Press(Call { from: 9, to: 9 }),
+            Given::Press(Call { from: 3, to: 5 }),
+            Given::Press(Call { from: 3, to: 5 }),
+            Given::Gather(3),
+            Given::Press(Call { from: 3, to: 5 }),
+            Given::Gather(3),
+            Given::Refresh {
+                run_limit: 1,
+                cars: 1,
+                pos: 1,
+            },
+            Given::Gather(3),
+            Given::Gather(9),
+        ],
+        replies: &[
+            Reply::Refused(EventFault::SameFloor),
+            Reply::Refused(EventFault::NoSuchActor),
+            Reply::New,
+            Reply::Already,
+            Reply::Gathered(16),
+            Reply::New,
+            Reply::Held,
+            Reply::Refreshed,
+            Reply::Gathered(16),
+            Reply::Refused(EventFault::NoSuchActor),
+        ],
+        outputs: &[STILL],
+        denials: &[],
+        answers: &[],
+        slots: &[Slot::Waiting {
+            ticket: 1,
+            call: Call { from: 3, to: 5 },
+        }],
+    },
+    // A call that finds no slot stays in the hand.
+    WorldRow {
+        text: TELLING,
+        given: &[
+            Given::Press(Call { from: 2, to: 1 }),
+            Given::Press(Call { from: 1, to: 2 }),
+            Given::Gather(1),
+            Given::Gather(2),
+            Given::Refresh {
+                run_limit: 1,
+                cars: 1,
+                pos: 1,
+            },
+            Given::Gather(1),
+            Given::Gather(2),
+        ],
+        replies: &[
+            Reply::New,
+            Reply::New,
+            Reply::Gathered(2),
+            Reply::Gathered(1),
+            Reply::Refreshed,
+            Reply::Gathered(0),
+            Reply::Held,
+        ],
+        outputs: &[STILL],
+        denials: &[],
+        answers: &[],
+        slots: &[Slot::Waiting {
+            ticket: 1,
+            call: Call { from: 1, to: 2 },
+        }],
+    },
+    // A group tells by the ticket that its scan began with: it is stale where another call has the slot at the commit.
+    WorldRow {
+        text: TELLING,
+        given: &[
+            Given::Press(Call { from: 1, to: 2 }),
+            Given::Gather(1),
+            Given::Refresh {
+                run_limit: 1,
+                cars: 1,
+                pos: 1,
+            },
+            Given::Start(0),
+            Given::Instruction(0),
+            Given::Instruction(0),
+            Given::Instruction(0),
+            Given::Commit(0),
+            Given::Start(0),
+            Given::Start(1),
+            Given::Instruction(1),
+            Given::Instruction(1),
+            Given::Instruction(1),
+            Given::Commit(1),
+            Given::Press(Call { from: 5, to: 4 }),
+            Given::Gather(5),
+            Given::Refresh {
+                run_limit: 1,
+                cars: 1,
+                pos: 1,
+            },
+            Given::Instruction(0),
+            Given::Instruction(0),
+            Given::Instruction(0),
+            Given::Commit(0),
+        ],
+        replies: &[
+            Reply::New,
+            Reply::Gathered(2),
+            Reply::Refreshed,
+            Reply::Started,
+            Reply::More,
+            Reply::More,
+            Reply::End,
+            Reply::Committed,
+            Reply::Started,
+            Reply::Started,
+            Reply::More,
+            Reply::More,
+            Reply::End,
+            Reply::Committed,
+            Reply::New,
+            Reply::Gathered(8),
+            Reply::Refreshed,
+            Reply::More,
+            Reply::More,
+            Reply::End,
+            Reply::Committed,
+        ],
+        outputs: &[STILL],
+        denials: &[],
+        answers: &[Answer::Stale],
+        slots: &[Slot::Waiting {
+            ticket: 2,
+            call: Call { from: 5, to: 4 },
+        }],
+    },
+];
+
+#[test]
+fn groups_reply(rt: HostRuntime) -> Result<(), Fail> {
+    for row in &ROWS {
+        let left = play(rt.alloc(), row.text, row.given)?;
+        assert_eq!(rt; left.replies.as_slice(), row.replies);
+        assert_eq!(rt; left.report.outputs.as_slice(), row.outputs);
+        assert_eq!(rt; left.report.denials.as_slice(), row.denials);
+        assert_eq!(rt; left.report.answers.as_slice(), row.answers);
+        assert_eq!(rt; left.slots.as_slice(), row.slots);
+    }
+    Ok(())
+}
