@@ -4,6 +4,7 @@ ghost use Rattle.std.specs.Prelude.{◌≡◌, ◌≤◌, ◌==◌, length, coun
 ghost use Rattle.il_spec.specs.Text.{byte_at, begins_word, is_word_byte, is_literal_byte, run_end, after_minus, line_feed};
 
 /// The byte at a place, and 0 behind the text.
+#[inline(always)]
 pub(crate) fn byte_at(text: &[u8], at: usize) -> u8
     ensures { result ≡ byte_at text.now at }
 {
@@ -11,6 +12,7 @@ pub(crate) fn byte_at(text: &[u8], at: usize) -> u8
 }
 
 /// Whether a word or a typed literal begins with this byte.
+#[inline(always)]
 pub(crate) fn begins_word(byte: u8) -> bool
     ensures { result ≡ begins_word byte }
 {
@@ -18,6 +20,7 @@ pub(crate) fn begins_word(byte: u8) -> bool
 }
 
 // Whether this byte goes on with a word.
+#[inline(always)]
 fn is_word_byte(byte: u8) -> bool
     ensures { result ≡ is_word_byte byte }
 {
@@ -25,6 +28,7 @@ fn is_word_byte(byte: u8) -> bool
 }
 
 // Whether this byte goes on with a number or a typed literal.
+#[inline(always)]
 fn is_literal_byte(byte: u8) -> bool
     ensures { result ≡ is_literal_byte byte }
 {
@@ -62,6 +66,7 @@ pub(crate) fn literal_end(text: &[u8], at: usize) -> usize
 }
 
 /// The place behind a minus, if one stands at `at`.
+#[inline(always)]
 pub(crate) fn after_minus(text: &[u8], at: usize) -> usize
     requires { at ≤ length text.now }
     ensures from { at ≤ result }
@@ -80,5 +85,9 @@ pub(crate) fn line_feeds(bytes: &[u8]) -> usize
     ensures within { result ≤ length bytes.now }
     ensures count { result ≡ count_by (λ b. b == line_feed) bytes.now }
 {
-    bytes.iter().filter(|b| **b == b'\n').count()
+    let mut count: usize = 0;
+    for byte in bytes {
+        count += usize::from(*byte == b'\n');
+    }
+    count
 }

@@ -7,6 +7,7 @@ use crate::bytes::byte_at;
 use crate::flaw::{Flaw, Misread};
 
 /// Whether `(*` stands at a place.
+#[inline(always)]
 pub(crate) fn opens_comment(text: &[u8], at: usize) -> bool
     requires { at ≤ length text.now }
     ensures { result ≡ opens_comment text.now at }
@@ -15,6 +16,7 @@ pub(crate) fn opens_comment(text: &[u8], at: usize) -> bool
 }
 
 // Whether `*)` stands at a place.
+#[inline(always)]
 fn closes_comment(text: &[u8], at: usize) -> bool
     requires { at ≤ length text.now }
     ensures { result ≡ closes_comment text.now at }
@@ -23,15 +25,23 @@ fn closes_comment(text: &[u8], at: usize) -> bool
 }
 
 // Whether a byte may stand in a comment, and neither `(*` nor `*)` begins with it.
+#[inline(always)]
 fn is_inside(text: &[u8], at: usize) -> bool
     requires { at < length text.now }
     ensures { result ≡ (is_text_byte text.now at && (not (opens_comment text.now at) && not (closes_comment text.now at))) }
 {
-    match text[at] {
+    let byte = text[at];
+    if byte > b'*' {
+        return byte <= b'~';
+    }
+    if byte >= b' ' && byte < b'(' {
+        return true;
+    }
+    match byte {
         b'(' => byte_at(text, at + 1) != b'*',
         b'*' => byte_at(text, at + 1) != b')',
         b'\r' => byte_at(text, at + 1) == b'\n',
-        b' '..=b'~' | b'\t' | b'\n' => true,
+        b')' | b'\t' | b'\n' => true,
         _ => false,
     }
 }
