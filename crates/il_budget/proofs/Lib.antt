@@ -2,3 +2,4 @@ pub mod Stacked
 pub mod Agreeing
 pub mod Following
 pub mod Exact
+pub mod Steady

@@ -1,6 +1,6 @@
 // The greatest costs of units, round by round: each round with callees one level deeper.
 
-ghost use Rattle.std.specs.Prelude.{◌≡◌, IfOk, map};
+ghost use Rattle.std.specs.Prelude.{◌≡◌, ◌↔◌, IfOk, map, true};
 ghost use Rattle.il_budget.specs.Rounds.{unit_ways, unit_cost, costs_by, rounds};
 
 use crate::table::{Rest, rest_up, rests};
@@ -30,9 +30,20 @@ pub fn longest(alloc: Global, all: &Items<Items<Way>>) -> Result<Items<u32>, All
 {
     let mut costs = Items::new(alloc);
     'rounds: for _round in 0..DEPTH {
-        costs = costs_by(alloc, all, &costs)?;
+        let more = costs_by(alloc, all, &costs)?;
+        if is_same(more.as_slice(), costs.as_slice()) {
+            return Ok(more);
+        }
+        costs = more;
     }
     Ok(costs)
+}
+
+// Whether a round changed no cost, so that no later one does.
+fn is_same(more: &[u32], costs: &[u32]) -> bool
+    ensures { (result ≡ true) ↔ (more.now ≡ costs.now) }
+{
+    more == costs
 }
 
 // The costs of units by those of the units that they call.
