@@ -1,6 +1,6 @@
 -- What the passes found, in the words of annotations.
 use Rattle.std.proofs.Common.{◌≡◌, ℕ, zero, suc, ◌+◌, ◌<◌, ◌≤◌, ◌⊎◌, inl, inr, Bool, true, false, if◌then◌else◌, List, [], ◌∷◌, length, get_or, Option, Some, None, option_and_then, Result, Ok, Err, refl, sym, ap, ◌∙◌, subst, slice_get, arith}
-use Rattle.std.specs.Prelude.{Contains, nat_eq, nat_lt, IfOk}
+use Rattle.std.specs.Prelude.{Contains, nat_eq, nat_lt, IfOk, is_some}
 use Rattle.std.proofs.lemmas.Bool.{cases_lt}
 use Rattle.std.proofs.lemmas.Bool.Decides.{eqb_tells, nat_tests}
 use Rattle.std.proofs.lemmas.Option.{slice_get_read, slice_get_within, slice_get-get_or}
@@ -206,6 +206,11 @@ module _ (n : Names) (declared : List Interval) (s : Setting n declared) (first 
         };
         place_is = p.reason.place_is;
       }
+
+  -- a pass that went over all places, whatever it would say of a refusal
+  pub has_ranges : {R : Type 0} (refuses : ℕ → Facts → R → Type 0) (o : Option R) → IsPassed facts_join (moves n n.config n.unit) refuses first count o → is_some o ≡ false → IsJudged n.config n.unit None
+  has_ranges refuses None (arrived, e) is = judged None (arrived, e)
+  has_ranges refuses (Some r) p is = let bad : true ≡ false = is in cc
 
 pub entry_is : (row declared : List Interval) (ds : List KnownDeferred) → row ≡ declared → ds ≡ [] → facts row None ds ≡ entry declared
 entry_is row declared ds e g = ap (λ r. facts r None ds) e ∙ ap (facts declared None) g

@@ -1,6 +1,6 @@
 // The pass over a unit.
 
-ghost use Rattle.std.specs.Prelude.{◌≡◌, IfOk, Some, map, slice_get};
+ghost use Rattle.std.specs.Prelude.{◌≡◌, IfOk, Some, None, true, map, slice_get};
 ghost use Rattle.il_rules.specs.Faults.{BreaksDeclarations, Broken, Typing, HasNoFault};
 ghost use Rattle.il_least.specs.Facts.{facts_join};
 ghost use Rattle.il_least.specs.Prepared.{entry};
@@ -71,6 +71,50 @@ impl Flow for UnitFlow<'_> {
     }
 }
 
+/// The instructions of a unit, of which no reason is asked where one is refused.
+#[derive(Drop)]
+pub struct UnitPassage<'n> {
+    pub scope: &'n NumberedUnit<'n>,
+    pub steps: &'n [Step],
+}
+
+impl Flow for UnitPassage<'_> {
+    ghost use Rattle.il_least.specs.Facts.{facts_join, IsFine};
+    ghost use Rattle.il_least.specs.Steps.{moves};
+    ghost use Rattle.il_ranges.specs.Judged.{IsPlaceOf};
+
+    type Facts = Facts;
+
+    type Refused = ();
+
+    ghost join = { facts_join };
+
+    ghost moves = { λ f place k. moves f.scope.now f.scope.now.config f.scope.now.unit place k };
+
+    ghost holds = { λ f place. IsPlaceOf f.scope.now f.steps.now place };
+
+    ghost takes = { λ f k. IsFine f.scope.now k };
+
+    ghost refuses = { λ f place k found. Unit {0} };
+
+    fn join(first: Facts, second: Facts) -> Option<Facts>
+        ensures { result ≡ facts_join first second }
+    {
+        join_facts(first, second)
+    }
+
+    fn hand_on(
+        &self,
+        alloc: Global,
+        place: usize,
+        facts: Facts,
+    ) -> Result<Option<Handed<Facts>>, AllocError> {
+        hand_on(alloc, self.scope, facts, &self.steps[place].instruction)
+    }
+
+    fn refusal(&self, _place: usize, _facts: &Facts) {}
+}
+
 // The facts at the entry of a unit.
 fn entry(alloc: Global, numbering: &Numbering) -> Result<Facts, AllocError>
     ensures { IfOk result (λ f. f ≡ entry numbering.now.declared) }
@@ -80,6 +124,23 @@ fn entry(alloc: Global, numbering: &Numbering) -> Result<Facts, AllocError>
         result: None,
         deferred: Row::new(alloc),
     })
+}
+
+// Whether a unit has ranges at all its places, by the numbers of its variables.
+fn has_ranges(
+    alloc: Global,
+    scope: &NumberedUnit,
+    numbering: &Numbering,
+    steps: &[Step],
+) -> Result<bool, AllocError>
+    requires steps { steps.now ≡ scope.now.unit.body.steps }
+    requires setting { Setting scope.now numbering.now.declared }
+    ensures { IfOk result (λ fine. fine ≡ true → IsJudged scope.now.config scope.now.unit None) }
+{
+    let entry = entry(alloc, numbering)?;
+    let passage = UnitPassage { scope, steps };
+    let refused = pass(alloc, &passage, entry, steps.len())?;
+    Ok(refused.is_none())
 }
 
 // The fault of the first instruction up to and including which a unit has no ranges, by the numbers of its variables.
@@ -96,6 +157,23 @@ fn flow_fault(
     let entry = entry(alloc, numbering)?;
     let flow = UnitFlow { scope, steps };
     pass(alloc, &flow, entry, steps.len())
+}
+
+// The same, without looking for a reason where there is no fault.
+fn first_fault(
+    alloc: Global,
+    scope: &NumberedUnit,
+    numbering: &Numbering,
+    steps: &[Step],
+) -> Result<Option<Found<RangeFault>>, AllocError>
+    requires steps { steps.now ≡ scope.now.unit.body.steps }
+    requires setting { Setting scope.now numbering.now.declared }
+    ensures { IfOk result (IsJudged scope.now.config scope.now.unit) }
+{
+    if has_ranges(alloc, scope, numbering, steps)? {
+        return Ok(None);
+    }
+    flow_fault(alloc, scope, numbering, steps)
 }
 
 /// The fault of the first instruction of a unit up to and including which it has no ranges.
@@ -116,5 +194,5 @@ pub fn unit_fault(
     let labels = label_table(alloc, &unit.body)?;
     let numbering = numbering_of(alloc, &unit_names)?;
     let scope = NumberedUnit::of(&unit_names, &labels, inputs, &numbering);
-    flow_fault(alloc, &scope, &numbering, unit.body.steps.as_slice())
+    first_fault(alloc, &scope, &numbering, unit.body.steps.as_slice())
 }

@@ -19,10 +19,10 @@ pub fn is_predeclared(config: &Config, name: &str) -> bool
         || standard_block(name).is_some()
 }
 
-/// Whether a name is this word: a function of its own, so that no caller's proof sees the bytes.
+/// Whether a name is this word: a function of its own, so that no caller's proof sees the bytes. Most words differ in length.
 #[tactic(auto, unfolding(crate::specs::Words::is_name))]
 pub fn is_name(name: &str, word: &str) -> bool
     ensures { result ≡ is_name word.now name.now }
 {
-    name == word
+    name.len() == word.len() && name == word
 }

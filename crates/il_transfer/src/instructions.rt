@@ -1,8 +1,8 @@
 // What each instruction hands on (IEC 61131-3:2003, 3.2.2, 3.2.3).
 
-ghost use Rattle.std.specs.Prelude.{◌≡◌, Some, None, option_map, IfOk};
+ghost use Rattle.std.specs.Prelude.{◌≡◌, Some, None, true, option_map, IfOk};
 ghost use Rattle.il_rules.specs.Types.{label_place};
-ghost use Rattle.il_least.specs.Found.{provided};
+ghost use Rattle.il_least.specs.Found.{provided, fits_target};
 ghost use Rattle.il_least.specs.Facts.{IsFine, IsFineResult, AreFineDeferred};
 ghost use Rattle.il_least.specs.Steps.{to_next, giving, stored_row, has_condition, passing, jumping_to, is_bare, moves_of_store, moves_of_defer, moves_of_evaluate, moves_of_call, moves_of};
 ghost use Rattle.il_transfer.specs.Scopes.{denoted, form_in};
@@ -12,8 +12,8 @@ ghost use Rattle.il_transfer.specs.Kinds.{GivesResult, GoesOnAlone, stored_value
 use crate::blocks::called;
 use crate::calls::invoked;
 use crate::known::{flag_there, found_operated};
-use crate::meant::store_in;
-use crate::operands::{fits_target, loaded, loaded_operand, operated};
+use crate::meant::{store_in, target_fits};
+use crate::operands::{loaded, loaded_operand, operated};
 use crate::scope::Scope;
 use il_flow::pass::Handed;
 use il_least::facts::Facts;
@@ -42,13 +42,20 @@ fn stored_value(store: Store, found: Option<Known>) -> Option<Known>
     }
 }
 
-// Keeps what is stored.
-fn keep<S: Scope>(scope: &S, facts: &mut Facts, target: &Reference, known: Known)
-    ensures row { facts.new.row ≡ stored_row (S.names scope.now) (denoted (S.names scope.now) target.now) known facts.old.row }
+// Keeps what is stored, if the target takes it.
+#[tactic(auto, using(crate::proofs::Resolved::target_is))]
+fn keep<S: Scope>(scope: &S, facts: &mut Facts, target: &Reference, known: Known) -> bool
+    ensures fits { result ≡ fits_target (S.names scope.now) facts.old.row (denoted (S.names scope.now) target.now) known }
+    ensures row { result ≡ true → facts.new.row ≡ stored_row (S.names scope.now) (denoted (S.names scope.now) target.now) known facts.old.row }
     ensures result { facts.new.result ≡ facts.old.result }
     ensures deferred { facts.new.deferred ≡ facts.old.deferred }
 {
-    store_in(&mut facts.row, scope.meant(target), known);
+    let meant = scope.meant(target);
+    if !target_fits(&facts.row, meant, known) {
+        return false;
+    }
+    store_in(&mut facts.row, meant, known);
+    true
 }
 
 // The facts after a store.
@@ -56,12 +63,12 @@ fn stored<S: Scope>(scope: &S, facts: Facts, store: Store, target: &Reference) -
     ensures { moves_of_store (S.names scope.now) facts store (denoted (S.names scope.now) target.now) ≡ option_map to_next result }
 {
     let known = stored_value(store, facts.result)?;
-    if !fits_target(scope, &facts.row, target, known) {
-        return None;
-    }
     let mut facts = facts;
-    keep(scope, &mut facts, target, known);
-    Some(facts)
+    if keep(scope, &mut facts, target, known) {
+        Some(facts)
+    } else {
+        None
+    }
 }
 
 // What a short form loads, and nothing where there is none.
