@@ -37,6 +37,7 @@ impl<X: Copy> Table<X> {
     }
 
     /// The entry of a name.
+    #[inline(always)]
     pub fn get(&self, name: &str) -> Option<X>
         ensures { result ≡ map.get self.now name.now }
     {
