@@ -22,8 +22,12 @@ use Rattle.il_scope.specs.declared.entry.Role.{Role}
 use Rattle.il_scope.specs.declared.tables.Scope.{Scope}
 use Rattle.il_scope.specs.Entries.{role_entry}
 use Rattle.il_scope.specs.Views.{place_of, type_of}
-use Rattle.il_scope.specs.Tables.{with_new, with_role, with_role_of, HasForms, HasNames, HasList, HasRoles, IsScope, AreScopes}
-use Rattle.il_scope.specs.Meanings.{listed_as}
+use Rattle.il_scope.specs.declared.image.ImageRow.{ImageRow}
+use Rattle.il_spec.specs.declared.tree.UnitKind.{UnitKind}
+use Rattle.il_scope.specs.Words.{is_name}
+use Rattle.il_scope.specs.Images.{image_in, row_among}
+use Rattle.il_scope.specs.Tables.{with_new, with_role, with_role_of, HasForms, HasNames, HasList, HasImages, HasRoles, IsScope, AreScopes}
+use Rattle.il_scope.specs.Meanings.{listed_as, image_seen}
 
 -- what a table has after an insertion
 pub get-inserted : {X : Type 0} (m : NameMap X) (k : Spelling) (v : X) (q : Spelling) → get (insert m k v) q ≡ (if bytes_eq k q then Some v else get m q)
@@ -59,6 +63,12 @@ get-with_new {X = X} m k v q = by_old (get m k) refl
 -- one element more
 pub take_next : {A : Type 0} (xs : List A) (i : ℕ) (x : A) → i < length xs → x ≡ get_or xs i x → take (i + 1) xs ≡ take i xs ++ x ∷ []
 take_next xs i x low there = take_more xs i x low ∙ ap (λ y. take i xs ++ y ∷ []) (sym there)
+
+-- an element that is there, whatever stands for others
+same_default : {A : Type 0} (xs : List A) (i : ℕ) (d e : A) → i < length xs → get_or xs i d ≡ get_or xs i e
+same_default [] i d e low = absurd (omega arith)
+same_default (x ∷ xs) zero d e low = refl
+same_default (x ∷ xs) (suc i) d e low = same_default xs i d e (omega arith)
 
 -- all elements
 pub take_all : {A : Type 0} (xs : List A) (i : ℕ) → length xs < i + 1 → take i xs ≡ xs
@@ -200,11 +210,11 @@ forms_next config ds i d names declared mid new low there listed typed added bef
 -- LISTS OF A UNIT
 
 -- no declaration
-pub list_none : (config : Config) (origin : Origin) (declarations : List Declaration) (old : NameMap Variable) → HasList config origin (take 0 declarations) old old
+pub list_none : (config : Config) (origin : Origin) (declarations : List Declaration) (old : NameMap (Option Variable)) → HasList config origin (take 0 declarations) old old
 list_none config origin declarations old q = sym (or_else_none (get old q))
 
 -- one declaration more
-pub list_next : (config : Config) (origin : Origin) (ds : List Declaration) (i : ℕ) (d : Declaration) (names : List Named) (variable : Variable) (old mid new : NameMap Variable) → i < length ds → d ≡ get_or ds i d → names ≡ d.names → variable ≡ listed_as origin (type_of config d.declared.form) → HasNames names variable mid new → HasList config origin (take i ds) old mid → HasList config origin (take (i + 1) ds) old new
+pub list_next : (config : Config) (origin : Origin) (ds : List Declaration) (i : ℕ) (d : Declaration) (names : List Named) (variable : Option Variable) (old mid new : NameMap (Option Variable)) → i < length ds → d ≡ get_or ds i d → names ≡ d.names → variable ≡ listed_as origin (type_of config d.declared.form) → HasNames names variable mid new → HasList config origin (take i ds) old mid → HasList config origin (take (i + 1) ds) old new
 list_next config origin ds i d names variable old mid new low there listed typed added before q =
     added q
     ∙ ap (λ o. or_else o (if is_one_of (map (λ (n : Named). n.name) names) q then Some variable else None)) (before q)
@@ -216,7 +226,7 @@ list_next config origin ds i d names variable old mid new low there listed typed
     ∙ sym (meant-both (entry_of (named_forms (take i ds)) q) (entry_of (map (λ (n : Named). (n.name, d.declared.form)) d.names) q))
     ∙ ap meant (sym (entry-append (named_forms (take i ds)) (map (λ (n : Named). (n.name, d.declared.form)) d.names) q) ∙ ap (λ l. entry_of l q) (sym (forms-last (take i ds) d) ∙ ap named_forms (sym (take_next ds i d low there)))))
   where
-    meant : Option Form → Option Variable
+    meant : Option Form → Option (Option Variable)
     meant o = option_map (listed_as origin) (option_map (type_of config) o)
 
     named : Bool
@@ -225,6 +235,46 @@ list_next config origin ds i d names variable old mid new low there listed typed
     meant-both : (a b : Option Form) → meant (or_else a b) ≡ or_else (meant a) (meant b)
     meant-both (Some x) b = refl
     meant-both None b = refl
+
+-- IMAGE NAMES OF A UNIT
+
+-- the row of a spelling among rows and one row more
+row_among-last : (rows : List ImageRow) (r : ImageRow) (q : Spelling) → row_among (rows ++ r ∷ []) q ≡ or_else (row_among rows q) (if bytes_eq r.name.now q then Some r else None)
+unfolding is_name
+row_among-last [] r q = refl
+row_among-last (x ∷ rows) r q = go (bytes_eq x.name.now q) (row_among-last rows r q)
+  where
+    go : (b : Bool) → row_among (rows ++ r ∷ []) q ≡ or_else (row_among rows q) (if bytes_eq r.name.now q then Some r else None) → (if b then Some x else row_among (rows ++ r ∷ []) q) ≡ or_else (if b then Some x else row_among rows q) (if bytes_eq r.name.now q then Some r else None)
+    go true rest = refl
+    go false rest = rest
+
+-- no row
+pub images_none : (config : Config) (kind : UnitKind) (role : Option Role) (rows : List ImageRow) (old : NameMap (Option Variable)) → HasImages config kind role (take 0 rows) old old
+images_none config kind role rows old q = sym (or_else_none (get old q))
+
+-- one row more
+pub images_next : (config : Config) (kind : UnitKind) (role : Option Role) (rows : List ImageRow) (i : ℕ) (d r : ImageRow) (key : Spelling) (entry : Option Variable) (old mid new : NameMap (Option Variable)) → i < length rows → r ≡ get_or rows i d → key ≡ r.name.now → entry ≡ image_seen kind role (image_in config r) → new ≡ with_new mid key entry → HasImages config kind role (take i rows) old mid → HasImages config kind role (take (i + 1) rows) old new
+images_next config kind role rows i d r key entry old mid new low there named seen is before q =
+    ap (λ m. get m q) is ∙ get-with_new mid key entry q
+    ∙ ap (λ o. or_else o (if bytes_eq key q then Some entry else None)) (before q)
+    ∙ or_else_assoc (get old q) (shown (row_among (take i rows) q)) (if bytes_eq key q then Some entry else None)
+    ∙ ap (or_else (get old q)) (
+    ap (λ k. or_else (shown (row_among (take i rows) q)) (if bytes_eq k q then Some entry else None)) named
+    ∙ ap (λ e. or_else (shown (row_among (take i rows) q)) (if bytes_eq r.name.now q then Some e else None)) seen
+    ∙ ap (or_else (shown (row_among (take i rows) q))) (shown-if (bytes_eq r.name.now q))
+    ∙ sym (shown-both (row_among (take i rows) q) (if bytes_eq r.name.now q then Some r else None))
+    ∙ ap shown (sym (row_among-last (take i rows) r q) ∙ ap (λ l. row_among l q) (sym (take_next rows i r low (there ∙ same_default rows i d r low)))))
+  where
+    shown : Option ImageRow → Option (Option Variable)
+    shown o = option_map (image_seen kind role) (option_map (image_in config) o)
+
+    shown-if : (b : Bool) → (if b then Some (image_seen kind role (image_in config r)) else None) ≡ shown (if b then Some r else None)
+    shown-if true = refl
+    shown-if false = refl
+
+    shown-both : (a b : Option ImageRow) → shown (or_else a b) ≡ or_else (shown a) (shown b)
+    shown-both (Some x) b = refl
+    shown-both None b = refl
 
 -- ROLES
 

@@ -27,9 +27,12 @@ use Rattle.il_scope.specs.declared.entry.Binding.TheVariants as means
 use Rattle.il_scope.specs.declared.tables.Scope.{Scope}
 use Rattle.il_scope.specs.Entries.{origin_entry, audience_entry, role_entry}
 use Rattle.il_scope.specs.Views.{place_of, unit_number, type_of, variable_of, image_entry, binding_of}
-use Rattle.il_scope.specs.Tables.{with_new, HasList, HasOwn, IsScope, AreScopes}
-use Rattle.il_scope.specs.Meanings.{listed_as, own_result, seen_by, image_binding, global_binding}
+use Rattle.il_scope.specs.declared.image.ImageRow.{ImageRow}
+use Rattle.il_scope.specs.Images.{image_in, named, row_among, image_entries}
+use Rattle.il_scope.specs.Tables.{with_new, seen_variable, HasVariables, HasList, HasImages, role_of, own_seen, HasOwn, IsScope, AreScopes}
+use Rattle.il_scope.specs.Meanings.{listed_as, own_result, seen_by, image_seen, variable_binding, global_binding}
 use Rattle.il_scope.proofs.Filled.{or_else_assoc, map-or_else, get-with_new}
+use Rattle.il_scope.proofs.Known.{image_is}
 
 -- OWN VARIABLES
 
@@ -44,23 +47,23 @@ find-both {A = A} p (x ∷ xs) ys = go (p x) (find-both p xs ys)
 
 -- a variable of one list
 one_list : (config : Config) (origin : rule.Origin) (vs : List (Spelling × Form)) (q : Spelling)
-    → option_map (variable_of config) (find (λ v. bytes_eq v.name q) (map (λ (v : Spelling × Form). record { name = v.0; form = v.1; origin = origin }) vs)) ≡ option_map (listed_as (origin_entry origin)) (option_map (type_of config) (entry_of vs q))
+    → option_map (seen_variable config) (find (λ v. bytes_eq v.name q) (map (λ (v : Spelling × Form). record { name = v.0; form = v.1; origin = origin }) vs)) ≡ option_map (listed_as (origin_entry origin)) (option_map (type_of config) (entry_of vs q))
 one_list config origin [] q = refl
 one_list config origin (v ∷ vs) q = go (bytes_eq v.0 q) (one_list config origin vs q)
   where
-    go : (b : Bool) → option_map (variable_of config) (find (λ v. bytes_eq v.name q) (map (λ (v : Spelling × Form). record { name = v.0; form = v.1; origin = origin }) vs)) ≡ option_map (listed_as (origin_entry origin)) (option_map (type_of config) (entry_of vs q))
-        → option_map (variable_of config) (if b then Some (record { name = v.0; form = v.1; origin = origin }) else find (λ v. bytes_eq v.name q) (map (λ (v : Spelling × Form). record { name = v.0; form = v.1; origin = origin }) vs)) ≡ option_map (listed_as (origin_entry origin)) (option_map (type_of config) (option_map (λ (e : Spelling × Form). e.1) (if b then Some v else find (λ e. bytes_eq e.0 q) vs)))
+    go : (b : Bool) → option_map (seen_variable config) (find (λ v. bytes_eq v.name q) (map (λ (v : Spelling × Form). record { name = v.0; form = v.1; origin = origin }) vs)) ≡ option_map (listed_as (origin_entry origin)) (option_map (type_of config) (entry_of vs q))
+        → option_map (seen_variable config) (if b then Some (record { name = v.0; form = v.1; origin = origin }) else find (λ v. bytes_eq v.name q) (map (λ (v : Spelling × Form). record { name = v.0; form = v.1; origin = origin }) vs)) ≡ option_map (listed_as (origin_entry origin)) (option_map (type_of config) (option_map (λ (e : Spelling × Form). e.1) (if b then Some v else find (λ e. bytes_eq e.0 q) vs)))
     go true rest = refl
     go false rest = rest
 
 -- a function's result
-by_result : (config : Config) (kind : UnitKind) (own q : Spelling) → option_map (variable_of config) (find (λ v. bytes_eq v.name q) (result_of kind own)) ≡ own_result kind own q
+by_result : (config : Config) (kind : UnitKind) (own q : Spelling) → option_map (seen_variable config) (find (λ v. bytes_eq v.name q) (result_of kind own)) ≡ own_result kind own q
 by_result config (Function scalar place) own q = go (bytes_eq own q)
   where
     v : rule.Variable
     v = record { name = own; form = OfScalar scalar; origin = rule.AsResult }
 
-    go : (b : Bool) → option_map (variable_of config) (if b then Some v else None) ≡ (if b then Some (variable_of config v) else None)
+    go : (b : Bool) → option_map (seen_variable config) (if b then Some v else None) ≡ (if b then Some (seen_variable config v) else None)
     go true = refl
     go false = refl
 by_result config FunctionBlock own q = refl
@@ -79,27 +82,27 @@ either_of : {A B : Type 0} (f : A → B) (a b : Option A) (x y : Option B) → o
 either_of f a b x y first second = map-or_else f a b ∙ ap (λ o. or_else o (option_map f b)) first ∙ ap (or_else x) second
 
 -- all own variables, as a table of them is filled
-pub own_filled : (config : Config) (unit : ProgramUnit) (none result inputs outputs variables own : NameMap Variable) → none ≡ empty → ((q : Spelling) → get result q ≡ or_else (get none q) (own_result unit.kind unit.name.name q))
-    → HasList config Input unit.inputs result inputs → HasList config Output unit.outputs inputs outputs → HasList config Local unit.variables outputs variables → HasList config External unit.externals variables own → HasOwn config unit own
+pub own_filled : (config : Config) (unit : ProgramUnit) (none result inputs outputs variables own : NameMap (Option Variable)) → none ≡ empty → ((q : Spelling) → get result q ≡ or_else (get none q) (own_result unit.kind unit.name.name q))
+    → HasList config Input unit.inputs result inputs → HasList config Output unit.outputs inputs outputs → HasList config Local unit.variables outputs variables → HasList config External unit.externals variables own → HasVariables config unit own
 own_filled config unit none result inputs outputs variables own start first second third fourth fifth q =
     fifth q ∙ ap (λ o. or_else o (list External unit.externals)) (fourth q ∙ ap (λ o. or_else o (list Local unit.variables)) (third q ∙ ap (λ o. or_else o (list Output unit.outputs)) (second q ∙ ap (λ o. or_else o (list Input unit.inputs)) (first q ∙ ap (λ m. or_else (get m q) made) start ∙ ap (λ o. or_else o made) (get-empty q)))))
     ∙ or_else_assoc (or_else (or_else made (list Input unit.inputs)) (list Output unit.outputs)) (list Local unit.variables) (list External unit.externals)
     ∙ or_else_assoc (or_else made (list Input unit.inputs)) (list Output unit.outputs) (or_else (list Local unit.variables) (list External unit.externals))
     ∙ or_else_assoc made (list Input unit.inputs) (or_else (list Output unit.outputs) (or_else (list Local unit.variables) (list External unit.externals)))
     ∙ sym (
-    ap (option_map (variable_of config)) (find-five p (result_of unit.kind unit.name.name) (with_origin AsInput unit.inputs) (with_origin AsOutput unit.outputs) (with_origin AsVariable unit.variables) (with_origin AsExternal unit.externals))
-    ∙ either_of (variable_of config) (find p (result_of unit.kind unit.name.name)) _ _ _ (by_result config unit.kind unit.name.name q)
-    (either_of (variable_of config) (find p (with_origin AsInput unit.inputs)) _ _ _ (one_list config AsInput (named_forms unit.inputs) q)
-    (either_of (variable_of config) (find p (with_origin AsOutput unit.outputs)) _ _ _ (one_list config AsOutput (named_forms unit.outputs) q)
-    (either_of (variable_of config) (find p (with_origin AsVariable unit.variables)) _ _ _ (one_list config AsVariable (named_forms unit.variables) q) (one_list config AsExternal (named_forms unit.externals) q)))))
+    ap (option_map (seen_variable config)) (find-five p (result_of unit.kind unit.name.name) (with_origin AsInput unit.inputs) (with_origin AsOutput unit.outputs) (with_origin AsVariable unit.variables) (with_origin AsExternal unit.externals))
+    ∙ either_of (seen_variable config) (find p (result_of unit.kind unit.name.name)) _ _ _ (by_result config unit.kind unit.name.name q)
+    (either_of (seen_variable config) (find p (with_origin AsInput unit.inputs)) _ _ _ (one_list config AsInput (named_forms unit.inputs) q)
+    (either_of (seen_variable config) (find p (with_origin AsOutput unit.outputs)) _ _ _ (one_list config AsOutput (named_forms unit.outputs) q)
+    (either_of (seen_variable config) (find p (with_origin AsVariable unit.variables)) _ _ _ (one_list config AsVariable (named_forms unit.variables) q) (one_list config AsExternal (named_forms unit.externals) q)))))
   where
     p : rule.Variable → Bool
     p v = bytes_eq v.name q
 
-    made : Option Variable
+    made : Option (Option Variable)
     made = own_result unit.kind unit.name.name q
 
-    list : Origin → List Declaration → Option Variable
+    list : Origin → List Declaration → Option (Option Variable)
     list origin ds = option_map (listed_as origin) (option_map (type_of config) (entry_of (named_forms ds) q))
 
 -- what follows where a call went well
@@ -108,7 +111,7 @@ on_ok (Ok x) f p = f p
 on_ok (Err e) f p = p
 
 -- a function's result where there is none yet
-pub result_put : (kind : UnitKind) (own : Spelling) (scalar : Scalar) (place : Place) (old new : NameMap Variable) (key : Spelling) → kind ≡ Function scalar place → key ≡ own → new ≡ with_new old key (listed_as FunctionResult (OfScalarType scalar)) → (q : Spelling) → get new q ≡ or_else (get old q) (own_result kind own q)
+pub result_put : (kind : UnitKind) (own : Spelling) (scalar : Scalar) (place : Place) (old new : NameMap (Option Variable)) (key : Spelling) → kind ≡ Function scalar place → key ≡ own → new ≡ with_new old key (listed_as FunctionResult (OfScalarType scalar)) → (q : Spelling) → get new q ≡ or_else (get old q) (own_result kind own q)
 result_put kind own scalar place old new key is named added q =
     ap (λ m. get m q) added ∙ get-with_new old key (listed_as FunctionResult (OfScalarType scalar)) q
     ∙ ap (λ k. or_else (get old q) (if bytes_eq k q then Some (listed_as FunctionResult (OfScalarType scalar)) else None)) named
@@ -126,14 +129,24 @@ seen_is (Some CarRole) GroupPrograms = refl
 seen_is (Some GroupRole) CarPrograms = refl
 seen_is (Some GroupRole) GroupPrograms = refl
 
-image_is_meant : (config : Config) (unit : ProgramUnit) (i : rule.ImageName) → image_binding unit.kind (option_map role_entry (program_role config unit.name.name config.programs)) (image_entry config i) ≡ option_map (binding_of config) (image_meaning config unit i)
+image_is_meant : (config : Config) (unit : ProgramUnit) (i : rule.ImageName) → variable_binding (image_seen unit.kind (role_of config unit) (image_entry config i)) ≡ option_map (binding_of config) (image_meaning config unit i)
 image_is_meant config unit i =
-    ap (λ b. if is_program_kind unit.kind && b then Some (means.Variable (variable_of config i.variable)) else None) (seen_is (program_role config unit.name.name config.programs) i.audience)
+    ap (λ b. variable_binding (if is_program_kind unit.kind && b then Some (variable_of config i.variable) else None)) (seen_is (program_role config unit.name.name config.programs) i.audience)
     ∙ go (is_program_kind unit.kind && is_seen_by (program_role config unit.name.name config.programs) i.audience)
   where
-    go : (b : Bool) → (if b then Some (means.Variable (variable_of config i.variable)) else None) ≡ option_map (binding_of config) (if b then Some (MeansVariable i.variable) else None)
+    go : (b : Bool) → variable_binding (if b then Some (variable_of config i.variable) else None) ≡ option_map (binding_of config) (if b then Some (MeansVariable i.variable) else None)
     go true = refl
     go false = refl
+
+-- the image names behind the variables of a unit
+pub own_seen_is : (config : Config) (unit : ProgramUnit) (variables own : NameMap (Option Variable)) (rows : List ImageRow) (role : Option Role) → HasVariables config unit variables → role ≡ role_of config unit → map (named config) rows ≡ image_entries config → HasImages config unit.kind role rows variables own → HasOwn config unit own
+own_seen_is config unit variables own rows role first roles are second q =
+    second q ∙ ap (λ o. or_else o (shown role (option_map (image_in config) (row_among rows q)))) (first q)
+    ∙ ap (λ r. or_else (option_map (seen_variable config) (own_variable unit q)) (shown r (option_map (image_in config) (row_among rows q)))) roles
+    ∙ ap (λ o. or_else (option_map (seen_variable config) (own_variable unit q)) (shown (role_of config unit) o)) (image_is config rows q are)
+  where
+    shown : Option Role → Option ImageName → Option (Option Variable)
+    shown r o = option_map (image_seen unit.kind r) o
 
 -- UNITS
 
@@ -181,39 +194,26 @@ global_is config q = ap (λ b. if b then Some means.Unit else (if is_predeclared
 
 -- MEANINGS
 
--- an image name
-pub outer_image : (config : Config) (unit : ProgramUnit) (q : Spelling) (role : Option Role) (image : ImageName) (r : Option Binding) → role ≡ option_map role_entry (program_role config unit.name.name config.programs) → r ≡ image_binding unit.kind role image → Some image ≡ option_map (image_entry config) (image_name config q) → r ≡ option_map (binding_of config) (outer_meaning config unit q (image_name config q))
-outer_image config unit q role image r roles e is = go (image_name config q) is
-  where
-    go : (o : Option rule.ImageName) → Some image ≡ option_map (image_entry config) o → r ≡ option_map (binding_of config) (outer_meaning config unit q o)
-    go None i = let bad : Some image ≡ None = i in cc
-    go (Some x) i = let same : image ≡ image_entry config x = cc in e ∙ ap (λ o. image_binding unit.kind o image) roles ∙ ap (image_binding unit.kind (option_map role_entry (program_role config unit.name.name config.programs))) same ∙ image_is_meant config unit x
+-- what is found under a name, and what it means
+abbrev pub meant_by : Config → Spelling → Option (Option Variable) → Option Binding
+meant_by config q (Some seen) = variable_binding seen
+meant_by config q None = global_binding config q
 
--- no image name
-pub outer_global : (config : Config) (unit : ProgramUnit) (q : Spelling) (r : Option Binding) → r ≡ global_binding config q → None ≡ option_map (image_entry config) (image_name config q) → r ≡ option_map (binding_of config) (outer_meaning config unit q (image_name config q))
-outer_global config unit q r e is = go (image_name config q) is
-  where
-    go : (o : Option rule.ImageName) → None ≡ option_map (image_entry config) o → r ≡ option_map (binding_of config) (outer_meaning config unit q o)
-    go None i = e ∙ global_is config q
-    go (Some x) i = let bad : None ≡ Some (image_entry config x) = i in cc
+meant_outer : (config : Config) (unit : ProgramUnit) (q : Spelling) (o : Option rule.ImageName) → meant_by config q (option_map (image_seen unit.kind (role_of config unit)) (option_map (image_entry config) o)) ≡ option_map (binding_of config) (outer_meaning config unit q o)
+meant_outer config unit q (Some image) = image_is_meant config unit image
+meant_outer config unit q None = global_is config q
 
--- a variable of the unit
-pub meaning_own : (config : Config) (unit : ProgramUnit) (q : Spelling) (v : Variable) → Some v ≡ option_map (variable_of config) (own_variable unit q) → Some (means.Variable v) ≡ option_map (binding_of config) (meaning config unit q)
+pub meaning_is : (config : Config) (unit : ProgramUnit) (q : Spelling) → meant_by config q (own_seen config unit q) ≡ option_map (binding_of config) (meaning config unit q)
 unfolding meaning
-meaning_own config unit q v is = go (own_variable unit q) is
+meaning_is config unit q = go (own_variable unit q) (image_name config q) (meant_outer config unit q (image_name config q))
   where
-    go : (o : Option rule.Variable) → Some v ≡ option_map (variable_of config) o → Some (means.Variable v) ≡ option_map (binding_of config) (or_else (option_map MeansVariable o) (outer_meaning config unit q (image_name config q)))
-    go None i = let bad : Some v ≡ None = i in cc
-    go (Some x) i = let same : v ≡ variable_of config x = cc in ap (λ y. Some (means.Variable y)) same
+    shown : Option rule.ImageName → Option (Option Variable)
+    shown o = option_map (image_seen unit.kind (role_of config unit)) (option_map (image_entry config) o)
 
--- another name
-pub meaning_outer : (config : Config) (unit : ProgramUnit) (q : Spelling) (r : Option Binding) → None ≡ option_map (variable_of config) (own_variable unit q) → r ≡ option_map (binding_of config) (outer_meaning config unit q (image_name config q)) → r ≡ option_map (binding_of config) (meaning config unit q)
-unfolding meaning
-meaning_outer config unit q r is e = go (own_variable unit q) is
-  where
-    go : (o : Option rule.Variable) → None ≡ option_map (variable_of config) o → r ≡ option_map (binding_of config) (or_else (option_map MeansVariable o) (outer_meaning config unit q (image_name config q)))
-    go None i = e
-    go (Some x) i = let bad : None ≡ Some (variable_of config x) = i in cc
+    go : (v : Option rule.Variable) (i : Option rule.ImageName) → meant_by config q (shown i) ≡ option_map (binding_of config) (outer_meaning config unit q i)
+        → meant_by config q (or_else (option_map (seen_variable config) v) (shown i)) ≡ option_map (binding_of config) (or_else (option_map MeansVariable v) (outer_meaning config unit q i))
+    go (Some x) i outer = refl
+    go None i outer = outer
 
 -- SCOPES BY THEIR NUMBERS
 
@@ -243,10 +243,6 @@ pub none_at : {A : Type 0} (xs : List A) (k : ℕ) → length xs ≤ k → slice
 none_at [] k low = refl
 none_at (x ∷ xs) zero low = absurd (omega arith)
 none_at (x ∷ xs) (suc k) low = none_at xs k (omega arith)
-
--- what is read twice is one
-pub read_same : {A : Type 0} (xs : List A) (k : ℕ) (x y : A) → slice_get xs k ≡ Some x → slice_get xs k ≡ Some y → x ≡ y
-read_same xs k x y a b = let both : Some x ≡ Some y = sym a ∙ b in cc
 
 -- BLOCKS
 

@@ -18,12 +18,12 @@ use Rattle.il_scope.specs.declared.entry.Binding.{Binding}
 use Rattle.il_scope.specs.declared.entry.Binding.TheVariants as means
 use Rattle.il_scope.specs.Views.{unit_number}
 
--- a variable of one list
-abbrev pub listed_as : Origin → VariableType → Variable
-listed_as origin declared = record { declared = declared; origin = origin }
+-- a variable of one list, which its unit sees
+abbrev pub listed_as : Origin → VariableType → Option Variable
+listed_as origin declared = Some (record { declared = declared; origin = origin })
 
 -- a function's variable of its own name
-abbrev pub own_result : UnitKind → Spelling → Spelling → Option Variable
+abbrev pub own_result : UnitKind → Spelling → Spelling → Option (Option Variable)
 own_result (Function scalar place) own name = if bytes_eq own name then Some (listed_as FunctionResult (Scalar scalar)) else None
 own_result FunctionBlock own name = None
 own_result Program own name = None
@@ -38,9 +38,14 @@ seen_by (Some Car) GroupPrograms = false
 seen_by (Some Group) CarPrograms = false
 seen_by (Some Group) GroupPrograms = true
 
--- what an image name means in a unit of a kind and role
-abbrev pub image_binding : UnitKind → Option Role → ImageName → Option Binding
-image_binding kind role image = if is_program_kind kind && seen_by role image.audience then Some (means.Variable image.variable) else None
+-- what a unit of a kind and role sees of an image name
+abbrev pub image_seen : UnitKind → Option Role → ImageName → Option Variable
+image_seen kind role image = if is_program_kind kind && seen_by role image.audience then Some image.variable else None
+
+-- a variable, if it is seen
+abbrev pub variable_binding : Option Variable → Option Binding
+variable_binding None = None
+variable_binding (Some variable) = Some (means.Variable variable)
 
 -- what a name means that is neither a variable of the unit nor an image name
 abbrev pub global_binding : Config → Spelling → Option Binding

@@ -6,7 +6,8 @@ use Rattle.il_spec.specs.declared.tree.ProgramLine.{ProgramLine}
 use Rattle.il_spec.specs.declared.tree.Declaration.{Declaration}
 use Rattle.il_spec.specs.declared.tree.Named.{Named}
 use Rattle.il_run.specs.NameMap.{NameMap, get, insert}
-use Rattle.il_rules.specs.Names.{Spelling, or_else, entry_of, is_one_of, named_forms, own_variable, task_role, program_role}
+use Rattle.il_rules.specs.Names.{Spelling, or_else, entry_of, is_one_of, named_forms, own_variable, image_name, task_role, program_role}
+use Rattle.il_rules.specs.Names as rule
 use Rattle.il_rules.specs.Declarations.{names_of_units}
 use Rattle.il_scope.specs.declared.entry.VariableType.{VariableType}
 use Rattle.il_scope.specs.declared.entry.Variable.{Variable}
@@ -14,9 +15,12 @@ use Rattle.il_scope.specs.declared.entry.Origin.{Origin}
 use Rattle.il_scope.specs.declared.entry.Role.{Role}
 use Rattle.il_scope.specs.declared.tables.Scope.{Scope}
 use Rattle.il_scope.specs.declared.tables.Tables.{Tables}
+use Rattle.il_spec.specs.declared.tree.UnitKind.{UnitKind}
+use Rattle.il_scope.specs.declared.image.ImageRow.{ImageRow}
 use Rattle.il_scope.specs.Entries.{role_entry}
-use Rattle.il_scope.specs.Views.{place_of, type_of, variable_of}
-use Rattle.il_scope.specs.Meanings.{listed_as}
+use Rattle.il_scope.specs.Images.{image_in, row_among}
+use Rattle.il_scope.specs.Views.{place_of, type_of, variable_of, image_entry}
+use Rattle.il_scope.specs.Meanings.{listed_as, image_seen}
 
 -- a table with a name that it did not have
 abbrev pub with_new : {X : Type 0} → NameMap X → Spelling → X → NameMap X
@@ -35,12 +39,32 @@ abbrev pub HasNames : {X : Type 0} → List Named → X → NameMap X → NameMa
 HasNames names entry old new = (name : Spelling) → get new name ≡ or_else (get old name) (if is_one_of (map (λ n. n.name) names) name then Some entry else None)
 
 -- what a table has, and the variables of a list where it had none of their names
-abbrev pub HasList : Config → Origin → List Declaration → NameMap Variable → NameMap Variable → Type 0
+abbrev pub HasList : Config → Origin → List Declaration → NameMap (Option Variable) → NameMap (Option Variable) → Type 0
 HasList config origin declarations old new = (name : Spelling) → get new name ≡ or_else (get old name) (option_map (listed_as origin) (option_map (type_of config) (entry_of (named_forms declarations) name)))
 
+-- a variable of a unit, which it sees
+abbrev pub seen_variable : Config → rule.Variable → Option Variable
+seen_variable config variable = Some (variable_of config variable)
+
 -- the variables of a unit; the first of a name counts
-abbrev pub HasOwn : Config → ProgramUnit → NameMap Variable → Type 0
-HasOwn config unit table = (name : Spelling) → get table name ≡ option_map (variable_of config) (own_variable unit name)
+abbrev pub HasVariables : Config → ProgramUnit → NameMap (Option Variable) → Type 0
+HasVariables config unit table = (name : Spelling) → get table name ≡ option_map (seen_variable config) (own_variable unit name)
+
+-- what a table has, and the image names of rows where it had none of their names
+abbrev pub HasImages : Config → UnitKind → Option Role → List ImageRow → NameMap (Option Variable) → NameMap (Option Variable) → Type 0
+HasImages config kind role rows old new = (name : Spelling) → get new name ≡ or_else (get old name) (option_map (image_seen kind role) (option_map (image_in config) (row_among rows name)))
+
+-- the role of a unit's programs
+abbrev pub role_of : Config → ProgramUnit → Option Role
+role_of config unit = option_map role_entry (program_role config unit.name.name config.programs)
+
+-- what a unit's own names and the image names are to it
+abbrev pub own_seen : Config → ProgramUnit → Spelling → Option (Option Variable)
+own_seen config unit name = or_else (option_map (seen_variable config) (own_variable unit name)) (option_map (image_seen unit.kind (role_of config unit)) (option_map (image_entry config) (image_name config name)))
+
+-- a table of them
+abbrev pub HasOwn : Config → ProgramUnit → NameMap (Option Variable) → Type 0
+HasOwn config unit table = (name : Spelling) → get table name ≡ own_seen config unit name
 
 -- a table with the role that a PROGRAM line gives, if its program has none
 abbrev pub with_role_of : Option Role → Spelling → NameMap Role → NameMap Role

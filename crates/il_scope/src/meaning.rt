@@ -3,71 +3,55 @@
 ghost use Rattle.std.specs.Prelude.{◌≡◌, Some, option_map, slice_get};
 ghost use Rattle.il_spec.specs.declared.tree.Config.{Config as Configuration};
 ghost use Rattle.il_spec.specs.declared.tree.Unit.{Unit as ProgramUnit};
-ghost use Rattle.il_rules.specs.Names.{outer_meaning, image_name, meaning};
+ghost use Rattle.il_rules.specs.Names.{meaning};
 ghost use Rattle.il_scope.specs.Views.{binding_of};
 ghost use Rattle.il_scope.specs.Tables.{IsScope, AreTables};
-ghost use Rattle.il_scope.specs.Meanings.{seen_by, image_binding, global_binding};
+ghost use Rattle.il_scope.specs.Meanings.{seen_by, image_seen, variable_binding, global_binding};
 
-use crate::entry::{Audience, Binding, ImageName, Role};
-use crate::image::image_name;
+use crate::entry::{Audience, Binding, ImageName, Role, Variable};
 use crate::numbers::{is_program, unit_number};
 use crate::tables::{Scope, Tables};
 use crate::words::is_predeclared;
-use il_spec::tree::{Config, Unit, UnitKind};
+use il_spec::tree::{Config, UnitKind};
 
 /// What a name means in the unit of a number; none where it is unknown there.
 pub fn meaning(config: &Config, tables: &Tables, at: usize, name: &str) -> Option<Binding>
     requires { AreTables config.now tables.now }
     ensures { (unit : ProgramUnit) → slice_get config.now.units at ≡ Some unit → result ≡ option_map (binding_of config.now) (meaning config.now unit name.now) }
 {
-    let Some(unit) = config.units.as_slice().get(at) else {
-        return None;
-    };
     let Some(scope) = tables.scopes.as_slice().get(at) else {
         return None;
     };
-    meaning_in(config, tables, unit, scope, name)
+    meaning_in(config, tables, scope, name)
 }
 
-// What a name means in a unit with this scope.
-#[tactic(auto, unfolding(il_rules::specs::Names::meaning))]
-fn meaning_in(
-    config: &Config,
-    tables: &Tables,
-    unit: &Unit,
-    scope: &Scope,
-    name: &str,
-) -> Option<Binding>
-    requires tables { AreTables config.now tables.now }
-    requires scope { IsScope config.now unit.now scope.now }
-    ensures { result ≡ option_map (binding_of config.now) (meaning config.now unit.now name.now) }
+// What a name means in the unit of a scope.
+fn meaning_in(config: &Config, tables: &Tables, scope: &Scope, name: &str) -> Option<Binding>
+    requires { AreTables config.now tables.now }
+    ensures { (unit : ProgramUnit) → IsScope config.now unit scope.now → result ≡ option_map (binding_of config.now) (meaning config.now unit name.now) }
 {
     match scope.own.get(name) {
-        Some(variable) => Some(Binding::Variable(variable)),
-        None => outer_meaning(config, tables, unit, name),
-    }
-}
-
-// What a name means that is no variable of the unit.
-fn outer_meaning(config: &Config, tables: &Tables, unit: &Unit, name: &str) -> Option<Binding>
-    requires { AreTables config.now tables.now }
-    ensures { result ≡ option_map (binding_of config.now) (outer_meaning config.now unit.now name.now (image_name config.now name.now)) }
-{
-    match image_name(config, name) {
-        Some(image) => {
-            let role = tables.roles.get(unit.name.name.as_str());
-            image_meaning(unit.kind, role, image)
-        }
+        Some(seen) => variable_binding(seen),
         None => global_meaning(config, tables, name),
     }
 }
 
-// What an image name means in a unit of a kind and role.
-fn image_meaning(kind: UnitKind, role: Option<Role>, image: ImageName) -> Option<Binding>
-    ensures { result ≡ image_binding kind role image }
+// A variable, if it is seen.
+fn variable_binding(seen: Option<Variable>) -> Option<Binding>
+    ensures { result ≡ variable_binding seen }
+{
+    match seen {
+        Some(variable) => Some(Binding::Variable(variable)),
+        None => None,
+    }
+}
+
+/// What a unit of a kind and role sees of an image name.
+pub fn image_seen(kind: UnitKind, role: Option<Role>, image: ImageName) -> Option<Variable>
+    ensures { result ≡ image_seen kind role image }
 {
     if is_program(kind) && is_seen_by(role, image.audience) {
-        Some(Binding::Variable(image.variable))
+        Some(image.variable)
     } else {
         None
     }

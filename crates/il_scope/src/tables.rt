@@ -5,9 +5,11 @@ ghost use Rattle.il_rules.specs.Names.{Spelling, or_else};
 ghost use Rattle.il_run.specs.NameMap as table;
 ghost use Rattle.il_scope.specs.Views.{place_of, type_of};
 ghost use Rattle.il_scope.specs.Meanings.{own_result};
-ghost use Rattle.il_scope.specs.Tables.{with_new, with_role, AreUnits, HasForms, HasNames, HasRoles, HasList, HasOwn, IsScope, AreScopes, AreTables};
+ghost use Rattle.il_scope.specs.Tables.{with_new, with_role, AreUnits, HasForms, HasNames, HasRoles, HasList, HasVariables, HasImages, HasOwn, IsScope, AreScopes, AreTables};
 
 use crate::entry::{Origin, Role, Variable, VariableType};
+use crate::image::{ImageRow, image_in, image_rows};
+use crate::meaning::image_seen;
 use crate::numbers::block_type;
 use crate::roles::task_role;
 use il_spec::list::Items;
@@ -22,8 +24,9 @@ pub struct Scope {
     pub inputs: Table<VariableType>,
     /// The types of its outputs.
     pub outputs: Table<VariableType>,
-    /// What its body names: a function's result, then the variables of all lists; the first of a name counts.
-    pub own: Table<Variable>,
+    /// What its body names: a function's result, the variables of all lists, then the image names; the first of a name counts.
+    /// None where the unit doesn't see an image name.
+    pub own: Table<Option<Variable>>,
 }
 
 /// The names of a configuration.
@@ -51,10 +54,11 @@ fn scoped_tables(alloc: Global, config: &Config, units: Table<usize>) -> Result<
     requires { AreUnits config.now units }
     ensures { IfOk result (λ t. AreTables config.now t) }
 {
-    let scopes = scopes(alloc, config, &units)?;
+    let roles = role_table(alloc, config)?;
+    let scopes = scopes(alloc, config, &units, &roles)?;
     Ok(Tables {
         globals: form_table(alloc, config, &units, config.globals.as_slice())?,
-        roles: role_table(alloc, config)?,
+        roles,
         scopes,
         units,
     })
@@ -98,13 +102,19 @@ fn put_role(
 }
 
 // The scope of each unit.
-fn scopes(alloc: Global, config: &Config, units: &Table<usize>) -> Result<Items<Scope>, AllocError>
-    requires { AreUnits config.now units.now }
+fn scopes(
+    alloc: Global,
+    config: &Config,
+    units: &Table<usize>,
+    roles: &Table<Role>,
+) -> Result<Items<Scope>, AllocError>
+    requires units { AreUnits config.now units.now }
+    requires roles { HasRoles config.now config.now.programs roles.now }
     ensures { IfOk result (λ s. AreScopes config.now config.now.units s) }
 {
     let mut scopes = Items::new(alloc);
     for unit in config.units.as_slice() {
-        scopes.push(scope_of(alloc, config, units, unit)?)?;
+        scopes.push(scope_of(alloc, config, units, roles, unit)?)?;
     }
     Ok(scopes)
 }
@@ -114,27 +124,65 @@ fn scope_of(
     alloc: Global,
     config: &Config,
     units: &Table<usize>,
+    roles: &Table<Role>,
     unit: &Unit,
 ) -> Result<Scope, AllocError>
-    requires { AreUnits config.now units.now }
+    requires units { AreUnits config.now units.now }
+    requires roles { HasRoles config.now config.now.programs roles.now }
     ensures { IfOk result (λ s. IsScope config.now unit.now s) }
 {
     Ok(Scope {
         inputs: form_table(alloc, config, units, unit.inputs.as_slice())?,
         outputs: form_table(alloc, config, units, unit.outputs.as_slice())?,
-        own: own_table(alloc, config, units, unit)?,
+        own: own_table(alloc, config, units, roles, unit)?,
     })
 }
 
-// The variables of a unit.
+// The variables of a unit and the image names.
 fn own_table(
     alloc: Global,
     config: &Config,
     units: &Table<usize>,
+    roles: &Table<Role>,
     unit: &Unit,
-) -> Result<Table<Variable>, AllocError>
-    requires { AreUnits config.now units.now }
+) -> Result<Table<Option<Variable>>, AllocError>
+    requires units { AreUnits config.now units.now }
+    requires roles { HasRoles config.now config.now.programs roles.now }
     ensures { IfOk result (HasOwn config.now unit.now) }
+{
+    let mut own = variable_table(alloc, config, units, unit)?;
+    let role = roles.get(unit.name.name.as_str());
+    put_images(alloc, config, unit.kind, role, image_rows(), &mut own)?;
+    Ok(own)
+}
+
+// Adds the image names that are not there.
+fn put_images(
+    alloc: Global,
+    config: &Config,
+    kind: UnitKind,
+    role: Option<Role>,
+    rows: &[ImageRow],
+    own: &mut Table<Option<Variable>>,
+) -> Result<(), AllocError>
+    ensures { OnOk result (HasImages config.now kind role rows.now own.old own.new) }
+{
+    for row in rows {
+        let seen = image_seen(kind, role, image_in(config, row));
+        put_new(alloc, own, row.name, seen)?;
+    }
+    Ok(())
+}
+
+// The variables of a unit.
+fn variable_table(
+    alloc: Global,
+    config: &Config,
+    units: &Table<usize>,
+    unit: &Unit,
+) -> Result<Table<Option<Variable>>, AllocError>
+    requires { AreUnits config.now units.now }
+    ensures { IfOk result (HasVariables config.now unit.now) }
 {
     let mut own = Table::new(alloc);
     put_result(alloc, unit, &mut own)?;
@@ -174,7 +222,11 @@ fn own_table(
 }
 
 // Adds a function's variable of its own name, which is its result (2.5.1).
-fn put_result(alloc: Global, unit: &Unit, own: &mut Table<Variable>) -> Result<(), AllocError>
+fn put_result(
+    alloc: Global,
+    unit: &Unit,
+    own: &mut Table<Option<Variable>>,
+) -> Result<(), AllocError>
     ensures { OnOk result ((name : Spelling) → table.get own.new name ≡ or_else (table.get own.old name) (own_result unit.now.kind unit.now.name.name name)) }
 {
     match unit.kind {
@@ -183,7 +235,7 @@ fn put_result(alloc: Global, unit: &Unit, own: &mut Table<Variable>) -> Result<(
                 declared: VariableType::Scalar(scalar),
                 origin: Origin::FunctionResult,
             };
-            put_new(alloc, own, unit.name.name.as_str(), result)
+            put_new(alloc, own, unit.name.name.as_str(), Some(result))
         }
         _ => Ok(()),
     }
@@ -196,7 +248,7 @@ fn put_list(
     units: &Table<usize>,
     origin: Origin,
     declarations: &[Declaration],
-    own: &mut Table<Variable>,
+    own: &mut Table<Option<Variable>>,
 ) -> Result<(), AllocError>
     requires { AreUnits config.now units.now }
     ensures { OnOk result (HasList config.now origin declarations.now own.old own.new) }
@@ -204,7 +256,7 @@ fn put_list(
     for declaration in declarations {
         let declared = type_of(config, units, &declaration.declared.form);
         let variable = Variable { declared, origin };
-        put_names(alloc, declaration.names.as_slice(), variable, own)?;
+        put_names(alloc, declaration.names.as_slice(), Some(variable), own)?;
     }
     Ok(())
 }

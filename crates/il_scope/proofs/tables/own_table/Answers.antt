@@ -1,14 +1,8 @@
-use Rattle.std.proofs.Common.{subst}
-use Rattle.il_scope.specs.declared.entry.Origin.TheVariants.{Input, Output, Local, External}
-use Rattle.il_scope.specs.Tables.{HasList}
-use Rattle.il_scope.proofs.Seen.{own_filled}
+use Rattle.std.proofs.Common.{ap, ◌∙◌}
+use Rattle.il_run.specs.NameMap.{get}
+use Rattle.il_scope.proofs.Seen.{own_seen_is}
 use Rattle.il_scope.proofs.tables.own_table.Goals as goal
 
 pub returns : goal.returns
 returns c =
-    let config = c.args.config.now in
-    own_filled config c.args.unit.now c.new-own.result c.put_result.new.own c.put_list.new.own c.put_list-2.new.own c.put_list-3.new.own c.put_list-4.new.own c.new-own.ensures c.in_ok-put_result.ensures
-    (subst (λ l. HasList config Input l c.put_result.new.own c.put_list.new.own) c.as_slice.ensures c.in_ok-put_list.ensures)
-    (subst (λ l. HasList config Output l c.put_list.new.own c.put_list-2.new.own) c.as_slice-2.ensures c.in_ok-put_list-2.ensures)
-    (subst (λ l. HasList config Local l c.put_list-2.new.own c.put_list-3.new.own) c.as_slice-3.ensures c.in_ok-put_list-3.ensures)
-    (subst (λ l. HasList config External l c.put_list-3.new.own c.put_list-4.new.own) c.as_slice-4.ensures c.in_ok-put_list-4.ensures)
+    own_seen_is c.args.config.now c.args.unit.now c.in_ok-own.own c.put_images.new.own c.image_rows.result.now c.get-role.result c.in_ok-own.ensures (c.get-role.ensures ∙ ap (get c.args.roles.now) c.as_str.ensures ∙ c.requires.roles c.args.unit.now.name.name) (c.image_rows.ensures c.args.config.now) c.in_ok-put_images.ensures
