@@ -110,7 +110,7 @@ fn placed(
     if full {
         return Err(surplus(tokens, lead));
     }
-    let instruction = source.instruction(tokens, has_room(depth))?;
+    let instruction = source.instruction(tokens, lead, has_room(depth))?;
     Ok((place, instruction))
 }
 
