@@ -19,17 +19,12 @@ use Rattle.il_run.specs.Annotation.{Annotated}
 use Rattle.il_machine.specs.Nesting.{IsNested}
 use Rattle.il_machine.specs.Scanning.{Program, IsRunnable}
 use Rattle.lift_sound.specs.Runs.{RunsWell}
-use Rattle.lift_world.specs.Loading.{IsSpelled, IsAccepted, IsRefusedFor, by_declarations, by_types, by_order, IsUnbroken, by_ranges, by_budgets, IsExplained}
+use Rattle.lift_world.specs.Loading.{IsSpelled, SpellsOnly, IsAccepted, IsRefusedFor, by_declarations, by_types, by_order, IsUnbroken, by_ranges, by_budgets, IsExplained}
 use Rattle.lift_world.proofs.Explaining.{explained_by_tree}
 use Rattle.lift_world.proofs.Accepting.{same_spelled, names_broken, accepted_is}
 use Rattle.lift_world.proofs.Sound.{runs_well}
 
--- a text spells this configuration and no other
-pub record SpellsOnly (text : List ℕ) (c : Config) : Type 0 where
-  pub spelled : IsSpelled text c
-  pub only : (d : Config) → IsSpelled text d → d ≡ c
-
--- what the parser gives is that
+-- what the parser gives is all that a text spells
 pub spells_only : (text : List ℕ) (tokens : List Token) (c : Config) → ((ts : List Token) → AreTokens text 0 ts → ts ≡ tokens) → length text ≤ 262144 → Spells text c → (length text ≤ 262144 → IsWithinLimits text c)
     → ((d : Config) → AfterLines (SpellsConfig text d) tokens [] → d ≡ c) → SpellsOnly text c
 spells_only text tokens c cut short spelled limits unique = record {

@@ -1,5 +1,5 @@
 -- Which texts are accepted (own rules).
-use Rattle.std.specs.Prelude.{ℕ, ◌≤◌, List}
+use Rattle.std.specs.Prelude.{◌≡◌, ℕ, ◌≤◌, List}
 use Rattle.il_spec.specs.declared.fault.Refusal.{Refusal}
 use Rattle.il_spec.specs.declared.fault.Refusal.TheVariants.{Fault, Memory}
 use Rattle.il_spec.specs.declared.tree.Config.{Config}
@@ -13,6 +13,11 @@ use Rattle.il_budget.specs.Costs.{IsTooLong}
 pub record IsSpelled (text : List ℕ) (c : Config) : Type 0 where
   pub spelled : Spells text c
   pub limits : IsWithinLimits text c
+
+-- And it spells no other.
+pub record SpellsOnly (text : List ℕ) (c : Config) : Type 0 where
+  pub spelled : IsSpelled text c
+  pub only : (d : Config) → IsSpelled text d → d ≡ c
 
 -- And none of its rules is broken, each instruction of its units has ranges, and none of its units costs too much.
 pub record IsAccepted (text : List ℕ) (c : Config) : Type 0 where

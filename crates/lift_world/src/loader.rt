@@ -11,7 +11,7 @@ ghost use Rattle.il_parse.specs.Refused.{IsFault};
 ghost use Rattle.il_budget.specs.Costs.{IsTooLong, cost_of};
 ghost use Rattle.il_machine.specs.Nesting.{IsNested};
 ghost use Rattle.lift_sound.specs.Runs.{RunsWell};
-ghost use Rattle.lift_world.specs.Loading.{IsSpelled, IsUnbroken, IsAccepted, IsRefusedFor, IsExplained};
+ghost use Rattle.lift_world.specs.Loading.{IsSpelled, SpellsOnly, SpellsNone, IsUnbroken, IsAccepted, IsRefusedFor, IsExplained};
 
 use crate::pair::both;
 use il_budget::budget;
@@ -41,9 +41,22 @@ pub fn load(alloc: Global, text: &[u8]) -> Result<Verified, Refusal>
     ensures named { IsFault result → (c : ConfigOf) → IsSpelled text.now c → IsErrAnd result (IsRefusedFor c) }
     ensures number { IfErr result (IsExplained text.now) }
 {
+    let config = parsed(alloc, text)?;
+    verified(alloc, config)
+}
+
+// The configuration that a text spells. Its tokens are given up before it is verified.
+fn parsed(alloc: Global, text: &[u8]) -> Result<Config, Refusal>
+    ensures only { IfOk result (SpellsOnly text.now) }
+    ensures written { IfOk result IsWritten }
+    ensures short { IfOk result (λ c. AreShort c.units) }
+    ensures nested { IfOk result IsNested }
+    ensures none { IsFault result → SpellsNone text.now }
+    ensures number { IfErr result (IsExplained text.now) }
+{
     let tokens = tokens(alloc, text)?;
     let config = parse(alloc, text, &tokens)?;
-    verified(alloc, config)
+    Ok(config)
 }
 
 // A configuration that a text spells, verified, or its first fault.

@@ -9,6 +9,9 @@ use lift_host::status::{Fault, show};
 use std::process::ExitCode;
 use std::{env, io};
 
+/// In bytes: more than any block that is reserved for a text.
+const LARGE_BLOCK: usize = 4 * 1024 * 1024;
+
 /// The words of the command line, without the program's name.
 fn words(rt: &HostRuntime) -> Result<Vec<String>, Fault> {
     match env::args(rt) {
@@ -28,7 +31,14 @@ fn unread(rt: &HostRuntime, kind: io::ErrorKind) -> Fault {
     }
 }
 
+/// Reserves a large block and gives it back untouched. From then on the C library keeps blocks of up to this size that
+/// are freed, for the next ones, and doesn't hand each back to the system.
+fn keep_freed_memory(rt: &HostRuntime) {
+    let _block = Vec::<u8>::with_capacity(rt.alloc(), LARGE_BLOCK);
+}
+
 fn main(rt: HostRuntime) -> ExitCode {
+    keep_freed_memory(&rt);
     let mut out = Stream::new(rt.stdout());
     let mut err = Stream::new(rt.stderr());
     let status = match words(&rt) {
