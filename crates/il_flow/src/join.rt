@@ -6,7 +6,7 @@ ghost use Rattle.il_least.specs.Facts.{known_join, result_join, is_same_operator
 ghost use Rattle.il_run.specs.declared.known.KnownDeferred.{KnownDeferred};
 
 use il_interval::Interval;
-use il_least::facts::Facts;
+use il_least::facts::{Carried, Facts};
 use il_row::Row;
 use il_rules::elementary::is_same_type;
 use il_run::known::{Known, KnownDeferred};
@@ -107,11 +107,11 @@ fn join_into(facts: &mut Facts, other: &Facts) -> bool
 }
 
 /// What is known where two paths meet, if something covers both.
-pub fn join_facts(first: Facts, second: Facts) -> Option<Facts>
+pub fn join_facts(first: Carried, second: Carried) -> Option<Carried>
     ensures { result ≡ facts_join first second }
 {
     let mut facts = first;
-    if join_into(&mut facts, &second) {
+    if join_into(&mut *facts.kept, &*second.kept) {
         Some(facts)
     } else {
         None

@@ -56,6 +56,7 @@ pub trait Flow {
 }
 
 // What comes to a place, joined with what waits there; false where nothing covers both.
+#[inline(always)]
 fn arrive<F: Flow>(waiting: &mut Vec<Option<F::Facts>>, to: usize, facts: F::Facts) -> bool
     requires { to < length waiting.old.items }
     ensures { Merges F.join waiting.old.items to facts result waiting.new.items }
@@ -70,6 +71,7 @@ fn arrive<F: Flow>(waiting: &mut Vec<Option<F::Facts>>, to: usize, facts: F::Fac
 }
 
 // What comes to a target, if there is one.
+#[inline(always)]
 fn bring<F: Flow>(waiting: &mut Vec<Option<F::Facts>>, target: Option<(usize, F::Facts)>) -> bool
     requires { IsInTable (length waiting.old.items) target }
     ensures { Comes F.join target waiting.old.items result waiting.new.items }
@@ -81,6 +83,7 @@ fn bring<F: Flow>(waiting: &mut Vec<Option<F::Facts>>, target: Option<(usize, F:
 }
 
 // The next place as a target.
+#[inline(always)]
 fn onward<K: Drop>(place: usize, next: Option<K>) -> Option<(usize, K)>
     requires { place < 9223372036854775808 }
     ensures { result ≡ target_next place next }
@@ -92,6 +95,7 @@ fn onward<K: Drop>(place: usize, next: Option<K>) -> Option<(usize, K)>
 }
 
 // The pass goes over a place. One that nothing reaches hands nothing on.
+#[inline(always)]
 fn step<F: Flow>(
     alloc: Global,
     flow: &F,

@@ -17,7 +17,7 @@ use il_flow::join::join_facts;
 use il_flow::pass::{Flow, Handed, pass};
 use il_found::Found;
 use il_labels::label_table;
-use il_least::facts::Facts;
+use il_least::facts::{Carried, Facts};
 use il_row::Row;
 use il_scope::Scoped;
 use il_spec::tree::{Step, Unit};
@@ -36,7 +36,7 @@ impl Flow for UnitFlow<'_> {
     ghost use Rattle.il_least.specs.Steps.{moves};
     ghost use Rattle.il_ranges.specs.Judged.{IsPlaceOf, IsRefusalOf};
 
-    type Facts = Facts;
+    type Facts = Carried;
 
     type Refused = Found<RangeFault>;
 
@@ -50,7 +50,7 @@ impl Flow for UnitFlow<'_> {
 
     ghost refuses = { λ f place k found. IsRefusalOf f.scope.now place k found };
 
-    fn join(first: Facts, second: Facts) -> Option<Facts>
+    fn join(first: Carried, second: Carried) -> Option<Carried>
         ensures { result ≡ facts_join first second }
     {
         join_facts(first, second)
@@ -60,14 +60,17 @@ impl Flow for UnitFlow<'_> {
         &self,
         alloc: Global,
         place: usize,
-        facts: Facts,
-    ) -> Result<Option<Handed<Facts>>, AllocError> {
+        facts: Carried,
+    ) -> Result<Option<Handed<Carried>>, AllocError> {
         hand_on(alloc, self.scope, facts, &self.steps[place].instruction)
     }
 
-    fn refusal(&self, place: usize, facts: &Facts) -> Found<RangeFault> {
+    fn refusal(&self, place: usize, facts: &Carried) -> Found<RangeFault> {
         let step = &self.steps[place];
-        Found::of(fault_of(self.scope, facts, &step.instruction), step.place)
+        Found::of(
+            fault_of(self.scope, &*facts.kept, &step.instruction),
+            step.place,
+        )
     }
 }
 
@@ -83,7 +86,7 @@ impl Flow for UnitPassage<'_> {
     ghost use Rattle.il_least.specs.Steps.{moves};
     ghost use Rattle.il_ranges.specs.Judged.{IsPlaceOf};
 
-    type Facts = Facts;
+    type Facts = Carried;
 
     type Refused = ();
 
@@ -97,7 +100,7 @@ impl Flow for UnitPassage<'_> {
 
     ghost refuses = { λ f place k found. Unit {0} };
 
-    fn join(first: Facts, second: Facts) -> Option<Facts>
+    fn join(first: Carried, second: Carried) -> Option<Carried>
         ensures { result ≡ facts_join first second }
     {
         join_facts(first, second)
@@ -107,23 +110,24 @@ impl Flow for UnitPassage<'_> {
         &self,
         alloc: Global,
         place: usize,
-        facts: Facts,
-    ) -> Result<Option<Handed<Facts>>, AllocError> {
+        facts: Carried,
+    ) -> Result<Option<Handed<Carried>>, AllocError> {
         hand_on(alloc, self.scope, facts, &self.steps[place].instruction)
     }
 
-    fn refusal(&self, _place: usize, _facts: &Facts) {}
+    fn refusal(&self, _place: usize, _facts: &Carried) {}
 }
 
 // The facts at the entry of a unit.
-fn entry(alloc: Global, numbering: &Numbering) -> Result<Facts, AllocError>
+fn entry(alloc: Global, numbering: &Numbering) -> Result<Carried, AllocError>
     ensures { IfOk result (λ f. f ≡ entry numbering.now.declared) }
 {
-    Ok(Facts {
+    let facts = Facts {
         row: numbering.declared.try_copy(alloc)?,
         result: None,
         deferred: Row::new(alloc),
-    })
+    };
+    Carried::of(alloc, facts)
 }
 
 // Whether a unit has ranges at all its places, by the numbers of its variables.

@@ -15,7 +15,7 @@ use crate::meant::{store_in, target_fits};
 use crate::scope::Scope;
 use il_flow::join::join_rows;
 use il_interval::Interval;
-use il_least::facts::Facts;
+use il_least::facts::Carried;
 use il_row::Row;
 use il_spec::tree::{Argument, Condition, Scalar};
 use std::alloc::{AllocError, Global};
@@ -134,22 +134,29 @@ fn passed_row<S: Scope>(
 pub fn called<S: Scope>(
     alloc: Global,
     scope: &S,
-    facts: Facts,
+    facts: Carried,
     condition: Condition,
     instance: &str,
     arguments: &[Argument],
-) -> Result<Option<Facts>, AllocError>
+) -> Result<Option<Carried>, AllocError>
     requires { IsFine (S.names scope.now) facts }
     ensures { IfOk result (λ after. moves_of_call (S.names scope.now) (S.names scope.now).config (S.names scope.now).unit facts condition arguments.now (form_in (S.names scope.now) instance.now) ≡ option_map to_next after) }
 {
     if !scope.is_instance(instance) {
         return Ok(None);
     }
-    if !fit_arguments(scope, &facts.row, instance, arguments) {
+    if !fit_arguments(scope, &facts.kept.row, instance, arguments) {
         return Ok(None);
     }
     let mut facts = facts;
-    passed_row(alloc, scope, &mut facts.row, condition, instance, arguments)?;
-    facts.result = None;
+    passed_row(
+        alloc,
+        scope,
+        &mut facts.kept.row,
+        condition,
+        instance,
+        arguments,
+    )?;
+    facts.kept.result = None;
     Ok(Some(facts))
 }

@@ -1,10 +1,10 @@
 // What each instruction hands on (IEC 61131-3:2003, 3.2.2, 3.2.3).
 
-ghost use Rattle.std.specs.Prelude.{◌≡◌, Some, None, true, option_map, IfOk};
+ghost use Rattle.std.specs.Prelude.{◌≡◌, ◌∷◌, Some, None, true, option_map, IfOk};
 ghost use Rattle.il_rules.specs.Types.{label_place};
 ghost use Rattle.il_least.specs.Found.{provided, fits_target};
-ghost use Rattle.il_least.specs.Facts.{IsFine, IsFineResult, AreFineDeferred};
-ghost use Rattle.il_least.specs.Steps.{to_next, giving, stored_row, has_condition, passing, jumping_to, is_bare, moves_of_store, moves_of_defer, moves_of_evaluate, moves_of_call, moves_of};
+ghost use Rattle.il_least.specs.Facts.{facts as facts_of, IsFine, IsFineResult, AreFineDeferred};
+ghost use Rattle.il_least.specs.Steps.{to_next, giving, deferred, stored_row, has_condition, passing, jumping_to, is_bare, moves_of_store, moves_of_defer, moves_of_evaluate, moves_of_call, moves_of};
 ghost use Rattle.il_transfer.specs.Scopes.{denoted, form_in};
 ghost use Rattle.il_flow.specs.Tables.{moved};
 ghost use Rattle.il_transfer.specs.Kinds.{GivesResult, GoesOnAlone, stored_value, first_loaded};
@@ -16,7 +16,7 @@ use crate::meant::{store_in, target_fits};
 use crate::operands::{loaded, loaded_operand, operated};
 use crate::scope::Scope;
 use il_flow::pass::Handed;
-use il_least::facts::Facts;
+use il_least::facts::{Carried, Facts};
 use il_run::known::{Known, KnownDeferred};
 use il_spec::tree::{Argument, Condition, Instruction, Operand, Operator, Reference, Store};
 use std::alloc::{AllocError, Global};
@@ -59,12 +59,12 @@ fn keep<S: Scope>(scope: &S, facts: &mut Facts, target: &Reference, known: Known
 }
 
 // The facts after a store.
-fn stored<S: Scope>(scope: &S, facts: Facts, store: Store, target: &Reference) -> Option<Facts>
+fn stored<S: Scope>(scope: &S, facts: Carried, store: Store, target: &Reference) -> Option<Carried>
     ensures { moves_of_store (S.names scope.now) facts store (denoted (S.names scope.now) target.now) ≡ option_map to_next result }
 {
-    let known = stored_value(store, facts.result)?;
+    let known = stored_value(store, facts.kept.result)?;
     let mut facts = facts;
-    if keep(scope, &mut facts, target, known) {
+    if keep(scope, &mut *facts.kept, target, known) {
         Some(facts)
     } else {
         None
@@ -74,7 +74,7 @@ fn stored<S: Scope>(scope: &S, facts: Facts, store: Store, target: &Reference) -
 // What a short form loads, and nothing where there is none.
 fn first_operand<S: Scope>(
     scope: &S,
-    facts: &Facts,
+    facts: &Carried,
     first: &Option<Operand>,
 ) -> Option<Option<Known>>
     requires { IsFine (S.names scope.now) facts.now }
@@ -82,42 +82,55 @@ fn first_operand<S: Scope>(
 {
     match first {
         Some(operand) => {
-            let known = loaded_operand(scope, &facts.row, &operand.reference)?;
+            let known = loaded_operand(scope, &facts.kept.row, &operand.reference)?;
             Some(Some(known))
         }
         None => Some(None),
     }
 }
 
+// Sets an operator and its left operand aside, and goes on with this result.
+fn put_aside(
+    facts: &mut Facts,
+    operator: Operator,
+    left: Known,
+    next: Option<Known>,
+) -> Result<(), AllocError>
+    ensures { IfOk result (λ _. facts.new ≡ facts_of facts.old.row next (deferred operator left ∷ facts.old.deferred)) }
+{
+    facts.deferred.push_first(KnownDeferred { operator, left })?;
+    facts.result = next;
+    Ok(())
+}
+
 // The facts after an `OP(`.
 fn set_aside<S: Scope>(
     scope: &S,
-    facts: Facts,
+    facts: Carried,
     operator: Operator,
     first: &Option<Operand>,
-) -> Result<Option<Facts>, AllocError>
+) -> Result<Option<Carried>, AllocError>
     requires { IsFine (S.names scope.now) facts }
     ensures { IfOk result (λ after. moves_of_defer (S.names scope.now) (S.names scope.now).config (S.names scope.now).unit facts operator first.now ≡ option_map to_next after) }
 {
-    let (Some(left), Some(result)) = (facts.result, first_operand(scope, &facts, first)) else {
+    let (Some(left), Some(result)) = (facts.kept.result, first_operand(scope, &facts, first)) else {
         return Ok(None);
     };
     let mut facts = facts;
-    facts.deferred.push_first(KnownDeferred { operator, left })?;
-    facts.result = result;
+    put_aside(&mut *facts.kept, operator, left, result)?;
     Ok(Some(facts))
 }
 
 // The facts after a `)`.
-fn evaluated(facts: Facts) -> Option<Facts>
+fn evaluated(facts: Carried) -> Option<Carried>
     requires result { IsFineResult facts.result }
     requires deferred { AreFineDeferred facts.deferred }
     ensures { moves_of_evaluate facts facts.deferred ≡ option_map to_next result }
 {
     let mut facts = facts;
-    let deferred = facts.deferred.take_first()?;
-    let right = facts.result?;
-    facts.result = Some(found_operated(deferred.operator, deferred.left, right)?);
+    let deferred = facts.kept.deferred.take_first()?;
+    let right = facts.kept.result?;
+    facts.kept.result = Some(found_operated(deferred.operator, deferred.left, right)?);
     Some(facts)
 }
 
@@ -147,14 +160,14 @@ fn result_after<S: Scope>(scope: &S, facts: &Facts, instruction: &Instruction) -
 }
 
 // The facts after an instruction that changes the result alone.
-fn with_result<S: Scope>(scope: &S, facts: Facts, instruction: &Instruction) -> Option<Facts>
+fn with_result<S: Scope>(scope: &S, facts: Carried, instruction: &Instruction) -> Option<Carried>
     requires fine { IsFine (S.names scope.now) facts }
     requires gives { GivesResult instruction.now }
     ensures { moves_of (S.names scope.now) (S.names scope.now).config (S.names scope.now).unit facts instruction.now ≡ option_map to_next result }
 {
-    let result = result_after(scope, &facts, instruction)?;
+    let result = result_after(scope, &*facts.kept, instruction)?;
     let mut facts = facts;
-    facts.result = Some(result);
+    facts.kept.result = Some(result);
     Some(facts)
 }
 
@@ -162,15 +175,15 @@ fn with_result<S: Scope>(scope: &S, facts: Facts, instruction: &Instruction) -> 
 fn call<S: Scope>(
     alloc: Global,
     scope: &S,
-    facts: Facts,
+    facts: Carried,
     condition: Condition,
     instance: &str,
     arguments: &[Argument],
-) -> Result<Option<Facts>, AllocError>
+) -> Result<Option<Carried>, AllocError>
     requires { IsFine (S.names scope.now) facts }
     ensures { IfOk result (λ after. provided (has_condition condition facts.result) (moves_of_call (S.names scope.now) (S.names scope.now).config (S.names scope.now).unit facts condition arguments.now (form_in (S.names scope.now) instance.now)) ≡ option_map to_next after) }
 {
-    if has_condition(condition, facts.result) {
+    if has_condition(condition, facts.kept.result) {
         called(alloc, scope, facts, condition, instance, arguments)
     } else {
         Ok(None)
@@ -181,9 +194,9 @@ fn call<S: Scope>(
 fn after<S: Scope>(
     alloc: Global,
     scope: &S,
-    facts: Facts,
+    facts: Carried,
     instruction: &Instruction,
-) -> Result<Option<Facts>, AllocError>
+) -> Result<Option<Carried>, AllocError>
     requires fine { IsFine (S.names scope.now) facts }
     requires next { GoesOnAlone instruction.now }
     ensures { IfOk result (λ after. moves_of (S.names scope.now) (S.names scope.now).config (S.names scope.now).unit facts instruction.now ≡ option_map to_next after) }
@@ -211,7 +224,7 @@ fn after<S: Scope>(
 }
 
 // What goes on to the next place alone.
-fn onward(after: Option<Facts>) -> Option<Handed<Facts>>
+fn onward(after: Option<Carried>) -> Option<Handed<Carried>>
     ensures { option_map moved result ≡ option_map to_next after }
 {
     match after {
@@ -224,10 +237,10 @@ fn onward(after: Option<Facts>) -> Option<Handed<Facts>>
 }
 
 // What a return hands on.
-fn returned(facts: Facts, condition: Condition) -> Option<Handed<Facts>>
+fn returned(facts: Carried, condition: Condition) -> Option<Handed<Carried>>
     ensures { option_map moved result ≡ provided (has_condition condition facts.result) (Some (record { next = passing condition facts; jump = None })) }
 {
-    if !has_condition(condition, facts.result) {
+    if !has_condition(condition, facts.kept.result) {
         return None;
     }
     let next = match condition {
@@ -238,34 +251,35 @@ fn returned(facts: Facts, condition: Condition) -> Option<Handed<Facts>>
 }
 
 // The same facts on memory of their own.
-fn copy_of(alloc: Global, facts: &Facts) -> Result<Facts, AllocError>
+fn copy_of(alloc: Global, facts: &Facts) -> Result<Carried, AllocError>
     ensures { IfOk result (λ f. f ≡ facts.now) }
 {
-    Ok(Facts {
+    let copy = Facts {
         row: facts.row.try_copy(alloc)?,
         result: facts.result,
         deferred: facts.deferred.try_copy(alloc)?,
-    })
+    };
+    Carried::of(alloc, copy)
 }
 
 // What a jump to this place hands on.
 fn jumping_to(
     alloc: Global,
-    facts: Facts,
+    facts: Carried,
     condition: Condition,
     to: usize,
-) -> Result<Handed<Facts>, AllocError>
+) -> Result<Handed<Carried>, AllocError>
     ensures { IfOk result (λ h. Some (moved h) ≡ jumping_to condition facts (Some to)) }
 {
     let mut facts = facts;
     if let Condition::Always = condition {
-        facts.result = None;
+        facts.kept.result = None;
         return Ok(Handed {
             next: None,
             jump: Some((to, facts)),
         });
     }
-    let there = copy_of(alloc, &facts)?;
+    let there = copy_of(alloc, &*facts.kept)?;
     Ok(Handed {
         next: Some(facts),
         jump: Some((to, there)),
@@ -273,10 +287,15 @@ fn jumping_to(
 }
 
 // The place to which a jump may go.
-fn target_of<S: Scope>(scope: &S, facts: &Facts, condition: Condition, label: &str) -> Option<usize>
+fn target_of<S: Scope>(
+    scope: &S,
+    facts: &Carried,
+    condition: Condition,
+    label: &str,
+) -> Option<usize>
     ensures { result ≡ provided (is_bare facts.now.deferred) (provided (has_condition condition facts.now.result) (label_place (S.names scope.now).unit.body label.now)) }
 {
-    if facts.deferred.as_slice().is_empty() && has_condition(condition, facts.result) {
+    if facts.kept.deferred.as_slice().is_empty() && has_condition(condition, facts.kept.result) {
         scope.label(label)
     } else {
         None
@@ -287,10 +306,10 @@ fn target_of<S: Scope>(scope: &S, facts: &Facts, condition: Condition, label: &s
 fn jumped<S: Scope>(
     alloc: Global,
     scope: &S,
-    facts: Facts,
+    facts: Carried,
     condition: Condition,
     label: &str,
-) -> Result<Option<Handed<Facts>>, AllocError>
+) -> Result<Option<Handed<Carried>>, AllocError>
     ensures { IfOk result (λ h. option_map moved h ≡ provided (is_bare facts.deferred) (provided (has_condition condition facts.result) (jumping_to condition facts (label_place (S.names scope.now).unit.body label.now)))) }
 {
     match target_of(scope, &facts, condition, label) {
@@ -303,9 +322,9 @@ fn jumped<S: Scope>(
 pub fn hand_on<S: Scope>(
     alloc: Global,
     scope: &S,
-    facts: Facts,
+    facts: Carried,
     instruction: &Instruction,
-) -> Result<Option<Handed<Facts>>, AllocError>
+) -> Result<Option<Handed<Carried>>, AllocError>
     requires { IsFine (S.names scope.now) facts }
     ensures { IfOk result (λ h. moves_of (S.names scope.now) (S.names scope.now).config (S.names scope.now).unit facts instruction.now ≡ option_map moved h) }
 {

@@ -45,6 +45,7 @@ pub enum Meant {
 }
 
 // The range of a variable: that of its number, or its declared one.
+#[inline(always)]
 fn range_in(row: &Row<Interval>, scalar: Scalar, number: Option<usize>) -> Option<Interval>
     ensures { result ≡ range_in row.now scalar number }
 {
@@ -70,6 +71,7 @@ fn index_fits(
 }
 
 // What is known of a variable.
+#[inline(always)]
 fn variable_in(row: &Row<Interval>, scalar: Scalar, number: Option<usize>) -> Option<Known>
     ensures { result ≡ found_flow scalar.elementary (range scalar) (range_in row.now scalar number) }
 {
@@ -83,6 +85,7 @@ fn variable_in(row: &Row<Interval>, scalar: Scalar, number: Option<usize>) -> Op
 }
 
 /// What is known of an operand, of a bare literal with the type that is given.
+#[inline(always)]
 pub fn operand_in(row: &Row<Interval>, elementary: Elementary, meant: Meant) -> Option<Known>
     ensures { result ≡ operand_in row.now elementary meant }
 {
@@ -148,6 +151,7 @@ pub fn context_of(meant: Meant, left: Known) -> Elementary
 }
 
 /// Whether a target takes all such values.
+#[inline(always)]
 pub fn target_fits(row: &Row<Interval>, meant: Meant, known: Known) -> bool
     ensures { result ≡ target_fits row.now meant known }
 {
@@ -184,6 +188,7 @@ fn put(row: &mut Row<Interval>, number: Option<usize>, range: Interval)
 }
 
 /// Keeps what is stored into a variable with a number.
+#[inline(always)]
 pub fn store_in(row: &mut Row<Interval>, meant: Meant, known: Known)
     ensures { row.new ≡ stored_in meant known row.old }
 {

@@ -1,5 +1,5 @@
 -- The programs of PROGRAM lines by the number of their unit.
-use Rattle.std.proofs.Common.{◌≡◌, ℕ, ◌≤◌, List, length, Option, Some, None, option_and_then, slice_get, sym, ap, ◌∙◌}
+use Rattle.std.proofs.Common.{◌≡◌, ℕ, ◌≤◌, List, length, Option, Some, None, option_and_then, slice_get, [], refl, sym, ap, ◌∙◌}
 use Rattle.il_spec.specs.declared.tree.Config.{Config}
 use Rattle.il_spec.specs.declared.tree.Unit.{Unit as ProgramUnit}
 use Rattle.il_spec.specs.declared.tree.Step.{Step}
@@ -10,6 +10,7 @@ use Rattle.il_scope.proofs.Laws.{program_found}
 use Rattle.il_scope.proofs.Seen.{none_at}
 use Rattle.il_typed.specs.declared.writers.Writer.{Writer}
 use Rattle.il_typed.specs.Writers.{noted, noted_line, names_stored}
+use Rattle.il_typed.proofs.Sharing.{nothing_noted}
 
 module _ (config : Config) (key name : Spelling) (same : key ≡ name) where
   -- a number is that of a unit
@@ -28,3 +29,7 @@ module _ (config : Config) (key name : Spelling) (same : key ≡ name) where
   body_noted line k table new unit of steps is there one listed noted_steps =
       noted_steps ∙ ap (λ u. noted config.programs line u table (names_stored steps)) one ∙ ap (λ l. noted config.programs line unit table (names_stored l)) listed
       ∙ sym (ap (λ o. noted_line config.programs line o table) (numbered (Some k) is ∙ there))
+
+  -- a program that writes no global
+  pub nothing_stored : (line k : ℕ) (table : NameMap Writer) (unit : ProgramUnit) → Some k ≡ program_number config key → slice_get config.units k ≡ Some unit → unit.externals ≡ [] → table ≡ noted_line config.programs line (program_named config name) table
+  nothing_stored line k table unit is there none = body_noted line k table table unit unit unit.body.steps is there refl refl (sym (nothing_noted config.programs line unit table (names_stored unit.body.steps) none))

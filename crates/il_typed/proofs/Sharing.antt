@@ -1,17 +1,21 @@
 -- Which globals two tasks write.
 use Rattle.std.proofs.Common.{◌≡◌, ◌≢◌, ℕ, zero, suc, ◌+◌, ◌<◌, ◌⊎◌, inl, inr, Bool, true, false, ◌||◌, ◌&&◌, if◌then◌else◌, List, [], ◌∷◌, length, slice_get, refl, sym, ap, ◌∙◌, subst, Option, Some, None, option_map, bytes_eq, arith}
-use Rattle.std.specs.Prelude.{Contains, find}
+use Rattle.std.specs.Prelude.{Contains, find, map, ◌++◌}
 use Rattle.std.specs.List.{list_any}
 use Rattle.std.proofs.lemmas.Option.{slice_get_within, get_or_from_slice_get, slice_get-get_or}
 use Rattle.std.proofs.lemmas.Slice.Eq.{bytes_eq-Decides}
 use Rattle.il_spec.specs.declared.tree.Config.{Config}
 use Rattle.il_spec.specs.declared.tree.Unit.{Unit as ProgramUnit}
 use Rattle.il_spec.specs.declared.tree.Step.{Step}
+use Rattle.il_spec.specs.declared.tree.Form.{Form}
+use Rattle.il_spec.specs.declared.tree.Form.TheVariants.{Scalar as OfScalar}
+use Rattle.il_spec.specs.declared.tree.UnitKind.{UnitKind}
+use Rattle.il_spec.specs.declared.tree.UnitKind.TheVariants.{Function, FunctionBlock, Program}
 use Rattle.il_spec.specs.declared.tree.Place.{Place}
 use Rattle.il_spec.specs.declared.tree.ProgramLine.{ProgramLine}
 use Rattle.il_run.specs.NameMap.{NameMap, get, insert, empty, get-empty}
 use Rattle.il_rules.specs.Names as rule
-use Rattle.il_rules.specs.Names.{Spelling, ImageName, image_of, image_name, own_variable, program_named, or_else, Meaning, MeansVariable, MeansUnit, MeansStandard, meaning, sees, outer_meaning, unit_named, is_predeclared, global_meaning, AsInput, AsOutput, AsVariable, AsExternal, AsResult, AsReadImage, AsWrittenImage}
+use Rattle.il_rules.specs.Names.{Spelling, ImageName, image_of, image_name, own_variable, variables_of, result_of, with_origin, named_forms, program_named, or_else, Meaning, MeansVariable, MeansUnit, MeansStandard, meaning, sees, outer_meaning, unit_named, is_predeclared, global_meaning, AsInput, AsOutput, AsVariable, AsExternal, AsResult, AsReadImage, AsWrittenImage}
 use Rattle.il_rules.specs.Types.{IsExternalOf, TaskWrites, stored_names}
 use Rattle.il_found.specs.Least.{NumberedFault, IsLeast}
 use Rattle.il_found.proofs.Least.{least_same}
@@ -103,6 +107,52 @@ is_external_there unit name e = by_own (own_variable unit name) e
     by_own : (o : Option rule.Variable) → option_map (λ v. v.origin) o ≡ Some AsExternal → is_external_variable o ≡ true
     by_own (Some v) e = ap is_external_of (same v.origin AsExternal e)
     by_own None e = let bad : ◌≡◌ {A = Option rule.Origin} None (Some AsExternal) = e in cc
+
+-- a unit without externals has no external of any name
+module _ (test : rule.Variable → Bool) where
+  no_external_appended : (xs ys : List rule.Variable) → is_external_variable (find test xs) ≡ false → is_external_variable (find test ys) ≡ false → is_external_variable (find test (xs ++ ys)) ≡ false
+  no_external_appended [] ys none rest = rest
+  no_external_appended (x ∷ xs) ys none rest = by_first (test x) none (λ k. no_external_appended xs ys k rest)
+    where
+      by_first : (b : Bool) → is_external_variable (if b then Some x else find test xs) ≡ false → (is_external_variable (find test xs) ≡ false → is_external_variable (find test (xs ++ ys)) ≡ false) → is_external_variable (if b then Some x else find test (xs ++ ys)) ≡ false
+      by_first true is further = is
+      by_first false is further = further is
+
+  no_external_of_origin : (o : rule.Origin) (vs : List (Spelling × Form)) → is_external_of o ≡ false → is_external_variable (find test (map (λ v. record { name = v.0; form = v.1; origin = o }) vs)) ≡ false
+  no_external_of_origin o [] none = refl
+  no_external_of_origin o (v ∷ vs) none = by_first (test (record { name = v.0; form = v.1; origin = o })) (no_external_of_origin o vs none)
+    where
+      by_first : (b : Bool) → is_external_variable (find test (map (λ v. record { name = v.0; form = v.1; origin = o }) vs)) ≡ false → is_external_variable (if b then Some (record { name = v.0; form = v.1; origin = o }) else find test (map (λ v. record { name = v.0; form = v.1; origin = o }) vs)) ≡ false
+      by_first true further = none
+      by_first false further = further
+
+  no_external_result : (kind : UnitKind) (name : Spelling) → is_external_variable (find test (result_of kind name)) ≡ false
+  no_external_result (Function scalar place) name = by_first (test (record { name = name; form = OfScalar scalar; origin = AsResult }))
+    where
+      by_first : (b : Bool) → is_external_variable (if b then Some (record { name = name; form = OfScalar scalar; origin = AsResult }) else None) ≡ false
+      by_first true = refl
+      by_first false = refl
+  no_external_result FunctionBlock name = refl
+  no_external_result Program name = refl
+
+  no_external_found : (unit : ProgramUnit) → unit.externals ≡ [] → is_external_variable (find test (variables_of unit)) ≡ false
+  no_external_found unit none =
+      no_external_appended _ (with_origin AsExternal unit.externals)
+      (no_external_appended _ (with_origin AsVariable unit.variables)
+      (no_external_appended _ (with_origin AsOutput unit.outputs)
+      (no_external_appended (result_of unit.kind unit.name.name) (with_origin AsInput unit.inputs) (no_external_result unit.kind unit.name.name) (no_external_of_origin AsInput (named_forms unit.inputs) refl))
+      (no_external_of_origin AsOutput (named_forms unit.outputs) refl))
+      (no_external_of_origin AsVariable (named_forms unit.variables) refl))
+      (ap (λ l. is_external_variable (find test (with_origin AsExternal l))) none)
+
+no_external : (unit : ProgramUnit) (name : Spelling) → unit.externals ≡ [] → is_external unit name ≡ false
+unfolding is_external
+no_external unit name none = no_external_found (λ v. bytes_eq v.name name) unit none
+
+-- such a unit writes no global
+pub nothing_noted : (lines : List ProgramLine) (line : ℕ) (unit : ProgramUnit) (table : NameMap Writer) (names : List Spelling) → unit.externals ≡ [] → noted lines line unit table names ≡ table
+nothing_noted lines line unit table [] none = refl
+nothing_noted lines line unit table (n ∷ ns) none = nothing_noted lines line unit (note lines line unit table n) ns none ∙ ap (λ b. if b then insert table n (writer_after lines line (get table n)) else table) (no_external unit n none)
 
 -- WRITERS
 

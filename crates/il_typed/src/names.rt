@@ -11,7 +11,7 @@ ghost use Rattle.il_typed.specs.Units.{input_types};
 ghost use Rattle.il_typed.specs.Writers.{is_external, is_meant_external};
 
 use crate::fault::{LowestFault, TypeFault, unless};
-use crate::scope::Scope;
+use crate::scope::{Scope, Target};
 use crate::unit_inputs::InputTypes;
 use il_scope::Scoped;
 use il_scope::entry::{Binding, BlockType, Origin, StandardFunction, Variable, VariableType};
@@ -42,6 +42,7 @@ impl<'n> Model for UnitNames<'n> {
 }
 
 // The type of a scalar variable.
+#[inline(always)]
 fn scalar_type(declared: VariableType) -> Option<Elementary>
     ensures { (config : Configuration) (form : Form) → declared ≡ type_of config form → result ≡ rules.scalar_type form }
 {
@@ -114,6 +115,7 @@ impl<'n> UnitNames<'n> {
     }
 
     // The variable of a name.
+    #[inline(always)]
     fn variable(&self, name: &str) -> Option<Variable>
         ensures { result ≡ option_map (variable_of self.now.config) (variable_named self.now.config self.now.unit name.now) }
     {
@@ -174,10 +176,16 @@ impl<'n> Scope for UnitNames<'n> {
         }
     }
 
-    fn written_variable_fault(&self, name: &str) -> LowestFault {
+    fn name_target(&self, name: &str) -> Target {
         match self.variable(name) {
-            Some(variable) => unless(is_written(variable.origin), TypeFault::NotWritable),
-            None => LowestFault::none(),
+            Some(variable) => Target {
+                declared: scalar_type(variable.declared),
+                written: unless(is_written(variable.origin), TypeFault::NotWritable),
+            },
+            None => Target {
+                declared: None,
+                written: LowestFault::none(),
+            },
         }
     }
 

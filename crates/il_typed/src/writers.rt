@@ -1,6 +1,6 @@
 // Globals that two tasks write (own rule).
 
-ghost use Rattle.std.specs.Prelude.{◌≡◌, IfOk, Some, map, flat_map, slice_get, length};
+ghost use Rattle.std.specs.Prelude.{◌≡◌, [], IfOk, IsFalse, Some, map, flat_map, slice_get, length};
 ghost use Rattle.std.specs.List.{list_any};
 ghost use Rattle.il_rules.specs.Names.{program_named};
 ghost use Rattle.il_rules.specs.Types.{argument_targets, named_variable, stored_names};
@@ -55,6 +55,13 @@ fn writers_of(
     Ok(writers)
 }
 
+// Whether a unit has externals.
+fn has_externals(unit: &Unit) -> bool
+    ensures { IsFalse result → unit.now.externals ≡ [] }
+{
+    !unit.externals.as_slice().is_empty()
+}
+
 // Notes what the program of a PROGRAM line writes.
 fn note_line(
     alloc: Global,
@@ -73,6 +80,9 @@ fn note_line(
     let Some(unit) = names.config().units.as_slice().get(at) else {
         return Ok(());
     };
+    if !has_externals(unit) {
+        return Ok(());
+    }
     let scope = UnitNames::of(names, inputs, at, unit);
     let lines = names.config().programs.as_slice();
     note_steps(
@@ -310,5 +320,5 @@ fn is_argument_shared(scope: &UnitNames, writers: &Table<Writer>, argument: &Arg
 fn is_shared(scope: &UnitNames, writers: &Table<Writer>, name: &str) -> bool
     ensures { result ≡ is_shared scope.now.unit writers.now name.now }
 {
-    scope.is_external(name) && matches!(writers.get(name), Some(Writer::Several))
+    matches!(writers.get(name), Some(Writer::Several)) && scope.is_external(name)
 }

@@ -71,7 +71,7 @@ impl<R: Files> TextFiles for Disk<'_, R> {
 
     fn read(&self, alloc: Global, name: &str, limit: usize) -> Result<Vec<u8>, ReadFault> {
         let file = File::open(self.0, name)?;
-        let mut text = Vec::new(alloc);
+        let mut text = Vec::with_capacity(alloc, limit)?;
         file.take(limit as u64).read_to_end(&mut text)?;
         text.truncate(limit);
         Ok(text)
