@@ -5,8 +5,9 @@ ghost use Rattle.il_interval.specs.Interval.{interval_join};
 ghost use Rattle.il_least.specs.Facts.{known_join, result_join, is_same_operator, one_join, deferred_join, row_join, facts_join};
 ghost use Rattle.il_run.specs.declared.known.KnownDeferred.{KnownDeferred};
 
+use crate::carried::Carried;
 use il_interval::Interval;
-use il_least::facts::{Carried, Facts};
+use il_least::facts::Facts;
 use il_row::Row;
 use il_rules::elementary::is_same_type;
 use il_run::known::{Known, KnownDeferred};
