@@ -5,6 +5,7 @@ ghost use Rattle.il_machine.specs.Listing.{task_lines, unit_lines, task_shown, u
 ghost use Rattle.lift_output.specs.Listing.{task_text, unit_text, path_text, listing};
 
 use il_machine::{TaskInfo, UnitInfo, Verified};
+use itoa::Buffer;
 use std::alloc::{AllocError, Global};
 
 /// The output of `check`: that the text is accepted, then its tasks, CAR1 to CARn and then GROUP,
@@ -58,8 +59,10 @@ fn put_unit(text: &mut String, unit: UnitInfo<'_>) -> Result<(), AllocError>
 fn put_path(text: &mut String, path: &[u32]) -> Result<(), AllocError>
     ensures { OnOk result (string_bytes text.new ≡ string_bytes text.old ++ path_text path.now) }
 {
+    let mut digits = Buffer::new();
     'lines: for line in path {
-        write!(text, " {line}")?;
+        text.push_str(" ")?;
+        text.push_str(digits.format(*line))?;
     }
     Ok(())
 }
