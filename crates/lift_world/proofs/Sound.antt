@@ -15,7 +15,7 @@ use Rattle.il_run.specs.Scan.{program_of as line_program}
 use Rattle.lift_spec.specs.Snapshot.{task_name, program_of}
 use Rattle.lift_sound.specs.Holding.{WorldHolds, SeatHolds}
 use Rattle.lift_sound.specs.Tasks.{budget_of, budget_by}
-use Rattle.lift_sound.specs.Runs.{RunsWell, WorldWell, IsReached}
+use Rattle.lift_sound.specs.Runs.{WorldWell, IsReached}
 use Rattle.lift_spec.specs.Image.{sizes_of, Obeys}
 use Rattle.lift_world.specs.declared.controller.Controller.{Controller}
 use Rattle.lift_world.specs.declared.shared.Seat.{Seat}
@@ -35,11 +35,6 @@ use Rattle.il_costs.proofs.Accepted.{has_longest}
 use Rattle.il_sound.proofs.Named.{found_unit}
 use Rattle.il_sound.proofs.Meant.{program_is}
 use Rattle.lift_world.proofs.Views.{task_here, scan_here}
-
--- SOUNDNESS
-
-pub runs_well : (c : Config) → IsRunnable c → RunsWell c
-runs_well c runs = accepted_runs_well c (sound_of c runs)
 
 -- RUNS OF A WORLD
 
@@ -61,7 +56,7 @@ many_events c w v events earlier replies reached is = goes_on c w v earlier repl
 
 -- a world that was reached is well
 pub reached_well : (c : Config) → IsRunnable c → (w : World) (r : IsReached c w) → WorldWell c r.events r.replies w
-reached_well c runs w r = (runs_well c runs).well r.events w r.replies r.is
+reached_well c runs w r = (accepted_runs_well c (sound_of c runs)).well r.events w r.replies r.is
 
 -- so its image lies in its ranges and obeys the interlock
 pub world_ranges : (w : Controller) → IsWorldOf w → InRanges w.verified.config (group_in w.verified.config w.core)
