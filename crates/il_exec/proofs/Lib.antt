@@ -10,3 +10,7 @@ pub mod Running
 pub mod Standards
 pub mod Invoking
 pub mod Steps
+pub mod Stays
+pub mod Tails
+pub mod Pairwise
+pub mod Nevers

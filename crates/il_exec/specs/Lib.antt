@@ -2,3 +2,4 @@ pub mod Effect
 pub mod Blocks
 pub mod Going
 pub mod Framing
+pub mod Quick

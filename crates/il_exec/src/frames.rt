@@ -3,9 +3,11 @@
 ghost use Rattle.std.specs.Prelude.{◌≡◌, ◌≢◌, ◌<◌, ◌∷◌, [], length};
 ghost use Rattle.il_exec.specs.Going.{top_of, rest_of};
 
+use crate::quick::Quick;
 use arrayvec::ArrayVec;
 use il_run::value::{Content, Value};
 use il_slots::flat::UnitCode;
+use il_spec::list::Items;
 use il_spec::tree::{Elementary, Logic, Operator};
 use std::marker::Model;
 
@@ -15,10 +17,11 @@ pub struct Running<'a> {
     pub units: &'a [UnitCode],
     pub bases: &'a [usize],
     pub clock: usize,
+    pub quick: &'a [Items<Quick>],
 }
 
 /// A body that runs: the number of its unit, the base of its variables, and the place.
-#[derive(Clone, Copy, Debug, PartialEq, Eq)]
+#[derive(Clone, Copy)]
 pub struct Frame {
     pub unit: usize,
     pub base: usize,
@@ -36,7 +39,7 @@ impl Default for Frame {
 }
 
 /// A deferred operation: the operator, and the result before it.
-#[derive(Clone, Copy, Debug, PartialEq, Eq)]
+#[derive(Clone, Copy)]
 pub struct Pair {
     pub operator: Operator,
     pub left: Content,

@@ -2,13 +2,15 @@
 
 ghost use Rattle.std.specs.Prelude.{◌≡◌, IsSome, Some, None, true, false, pos, nat_abs};
 ghost use Rattle.std.specs.Int.{int_min, int_max};
+ghost use Rattle.il_spec.specs.declared.tree.Arithmetic.TheVariants.{Add, Sub, Mul};
 ghost use Rattle.il_run.specs.Step.{logic, negated_if, truth, content, compared, chosen, integer_equal};
 ghost use Rattle.il_run.specs.declared.value.Value.TheVariants.{Integer};
 ghost use Rattle.il_run.specs.declared.value.Content.{Content as Left};
 ghost use Rattle.il_scope.specs.declared.entry.StandardFunction.TheVariants.{Limited};
+ghost use Rattle.il_slots.specs.Layout.{rows};
 ghost use Rattle.il_exec.specs.Effect.{with_some, place, operand, number_left, computed, compared_as, operated, applied_alone, applied_to, applied_to_both, applied, loaded, stored, effect, is_straight, from_base};
 
-use crate::rows::{Rows, boolean_of, number_of};
+use crate::rows::{Rows, boolean_of, element, number_of, read, write};
 use il_run::value::{Content, Value};
 use il_scope::entry::StandardFunction;
 use il_slots::flat::{Flat, Operand, Slot};
@@ -38,7 +40,7 @@ fn content(elementary: Elementary, number: i64) -> Content
 
 // A Boolean, or its negation.
 #[inline(always)]
-fn negated_if(negated: bool, value: bool) -> bool
+pub fn negated_if(negated: bool, value: bool) -> bool
     ensures { result ≡ negated_if negated value }
 {
     if negated { !value } else { value }
@@ -56,6 +58,36 @@ fn connected(kind: Logic, left: bool, right: bool) -> bool
     }
 }
 
+// A sum in a type that has it.
+#[inline(always)]
+pub fn sum(elementary: Elementary, left: i64, right: i64) -> i64
+    requires { IsSome (computed Add elementary left right) }
+    ensures { computed Add elementary left right ≡ Some (content elementary (Integer result)) }
+{
+    let _elementary = elementary;
+    left + right
+}
+
+// A difference in a type that has it.
+#[inline(always)]
+pub fn difference(elementary: Elementary, left: i64, right: i64) -> i64
+    requires { IsSome (computed Sub elementary left right) }
+    ensures { computed Sub elementary left right ≡ Some (content elementary (Integer result)) }
+{
+    let _elementary = elementary;
+    left - right
+}
+
+// A product in a type that has it.
+#[inline(always)]
+pub fn product(elementary: Elementary, left: i64, right: i64) -> i64
+    requires { IsSome (computed Mul elementary left right) }
+    ensures { computed Mul elementary left right ≡ Some (content elementary (Integer result)) }
+{
+    let _elementary = elementary;
+    left * right
+}
+
 // What arithmetic gives, in a type that has it. DIV truncates toward zero, and MOD is what it leaves.
 #[inline(always)]
 fn computed(kind: Arithmetic, elementary: Elementary, left: i64, right: i64) -> Content
@@ -63,9 +95,9 @@ fn computed(kind: Arithmetic, elementary: Elementary, left: i64, right: i64) -> 
     ensures { computed kind elementary left right ≡ Some result }
 {
     match kind {
-        Arithmetic::Add => content(elementary, left + right),
-        Arithmetic::Sub => content(elementary, left - right),
-        Arithmetic::Mul => content(elementary, left * right),
+        Arithmetic::Add => content(elementary, sum(elementary, left, right)),
+        Arithmetic::Sub => content(elementary, difference(elementary, left, right)),
+        Arithmetic::Mul => content(elementary, product(elementary, left, right)),
         Arithmetic::Div => content(elementary, left / right),
         Arithmetic::Mod => content(elementary, left.wrapping_rem(right)),
     }
@@ -73,7 +105,7 @@ fn computed(kind: Arithmetic, elementary: Elementary, left: i64, right: i64) -> 
 
 // A comparison of numbers.
 #[inline(always)]
-fn compared(kind: Comparison, left: i64, right: i64) -> bool
+pub fn compared(kind: Comparison, left: i64, right: i64) -> bool
     ensures { result ≡ compared kind left right }
 {
     match kind {
@@ -206,26 +238,27 @@ fn applied_to_both(
 #[inline(always)]
 fn applied(
     function: StandardFunction,
-    rows: &Rows,
+    numbers: &[i64],
+    flags: &[bool],
     base: usize,
     first: Content,
     operands: &[Operand],
 ) -> Content
-    requires { IsSome (applied function rows.now base first operands.now) }
-    ensures { applied function rows.now base first operands.now ≡ Some result }
+    requires { IsSome (applied function (rows numbers.now flags.now) base first operands.now) }
+    ensures { applied function (rows numbers.now flags.now) base first operands.now ≡ Some result }
 {
     match operands {
         [] => applied_alone(function, first),
         [second] => applied_to(
             function,
             first,
-            operand(rows, base, first.elementary, second),
+            operand_at(numbers, flags, base, first.elementary, second),
         ),
         [second, third] => applied_to_both(
             function,
             first,
-            operand(rows, base, first.elementary, second),
-            operand(rows, base, first.elementary, third),
+            operand_at(numbers, flags, base, first.elementary, second),
+            operand_at(numbers, flags, base, first.elementary, third),
         ),
         _ => unreachable!(),
     }
@@ -233,38 +266,51 @@ fn applied(
 
 /// What an operand gives.
 #[inline(always)]
-pub fn operand(rows: &Rows, base: usize, wanted: Elementary, from: &Operand) -> Content
-    requires { IsSome (operand rows.now base wanted from.now) }
-    ensures { operand rows.now base wanted from.now ≡ Some result }
+pub fn operand_at(
+    numbers: &[i64],
+    flags: &[bool],
+    base: usize,
+    wanted: Elementary,
+    from: &Operand,
+) -> Content
+    requires { IsSome (operand (rows numbers.now flags.now) base wanted from.now) }
+    ensures { operand (rows numbers.now flags.now) base wanted from.now ≡ Some result }
 {
     match *from {
         Operand::Constant(constant) => constant,
         Operand::Bare(number) => content(wanted, number),
-        Operand::At(slot) => rows.read(base, slot),
+        Operand::At(slot) => read(numbers, flags, base, slot),
         Operand::Element {
             first,
             bounds,
             index,
-        } => rows.read(rows.element(base, bounds, index), first),
+        } => read(numbers, flags, element(numbers, base, bounds, index), first),
         Operand::Outside => unreachable!(),
     }
 }
 
 /// A store into the variable of an operand.
 #[inline(always)]
-pub fn store(rows: &mut Rows, base: usize, kind: Store, target: &Operand, put: Content)
-    requires { IsSome (with_some (place rows.old base target.now) (λ p. stored kind rows.old p put)) }
-    ensures { with_some (place rows.old base target.now) (λ p. stored kind rows.old p put) ≡ Some rows.new }
+pub fn store(
+    numbers: &mut [i64],
+    flags: &mut [bool],
+    base: usize,
+    kind: Store,
+    target: &Operand,
+    put: Content,
+)
+    requires { IsSome (with_some (place (rows numbers.old flags.old) base target.now) (λ p. stored kind (rows numbers.old flags.old) p put)) }
+    ensures { with_some (place (rows numbers.old flags.old) base target.now) (λ p. stored kind (rows numbers.old flags.old) p put) ≡ Some (rows numbers.new flags.new) }
 {
     match *target {
-        Operand::At(slot) => put_down(rows, base, slot, kind, put),
+        Operand::At(slot) => put_down(numbers, flags, base, slot, kind, put),
         Operand::Element {
             first,
             bounds,
             index,
         } => {
-            let at = rows.element(base, bounds, index);
-            put_down(rows, at, first, kind, put);
+            let at = element(numbers, base, bounds, index);
+            put_down(numbers, flags, at, first, kind, put);
         }
         _ => unreachable!(),
     }
@@ -272,21 +318,28 @@ pub fn store(rows: &mut Rows, base: usize, kind: Store, target: &Operand, put: C
 
 // A store at a slot.
 #[inline(always)]
-fn put_down(rows: &mut Rows, base: usize, slot: Slot, kind: Store, put: Content)
-    requires { IsSome (stored kind rows.old (from_base base slot) put) }
-    ensures { stored kind rows.old (from_base base slot) put ≡ Some rows.new }
+fn put_down(
+    numbers: &mut [i64],
+    flags: &mut [bool],
+    base: usize,
+    slot: Slot,
+    kind: Store,
+    put: Content,
+)
+    requires { IsSome (stored kind (rows numbers.old flags.old) (from_base base slot) put) }
+    ensures { stored kind (rows numbers.old flags.old) (from_base base slot) put ≡ Some (rows numbers.new flags.new) }
 {
     match kind {
-        Store::Plain => rows.write(base, slot, put),
-        Store::Negated => rows.write(base, slot, truth(!boolean_of(put.value))),
+        Store::Plain => write(numbers, flags, base, slot, put),
+        Store::Negated => write(numbers, flags, base, slot, truth(!boolean_of(put.value))),
         Store::Set => {
             if boolean_of(put.value) {
-                rows.write(base, slot, truth(true));
+                write(numbers, flags, base, slot, truth(true));
             }
         }
         Store::Reset => {
             if boolean_of(put.value) {
-                rows.write(base, slot, truth(false));
+                write(numbers, flags, base, slot, truth(false));
             }
         }
     }
@@ -295,6 +348,78 @@ fn put_down(rows: &mut Rows, base: usize, slot: Slot, kind: Store, put: Content)
 /// What an instruction that goes on to the next does to the rows, and the current result that it leaves; none where the
 /// instruction is another.
 #[inline(always)]
+pub fn exec_at(
+    numbers: &mut [i64],
+    flags: &mut [bool],
+    base: usize,
+    before: Option<Content>,
+    instruction: &Flat,
+) -> Option<Content>
+    requires { is_straight instruction.now ≡ true → IsSome (effect instruction.now (rows numbers.old flags.old) base before) }
+    ensures goes_on { (c : Left) → result ≡ Some c → effect instruction.now (rows numbers.old flags.old) base before ≡ Some ((rows numbers.new flags.new), c) }
+    ensures other { result ≡ None → (is_straight instruction.now ≡ false) × (numbers.new ≡ numbers.old) × (flags.new ≡ flags.old) }
+    ensures straight { IsSome result → is_straight instruction.now ≡ true }
+{
+    match (instruction, before) {
+        (
+            Flat::Load {
+                negated,
+                operand: from,
+            },
+            _,
+        ) => Some(loaded(
+            *negated,
+            operand_at(numbers, flags, base, Elementary::Int, from),
+        )),
+        (
+            Flat::Store {
+                store: kind,
+                target,
+            },
+            Some(left),
+        ) => {
+            store(numbers, flags, base, *kind, target, left);
+            Some(left)
+        }
+        (Flat::Not, Some(left)) => Some(loaded(true, left)),
+        (
+            Flat::Operate {
+                operator,
+                operand: from,
+            },
+            Some(left),
+        ) => Some(operated(
+            *operator,
+            left,
+            operand_at(numbers, flags, base, left.elementary, from),
+        )),
+        (Flat::Apply { function, operands }, Some(left)) => Some(applied(
+            *function,
+            numbers,
+            flags,
+            base,
+            left,
+            operands.as_slice(),
+        )),
+        _ => None,
+    }
+}
+
+/// What an operand gives, over rows.
+pub fn operand(rows: &Rows, base: usize, wanted: Elementary, from: &Operand) -> Content
+    requires { IsSome (operand rows.now base wanted from.now) }
+    ensures { operand rows.now base wanted from.now ≡ Some result }
+{
+    operand_at(
+        rows.numbers.as_slice(),
+        rows.flags.as_slice(),
+        base,
+        wanted,
+        from,
+    )
+}
+
+/// What an instruction does to rows.
 pub fn exec(
     rows: &mut Rows,
     base: usize,
@@ -306,39 +431,7 @@ pub fn exec(
     ensures other { result ≡ None → (is_straight instruction.now ≡ false) × (rows.new ≡ rows.old) }
     ensures straight { IsSome result → is_straight instruction.now ≡ true }
 {
-    match (instruction, before) {
-        (
-            Flat::Load {
-                negated,
-                operand: from,
-            },
-            _,
-        ) => Some(loaded(*negated, operand(rows, base, Elementary::Int, from))),
-        (
-            Flat::Store {
-                store: kind,
-                target,
-            },
-            Some(left),
-        ) => {
-            store(rows, base, *kind, target, left);
-            Some(left)
-        }
-        (Flat::Not, Some(left)) => Some(loaded(true, left)),
-        (
-            Flat::Operate {
-                operator,
-                operand: from,
-            },
-            Some(left),
-        ) => Some(operated(*operator, left, operand(rows, base, left.elementary, from))),
-        (Flat::Apply { function, operands }, Some(left)) => Some(applied(
-            *function,
-            rows,
-            base,
-            left,
-            operands.as_slice(),
-        )),
-        _ => None,
-    }
+    let numbers = rows.numbers.as_mut_slice();
+    let flags = rows.flags.as_mut_slice();
+    exec_at(numbers, flags, base, before, instruction)
 }

@@ -3,7 +3,10 @@
 
 pub mod blocks;
 pub mod frames;
+pub mod hopping;
 pub mod instruction;
+mod place;
+pub mod quick;
 pub mod rows;
 pub mod store;
 

@@ -12,7 +12,7 @@ use lift_spec::calls::Slot;
 use lift_spec::image::{CarFields, CarOutputs, Image, Motor, Sizes};
 
 /// What a program sees of each call slot: CALLWAITS, CALLFROM, CALLTO or CALLCAR.
-#[derive(Clone, Copy, Debug, PartialEq, Eq)]
+#[derive(Clone, Copy)]
 pub enum Column {
     Waits,
     From,

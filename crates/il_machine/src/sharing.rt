@@ -14,7 +14,7 @@ use lift_spec::image::Sizes;
 use std::alloc::{AllocError, Global};
 
 /// Where the value of a global comes from at the end of a scan: a task's slot, and the slot among the globals.
-#[derive(Clone, Copy, Debug, PartialEq, Eq)]
+#[derive(Clone, Copy)]
 pub struct Transfer {
     pub from: usize,
     pub to: usize,

@@ -4,7 +4,7 @@ use crate::list::Items;
 use crate::name::Name;
 
 /// Where a part begins: how many bytes stand before it, and its line, counted from 1.
-#[derive(Clone, Copy, Debug, PartialEq, Eq)]
+#[derive(Clone, Copy)]
 pub struct Place {
     pub offset: u32,
     pub line: u32,
@@ -35,14 +35,14 @@ pub enum Literal {
 }
 
 /// The limits of a subrange, both within it.
-#[derive(Clone, Copy, Debug, PartialEq, Eq)]
+#[derive(Clone, Copy, PartialEq, Eq)]
 pub struct Subrange {
     pub lower: i64,
     pub upper: i64,
 }
 
 /// A scalar type (2.3.3).
-#[derive(Clone, Copy, Debug, PartialEq, Eq)]
+#[derive(Clone, Copy, PartialEq, Eq)]
 pub struct Scalar {
     pub elementary: Elementary,
     pub subrange: Option<Subrange>,
@@ -72,7 +72,7 @@ pub struct Named {
 }
 
 /// A literal where it is written.
-#[derive(Clone, Copy, Debug, PartialEq, Eq)]
+#[derive(Clone, Copy)]
 pub struct Initial {
     pub place: Place,
     pub literal: Literal,
@@ -111,7 +111,7 @@ pub struct Operand {
 }
 
 /// AND, OR and XOR.
-#[derive(Clone, Copy, Debug, PartialEq, Eq)]
+#[derive(Clone, Copy, PartialEq, Eq)]
 pub enum Logic {
     Conjunction,
     Disjunction,
@@ -119,7 +119,7 @@ pub enum Logic {
 }
 
 /// ADD, SUB, MUL, DIV and MOD.
-#[derive(Clone, Copy, Debug, PartialEq, Eq)]
+#[derive(Clone, Copy, PartialEq, Eq)]
 pub enum Arithmetic {
     Add,
     Sub,
@@ -129,7 +129,7 @@ pub enum Arithmetic {
 }
 
 /// GT, GE, EQ, NE, LE and LT.
-#[derive(Clone, Copy, Debug, PartialEq, Eq)]
+#[derive(Clone, Copy, PartialEq, Eq)]
 pub enum Comparison {
     Greater,
     GreaterOrEqual,
@@ -140,7 +140,7 @@ pub enum Comparison {
 }
 
 /// An operator that takes the current result and an operand (3.2.2).
-#[derive(Clone, Copy, Debug, PartialEq, Eq)]
+#[derive(Clone, Copy, PartialEq, Eq)]
 pub enum Operator {
     Logic { logic: Logic, negated: bool },
     Arithmetic(Arithmetic),
@@ -148,7 +148,7 @@ pub enum Operator {
 }
 
 /// ST, STN, S and R.
-#[derive(Clone, Copy, Debug, PartialEq, Eq)]
+#[derive(Clone, Copy)]
 pub enum Store {
     Plain,
     Negated,
@@ -157,7 +157,7 @@ pub enum Store {
 }
 
 /// When a jump, a call or a return acts: always, with C, or with CN.
-#[derive(Clone, Copy, Debug, PartialEq, Eq)]
+#[derive(Clone, Copy)]
 pub enum Condition {
     Always,
     WhenTrue,
@@ -230,7 +230,7 @@ pub struct Body {
 }
 
 /// The kinds of program organization units (2.5).
-#[derive(Clone, Copy, Debug, PartialEq, Eq)]
+#[derive(Clone, Copy)]
 pub enum UnitKind {
     /// A function, with the type of its result, and where that is written.
     Function(Scalar, Place),
@@ -252,7 +252,7 @@ pub struct Unit {
 }
 
 /// CARS, FLOORS or SLOTS, at the place of its number.
-#[derive(Clone, Copy, Debug, PartialEq, Eq)]
+#[derive(Clone, Copy)]
 pub struct Size {
     pub place: Place,
     pub value: i64,

@@ -6,7 +6,7 @@ ghost use Rattle.std.specs.Prelude.{◌≤◌};
 pub(crate) const TEXT_TOO_LONG: u16 = 6;
 
 /// Why the bytes at a place are no token and no blank.
-#[derive(Clone, Copy, Debug, PartialEq, Eq)]
+#[derive(Clone, Copy)]
 pub(crate) enum Flaw {
     /// A byte that begins no token, or one in a comment that no text has.
     BadByte,
@@ -21,7 +21,7 @@ pub(crate) enum Flaw {
 }
 
 /// A flaw and its place.
-#[derive(Clone, Copy, Debug, PartialEq, Eq)]
+#[derive(Clone, Copy)]
 pub(crate) struct Misread {
     pub(crate) flaw: Flaw,
     pub(crate) at: usize,

@@ -11,7 +11,7 @@ use crate::lexeme::lexeme_at;
 use il_spec::token::Kind;
 
 /// A piece of a text.
-#[derive(Clone, Copy, Debug, PartialEq, Eq)]
+#[derive(Clone, Copy)]
 pub(crate) enum Piece {
     /// A space, a tab or a comment.
     Blank,

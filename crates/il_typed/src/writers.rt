@@ -19,7 +19,7 @@ use il_table::Table;
 use std::alloc::{AllocError, Global};
 
 /// Who writes a global: the task of a PROGRAM line, by the line's number, or several tasks.
-#[derive(Clone, Copy, Debug, PartialEq, Eq)]
+#[derive(Clone, Copy)]
 pub enum Writer {
     Task(usize),
     Several,

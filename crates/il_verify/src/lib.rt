@@ -11,6 +11,7 @@ pub use container::Checked;
 use il_code::Code;
 use il_ranges::annotated;
 use il_spec::fault::Refusal;
+use il_spec::pair::both;
 use std::alloc::Global;
 
 /// Finds ranges for each instruction of each unit, by one forward pass with joins where paths meet (own rule).
@@ -22,7 +23,8 @@ pub fn verify(alloc: Global, code: Code) -> Result<Checked, Refusal>
     ensures accepted { IfOk result (λ _. Annotated code) }
     ensures refused { IfErr result (IsUnannotatedBy code) }
 {
-    check(alloc, &code)?;
+    let found = check(alloc, &code);
+    let (code, ()) = both(code, found)?;
     Ok(Checked::of(code))
 }
 

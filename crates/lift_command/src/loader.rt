@@ -21,7 +21,7 @@ pub trait Loader {
 }
 
 /// The verifier of the program.
-#[derive(Clone, Copy, Debug)]
+#[derive(Clone, Copy)]
 pub struct Verifier;
 
 impl Loader for Verifier {

@@ -138,7 +138,9 @@ fn outcome_of_program(
 fn checked(alloc: Global, verified: Verified) -> Result<String, Fault>
     ensures { IsCheckOutcome verified result }
 {
-    Ok(check_text(alloc, &verified)?)
+    let text = check_text(alloc, &verified);
+    verified.release();
+    Ok(text?)
 }
 
 fn simulated(
@@ -150,6 +152,11 @@ fn simulated(
     ensures { IsSimOutcome rounds (sizes_of verified.config).floors words.now result }
 {
     let floors = u16::from(verified.sizes().floors);
-    let presses = presses(alloc, words, rounds, floors)?;
-    Ok(sim_text(alloc, verified, rounds, presses.as_slice())?)
+    match presses(alloc, words, rounds, floors) {
+        Ok(presses) => Ok(sim_text(alloc, verified, rounds, presses.as_slice())?),
+        Err(fault) => {
+            verified.release();
+            Err(fault.into())
+        }
+    }
 }

@@ -24,7 +24,7 @@ const EXPLAIN: &str = "explain";
 const MOST_NUMBER: u16 = 99;
 
 /// What words say that ask for nothing.
-#[derive(Debug, Drop)]
+#[derive(Drop)]
 pub enum Answer {
     /// Help or the version was asked for: its text.
     Help(String),

@@ -10,7 +10,7 @@ use std::io::Read;
 use std::rt::Files;
 
 /// Why a file gives no bytes.
-#[derive(Clone, Copy, Debug, PartialEq, Eq)]
+#[derive(Clone, Copy)]
 pub enum ReadFault {
     /// It is missing, is a directory, or can't be read.
     CannotRead,

@@ -12,7 +12,7 @@ use std::alloc::{AllocError, Global};
 const MOST_PRESSES: usize = 1000;
 
 /// A press of a landing panel: the round before which it comes, and the floors from which and to which.
-#[derive(Clone, Copy, Debug, PartialEq, Eq)]
+#[derive(Clone, Copy)]
 pub struct Press {
     pub round: u16,
     pub from: u16,
@@ -20,7 +20,7 @@ pub struct Press {
 }
 
 /// Why words give no presses.
-#[derive(Clone, Copy, Debug, PartialEq, Eq)]
+#[derive(Clone, Copy)]
 pub enum PressFault {
     /// A word is no press, or there are more than 1000.
     Bad,

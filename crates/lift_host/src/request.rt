@@ -9,14 +9,14 @@ ghost use Rattle.lift_host.specs.declared.request.Request.{Request};
 pub const MOST_ROUNDS: u16 = 50_000;
 
 /// The name of a command.
-#[derive(Clone, Copy, Debug)]
+#[derive(Clone, Copy)]
 pub enum Name {
     Check,
     Sim,
 }
 
 /// What the words ask for.
-#[derive(Clone, Copy, Debug)]
+#[derive(Clone, Copy)]
 pub enum Request<'w> {
     Check {
         file: &'w str,

@@ -8,7 +8,7 @@ use std::alloc::Global;
 use std::io::Print;
 
 /// A sink takes no more.
-#[derive(Clone, Copy, Debug, PartialEq, Eq)]
+#[derive(Clone, Copy)]
 pub struct SinkFault;
 
 /// Where a program writes: a stream, or a list in memory.

@@ -13,7 +13,7 @@ use itoa::Buffer;
 use std::alloc::AllocError;
 
 /// How a program ends.
-#[derive(Clone, Copy, Debug, PartialEq, Eq)]
+#[derive(Clone, Copy)]
 pub enum Status {
     /// It has written its output.
     Done,
@@ -28,7 +28,7 @@ pub enum Status {
 }
 
 /// Why a program has no output.
-#[derive(Debug, Drop)]
+#[derive(Drop)]
 pub enum Fault {
     /// The words are wrong: what the parser says.
     Misuse(String),

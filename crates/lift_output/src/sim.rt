@@ -14,7 +14,7 @@ use lift_world::{Event, World};
 use std::alloc::{AllocError, AllocFailed, Global};
 
 /// Why a simulation comes to no end.
-#[derive(Clone, Copy, Debug, PartialEq, Eq)]
+#[derive(Clone, Copy)]
 pub enum SimFault {
     /// The world refused an event.
     Event(EventFault),
@@ -67,7 +67,11 @@ pub fn sim_text(
     presses: &[Press],
 ) -> Result<String, SimFault> {
     match World::new(alloc, verified) {
-        Ok(mut world) => traced(alloc, &mut world, rounds, presses),
+        Ok(mut world) => {
+            let text = traced(alloc, &mut world, rounds, presses);
+            world.release();
+            text
+        }
         Err(_) => Err(SimFault::NoMemory),
     }
 }

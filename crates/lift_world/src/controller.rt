@@ -15,10 +15,10 @@ ghost use Rattle.lift_spec.specs.World as model;
 ghost use Rattle.lift_world.specs.Running.{seat_at, task_in, group_in, with_seat, Steps, RunsOut, world_of, IsWorldOf, CoreFits, StoresFit, reports_by, may_report, reporting, instructions, up_to_end};
 ghost use Rattle.lift_spec.specs.declared.event.Event.TheVariants as event;
 
-use crate::pair::both;
 use crate::replies::Replies;
 use crate::shared::Core;
 use il_machine::{Stepped, Store, Verified, scan, step};
+use il_spec::pair::both;
 use lift_image::{Fields, in_range, is_floor};
 use lift_spec::calls::Call;
 use lift_spec::event::{Event, EventFault, Reply};

@@ -4,7 +4,6 @@
 mod calling;
 mod controller;
 mod loader;
-mod pair;
 mod replies;
 mod shared;
 mod world;

@@ -13,7 +13,6 @@ ghost use Rattle.il_machine.specs.Nesting.{IsNested};
 ghost use Rattle.lift_sound.specs.Runs.{RunsWell};
 ghost use Rattle.lift_world.specs.Loading.{IsSpelled, SpellsOnly, SpellsNone, IsUnbroken, IsAccepted, IsRefusedFor, IsExplained};
 
-use crate::pair::both;
 use il_budget::budget;
 use il_code::{Code, code};
 use il_declare::declare;
@@ -22,6 +21,7 @@ use il_order::{Ordered, ordered};
 use il_parse::parse;
 use il_spec::fault::Refusal;
 use il_spec::list::Items;
+use il_spec::pair::both;
 use il_spec::tree::Config;
 use il_text::tokens;
 use il_typed::{Typed, typed};

@@ -58,6 +58,9 @@ impl World {
         Ok(World { group })
     }
 
+    /// Gives the world up. Who calls it has no drop of one to prove.
+    pub fn release(self) {}
+
     /// One event. The report is written by a commit and by a refresh that are done, and by nothing else. An event that is refused
     /// changes nothing.
     pub fn apply(&mut self, event: &Event, report: &mut Report) -> Reply

@@ -1,11 +1,9 @@
 // The cases, and the transcript of their runs.
 
-use crate::line::{Line, line_of};
-use crate::shelf::Shelf;
-use crate::words::words_of;
-use lift_command::program::run;
-use lift_host::sink::Memory;
-use lift_host::status::Status;
+use lift_command::entry::{Outcome, tried};
+use lift_shelf::line::{Line, line_of};
+use lift_shelf::shelf::Shelf;
+use lift_shelf::words::words_of;
 use std::alloc::{AllocError, Global};
 use std::io::Write;
 use std::{io, str};
@@ -17,14 +15,6 @@ pub struct Cases {
     alloc: Global,
     shelf: Shelf,
     limit: usize,
-}
-
-/// What a run has left.
-#[derive(Drop)]
-struct Outcome {
-    status: Status,
-    out: Memory,
-    err: Memory,
 }
 
 impl Cases {
@@ -64,11 +54,9 @@ impl Cases {
     /// Runs the program on the words of a line.
     fn outcome(&mut self, line: &str) -> Result<Outcome, AllocError> {
         let words = words_of(self.alloc, line)?;
-        let mut out = Memory::with_limit(self.alloc, self.limit);
-        let mut err = Memory::new(self.alloc);
-        let status = run(self.alloc, &words, &self.shelf, &mut out, &mut err);
+        let left = tried(self.alloc, &words, &self.shelf, self.limit);
         self.limit = usize::MAX;
-        Ok(Outcome { status, out, err })
+        Ok(left)
     }
 }
 

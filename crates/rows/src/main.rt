@@ -3,10 +3,6 @@
 #![tactic(auto)]
 
 mod cases;
-mod escape;
-mod line;
-mod shelf;
-mod words;
 
 use crate::cases::Cases;
 use std::io;

@@ -7,7 +7,7 @@ ghost use Rattle.std_blocks.specs.Opening.{opening_set_dominant, opening_reset_d
 use std::marker::Model;
 
 /// SR, whose set input wins (IEC 61131-3:2003, 2.5.2.3.1): the inputs S1 and R, the output Q1.
-#[derive(Clone, Copy, Debug, Default, PartialEq, Eq)]
+#[derive(Clone, Copy, Default)]
 pub struct SetDominant {
     pub s1: bool,
     pub r: bool,
@@ -41,7 +41,7 @@ impl SetDominant {
 }
 
 /// RS, whose reset input wins (IEC 61131-3:2003, 2.5.2.3.1): the inputs S and R1, the output Q1.
-#[derive(Clone, Copy, Debug, Default, PartialEq, Eq)]
+#[derive(Clone, Copy, Default)]
 pub struct ResetDominant {
     pub s: bool,
     pub r1: bool,

@@ -7,7 +7,7 @@ ghost use Rattle.std_blocks.specs.Opening.{opening_up_counter, opening_down_coun
 use std::marker::Model;
 
 /// CTU (IEC 61131-3:2003, 2.5.2.3.3): the inputs CU, R and PV, the outputs Q and CV, and M, the last CU.
-#[derive(Clone, Copy, Debug, Default, PartialEq, Eq)]
+#[derive(Clone, Copy, Default)]
 pub struct UpCounter {
     pub cu: bool,
     pub r: bool,
@@ -51,7 +51,7 @@ impl UpCounter {
 }
 
 /// CTD (IEC 61131-3:2003, 2.5.2.3.3): the inputs CD, LD and PV, the outputs Q and CV, and M, the last CD.
-#[derive(Clone, Copy, Debug, Default, PartialEq, Eq)]
+#[derive(Clone, Copy, Default)]
 pub struct DownCounter {
     pub cd: bool,
     pub ld: bool,
@@ -96,7 +96,7 @@ impl DownCounter {
 
 /// CTUD (IEC 61131-3:2003, 2.5.2.3.3): the inputs CU, CD, R, LD and PV, the outputs QU, QD and CV, and MU and MD,
 /// the last CU and CD.
-#[derive(Clone, Copy, Debug, Default, PartialEq, Eq)]
+#[derive(Clone, Copy, Default)]
 pub struct UpDownCounter {
     pub cu: bool,
     pub cd: bool,

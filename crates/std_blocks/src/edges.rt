@@ -8,7 +8,7 @@ use std::marker::Model;
 
 /// R_TRIG or F_TRIG (IEC 61131-3:2003, 2.5.2.3.2): the input CLK, the output Q, and M, which keeps CLK for R_TRIG
 /// and NOT CLK for F_TRIG. An instance is called by one of the two alone.
-#[derive(Clone, Copy, Debug, Default, PartialEq, Eq)]
+#[derive(Clone, Copy, Default)]
 pub struct EdgeDetector {
     pub clk: bool,
     pub q: bool,

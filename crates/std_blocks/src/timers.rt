@@ -8,7 +8,7 @@ use std::marker::Model;
 
 /// TON or TOF (IEC 61131-3:2003, 2.5.2.3.4): the inputs IN (`input`) and PT, the outputs Q and ET, whether a delay has
 /// begun, and the time of the last call. Times are in milliseconds. An instance is called by one of the two alone.
-#[derive(Clone, Copy, Debug, Default, PartialEq, Eq)]
+#[derive(Clone, Copy, Default)]
 pub struct DelayTimer {
     pub input: bool,
     pub pt: u32,
@@ -76,7 +76,7 @@ impl DelayTimer {
 
 /// TP (IEC 61131-3:2003, 2.5.2.3.4): the inputs IN (`input`) and PT, the outputs Q and ET, whether a pulse runs, M, the
 /// last IN, and the time of the last call. Times are in milliseconds.
-#[derive(Clone, Copy, Debug, Default, PartialEq, Eq)]
+#[derive(Clone, Copy, Default)]
 pub struct PulseTimer {
     pub input: bool,
     pub pt: u32,

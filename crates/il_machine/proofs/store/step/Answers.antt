@@ -11,30 +11,30 @@ pub advance-requires : goal.advance-requires
 advance-requires c =
     let scan = c.requires.scan in
     subst (λ (s : Stored). (x : Code) × (runs_of c.running.result ≡ runs_in x) × IsFramedScan x s × Goes x s) (sym c.store.view_is)
-    (program_code c.args.verified.now.config scan.0, c.running.ensures scan.0 scan.1.program, scan.2.framed, goes c.args.verified.now.config c.config-config.ensures.runnable c.args.task scan.0 scan.1 c.args.store.now scan.2 c.requires.going)
+    (program_code c.args.verified.now.config scan.0, c.running.ensures.runs scan.0 scan.1.program, scan.2.framed, goes c.args.verified.now.config c.config-config.ensures.runnable c.args.task scan.0 scan.1 c.args.store.now scan.2 c.requires.going)
 
 pub returns-in-Some-clause-step : goal.returns-in-Some-clause-step
 returns-in-Some-clause-step c =
-    (stepped c.args.verified.now.config c.config-config.ensures.runnable c.args.task c.args.store.now _ c.advance.new.self c.store.view_is c.requires.scan c.requires.going _ c.running.ensures c.advance.ensures.step c.advance.ensures.scan).step_is
+    (stepped c.args.verified.now.config c.config-config.ensures.runnable c.args.task c.args.store.now _ c.advance.new.self c.store.view_is c.requires.scan c.requires.going _ c.running.ensures.runs c.advance.ensures.step c.advance.ensures.scan).step_is
 
 pub returns-in-None-clause-step : goal.returns-in-None-clause-step
 returns-in-None-clause-step c =
-    (stepped c.args.verified.now.config c.config-config.ensures.runnable c.args.task c.args.store.now _ c.advance.new.self c.store.view_is c.requires.scan c.requires.going _ c.running.ensures c.advance.ensures.step c.advance.ensures.scan).step_is
+    (stepped c.args.verified.now.config c.config-config.ensures.runnable c.args.task c.args.store.now _ c.advance.new.self c.store.view_is c.requires.scan c.requires.going _ c.running.ensures.runs c.advance.ensures.step c.advance.ensures.scan).step_is
 
 pub returns-in-Some-clause-scan : goal.returns-in-Some-clause-scan
 returns-in-Some-clause-scan c =
-    (stepped c.args.verified.now.config c.config-config.ensures.runnable c.args.task c.args.store.now _ c.advance.new.self c.store.view_is c.requires.scan c.requires.going _ c.running.ensures c.advance.ensures.step c.advance.ensures.scan).scan
+    (stepped c.args.verified.now.config c.config-config.ensures.runnable c.args.task c.args.store.now _ c.advance.new.self c.store.view_is c.requires.scan c.requires.going _ c.running.ensures.runs c.advance.ensures.step c.advance.ensures.scan).scan
 
 pub returns-in-None-clause-scan : goal.returns-in-None-clause-scan
 returns-in-None-clause-scan c =
-    (stepped c.args.verified.now.config c.config-config.ensures.runnable c.args.task c.args.store.now _ c.advance.new.self c.store.view_is c.requires.scan c.requires.going _ c.running.ensures c.advance.ensures.step c.advance.ensures.scan).scan
+    (stepped c.args.verified.now.config c.config-config.ensures.runnable c.args.task c.args.store.now _ c.advance.new.self c.store.view_is c.requires.scan c.requires.going _ c.running.ensures.runs c.advance.ensures.step c.advance.ensures.scan).scan
 
 pub returns-in-Some-clause-own : goal.returns-in-Some-clause-own
 returns-in-Some-clause-own c =
     variables_declared c.args.verified.now.config c.config-config.ensures.runnable c.args.task c.advance.new.self
-    (stepped c.args.verified.now.config c.config-config.ensures.runnable c.args.task c.args.store.now _ c.advance.new.self c.store.view_is c.requires.scan c.requires.going _ c.running.ensures c.advance.ensures.step c.advance.ensures.scan).scan
+    (stepped c.args.verified.now.config c.config-config.ensures.runnable c.args.task c.args.store.now _ c.advance.new.self c.store.view_is c.requires.scan c.requires.going _ c.running.ensures.runs c.advance.ensures.step c.advance.ensures.scan).scan
 
 pub returns-in-None-clause-own : goal.returns-in-None-clause-own
 returns-in-None-clause-own c =
     variables_declared c.args.verified.now.config c.config-config.ensures.runnable c.args.task c.advance.new.self
-    (stepped c.args.verified.now.config c.config-config.ensures.runnable c.args.task c.args.store.now _ c.advance.new.self c.store.view_is c.requires.scan c.requires.going _ c.running.ensures c.advance.ensures.step c.advance.ensures.scan).scan
+    (stepped c.args.verified.now.config c.config-config.ensures.runnable c.args.task c.args.store.now _ c.advance.new.self c.store.view_is c.requires.scan c.requires.going _ c.running.ensures.runs c.advance.ensures.step c.advance.ensures.scan).scan
