@@ -6,7 +6,7 @@ use Rattle.il_parse.specs.Refused.{IsFault}
 use Rattle.il_machine.specs.Scanning.{Program}
 use Rattle.lift_sound.specs.Runs.{RunsWell}
 use Rattle.il_budget.specs.Costs.{cost_of}
-use Rattle.lift_world.specs.Loading.{IsSpelled, IsAccepted, IsRefusedFor, IsExplained}
+use Rattle.lift_load.specs.Loading.{IsSpelled, IsAccepted, IsRefusedFor, IsExplained}
 
 -- Either a program that the text spells, that breaks no rule and that runs well, or a refusal: up to 12 of a text that spells no
 -- configuration, otherwise the first fault of the one that it spells.

@@ -1,6 +1,5 @@
 //! The command `liftplc` over its words, with readers of files and sinks for what it prints.
 #![tactic(auto)]
 
-pub mod entry;
-pub mod loader;
+mod liftplc;
 pub mod program;

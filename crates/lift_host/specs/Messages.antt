@@ -1,5 +1,6 @@
 -- What the program says of a fault, and how it then ends (own rules).
-use Rattle.std.specs.Prelude.{ℕ, List, ◌++◌, codes, decimal, string_bytes}
+use Rattle.std.specs.Prelude.{ℕ, List, Result, String, ◌++◌, codes, decimal, string_bytes}
+use Rattle.std.specs.Global.{Global}
 use Rattle.il_spec.specs.declared.fault.Refusal.{Refusal}
 use Rattle.il_spec.specs.declared.fault.Refusal.TheVariants as refusal
 use Rattle.lift_host.specs.declared.files.ReadFault.{ReadFault}
@@ -10,6 +11,10 @@ use Rattle.lift_host.specs.declared.status.Status.{Status}
 use Rattle.lift_host.specs.declared.status.Status.TheVariants as status
 use Rattle.lift_host.specs.declared.status.Fault.{Fault}
 use Rattle.lift_host.specs.declared.status.Fault.TheVariants.{Misuse, Refused, BadPress, Event, CannotRead, CannotWrite, NoMemory}
+
+-- what the program prints on the standard output, or why it prints nothing there
+abbrev pub Outcome : Type 0
+Outcome = Result (String Global) Fault
 
 -- the exit status
 abbrev pub code_of : Status → ℕ

@@ -2,5 +2,6 @@
 #![tactic(auto)]
 
 pub mod check;
+pub mod outcome;
 pub mod sim;
 pub mod trace;

@@ -1,5 +1,3 @@
-pub mod Explaining
-pub mod Accepting
 pub mod Runs
 pub mod Sound
 pub mod Views
@@ -11,4 +9,3 @@ pub mod Keeping
 pub mod Finishing
 pub mod Replying
 pub mod Happening
-pub mod Phases

@@ -15,13 +15,13 @@ use Rattle.il_run.specs.Scan.{program_of as line_program}
 use Rattle.lift_spec.specs.Snapshot.{task_name, program_of}
 use Rattle.lift_sound.specs.Holding.{WorldHolds, SeatHolds}
 use Rattle.lift_sound.specs.Tasks.{budget_of, budget_by}
-use Rattle.lift_sound.specs.Runs.{RunsWell, WorldWell, IsReached}
+use Rattle.lift_sound.specs.Runs.{WorldWell, IsReached}
 use Rattle.lift_spec.specs.Image.{sizes_of, Obeys}
 use Rattle.lift_world.specs.declared.controller.Controller.{Controller}
 use Rattle.lift_world.specs.declared.shared.Seat.{Seat}
 use Rattle.lift_world.specs.Running.{seat_at, task_in, seated, scanned, world_of, group_in, IsWorldOf}
 use Rattle.lift_sound.specs.Histories.{CallGoesWell}
-use Rattle.lift_sound.proofs.Accepted.{accepted_runs_well, opens_well, scans_well}
+use Rattle.lift_sound.proofs.Accepted.{opens_well, scans_well}
 use Rattle.lift_sound.proofs.Running.{reached_world_holds}
 use Rattle.lift_sound.proofs.Histories.{accepted_calls_go_well, event_is_run}
 use Rattle.lift_sound.proofs.Following.{goes_on}
@@ -35,11 +35,6 @@ use Rattle.il_costs.proofs.Accepted.{has_longest}
 use Rattle.il_sound.proofs.Named.{found_unit}
 use Rattle.il_sound.proofs.Meant.{program_is}
 use Rattle.lift_world.proofs.Views.{task_here, scan_here}
-
--- SOUNDNESS
-
-pub runs_well : (c : Config) → IsRunnable c → RunsWell c
-runs_well c runs = accepted_runs_well c (sound_of c runs)
 
 -- RUNS OF A WORLD
 

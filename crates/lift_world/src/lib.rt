@@ -3,7 +3,6 @@
 
 mod calling;
 mod controller;
-mod loader;
 mod replies;
 mod shared;
 mod world;
@@ -14,7 +13,6 @@ pub use lift_image::{CarFields, CarOutputs, Fields, Image, Motor, Row, Sizes};
 pub use lift_spec::calls::{Answer, Call, Slot};
 pub use lift_spec::event::{Event, EventFault, Reply};
 pub use lift_spec::report::{Denial, Report, Rule};
-pub use loader::load;
 pub use replies::Replies;
 pub use shared::Core;
 pub use world::World;

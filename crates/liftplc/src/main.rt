@@ -2,7 +2,7 @@
 //! simulates the group that they control.
 #![tactic(auto)]
 
-use lift_command::entry::command;
+use lift_command::program::command;
 use std::process::ExitCode;
 
 fn main(rt: HostRuntime) -> ExitCode {

@@ -1,9 +1,10 @@
 // The cases, and the transcript of their runs.
 
-use lift_command::entry::{Outcome, tried};
+use lift_command::program::tried;
 use lift_shelf::line::{Line, line_of};
 use lift_shelf::shelf::Shelf;
 use lift_shelf::words::words_of;
+use lift_shell::entry::Outcome;
 use std::alloc::{AllocError, Global};
 use std::io::Write;
 use std::{io, str};

@@ -2,10 +2,11 @@
 
 use il_spec::fault::Refusal;
 use lift_image::{CarFields, Fields, Row};
+use lift_load::load;
 use lift_spec::calls::{Call, Slot};
 use lift_spec::event::{Event, Reply};
 use lift_spec::report::Report;
-use lift_world::{World, load};
+use lift_world::World;
 use std::alloc::{AllocError, Global};
 
 /// What a row hands in. A refresh has each car stand locked at a level of one floor.

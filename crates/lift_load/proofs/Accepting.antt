@@ -1,0 +1,52 @@
+-- Which texts are accepted.
+use Rattle.std.proofs.Common.{◌≡◌, refl, sym, subst, ℕ, ◌+◌, ◌<◌, ◌≤◌, List, [], length, arith}
+use Rattle.std.specs.Prelude.{Ok, Err, Result, IsErrAnd}
+use Rattle.std.proofs.lemmas.Option.{slice_get_within}
+use Rattle.il_spec.specs.declared.tree.Config.{Config}
+use Rattle.il_spec.specs.declared.token.Token.{Token}
+use Rattle.il_spec.specs.declared.fault.Refusal.{Refusal}
+use Rattle.il_spec.specs.declared.fault.Refusal.TheVariants.{Fault, Memory}
+use Rattle.il_spec.specs.Text.{AreTokens}
+use Rattle.il_spec.specs.Grammar.{AfterLines, SpellsConfig}
+use Rattle.il_rules.specs.Faults.{HasNoFault}
+use Rattle.il_run.specs.Annotation.{Annotated}
+use Rattle.il_budget.specs.Costs.{IsTooLong}
+use Rattle.il_parse.specs.Refused.{IsSmall, IsFault}
+use Rattle.lift_load.specs.Loading.{IsSpelled, IsAccepted, IsUnbroken, IsRefusedFor, by_declarations, by_types, by_order, by_ranges, by_budgets}
+
+-- REFUSALS
+
+-- what is named is broken, or has no ranges
+pub names_broken : {text : List ℕ} (c : Config) (number line : ℕ) → IsRefusedFor c (Fault number line) → IsAccepted text c → ⊥
+names_broken c number line (by_declarations (place, first, at)) a = a.declared number place first.broken
+names_broken c number line (by_types declared (place, first, at)) a = a.typed number place first.broken
+names_broken c number line (by_order declared typed (place, first, at)) a = a.ordered number place first.broken
+names_broken c number line (by_ranges unbroken (s, earliest, at)) a =
+    let u = earliest.unit in
+    let first = earliest.first in
+    let found = a.annotated u earliest.among in
+    first.first.none found.0 (record { entry = found.1.entry; each = λ place k below is. found.1.each place k (within_body first.at (length u.body.steps) place (slice_get_within u.body.steps first.at s first.stands) below) is })
+  where
+    within_body : (at n place : ℕ) → at < n → place < at + 1 → place < n + 1
+    within_body at n place low below = omega (arith, low, below)
+names_broken c number line (by_budgets unbroken annotated (place, first, at)) a = a.affordable number place first.broken
+
+-- a fault that is handed on is a fault
+pub handed_on : {X : Type 0} (Y : Type 0) (e : Refusal) (r : Result X Refusal) → IsErrAnd r (λ d. d ≡ e) → IsFault r → IsFault {A = Y} (Err e)
+handed_on {X} Y e (Ok x) same h = absurd h
+handed_on {X} Y e (Err d) same h = subst (λ d. IsFault {A = Y} (Err d)) same h
+
+-- a text that the parser refuses spells none within the limits
+pub none_spelled : (text : List ℕ) (tokens : List Token) → ((ts : List Token) → AreTokens text 0 ts → ts ≡ tokens)
+    → ((c : Config) → AfterLines (SpellsConfig text c) tokens [] → IsSmall c → ⊥) → (c : Config) → IsSpelled text c → ⊥
+none_spelled text tokens only refused c a =
+    refused c (subst (λ ts. AfterLines (SpellsConfig text c) ts []) (only a.spelled.0 a.spelled.1) a.spelled.2) (record { units = a.limits.units; instructions = a.limits.instructions; nesting = a.limits.nesting })
+
+-- what the parser gives is the only such configuration
+pub same_spelled : (text : List ℕ) (tokens : List Token) (found : Config) → ((ts : List Token) → AreTokens text 0 ts → ts ≡ tokens)
+    → ((d : Config) → AfterLines (SpellsConfig text d) tokens [] → d ≡ found) → (c : Config) → IsSpelled text c → c ≡ found
+same_spelled text tokens found only unique c a = unique c (subst (λ ts. AfterLines (SpellsConfig text c) ts []) (only a.spelled.0 a.spelled.1) a.spelled.2)
+
+-- what was parsed and judged is accepted
+pub accepted_is : (text : List ℕ) (c : Config) → IsSpelled text c → IsUnbroken c → Annotated c → HasNoFault (IsTooLong c) → IsAccepted text c
+accepted_is text c spelled unbroken annotated affordable = record { spelled = spelled; declared = unbroken.declared; typed = unbroken.typed; ordered = unbroken.ordered; annotated = annotated; affordable = affordable }

@@ -1,0 +1,3 @@
+pub mod Explaining
+pub mod Accepting
+pub mod Phases

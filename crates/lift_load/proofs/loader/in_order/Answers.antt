@@ -1,0 +1,22 @@
+use Rattle.std.proofs.Common.{◌≡◌, ◌∙◌}
+use Rattle.il_rules.specs.Faults.{HasNoFault, IsRefusedBy, Broken, Ordering}
+use Rattle.lift_load.specs.Loading.{IsRefusedFor, IsUnbroken}
+use Rattle.lift_load.proofs.Explaining.{handed_as, if_ok, if_err}
+use Rattle.lift_load.proofs.Phases.{at_order, unbroken_by}
+use Rattle.lift_load.proofs.loader.in_order.Goals as goal
+
+pub returns-in_err-typed-clause-refused : goal.returns-in_err-typed-clause-refused
+returns-in_err-typed-clause-refused c = handed_as (IsRefusedFor c.args.config) _ _ c.from_residual.ensures.1 c.in_err-typed.ensures.refused
+
+pub returns-clause-same : goal.returns-clause-same
+returns-clause-same c = if_ok (λ o. o ≡ c.in_ok-typed.typed) (λ o. o ≡ c.args.config) c.ordered.result (λ o is. is ∙ c.in_ok-typed.ensures.same) c.ordered.ensures.same
+
+pub returns-clause-unbroken : goal.returns-clause-unbroken
+returns-clause-unbroken c =
+    if_ok (λ _. HasNoFault (Broken Ordering c.in_ok-typed.typed)) (λ _. IsUnbroken c.args.config) c.ordered.result
+    (λ _ fine. unbroken_by c.args.config c.in_ok-typed.typed c.in_ok-typed.ensures.same c.in_ok-typed.ensures.declared c.in_ok-typed.ensures.typed fine) c.ordered.ensures.accepted
+
+pub returns-clause-refused : goal.returns-clause-refused
+returns-clause-refused c =
+    if_err (IsRefusedBy (Broken Ordering c.in_ok-typed.typed)) (IsRefusedFor c.args.config) c.ordered.result
+    (λ e refused. at_order c.args.config c.in_ok-typed.typed e c.in_ok-typed.ensures.same c.in_ok-typed.ensures.declared c.in_ok-typed.ensures.typed refused) c.ordered.ensures.refused

@@ -1,0 +1,34 @@
+use Rattle.il_spec.specs.declared.tree.Config.{Config}
+use Rattle.lift_load.specs.Loading.{IsExplained}
+use Rattle.lift_load.proofs.Explaining.{handed_as}
+use Rattle.lift_load.proofs.Accepting.{handed_on}
+use Rattle.lift_load.proofs.Phases.{found_by, runs_by, refused_by, named_by, explained_by}
+use Rattle.lift_load.proofs.loader.load.Goals as goal
+
+-- TOKENS AND GRAMMAR
+
+pub returns-in_err-config-clause-refused : goal.returns-in_err-config-clause-refused
+returns-in_err-config-clause-refused c = λ fault d a. c.in_err-config.ensures.none (handed_on Config _ _ c.from_residual.ensures.1 fault) d a.spelled
+
+pub returns-in_err-config-clause-named : goal.returns-in_err-config-clause-named
+returns-in_err-config-clause-named c = λ fault d a. absurd (c.in_err-config.ensures.none (handed_on Config _ _ c.from_residual.ensures.1 fault) d a)
+
+pub returns-in_err-config-clause-number : goal.returns-in_err-config-clause-number
+returns-in_err-config-clause-number c = handed_as (IsExplained c.args.text.now) _ _ c.from_residual.ensures.1 c.in_err-config.ensures.number
+
+-- THE CONFIGURATION
+
+pub returns-clause-found : goal.returns-clause-found
+returns-clause-found c = found_by c.args.text.now c.in_ok-config.config c.in_ok-config.ensures.only c.verified.result c.verified.ensures.same c.verified.ensures.unbroken c.verified.ensures.annotated c.verified.ensures.affordable
+
+pub returns-clause-runs : goal.returns-clause-runs
+returns-clause-runs c = runs_by c.in_ok-config.config c.verified.result c.in_ok-config.ensures.written c.in_ok-config.ensures.nested c.verified.ensures.same c.verified.ensures.unbroken c.verified.ensures.annotated
+
+pub returns-clause-refused : goal.returns-clause-refused
+returns-clause-refused c = refused_by c.args.text.now c.in_ok-config.config c.in_ok-config.ensures.only c.verified.result c.verified.ensures.refused
+
+pub returns-clause-named : goal.returns-clause-named
+returns-clause-named c = named_by c.args.text.now c.in_ok-config.config c.in_ok-config.ensures.only c.verified.result c.verified.ensures.refused
+
+pub returns-clause-number : goal.returns-clause-number
+returns-clause-number c = explained_by c.args.text.now c.in_ok-config.config c.in_ok-config.ensures.only c.verified.result c.verified.ensures.refused

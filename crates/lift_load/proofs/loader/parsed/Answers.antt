@@ -1,0 +1,42 @@
+use Rattle.std.proofs.Common.{sym, ◌∙◌}
+use Rattle.il_spec.specs.declared.tree.Config.{Config}
+use Rattle.il_grammar.proofs.Spelled.{spelled_written}
+use Rattle.lift_load.specs.Loading.{IsExplained}
+use Rattle.lift_load.proofs.Explaining.{handed_as, explained_by_tokens, explained_by_parser}
+use Rattle.lift_load.proofs.Accepting.{handed_on, none_spelled}
+use Rattle.lift_load.proofs.Phases.{spells_only, within_short}
+use Rattle.lift_load.proofs.loader.parsed.Goals as goal
+
+-- NO TOKENS
+
+pub returns-in_err-tokens-clause-none : goal.returns-in_err-tokens-clause-none
+returns-in_err-tokens-clause-none c = λ fault d a. c.in_err-tokens.ensures.refused (handed_on Config _ _ c.from_residual.ensures.1 fault) a.limits.bytes a.spelled.0 a.spelled.1
+
+pub returns-in_err-tokens-clause-number : goal.returns-in_err-tokens-clause-number
+returns-in_err-tokens-clause-number c = handed_as (IsExplained c.args.text.now) _ _ c.from_residual.ensures.1 (explained_by_tokens c.args.text.now _ c.in_err-tokens.ensures.too_long c.in_err-tokens.ensures.number c.in_err-tokens.ensures.refused)
+
+-- NO TREE
+
+pub returns-in_err-config-clause-none : goal.returns-in_err-config-clause-none
+returns-in_err-config-clause-none c = λ fault.
+    none_spelled c.args.text.now c.deref.result.now (λ ts cut. c.in_ok-tokens.ensures.only ts cut ∙ sym c.deref.ensures.value) (c.in_err-config.ensures.refused (handed_on Config _ _ c.from_residual-in_err-config.ensures.1 fault))
+
+pub returns-in_err-config-clause-number : goal.returns-in_err-config-clause-number
+returns-in_err-config-clause-number c =
+    handed_as (IsExplained c.args.text.now) _ _ c.from_residual-in_err-config.ensures.1
+    (explained_by_parser c.args.text.now _ c.in_err-config.ensures.number (λ fault. none_spelled c.args.text.now c.deref.result.now (λ ts cut. c.in_ok-tokens.ensures.only ts cut ∙ sym c.deref.ensures.value) (c.in_err-config.ensures.refused fault)))
+
+-- THE CONFIGURATION
+
+pub returns-clause-only : goal.returns-clause-only
+returns-clause-only c =
+    spells_only c.args.text.now c.deref.result.now c.in_ok-config.config (λ ts cut. c.in_ok-tokens.ensures.only ts cut ∙ sym c.deref.ensures.value) c.in_ok-tokens.ensures.short c.in_ok-config.ensures.spelled c.in_ok-config.ensures.limits c.in_ok-config.ensures.only
+
+pub returns-clause-written : goal.returns-clause-written
+returns-clause-written c = spelled_written c.args.text.now c.in_ok-config.config c.in_ok-config.ensures.spelled
+
+pub returns-clause-short : goal.returns-clause-short
+returns-clause-short c = within_short c.args.text.now c.in_ok-config.config (c.in_ok-config.ensures.limits c.in_ok-tokens.ensures.short)
+
+pub returns-clause-nested : goal.returns-clause-nested
+returns-clause-nested c = c.in_ok-config.ensures.small.nesting

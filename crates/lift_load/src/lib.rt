@@ -1,0 +1,8 @@
+//! From a text to a verified configuration.
+#![tactic(auto)]
+
+mod loader;
+
+pub use il_machine::Verified;
+pub use il_spec::fault::Refusal;
+pub use loader::load;

@@ -1,0 +1,157 @@
+// From a text to a verified configuration.
+
+ghost use Rattle.std.specs.Prelude.{◌≡◌, IfOk, IfErr, IsErrAnd, map};
+ghost use Rattle.il_spec.specs.declared.fault.Refusal.TheVariants.{Memory};
+ghost use Rattle.il_spec.specs.declared.tree.Config.{Config as ConfigOf};
+ghost use Rattle.il_rules.specs.Faults.{BreaksDeclarations, Broken, Typing, HasNoFault, IsRefusedBy};
+ghost use Rattle.il_rules.specs.Written.{IsWritten};
+ghost use Rattle.il_run.specs.Annotation.{Annotated};
+ghost use Rattle.il_typed.specs.Judged.{AreShort};
+ghost use Rattle.il_parse.specs.Refused.{IsFault};
+ghost use Rattle.il_budget.specs.Costs.{IsTooLong, cost_of};
+ghost use Rattle.il_machine.specs.Nesting.{IsNested};
+ghost use Rattle.lift_sound.specs.Runs.{RunsWell};
+ghost use Rattle.lift_load.specs.Loading.{IsSpelled, SpellsOnly, SpellsNone, IsUnbroken, IsAccepted, IsRefusedFor, IsExplained};
+
+use il_budget::budget;
+use il_code::{Code, code};
+use il_declare::declare;
+use il_machine::{UnitCost, Verified};
+use il_order::{Ordered, ordered};
+use il_parse::parse;
+use il_spec::fault::Refusal;
+use il_spec::list::Items;
+use il_spec::pair::both;
+use il_spec::tree::Config;
+use il_text::tokens;
+use il_typed::{Typed, typed};
+use il_verify::{Checked, verify};
+use std::alloc::Global;
+
+/// The configuration that a text spells, verified.
+///
+/// A text is refused with the first fault of these phases, in their order: tokens (1 to 6), grammar (10 to 12), declarations (20 to 25),
+/// types (30 to 35, 37 to 39), order and slots (36, 46, 12), ranges (40 to 44), budgets (50). From 20 on it is the phase's fault at the
+/// earliest place, at one place the one with the lowest number.
+pub fn load(alloc: Global, text: &[u8]) -> Result<Verified, Refusal>
+    ensures found { IfOk result (λ v. IsAccepted text.now v.config) }
+    ensures costs { IfOk result (λ v. v.costs ≡ map (cost_of v.config) v.config.units) }
+    ensures runs { IfOk result (λ v. RunsWell v.config) }
+    ensures refused { IsFault result → (c : ConfigOf) → IsAccepted text.now c → ⊥ }
+    ensures named { IsFault result → (c : ConfigOf) → IsSpelled text.now c → IsErrAnd result (IsRefusedFor c) }
+    ensures number { IfErr result (IsExplained text.now) }
+{
+    let config = parsed(alloc, text)?;
+    verified(alloc, config)
+}
+
+// The configuration that a text spells. Its tokens are given up before it is verified.
+fn parsed(alloc: Global, text: &[u8]) -> Result<Config, Refusal>
+    ensures only { IfOk result (SpellsOnly text.now) }
+    ensures written { IfOk result IsWritten }
+    ensures short { IfOk result (λ c. AreShort c.units) }
+    ensures nested { IfOk result IsNested }
+    ensures none { IsFault result → SpellsNone text.now }
+    ensures number { IfErr result (IsExplained text.now) }
+{
+    let tokens = tokens(alloc, text)?;
+    let config = parse(alloc, text, &tokens)?;
+    Ok(config)
+}
+
+// A configuration that a text spells, verified, or its first fault.
+fn verified(alloc: Global, config: Config) -> Result<Verified, Refusal>
+    requires written { IsWritten config }
+    requires short { AreShort config.units }
+    requires nested { IsNested config }
+    ensures same { IfOk result (λ v. v.config ≡ config) }
+    ensures unbroken { IfOk result (λ _. IsUnbroken config) }
+    ensures annotated { IfOk result (λ _. Annotated config) }
+    ensures affordable { IfOk result (λ _. HasNoFault (IsTooLong config)) }
+    ensures costs { IfOk result (λ v. v.costs ≡ map (cost_of v.config) v.config.units) }
+    ensures refused { IfErr result (IsRefusedFor config) }
+{
+    let checked = checked(alloc, config)?;
+    affordable(alloc, checked)
+}
+
+// A configuration with ranges none of whose units costs too much, verified, or the first that does.
+fn affordable(alloc: Global, checked: Checked) -> Result<Verified, Refusal>
+    requires { IsNested checked }
+    ensures same { IfOk result (λ v. v.config ≡ checked) }
+    ensures affordable { IfOk result (λ _. HasNoFault (IsTooLong checked)) }
+    ensures costs { IfOk result (λ v. v.costs ≡ map (cost_of v.config) v.config.units) }
+    ensures refused { IfErr result (IsRefusedBy (IsTooLong checked)) }
+{
+    let costs = costs(alloc, &checked);
+    let (checked, costs) = both(checked, costs)?;
+    with_costs(alloc, checked, costs)
+}
+
+// A configuration with ranges, verified, by what its units cost.
+fn with_costs(alloc: Global, checked: Checked, costs: Items<UnitCost>) -> Result<Verified, Refusal>
+    requires nested { IsNested checked }
+    requires costs { costs ≡ map (cost_of checked) checked.units }
+    ensures same { IfOk result (λ v. v.config ≡ checked) }
+    ensures costs { IfOk result (λ v. v.costs ≡ map (cost_of v.config) v.config.units) }
+    ensures memory { IfErr result (λ e. e ≡ Memory) }
+{
+    Ok(Verified::of(alloc, checked.into_code(), costs)?)
+}
+
+// What each unit costs, or the first that costs too much.
+fn costs(alloc: Global, checked: &Checked) -> Result<Items<UnitCost>, Refusal>
+    ensures costs { IfOk result (λ costs. costs ≡ map (cost_of checked.now) checked.now.units) }
+    ensures affordable { IfOk result (λ _. HasNoFault (IsTooLong checked.now)) }
+    ensures refused { IfErr result (IsRefusedBy (IsTooLong checked.now)) }
+{
+    budget(alloc, checked.names())
+}
+
+// The code of a configuration each of whose instructions has ranges, or the first fault before.
+fn checked(alloc: Global, config: Config) -> Result<Checked, Refusal>
+    requires written { IsWritten config }
+    requires short { AreShort config.units }
+    ensures same { IfOk result (λ k. k ≡ config) }
+    ensures unbroken { IfOk result (λ _. IsUnbroken config) }
+    ensures annotated { IfOk result (λ _. Annotated config) }
+    ensures refused { IfErr result (IsRefusedFor config) }
+{
+    let code = coded(alloc, config)?;
+    verify(alloc, code)
+}
+
+// The code of a configuration that breaks no rule of declarations, types and order, or the first that it breaks.
+fn coded(alloc: Global, config: Config) -> Result<Code, Refusal>
+    requires written { IsWritten config }
+    requires short { AreShort config.units }
+    ensures same { IfOk result (λ k. k ≡ config) }
+    ensures unbroken { IfOk result (λ _. IsUnbroken config) }
+    ensures refused { IfErr result (IsRefusedFor config) }
+{
+    let ordered = in_order(alloc, config)?;
+    Ok(code(alloc, ordered)?)
+}
+
+// A configuration that breaks no rule of declarations, types and order, or the first that it breaks.
+fn in_order(alloc: Global, config: Config) -> Result<Ordered, Refusal>
+    requires { AreShort config.units }
+    ensures same { IfOk result (λ o. o ≡ config) }
+    ensures unbroken { IfOk result (λ _. IsUnbroken config) }
+    ensures refused { IfErr result (IsRefusedFor config) }
+{
+    let typed = well_typed(alloc, config)?;
+    ordered(alloc, typed)
+}
+
+// A configuration that breaks no rule of declarations and types, or the first that it breaks.
+fn well_typed(alloc: Global, config: Config) -> Result<Typed, Refusal>
+    requires { AreShort config.units }
+    ensures same { IfOk result (λ t. t ≡ config) }
+    ensures declared { IfOk result (λ _. HasNoFault (BreaksDeclarations config)) }
+    ensures typed { IfOk result (λ _. HasNoFault (Broken Typing config)) }
+    ensures refused { IfErr result (IsRefusedFor config) }
+{
+    let declared = declare(alloc, config)?;
+    typed(alloc, declared)
+}

@@ -1,0 +1,54 @@
+-- How a run ends, by its outcome and how that was shown.
+use Rattle.std.proofs.Common.{◌≡◌, ◌⊎◌, ℕ, List, Bool, true, Result, Ok, Err, IfOk, IfErr, inl, inr, sym, refl, ap, ◌∙◌}
+use Rattle.std.specs.Prelude.{String}
+use Rattle.std.specs.Global.{Global}
+use Rattle.lift_host.specs.Messages.{Outcome, status_of, message_of}
+use Rattle.lift_host.specs.declared.status.Fault.{Fault}
+use Rattle.lift_host.specs.declared.status.Fault.TheVariants as fault
+use Rattle.lift_host.specs.declared.status.Status.{Status}
+use Rattle.lift_host.specs.declared.status.Status.TheVariants as status
+
+-- no fault ends as done
+never_done : (f : Fault) → status_of f ≡ status.Done → ⊥
+never_done (fault.Misuse text) e = cc
+never_done (fault.Refused number line) e = cc
+never_done fault.BadPress e = cc
+never_done (fault.Event number) e = cc
+never_done fault.CannotRead e = cc
+never_done fault.CannotWrite e = cc
+never_done fault.NoMemory e = cc
+
+-- one fault alone ends as an output that can't be written
+cannot_write_only : (f : Fault) → status_of f ≡ status.CannotWrite → f ≡ fault.CannotWrite
+cannot_write_only (fault.Misuse text) e = cc
+cannot_write_only (fault.Refused number line) e = cc
+cannot_write_only fault.BadPress e = cc
+cannot_write_only (fault.Event number) e = cc
+cannot_write_only fault.CannotRead e = cc
+cannot_write_only fault.CannotWrite e = refl
+cannot_write_only fault.NoMemory e = cc
+
+-- where it is done, the outcome was an output, and it was written
+pub done_of : (M : Outcome → Type 0) (Written : String Global → Type 0) (outcome : Outcome) (result : Status)
+    → M outcome → IfOk outcome (λ text. result ≡ status.Done → Written text) → IfErr outcome (λ f. result ≡ status_of f)
+    → result ≡ status.Done → (text : String Global) × M (Ok text) × Written text
+done_of M Written (Ok text) result m shown ends e = (text, m, shown e)
+done_of M Written (Err f) result m shown ends e = absurd (never_done f (sym ends ∙ e))
+
+-- where the output can't be written, the outcome was one, and a front of it was written
+pub front_of : (M : Outcome → Type 0) (Begun : String Global → Type 0) (outcome : Outcome) (result : Status)
+    → (outcome ≡ Err fault.CannotWrite → ⊥) → M outcome → IfOk outcome (λ text. result ≡ status.CannotWrite → Begun text) → IfErr outcome (λ f. result ≡ status_of f)
+    → result ≡ status.CannotWrite → (text : String Global) × M (Ok text) × Begun text
+front_of M Begun (Ok text) result never m front ends e = (text, m, front e)
+front_of M Begun (Err f) result never m front ends e = absurd (never (ap Err (cannot_write_only f (sym ends ∙ e))))
+
+-- else the outcome was a fault, or the output failed, and the message was written
+pub told_of : (M : Outcome → Type 0) (Told : List ℕ → Type 0) (failed : Bool) (outcome : Outcome) (result : Status)
+    → M outcome
+    → IfOk outcome (λ _. (result ≡ status.Done) ⊎ ((result ≡ status.CannotWrite) × (failed ≡ true)))
+    → IfOk outcome (λ _. result ≡ status.CannotWrite → Told (message_of fault.CannotWrite))
+    → IfErr outcome (λ f. result ≡ status_of f) → IfErr outcome (λ f. Told (message_of f))
+    → (result ≡ status.Done) ⊎ ((f : Fault) × (M (Err f) ⊎ ((f ≡ fault.CannotWrite) × (failed ≡ true))) × (status_of f ≡ result) × Told (message_of f))
+told_of M Told failed (Ok text) result m (inl done) unwritten ends told = inl done
+told_of M Told failed (Ok text) result m (inr (is, fails)) unwritten ends told = inr (fault.CannotWrite, inr (refl, fails), sym is, unwritten is)
+told_of M Told failed (Err f) result m ok unwritten ends told = inr (f, inl m, sym ends, told)

@@ -1,0 +1,6 @@
+//! A program that reads one file and runs one command over its text: from its words to its exit status.
+#![tactic(auto)]
+
+pub mod commands;
+pub mod entry;
+pub mod run;
