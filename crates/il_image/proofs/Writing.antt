@@ -81,9 +81,9 @@ role_parts zero image slots =
 role_parts (suc k) image slots = refl
 
 -- the values of the image: the group's, the calls', the role's
-pub image_parts : (sizes : Sizes) (task : ℕ) (image : Image) (slots : List Slot) → image_values sizes task image slots ≡ group_values sizes image.fields.time image.fields.run_limit ++ (call_values slots ++ role_values task image (length slots))
+pub image_parts : (sizes : Sizes) (task : ℕ) (image : Image) (slots : List Slot) → image_values sizes task image slots ≡ group_values sizes image.fields ++ (call_values slots ++ role_values task image (length slots))
 image_parts sizes task image slots =
-    ap (λ l. group_values sizes image.fields.time image.fields.run_limit ++ l)
+    ap (λ l. group_values sizes image.fields ++ l)
     (values_regroup (elements_of (codes "CALLWAITS") 1 (map (λ s. Boolean (waits s)) slots)) (elements_of (codes "CALLFROM") 1 (map (λ s. number (from_of s)) slots)) (elements_of (codes "CALLTO") 1 (map (λ s. number (to_of s)) slots))
     (elements_of (codes "CALLCAR") 1 (map (λ s. number (car_of s)) slots)) (role_entries task image (length slots))
     ∙ ap₂ (λ x y. x ++ y)
@@ -91,10 +91,10 @@ image_parts sizes task image slots =
     (ap₂ (λ x y. x ++ y) (element_values (codes "CALLFROM") 1 (map (call_value From) slots)) (ap₂ (λ x y. x ++ y) (element_values (codes "CALLTO") 1 (map (call_value To) slots)) (element_values (codes "CALLCAR") 1 (map (call_value Car) slots))))) (role_parts task image (length slots)))
 
 -- how many values there are
-pub image_long : (sizes : Sizes) (task : ℕ) (image : Image) (slots : List Slot) → length (image_values sizes task image slots) ≡ 5 + 4 * length slots + length (role_values task image (length slots))
+pub image_long : (sizes : Sizes) (task : ℕ) (image : Image) (slots : List Slot) → length (image_values sizes task image slots) ≡ 6 + 4 * length slots + length (role_values task image (length slots))
 image_long sizes task image slots =
     let all = ap length (image_parts sizes task image slots) in
-    let first = length-append (group_values sizes image.fields.time image.fields.run_limit) (call_values slots ++ role_values task image (length slots)) in
+    let first = length-append (group_values sizes image.fields) (call_values slots ++ role_values task image (length slots)) in
     let rest = length-append (call_values slots) (role_values task image (length slots)) in
     let calls = calls_long slots in
     omega (arith, all, first, rest, calls)
@@ -128,14 +128,14 @@ calls_written r r1 r2 r3 r4 at slots e1 e2 e3 e4 =
     ∙ sym (filled_append r at a (b ++ (d ++ e)) ∙ filled_append (filled r at a) (at + length a) b (d ++ e) ∙ filled_append (filled (filled r at a) (at + length a) b) (at + length a + length b) d e)
 
 -- the parts one after another
-pub image_written : (r r1 r2 r3 : Rows) (at : ℕ) (sizes : Sizes) (task : ℕ) (image : Image) (slots : List Slot) → r1 ≡ filled r at (group_values sizes image.fields.time image.fields.run_limit) → r2 ≡ filled r1 (at + 5) (call_values slots)
-    → r3 ≡ filled r2 (at + (5 + 4 * length slots)) (role_values task image (length slots)) → r3 ≡ filled r at (image_values sizes task image slots)
+pub image_written : (r r1 r2 r3 : Rows) (at : ℕ) (sizes : Sizes) (task : ℕ) (image : Image) (slots : List Slot) → r1 ≡ filled r at (group_values sizes image.fields) → r2 ≡ filled r1 (at + 6) (call_values slots)
+    → r3 ≡ filled r2 (at + (6 + 4 * length slots)) (role_values task image (length slots)) → r3 ≡ filled r at (image_values sizes task image slots)
 image_written r r1 r2 r3 at sizes task image slots e1 e2 e3 =
     let long = calls_long slots in
-    let end : at + (5 + 4 * length slots) ≡ at + 5 + length (call_values slots) = omega (arith, long) in
-    e3 ∙ ap₂ (λ x n. filled x n (role_values task image (length slots))) (e2 ∙ ap (λ x. filled x (at + 5) (call_values slots)) e1) end
-    ∙ sym (filled_append (filled r at (group_values sizes image.fields.time image.fields.run_limit)) (at + 5) (call_values slots) (role_values task image (length slots)))
-    ∙ sym (filled_append r at (group_values sizes image.fields.time image.fields.run_limit) (call_values slots ++ role_values task image (length slots))) ∙ ap (filled r at) (sym (image_parts sizes task image slots))
+    let end : at + (6 + 4 * length slots) ≡ at + 6 + length (call_values slots) = omega (arith, long) in
+    e3 ∙ ap₂ (λ x n. filled x n (role_values task image (length slots))) (e2 ∙ ap (λ x. filled x (at + 6) (call_values slots)) e1) end
+    ∙ sym (filled_append (filled r at (group_values sizes image.fields)) (at + 6) (call_values slots) (role_values task image (length slots)))
+    ∙ sym (filled_append r at (group_values sizes image.fields) (call_values slots ++ role_values task image (length slots))) ∙ ap (filled r at) (sym (image_parts sizes task image slots))
 
 pub cars_written : (r r1 r2 r3 : Rows) (at : ℕ) (image : Image) (slots : ℕ) → r1 ≡ filled r at (map position_value image.fields.cars) → r2 ≡ filled r1 (at + length image.fields.cars) (map motor_value image.outputs)
     → r3 ≡ filled r2 (at + (length image.fields.cars + length image.outputs)) (replicate slots (number 0)) → r3 ≡ filled r at (cars_values image slots)

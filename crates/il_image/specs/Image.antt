@@ -6,6 +6,7 @@ use Rattle.il_slots.specs.Layout.{Rows, rows, number_part, flag_part}
 use Rattle.lift_spec.specs.declared.image.Sizes.{Sizes}
 use Rattle.lift_spec.specs.declared.image.CarFields.{CarFields}
 use Rattle.lift_spec.specs.declared.image.CarOutputs.{CarOutputs}
+use Rattle.lift_spec.specs.declared.image.Fields.{Fields}
 use Rattle.lift_spec.specs.declared.image.Image.{Image}
 use Rattle.lift_spec.specs.declared.calls.Slot.{Slot}
 use Rattle.lift_spec.specs.Settle.{fields_of, outputs_of}
@@ -34,8 +35,8 @@ abbrev pub call_values : List Slot → List Value
 call_values slots = map (call_value Waits) slots ++ (map (call_value From) slots ++ (map (call_value To) slots ++ map (call_value Car) slots))
 
 -- what each program sees of the group
-abbrev pub group_values : Sizes → ℕ → ℕ → List Value
-group_values sizes time run_limit = number sizes.cars ∷ number sizes.floors ∷ number sizes.slots ∷ number time ∷ number run_limit ∷ []
+abbrev pub group_values : Sizes → Fields → List Value
+group_values sizes fields = number sizes.cars ∷ number sizes.floors ∷ number sizes.slots ∷ number fields.time ∷ number fields.run_limit ∷ Boolean fields.fire ∷ []
 
 -- what a car's program sees of its car
 abbrev pub car_values : ℕ → CarFields → CarOutputs → List Value

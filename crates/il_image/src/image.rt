@@ -9,7 +9,7 @@ use crate::rows::{put, put_all};
 use il_exec::rows::Rows;
 use il_run::value::Value;
 use lift_spec::calls::Slot;
-use lift_spec::image::{CarFields, CarOutputs, Image, Motor, Sizes};
+use lift_spec::image::{CarFields, CarOutputs, Fields, Image, Motor, Sizes};
 
 /// What a program sees of each call slot: CALLWAITS, CALLFROM, CALLTO or CALLCAR.
 #[derive(Clone, Copy)]
@@ -76,17 +76,18 @@ fn write_calls(rows: &mut Rows, at: usize, slots: &[Slot])
 }
 
 // Writes what each program sees of the group from a slot on.
-fn write_group(rows: &mut Rows, at: usize, sizes: Sizes, time: u32, run_limit: u8)
-    requires numbers { at + 5 ≤ length rows.old.numbers }
-    requires flags { at + 5 ≤ length rows.old.flags }
-    ensures { rows.new ≡ filled rows.old at (group_values sizes time run_limit) }
+fn write_group(rows: &mut Rows, at: usize, sizes: Sizes, fields: &Fields)
+    requires numbers { at + 6 ≤ length rows.old.numbers }
+    requires flags { at + 6 ≤ length rows.old.flags }
+    ensures { rows.new ≡ filled rows.old at (group_values sizes fields.now) }
 {
     let values = [
         Value::Integer(sizes.cars as i64),
         Value::Integer(sizes.floors as i64),
         Value::Integer(sizes.slots as i64),
-        Value::Integer(time as i64),
-        Value::Integer(run_limit as i64),
+        Value::Integer(fields.time as i64),
+        Value::Integer(fields.run_limit as i64),
+        Value::Boolean(fields.fire),
     ];
     put_all(rows, at, &values);
 }
@@ -217,7 +218,7 @@ pub fn write_image(
     ensures { rows.new ≡ filled rows.old at (image_values sizes task image.now slots.now) }
 {
     let _room = rows.numbers.len();
-    write_group(rows, at, sizes, image.fields.time, image.fields.run_limit);
-    write_calls(rows, at + 5, slots);
-    write_role(rows, at + (5 + 4 * slots.len()), task, image, slots.len());
+    write_group(rows, at, sizes, &image.fields);
+    write_calls(rows, at + 6, slots);
+    write_role(rows, at + (6 + 4 * slots.len()), task, image, slots.len());
 }

@@ -31,6 +31,7 @@ pub fn opening_image(sizes: Sizes) -> Image
         fields: Fields {
             time: 0,
             run_limit: sizes.cars,
+            fire: false,
             cars: opening_cars(sizes.cars),
         },
         outputs: opening_outputs(sizes.cars),

@@ -178,6 +178,7 @@ image_of cars floors slots =
     ∷ image_read (codes "SLOTS") Everybody (OfScalar (within slots slots))
     ∷ image_read (codes "NOW") Everybody (OfScalar (plain Time))
     ∷ image_read (codes "RUNLIMIT") Everybody (OfScalar (within (pos 0) cars))
+    ∷ image_read (codes "FIRE") Everybody (OfScalar (plain Boolean))
     ∷ image_read (codes "CARNO") CarPrograms (OfScalar (within (pos 1) cars))
     ∷ image_read (codes "POS") CarPrograms (OfScalar (within (pos 1) floors))
     ∷ image_read (codes "LEVEL") CarPrograms (OfScalar (plain Boolean))

@@ -46,7 +46,7 @@ pub struct ImageRow {
 }
 
 /// The table of image names.
-static IMAGE: [ImageRow; 22] = [
+static IMAGE: [ImageRow; 23] = [
     ImageRow {
         name: "CARS",
         audience: Audience::Everybody,
@@ -76,6 +76,12 @@ static IMAGE: [ImageRow; 22] = [
         audience: Audience::Everybody,
         origin: Origin::ReadImage,
         declared: ImageType::Single(ImageScalar::Within(Limit::Fixed(0), Limit::Cars)),
+    },
+    ImageRow {
+        name: "FIRE",
+        audience: Audience::Everybody,
+        origin: Origin::ReadImage,
+        declared: ImageType::Single(ImageScalar::Plain(Elementary::Bool)),
     },
     ImageRow {
         name: "CARNO",

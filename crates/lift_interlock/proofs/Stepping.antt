@@ -4,6 +4,7 @@ use Rattle.std.proofs.Math.Seq.{drop-cons}
 use Rattle.std.specs.Prelude.{Bool, true, false, cond, not, ◌==◌, filter, Option, Some, None, if◌then◌else◌}
 use Rattle.lift_spec.specs.declared.image.CarFields.{CarFields}
 use Rattle.lift_spec.specs.declared.image.CarOutputs.{CarOutputs}
+use Rattle.lift_spec.specs.declared.image.Fields.{Fields}
 use Rattle.lift_spec.specs.declared.report.Rule.{Rule}
 use Rattle.lift_spec.specs.declared.report.Denial.{Denial}
 use Rattle.lift_spec.specs.Image.{runs, running_from, opening_outputs}
@@ -57,31 +58,31 @@ passes_still outputs i car count new all none h is_still is_new is_all =
 
 -- the settling of the cars from one on is its own before that of the rest
 settled_at :
-    (limit : ℕ) (able : List ℕ) (cars : List CarFields) (before : List CarOutputs) (i : ℕ) (no_car : CarFields) (none : CarOutputs) → i < length cars → length before ≡ length cars
-    → settled_from limit able (i + 1) (drop i cars) (drop i before) ≡ joined (i + 1) (settled_running limit able (i + 1) (get_or cars i no_car) (get_or before i none)) (settled_from limit able (i + 1 + 1) (drop (i + 1) cars) (drop (i + 1) before))
-settled_at limit able cars before i no_car none h as_many =
+    (group : Fields) (able : List ℕ) (cars : List CarFields) (before : List CarOutputs) (i : ℕ) (no_car : CarFields) (none : CarOutputs) → i < length cars → length before ≡ length cars
+    → settled_from group able (i + 1) (drop i cars) (drop i before) ≡ joined (i + 1) (settled_running group able (i + 1) (get_or cars i no_car) (get_or before i none)) (settled_from group able (i + 1 + 1) (drop (i + 1) cars) (drop (i + 1) before))
+settled_at group able cars before i no_car none h as_many =
     let l : i < length before = omega (arith, h, as_many) in
-    ap (λ xs. settled_from limit able (i + 1) xs (drop i before)) (drop_step cars i no_car h) ∙ ap (λ xs. settled_from limit able (i + 1) (get_or cars i no_car ∷ drop (i + 1) cars) xs) (drop_step before i none l)
+    ap (λ xs. settled_from group able (i + 1) xs (drop i before)) (drop_step cars i no_car h) ∙ ap (λ xs. settled_from group able (i + 1) (get_or cars i no_car ∷ drop (i + 1) cars) xs) (drop_step before i none l)
 
 -- the outputs so far
 pub outputs_more :
-    (limit : ℕ) (able : List ℕ) (cars : List CarFields) (before : List CarOutputs) (i : ℕ) (no_car : CarFields) (none : CarOutputs) (after new all : List CarOutputs) (told : CarOutputs) → i < length cars → length before ≡ length cars
-    → told ≡ (settled_running limit able (i + 1) (get_or cars i no_car) (get_or before i none)).outputs → new ≡ after ++ told ∷ []
-    → after ++ (settled_from limit able (i + 1) (drop i cars) (drop i before)).outputs ≡ all → new ++ (settled_from limit able (i + 1 + 1) (drop (i + 1) cars) (drop (i + 1) before)).outputs ≡ all
-outputs_more limit able cars before i no_car none after new all told h as_many is_told is_new is_all =
-    let rest : List CarOutputs = (settled_from limit able (i + 1 + 1) (drop (i + 1) cars) (drop (i + 1) before)).outputs in
-    let at : (settled_from limit able (i + 1) (drop i cars) (drop i before)).outputs ≡ told ∷ rest = ap (λ s. s.outputs) (settled_at limit able cars before i no_car none h as_many) ∙ ap (λ o. o ∷ rest) (sym is_told) in
+    (group : Fields) (able : List ℕ) (cars : List CarFields) (before : List CarOutputs) (i : ℕ) (no_car : CarFields) (none : CarOutputs) (after new all : List CarOutputs) (told : CarOutputs) → i < length cars → length before ≡ length cars
+    → told ≡ (settled_running group able (i + 1) (get_or cars i no_car) (get_or before i none)).outputs → new ≡ after ++ told ∷ []
+    → after ++ (settled_from group able (i + 1) (drop i cars) (drop i before)).outputs ≡ all → new ++ (settled_from group able (i + 1 + 1) (drop (i + 1) cars) (drop (i + 1) before)).outputs ≡ all
+outputs_more group able cars before i no_car none after new all told h as_many is_told is_new is_all =
+    let rest : List CarOutputs = (settled_from group able (i + 1 + 1) (drop (i + 1) cars) (drop (i + 1) before)).outputs in
+    let at : (settled_from group able (i + 1) (drop i cars) (drop i before)).outputs ≡ told ∷ rest = ap (λ s. s.outputs) (settled_at group able cars before i no_car none h as_many) ∙ ap (λ o. o ∷ rest) (sym is_told) in
     ap (λ xs. xs ++ rest) is_new ∙ append_assoc after (told ∷ []) rest ∙ ap (λ xs. after ++ xs) (sym at) ∙ is_all
 
 -- the denials so far
 pub denials_more :
-    (limit : ℕ) (able : List ℕ) (cars : List CarFields) (before : List CarOutputs) (i : ℕ) (no_car : CarFields) (none : CarOutputs) (denials new all : List Denial) (rules : List Rule) → i < length cars → length before ≡ length cars
-    → rules ≡ (settled_running limit able (i + 1) (get_or cars i no_car) (get_or before i none)).denials → new ≡ denials ++ denials_of (i + 1) rules
-    → denials ++ (settled_from limit able (i + 1) (drop i cars) (drop i before)).denials ≡ all → new ++ (settled_from limit able (i + 1 + 1) (drop (i + 1) cars) (drop (i + 1) before)).denials ≡ all
-denials_more limit able cars before i no_car none denials new all rules h as_many is_rules is_new is_all =
-    let rest : List Denial = (settled_from limit able (i + 1 + 1) (drop (i + 1) cars) (drop (i + 1) before)).denials in
-    let at : (settled_from limit able (i + 1) (drop i cars) (drop i before)).denials ≡ denials_of (i + 1) rules ++ rest =
-    ap (λ s. s.denials) (settled_at limit able cars before i no_car none h as_many) ∙ ap (λ r. denials_of (i + 1) r ++ rest) (sym is_rules) in
+    (group : Fields) (able : List ℕ) (cars : List CarFields) (before : List CarOutputs) (i : ℕ) (no_car : CarFields) (none : CarOutputs) (denials new all : List Denial) (rules : List Rule) → i < length cars → length before ≡ length cars
+    → rules ≡ (settled_running group able (i + 1) (get_or cars i no_car) (get_or before i none)).denials → new ≡ denials ++ denials_of (i + 1) rules
+    → denials ++ (settled_from group able (i + 1) (drop i cars) (drop i before)).denials ≡ all → new ++ (settled_from group able (i + 1 + 1) (drop (i + 1) cars) (drop (i + 1) before)).denials ≡ all
+denials_more group able cars before i no_car none denials new all rules h as_many is_rules is_new is_all =
+    let rest : List Denial = (settled_from group able (i + 1 + 1) (drop (i + 1) cars) (drop (i + 1) before)).denials in
+    let at : (settled_from group able (i + 1) (drop i cars) (drop i before)).denials ≡ denials_of (i + 1) rules ++ rest =
+    ap (λ s. s.denials) (settled_at group able cars before i no_car none h as_many) ∙ ap (λ r. denials_of (i + 1) r ++ rest) (sym is_rules) in
     ap (λ xs. xs ++ rest) is_new ∙ append_assoc denials (denials_of (i + 1) rules) rest ∙ ap (λ xs. denials ++ xs) (sym at) ∙ is_all
 
 as_many_denials : (car : ℕ) (rules : List Rule) → length (denials_of car rules) ≡ length rules
@@ -96,10 +97,10 @@ at_most_two (Some a) (Some b) = omega arith
 
 -- at most two more for a car
 pub room_stays :
-    (limit : ℕ) (able : List ℕ) (car : ℕ) (f : CarFields) (o : CarOutputs) (denials new : List Denial) (rules : List Rule) (i : ℕ) → rules ≡ (settled_running limit able car f o).denials → new ≡ denials ++ denials_of car rules
+    (group : Fields) (able : List ℕ) (car : ℕ) (f : CarFields) (o : CarOutputs) (denials new : List Denial) (rules : List Rule) (i : ℕ) → rules ≡ (settled_running group able car f o).denials → new ≡ denials ++ denials_of car rules
     → length denials ≤ 2 * i → length new ≤ 2 * (i + 1)
-room_stays limit able car f o denials new rules i is_rules is_new h =
+room_stays group able car f o denials new rules i is_rules is_new h =
     let P : List Rule → Type 0 = λ r. length r ≤ 2 in
-    let few : length rules ≤ 2 = subst P (sym is_rules) (at_most_two (open_denial o.opens f.level) (running_denial limit able car f o)) in
+    let few : length rules ≤ 2 = subst P (sym is_rules) (at_most_two (open_denial o.opens f.level) (running_denial group able car f o)) in
     let long : length new ≡ length denials + length rules = ap length is_new ∙ length-append denials (denials_of car rules) ∙ ap (λ n. length denials + n) (as_many_denials car rules) in
     omega (arith, few, long, h)

@@ -3,13 +3,19 @@
 ghost use Rattle.std.specs.Prelude.{◌≡◌, ◌≤◌, length};
 ghost use Rattle.lift_spec.specs.Settle.{fields_of, outputs_of, other_running, denies_wish, motor_denial, settled_car};
 
-use crate::motor::{granted, is_at_end, reverses, runs};
+use crate::motor::{granted, is_at_end, is_fire_up, reverses, runs};
 use crate::settled::{Settled, listed, open_denial};
 use lift_image::{CarFields, CarOutputs, Image, Motor};
 use lift_spec::report::Rule;
 
 /// The order in which rules deny a motor wish.
-const WISH_ORDER: [Rule; 4] = [Rule::Reversal, Rule::Unlocked, Rule::AtEnd, Rule::Crowded];
+const WISH_ORDER: [Rule; 5] = [
+    Rule::Reversal,
+    Rule::Unlocked,
+    Rule::AtEnd,
+    Rule::Fire,
+    Rule::Crowded,
+];
 
 // The fields of a car, which counts from 1.
 fn fields_of(image: &Image, car: u8) -> CarFields
@@ -53,6 +59,7 @@ fn denies_wish(image: &Image, car: u8, wish: Motor, opens: bool, rule: Rule) -> 
         Rule::AtEnd => is_at_end(fields_of(image, car), wish),
         Rule::NotLevel => false,
         Rule::Crowded => usize::from(image.fields.run_limit) <= other_running(image, car),
+        Rule::Fire => is_fire_up(image.fields.fire, wish),
     }
 }
 
@@ -75,7 +82,7 @@ fn motor_denial(image: &Image, car: u8, wish: Motor, opens: bool) -> Option<Rule
 
 /// A car's commit: what is left of its motor wish and its open wish under the image as it is (own rule). The car counts
 /// from 1 and is one of the image's. The open wish is settled first, granted exactly at a level and otherwise denied by
-/// 4. A motor wish up or down is granted exactly where the rules 1, 2 with the settled open command, 3 and 5 hold;
+/// 4. A motor wish up or down is granted exactly where the rules 1, 2 with the settled open command, 3, 6 and 5 hold;
 /// otherwise the motor is still, and the first rule that fails, in this order, denied.
 #[tactic(auto, unfolding(lift_spec::specs::Settle::settled_car))]
 pub fn settle_car(image: &Image, car: u8, motor: Motor, open_wish: bool) -> Settled

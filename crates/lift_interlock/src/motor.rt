@@ -2,7 +2,7 @@
 
 ghost use Rattle.std.specs.Prelude.{◌≡◌};
 ghost use Rattle.lift_spec.specs.Image.{runs};
-ghost use Rattle.lift_spec.specs.Settle.{reverses, is_at_end, granted};
+ghost use Rattle.lift_spec.specs.Settle.{reverses, is_at_end, is_fire_up, granted};
 
 use lift_image::{CarFields, Motor};
 use lift_spec::report::Rule;
@@ -35,6 +35,16 @@ pub fn is_at_end(car: CarFields, motor: Motor) -> bool
         Motor::Up => car.top,
         Motor::Down => car.bottom,
         Motor::Still => false,
+    }
+}
+
+/// Up while FIRE holds.
+pub fn is_fire_up(fire: bool, motor: Motor) -> bool
+    ensures { result ≡ is_fire_up fire motor }
+{
+    match motor {
+        Motor::Up => fire,
+        Motor::Down | Motor::Still => false,
     }
 }
 

@@ -6,7 +6,7 @@ use Rattle.lift_plant.specs.declared.plant.Plant.TheInside.{Inside}
 
 -- the plant in the words of the definitions
 abbrev pub plant_of : Inside → PlantState
-plant_of p = record { floors = p.floors; time = p.time; run_limit = p.run_limit; cars = map placed p.cars }
+plant_of p = record { floors = p.floors; time = p.time; run_limit = p.run_limit; fire = p.fire; cars = map placed p.cars }
 
 -- what every plant keeps
 pub record IsPlant (p : Inside) : Type 0 where

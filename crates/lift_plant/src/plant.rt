@@ -20,6 +20,7 @@ pub struct Plant {
     floors: u8,
     time: u32,
     run_limit: u8,
+    fire: bool,
     cars: Row<Car, 8>,
 }
 
@@ -55,8 +56,17 @@ impl Plant {
             floors,
             time: 0,
             run_limit: cars,
+            fire: false,
             cars: placed,
         }
+    }
+
+    /// The same plant, which tells FIRE so from now on.
+    pub fn with_fire(self, fire: bool) -> Plant
+        ensures plant { result ≡ record self { fire = fire } }
+        ensures sized { (sizes : Sizes) → IsPlantOf sizes self → IsPlantOf sizes result }
+    {
+        Plant { fire, ..self }
     }
 
     /// How many cars there are.
@@ -110,12 +120,14 @@ pub fn plant_step(plant: Plant, outputs: &Row<CarOutputs, 8>) -> (Plant, Fields)
     let fields = Fields {
         time,
         run_limit: plant.run_limit,
+        fire: plant.fire,
         cars: all_fields(plant.floors, cars.as_slice()),
     };
     let moved = Plant {
         floors: plant.floors,
         time,
         run_limit: plant.run_limit,
+        fire: plant.fire,
         cars,
     };
     (moved, fields)

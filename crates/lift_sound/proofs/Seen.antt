@@ -91,9 +91,9 @@ car_in c last (Told ticket call car) whole h = number_in 0 car c.cars.value whol
 abbrev pub row : Text → ℤ → Scalar → List (Text × Scalar)
 row name size s = element_scalars (width (record { lower = pos 1; upper = size })) name (pos 1) s
 
--- the sizes, NOW and RUNLIMIT
+-- the sizes, NOW, RUNLIMIT and FIRE
 abbrev pub firsts : Config → List (Text × Scalar)
-firsts c = (codes "CARS", within c.cars.value c.cars.value) ∷ (codes "FLOORS", within c.floors.value c.floors.value) ∷ (codes "SLOTS", within c.slots.value c.slots.value) ∷ (codes "NOW", plain Time) ∷ (codes "RUNLIMIT", within (pos 0) c.cars.value) ∷ []
+firsts c = (codes "CARS", within c.cars.value c.cars.value) ∷ (codes "FLOORS", within c.floors.value c.floors.value) ∷ (codes "SLOTS", within c.slots.value c.slots.value) ∷ (codes "NOW", plain Time) ∷ (codes "RUNLIMIT", within (pos 0) c.cars.value) ∷ (codes "FIRE", plain BoolType) ∷ []
 
 abbrev pub waiting : Config → List (Text × Scalar)
 waiting c = row (codes "CALLWAITS") c.slots.value (plain BoolType)
@@ -156,7 +156,11 @@ sizes_agree c g sized h =
             (
               refl,
               number_in 0 g.image.fields.run_limit c.cars.value cars (omega arith) h.fields.run_limit,
-              agree_append _ _ _ _ (agree_append _ _ _ _ (agree_append _ _ _ _ a b) d) e,
+              (
+                refl,
+                tt,
+                agree_append _ _ _ _ (agree_append _ _ _ _ (agree_append _ _ _ _ a b) d) e,
+              ),
             ),
           ),
         ),

@@ -1,6 +1,6 @@
 -- Sets of calls as words of bits: what the bits say of the members.
-use Rattle.std.specs.Prelude.{◌≡◌, ◌≢◌, ◌⊎◌, ℕ, zero, suc, ◌+◌, ◌-◌, ◌*◌, ◌/◌, ◌%◌, ◌^◌, ◌<◌, true, false, not, ◌||◌, List, [], ◌∷◌, ◌++◌, length, get_or, set, slice_get, Some, bit_and, refl}
-use Rattle.std.proofs.Common.{sym, ◌∙◌, ap, subst, inl, inr, arith, eqb, eq-eqb, ne_eqb, lt-ltb, le-ltb}
+use Rattle.std.specs.Prelude.{◌≡◌, ◌≢◌, ◌⊎◌, ℕ, zero, suc, ◌+◌, ◌-◌, ◌*◌, ◌/◌, ◌%◌, ◌^◌, ◌<◌, true, false, not, ◌||◌, List, [], ◌∷◌, ◌++◌, length, get_or, set, slice_get, Some, None, drop, bit_and, ◌==◌, ◌≤◌, if◌then◌else◌, refl}
+use Rattle.std.proofs.Common.{length-append, sym, ◌∙◌, ap, subst, inl, inr, arith, eqb, eq-eqb, ne_eqb, lt-ltb, le-ltb}
 use Rattle.std.proofs.lemmas.Bool.{cond_both, cond-true, cond-false, and_left, and_right, or_from, or_left, or_right, and_from, cases_eq, cases_Bool}
 use Rattle.std.proofs.lemmas.Nat.Bits.{bit_at_lowest, bit_at-suc, bit_at-lt, bit_at_set_same, bit_at_set_other, bit_at_clear_same, bit_at_clear_other, bit_at-trailing_zeros}
 use Rattle.std.proofs.lemmas.Nat.{pow_pos}
@@ -323,3 +323,31 @@ without_word from (word ∷ words) (suc k) floor same below =
     let own = others_all floor (calls_of_bits 16 from 1 word) (every_bits (λ member. is_from floor member ≡ false) 16 from 1 word (λ k above. ne_eqb from floor (λ e. omega arith))) in
     filter-append (λ member. not (is_from floor member)) (calls_of_bits 16 from 1 word) (calls_of_words_from (from + 1) words) ∙ ap (λ calls. calls ++ calls_not_from floor (calls_of_words_from (from + 1) words)) own
     ∙ ap (λ calls. calls_of_bits 16 from 1 word ++ calls) (without_word (from + 1) words k floor (omega arith) (omega arith))
+
+-- A set has at most 16 calls from each of 16 floors.
+bits_few : (count from to word : ℕ) → length (calls_of_bits count from to word) ≤ count
+unfolding calls_of_bits
+bits_few zero from to word = omega arith
+bits_few (suc count) from to word =
+    elim (word % 2 == 1) as (λ b. length (if b then record { from = from; to = to } ∷ calls_of_bits count from (to + 1) (word / 2) else calls_of_bits count from (to + 1) (word / 2)) ≤ suc count) [
+      | true ↦ omega (arith, bits_few count from (to + 1) (word / 2))
+      | false ↦ omega (arith, bits_few count from (to + 1) (word / 2))
+    ]
+
+words_few : (from : ℕ) (words : List ℕ) → length (calls_of_words_from from words) ≤ 16 * length words
+unfolding calls_of_words_from
+words_few from [] = omega arith
+words_few from (word ∷ words) =
+    omega (arith, length-append (calls_of_bits 16 from 1 word) (calls_of_words_from (from + 1) words), bits_few 16 from 1 word, words_few (from + 1) words)
+
+pub set_few : (words : List ℕ) → IsWords words → length (calls_of_words words) ≤ 256
+set_few words is = omega (arith, words_few 1 words, is.0)
+
+-- what is left after the first call
+pub one_taken : (calls : List Call) (call : Call) → slice_get calls 0 ≡ Some call → calls ≡ call ∷ drop 1 calls
+one_taken [] call e = absurd (cc)
+one_taken (first ∷ calls) call e = cc
+
+pub none_taken : (calls : List Call) → slice_get calls 0 ≡ None → calls ≡ []
+none_taken [] e = refl
+none_taken (first ∷ calls) e = absurd (cc)

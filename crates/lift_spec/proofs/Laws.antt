@@ -73,6 +73,7 @@ opening_obeys sizes =
           let Q : CarOutputs → Type 0 = λ x. CarObeys opening_car x in
           subst P (get_replicate sizes.cars car opening_car f is_fields) (subst Q (get_replicate sizes.cars car opening_outputs o is_outputs) opening_car_obeys);
       limit = let none : length (running_from 1 (replicate sizes.cars opening_outputs)) ≡ 0 = ap length (none_running sizes.cars 1) in omega (arith, none);
+      fire = λ on car o is_outputs up. false_true on;
     }
 
 -- An Instruction of one task leaves the group and every other task's scan as they were.

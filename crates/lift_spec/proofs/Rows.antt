@@ -22,7 +22,7 @@ use Rattle.lift_spec.specs.Plant.{PlantState, opening_plant, plant_after, fields
 abbrev one_car : Bool → Bool → Bool → Bool → Motor → Image
 one_car level top bottom locked motor =
     record {
-      fields = record { time = 0; run_limit = 1; cars = record { pos = 1; level = level; top = top; bottom = bottom; locked = locked; opened = false } ∷ [] };
+      fields = record { time = 0; run_limit = 1; fire = false; cars = record { pos = 1; level = level; top = top; bottom = bottom; locked = locked; opened = false } ∷ [] };
       outputs = record { motor = motor; opens = false } ∷ [];
     }
 
@@ -46,7 +46,7 @@ abbrev between : CarFields
 between = record { pos = 1; level = false; top = false; bottom = false; locked = true; opened = false }
 
 lowest_runs_on :
-    settled_all (replicate 2 (record { motor = Up; opens = false })) (record { time = 100; run_limit = 1; cars = replicate 2 between })
+    settled_all (replicate 2 (record { motor = Up; opens = false })) (record { time = 100; run_limit = 1; fire = false; cars = replicate 2 between })
     ≡ record { outputs = record { motor = Up; opens = false } ∷ record { motor = Still; opens = false } ∷ []; denials = record { car = 2; rule = Crowded } ∷ [] }
 unfolding settled_all
 lowest_runs_on = refl

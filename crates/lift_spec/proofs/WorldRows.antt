@@ -194,7 +194,7 @@ flips_twice = refl
 
 -- fields outside their ranges are refused, and nothing changes
 abbrev bad_fields : ℕ → ℕ → Fields
-bad_fields floor limit = record { time = 0; run_limit = limit; cars = record opening_car { pos = floor } ∷ [] }
+bad_fields floor limit = record { time = 0; run_limit = limit; fire = false; cars = record opening_car { pos = floor } ∷ [] }
 
 out_of_range : run idle (opening idle) [] (Refresh (bad_fields 3 1) ∷ Refresh (bad_fields 1 2) ∷ []) ≡ Ok (opening idle, Refused FieldOutOfRange ∷ Refused FieldOutOfRange ∷ [])
 unfolding happens opening opening_variables opening_globals get insert empty digits

@@ -52,5 +52,5 @@ placed_code = code_by (ℤ × ℕ) (coded× coded_ℤ coded_ℕ) (λ c. (c.place
 -- the code of a plant
 abbrev pub plant_code : Coded PlantState
 plant_code =
-    code_by ((ℕ × ℕ) × (ℕ × List PlacedCar)) (coded× (coded× coded_ℕ coded_ℕ) (coded× coded_ℕ (coded_list placed_code))) (λ p. ((p.floors, p.time), (p.run_limit, p.cars)))
-    (λ c. record { floors = c.0.0; time = c.0.1; run_limit = c.1.0; cars = c.1.1 }) (λ _. refl)
+    code_by ((ℕ × ℕ) × (ℕ × (Bool × List PlacedCar))) (coded× (coded× coded_ℕ coded_ℕ) (coded× coded_ℕ (coded× coded_bool (coded_list placed_code))))
+    (λ p. ((p.floors, p.time), (p.run_limit, (p.fire, p.cars)))) (λ c. record { floors = c.0.0; time = c.0.1; run_limit = c.1.0; fire = c.1.1.0; cars = c.1.1.1 }) (λ _. refl)

@@ -91,7 +91,7 @@ car_of (Told ticket call car) = car
 abbrev pub common_entries : Sizes → Image → List Slot → List (Text × Value)
 common_entries sizes image slots =
     (codes "CARS", number sizes.cars) ∷ (codes "FLOORS", number sizes.floors) ∷ (codes "SLOTS", number sizes.slots)
-    ∷ (codes "NOW", number image.fields.time) ∷ (codes "RUNLIMIT", number image.fields.run_limit)
+    ∷ (codes "NOW", number image.fields.time) ∷ (codes "RUNLIMIT", number image.fields.run_limit) ∷ (codes "FIRE", Boolean image.fields.fire)
     ∷ (elements_of (codes "CALLWAITS") 1 (map (λ s. Boolean (waits s)) slots) ++ elements_of (codes "CALLFROM") 1 (map (λ s. number (from_of s)) slots)
     ++ elements_of (codes "CALLTO") 1 (map (λ s. number (to_of s)) slots) ++ elements_of (codes "CALLCAR") 1 (map (λ s. number (car_of s)) slots))
 

@@ -6,5 +6,7 @@ pub mod calls;
 pub mod event;
 pub mod hand;
 pub mod image;
+pub mod journal;
 pub mod report;
 pub mod row;
+pub mod trace;

@@ -7,30 +7,30 @@ pub write_calls-requires-clause-numbers : goal.write_calls-requires-clause-numbe
 write_calls-requires-clause-numbers c =
     let room = c.requires.numbers in
     let long = image_long c.args.sizes c.args.task c.args.image.now c.args.slots.now in
-    let first = same_numbers c.args.rows.now c.write_group.new.rows c.args.at (group_values c.args.sizes c.args.image.now.fields.time c.args.image.now.fields.run_limit) c.write_group.ensures in
+    let first = same_numbers c.args.rows.now c.write_group.new.rows c.args.at (group_values c.args.sizes c.args.image.now.fields) c.write_group.ensures in
     omega (arith, room, long, first)
 
 pub write_role-requires-clause-numbers : goal.write_role-requires-clause-numbers
 write_role-requires-clause-numbers c =
     let room = c.requires.numbers in
     let long = image_long c.args.sizes c.args.task c.args.image.now c.args.slots.now in
-    let first = same_numbers c.args.rows.now c.write_group.new.rows c.args.at (group_values c.args.sizes c.args.image.now.fields.time c.args.image.now.fields.run_limit) c.write_group.ensures in
-    let second = same_numbers c.write_group.new.rows c.write_calls.new.rows (c.args.at + 5) (call_values c.args.slots.now) c.write_calls.ensures in
+    let first = same_numbers c.args.rows.now c.write_group.new.rows c.args.at (group_values c.args.sizes c.args.image.now.fields) c.write_group.ensures in
+    let second = same_numbers c.write_group.new.rows c.write_calls.new.rows (c.args.at + 6) (call_values c.args.slots.now) c.write_calls.ensures in
     omega (arith, room, long, first, second)
 
 pub write_calls-requires-clause-flags : goal.write_calls-requires-clause-flags
 write_calls-requires-clause-flags c =
     let room = c.requires.flags in
     let long = image_long c.args.sizes c.args.task c.args.image.now c.args.slots.now in
-    let first = same_flags c.args.rows.now c.write_group.new.rows c.args.at (group_values c.args.sizes c.args.image.now.fields.time c.args.image.now.fields.run_limit) c.write_group.ensures in
+    let first = same_flags c.args.rows.now c.write_group.new.rows c.args.at (group_values c.args.sizes c.args.image.now.fields) c.write_group.ensures in
     omega (arith, room, long, first)
 
 pub write_role-requires-clause-flags : goal.write_role-requires-clause-flags
 write_role-requires-clause-flags c =
     let room = c.requires.flags in
     let long = image_long c.args.sizes c.args.task c.args.image.now c.args.slots.now in
-    let first = same_flags c.args.rows.now c.write_group.new.rows c.args.at (group_values c.args.sizes c.args.image.now.fields.time c.args.image.now.fields.run_limit) c.write_group.ensures in
-    let second = same_flags c.write_group.new.rows c.write_calls.new.rows (c.args.at + 5) (call_values c.args.slots.now) c.write_calls.ensures in
+    let first = same_flags c.args.rows.now c.write_group.new.rows c.args.at (group_values c.args.sizes c.args.image.now.fields) c.write_group.ensures in
+    let second = same_flags c.write_group.new.rows c.write_calls.new.rows (c.args.at + 6) (call_values c.args.slots.now) c.write_calls.ensures in
     omega (arith, room, long, first, second)
 
 pub returns : goal.returns

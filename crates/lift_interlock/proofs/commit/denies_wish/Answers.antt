@@ -18,3 +18,6 @@ returns-in-NotLevel c = search rules
 
 pub returns-in-Crowded : goal.returns-in-Crowded
 returns-in-Crowded c = search rules
+
+pub returns-in-Fire : goal.returns-in-Fire
+returns-in-Fire c = search rules

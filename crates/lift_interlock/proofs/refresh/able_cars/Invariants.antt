@@ -4,6 +4,6 @@ use Rattle.lift_interlock.proofs.refresh.able_cars.Given as goal
 
 abbrev pub invariant-loop-index : goal.invariant-loop-index
 invariant-loop-index l = record {
-  made : l.able ++ able_from (l.index + 1) (drop l.index l.fields) (drop l.index l.outputs) ≡ able_from 1 l.fields l.outputs;
+  made : l.able ++ able_from l.fire (l.index + 1) (drop l.index l.fields) (drop l.index l.outputs) ≡ able_from l.fire 1 l.fields l.outputs;
   room : length l.able ≤ l.index;
 }

@@ -4,8 +4,8 @@ use Rattle.lift_interlock.proofs.refresh.settle_all.Given as goal
 
 abbrev pub invariant-loop-index : goal.invariant-loop-index
 invariant-loop-index l = record {
-  outputs : l.after ++ (settled_from l.fields.run_limit l.able (l.index + 1) (drop l.index l.cars) (drop l.index l.before)).outputs ≡ (settled_from l.fields.run_limit l.able 1 l.cars l.before).outputs;
-  denials : l.denials ++ (settled_from l.fields.run_limit l.able (l.index + 1) (drop l.index l.cars) (drop l.index l.before)).denials ≡ (settled_from l.fields.run_limit l.able 1 l.cars l.before).denials;
+  outputs : l.after ++ (settled_from l.fields l.able (l.index + 1) (drop l.index l.cars) (drop l.index l.before)).outputs ≡ (settled_from l.fields l.able 1 l.cars l.before).outputs;
+  denials : l.denials ++ (settled_from l.fields l.able (l.index + 1) (drop l.index l.cars) (drop l.index l.before)).denials ≡ (settled_from l.fields l.able 1 l.cars l.before).denials;
   count : length l.after ≡ l.index;
   room : length l.denials ≤ 2 * l.index;
 }

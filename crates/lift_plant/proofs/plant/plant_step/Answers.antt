@@ -1,17 +1,17 @@
 use Rattle.std.proofs.Common.{◌≡◌, ℕ, ◌+◌, List, sym, subst}
-use Rattle.std.specs.Prelude.{min}
+use Rattle.std.specs.Prelude.{min, Bool}
 use Rattle.lift_spec.specs.declared.image.CarOutputs.{CarOutputs}
 use Rattle.lift_spec.specs.Plant.{PlantState, PlacedCar, IsPlantOf, plant_after, moved_all}
 use Rattle.lift_plant.proofs.Safe.{sized_after}
 use Rattle.lift_plant.proofs.plant.plant_step.Goals as goal
 
-step_is : (floors time run_limit t : ℕ) (cars made : List PlacedCar) (outputs : List CarOutputs) → t ≡ min 2147483647 (time + 100) → made ≡ moved_all floors cars outputs
-    → ◌≡◌ {A = PlantState} (record { floors = floors; time = t; run_limit = run_limit; cars = made }) (plant_after (record { floors = floors; time = time; run_limit = run_limit; cars = cars }) outputs)
+step_is : (floors time run_limit t : ℕ) (fire : Bool) (cars made : List PlacedCar) (outputs : List CarOutputs) → t ≡ min 2147483647 (time + 100) → made ≡ moved_all floors cars outputs
+    → ◌≡◌ {A = PlantState} (record { floors = floors; time = t; run_limit = run_limit; fire = fire; cars = made }) (plant_after (record { floors = floors; time = time; run_limit = run_limit; fire = fire; cars = cars }) outputs)
 unfolding plant_after
-step_is floors time run_limit t cars made outputs e f = cc
+step_is floors time run_limit t fire cars made outputs e f = cc
 
 pub returns-clause-plant : goal.returns-clause-plant
-returns-clause-plant c = rw (← c.plant.view_is) (step_is _ _ _ _ _ _ _ c.min-time.ensures (rw (← c.as_slice.ensures, ← c.as_slice-2.ensures) c.moved_cars-cars.ensures.value))
+returns-clause-plant c = rw (← c.plant.view_is) (step_is _ _ _ _ _ _ _ _ c.min-time.ensures (rw (← c.as_slice.ensures, ← c.as_slice-2.ensures) c.moved_cars-cars.ensures.value))
 
 pub returns-clause-sized : goal.returns-clause-sized
 returns-clause-sized c = λ sizes of_group. subst (IsPlantOf sizes) (sym (returns-clause-plant c)) (sized_after sizes c.args.plant c.args.outputs.now of_group c.requires)

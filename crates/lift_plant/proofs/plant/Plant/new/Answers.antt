@@ -1,4 +1,4 @@
-use Rattle.std.proofs.Common.{arith, ◌≡◌, ℕ, zero, suc, map, List, pos, replicate, refl, sym, subst}
+use Rattle.std.proofs.Common.{arith, ◌≡◌, ℕ, zero, suc, map, List, pos, replicate, false, refl, sym, subst}
 use Rattle.lift_plant.specs.declared.car.Car.{Car}
 use Rattle.lift_spec.specs.Plant.{PlantState, IsPlantOf, opening_plant}
 use Rattle.lift_plant.specs.Cars.{placed}
@@ -11,7 +11,7 @@ placed_alike (suc n) car = cc (placed_alike n car)
 
 -- as many cars at floor 1, with shut doors, are a plant as it opens
 opens : (cars floors n : ℕ) (made : List Car) → made ≡ replicate n (record { place = pos 0; door = 0 }) → n ≡ cars
-    → ◌≡◌ {A = PlantState} (record { floors = floors; time = 0; run_limit = cars; cars = map placed made }) (opening_plant cars floors)
+    → ◌≡◌ {A = PlantState} (record { floors = floors; time = 0; run_limit = cars; fire = false; cars = map placed made }) (opening_plant cars floors)
 opens cars floors n made e f = cc (placed_alike n (record { place = pos 0; door = 0 }))
 
 pub returns-clause-plant : goal.returns-clause-plant
