@@ -270,7 +270,7 @@ ordered_short : (cars floors slots : ℤ) → cars ≤ℤ pos 64 → slots ≤�
 ordered_short cars floors slots few less =
     let car = short_row cars few in
     let slot = short_row slots less in
-    (tt, (tt, (tt, (tt, (tt, (slot, (slot, (slot, (slot, (tt, (tt, (tt, (tt, (tt, (tt, (tt, (car, (car, (tt, (tt, (tt, (slot, tt))))))))))))))))))))))
+    (tt, (tt, (tt, (tt, (tt, (tt, (slot, (slot, (slot, (slot, (tt, (tt, (tt, (tt, (tt, (tt, (tt, (car, (car, (tt, (tt, (tt, (slot, tt)))))))))))))))))))))))
 
 module _ (c : Config) (unbroken : HasNoFault (Broken Declaring c)) (u : ProgramUnit) where
   pub image_apart : seen_among c u (ordered c.cars.value c.floors.value c.slots.value) ≡ seen_image c u
