@@ -343,6 +343,7 @@ fn copied(fields: &Fields) -> Fields
     Fields {
         time: fields.time,
         run_limit: fields.run_limit,
+        fire: fields.fire,
         cars: Row::from_slice(fields.cars.as_slice()),
     }
 }

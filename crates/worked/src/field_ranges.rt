@@ -15,6 +15,7 @@ fn fields(pos: u8, run_limit: u8, time: u32) -> Fields {
     Fields {
         time,
         run_limit,
+        fire: false,
         cars,
     }
 }

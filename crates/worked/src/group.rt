@@ -76,6 +76,7 @@ fn fields(run_limit: u8, cars: u8, pos: u8) -> Fields {
     Fields {
         time: 0,
         run_limit,
+        fire: false,
         cars: if cars == 1 {
             Row::from_slice(&both[..1])
         } else {

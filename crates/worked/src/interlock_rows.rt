@@ -39,6 +39,7 @@ fn one_car(motor: Motor, locked: bool) -> Image
         fields: Fields {
             time: 0,
             run_limit: 1,
+            fire: false,
             cars,
         },
         outputs,
@@ -60,6 +61,7 @@ fn two_cars(first: Motor, second: Motor, run_limit: u8) -> Image
         fields: Fields {
             time: 0,
             run_limit,
+            fire: false,
             cars,
         },
         outputs,
@@ -101,6 +103,42 @@ fn commits(rt: HostRuntime) {
     assert!(rt; first.outputs == running(Motor::Still));
     assert!(rt; first.denials.as_slice() == [Rule::Crowded].as_slice());
     commit_keeps_obeying();
+}
+
+// The same while FIRE holds, where one may run, with car 1 at the top or not.
+fn two_under_fire(first: Motor, second: Motor, top: bool) -> Image
+    ensures cars { length result.fields.cars ≡ 2 }
+    ensures outputs { length result.outputs ≡ 2 }
+{
+    let mut cars = Row::new();
+    cars.push(CarFields { top, ..car(true) });
+    cars.push(car(true));
+    let Image { outputs, .. } = two_cars(first, second, 1);
+    Image {
+        fields: Fields {
+            time: 0,
+            run_limit: 1,
+            fire: true,
+            cars,
+        },
+        outputs,
+    }
+}
+
+#[test]
+fn commits_under_fire(rt: HostRuntime) {
+    // Up while as many run as may: by 6, which comes before 5; at the top by 3, which comes before 6.
+    for (top, rule) in [(false, Rule::Fire), (true, Rule::AtEnd)] {
+        let image = two_under_fire(Motor::Still, Motor::Down, top);
+        let settled = settle_car(&image, 1, Motor::Up, false);
+        assert!(rt; settled.outputs == running(Motor::Still));
+        assert!(rt; settled.denials.as_slice() == [rule].as_slice());
+    }
+    // Down is granted.
+    let image = two_under_fire(Motor::Still, Motor::Still, false);
+    let settled = settle_car(&image, 1, Motor::Down, false);
+    assert!(rt; settled.outputs == running(Motor::Down));
+    assert!(rt; settled.denials.as_slice().is_empty());
 }
 
 #[test]
