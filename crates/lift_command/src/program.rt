@@ -4,11 +4,11 @@ ghost use Rattle.std.specs.Prelude.{◌≡◌, ◌⊎◌, true, map, string_byte
 ghost use Rattle.std.specs.Io.KnownBytes.{Appends, Keeps};
 ghost use Rattle.lift_shell.specs.Runs.{IsOutcome, HasWritten, HasTold};
 ghost use Rattle.lift_command.specs.Runs.{IsTextOutcome};
-ghost use Rattle.lift_host.specs.Writes.{Writes, AppendsFront};
+ghost use Rattle.lift_sink.specs.Writes.{Writes, AppendsFront};
 
 use crate::liftplc::Liftplc;
 use lift_host::files::TextFiles;
-use lift_host::sink::Sink;
+use lift_sink::sink::Sink;
 use lift_host::status::Status;
 use lift_shell::entry;
 use lift_shell::entry::Outcome;

@@ -1,4 +1,3 @@
 pub mod Messages
 pub mod Requests
-pub mod Writes
 pub mod Presses

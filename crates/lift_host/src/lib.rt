@@ -5,5 +5,4 @@
 pub mod files;
 pub mod press;
 pub mod request;
-pub mod sink;
 pub mod status;

@@ -2,12 +2,12 @@
 
 ghost use Rattle.std.specs.Prelude.{◌≡◌, ◌⊎◌, ◌++◌, true, IfOk, IfErr, OnOk, OnErr, decimal, string_bytes};
 ghost use Rattle.std.specs.Io.KnownBytes.{Appends, Keeps};
-ghost use Rattle.lift_host.specs.Writes.{Writes, AppendsFront};
+ghost use Rattle.lift_sink.specs.Writes.{Writes, AppendsFront};
 ghost use Rattle.lift_host.specs.Messages.{message_of, status_of, code_of};
 
 use crate::files::ReadFault;
 use crate::press::PressFault;
-use crate::sink::{Sink, SinkFault, put_all};
+use lift_sink::sink::{Sink, SinkFault, put_all};
 use il_spec::fault::Refusal;
 use itoa::Buffer;
 use std::alloc::AllocError;

@@ -3,7 +3,7 @@
 use crate::commands::Commands;
 use crate::run::run;
 use lift_host::files::{Disk, TextFiles};
-use lift_host::sink::{Memory, Stream};
+use lift_sink::sink::{Memory, Stream};
 use lift_host::status::{Fault, Status, show};
 use std::alloc::Global;
 use std::process::ExitCode;

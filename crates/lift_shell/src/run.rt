@@ -3,13 +3,13 @@
 ghost use Rattle.std.specs.Prelude.{◌≡◌, ◌≢◌, ◌⊎◌, Err, true, map, string_bytes};
 ghost use Rattle.std.specs.Io.KnownBytes.{Appends, Keeps};
 ghost use Rattle.lift_shell.specs.Runs.{IsOutcome, IsFileOutcome, IsWordsOutcome, HasWritten, HasTold};
-ghost use Rattle.lift_host.specs.Writes.{Writes, AppendsFront};
+ghost use Rattle.lift_sink.specs.Writes.{Writes, AppendsFront};
 
 use crate::commands::Commands;
 use lift_help::command::{Answer, answer_of};
 use lift_host::files::TextFiles;
 use lift_host::request::{Request, asked};
-use lift_host::sink::Sink;
+use lift_sink::sink::Sink;
 use lift_host::status::{Fault, Status, show};
 use std::alloc::Global;
 

@@ -1,7 +1,7 @@
 use Rattle.std.proofs.Common.{map, string_bytes}
 use Rattle.std.specs.Io.KnownBytes.{Appends}
 use Rattle.lift_shell.specs.Runs.{IsOutcome}
-use Rattle.lift_host.specs.Writes.{Writes, AppendsFront}
+use Rattle.lift_sink.specs.Writes.{Writes, AppendsFront}
 use Rattle.lift_shell.proofs.Ending.{done_of, front_of, told_of}
 use Rattle.lift_shell.proofs.run.run.Goals as goal
 
