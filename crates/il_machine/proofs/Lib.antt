@@ -1,6 +1,7 @@
 pub mod Nested
 pub mod Over
 pub mod Scans
+pub mod Values
 pub mod Owned
 pub mod Keeping
 pub mod Reading

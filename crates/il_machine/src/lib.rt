@@ -4,6 +4,7 @@
 mod globals;
 mod outputs;
 pub mod rows;
+pub mod scanned;
 mod seats;
 mod sharing;
 pub mod store;
@@ -14,5 +15,6 @@ pub use il_exec::rows::Rows;
 pub use il_image::opening_image;
 pub use il_run::value::Value;
 pub use rows::variable;
-pub use store::{Stepped, Store, scan, step};
+pub use scanned::{OpenScan, Scanned, scan};
+pub use store::{Stepped, Store, finish, step};
 pub use verified::{TaskInfo, UnitInfo, Verified};

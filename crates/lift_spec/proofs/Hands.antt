@@ -10,7 +10,7 @@ use Rattle.std.specs.Int.{bit_at, bit_not, w16, trailing_zeros}
 use Rattle.std.specs.Int.RustNames.{bit_or}
 use Rattle.std.specs.Prelude.{bit_and}
 use Rattle.lift_spec.specs.declared.calls.Call.{Call}
-use Rattle.lift_spec.specs.Hands.{same_call, is_before, has_call, with_call, is_from, has_from, calls_from, calls_not_from, with_calls, mask_of, calls_of_bits, calls_of_words_from, calls_of_words, IsWords, HasWord, IsBlankBefore, IsLowestBit}
+use Rattle.lift_spec.specs.Hands.{same_call, is_before, has_call, with_call, is_from, has_from, calls_from, calls_not_from, with_calls, mask_of, calls_of_bits, calls_of_words_from, calls_of_words, IsWords, HasWord, IsBlankBefore, IsLowestBit, IsInOrder}
 use Rattle.lift_spec.specs.Words.{call, Every, every_bits, every_word, calls_from_words}
 
 -- SETS IN PARTS
@@ -351,3 +351,31 @@ one_taken (first ∷ calls) call e = cc
 pub none_taken : (calls : List Call) → slice_get calls 0 ≡ None → calls ≡ []
 none_taken [] e = refl
 none_taken (first ∷ calls) e = absurd (cc)
+
+-- THE ORDER
+
+first_order : (x : Call) (xs : List Call) → Every (λ y. is_before x y ≡ true) xs → IsInOrder xs → IsInOrder (x ∷ xs)
+first_order x [] before order = (tt, tt)
+first_order x (y ∷ xs) before order = (before.0, order)
+
+bits_order : (count from to word : ℕ) → IsInOrder (calls_of_bits count from to word)
+unfolding calls_of_bits
+bits_order zero from to word = tt
+bits_order (suc count) from to word =
+    let rest = bits_order count from (to + 1) (word / 2) in
+    cond_both (eqb (word % 2) 1) _ _ IsInOrder
+    (λ e. first_order (call from to) (calls_of_bits count from (to + 1) (word / 2)) (every_bits (λ y. is_before (call from to) y ≡ true) count from (to + 1) (word / 2) (λ k above. or_right _ _ (and_from _ _ (eqb_same from) (lt-ltb to k (omega arith))))) rest)
+    (λ e. rest)
+
+orders_append : (xs ys : List Call) → IsInOrder xs → IsInOrder ys → Every (λ x. Every (λ y. is_before x y ≡ true) ys) xs → IsInOrder (xs ++ ys)
+orders_append [] ys h k all = k
+orders_append (x ∷ []) ys h k all = first_order x ys all.0 k
+orders_append (x ∷ z ∷ xs) ys h k all = (h.0, orders_append (z ∷ xs) ys h.1 k all.1)
+
+-- the calls of words stand in the order of (from, to)
+pub words_order : (from : ℕ) (words : List ℕ) → IsInOrder (calls_of_words_from from words)
+unfolding calls_of_words_from
+words_order from [] = tt
+words_order from (word ∷ words) =
+    orders_append (calls_of_bits 16 from 1 word) (calls_of_words_from (from + 1) words) (bits_order 16 from 1 word) (words_order (from + 1) words)
+    (every_bits (λ x. Every (λ y. is_before x y ≡ true) (calls_of_words_from (from + 1) words)) 16 from 1 word (λ k above. every_word (λ y. is_before (call from k) y ≡ true) (from + 1) words (λ f t high. or_left _ _ (lt-ltb from f (omega arith)))))

@@ -17,7 +17,7 @@ ghost use Rattle.lift_spec.specs.declared.event.Event.TheVariants as event;
 
 use crate::replies::Replies;
 use crate::shared::Core;
-use il_machine::{Stepped, Store, Verified, scan, step};
+use il_machine::{Stepped, Store, Verified, finish, step};
 use il_spec::pair::both;
 use lift_image::{Fields, in_range, is_floor};
 use lift_spec::calls::Call;
@@ -119,21 +119,21 @@ fn run_out(verified: &Verified, task: u8, store: &mut Option<Store>) -> Result<u
             if store.has_ended(verified, task) {
                 return Err(EventFault::NoOpenScan);
             }
-            Ok(scan(verified, task, store))
+            Ok(finish(verified, task, store))
         }
         None => unreachable!(),
     }
 }
 
-// What a group opens with beside its configuration: what its tasks share, and a store for each task.
+/// What a group opens with beside its configuration: what its tasks share, and a store for each task.
 #[derive(Drop)]
-struct Opened {
-    core: Core,
-    stores: Vec<Option<Store>>,
+pub struct Opened {
+    pub core: Core,
+    pub stores: Vec<Option<Store>>,
 }
 
-// What a group of a configuration opens with.
-fn opening(alloc: Global, verified: &Verified) -> Result<Opened, AllocError>
+/// What a group of a configuration opens with.
+pub fn opening(alloc: Global, verified: &Verified) -> Result<Opened, AllocError>
     ensures group { IfOk result (λ o. group_in verified.now.config o.core ≡ model.opening_group verified.now.config) }
     ensures many { IfOk result (λ o. length o.stores.items ≡ suc (sizes_of verified.now.config).cars) }
     ensures rows { IfOk result (λ o. CoreFits verified.now.config o.core) }

@@ -2,9 +2,9 @@
 #![tactic(auto)]
 
 mod calling;
-mod controller;
+pub mod controller;
 mod replies;
-mod shared;
+pub mod shared;
 mod world;
 
 pub use il_machine::Verified;

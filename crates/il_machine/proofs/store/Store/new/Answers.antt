@@ -7,9 +7,15 @@ pub opened-requires-clause-rows : goal.opened-requires-clause-rows
 opened-requires-clause-rows c =
     let u = c.requires.there.0 in
     let is = c.requires.there.1 in
-    (u, is, record { numbers = c.in_ok-rows.ensures.numbers ∙ c.slot_count.ensures.count u is.program; flags = c.in_ok-rows.ensures.flags ∙ c.slot_count.ensures.count u is.program })
+    (u, is, record { numbers = c.in_ok-rows.ensures.numbers ∙ c.slot_count-count.ensures.count u is.program; flags = c.in_ok-rows.ensures.flags ∙ c.slot_count-count.ensures.count u is.program })
 
 pub opened-requires-clause-shared : goal.opened-requires-clause-shared
 opened-requires-clause-shared c =
     let runs = c.config-config.ensures.runnable in
     subst (HoldGlobals c.args.verified.now.config) (sym c.in_ok-globals.ensures.opening) (globals_open c.args.verified.now.config runs.written runs.declared)
+
+pub opened-requires-clause-first : goal.opened-requires-clause-first
+opened-requires-clause-first c =
+    let u = c.requires.there.0 in
+    let is = c.requires.there.1 in
+    (u, is, record { numbers = c.in_ok-first.ensures.numbers ∙ c.slot_count-count.ensures.count u is.program; flags = c.in_ok-first.ensures.flags ∙ c.slot_count-count.ensures.count u is.program })

@@ -1,4 +1,7 @@
-use Rattle.std.proofs.Common.{ap, arith}
+use Rattle.std.proofs.Common.{ap, ◌∙◌, sym, length, arith}
+use Rattle.il_spec.specs.declared.tree.Unit.{Unit as ProgramUnit}
+use Rattle.il_slots.specs.Program.{program_cells}
+use Rattle.il_machine.proofs.Restarts.{same_unit}
 use Rattle.lift_spec.specs.declared.image.Sizes.{Sizes}
 use Rattle.il_machine.proofs.Opened.{opening_in}
 use Rattle.il_machine.proofs.Sizes.{few_cars}
@@ -9,3 +12,9 @@ opening_image-image-requires c = let most = few_cars c.args.verified.now.config 
 
 pub begin-requires-clause-fields : goal.begin-requires-clause-fields
 begin-requires-clause-fields c = (opening_in c.args.verified.now.config c.config-config.ensures.runnable c.opening_image-image.result c.sizes.result c.sizes.ensures c.opening_image-image.ensures).0
+
+pub invariant_of-store : goal.invariant_of-store
+invariant_of-store c =
+    let config = c.args.verified.now.config in
+    let same = ap (λ (u : ProgramUnit). length (program_cells config u)) (same_unit config c.args.task c.requires.first.0 c.requires.rows.0 c.requires.first.1 c.requires.rows.1) in
+    (c.requires.first.2.numbers ∙ same ∙ sym c.requires.rows.2.numbers, c.requires.first.2.flags ∙ same ∙ sym c.requires.rows.2.flags)

@@ -1,0 +1,214 @@
+// The book of one owner.
+
+ghost use Rattle.std.specs.Prelude.{◌≡◌, ◌++◌, ◌∷◌, [], map, Some, IfOk, IfErr, OnOk, OnErr};
+ghost use Rattle.il_run.specs.NameMap as values;
+ghost use Rattle.lift_spec.specs.Calls.{told_car};
+ghost use Rattle.il_machine.specs.Scanning.{HasTask, IsScanOf};
+ghost use Rattle.il_machine.specs.Scanned.{Begins, stands};
+ghost use Rattle.lift_spec.specs.Image.{sizes_of, Obeys};
+ghost use Rattle.lift_spec.specs.Replies.{Started, Committed, Refreshed};
+ghost use Rattle.lift_spec.specs.World.{opening, InRanges};
+ghost use Rattle.lift_spec.specs.declared.report.EnteredCall.{EnteredCall as EnteredOf};
+ghost use Rattle.lift_journal.specs.Journal.{AllCalls};
+ghost use Rattle.lift_journal.specs.Pages.{Adds, Kept};
+ghost use Rattle.lift_spec.specs.declared.journal.Entry.TheVariants as entry;
+ghost use Rattle.lift_journal.specs.declared.fault.StationFault.TheVariants.{NotOpen};
+ghost use Rattle.lift_book.specs.Ledgers.{page_of, start_fault, full_fault, refresh_fault, fault_of, fault_in, SnappedNow, IsOpenHere};
+
+use crate::ledger::Ledger;
+use il_machine::{OpenScan, Scanned, Store, Value, Verified};
+use lift_image::{Fields, Image, Row};
+use lift_journal::fault::StationFault;
+use lift_spec::journal::Entry;
+use lift_spec::calls::Slot;
+use lift_spec::hand::Hand;
+use lift_spec::report::Report;
+use std::alloc::{AllocError, Global};
+use std::marker::Model;
+
+/// A group beside the journal of what was done to it. Its owner starts and commits scans, and refreshes the image; each is one entry.
+#[derive(Drop)]
+pub struct Book {
+    ledger: Ledger,
+}
+
+impl Model for Book {
+    ghost use Rattle.lift_book.specs.declared.ledger.Ledger.{Ledger as LedgerOf};
+    ghost use Rattle.lift_book.specs.contracts.ledger.Ledger as row;
+    ghost use Rattle.lift_book.specs.Ledgers.{IsLedger};
+
+    ghost Value = { LedgerOf };
+
+    ghost coded = { row.the_row.coded };
+
+    ghost view = { λ b. b.ledger };
+
+    ghost invariant = { λ b. IsLedger b.ledger };
+}
+
+impl Book {
+    /// The book of a program, in its opening world, with room for so many entries in its journal.
+    pub fn new(alloc: Global, verified: &Verified, capacity: usize) -> Result<Book, AllocError>
+        ensures page { IfOk result (λ b. page_of b ≡ record { config = verified.now.config; capacity = capacity; journal = []; world = opening verified.now.config }) }
+        ensures program { IfOk result (λ b. b.program.value ≡ verified.now) }
+    {
+        let ledger = Ledger::new(alloc, verified, capacity)?;
+        Ok(Book { ledger })
+    }
+
+    /// What is kept: the journal runs from the opening world to this one, whose image lies in its ranges and obeys the interlock.
+    pub fn runs(&self)
+        ensures kept { Kept (page_of self.now) }
+        ensures ranges { InRanges (page_of self.now).config (page_of self.now).world.group }
+        ensures obeys { Obeys (page_of self.now).world.group.image }
+    {
+        let _capacity = self.ledger.capacity;
+    }
+
+    /// Start: the scan of a task begins, in this store of the task. No allocation.
+    pub fn start(
+        &mut self,
+        verified: &Verified,
+        task: u8,
+        store: Store,
+    ) -> Result<OpenScan, (StationFault, Store)>
+        requires program { verified.now ≡ self.old.program.value }
+        requires there { HasTask verified.now.config task }
+        requires scan { IsScanOf verified.now.config task store }
+        ensures fault { fault_of result ≡ start_fault (page_of self.old) task }
+        ensures done { OnOk result (Adds (page_of self.old) (entry.Start task) Started (page_of self.new)) }
+        ensures begins { IfOk result (λ o. (o.task ≡ task) × Begins verified.now.config task o.store × SnappedNow (page_of self.old) task (stands verified.now.config task o.store)) }
+        ensures refused { IfErr result (λ r. (self.new ≡ self.old) × (r.1 ≡ store)) }
+        ensures same { self.new.program ≡ self.old.program }
+    {
+        self.ledger.start(verified, task, store)
+    }
+
+    /// Commit: a scan that was run is, by value, what is open of this task, and hands over what it left. No allocation.
+    pub fn commit<'v>(
+        &mut self,
+        verified: &Verified,
+        task: u8,
+        scanned: Scanned<'v>,
+        report: &mut Report,
+    ) -> Result<Store, (StationFault, Scanned<'v>)>
+        requires { verified.now ≡ self.old.program.value }
+        ensures open { IsOpenHere (page_of self.old) task scanned.entry → fault_of result ≡ full_fault (page_of self.old) }
+        ensures other { ¬ (IsOpenHere (page_of self.old) task scanned.entry) → fault_of result ≡ Some NotOpen }
+        ensures mine { OnOk result (IsOpenHere (page_of self.old) task scanned.entry) }
+        ensures done { IfOk result (λ s. Adds (page_of self.old) (entry.Commit task) (Committed report.new) (page_of self.new) × (s ≡ scanned.entry.last)) }
+        ensures refused { IfErr result (λ r. (self.new ≡ self.old) × (report.new ≡ report.old) × (r.1 ≡ scanned.entry)) }
+        ensures same { self.new.program ≡ self.old.program }
+    {
+        self.ledger.commit(verified, task, scanned, report)
+    }
+
+    /// Refresh: the image takes the fields, and the first calls of the hand enter. No allocation.
+    pub fn refresh(
+        &mut self,
+        verified: &Verified,
+        fields: Fields,
+        hand: &mut Hand,
+        report: &mut Report,
+    ) -> Result<(), StationFault>
+        requires program { verified.now ≡ self.old.program.value }
+        requires calls { AllCalls (sizes_of verified.now.config) hand.old }
+        ensures fault { fault_in result ≡ refresh_fault (page_of self.old) fields }
+        ensures done { OnOk result (Adds (page_of self.old) (entry.Refresh fields (map (λ (d : EnteredOf). d.call) report.new.entered)) (Refreshed report.new) (page_of self.new)) }
+        ensures hand { OnOk result (hand.old ≡ map (λ (d : EnteredOf). d.call) report.new.entered ++ hand.new) }
+        ensures refused { OnErr result ((self.new ≡ self.old) × (hand.new ≡ hand.old) × (report.new ≡ report.old)) }
+        ensures same { self.new.program ≡ self.old.program }
+    {
+        self.ledger.refresh(verified, fields, hand, report)
+    }
+
+    /// The image.
+    pub fn image(&self) -> &Image
+        ensures { result.now ≡ (page_of self.now).world.group.image }
+    {
+        self.ledger.core.image()
+    }
+
+    /// The journal.
+    pub fn journal(&self) -> &[Entry]
+        ensures { result.now ≡ (page_of self.now).journal }
+    {
+        self.ledger.journal.as_slice()
+    }
+
+    /// A copy of the image.
+    pub fn copied_image(&self) -> Image
+        ensures { result ≡ (page_of self.now).world.group.image }
+    {
+        let image = self.ledger.core.image();
+        let _fits = image.outputs.len();
+        Image {
+            fields: copied(&image.fields),
+            outputs: Row::from_slice(image.outputs.as_slice()),
+        }
+    }
+
+    /// The call slots, slot 1 first.
+    pub fn slots(&self) -> &[Slot]
+        ensures { result.now ≡ (page_of self.now).world.group.calls.slots }
+    {
+        self.ledger.core.slots()
+    }
+
+    /// The car to which a slot is told under a ticket, if there is one.
+    pub fn told(&self, ticket: u64) -> Option<u8>
+        ensures { result ≡ told_car ticket (page_of self.now).world.group.calls.slots }
+    {
+        told_car(self.slots(), ticket)
+    }
+
+    /// The value of a global, as the last commit left it.
+    pub fn global(&self, verified: &Verified, path: &str) -> Option<Value>
+        requires { verified.now ≡ self.now.program.value }
+        ensures { result ≡ values.get (page_of self.now).world.group.globals path.now }
+    {
+        self.ledger.core.global(verified, path)
+    }
+}
+
+// A copy of fields.
+fn copied(fields: &Fields) -> Fields
+    ensures { result ≡ fields.now }
+{
+    let _fits = fields.cars.len();
+    Fields {
+        time: fields.time,
+        run_limit: fields.run_limit,
+        cars: Row::from_slice(fields.cars.as_slice()),
+    }
+}
+
+// The car to which a slot is told under a ticket, if there is one.
+fn told_car(slots: &[Slot], ticket: u64) -> Option<u8>
+    ensures { result ≡ told_car ticket slots.now }
+{
+    for slot in slots {
+        if let Some(car) = told_under(slot, ticket) {
+            return Some(car);
+        }
+    }
+    None
+}
+
+// The car to which a slot is told under this ticket.
+fn told_under(slot: &Slot, ticket: u64) -> Option<u8>
+    ensures { result ≡ told_car ticket (slot.now ∷ []) }
+{
+    match slot {
+        Slot::Told {
+            ticket: other, car, ..
+        } => {
+            if *other == ticket {
+                Some(*car)
+            } else {
+                None
+            }
+        }
+        _ => None,
+    }
+}
