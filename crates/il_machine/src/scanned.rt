@@ -9,6 +9,7 @@ use crate::store::Store;
 use crate::verified::Verified;
 use il_exec::Store as Scan;
 use il_exec::rows::Rows;
+use il_run::value::Value;
 use il_same::same::Same;
 use il_slots::flat::Cell;
 use std::marker::Model;
@@ -95,12 +96,32 @@ pub fn scan<'v>(verified: &'v Verified, begun: OpenScan) -> Scanned<'v>
     }
 }
 
+// Whether two slots hold the same.
+fn is_same(one: Option<Value>, other: Option<Value>) -> bool
+    ensures { (result ≡ true) ↔ (one ≡ other) }
+{
+    match one {
+        None => match other {
+            None => true,
+            _ => false,
+        },
+        Some(Value::Boolean(one)) => match other {
+            Some(Value::Boolean(other)) => one == other,
+            _ => false,
+        },
+        Some(Value::Integer(one)) => match other {
+            Some(Value::Integer(other)) => one == other,
+            _ => false,
+        },
+    }
+}
+
 // Whether rows hold the same value at each slot.
 fn same_values(rows: &Rows, others: &Rows, cells: &[Cell]) -> bool
     ensures { (result ≡ true) ↔ HaveSameValues cells.now rows.now others.now }
 {
     for slot in 0..cells.len() {
-        if value(rows, cells, slot) != value(others, cells, slot) {
+        if !is_same(value(rows, cells, slot), value(others, cells, slot)) {
             return false;
         }
     }
