@@ -41,8 +41,8 @@ external_cells c u = entity_cells (instance_cells zero c) [] (entities u.externa
 
 -- how many slots of the image a task sees; they stand behind the externals
 abbrev pub image_count : Sizes → ℕ → ℕ
-image_count z zero = 5 + 4 * z.slots + (2 * z.cars + z.slots)
-image_count z (suc k) = 5 + 4 * z.slots + 10
+image_count z zero = 6 + 4 * z.slots + (2 * z.cars + z.slots)
+image_count z (suc k) = 6 + 4 * z.slots + 10
 
 -- the cells behind the first ones and before the last ones
 abbrev pub between : ℕ → ℕ → List Cell → List Cell

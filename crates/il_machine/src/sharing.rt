@@ -24,7 +24,7 @@ pub struct Transfer {
 pub fn image_count(sizes: Sizes, task: u8) -> usize
     ensures { result ≡ image_count sizes task }
 {
-    let common = 5 + 4 * (sizes.slots as usize);
+    let common = 6 + 4 * (sizes.slots as usize);
     if task == 0 {
         common + (2 * (sizes.cars as usize) + (sizes.slots as usize))
     } else {
