@@ -181,16 +181,16 @@ given_count c sized zero =
     let d = length-append (places c ++ motors c) (assigns c) in
     let e = length-append (places c) (motors c) in
     let n = calls_count c sized in
-    let five : length (firsts c) ≡ 5 = refl in
+    let six : length (firsts c) ≡ 6 = refl in
     let p : length (places c) ≡ (sizes_of c).cars = row_count _ c.cars.value _ sized.cars in
     let m : length (motors c) ≡ (sizes_of c).cars = row_count _ c.cars.value _ sized.cars in
-    let s : length (assigns c) ≡ (sizes_of c).slots = row_count _ c.slots.value _ sized.slots in omega (arith, a, b, d, e, n, five, p, m, s)
+    let s : length (assigns c) ≡ (sizes_of c).slots = row_count _ c.slots.value _ sized.slots in omega (arith, a, b, d, e, n, six, p, m, s)
 given_count c sized (suc k) =
     let a = length-append (firsts c ++ calls c) (fields c ++ outputs c) in
     let b = length-append (firsts c) (calls c) in
     let n = calls_count c sized in
-    let five : length (firsts c) ≡ 5 = refl in
-    let ten : length (fields c ++ outputs c) ≡ 10 = refl in omega (arith, a, b, n, five, ten)
+    let six : length (firsts c) ≡ 6 = refl in
+    let ten : length (fields c ++ outputs c) ≡ 10 = refl in omega (arith, a, b, n, six, ten)
 
 -- THE FIRST SLOT OF A PATH
 
