@@ -61,7 +61,7 @@ pub runs_reach : (c : Config) (entries : List Entry) (w v : World) → IsReached
 runs_reach c [] w v reached same = subst (IsReached c) same reached
 runs_reach c (e ∷ entries) w v reached (m, answer, step, rest) = runs_reach c entries m v (goes_on c w m [] (step.replies ++ answer ∷ []) (events_of step.instructions e) reached step.happens) rest
 
-opening_reached : (c : Config) → IsReached c (opening c)
+pub opening_reached : (c : Config) → IsReached c (opening c)
 opening_reached c = record { events = []; replies = []; is = refl }
 
 pub journal_reaches : (c : Config) (entries : List Entry) (w : World) → IsJournalOf c entries w → IsReached c w
@@ -80,10 +80,10 @@ pub record Puts (w v : World) (u : ℕ) (now : Bool) : Type 0 where
   pub own : is_some (scan_at v u) ≡ now
   pub others : (t : ℕ) → (t ≡ u → ⊥) → scan_at v t ≡ scan_at w t
 
-abbrev Led : World → Reply → Next
+abbrev pub Led : World → Reply → Next
 Led v r = Ok (v, r)
 
-same_world : (a b : World) (r q : Reply) → Led a r ≡ Led b q → (a ≡ b) × (r ≡ q)
+pub same_world : (a b : World) (r q : Reply) → Led a r ≡ Led b q → (a ≡ b) × (r ≡ q)
 same_world a b r q e = let pair : ◌≡◌ {A = World × Reply} (a, r) (b, q) = cc in (ap (λ x. x.0) pair, ap (λ x. x.1) pair)
 
 refused : {A : Type 0} (w v : World) (fault : EventFault) (r : Reply) → Led w (Refused fault) ≡ Led v r → IsAccepted r → A
@@ -134,7 +134,7 @@ ended_of (Some x) = has_ended x
 
 -- RUNS OF THE EVENTS OF AN ENTRY
 
-abbrev Ends : Config → World → List Reply → List Event → World → List Reply → Type 0
+abbrev pub Ends : Config → World → List Reply → List Event → World → List Reply → Type 0
 Ends c w earlier events v all = run c w earlier events ≡ Ok (v, all)
 
 accepted_right : (xs ys : List Reply) → AreAccepted (xs ++ ys) → AreAccepted ys
@@ -149,14 +149,14 @@ extends c w v earlier all events is =
     (more.0, ap (λ x. x.1) (sym (same_end v v (earlier ++ more.0) all same)))
 
 -- A run that ends takes its first event, which is accepted where all are, and goes on.
-record Goes_on (c : Config) (w v : World) (earlier all : List Reply) (e : Event) (events : List Event) : Type 0 where
+pub record Goes_on (c : Config) (w v : World) (earlier all : List Reply) (e : Event) (events : List Event) : Type 0 where
   pub next : World
   pub reply : Reply
   pub happens : happens c w e ≡ Led next reply
   pub rest : Ends c next (earlier ++ reply ∷ []) events v all
   pub accepted : IsAccepted reply
 
-takes_first : (c : Config) (w v : World) (earlier all : List Reply) (e : Event) (events : List Event) → Ends c w earlier (e ∷ events) v all → AreAccepted all → Goes_on c w v earlier all e events
+pub takes_first : (c : Config) (w v : World) (earlier all : List Reply) (e : Event) (events : List Event) → Ends c w earlier (e ∷ events) v all → AreAccepted all → Goes_on c w v earlier all e events
 takes_first c w v earlier all e events is accepted = by (happens c w e) refl is
   where
     by : (n : Next) → happens c w e ≡ n → and_then n (λ m. run c m.0 (earlier ++ m.1 ∷ []) events) ≡ Ok (v, all) → Goes_on c w v earlier all e events
@@ -167,7 +167,7 @@ takes_first c w v earlier all e events is accepted = by (happens c w e) refl is
         let back : AreAccepted (m.1 ∷ more.0) = accepted_right earlier (m.1 ∷ more.0) (subst AreAccepted (append_assoc earlier (m.1 ∷ []) more.0) here) in
         record { next = m.0; reply = m.1; happens = h; rest = is; accepted = back.0 }
 
-ended_run : (c : Config) (w v : World) (earlier all : List Reply) → Ends c w earlier [] v all → w ≡ v
+pub ended_run : (c : Config) (w v : World) (earlier all : List Reply) → Ends c w earlier [] v all → w ≡ v
 ended_run c w v earlier all is = ap (λ p. p.0) (same_end w v earlier all is)
 
 happens_instruction : (c : Config) (w v : World) (u : ℕ) (r : Reply) → happens c w (Instruction u) ≡ Led v r → IsAccepted r → (is_some (scan_at w u) ≡ true) × Puts w v u true
