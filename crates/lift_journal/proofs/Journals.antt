@@ -186,7 +186,7 @@ happens_start c w v u r place e h = start_puts c w v u r (task_at w.group u) (sc
 puts_both : (w m v : World) (u : ℕ) (a b : Bool) → Puts w m u a → Puts m v u b → Puts w v u b
 puts_both w m v u a b first next = record { own = next.own; others = λ t other. next.others t other ∙ first.others t other }
 
-commit_run : (c : Config) (n : ℕ) (w v : World) (u : ℕ) (earlier all : List Reply) → Ends c w earlier (replicate n (Instruction u) ++ Commit u ∷ []) v all → AreAccepted all → (is_some (scan_at w u) ≡ true) × Puts w v u false
+pub commit_run : (c : Config) (n : ℕ) (w v : World) (u : ℕ) (earlier all : List Reply) → Ends c w earlier (replicate n (Instruction u) ++ Commit u ∷ []) v all → AreAccepted all → (is_some (scan_at w u) ≡ true) × Puts w v u false
 commit_run c zero w v u earlier all is accepted =
     let g = takes_first c w v earlier all (Commit u) [] is accepted in
     subst (λ x. (is_some (scan_at w u) ≡ true) × Puts w x u false) (ended_run c g.next v _ all g.rest) (happens_commit c w g.next u g.reply g.happens g.accepted)
@@ -264,7 +264,7 @@ by_task w v u t now p = by (same_or_other u t)
     by (inl same) = rw same.1 (subst (λ k. is_some (scan_at v k) ≡ now) same.0 p.own)
     by (inr other) = rw other.1 (ap is_some (p.others t (λ e. other.0 (sym e))))
 
-has_place : (c : Config) → IsSound c → (w : World) → IsReached c w → (u : ℕ) (task : TaskState) → task_at w.group u ≡ Some task → u < length w.scans
+pub has_place : (c : Config) → IsSound c → (w : World) → IsReached c w → (u : ℕ) (task : TaskState) → task_at w.group u ≡ Some task → u < length w.scans
 has_place c sound w reached u task is =
     let holds : (steps : ℕ → ℕ) × WorldHolds c steps w = reached_world_holds c (opens_well c sound) (scans_well c sound) w reached in
     let seat : TaskHolds c u (holds.0 u) task (scan_at w u) = subst (λ x. SeatHolds c u (holds.0 u) x (scan_at w u)) is (holds.1.each u) in

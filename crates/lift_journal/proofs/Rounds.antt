@@ -90,7 +90,7 @@ commits_clear : (c : Config) (w : World) (t : ℕ) (o : Option TaskState) → co
 commits_clear c w t None = refl
 commits_clear c w t (Some task) = commits_scan_clear c w t task (scan_at w t)
 
-start_clear : (c : Config) (w v : World) (t : ℕ) (r : Reply) → happens c w (Start t) ≡ Led v r → happens c (cleared w) (Start t) ≡ Led (cleared v) r
+pub start_clear : (c : Config) (w v : World) (t : ℕ) (r : Reply) → happens c w (Start t) ≡ Led v r → happens c (cleared w) (Start t) ≡ Led (cleared v) r
 unfolding happens
 start_clear c w v t r is = starts_clear c w t (task_at w.group t) (scan_at w t) refl ∙ ap clear_next is
 
@@ -143,7 +143,7 @@ steps_within c sound t n w v reached is =
     let count = answered_append t 0 reached.events (replicate n (Instruction t)) reached.replies (ending n) here.replies ∙ answered_steps t n (answered t 0 reached.events reached.replies) in
     omega (arith, there, count)
 
-ending_accepted : (n : ℕ) → AreAccepted (ending n)
+pub ending_accepted : (n : ℕ) → AreAccepted (ending n)
 ending_accepted zero = tt
 ending_accepted (suc zero) = (tt, tt)
 ending_accepted (suc (suc n)) = (tt, ending_accepted (suc n))
@@ -268,7 +268,7 @@ desk_leaves c calls w v h = desk_run_leaves c (desk_events c calls) w v [] h.rep
 -- REFRESH
 
 -- what an accepted refresh is
-record Refreshes (c : Config) (w v : World) (fields : Fields) (report : Report) : Type 0 where
+pub record Refreshes (c : Config) (w v : World) (fields : Fields) (report : Report) : Type 0 where
   pub inside : fields_in_range (sizes_of c) fields ≡ true
   pub group : refreshed_group w.group fields w.hand ≡ (v.group, report)
   pub scans : v.scans ≡ w.scans
@@ -286,16 +286,16 @@ refreshes_by c w v fields report true inside is =
     pair_is : (p : Group × Report) (g : Group) (r : Report) → p.0 ≡ g → p.1 ≡ r → p ≡ (g, r)
     pair_is p g r a b = ap (λ x. (x, p.1)) a ∙ ap (λ x. (g, x)) b
 
-refresh_of : (c : Config) (w v : World) (fields : Fields) (report : Report) → happens c w (Refresh fields) ≡ Led v (Refreshed report) → Refreshes c w v fields report
+pub refresh_of : (c : Config) (w v : World) (fields : Fields) (report : Report) → happens c w (Refresh fields) ≡ Led v (Refreshed report) → Refreshes c w v fields report
 unfolding happens
 refresh_of c w v fields report is = refreshes_by c w v fields report (fields_in_range (sizes_of c) fields) refl is
 
-all_calls : (sizes : Sizes) (calls : List Call) → All (IsCall sizes) calls → AllCalls sizes calls
+pub all_calls : (sizes : Sizes) (calls : List Call) → All (IsCall sizes) calls → AllCalls sizes calls
 all_calls sizes [] all = tt
 all_calls sizes (call ∷ calls) all = (All-head (IsCall sizes) call calls all, all_calls sizes calls (All-tail (IsCall sizes) call calls all))
 
 -- what a refresh reports as entered
-reports_entered : (g : Group) (fields : Fields) (hand : List Call) (after : Group) (report : Report) → refreshed_group g fields hand ≡ (after, report) → entered_calls_of report ≡ calls_entering g.calls hand
+pub reports_entered : (g : Group) (fields : Fields) (hand : List Call) (after : Group) (report : Report) → refreshed_group g fields hand ≡ (after, report) → entered_calls_of report ≡ calls_entering g.calls hand
 unfolding refreshed_group
 reports_entered g fields hand after report is = ap (λ (r : Group × Report). entered_calls_of r.1) (sym is)
 

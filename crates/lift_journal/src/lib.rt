@@ -3,6 +3,7 @@
 
 ghost use Rattle.lift_journal.specs.Laws.{JournalReaches, JournalIsWell, EntryKeeps, EntriesAlternate, RefreshEnters, CommitEnters};
 
+pub mod entered;
 pub mod fault;
 
 /// A law: a world that a journal leads to is one that a run of events leads to.
