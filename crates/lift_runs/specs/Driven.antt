@@ -1,0 +1,37 @@
+-- What drives a simulation: the presses of each round, and FIRE (own rules).
+use Rattle.std.specs.Prelude.{◌≡◌, ℕ, ◌≤◌, Bool, false, List, [], ◌∷◌, map, filter, Option, Some, None, ◌==◌, nat_le}
+use Rattle.il_spec.specs.declared.tree.Config.{Config}
+use Rattle.lift_host.specs.declared.press.Press.{Press}
+use Rattle.lift_spec.specs.declared.calls.Call.{Call}
+use Rattle.lift_spec.specs.declared.image.Sizes.{Sizes}
+use Rattle.lift_spec.specs.declared.journal.Entry.{Entry}
+use Rattle.lift_spec.specs.Calls.{IsCall}
+use Rattle.lift_spec.specs.Plant.{PlantState}
+use Rattle.lift_spec.specs.World.{World}
+use Rattle.lift_journal.specs.Journal.{IsJournalOf}
+use Rattle.lift_journal.specs.Rounds.{Rounds, cleared}
+
+-- the call of a press
+abbrev pub call_of : Press → Call
+call_of press = record { from = press.from; to = press.to }
+
+-- the calls that are pressed in a round, in the order of the presses
+abbrev pub calls_in : List Press → ℕ → List Call
+calls_in presses round = map call_of (filter (λ (p : Press). p.round == round) presses)
+
+-- each press is a call of the group
+abbrev pub ArePressed : Sizes → List Press → Type 0
+ArePressed sizes [] = Unit {0}
+ArePressed sizes (press ∷ presses) = IsCall sizes (call_of press) × ArePressed sizes presses
+
+-- whether FIRE holds in a round: from the round that is given on, if one is
+abbrev pub is_fire_in : Option ℕ → ℕ → Bool
+is_fire_in None round = false
+is_fire_in (Some first) round = nat_le first round
+
+-- The entries are the journal of so many rounds of the group with these presses, under this FIRE: a run from its opening.
+pub record IsSimulated (c : Config) (presses : List Press) (fire : Option ℕ) (rounds : ℕ) (entries : List Entry) : Type 0 where
+  pub plant : PlantState
+  pub world : World
+  pub driven : Rounds c (calls_in presses) (is_fire_in fire) rounds plant world entries
+  pub journal : IsJournalOf c entries (cleared world)

@@ -1,0 +1,6 @@
+//! Runs of a group: on its simulated plant, and along a trace.
+#![tactic(auto)]
+
+pub mod replay;
+mod scan;
+pub mod sim;

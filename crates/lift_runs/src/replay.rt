@@ -1,0 +1,62 @@
+// A trace's events, replayed.
+
+ghost use Rattle.std.specs.Prelude.{◌≡◌, OnOk, IfErr};
+ghost use Rattle.lift_journal.specs.Rounds.{Takes, TakesAll, Refuses, IsRefusedAt};
+ghost use Rattle.lift_world.specs.Running.{world_of};
+
+use crate::scan::{finish_and_commit, taken};
+use lift_image::{Fields, Row};
+use lift_spec::event::{Event, EventFault};
+use lift_spec::report::Report;
+use lift_spec::trace::TraceEvent;
+use lift_world::World;
+
+/// The first event that the world refused, by its index, and why.
+#[derive(Clone, Copy)]
+pub struct Refused {
+    pub index: usize,
+    pub fault: EventFault,
+}
+
+/// A copy of fields.
+fn copied(fields: &Fields) -> Fields
+    ensures { result ≡ fields.now }
+{
+    let _fits = fields.cars.len();
+    Fields {
+        time: fields.time,
+        run_limit: fields.run_limit,
+        fire: fields.fire,
+        cars: Row::from_slice(fields.cars.as_slice()),
+    }
+}
+
+/// One event of a trace, unless it is refused. A commit comes behind the rest of its task's scan.
+fn take(world: &mut World, event: &TraceEvent, report: &mut Report) -> Result<(), EventFault>
+    ensures taken { OnOk result (Takes world.old.verified.config (world_of world.old) event.now (world_of world.new)) }
+    ensures refused { IfErr result (Refuses world.old.verified.config (world_of world.old) event.now) }
+    ensures same { world.new.verified ≡ world.old.verified }
+{
+    match event {
+        TraceEvent::Start(task) => taken(world, &Event::Start(*task), report),
+        TraceEvent::Commit(task) => finish_and_commit(world, *task, report),
+        TraceEvent::Press(call) => taken(world, &Event::Press(*call), report),
+        TraceEvent::Gather(floor) => taken(world, &Event::Gather(*floor), report),
+        TraceEvent::Refresh(fields) => taken(world, &Event::Refresh(copied(fields)), report),
+    }
+}
+
+/// The events of a trace, one behind the other, up to the first that is refused. No allocation.
+pub fn replay(world: &mut World, events: &[TraceEvent]) -> Result<(), Refused>
+    ensures taken { OnOk result (TakesAll world.old.verified.config (world_of world.old) events.now (world_of world.new)) }
+    ensures refused { IfErr result (λ r. IsRefusedAt world.old.verified.config (world_of world.old) events.now r.index r.fault) }
+    ensures same { world.new.verified ≡ world.old.verified }
+{
+    let mut report = Report::new();
+    'events: for (index, event) in events.iter().enumerate() {
+        if let Err(fault) = take(world, event, &mut report) {
+            return Err(Refused { index, fault });
+        }
+    }
+    Ok(())
+}

@@ -1,0 +1,234 @@
+// A group on its simulated plant.
+
+ghost use Rattle.std.specs.Prelude.{◌≡◌, ◌++◌, ◌≤◌, ◌+◌, [], ◌∷◌, map, flat_map, length, Ok, OnOk, IfOk};
+ghost use Rattle.il_machine.specs.Scanning.{HasTask};
+ghost use Rattle.lift_spec.specs.declared.event.Event.TheVariants.{Press as PressOf, Gather as GatherOf, Refresh as RefreshOf};
+ghost use Rattle.lift_spec.specs.Calls.{IsCall};
+ghost use Rattle.lift_spec.specs.Image.{sizes_of, FieldsInRange};
+ghost use Rattle.lift_spec.specs.Plant.{IsPlantOf, fields_of_plant};
+ghost use Rattle.lift_spec.specs.Replies.{Refreshed};
+ghost use Rattle.lift_spec.specs.World.{happens};
+ghost use Rattle.lift_spec.specs.declared.journal.Entry.TheVariants as entry;
+ghost use Rattle.lift_journal.specs.Rounds.{Happen, ScanEach, IsRound, Rounds, desk_events, floors_rising, tasks_in_order, scan_entries, entered_calls_of};
+ghost use Rattle.lift_journal.proofs.Taking.{IsClosed};
+ghost use Rattle.lift_runs.specs.Driven.{call_of, calls_in, ArePressed, is_fire_in, IsSimulated, AreTasks, RoundsSoFar};
+ghost use Rattle.lift_world.specs.Running.{world_of};
+
+use crate::scan::scan;
+use il_machine::Verified;
+use lift_host::press::Press;
+use lift_image::{Fields, Sizes};
+use lift_journal::entered::calls_of;
+use lift_plant::plant::{Plant, plant_step};
+use lift_spec::calls::Call;
+use lift_spec::event::Event;
+use lift_spec::journal::Entry;
+use lift_spec::report::Report;
+use lift_world::World;
+use std::alloc::{AllocError, Global};
+
+/// What drives a simulation: the presses, and the round from which on FIRE holds.
+#[derive(Clone, Copy)]
+pub struct Drive<'d> {
+    pub presses: &'d [Press],
+    pub fire: Option<u16>,
+}
+
+/// The call of a press.
+fn call_of(press: &Press) -> Call
+    requires from { press.now.from ≤ 255 }
+    requires to { press.now.to ≤ 255 }
+    ensures { result ≡ call_of press.now }
+{
+    Call {
+        from: press.from as u8,
+        to: press.to as u8,
+    }
+}
+
+/// The presses of a round, in their order.
+fn press_all(world: &mut World, presses: &[Press], round: u16, report: &mut Report)
+    requires calls { ArePressed (sizes_of world.old.verified.config) presses.now }
+    ensures taken { Happen world.old.verified.config (world_of world.old) (map PressOf (calls_in presses.now round)) (world_of world.new) }
+    ensures same { world.new.verified ≡ world.old.verified }
+{
+    let _config = world.verified().config();
+    'presses: for press in presses {
+        if press.round == round {
+            world.apply(&Event::Press(call_of(press)), report);
+        }
+    }
+}
+
+/// What the desk has from each floor is gathered.
+fn gather_all(world: &mut World, report: &mut Report)
+    ensures taken { Happen world.old.verified.config (world_of world.old) (map GatherOf (floors_rising world.old.verified.config)) (world_of world.new) }
+    ensures same { world.new.verified ≡ world.old.verified }
+{
+    let _config = world.verified().config();
+    let Sizes { floors, .. } = world.sizes();
+    'floors: for floor in 1..floors + 1 {
+        world.apply(&Event::Gather(floor), report);
+    }
+}
+
+/// A refresh with fields in range, and its entry.
+fn refresh(
+    world: &mut World,
+    fields: Fields,
+    entries: &mut Vec<Entry>,
+    report: &mut Report,
+) -> Result<(), AllocError>
+    requires inside { FieldsInRange (sizes_of world.old.verified.config) fields }
+    ensures taken { OnOk result (happens world.old.verified.config (world_of world.old) (RefreshOf fields) ≡ Ok (world_of world.new, Refreshed report.new)) }
+    ensures journal { OnOk result (entries.new.items ≡ entries.old.items ++ entry.Refresh fields (entered_calls_of report.new) ∷ []) }
+    ensures same { world.new.verified ≡ world.old.verified }
+{
+    let _config = world.verified().config();
+    let event = Event::Refresh(fields);
+    world.apply(&event, report);
+    let calls = calls_of(report.entered.as_slice());
+    match event {
+        Event::Refresh(fields) => Ok(entries.push(Entry::Refresh { fields, calls })?),
+        _ => unreachable!(),
+    }
+}
+
+/// A scan of each of the tasks, and their entries.
+fn scan_all(
+    world: &mut World,
+    tasks: &[u8],
+    entries: &mut Vec<Entry>,
+    report: &mut Report,
+) -> Result<(), AllocError>
+    requires tasks { AreTasks world.old.verified.config tasks.now }
+    requires closed { IsClosed (world_of world.old) }
+    ensures scans { OnOk result (ScanEach world.old.verified.config tasks.now (world_of world.old) (world_of world.new)) }
+    ensures closed { OnOk result (IsClosed (world_of world.new)) }
+    ensures journal { OnOk result (entries.new.items ≡ entries.old.items ++ flat_map scan_entries tasks.now) }
+    ensures same { world.new.verified ≡ world.old.verified }
+{
+    'tasks: for task in tasks {
+        scan(world, *task, report);
+        entries.push(Entry::Start(*task))?;
+        entries.push(Entry::Commit(*task))?;
+    }
+    Ok(())
+}
+
+/// One round: its presses and gatherings, a step of the plant, a refresh, and a scan of each task.
+fn round(
+    world: &mut World,
+    plant: Plant,
+    drive: Drive<'_>,
+    number: u16,
+    tasks: &[u8],
+    entries: &mut Vec<Entry>,
+) -> Result<Plant, AllocError>
+    requires calls { ArePressed (sizes_of world.old.verified.config) drive.presses.now }
+    requires tasks { tasks.now ≡ tasks_in_order world.old.verified.config }
+    requires plant { IsPlantOf (sizes_of world.old.verified.config) plant }
+    requires closed { IsClosed (world_of world.old) }
+    ensures round { IfOk result (λ next. (last : List EntryOf) × (entries.new.items ≡ entries.old.items ++ last) × IsRound world.old.verified.config (calls_in drive.presses.now number) (is_fire_in drive.fire number) plant next (world_of world.old) (world_of world.new) last) }
+    ensures plant { IfOk result (IsPlantOf (sizes_of world.old.verified.config)) }
+    ensures closed { OnOk result (IsClosed (world_of world.new)) }
+    ensures same { world.new.verified ≡ world.old.verified }
+{
+    let mut report = Report::new();
+    press_all(world, drive.presses, number, &mut report);
+    gather_all(world, &mut report);
+    let plant = plant.with_fire(is_fire_in(drive.fire, number));
+    let (plant, fields) = plant_step(plant, &world.image().outputs);
+    refresh(world, fields, entries, &mut report)?;
+    scan_all(world, tasks, entries, &mut report)?;
+    Ok(plant)
+}
+
+/// Whether FIRE holds in a round.
+fn is_fire_in(fire: Option<u16>, round: u16) -> bool
+    ensures { result ≡ is_fire_in fire round }
+{
+    match fire {
+        Some(first) => first <= round,
+        None => false,
+    }
+}
+
+/// The tasks that the group has, in the order in which a round runs them: CAR1 to CARn, and then GROUP.
+fn tasks_of(alloc: Global, verified: &Verified) -> Result<Vec<u8>, AllocError>
+    ensures { IfOk result (λ tasks. tasks.items ≡ tasks_in_order verified.now.config) }
+{
+    let _config = verified.config();
+    let mut tasks = Vec::new(alloc);
+    'cars: for car in 1..verified.sizes().cars + 1 {
+        if verified.has_task(car) {
+            tasks.push(car)?;
+        }
+    }
+    if verified.has_task(0) {
+        tasks.push(0)?;
+    }
+    Ok(tasks)
+}
+
+/// So many rounds of a world that opens.
+fn run_rounds(
+    world: &mut World,
+    drive: Drive<'_>,
+    rounds: u16,
+    tasks: &[u8],
+    entries: &mut Vec<Entry>,
+) -> Result<(), AllocError>
+    requires opening { world_of world.old ≡ opening world.old.verified.config }
+    requires calls { ArePressed (sizes_of world.old.verified.config) drive.presses.now }
+    requires tasks { tasks.now ≡ tasks_in_order world.old.verified.config }
+    requires none { entries.old.items ≡ [] }
+    ensures rounds { OnOk result (IsSimulated world.old.verified.config drive.presses.now drive.fire rounds entries.new.items) }
+    ensures same { world.new.verified ≡ world.old.verified }
+{
+    let _config = world.verified().config();
+    let Sizes { cars, floors, .. } = world.sizes();
+    let mut plant = Plant::new(cars, floors);
+    'rounds: for number in 0..rounds {
+        plant = round(world, plant, drive, number + 1, tasks, entries)?;
+    }
+    Ok(())
+}
+
+/// So many rounds of a group as it opens, in a journal with room for all of its entries.
+fn journal_of(
+    alloc: Global,
+    world: &mut World,
+    drive: Drive<'_>,
+    rounds: u16,
+) -> Result<Vec<Entry>, AllocError>
+    requires opening { world_of world.old ≡ opening world.old.verified.config }
+    requires calls { ArePressed (sizes_of world.old.verified.config) drive.presses.now }
+    ensures rounds { IfOk result (λ entries. IsSimulated world.old.verified.config drive.presses.now drive.fire rounds entries.items) }
+{
+    let tasks = tasks_of(alloc, world.verified())?;
+    let mut entries = Vec::with_capacity(alloc, usize::from(rounds) * (1 + 2 * tasks.len()))?;
+    run_rounds(world, drive, rounds, &tasks, &mut entries)?;
+    Ok(entries)
+}
+
+/// The journal of so many rounds of a group on its plant, from its opening: in each, the presses are made and gathered, the plant
+/// goes one step under the outputs of the image, the image is refreshed, and each task runs one scan.
+pub fn simulate(
+    alloc: Global,
+    verified: Verified,
+    drive: Drive<'_>,
+    rounds: u16,
+) -> Result<Vec<Entry>, AllocError>
+    requires calls { ArePressed (sizes_of verified.config) drive.presses.now }
+    ensures rounds { IfOk result (λ entries. IsSimulated verified.config drive.presses.now drive.fire rounds entries.items) }
+{
+    match World::new(alloc, verified) {
+        Ok(mut world) => {
+            let entries = journal_of(alloc, &mut world, drive, rounds);
+            world.release();
+            entries
+        }
+        Err(_) => Err(AllocError),
+    }
+}
