@@ -1,14 +1,18 @@
--- Words in parts between colons.
-use Rattle.std.proofs.Common.{◌≡◌, ◌≢◌, ℕ, ◌<◌, ◌≤◌, Bool, true, false, List, [], ◌∷◌, length, get_or, sym, ap, ◌∙◌, subst, arith, zero, suc, ◌+◌, ◌++◌, refl, ◌⊎◌, inl, inr}
+-- Words in parts between colons, and the presses that words spell.
+use Rattle.std.proofs.Common.{◌≡◌, ◌≢◌, ℕ, ◌<◌, Bool, List, [], ◌∷◌, length, map, take, get_or, sym, ap, ◌∙◌, subst, arith, zero, suc, ◌+◌, ◌++◌, refl, ◌⊎◌, inl, inr}
 use Rattle.std.specs.Prelude.{◌==◌, Option, Some, None, slice_get, String, string_bytes}
 use Rattle.std.specs.Global.{Global}
-use Rattle.std.specs.List.{All, slice_split, join_with_byte, position_or_len, before_first, after_first}
+use Rattle.std.specs.List.{join_with_byte, position_or_len, before_first, after_first}
+use Rattle.std.proofs.lemmas.List.{map-append, append_assoc, length-append}
+use Rattle.std.proofs.Math.Seq.{take-suc}
+use Rattle.std.proofs.Math.Numerals.{add-one}
 use Rattle.std.proofs.lemmas.List.Sums.{fails_before_first}
-use Rattle.std.proofs.lemmas.List.Splits.{slice_split_none, slice_split_first, join_with_byte-slice_split}
+use Rattle.std.proofs.lemmas.List.Splits.{slice_split_none, slice_split_first, length-slice_split, join_with_byte-slice_split}
 use borrow.Author.Tests.{ne_eqb}
 use Rattle.std.proofs.lemmas.Option.{slice_get-get_or, get_or_from_slice_get, slice_get_within}
 use Rattle.lift_host.specs.Requests.{IsDigits, IsNumberTo}
-use Rattle.lift_host.specs.Presses.{parts_of, IsPressOf, IsPress, AreOfWords}
+use Rattle.lift_host.specs.Presses.{parts_of, IsPressOf, IsPress, AreOfWords, HasNoPress}
+use Rattle.lift_host.specs.Presses.IsPress.{plain, at_panel}
 use Rattle.lift_host.specs.declared.press.Press.{Press}
 
 abbrev pub is_colon : ℕ → Bool
@@ -19,8 +23,8 @@ pub one_part : (word : List ℕ) → position_or_len is_colon word ≡ length wo
 one_part word e = slice_split_none is_colon word (λ k d low. fails_before_first is_colon word k d (omega (arith, e, low)))
 
 -- the part before the first colon
-pub first_part : (word : List ℕ) → position_or_len is_colon word < length word → parts_of word ≡ before_first is_colon word ∷ parts_of (after_first is_colon word)
-first_part word low = slice_split_first is_colon word 0 low
+pub part_before : (word first rest : List ℕ) → position_or_len is_colon word < length word → first ≡ before_first is_colon word → rest ≡ after_first is_colon word → parts_of word ≡ first ∷ parts_of rest
+part_before word first rest low is_first is_rest = slice_split_first is_colon word 0 low ∙ ap (λ x. x ∷ parts_of (after_first is_colon word)) (sym is_first) ∙ ap (λ r. first ∷ parts_of r) (sym is_rest)
 
 get_or_any : (word : List ℕ) (k d e : ℕ) → k < length word → get_or word k d ≡ get_or word k e
 get_or_any word k d e low = get_or_from_slice_get word k (get_or word k e) d (slice_get-get_or word k e low)
@@ -38,49 +42,57 @@ cut e = (cc, cc)
 no_more : {x : List ℕ} {xs : List (List ℕ)} → x ∷ xs ≡ [] → ⊥
 no_more e = cc
 
--- no colon at all
-pub no_press : (rounds floors : ℕ) (word : List ℕ) → position_or_len is_colon word ≡ length word → (p : Press) → IsPress rounds floors word p → ⊥
-no_press rounds floors word none p is = let more = cut (sym is.parts ∙ one_part word none) in no_more more.1
-
--- one colon alone
-pub half_press : (rounds floors : ℕ) (word rest : List ℕ) → position_or_len is_colon word < length word → rest ≡ after_first is_colon word → position_or_len is_colon rest ≡ length rest → (p : Press) → IsPress rounds floors word p → ⊥
-half_press rounds floors word rest there at none p is =
-    let more = cut (sym is.parts ∙ first_part word there ∙ ap (λ r. before_first is_colon word ∷ parts_of r) (sym at) ∙ ap (λ ps. before_first is_colon word ∷ ps) (one_part rest none)) in
-    no_more (cut more.1).1
+-- a word has a part
+some_part : (word : List ℕ) → parts_of word ≡ [] → ⊥
+some_part word e = let long = length-slice_split is_colon word in let none : length (parts_of word) ≡ 0 = ap length e in omega (arith, long, none)
 
 -- the only part is the word
 alone : (word part : List ℕ) → parts_of word ≡ part ∷ [] → word ≡ part
 alone word part e = sym (join_with_byte-slice_split 58 word) ∙ ap (join_with_byte 58) e
 
+-- no colon at all
+pub no_press : (rounds floors : ℕ) (word x : List ℕ) → parts_of word ≡ x ∷ [] → (p : Press) → IsPress rounds floors word p → ⊥
+no_press rounds floors word x e p (plain first second third parts is panel) = no_more (cut (sym parts ∙ e)).1
+no_press rounds floors word x e p (at_panel first second third fourth parts is panel) = no_more (cut (sym parts ∙ e)).1
+
+-- one colon alone
+pub half_press : (rounds floors : ℕ) (word x y : List ℕ) → parts_of word ≡ x ∷ y ∷ [] → (p : Press) → IsPress rounds floors word p → ⊥
+half_press rounds floors word x y e p (plain first second third parts is panel) = no_more (cut (cut (sym parts ∙ e)).1).1
+half_press rounds floors word x y e p (at_panel first second third fourth parts is panel) = no_more (cut (cut (sym parts ∙ e)).1).1
+
+same_parts : (rounds floors : ℕ) (a b c x y z : List ℕ) (p : Press) → a ≡ x → b ≡ y → c ≡ z → IsPressOf rounds floors a b c p → IsPressOf rounds floors x y z p
+same_parts rounds floors a b c x y z p e f g is =
+    subst (λ t. IsPressOf rounds floors x y t p) g (subst (λ t. IsPressOf rounds floors x t c p) f (subst (λ t. IsPressOf rounds floors t b c p) e is))
+
 -- two colons
-both_parts : (word first rest second third : List ℕ) → position_or_len is_colon word < length word → first ≡ before_first is_colon word → rest ≡ after_first is_colon word
-    → position_or_len is_colon rest < length rest → second ≡ before_first is_colon rest → third ≡ after_first is_colon rest → parts_of word ≡ first ∷ second ∷ parts_of third
-both_parts word first rest second third there is_first is_rest more is_second is_third =
-    first_part word there ∙ ap (λ r. before_first is_colon word ∷ parts_of r) (sym is_rest) ∙ ap (λ x. x ∷ parts_of rest) (sym is_first)
-    ∙ ap (λ ps. first ∷ ps) (first_part rest more ∙ ap (λ r. before_first is_colon rest ∷ parts_of r) (sym is_third) ∙ ap (λ x. x ∷ parts_of third) (sym is_second))
+pub press_of_three : (rounds floors : ℕ) (word x y z : List ℕ) → parts_of word ≡ x ∷ y ∷ z ∷ [] → (p : Press) → IsPress rounds floors word p → IsPressOf rounds floors x y z p
+press_of_three rounds floors word x y z e p (plain first second third parts is panel) =
+    let one = cut (sym parts ∙ e) in
+    let two = cut one.1 in
+    same_parts rounds floors first second third x y z p one.0 two.0 (cut two.1).0 is
+press_of_three rounds floors word x y z e p (at_panel first second third fourth parts is panel) =
+    absurd (no_more (cut (cut (cut (sym parts ∙ e)).1).1).1)
 
-pub press_is : (rounds floors : ℕ) (word first rest second third : List ℕ) (p : Press) → position_or_len is_colon word < length word → first ≡ before_first is_colon word → rest ≡ after_first is_colon word
-    → position_or_len is_colon rest < length rest → second ≡ before_first is_colon rest → third ≡ after_first is_colon rest → IsPressOf rounds floors first second third p → IsPress rounds floors word p
-press_is rounds floors word first rest second third p there is_first is_rest more is_second is_third is = record {
-  first = first;
-  second = second;
-  third = third;
-  parts = both_parts word first rest second third there is_first is_rest more is_second is_third ∙ ap (λ ps. first ∷ second ∷ ps) (of_digits third is.to.digits);
-  is = is;
-}
+-- more than two
+pub press_of_more : (rounds floors : ℕ) (word x y z rest : List ℕ) → parts_of word ≡ x ∷ y ∷ z ∷ parts_of rest → (p : Press) → IsPress rounds floors word p → IsPressOf rounds floors x y z p × IsNumberTo 4 rest p.panel
+press_of_more rounds floors word x y z rest e p (plain first second third parts is panel) =
+    absurd (some_part rest (sym (cut (cut (cut (sym parts ∙ e)).1).1).1))
+press_of_more rounds floors word x y z rest e p (at_panel first second third fourth parts is panel) =
+    let one = cut (sym parts ∙ e) in
+    let two = cut one.1 in
+    let three = cut two.1 in (
+      same_parts rounds floors first second third x y z p one.0 two.0 three.0 is,
+      subst (λ t. IsNumberTo 4 t p.panel) (sym (alone rest fourth (sym three.1))) panel,
+    )
 
-pub press_of_parts : (rounds floors : ℕ) (word first rest second third : List ℕ) (p : Press) → position_or_len is_colon word < length word → first ≡ before_first is_colon word → rest ≡ after_first is_colon word
-    → position_or_len is_colon rest < length rest → second ≡ before_first is_colon rest → third ≡ after_first is_colon rest → IsPress rounds floors word p → IsPressOf rounds floors first second third p
-press_of_parts rounds floors word first rest second third p there is_first is_rest more is_second is_third is =
-    let split = cut (sym is.parts ∙ both_parts word first rest second third there is_first is_rest more is_second is_third) in
-    let next = cut split.1 in
-    subst (λ t. IsPressOf rounds floors first second t p) (sym (alone third is.third (sym next.1)))
-    (subst (λ t. IsPressOf rounds floors first t is.third p) next.0 (subst (λ t. IsPressOf rounds floors t is.second is.third p) split.0 is.is))
+pub plain_press : (rounds floors : ℕ) (word x y z : List ℕ) → parts_of word ≡ x ∷ y ∷ z ∷ [] → (p : Press) → IsPressOf rounds floors x y z p × (p.panel ≡ 1) → IsPress rounds floors word p
+plain_press rounds floors word x y z e p is = plain x y z e is.0 is.1
+
+pub panel_press : (rounds floors : ℕ) (word x y z rest : List ℕ) (panel : ℕ) → parts_of word ≡ x ∷ y ∷ z ∷ parts_of rest → IsNumberTo 4 rest panel → (p : Press) → IsPressOf rounds floors x y z p × (p.panel ≡ panel) → IsPress rounds floors word p
+panel_press rounds floors word x y z rest panel e number p is =
+    at_panel x y z rest (e ∙ ap (λ ps. x ∷ y ∷ z ∷ ps) (of_digits rest number.digits)) is.0 (subst (IsNumberTo 4 rest) (sym is.1) number)
 
 -- LISTS OF PRESSES
-
-abbrev pub Each : (rounds floors : ℕ) (words : List (String Global)) (presses : List Press) → Type 0
-Each rounds floors words presses = (k : ℕ) (word : String Global) (press : Press) → slice_get words k ≡ Some word → slice_get presses k ≡ Some press → IsPress rounds floors (string_bytes word) press
 
 same_some : {X : Type 0} {x y : X} → ◌≡◌ {A = Option X} (Some x) (Some y) → x ≡ y
 same_some e = cc
@@ -95,21 +107,58 @@ last_or (z ∷ xs) x (suc k) y e = elim (last_or xs x k y e) [
   | inr last ↦ let at = last.0 in inr (omega (arith, at), last.1)
 ]
 
+-- no word
+pub of_none : (rounds floors : ℕ) (presses : List Press) → presses ≡ [] → AreOfWords rounds floors [] presses
+of_none rounds floors presses e = record {
+  long = ap length e;
+  each = λ k word press at there. let low = slice_get_within [] k word at in absurd (omega (arith, low));
+}
+
 -- one word more
-pub one_more : (rounds floors : ℕ) (words : List (String Global)) (presses : List Press) (n : ℕ) (word : String Global) (press : Press) → length presses ≡ n → slice_get words n ≡ Some word
-    → Each rounds floors words presses → IsPress rounds floors (string_bytes word) press → Each rounds floors words (presses ++ press ∷ [])
-one_more rounds floors words presses n word press long stands each is k w p at there = elim (last_or presses press k p there) [
-  | inl before ↦ each k w p at before
-  | inr last ↦
-      let same : w ≡ word = same_some (sym at ∙ ap (slice_get words) (last.0 ∙ long) ∙ stands) in
-      subst (λ v. IsPress rounds floors (string_bytes v) p) (sym same) (subst (λ q. IsPress rounds floors (string_bytes word) q) last.1 is)
-]
+pub one_more : (rounds floors : ℕ) (words : List (List ℕ)) (presses : List Press) (w : List ℕ) (p : Press) → AreOfWords rounds floors words presses → IsPress rounds floors w p
+    → AreOfWords rounds floors (words ++ w ∷ []) (presses ++ p ∷ [])
+one_more rounds floors words presses w p are is = record {
+  long = length-append presses (p ∷ []) ∙ ap (λ n. n + 1) are.long ∙ sym (length-append words (w ∷ []));
+  each = λ k word press at there. elim (last_or words w k word at) [
+    | inl before ↦ elim (last_or presses p k press there) [
+      | inl found ↦ are.each k word press before found
+      | inr last ↦ let low = slice_get_within words k word before in let long = are.long in let at_end = last.0 in absurd (omega (arith, low, long, at_end))
+    ]
+    | inr end ↦ elim (last_or presses p k press there) [
+      | inl found ↦ let low = slice_get_within presses k press found in let long = are.long in let at_end = end.0 in absurd (omega (arith, low, long, at_end))
+      | inr last ↦ subst (λ v. IsPress rounds floors v press) end.1 (subst (λ q. IsPress rounds floors w q) last.1 is)
+    ]
+  ];
+}
+
+-- the words so far and the next one
+pub so_far : (before : List (List ℕ)) (words : List (String Global)) (i : ℕ) (w : String Global) → i < length words → w ≡ get_or words i w
+    → (before ++ map string_bytes (take i words)) ++ string_bytes w ∷ [] ≡ before ++ map string_bytes (take (i + 1) words)
+so_far before words i w low e =
+    append_assoc before (map string_bytes (take i words)) (string_bytes w ∷ [])
+    ∙ ap (λ ws. before ++ ws) (sym (map-append string_bytes (take i words) (w ∷ [])))
+    ∙ ap (λ ws. before ++ map string_bytes ws) (ap (λ v. take i words ++ v ∷ []) e ∙ sym (take-suc words i w low) ∙ ap (λ n. take n words) (sym (add-one i)))
 
 -- a word that is none
-pub none_there : (rounds floors : ℕ) (words : List (String Global)) (n : ℕ) (word : String Global) → slice_get words n ≡ Some word → ((p : Press) → IsPress rounds floors (string_bytes word) p → ⊥)
-    → (presses : List Press) → AreOfWords rounds floors words presses → ⊥
-none_there rounds floors words n word stands none presses are =
+none_at : (rounds floors : ℕ) (words : List (List ℕ)) (n : ℕ) (word : List ℕ) → slice_get words n ≡ Some word → ((p : Press) → IsPress rounds floors word p → ⊥) → (presses : List Press) → AreOfWords rounds floors words presses → ⊥
+none_at rounds floors words n word stands none presses are =
     let low = slice_get_within words n word stands in
     let long = are.long in
-    let d : Press = record { round = 0; from = 0; to = 0 } in
+    let d : Press = record { round = 0; from = 0; to = 0; panel = 1 } in
     none (get_or presses n d) (are.each n word (get_or presses n d) stands (slice_get-get_or presses n d (omega (arith, low, long))))
+
+in_front : (xs ys : List (List ℕ)) (k : ℕ) (word : List ℕ) → slice_get xs k ≡ Some word → slice_get (xs ++ ys) k ≡ Some word
+in_front [] ys k word e = let low = slice_get_within [] k word e in absurd (omega (arith, low))
+in_front (x ∷ xs) ys zero word e = e
+in_front (x ∷ xs) ys (suc k) word e = in_front xs ys k word e
+
+in_back : (xs ys : List (List ℕ)) (k : ℕ) (word : List ℕ) → slice_get ys k ≡ Some word → (n : ℕ) × (slice_get (xs ++ ys) n ≡ Some word)
+in_back [] ys k word e = (k, e)
+in_back (x ∷ xs) ys k word e = let more = in_back xs ys k word e in (suc more.0, more.1)
+
+-- words in two parts, where one has a word that spells no press
+pub none_in_front : (rounds floors : ℕ) (xs ys : List (List ℕ)) → HasNoPress rounds floors xs → (presses : List Press) → AreOfWords rounds floors (xs ++ ys) presses → ⊥
+none_in_front rounds floors xs ys has = none_at rounds floors (xs ++ ys) has.place has.word (in_front xs ys has.place has.word has.stands) has.none
+
+pub none_in_back : (rounds floors : ℕ) (xs ys : List (List ℕ)) → HasNoPress rounds floors ys → (presses : List Press) → AreOfWords rounds floors (xs ++ ys) presses → ⊥
+none_in_back rounds floors xs ys has = let at = in_back xs ys has.place has.word has.stands in none_at rounds floors (xs ++ ys) at.0 has.word at.1 has.none

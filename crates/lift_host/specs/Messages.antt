@@ -1,6 +1,5 @@
 -- What the program says of a fault, and how it then ends (own rules).
-use Rattle.std.specs.Prelude.{ℕ, List, Result, String, ◌++◌, codes, decimal, string_bytes}
-use Rattle.std.specs.Global.{Global}
+use Rattle.std.specs.Prelude.{ℕ, List, ◌++◌, codes, decimal, string_bytes}
 use Rattle.il_spec.specs.declared.fault.Refusal.{Refusal}
 use Rattle.il_spec.specs.declared.fault.Refusal.TheVariants as refusal
 use Rattle.lift_host.specs.declared.files.ReadFault.{ReadFault}
@@ -10,11 +9,7 @@ use Rattle.lift_host.specs.declared.press.PressFault.TheVariants as press
 use Rattle.lift_host.specs.declared.status.Status.{Status}
 use Rattle.lift_host.specs.declared.status.Status.TheVariants as status
 use Rattle.lift_host.specs.declared.status.Fault.{Fault}
-use Rattle.lift_host.specs.declared.status.Fault.TheVariants.{Misuse, Refused, BadPress, Event, CannotRead, CannotWrite, NoMemory}
-
--- what the program prints on the standard output, or why it prints nothing there
-abbrev pub Outcome : Type 0
-Outcome = Result (String Global) Fault
+use Rattle.lift_host.specs.declared.status.Fault.TheVariants.{Misuse, Refused, BadPress, BadFire, CannotRead, CannotWrite, NoMemory}
 
 -- the exit status
 abbrev pub code_of : Status → ℕ
@@ -29,7 +24,7 @@ abbrev pub status_of : Fault → Status
 status_of (Misuse text) = status.Refused
 status_of (Refused number line) = status.Refused
 status_of BadPress = status.Refused
-status_of (Event number) = status.Refused
+status_of BadFire = status.Refused
 status_of CannotRead = status.CannotRead
 status_of CannotWrite = status.CannotWrite
 status_of NoMemory = status.NoMemory
@@ -39,7 +34,7 @@ abbrev pub message_of : Fault → List ℕ
 message_of (Misuse text) = string_bytes text
 message_of (Refused number line) = codes "refused " ++ (decimal number ++ (codes " at line " ++ (decimal line ++ codes "\n")))
 message_of BadPress = codes "bad press\n"
-message_of (Event number) = codes "refused " ++ (decimal number ++ codes "\n")
+message_of BadFire = codes "bad fire\n"
 message_of CannotRead = codes "cannot read\n"
 message_of CannotWrite = codes "cannot write\n"
 message_of NoMemory = codes "no memory\n"

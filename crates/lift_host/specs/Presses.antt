@@ -1,6 +1,5 @@
 -- What the PRESS words of a command line spell (own rules).
-use Rattle.std.specs.Prelude.{◌≡◌, ◌≤◌, ◌==◌, ℕ, List, [], ◌∷◌, length, slice_get, Some, String, string_bytes}
-use Rattle.std.specs.Global.{Global}
+use Rattle.std.specs.Prelude.{◌≡◌, ◌≤◌, ◌==◌, ℕ, List, [], ◌∷◌, length, slice_get, Some}
 use Rattle.std.specs.List.{slice_split}
 use Rattle.lift_host.specs.Requests.{IsNumberTo}
 use Rattle.lift_host.specs.declared.press.Press.{Press}
@@ -16,20 +15,24 @@ pub record IsPressOf (rounds floors : ℕ) (first second third : List ℕ) (pres
 abbrev pub parts_of : List ℕ → List (List ℕ)
 parts_of word = slice_split (λ b. b == 58) word
 
--- `ROUND:FROM:TO`
-pub record IsPress (rounds floors : ℕ) (word : List ℕ) (press : Press) : Type 0 where
-  pub first : List ℕ
-  pub second : List ℕ
-  pub third : List ℕ
-  pub parts : parts_of word ≡ first ∷ second ∷ third ∷ []
-  pub is : IsPressOf rounds floors first second third press
+-- `ROUND:FROM:TO`, from the panel 1, or `ROUND:FROM:TO:PANEL`, a panel from 1 to 4
+pub data IsPress (rounds floors : ℕ) (word : List ℕ) (press : Press) : Type 0 where
+  plain : (first second third : List ℕ) → parts_of word ≡ first ∷ second ∷ third ∷ [] → IsPressOf rounds floors first second third press → press.panel ≡ 1 → IsPress rounds floors word press
+  at_panel : (first second third fourth : List ℕ) → parts_of word ≡ first ∷ second ∷ third ∷ fourth ∷ [] → IsPressOf rounds floors first second third press → IsNumberTo 4 fourth press.panel → IsPress rounds floors word press
+
+-- one of the words spells no press
+pub record HasNoPress (rounds floors : ℕ) (words : List (List ℕ)) : Type 0 where
+  pub place : ℕ
+  pub word : List ℕ
+  pub stands : slice_get words place ≡ Some word
+  pub none : (press : Press) → IsPress rounds floors word press → ⊥
 
 -- a press for each word
-pub record AreOfWords (rounds floors : ℕ) (words : List (String Global)) (presses : List Press) : Type 0 where
+pub record AreOfWords (rounds floors : ℕ) (words : List (List ℕ)) (presses : List Press) : Type 0 where
   pub long : length presses ≡ length words
-  pub each : (k : ℕ) (word : String Global) (press : Press) → slice_get words k ≡ Some word → slice_get presses k ≡ Some press → IsPress rounds floors (string_bytes word) press
+  pub each : (k : ℕ) (word : List ℕ) (press : Press) → slice_get words k ≡ Some word → slice_get presses k ≡ Some press → IsPress rounds floors word press
 
 -- of at most 1000 words
-pub record ArePresses (rounds floors : ℕ) (words : List (String Global)) (presses : List Press) : Type 0 where
+pub record ArePresses (rounds floors : ℕ) (words : List (List ℕ)) (presses : List Press) : Type 0 where
   pub few : length words ≤ 1000
   pub of_words : AreOfWords rounds floors words presses

@@ -1,9 +1,10 @@
 -- What the words of a command line ask for (own rules).
-use Rattle.std.specs.Prelude.{◌≡◌, ◌≤◌, ◌<◌, ℕ, List, [], ◌∷◌, length, slice_index, EachIndex, codes, map, slice_get, Some, string_bytes}
+use Rattle.std.specs.Prelude.{◌≡◌, ◌≤◌, ◌<◌, ℕ, List, [], ◌∷◌, ◌++◌, length, slice_index, EachIndex, codes, map, slice_get, Option, Some, None, option_map, string_bytes}
 use Rattle.std.specs.Int.{IsInRange}
 use Rattle.std.specs.Str.Parse.{digits_value}
 use Rattle.lift_host.specs.declared.request.Name.{Name}
 use Rattle.lift_host.specs.declared.request.Name.TheVariants as name
+use Rattle.lift_host.specs.declared.request.Words.{Words}
 use Rattle.lift_host.specs.declared.request.Request.{Request}
 use Rattle.lift_host.specs.declared.request.Request.TheVariants as request
 
@@ -31,18 +32,41 @@ IsOption word = slice_index word 0 ≡ 45
 abbrev pub word_of : Name → List ℕ
 word_of name.Check = codes "check"
 word_of name.Sim = codes "sim"
+word_of name.Replay = codes "replay"
 
 -- the name of a request's file
 abbrev pub name_of : Request → List ℕ
 name_of (request.Check file) = file.now
-name_of (request.Sim file rounds presses) = file.now
+name_of (request.Sim file rounds presses fire) = file.now
+name_of (request.Replay file trace) = file.now
 
 -- no word is an option
 abbrev pub AreNoOptions : List (List ℕ) → Type 0
 AreNoOptions words = (k : ℕ) (word : List ℕ) → slice_get words k ≡ Some word → IsOption word → ⊥
 
--- `check FILE` and `sim FILE ROUNDS`, with any words behind it, where neither FILE nor those words are options
+-- the words of two parts, one behind the other
+abbrev pub words_of : Words → List (List ℕ)
+words_of words = map string_bytes words.front.now ++ map string_bytes words.back.now
+
+-- words without `--fire ROUND`, which may stand anywhere among them, and that ROUND
+abbrev pub IsApart : List (List ℕ) → List (List ℕ) → Option (List ℕ) → Type 0
+IsApart rest positional None = rest ≡ positional
+IsApart rest positional (Some value) =
+    (before : List (List ℕ)) × (after : List (List ℕ)) × (rest ≡ before ++ codes "--fire" ∷ value ∷ after) × (positional ≡ before ++ after) × (IsOption value → ⊥)
+
+-- `sim FILE ROUNDS`, with any words behind it, and `--fire ROUND` anywhere behind `sim`; no other word is an option
+pub record AsksSim (words : List (List ℕ)) (file : List ℕ) (rounds : ℕ) (presses : List (List ℕ)) (fire : Option (List ℕ)) : Type 0 where
+  pub rest : List (List ℕ)
+  pub positional : List (List ℕ)
+  pub text : List ℕ
+  pub are : words ≡ codes "sim" ∷ rest
+  pub apart : IsApart rest positional fire
+  pub parts : positional ≡ file ∷ text ∷ presses
+  pub is_rounds : IsRounds text rounds
+  pub plain : AreNoOptions positional
+
+-- `check FILE`, `sim` as above and `replay FILE TRACE`, where neither FILE nor TRACE is an option
 abbrev pub Asks : List (List ℕ) → Request → Type 0
 Asks words (request.Check file) = (words ≡ codes "check" ∷ file.now ∷ []) × (IsOption file.now → ⊥)
-Asks words (request.Sim file rounds presses) =
-    (text : List ℕ) × (words ≡ codes "sim" ∷ file.now ∷ text ∷ map string_bytes presses.now) × (IsOption file.now → ⊥) × IsRounds text rounds × AreNoOptions (map string_bytes presses.now)
+Asks words (request.Sim file rounds presses fire) = AsksSim words file.now rounds (words_of presses) (option_map (λ value. value.now) fire)
+Asks words (request.Replay file trace) = (words ≡ codes "replay" ∷ file.now ∷ trace.now ∷ []) × (IsOption file.now → ⊥) × (IsOption trace.now → ⊥)

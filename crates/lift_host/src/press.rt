@@ -1,22 +1,28 @@
 // The presses that a simulation makes.
 
-ghost use Rattle.std.specs.Prelude.{◌≡◌, List, IfSome, IfOk, IfErr, IsNone};
-ghost use Rattle.lift_host.specs.Presses.{IsPressOf, IsPress, AreOfWords, ArePresses};
+ghost use Rattle.std.specs.Prelude.{◌≡◌, ◌++◌, ◌∷◌, [], ℕ, List, IfSome, IfErr, IfOk, IsNone, OnOk, map, string_bytes};
+ghost use Rattle.lift_host.specs.Requests.{IsNumberTo, words_of};
+ghost use Rattle.lift_host.specs.Presses.{IsPressOf, IsPress, AreOfWords, ArePresses, HasNoPress, parts_of};
 ghost use Rattle.lift_host.specs.declared.press.Press.{Press};
 
-use crate::request::number_to;
+use crate::request::{Words, number_to};
 use il_spec::list::Items;
 use std::alloc::{AllocError, Global};
 
 /// The most presses of a command.
 const MOST_PRESSES: usize = 1000;
 
-/// A press of a landing panel: the round before which it comes, and the floors from which and to which.
+/// The most panels of a floor.
+const MOST_PANELS: u16 = 4;
+
+/// A press of a landing panel: the round before which it comes, the floors from which and to which, and which of the
+/// floor's panels it is, counted from 1.
 #[derive(Clone, Copy)]
 pub struct Press {
     pub round: u16,
     pub from: u16,
     pub to: u16,
+    pub panel: u16,
 }
 
 /// Why words give no presses.
@@ -39,15 +45,24 @@ impl From<AllocError> for PressFault {
     }
 }
 
-/// The presses that words spell, each as `ROUND:FROM:TO` in decimal: a round from 1 to `rounds` and two different floors from 1 to `floors`.
+/// The round that the word behind `--fire` spells in decimal, from 1 to `rounds`.
+pub fn fire_round(word: &str, rounds: u16) -> Option<u16>
+    ensures some { IfSome result (IsNumberTo rounds word.now) }
+    ensures none { IsNone result → (n : ℕ) → IsNumberTo rounds word.now n → ⊥ }
+{
+    number_to(rounds, word)
+}
+
+/// The presses that words spell, each as `ROUND:FROM:TO` or `ROUND:FROM:TO:PANEL` in decimal: a round from 1 to
+/// `rounds`, two different floors from 1 to `floors` and a panel from 1 to 4, which is 1 where none is written.
 pub fn presses(
     alloc: Global,
-    words: &[String],
+    words: Words<'_>,
     rounds: u16,
     floors: u16,
 ) -> Result<Items<Press>, PressFault>
-    ensures ok { IfOk result (ArePresses rounds floors words.now) }
-    ensures err { IfErr result (λ fault. fault ≡ PressFault.Bad → (presses : List Press) → ArePresses rounds floors words.now presses → ⊥) }
+    ensures ok { IfOk result (ArePresses rounds floors (words_of words.entry)) }
+    ensures err { IfErr result (λ fault. fault ≡ PressFault.Bad → (presses : List Press) → ArePresses rounds floors (words_of words.entry) presses → ⊥) }
 {
     if words.len() > MOST_PRESSES {
         return Err(PressFault::Bad);
@@ -58,21 +73,36 @@ pub fn presses(
 /// A press for each word.
 fn each_press(
     alloc: Global,
-    words: &[String],
+    words: Words<'_>,
     rounds: u16,
     floors: u16,
 ) -> Result<Items<Press>, PressFault>
-    ensures ok { IfOk result (AreOfWords rounds floors words.now) }
-    ensures err { IfErr result (λ fault. fault ≡ PressFault.Bad → (presses : List Press) → AreOfWords rounds floors words.now presses → ⊥) }
+    ensures ok { IfOk result (AreOfWords rounds floors (words_of words.entry)) }
+    ensures err { IfErr result (λ fault. fault ≡ PressFault.Bad → (presses : List Press) → AreOfWords rounds floors (words_of words.entry) presses → ⊥) }
 {
     let mut presses = Items::new(alloc);
+    add_presses(&mut presses, words.front, rounds, floors)?;
+    add_presses(&mut presses, words.back, rounds, floors)?;
+    Ok(presses)
+}
+
+/// Adds a press for each word.
+fn add_presses(
+    presses: &mut Items<Press>,
+    words: &[String],
+    rounds: u16,
+    floors: u16,
+) -> Result<(), PressFault>
+    ensures ok { OnOk result ((before : List (List ℕ)) → AreOfWords rounds floors before presses.old → AreOfWords rounds floors (before ++ map string_bytes words.now) presses.new) }
+    ensures err { IfErr result (λ fault. fault ≡ PressFault.Bad → HasNoPress rounds floors (map string_bytes words.now)) }
+{
     'words: for word in words {
         match press_of(word, rounds, floors) {
             Some(press) => presses.push(press)?,
             None => return Err(PressFault::Bad),
         }
     }
-    Ok(presses)
+    Ok(())
 }
 
 /// The press that a word spells.
@@ -80,20 +110,42 @@ fn press_of(word: &str, rounds: u16, floors: u16) -> Option<Press>
     ensures some { IfSome result (IsPress rounds floors word.now) }
     ensures none { IsNone result → (press : Press) → IsPress rounds floors word.now press → ⊥ }
 {
-    let (round, floors_of) = word.split_once(':')?;
-    let (from, to) = floors_of.split_once(':')?;
-    press_by(round, from, to, rounds, floors)
+    let (round, rest) = first_part(word)?;
+    let (from, to) = first_part(rest)?;
+    match first_part(to) {
+        None => press_by(round, from, to, 1, rounds, floors),
+        Some((to, panel)) => {
+            let panel = number_to(MOST_PANELS, panel)?;
+            press_by(round, from, to, panel, rounds, floors)
+        }
+    }
+}
+
+/// What stands before the first colon of a text, and what stands behind it.
+fn first_part(text: &str) -> Option<(&str, &str)>
+    ensures some { IfSome result (λ parts. parts_of text.now ≡ parts.0.now ∷ parts_of parts.1.now) }
+    ensures none { IsNone result → parts_of text.now ≡ text.now ∷ [] }
+{
+    text.split_once(':')
 }
 
 /// The press of these parts.
-fn press_by(round: &str, from: &str, to: &str, rounds: u16, floors: u16) -> Option<Press>
-    ensures some { IfSome result (IsPressOf rounds floors round.now from.now to.now) }
+fn press_by(
+    round: &str,
+    from: &str,
+    to: &str,
+    panel: u16,
+    rounds: u16,
+    floors: u16,
+) -> Option<Press>
+    ensures some { IfSome result (λ press. IsPressOf rounds floors round.now from.now to.now press × (press.panel ≡ panel)) }
     ensures none { IsNone result → (press : Press) → IsPressOf rounds floors round.now from.now to.now press → ⊥ }
 {
     let press = Press {
         round: number_to(rounds, round)?,
         from: number_to(floors, from)?,
         to: number_to(floors, to)?,
+        panel,
     };
     if press.from == press.to {
         return None;

@@ -1,18 +1,29 @@
 // What the words ask for.
 
-ghost use Rattle.std.specs.Prelude.{◌≡◌, ◌∷◌, ◌↔◌, ℕ, true, false, IfSome, IsNone, IsTrue, codes, map, string_bytes};
-ghost use Rattle.lift_host.specs.Requests.{IsNumberTo, IsDigits, IsOption, AreNoOptions, Asks, name_of, word_of};
+ghost use Rattle.std.specs.Prelude.{◌≡◌, ◌≤◌, ◌<◌, ◌∷◌, ◌++◌, ◌↔◌, [], ℕ, List, Option, Some, true, false, IfSome, IsNone, IsTrue, codes, length, map, option_map, slice_get, string_bytes};
+ghost use Rattle.lift_host.specs.Requests.{IsNumberTo, IsDigits, IsOption, AreNoOptions, IsApart, AsksSim, Asks, name_of, word_of, words_of};
 ghost use Rattle.lift_host.specs.declared.request.Name.{Name};
 ghost use Rattle.lift_host.specs.declared.request.Request.{Request};
 
 /// The most rounds that `sim` runs.
 pub const MOST_ROUNDS: u16 = 50_000;
 
+/// The option of `sim` whose value is the round from which on fire recall is on.
+pub const FIRE: &str = "--fire";
+
 /// The name of a command.
 #[derive(Clone, Copy)]
 pub enum Name {
     Check,
     Sim,
+    Replay,
+}
+
+/// Words in two parts, one behind the other.
+#[derive(Clone, Copy)]
+pub struct Words<'w> {
+    pub front: &'w [String],
+    pub back: &'w [String],
 }
 
 /// What the words ask for.
@@ -21,11 +32,17 @@ pub enum Request<'w> {
     Check {
         file: &'w str,
     },
-    /// The words behind ROUNDS are to be presses.
+    /// The words behind ROUNDS are to be presses, and the word behind `--fire` a round.
     Sim {
         file: &'w str,
         rounds: u16,
-        presses: &'w [String],
+        presses: Words<'w>,
+        fire: Option<&'w str>,
+    },
+    /// Both are names of files.
+    Replay {
+        file: &'w str,
+        trace: &'w str,
     },
 }
 
@@ -37,6 +54,7 @@ impl Name {
         match self {
             Name::Check => "check",
             Name::Sim => "sim",
+            Name::Replay => "replay",
         }
     }
 
@@ -44,9 +62,32 @@ impl Name {
         ensures some { IfSome result (λ name. word.now ≡ word_of name) }
         ensures none { IsNone result → (name : Name) → word.now ≡ word_of name → ⊥ }
     {
-        [Name::Check, Name::Sim]
+        [Name::Check, Name::Sim, Name::Replay]
             .into_iter()
             .find(|name| word == name.as_str())
+    }
+}
+
+impl<'w> Words<'w> {
+    /// How many they are.
+    pub fn len(self) -> usize
+        ensures { result ≡ length (words_of self.entry) }
+    {
+        self.front.len() + self.back.len()
+    }
+
+    /// The first word, and those behind it.
+    pub fn split_first(self) -> Option<(&'w str, Words<'w>)>
+        ensures some { IfSome result (λ parts. words_of self.entry ≡ parts.0.now ∷ words_of parts.1) }
+        ensures none { IsNone result → words_of self.entry ≡ [] }
+    {
+        match self.front.split_first() {
+            Some((word, front)) => Some((word, Words { front, ..self })),
+            None => {
+                let (word, back) = self.back.split_first()?;
+                Some((word, Words { back, ..self }))
+            }
+        }
     }
 }
 
@@ -58,6 +99,7 @@ impl<'w> Request<'w> {
         match self {
             Request::Check { file } => file,
             Request::Sim { file, .. } => file,
+            Request::Replay { file, .. } => file,
         }
     }
 }
@@ -99,6 +141,7 @@ pub fn asked(words: &[String]) -> Option<Request<'_>>
     match Name::of(name)? {
         Name::Check => asked_check(rest),
         Name::Sim => asked_sim(rest),
+        Name::Replay => asked_replay(rest),
     }
 }
 
@@ -112,21 +155,69 @@ fn asked_check(rest: &[String]) -> Option<Request<'_>>
     }
 }
 
+fn asked_replay(rest: &[String]) -> Option<Request<'_>>
+    ensures some { IfSome result (Asks (codes "replay" ∷ map string_bytes rest.now)) }
+    ensures none { IsNone result → (request : Request) → Asks (codes "replay" ∷ map string_bytes rest.now) request → ⊥ }
+{
+    match rest {
+        [file, trace] if !is_option(file) && !is_option(trace) => {
+            Some(Request::Replay { file, trace })
+        }
+        _ => None,
+    }
+}
+
 fn asked_sim(rest: &[String]) -> Option<Request<'_>>
     ensures some { IfSome result (Asks (codes "sim" ∷ map string_bytes rest.now)) }
     ensures none { IsNone result → (request : Request) → Asks (codes "sim" ∷ map string_bytes rest.now) request → ⊥ }
 {
-    let (file, rest) = rest.split_first()?;
-    let (rounds, presses) = rest.split_first()?;
-    if is_option(file) || has_option(presses) {
-        return None;
-    }
+    let SimWords { positional, fire } = apart(rest)?;
+    let (file, behind) = positional.split_first()?;
+    let (rounds, presses) = behind.split_first()?;
     let rounds = number_to(MOST_ROUNDS, rounds)?;
     Some(Request::Sim {
         file,
         rounds,
         presses,
+        fire,
     })
+}
+
+/// The words behind `sim` that stand in places, and the word behind `--fire`.
+struct SimWords<'w> {
+    positional: Words<'w>,
+    fire: Option<&'w str>,
+}
+
+/// The words behind `sim` apart, where they have no other option and a word behind `--fire`.
+fn apart(rest: &[String]) -> Option<SimWords<'_>>
+    ensures some { IfSome result (λ apart. IsApart (map string_bytes rest.now) (words_of apart.positional) (option_map (λ value. value.now) apart.fire)) }
+    ensures plain { IfSome result (λ apart. AreNoOptions (words_of apart.positional)) }
+    ensures only { IfSome result (λ apart. (positional : List (List ℕ)) (fire : Option (List ℕ)) → IsApart (map string_bytes rest.now) positional fire → AreNoOptions positional → positional ≡ words_of apart.positional) }
+    ensures none { IsNone result → (positional : List (List ℕ)) (fire : Option (List ℕ)) → IsApart (map string_bytes rest.now) positional fire → AreNoOptions positional → ⊥ }
+{
+    let (front, rest) = rest.split_at(first_option(rest));
+    let Some((option, rest)) = rest.split_first() else {
+        return Some(SimWords {
+            positional: Words { front, back: rest },
+            fire: None,
+        });
+    };
+    let (value, back) = rest.split_first()?;
+    if !is_fire(option) || is_option(value) || has_option(back) {
+        return None;
+    }
+    Some(SimWords {
+        positional: Words { front, back },
+        fire: Some(value),
+    })
+}
+
+/// Whether a word is the option `--fire`.
+fn is_fire(word: &str) -> bool
+    ensures { IsTrue result ↔ (word.now ≡ codes "--fire") }
+{
+    word == FIRE
 }
 
 /// Whether one of the words is an option.
@@ -134,10 +225,21 @@ fn has_option(words: &[String]) -> bool
     ensures no { result ≡ false → AreNoOptions (map string_bytes words.now) }
     ensures yes { result ≡ true → AreNoOptions (map string_bytes words.now) → ⊥ }
 {
+    first_option(words) < words.len()
+}
+
+/// How many words stand before the first option.
+fn first_option(words: &[String]) -> usize
+    ensures within { result ≤ length words.now }
+    ensures before { (k : ℕ) (word : List ℕ) → k < result → slice_get (map string_bytes words.now) k ≡ Some word → IsOption word → ⊥ }
+    ensures at { (word : List ℕ) → slice_get (map string_bytes words.now) result ≡ Some word → IsOption word }
+{
+    let mut place = 0;
     'words: for word in words {
         if is_option(word) {
-            return true;
+            return place;
         }
+        place += 1;
     }
-    false
+    place
 }

@@ -1,15 +1,14 @@
 // How a program ends, and what it then says.
 
-ghost use Rattle.std.specs.Prelude.{◌≡◌, ◌⊎◌, ◌++◌, true, IfOk, IfErr, OnOk, OnErr, decimal, string_bytes};
-ghost use Rattle.std.specs.Io.KnownBytes.{Appends, Keeps};
-ghost use Rattle.lift_sink.specs.Writes.{Writes, AppendsFront};
+ghost use Rattle.std.specs.Prelude.{◌≡◌, ◌++◌, true, OnOk, OnErr, decimal};
+ghost use Rattle.std.specs.Io.KnownBytes.{Appends};
 ghost use Rattle.lift_host.specs.Messages.{message_of, status_of, code_of};
 
 use crate::files::ReadFault;
 use crate::press::PressFault;
-use lift_sink::sink::{Sink, SinkFault, put_all};
 use il_spec::fault::Refusal;
 use itoa::Buffer;
+use lift_sink::sink::{Sink, SinkFault, put_all};
 use std::alloc::AllocError;
 
 /// How a program ends.
@@ -17,7 +16,7 @@ use std::alloc::AllocError;
 pub enum Status {
     /// It has written its output.
     Done,
-    /// The words, the text or an event were refused.
+    /// The words or a file were refused.
     Refused,
     /// The file can't be read.
     CannotRead,
@@ -36,8 +35,8 @@ pub enum Fault {
     Refused { number: u16, line: u32 },
     /// A PRESS word is wrong.
     BadPress,
-    /// The world refused an event that the program made.
-    Event(u8),
+    /// ROUND of `--fire` is no round of the simulation.
+    BadFire,
     CannotRead,
     CannotWrite,
     NoMemory,
@@ -117,7 +116,7 @@ impl Fault {
             Fault::Misuse(_) => Status::Refused,
             Fault::Refused { .. } => Status::Refused,
             Fault::BadPress => Status::Refused,
-            Fault::Event(_) => Status::Refused,
+            Fault::BadFire => Status::Refused,
             Fault::CannotRead => Status::CannotRead,
             Fault::CannotWrite => Status::CannotWrite,
             Fault::NoMemory => Status::NoMemory,
@@ -125,7 +124,7 @@ impl Fault {
     }
 
     /// Writes what the program says of it.
-    fn put<S: Sink>(&self, sink: &mut S) -> Result<(), SinkFault>
+    pub fn put<S: Sink>(&self, sink: &mut S) -> Result<(), SinkFault>
         ensures ok { OnOk result (Appends (S.contents sink.old) (S.contents sink.new) (message_of self.now)) }
         ensures failed { OnErr result (S.has_failed sink.new ≡ true) }
     {
@@ -133,7 +132,7 @@ impl Fault {
             Fault::Misuse(text) => put_all(sink, text.as_bytes()),
             Fault::Refused { number, line } => put_refusal(sink, *number, *line),
             Fault::BadPress => put_all(sink, b"bad press\n"),
-            Fault::Event(number) => put_event(sink, *number),
+            Fault::BadFire => put_all(sink, b"bad fire\n"),
             Fault::CannotRead => put_all(sink, b"cannot read\n"),
             Fault::CannotWrite => put_all(sink, b"cannot write\n"),
             Fault::NoMemory => put_all(sink, b"no memory\n"),
@@ -148,15 +147,6 @@ fn put_refusal<S: Sink>(sink: &mut S, number: u16, line: u32) -> Result<(), Sink
 {
     put_numbered(sink, b"refused ", u32::from(number))?;
     put_numbered(sink, b" at line ", line)?;
-    put_all(sink, b"\n")
-}
-
-/// Writes that an event is refused.
-fn put_event<S: Sink>(sink: &mut S, number: u8) -> Result<(), SinkFault>
-    ensures ok { OnOk result (Appends (S.contents sink.old) (S.contents sink.new) (message_of (Fault.Event number))) }
-    ensures failed { OnErr result (S.has_failed sink.new ≡ true) }
-{
-    put_numbered(sink, b"refused ", u32::from(number))?;
     put_all(sink, b"\n")
 }
 
@@ -176,28 +166,4 @@ fn put_number<S: Sink>(sink: &mut S, number: u32) -> Result<(), SinkFault>
 {
     let mut buffer = Buffer::new();
     put_all(sink, buffer.format(number).as_bytes())
-}
-
-/// Writes the output of the program, or what it says of its fault. A standard error that fails
-/// changes nothing.
-pub fn show<O: Sink, E: Sink>(outcome: Result<String, Fault>, out: &mut O, err: &mut E) -> Status
-    ensures ends { IfOk outcome (λ _. (result ≡ Status.Done) ⊎ ((result ≡ Status.CannotWrite) × (O.has_failed out.new ≡ true))) }
-    ensures shown { IfOk outcome (λ text. result ≡ Status.Done → Appends (O.contents out.old) (O.contents out.new) (string_bytes text)) }
-    ensures front { IfOk outcome (λ text. result ≡ Status.CannotWrite → AppendsFront (O.contents out.old) (O.contents out.new) (string_bytes text)) }
-    ensures silent { result ≡ Status.Done → Keeps (E.contents err.old) (E.contents err.new) }
-    ensures cannot_write { IfOk outcome (λ _. result ≡ Status.CannotWrite → Writes (E.contents err.old) (E.contents err.new) (E.has_failed err.new) (message_of Fault.CannotWrite)) }
-
-    ensures fault { IfErr outcome (λ fault. result ≡ status_of fault) }
-    ensures nothing { IfErr outcome (λ _. Keeps (O.contents out.old) (O.contents out.new)) }
-    ensures told { IfErr outcome (λ fault. Writes (E.contents err.old) (E.contents err.new) (E.has_failed err.new) (message_of fault)) }
-{
-    let fault = match outcome {
-        Ok(text) => match put_all(out, text.as_bytes()) {
-            Ok(()) => return Status::Done,
-            Err(_) => Fault::CannotWrite,
-        },
-        Err(fault) => fault,
-    };
-    let _ = fault.put(err);
-    fault.status()
 }

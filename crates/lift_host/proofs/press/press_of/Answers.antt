@@ -1,33 +1,20 @@
-use Rattle.std.proofs.Common.{arith, Option, Some, None}
-use Rattle.std.specs.Prelude.{IfSome}
-use Rattle.lift_host.specs.Presses.{IsPressOf, IsPress}
-use Rattle.lift_host.specs.declared.press.Press.{Press}
-use Rattle.lift_host.proofs.Parts.{no_press, half_press, press_is, press_of_parts}
+use Rattle.std.proofs.Common.{◌∷◌, ◌∙◌, ap, refl}
+use Rattle.std.proofs.lemmas.Option.{IfSome_then}
+use Rattle.lift_host.proofs.Parts.{press_of_more, plain_press, panel_press}
 use Rattle.lift_host.proofs.press.press_of.Goals as goal
 
--- what is given is of that kind
-given : (P Q : Press → Type 0) (o : Option Press) → ((p : Press) → P p → Q p) → IfSome o P → IfSome o Q
-given P Q (Some p) wider is = wider p is
-given P Q None wider is = tt
+pub returns-in_err-panel-in-Some-clause-none : goal.returns-in_err-panel-in-Some-clause-none
+returns-in_err-panel-in-Some-clause-none c = λ _ p is.
+    let e = c.in_ok-round.ensures.some ∙ ap (λ ps. c.in_ok-round.round.now ∷ ps) (c.in_ok-from.ensures.some ∙ ap (λ ps. c.in_ok-from.from.now ∷ ps) c.in-Some.ensures.some) in
+    c.in_err-panel-in-Some.ensures.none refl p.panel (press_of_more c.args.rounds c.args.floors c.args.word.now c.in_ok-round.round.now c.in_ok-from.from.now c.in-Some.to.now c.in-Some.panel.now e p is).1
 
-pub returns-in_err-round-clause-none : goal.returns-in_err-round-clause-none
-returns-in_err-round-clause-none c = λ _. no_press c.args.rounds c.args.floors c.args.word.now (c.in_err-round.ensures.byte (omega arith) (λ w o f. f))
+pub returns-in-None-clause-some : goal.returns-in-None-clause-some
+returns-in-None-clause-some c =
+    let e = c.in_ok-round.ensures.some ∙ ap (λ ps. c.in_ok-round.round.now ∷ ps) (c.in_ok-from.ensures.some ∙ ap (λ ps. c.in_ok-from.from.now ∷ ps) (c.in-None.ensures.none refl)) in
+    IfSome_then c.press_by.result c.press_by.ensures.some (plain_press c.args.rounds c.args.floors c.args.word.now c.in_ok-round.round.now c.in_ok-from.from.now c.in_ok-from.to.now e)
 
-pub returns-in_err-from-clause-none : goal.returns-in_err-from-clause-none
-returns-in_err-from-clause-none c =
-    let first = c.in_ok-round.ensures.byte (omega arith) (λ w o f. f) in
-    λ _. half_press c.args.rounds c.args.floors c.args.word.now c.in_ok-round.floors_of.now first.2 first.1 (c.in_err-from.ensures.byte (omega arith) (λ w o f. f))
-
-pub returns-clause-some : goal.returns-clause-some
-returns-clause-some c =
-    let first = c.in_ok-round.ensures.byte (omega arith) (λ w o f. f) in
-    let second = c.in_ok-from.ensures.byte (omega arith) (λ w o f. f) in
-    given (IsPressOf c.args.rounds c.args.floors c.in_ok-round.round.now c.in_ok-from.from.now c.in_ok-from.to.now) (IsPress c.args.rounds c.args.floors c.args.word.now) c.press_by.result
-    (λ p is. press_is c.args.rounds c.args.floors c.args.word.now c.in_ok-round.round.now c.in_ok-round.floors_of.now c.in_ok-from.from.now c.in_ok-from.to.now p first.2 first.0 first.1 second.2 second.0 second.1 is)
-    c.press_by.ensures.some
-
-pub returns-clause-none : goal.returns-clause-none
-returns-clause-none c = λ none p is.
-    let first = c.in_ok-round.ensures.byte (omega arith) (λ w o f. f) in
-    let second = c.in_ok-from.ensures.byte (omega arith) (λ w o f. f) in
-    c.press_by.ensures.none none p (press_of_parts c.args.rounds c.args.floors c.args.word.now c.in_ok-round.round.now c.in_ok-round.floors_of.now c.in_ok-from.from.now c.in_ok-from.to.now p first.2 first.0 first.1 second.2 second.0 second.1 is)
+pub returns-in_ok-panel-in-Some-clause-some : goal.returns-in_ok-panel-in-Some-clause-some
+returns-in_ok-panel-in-Some-clause-some c =
+    let e = c.in_ok-round.ensures.some ∙ ap (λ ps. c.in_ok-round.round.now ∷ ps) (c.in_ok-from.ensures.some ∙ ap (λ ps. c.in_ok-from.from.now ∷ ps) c.in-Some.ensures.some) in
+    IfSome_then c.press_by-in-Some.result c.press_by-in-Some.ensures.some
+    (panel_press c.args.rounds c.args.floors c.args.word.now c.in_ok-round.round.now c.in_ok-from.from.now c.in-Some.to.now c.in-Some.panel.now c.in_ok-panel-in-Some.panel e c.in_ok-panel-in-Some.ensures.some)
