@@ -172,10 +172,10 @@ module _ (c : Config) (sized : IsSized c) where
   role_seen : (r : Option Role) (t : ℕ) → seen_by c true r ≡ image_scalars c t → r ≡ Some (role_of t)
   role_seen (Some CarRole) (suc k) same = refl
   role_seen (Some GroupRole) zero same = refl
-  role_seen (Some CarRole) zero same = absurd (car_or_places _ _ (ap (λ l. first_path (drop 5 l)) same))
-  role_seen (Some GroupRole) (suc k) same = absurd (car_or_places _ _ (sym (ap (λ l. first_path (drop 5 l)) same)))
-  role_seen None zero same = absurd (car_or_places _ _ (ap (λ l. first_path (drop 5 l)) same))
-  role_seen None (suc k) same = absurd (places_or_calls _ _ _ _ (ap (λ l. first_path (drop 12 l)) same))
+  role_seen (Some CarRole) zero same = absurd (car_or_places _ _ (ap (λ l. first_path (drop 6 l)) same))
+  role_seen (Some GroupRole) (suc k) same = absurd (car_or_places _ _ (sym (ap (λ l. first_path (drop 6 l)) same)))
+  role_seen None zero same = absurd (car_or_places _ _ (ap (λ l. first_path (drop 6 l)) same))
+  role_seen None (suc k) same = absurd (places_or_calls _ _ _ _ (ap (λ l. first_path (drop 13 l)) same))
 
 -- THE SLOTS' ORDER
 
@@ -193,8 +193,8 @@ module _ (c : Config) where
   in_order (suc k) = ap (λ l. firsts c ++ l) (in_line (waiting c) (from_row c) (to_row c) (car_row c) (fields c ++ outputs c))
 
   flat_image : (t : ℕ) → AreFlat (shown_all c true (Some (role_of t)))
-  flat_image zero = (tt, (tt, (tt, (tt, (tt, (tt, (tt, (tt, (tt, (tt, (tt, (tt, tt))))))))))))
-  flat_image (suc k) = (tt, (tt, (tt, (tt, (tt, (tt, (tt, (tt, (tt, (tt, (tt, (tt, (tt, (tt, (tt, (tt, (tt, (tt, (tt, tt)))))))))))))))))))
+  flat_image zero = (tt, (tt, (tt, (tt, (tt, (tt, (tt, (tt, (tt, (tt, (tt, (tt, (tt, tt)))))))))))))
+  flat_image (suc k) = (tt, (tt, (tt, (tt, (tt, (tt, (tt, (tt, (tt, (tt, (tt, (tt, (tt, (tt, (tt, (tt, (tt, (tt, (tt, (tt, tt))))))))))))))))))))
 
   -- the cells of the image, as a role sees it
   image_cells : (u : ProgramUnit) (t : ℕ) → is_program u ≡ true → program_role c u.name.name c.programs ≡ Some (role_of t) → entity_cells (instance_cells deepest c) [] (seen_image c u) ≡ cells_of (given_scalars c t)

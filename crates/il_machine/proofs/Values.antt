@@ -102,7 +102,6 @@ module _ (c : Config) (runs : IsRunnable c) (task : ℕ) (u : ProgramUnit) (is :
 
 -- ROOM
 
-
 -- two stores of a task have rows of one length
 pub same_length : (c : Config) (task : ℕ) (a b : Stored) → IsScanOf c task a → IsScanOf c task b → (length a.rows.numbers ≡ length b.rows.numbers) × (length a.rows.flags ≡ length b.rows.flags)
 same_length c task a b one other =
@@ -165,8 +164,7 @@ module _ (f : Finished) (scan : IsScan f) (c : Config) (task : ℕ) (s : Stored)
   began_by program same u is cells cells_are first first_is b test =
       let here : Begins c task f.first = subst (λ n. Begins c n f.first) same (subst (λ k. Begins k f.task f.first) program scan.begins) in
       let runs : IsRunnable c = subst IsRunnable program scan.runnable in
-      let stands_here : stands f.program.config f.task f.first ≡ stands c task f.first = ap₂ (λ k n. stands k n f.first) program same in
-      (
+      let stands_here : stands f.program.config f.task f.first ≡ stands c task f.first = ap₂ (λ k n. stands k n f.first) program same in (
         λ yes. record {
           same_program = program;
           same_task = same;

@@ -14,6 +14,7 @@ pub use il_budget::UnitCost;
 pub use il_exec::rows::Rows;
 pub use il_image::opening_image;
 pub use il_run::value::Value;
+pub use il_slots::flat::Cell;
 pub use rows::variable;
 pub use scanned::{OpenScan, Scanned, scan};
 pub use store::{Stepped, Store, finish, step};

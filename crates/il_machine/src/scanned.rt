@@ -156,9 +156,7 @@ impl<'v> Scanned<'v> {
     pub fn into_store(self) -> Store
         ensures { result ≡ self.entry.last }
     {
-        let Scanned {
-            scan, first, ..
-        } = self;
+        let Scanned { scan, first, .. } = self;
         Store { scan, first }
     }
 }

@@ -54,7 +54,7 @@ module _ (l : Ledger) (is : IsLedger l) (p : Program) (program : p ≡ l.program
   snapped s begins =
       let x = here_now in
       let own : stands p.config t s ≡ scan_begins l.program.value.config t (beginning_of (group_in l.program.value.config l.core) (task_in l.program.value.config t x.seat)) =
-        begins ∙ ap (λ (q : Program). scan_begins q.config t (beginning_of (group_in q.config l.core) (task_in q.config t x.seat))) program
+      begins ∙ ap (λ (q : Program). scan_begins q.config t (beginning_of (group_in q.config l.core) (task_in q.config t x.seat))) program
       in
       (task_in l.program.value.config t x.seat, task_in_seat (group_of l) is.world t x, own)
 

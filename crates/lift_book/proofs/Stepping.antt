@@ -100,13 +100,13 @@ module _ (l : Ledger) (is : IsLedger l) where
     ledger_more e answer adds rows stores starts =
         let kept : Kept (page_of m) = entry_keeps (page_of l) (page_of m) e answer is.kept free adds refl refl in
         let is_world : IsWorldOf (group_of m) =
-            record {
-              runnable = rw program is.world.runnable;
-              costs = rw program is.world.costs;
-              rows = rw program rows;
-              stores = rw program stores;
-              reached = journal_reaches m.program.value.config m.journal.items (world_of (group_of m)) kept.run;
-            }
+        record {
+          runnable = rw program is.world.runnable;
+          costs = rw program is.world.costs;
+          rows = rw program rows;
+          stores = rw program stores;
+          reached = journal_reaches m.program.value.config m.journal.items (world_of (group_of m)) kept.run;
+        }
         in
         record { world = is_world; starts = λ t scan s there at. rw program (starts t scan s (ap (λ u. scan_at u t) v_is ∙ there) at); kept = kept; reserved = reserved }
 

@@ -73,4 +73,3 @@ SnappedNow b t scan = (task : TaskState) × (task_at b.world.group t ≡ Some ta
 abbrev pub AllHaveWords : List EnteredCall → Type 0
 AllHaveWords [] = Unit {0}
 AllHaveWords (d ∷ done) = (HasWord d.call.from × HasWord d.call.to) × AllHaveWords done
-

@@ -19,9 +19,9 @@ use crate::ledger::Ledger;
 use il_machine::{OpenScan, Scanned, Store, Value, Verified};
 use lift_image::{Fields, Image, Row};
 use lift_journal::fault::StationFault;
-use lift_spec::journal::Entry;
 use lift_spec::calls::Slot;
 use lift_spec::hand::Hand;
+use lift_spec::journal::Entry;
 use lift_spec::report::Report;
 use std::alloc::{AllocError, Global};
 use std::marker::Model;
@@ -179,6 +179,7 @@ fn copied(fields: &Fields) -> Fields
     Fields {
         time: fields.time,
         run_limit: fields.run_limit,
+        fire: fields.fire,
         cars: Row::from_slice(fields.cars.as_slice()),
     }
 }
@@ -201,14 +202,10 @@ fn told_under(slot: &Slot, ticket: u64) -> Option<u8>
 {
     match slot {
         Slot::Told {
-            ticket: other, car, ..
-        } => {
-            if *other == ticket {
-                Some(*car)
-            } else {
-                None
-            }
-        }
+            ticket: other,
+            car,
+            ..
+        } => { if *other == ticket { Some(*car) } else { None } }
         _ => None,
     }
 }

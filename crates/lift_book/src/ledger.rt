@@ -23,8 +23,8 @@ ghost use Rattle.lift_journal.specs.declared.fault.StationFault.TheVariants.{Not
 use il_machine::{OpenScan, Scanned, Store, Verified};
 use lift_image::{Fields, in_range};
 use lift_journal::fault::StationFault;
-use lift_spec::journal::Entry;
 use lift_spec::hand::Hand;
+use lift_spec::journal::Entry;
 use lift_spec::report::{EnteredCall, Report};
 use lift_world::Core;
 use lift_world::controller::opening;
@@ -56,13 +56,7 @@ fn calls_of(entered: &[EnteredCall]) -> Hand
 }
 
 // The scan of a task begins, in its own store and in another.
-fn begin(
-    core: &mut Core,
-    verified: &Verified,
-    task: u8,
-    own: &mut Option<Store>,
-    store: &mut Store,
-)
+fn begin(core: &mut Core, verified: &Verified, task: u8, own: &mut Option<Store>, store: &mut Store)
     requires there { IsSome (seat_at core.old task) }
     requires own { IsSome own.old }
     requires fits { CoreFits verified.now.config core.old }

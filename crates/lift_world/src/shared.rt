@@ -158,7 +158,7 @@ impl Core {
     {
         let _config = verified.config();
         let sizes = verified.sizes();
-        let globals = verified.globals(alloc)?;
+        let globals = verified.opening_globals(alloc)?;
         let seats = opening_seats(alloc, verified, sizes.cars)?;
         Ok(Core {
             image: opening_image(sizes),
