@@ -1,6 +1,6 @@
 // The program `liftplc`.
 
-ghost use Rattle.std.specs.Prelude.{◌≡◌, ◌⊎◌, true, map, string_bytes};
+ghost use Rattle.std.specs.Prelude.{◌≡◌, ◌⊎◌, true, false, map, string_bytes};
 ghost use Rattle.std.specs.Io.KnownBytes.{Appends, Keeps};
 ghost use Rattle.lift_shell.specs.Runs.{IsOutcome, HasWritten, HasTold};
 ghost use Rattle.lift_command.specs.Runs.{IsTextOutcome};
@@ -23,15 +23,17 @@ pub fn run<F: TextFiles, O: Sink, E: Sink>(
     out: &mut O,
     err: &mut E,
 ) -> Status
+    requires { O.has_failed out.old ≡ false }
+
     // Where it is done, the standard output has the output of the words, and the standard error nothing.
-    ensures done { result ≡ Status.Done → HasWritten (IsOutcome (F.gives files.now) (F.fails files.now) IsTextOutcome (map string_bytes words.now)) (Appends (O.contents out.old) (O.contents out.new)) }
+    ensures done { result ≡ Status.Done → HasWritten (IsOutcome (F.gives files.now) (F.fails files.now) (IsTextOutcome (F.gives files.now) (F.fails files.now)) (map string_bytes words.now)) (Appends (O.contents out.old) (O.contents out.new)) }
     ensures silent { result ≡ Status.Done → Keeps (E.contents err.old) (E.contents err.new) }
 
     // Otherwise the standard error has the one message of the words' fault, or of a standard output
     // that failed, and unless the standard output failed nothing was written there.
-    ensures told { (result ≡ Status.Done) ⊎ HasTold (IsOutcome (F.gives files.now) (F.fails files.now) IsTextOutcome (map string_bytes words.now)) (O.has_failed out.new) result (Writes (E.contents err.old) (E.contents err.new) (E.has_failed err.new)) }
+    ensures told { (result ≡ Status.Done) ⊎ HasTold (IsOutcome (F.gives files.now) (F.fails files.now) (IsTextOutcome (F.gives files.now) (F.fails files.now)) (map string_bytes words.now)) (O.has_failed out.new) result (Writes (E.contents err.old) (E.contents err.new) (E.has_failed err.new)) }
     ensures nothing { (result ≡ Status.Done) ⊎ (((result ≡ Status.CannotWrite) × (O.has_failed out.new ≡ true)) ⊎ Keeps (O.contents out.old) (O.contents out.new)) }
-    ensures front { result ≡ Status.CannotWrite → HasWritten (IsOutcome (F.gives files.now) (F.fails files.now) IsTextOutcome (map string_bytes words.now)) (AppendsFront (O.contents out.old) (O.contents out.new)) }
+    ensures front { result ≡ Status.CannotWrite → HasWritten (IsOutcome (F.gives files.now) (F.fails files.now) (IsTextOutcome (F.gives files.now) (F.fails files.now)) (map string_bytes words.now)) (AppendsFront (O.contents out.old) (O.contents out.new)) }
 {
     lift_shell::run::run(alloc, words, files, &Liftplc, out, err)
 }

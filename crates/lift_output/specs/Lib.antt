@@ -1,3 +1,4 @@
-pub mod Ends
 pub mod Listing
+pub mod ImageText
 pub mod Outcomes
+pub mod Parts

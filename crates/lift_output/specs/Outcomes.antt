@@ -1,31 +1,111 @@
 -- What a request gives of a verified configuration (own rules).
-use Rattle.std.specs.Prelude.{◌≡◌, ℕ, List, Ok, Err, String, string_bytes}
-use Rattle.std.specs.Global.{Global}
+use Rattle.std.specs.Prelude.{◌≡◌, ◌⊎◌, ℕ, ◌+◌, List, Option, Some, None, option_map, Ok, Err}
 use Rattle.il_machine.specs.Scanning.{Program}
+use Rattle.lift_host.specs.declared.files.ReadFault.{ReadFault}
 use Rattle.lift_host.specs.declared.press.Press.{Press}
 use Rattle.lift_host.specs.declared.request.Request.{Request}
 use Rattle.lift_host.specs.declared.request.Request.TheVariants as request
 use Rattle.lift_host.specs.declared.status.Fault.TheVariants as fault
-use Rattle.lift_host.specs.Messages.{Outcome}
+use Rattle.lift_host.specs.Messages.{fault_of_reading}
 use Rattle.lift_host.specs.Presses.{ArePresses}
+use Rattle.lift_host.specs.Requests.{IsNumberTo, words_of}
+use Rattle.lift_journal.specs.Rounds.{TakesAll, IsRefusedAt}
+use Rattle.lift_output.specs.ImageText.{image_text}
 use Rattle.lift_output.specs.Listing.{listing}
+use Rattle.lift_runs.specs.Driven.{IsSimulated}
+use Rattle.lift_show.specs.Outputs.{Outcome, bytes_of}
+use Rattle.lift_spec.specs.declared.event.EventFault.{EventFault}
+use Rattle.lift_spec.specs.declared.journal.Entry.{Entry}
+use Rattle.lift_spec.specs.declared.trace.TraceEvent.{TraceEvent}
+use Rattle.lift_spec.specs.EventFaults.{event_fault_number}
 use Rattle.lift_spec.specs.Image.{sizes_of}
+use Rattle.lift_spec.specs.World.{World, opening}
+use Rattle.lift_trace.specs.declared.fault.TraceFault.TheVariants.{BadLine, Truncated}
+use Rattle.lift_trace.specs.Reading.{Reads}
+use Rattle.lift_trace.specs.Written.{text_of_entries}
+
+-- CHECK
 
 -- `check` of a verified program prints its listing; memory may be missing.
 abbrev pub IsCheckOutcome : Program → Outcome → Type 0
-IsCheckOutcome program (Ok text) = string_bytes text ≡ listing program
+IsCheckOutcome program (Ok output) = bytes_of output ≡ listing program
 IsCheckOutcome program (Err fault.NoMemory) = Unit {0}
 IsCheckOutcome program (Err _) = ⊥
 
--- `sim` prints, or an event is refused, where its further words are presses; otherwise one of them is bad. Memory may be missing.
-abbrev pub IsSimOutcome : (rounds floors : ℕ) → List (String Global) → Outcome → Type 0
-IsSimOutcome rounds floors words (Ok text) = (presses : List Press) × ArePresses rounds floors words presses
-IsSimOutcome rounds floors words (Err (fault.Event number)) = (presses : List Press) × ArePresses rounds floors words presses
-IsSimOutcome rounds floors words (Err fault.BadPress) = (presses : List Press) → ArePresses rounds floors words presses → ⊥
-IsSimOutcome rounds floors words (Err fault.NoMemory) = Unit {0}
-IsSimOutcome rounds floors words (Err _) = ⊥
+-- SIM
+
+-- the round from which on FIRE holds, as the word behind `--fire` spells it
+abbrev pub IsFire : ℕ → Option (List ℕ) → Option ℕ → Type 0
+IsFire rounds None None = Unit {0}
+IsFire rounds None (Some first) = ⊥
+IsFire rounds (Some word) None = ⊥
+IsFire rounds (Some word) (Some first) = IsNumberTo rounds word first
+
+-- The trace is that of a journal of the program, a run from its opening: so many rounds, with the presses and the FIRE of the words.
+pub record IsTraceOf (program : Program) (rounds : ℕ) (words : List (List ℕ)) (fire : Option (List ℕ)) (text : List ℕ) : Type 0 where
+  pub presses : List Press
+  pub spelled : ArePresses rounds (sizes_of program.config).floors words presses
+  pub first : Option ℕ
+  pub from_round : IsFire rounds fire first
+  pub entries : List Entry
+  pub simulated : IsSimulated program.config presses first rounds entries
+  pub trace : text ≡ text_of_entries entries
+
+-- `sim` prints its trace, where its further words are presses and the word behind `--fire` is a round; otherwise one of them is bad,
+-- the presses first. Memory may be missing.
+abbrev pub IsSimOutcome : Program → ℕ → List (List ℕ) → Option (List ℕ) → Outcome → Type 0
+IsSimOutcome program rounds words fire (Ok output) = IsTraceOf program rounds words fire (bytes_of output)
+IsSimOutcome program rounds words fire (Err fault.BadPress) = (presses : List Press) → ArePresses rounds (sizes_of program.config).floors words presses → ⊥
+IsSimOutcome program rounds words fire (Err fault.BadFire) = ((presses : List Press) × ArePresses rounds (sizes_of program.config).floors words presses) × ((first : Option ℕ) → IsFire rounds fire first → ⊥)
+IsSimOutcome program rounds words fire (Err fault.NoMemory) = Unit {0}
+IsSimOutcome program rounds words fire (Err _) = ⊥
+
+-- REPLAY
+
+-- the bytes of a trace that are read: one more than a trace may have
+abbrev pub most_trace_bytes : ℕ
+most_trace_bytes = 67108865
+
+-- the image behind a trace's events, from the opening of the program
+pub record IsImageAfter (program : Program) (trace text : List ℕ) : Type 0 where
+  pub events : List TraceEvent
+  pub reads : Reads (sizes_of program.config).cars trace (Ok events)
+  pub after : World
+  pub taken : TakesAll program.config (opening program.config) events after
+  pub is : text ≡ image_text program.config after
+
+-- an event of the trace is refused, with this number, at its line: the first event stands in line 2
+pub record IsEventRefused (program : Program) (trace : List ℕ) (number line : ℕ) : Type 0 where
+  pub events : List TraceEvent
+  pub reads : Reads (sizes_of program.config).cars trace (Ok events)
+  pub index : ℕ
+  pub why : EventFault
+  pub refused : IsRefusedAt program.config (opening program.config) events index why
+  pub numbered : number ≡ event_fault_number why
+  pub lined : line ≡ index + 2
+
+-- a line of the trace is wrong, 80, or the text ends too early in it, 81; or an event is refused
+pub data IsTraceRefused (program : Program) (trace : List ℕ) (number line : ℕ) : Type 0 where
+  bad_line : number ≡ 80 → Reads (sizes_of program.config).cars trace (Err (BadLine line)) → IsTraceRefused program trace number line
+  truncated : number ≡ 81 → Reads (sizes_of program.config).cars trace (Err (Truncated line)) → IsTraceRefused program trace number line
+  event : IsEventRefused program trace number line → IsTraceRefused program trace number line
+
+-- `replay` of a trace prints the image behind its events, or what is wrong with it. Memory may be missing.
+abbrev pub IsReplayed : Program → List ℕ → Outcome → Type 0
+IsReplayed program trace (Ok output) = IsImageAfter program trace (bytes_of output)
+IsReplayed program trace (Err (fault.Refused number line)) = IsTraceRefused program trace number line
+IsReplayed program trace (Err fault.NoMemory) = Unit {0}
+IsReplayed program trace (Err _) = ⊥
+
+-- the file of a trace can't be read, or it is replayed
+pub data IsReplayOutcome (reads : List ℕ → ℕ → List ℕ → Type 0) (fails : List ℕ → ℕ → ReadFault → Type 0) (program : Program) (trace : List ℕ) (outcome : Outcome) : Type 0 where
+  unread : (why : ReadFault) → fails trace most_trace_bytes why → outcome ≡ Err (fault_of_reading why) → IsReplayOutcome reads fails program trace outcome
+  read : (text : List ℕ) → reads trace most_trace_bytes text → IsReplayed program text outcome → IsReplayOutcome reads fails program trace outcome
+
+-- REQUESTS
 
 -- A verified program gives what its command prints.
-abbrev pub IsProgramOutcome : Request → Program → Outcome → Type 0
-IsProgramOutcome (request.Check file) program outcome = IsCheckOutcome program outcome
-IsProgramOutcome (request.Sim file rounds presses) program outcome = IsSimOutcome rounds (sizes_of program.config).floors presses.now outcome
+abbrev pub IsProgramOutcome : (List ℕ → ℕ → List ℕ → Type 0) → (List ℕ → ℕ → ReadFault → Type 0) → Request → Program → Outcome → Type 0
+IsProgramOutcome reads fails (request.Check file) program outcome = IsCheckOutcome program outcome
+IsProgramOutcome reads fails (request.Sim file rounds presses fire) program outcome = IsSimOutcome program rounds (words_of presses) (option_map (λ word. word.now) fire) outcome
+IsProgramOutcome reads fails (request.Replay file trace) program outcome = IsReplayOutcome reads fails program trace.now outcome

@@ -1,7 +1,6 @@
-//! What `check` and `sim` print.
+//! What the commands print over a verified configuration.
 #![tactic(auto)]
 
 pub mod check;
+pub mod image;
 pub mod outcome;
-pub mod sim;
-pub mod trace;

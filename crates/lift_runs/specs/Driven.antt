@@ -1,6 +1,7 @@
 -- What drives a simulation: the presses of each round, and FIRE (own rules).
 use Rattle.std.specs.Prelude.{◌≡◌, ℕ, ◌≤◌, Bool, false, List, [], ◌∷◌, map, filter, Option, Some, None, ◌==◌, nat_le}
 use Rattle.il_spec.specs.declared.tree.Config.{Config}
+use Rattle.il_machine.specs.Scanning.{HasTask}
 use Rattle.lift_host.specs.declared.press.Press.{Press}
 use Rattle.lift_spec.specs.declared.calls.Call.{Call}
 use Rattle.lift_spec.specs.declared.image.Sizes.{Sizes}
@@ -23,6 +24,11 @@ calls_in presses round = map call_of (filter (λ (p : Press). p.round == round) 
 abbrev pub ArePressed : Sizes → List Press → Type 0
 ArePressed sizes [] = Unit {0}
 ArePressed sizes (press ∷ presses) = IsCall sizes (call_of press) × ArePressed sizes presses
+
+-- each number is that of a task of the group
+abbrev pub AreTasks : Config → List ℕ → Type 0
+AreTasks c [] = Unit {0}
+AreTasks c (t ∷ tasks) = HasTask c t × AreTasks c tasks
 
 -- whether FIRE holds in a round: from the round that is given on, if one is
 abbrev pub is_fire_in : Option ℕ → ℕ → Bool

@@ -1,6 +1,9 @@
 // A group on its simulated plant.
 
-ghost use Rattle.std.specs.Prelude.{◌≡◌, ◌++◌, ◌≤◌, ◌+◌, [], ◌∷◌, map, flat_map, length, Ok, OnOk, IfOk};
+ghost use Rattle.std.specs.Prelude.{◌≡◌, ◌++◌, ◌≤◌, ◌+◌, [], ◌∷◌, map, flat_map, length, Ok, OnOk, IfOk, IfErr, List};
+ghost use Rattle.il_spec.specs.declared.fault.Refusal.TheVariants.{Memory};
+ghost use Rattle.lift_spec.specs.declared.journal.Entry.{Entry as EntryOf};
+ghost use Rattle.lift_spec.specs.World.{opening};
 ghost use Rattle.il_machine.specs.Scanning.{HasTask};
 ghost use Rattle.lift_spec.specs.declared.event.Event.TheVariants.{Press as PressOf, Gather as GatherOf, Refresh as RefreshOf};
 ghost use Rattle.lift_spec.specs.Calls.{IsCall};
@@ -11,11 +14,12 @@ ghost use Rattle.lift_spec.specs.World.{happens};
 ghost use Rattle.lift_spec.specs.declared.journal.Entry.TheVariants as entry;
 ghost use Rattle.lift_journal.specs.Rounds.{Happen, ScanEach, IsRound, Rounds, desk_events, floors_rising, tasks_in_order, scan_entries, entered_calls_of};
 ghost use Rattle.lift_journal.proofs.Taking.{IsClosed};
-ghost use Rattle.lift_runs.specs.Driven.{call_of, calls_in, ArePressed, is_fire_in, IsSimulated, AreTasks, RoundsSoFar};
+ghost use Rattle.lift_runs.specs.Driven.{call_of, calls_in, ArePressed, is_fire_in, IsSimulated, AreTasks};
 ghost use Rattle.lift_world.specs.Running.{world_of};
 
 use crate::scan::scan;
 use il_machine::Verified;
+use il_spec::fault::Refusal;
 use lift_host::press::Press;
 use lift_image::{Fields, Sizes};
 use lift_journal::entered::calls_of;
@@ -219,16 +223,13 @@ pub fn simulate(
     verified: Verified,
     drive: Drive<'_>,
     rounds: u16,
-) -> Result<Vec<Entry>, AllocError>
+) -> Result<Vec<Entry>, Refusal>
     requires calls { ArePressed (sizes_of verified.config) drive.presses.now }
     ensures rounds { IfOk result (λ entries. IsSimulated verified.config drive.presses.now drive.fire rounds entries.items) }
+    ensures memory { IfErr result (λ refusal. refusal ≡ Memory) }
 {
-    match World::new(alloc, verified) {
-        Ok(mut world) => {
-            let entries = journal_of(alloc, &mut world, drive, rounds);
-            world.release();
-            entries
-        }
-        Err(_) => Err(AllocError),
-    }
+    let mut world = World::new(alloc, verified)?;
+    let entries = journal_of(alloc, &mut world, drive, rounds);
+    world.release();
+    Ok(entries?)
 }

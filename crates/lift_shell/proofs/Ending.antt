@@ -1,8 +1,8 @@
 -- How a run ends, by its outcome and how that was shown.
 use Rattle.std.proofs.Common.{◌≡◌, ◌⊎◌, ℕ, List, Bool, true, Result, Ok, Err, IfOk, IfErr, inl, inr, sym, refl, ap, ◌∙◌}
-use Rattle.std.specs.Prelude.{String}
-use Rattle.std.specs.Global.{Global}
-use Rattle.lift_host.specs.Messages.{Outcome, status_of, message_of}
+use Rattle.lift_host.specs.Messages.{status_of, message_of}
+use Rattle.lift_show.specs.declared.output.Output.{Output}
+use Rattle.lift_show.specs.Outputs.{Outcome}
 use Rattle.lift_host.specs.declared.status.Fault.{Fault}
 use Rattle.lift_host.specs.declared.status.Fault.TheVariants as fault
 use Rattle.lift_host.specs.declared.status.Status.{Status}
@@ -13,7 +13,7 @@ never_done : (f : Fault) → status_of f ≡ status.Done → ⊥
 never_done (fault.Misuse text) e = cc
 never_done (fault.Refused number line) e = cc
 never_done fault.BadPress e = cc
-never_done (fault.Event number) e = cc
+never_done fault.BadFire e = cc
 never_done fault.CannotRead e = cc
 never_done fault.CannotWrite e = cc
 never_done fault.NoMemory e = cc
@@ -23,23 +23,23 @@ cannot_write_only : (f : Fault) → status_of f ≡ status.CannotWrite → f ≡
 cannot_write_only (fault.Misuse text) e = cc
 cannot_write_only (fault.Refused number line) e = cc
 cannot_write_only fault.BadPress e = cc
-cannot_write_only (fault.Event number) e = cc
+cannot_write_only fault.BadFire e = cc
 cannot_write_only fault.CannotRead e = cc
 cannot_write_only fault.CannotWrite e = refl
 cannot_write_only fault.NoMemory e = cc
 
 -- where it is done, the outcome was an output, and it was written
-pub done_of : (M : Outcome → Type 0) (Written : String Global → Type 0) (outcome : Outcome) (result : Status)
-    → M outcome → IfOk outcome (λ text. result ≡ status.Done → Written text) → IfErr outcome (λ f. result ≡ status_of f)
-    → result ≡ status.Done → (text : String Global) × M (Ok text) × Written text
-done_of M Written (Ok text) result m shown ends e = (text, m, shown e)
+pub done_of : (M : Outcome → Type 0) (Written : Output → Type 0) (outcome : Outcome) (result : Status)
+    → M outcome → IfOk outcome (λ output. result ≡ status.Done → Written output) → IfErr outcome (λ f. result ≡ status_of f)
+    → result ≡ status.Done → (output : Output) × M (Ok output) × Written output
+done_of M Written (Ok output) result m shown ends e = (output, m, shown e)
 done_of M Written (Err f) result m shown ends e = absurd (never_done f (sym ends ∙ e))
 
 -- where the output can't be written, the outcome was one, and a front of it was written
-pub front_of : (M : Outcome → Type 0) (Begun : String Global → Type 0) (outcome : Outcome) (result : Status)
-    → (outcome ≡ Err fault.CannotWrite → ⊥) → M outcome → IfOk outcome (λ text. result ≡ status.CannotWrite → Begun text) → IfErr outcome (λ f. result ≡ status_of f)
-    → result ≡ status.CannotWrite → (text : String Global) × M (Ok text) × Begun text
-front_of M Begun (Ok text) result never m front ends e = (text, m, front e)
+pub front_of : (M : Outcome → Type 0) (Begun : Output → Type 0) (outcome : Outcome) (result : Status)
+    → (outcome ≡ Err fault.CannotWrite → ⊥) → M outcome → IfOk outcome (λ output. result ≡ status.CannotWrite → Begun output) → IfErr outcome (λ f. result ≡ status_of f)
+    → result ≡ status.CannotWrite → (output : Output) × M (Ok output) × Begun output
+front_of M Begun (Ok output) result never m front ends e = (output, m, front e)
 front_of M Begun (Err f) result never m front ends e = absurd (never (ap Err (cannot_write_only f (sym ends ∙ e))))
 
 -- else the outcome was a fault, or the output failed, and the message was written
@@ -49,6 +49,6 @@ pub told_of : (M : Outcome → Type 0) (Told : List ℕ → Type 0) (failed : Bo
     → IfOk outcome (λ _. result ≡ status.CannotWrite → Told (message_of fault.CannotWrite))
     → IfErr outcome (λ f. result ≡ status_of f) → IfErr outcome (λ f. Told (message_of f))
     → (result ≡ status.Done) ⊎ ((f : Fault) × (M (Err f) ⊎ ((f ≡ fault.CannotWrite) × (failed ≡ true))) × (status_of f ≡ result) × Told (message_of f))
-told_of M Told failed (Ok text) result m (inl done) unwritten ends told = inl done
-told_of M Told failed (Ok text) result m (inr (is, fails)) unwritten ends told = inr (fault.CannotWrite, inr (refl, fails), sym is, unwritten is)
+told_of M Told failed (Ok output) result m (inl done) unwritten ends told = inl done
+told_of M Told failed (Ok output) result m (inr (is, fails)) unwritten ends told = inr (fault.CannotWrite, inr (refl, fails), sym is, unwritten is)
 told_of M Told failed (Err f) result m ok unwritten ends told = inr (f, inl m, sym ends, told)

@@ -1,13 +1,14 @@
 -- What comes of a run of the program (own rules).
-use Rattle.std.specs.Prelude.{◌≡◌, ◌⊎◌, ℕ, List, Bool, true, Ok, Err, String, string_bytes}
-use Rattle.std.specs.Global.{Global}
+use Rattle.std.specs.Prelude.{◌≡◌, ◌⊎◌, ℕ, List, Bool, true, Ok, Err}
 use Rattle.lift_host.specs.declared.files.ReadFault.{ReadFault}
 use Rattle.lift_host.specs.declared.request.Request.{Request}
 use Rattle.lift_host.specs.declared.status.Fault.{Fault}
 use Rattle.lift_host.specs.declared.status.Fault.TheVariants as fault
 use Rattle.lift_host.specs.declared.status.Status.{Status}
-use Rattle.lift_host.specs.Messages.{Outcome, fault_of_reading, message_of, status_of}
+use Rattle.lift_host.specs.Messages.{fault_of_reading, message_of, status_of}
 use Rattle.lift_host.specs.Requests.{Asks, name_of}
+use Rattle.lift_show.specs.declared.output.Output.{Output}
+use Rattle.lift_show.specs.Outputs.{Outcome, bytes_of}
 
 -- the bytes of a file that are read: one more than a text may have
 abbrev pub most_bytes : ℕ
@@ -15,7 +16,7 @@ most_bytes = 262145
 
 -- Words that ask for no file give help, the version, what a number means, or what is wrong with them.
 abbrev pub IsWordsOutcome : Outcome → Type 0
-IsWordsOutcome (Ok text) = Unit {0}
+IsWordsOutcome (Ok output) = Unit {0}
 IsWordsOutcome (Err (fault.Misuse text)) = Unit {0}
 IsWordsOutcome (Err fault.NoMemory) = Unit {0}
 IsWordsOutcome (Err _) = ⊥
@@ -32,7 +33,7 @@ pub data IsOutcome (reads : List ℕ → ℕ → List ℕ → Type 0) (fails : L
 
 -- an output of these outcomes was written
 abbrev pub HasWritten : (Outcome → Type 0) → (List ℕ → Type 0) → Type 0
-HasWritten Of Writes = (text : String Global) × Of (Ok text) × Writes (string_bytes text)
+HasWritten Of Writes = (output : Output) × Of (Ok output) × Writes (bytes_of output)
 
 -- a fault of these outcomes, or that of a standard output that failed, ends with this status, and its message was written
 abbrev pub HasTold : (Outcome → Type 0) → Bool → Status → (List ℕ → Type 0) → Type 0

@@ -1,21 +1,30 @@
 // What the program does with a text.
 
 ghost use Rattle.std.specs.Prelude.{◌≡◌, ◌≢◌, ℕ, List, Err};
+ghost use Rattle.lift_host.specs.declared.files.ReadFault.{ReadFault};
 ghost use Rattle.lift_host.specs.declared.request.Request.{Request};
 ghost use Rattle.lift_host.specs.declared.status.Fault.TheVariants.{CannotWrite};
-ghost use Rattle.lift_host.specs.Messages.{Outcome};
+ghost use Rattle.lift_show.specs.Outputs.{Outcome};
 
+use lift_host::files::TextFiles;
 use lift_host::request::Request;
 use lift_host::status::Fault;
+use lift_show::output::Output;
 use std::alloc::Global;
 
-/// The commands of a program, each over the text of its file.
+/// The commands of a program, each over the text of its file; `replay` reads a second file.
 pub trait Commands {
-    // What a request may give of a text.
-    ghost gives: { Self → Request → List ℕ → Outcome → Type 0 };
+    // What a request may give of a text, where files give this or fail so.
+    ghost gives: { Self → (List ℕ → ℕ → List ℕ → Type 0) → (List ℕ → ℕ → ReadFault → Type 0) → Request → List ℕ → Outcome → Type 0 };
 
     /// What the request prints, or why it prints nothing. Commands write nothing themselves.
-    fn outcome(&self, alloc: Global, request: Request<'_>, text: &[u8]) -> Result<String, Fault>
-        ensures gives { gives self.now request.entry text.now result }
+    fn outcome<F: TextFiles>(
+        &self,
+        alloc: Global,
+        request: Request<'_>,
+        text: &[u8],
+        files: &F,
+    ) -> Result<Output, Fault>
+        ensures gives { gives self.now (F.gives files.now) (F.fails files.now) request.entry text.now result }
         ensures unwritten { result ≢ Err CannotWrite };
 }

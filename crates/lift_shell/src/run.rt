@@ -1,6 +1,6 @@
 // The program, over its words.
 
-ghost use Rattle.std.specs.Prelude.{◌≡◌, ◌≢◌, ◌⊎◌, Err, true, map, string_bytes};
+ghost use Rattle.std.specs.Prelude.{◌≡◌, ◌≢◌, ◌⊎◌, Err, true, false, map, string_bytes};
 ghost use Rattle.std.specs.Io.KnownBytes.{Appends, Keeps};
 ghost use Rattle.lift_shell.specs.Runs.{IsOutcome, IsFileOutcome, IsWordsOutcome, HasWritten, HasTold};
 ghost use Rattle.lift_sink.specs.Writes.{Writes, AppendsFront};
@@ -10,7 +10,9 @@ use lift_help::command::{Answer, answer_of};
 use lift_host::files::TextFiles;
 use lift_host::request::{Request, asked};
 use lift_sink::sink::Sink;
-use lift_host::status::{Fault, Status, show};
+use lift_host::status::{Fault, Status};
+use lift_show::output::Output;
+use lift_show::show::show;
 use std::alloc::Global;
 
 /// The most bytes of FILE that are read: one more than a text may have.
@@ -25,15 +27,17 @@ pub fn run<F: TextFiles, C: Commands, O: Sink, E: Sink>(
     out: &mut O,
     err: &mut E,
 ) -> Status
+    requires { O.has_failed out.old ≡ false }
+
     // Where it is done, the standard output has the output of the words, and the standard error nothing.
-    ensures done { result ≡ Status.Done → HasWritten (IsOutcome (F.gives files.now) (F.fails files.now) (C.gives commands.now) (map string_bytes words.now)) (Appends (O.contents out.old) (O.contents out.new)) }
+    ensures done { result ≡ Status.Done → HasWritten (IsOutcome (F.gives files.now) (F.fails files.now) (C.gives commands.now (F.gives files.now) (F.fails files.now)) (map string_bytes words.now)) (Appends (O.contents out.old) (O.contents out.new)) }
     ensures silent { result ≡ Status.Done → Keeps (E.contents err.old) (E.contents err.new) }
 
     // Otherwise the standard error has the one message of the words' fault, or of a standard output
     // that failed, and unless the standard output failed nothing was written there.
-    ensures told { (result ≡ Status.Done) ⊎ HasTold (IsOutcome (F.gives files.now) (F.fails files.now) (C.gives commands.now) (map string_bytes words.now)) (O.has_failed out.new) result (Writes (E.contents err.old) (E.contents err.new) (E.has_failed err.new)) }
+    ensures told { (result ≡ Status.Done) ⊎ HasTold (IsOutcome (F.gives files.now) (F.fails files.now) (C.gives commands.now (F.gives files.now) (F.fails files.now)) (map string_bytes words.now)) (O.has_failed out.new) result (Writes (E.contents err.old) (E.contents err.new) (E.has_failed err.new)) }
     ensures nothing { (result ≡ Status.Done) ⊎ (((result ≡ Status.CannotWrite) × (O.has_failed out.new ≡ true)) ⊎ Keeps (O.contents out.old) (O.contents out.new)) }
-    ensures front { result ≡ Status.CannotWrite → HasWritten (IsOutcome (F.gives files.now) (F.fails files.now) (C.gives commands.now) (map string_bytes words.now)) (AppendsFront (O.contents out.old) (O.contents out.new)) }
+    ensures front { result ≡ Status.CannotWrite → HasWritten (IsOutcome (F.gives files.now) (F.fails files.now) (C.gives commands.now (F.gives files.now) (F.fails files.now)) (map string_bytes words.now)) (AppendsFront (O.contents out.old) (O.contents out.new)) }
 {
     show(outcome(alloc, words, files, commands), out, err)
 }
@@ -44,8 +48,8 @@ fn outcome<F: TextFiles, C: Commands>(
     words: &[String],
     files: &F,
     commands: &C,
-) -> Result<String, Fault>
-    ensures is { IsOutcome (F.gives files.now) (F.fails files.now) (C.gives commands.now) (map string_bytes words.now) result }
+) -> Result<Output, Fault>
+    ensures is { IsOutcome (F.gives files.now) (F.fails files.now) (C.gives commands.now (F.gives files.now) (F.fails files.now)) (map string_bytes words.now) result }
     ensures unwritten { result ≢ Err Fault.CannotWrite }
 {
     match asked(words) {
@@ -55,12 +59,12 @@ fn outcome<F: TextFiles, C: Commands>(
 }
 
 /// The outcome of words that ask for nothing.
-fn outcome_of_words(alloc: Global, words: &[String]) -> Result<String, Fault>
+fn outcome_of_words(alloc: Global, words: &[String]) -> Result<Output, Fault>
     ensures is { IsWordsOutcome result }
     ensures unwritten { result ≢ Err Fault.CannotWrite }
 {
     match answer_of(alloc, words) {
-        Answer::Help(text) => Ok(text),
+        Answer::Help(text) => Ok(Output::Text(text)),
         Answer::Misuse(text) => Err(Fault::Misuse(text)),
         Answer::NoMemory => Err(Fault::NoMemory),
     }
@@ -72,10 +76,10 @@ fn outcome_of_file<F: TextFiles, C: Commands>(
     request: Request<'_>,
     files: &F,
     commands: &C,
-) -> Result<String, Fault>
-    ensures is { IsFileOutcome (F.gives files.now) (F.fails files.now) (C.gives commands.now) request.entry result }
+) -> Result<Output, Fault>
+    ensures is { IsFileOutcome (F.gives files.now) (F.fails files.now) (C.gives commands.now (F.gives files.now) (F.fails files.now)) request.entry result }
     ensures unwritten { result ≢ Err Fault.CannotWrite }
 {
     let text = files.read(alloc, request.file(), MOST_BYTES)?;
-    commands.outcome(alloc, request, &text)
+    commands.outcome(alloc, request, &text, files)
 }

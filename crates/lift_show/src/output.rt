@@ -1,0 +1,32 @@
+// What a program prints.
+
+ghost use Rattle.std.specs.Prelude.{◌≡◌, true, false};
+ghost use Rattle.std.specs.Io.KnownBytes.{Appends};
+ghost use Rattle.lift_sink.specs.Writes.{AppendsFront};
+ghost use Rattle.lift_show.specs.Outputs.{bytes_of};
+
+use lift_sink::sink::{Sink, put_all};
+use lift_spec::journal::Entry;
+use lift_trace::write::write_trace;
+
+/// What a program prints: a text, or the trace of a journal.
+#[derive(Drop)]
+pub enum Output {
+    Text(String),
+    Trace(Vec<Entry>),
+}
+
+impl Output {
+    /// Writes it to a sink that hasn't failed. The answer is whether all of it was written.
+    pub fn put<S: Sink>(&self, sink: &mut S) -> bool
+        requires { S.has_failed sink.old ≡ false }
+        ensures written { result ≡ true → Appends (S.contents sink.old) (S.contents sink.new) (bytes_of self.now) }
+        ensures failed { result ≡ false → S.has_failed sink.new ≡ true }
+        ensures front { result ≡ false → AppendsFront (S.contents sink.old) (S.contents sink.new) (bytes_of self.now) }
+    {
+        match self {
+            Output::Text(text) => put_all(sink, text.as_bytes()).is_ok(),
+            Output::Trace(entries) => write_trace(entries, sink).is_ok(),
+        }
+    }
+}

@@ -1,0 +1,38 @@
+// An outcome, shown on the two streams.
+
+ghost use Rattle.std.specs.Prelude.{◌≡◌, ◌⊎◌, true, false, IfOk, IfErr};
+ghost use Rattle.std.specs.Io.KnownBytes.{Appends, Keeps};
+ghost use Rattle.lift_sink.specs.Writes.{Writes, AppendsFront};
+ghost use Rattle.lift_host.specs.Messages.{message_of, status_of};
+ghost use Rattle.lift_show.specs.Outputs.{bytes_of};
+
+use crate::output::Output;
+use lift_host::status::{Fault, Status};
+use lift_sink::sink::Sink;
+
+/// Writes the output of the program, or what it says of its fault. A standard error that fails
+/// changes nothing.
+pub fn show<O: Sink, E: Sink>(outcome: Result<Output, Fault>, out: &mut O, err: &mut E) -> Status
+    requires { O.has_failed out.old ≡ false }
+    ensures ends { IfOk outcome (λ _. (result ≡ Status.Done) ⊎ ((result ≡ Status.CannotWrite) × (O.has_failed out.new ≡ true))) }
+    ensures shown { IfOk outcome (λ output. result ≡ Status.Done → Appends (O.contents out.old) (O.contents out.new) (bytes_of output)) }
+    ensures front { IfOk outcome (λ output. result ≡ Status.CannotWrite → AppendsFront (O.contents out.old) (O.contents out.new) (bytes_of output)) }
+    ensures silent { result ≡ Status.Done → Keeps (E.contents err.old) (E.contents err.new) }
+    ensures cannot_write { IfOk outcome (λ _. result ≡ Status.CannotWrite → Writes (E.contents err.old) (E.contents err.new) (E.has_failed err.new) (message_of Fault.CannotWrite)) }
+
+    ensures fault { IfErr outcome (λ fault. result ≡ status_of fault) }
+    ensures nothing { IfErr outcome (λ _. Keeps (O.contents out.old) (O.contents out.new)) }
+    ensures told { IfErr outcome (λ fault. Writes (E.contents err.old) (E.contents err.new) (E.has_failed err.new) (message_of fault)) }
+{
+    let fault = match outcome {
+        Ok(output) => {
+            if output.put(out) {
+                return Status::Done;
+            }
+            Fault::CannotWrite
+        }
+        Err(fault) => fault,
+    };
+    let _ = fault.put(err);
+    fault.status()
+}
