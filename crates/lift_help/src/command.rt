@@ -3,7 +3,7 @@
 use clap::error::ErrorKind;
 use clap::{Arg, Command};
 use lift_explain::explanation;
-use lift_host::request::{MOST_ROUNDS, is_option, number_to};
+use lift_host::request::{FIRE, MOST_ROUNDS, Name, Words, is_option, number_to};
 use std::alloc::{AllocError, Global};
 
 const VERSION: &str = "0.1.0";
@@ -11,8 +11,8 @@ const VERSION: &str = "0.1.0";
 const AFTER_HELP: &str = "\
 Exit status:
   0  done
-  2  the command line or FILE is refused
-  3  FILE can't be read, or standard output can't be written
+  2  the command line, FILE or TRACE is refused
+  3  FILE or TRACE can't be read, or standard output can't be written
   4  out of memory
 
 A refused FILE prints `refused NUMBER at line LINE`: `liftplc explain NUMBER` and docs/FAULTS.md say what it means.";
@@ -38,6 +38,10 @@ pub enum Answer {
 enum Misuse<'w> {
     /// A word begins with `-`.
     Option(&'w str),
+    /// No ROUND stands behind `--fire`.
+    NoRound,
+    /// `--fire` stands twice.
+    Twice,
     /// ROUNDS is no decimal in its range.
     Rounds(&'w str),
     /// NUMBER is none of a fault or a refusal.
@@ -70,8 +74,16 @@ fn rounds<'a>(alloc: Global) -> Arg<'a> {
 /// The arguments PRESS.
 fn presses<'a>(alloc: Global) -> Arg<'a> {
     Arg::new(alloc, "PRESS").num_args(0..).help(
-        "A call: ROUND:FROM:TO, a round and two floors; at most 1000",
+        "A call: ROUND:FROM:TO or ROUND:FROM:TO:PANEL, a round, two floors and a panel from 1 to 4; at most 1000",
     )
+}
+
+/// The option `--fire`.
+fn fire<'a>(alloc: Global) -> Arg<'a> {
+    Arg::new(alloc, "fire")
+        .long("fire")
+        .value_name("ROUND")
+        .help("From this round on, fire recall is on")
 }
 
 /// The command that simulates.
@@ -80,7 +92,23 @@ fn sim_command<'a>(alloc: Global) -> Result<Command<'a>, AllocError> {
         .about("Runs FILE on a simulated plant and prints the trace")
         .arg(file(alloc))?
         .arg(rounds(alloc))?
-        .arg(presses(alloc))
+        .arg(presses(alloc))?
+        .arg(fire(alloc))
+}
+
+/// The argument TRACE.
+fn trace<'a>(alloc: Global) -> Arg<'a> {
+    Arg::new(alloc, "TRACE")
+        .required(true)
+        .help("A trace that `sim` printed")
+}
+
+/// The command that replays.
+fn replay_command<'a>(alloc: Global) -> Result<Command<'a>, AllocError> {
+    Command::new(alloc, "replay")
+        .about("Replays a trace on FILE and prints the image")
+        .arg(file(alloc))?
+        .arg(trace(alloc))
 }
 
 /// The command that explains.
@@ -111,7 +139,13 @@ fn bare<'a>(alloc: Global) -> Result<Command<'a>, AllocError> {
 /// The program with its commands.
 fn commands<'a>(alloc: Global) -> Result<Command<'a>, AllocError> {
     let explain = explain_command(alloc)?;
-    with_sim(alloc)?.subcommand(explain)
+    with_replay(alloc)?.subcommand(explain)
+}
+
+/// The program with `check`, `sim` and `replay`.
+fn with_replay<'a>(alloc: Global) -> Result<Command<'a>, AllocError> {
+    let replay = replay_command(alloc)?;
+    with_sim(alloc)?.subcommand(replay)
 }
 
 /// The program with `check` and `sim`.
@@ -128,14 +162,57 @@ fn with_check<'a>(alloc: Global) -> Result<Command<'a>, AllocError> {
 
 /// What is wrong with words that ask for nothing, though the parser takes them.
 fn misuse_of(words: &[String]) -> Misuse<'_> {
-    if let Some(word) = words.iter().find(|word| is_option(word)) {
-        return Misuse::Option(word);
-    }
     match words {
         [command, number] if command.as_str() == EXPLAIN => Misuse::Number(number),
-        [_, _, rounds, ..] => Misuse::Rounds(rounds),
-        _ => Misuse::Missing,
+        [command, rest @ ..] if command.as_str() == Name::Sim.as_str() => misuse_of_sim(rest),
+        _ => first_option(words).unwrap_or(Misuse::Missing),
     }
+}
+
+/// The first word that begins with `-`.
+fn first_option(words: &[String]) -> Option<Misuse<'_>> {
+    let word = words.iter().find(|word| is_option(word))?;
+    Some(Misuse::Option(word))
+}
+
+/// What is wrong with words behind `sim`.
+fn misuse_of_sim(words: &[String]) -> Misuse<'_> {
+    let Some(place) = words.iter().position(|word| is_fire(word)) else {
+        return misuse_of_places(Words {
+            front: words,
+            back: &[],
+        });
+    };
+    let (front, rest) = words.split_at(place);
+    match rest {
+        [_, value, ..] if is_option(value) => Misuse::NoRound,
+        [_, _, back @ ..] if back.iter().any(|word| is_fire(word)) => Misuse::Twice,
+        [_, _, back @ ..] => misuse_of_places(Words { front, back }),
+        _ => Misuse::NoRound,
+    }
+}
+
+/// Whether a word is the option `--fire`.
+fn is_fire(word: &str) -> bool {
+    word == FIRE
+}
+
+/// What is wrong with words behind `sim` that have no `--fire`.
+fn misuse_of_places(words: Words<'_>) -> Misuse<'_> {
+    if let Some(misuse) = first_option(words.front).or_else(|| first_option(words.back)) {
+        return misuse;
+    }
+    match rounds_of(words) {
+        Some(word) => Misuse::Rounds(word),
+        None => Misuse::Missing,
+    }
+}
+
+/// The word in the place of ROUNDS.
+fn rounds_of<'w>(words: Words<'w>) -> Option<&'w str> {
+    let (_, behind) = words.split_first()?;
+    let (rounds, _) = behind.split_first()?;
+    Some(rounds)
 }
 
 /// What the parser would say of the misuse.
@@ -149,6 +226,14 @@ fn error_of(
             let text = format!(in alloc; "unexpected argument '{word}' found")?;
             command.error(ErrorKind::UnknownArgument, &text)
         }
+        Misuse::NoRound => command.error(
+            ErrorKind::InvalidValue,
+            "a value is required for '--fire <ROUND>' but none was supplied",
+        ),
+        Misuse::Twice => command.error(
+            ErrorKind::ArgumentConflict,
+            "the argument '--fire <ROUND>' cannot be used multiple times",
+        ),
         Misuse::Rounds(word) => {
             let text = format!(in alloc;
                 "invalid value '{word}' for '<ROUNDS>': not a decimal from 1 to {MOST_ROUNDS}"
