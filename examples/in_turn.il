@@ -1,0 +1,137 @@
+(* Destination dispatch for two cars: the calls go to the cars in turn.
+
+   A passenger enters the destination at the landing. The call waits in a call slot
+   until GROUP assigns it to a car, by a store into ASSIGN. The car finds it in CALLCAR,
+   fetches the passenger, and frees the slot by SERVE.
+   Try `sim in_turn.il 300 1:3:5 1:6:2`: two calls, one for each car. *)
+
+(* The car program. Both cars run it, each with variables of its own. A car carries one
+   call at a time: it fetches the passenger at the landing and takes him to his floor. *)
+PROGRAM LIFT_CAR
+VAR
+  SLOT : INT (1..16);      (* the call slot that the car looks at; while BUSY, the slot of its call *)
+  BUSY : BOOL;             (* the car has a call *)
+  ABOARD : BOOL;           (* the passenger of this call is in the car *)
+  TARGET : INT (0..8);     (* the floor to which the car drives *)
+END_VAR
+
+(* A car with a call goes on with it. *)
+LD BUSY
+JMPC DRIVE
+
+(* Without a call it looks at the next call slot; the one after slot 16 is slot 1. *)
+LD SLOT
+MOD 16
+ADD 1
+ST SLOT
+
+(* Is the call of this slot assigned to this car? Then the car is busy with it, and the
+   passenger still waits at the landing. *)
+LD CALLCAR[SLOT]
+EQ CARNO
+ST BUSY
+RETCN
+LD FALSE
+ST ABOARD
+RET
+
+(* The target is the landing of the passenger; with the passenger aboard, the destination. *)
+DRIVE:
+LD ABOARD
+SEL CALLFROM[SLOT], CALLTO[SLOT]
+ST TARGET
+
+(* Has the car arrived: is it level with the target floor? *)
+LD POS
+EQ TARGET
+AND LEVEL
+JMPC ARRIVED
+
+(* Elsewhere the door is to be shut. The interlock lets no motor run before it is locked. *)
+LD FALSE
+ST OPEN
+
+(* Below the target the car runs up, above it the car runs down. *)
+LD POS
+LT TARGET
+JMPC UP
+LD POS
+GT TARGET
+JMPC DOWN
+
+(* At the target floor and not level: a running car runs on, a car that stands runs up. *)
+LD MOTOR
+NE 0
+RETC
+UP:
+LD 1
+ST MOTOR
+RET
+DOWN:
+LD -1
+ST MOTOR
+RET
+
+(* At the target: stop and open, and wait until the door is wholly open. *)
+ARRIVED:
+LD 0
+ST MOTOR
+LD TRUE
+ST OPEN
+LD OPENED
+RETCN
+
+(* The door is wholly open: now the passenger gets in, or has got out. *)
+LD ABOARD
+JMPC SERVED
+LD TRUE
+ST ABOARD
+RET
+
+(* The call is served: its slot becomes free, and the door shuts. *)
+SERVED:
+LD SLOT
+ST SERVE
+LD FALSE
+ST BUSY
+ST OPEN
+END_PROGRAM
+
+(* The group program: waiting calls are assigned to the cars in turn. *)
+PROGRAM IN_TURN
+VAR
+  SLOT : INT (1..16);      (* the call slot that is looked at *)
+  TURN : INT (0..2);       (* the car with the last assigned call; 0 before the first *)
+END_VAR
+
+(* It handles one call slot a scan; the one after slot 16 is slot 1. *)
+LD SLOT
+MOD 16
+ADD 1
+ST SLOT
+
+(* Nothing to do where no call waits in this slot. *)
+LD CALLWAITS[SLOT]
+RETCN
+
+(* The call is assigned to the next car; the one after car 2 is car 1. *)
+LD TURN
+MOD 2
+ADD 1
+ST TURN
+ST ASSIGN[SLOT]
+END_PROGRAM
+
+(* The group: two cars, eight floors, sixteen call slots; a task for each car and one for
+   the group. *)
+CONFIGURATION BUILDING
+VAR_GLOBAL CONSTANT CARS : INT := 2; FLOORS : INT := 8; SLOTS : INT := 16; END_VAR
+RESOURCE CABINET ON PLC
+TASK CAR1 (INTERVAL := T#100ms, PRIORITY := 1);
+TASK CAR2 (INTERVAL := T#100ms, PRIORITY := 1);
+TASK GROUP (INTERVAL := T#200ms, PRIORITY := 2);
+PROGRAM P1 WITH CAR1 : LIFT_CAR;
+PROGRAM P2 WITH CAR2 : LIFT_CAR;
+PROGRAM P3 WITH GROUP : IN_TURN;
+END_RESOURCE
+END_CONFIGURATION
