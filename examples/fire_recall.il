@@ -2,8 +2,9 @@
 
    Without fire it is examples/nearest_car.il: each call goes to the nearest car. While
    FIRE holds, each car drives to floor 1 and stands there with its door open, and GROUP
-   assigns no call. By interlock rule 6 no car runs up while FIRE holds; these programs
-   don't ask for it. After the recall the cars go on with their calls.
+   assigns no call. Interlock rule 6 lets no car run up while FIRE holds, whatever a
+   program asks for; these programs ask for down only. After the recall the cars go on
+   with their calls.
    Try `sim fire_recall.il 300 1:3:5 --fire 50`: fire from round 50 on. *)
 
 (* The car program. Both cars run it, each with variables of its own. Without fire a car
@@ -12,7 +13,7 @@
    its call, and goes on with it after the recall. *)
 PROGRAM RECALLED_CAR
 VAR
-  SLOT : INT (1..16);      (* the call slot that the car looks at; while BUSY, the slot of its call *)
+  SLOT : INT (1..16);      (* the call slot that is looked at; while BUSY, that of the car's call *)
   BUSY : BOOL;             (* the car has a call *)
   ABOARD : BOOL;           (* the passenger of this call is in the car *)
   TARGET : INT (0..8);     (* the floor to which the car drives *)
@@ -26,15 +27,15 @@ JMPC RECALL
 LD BUSY
 JMPC DRIVE
 
-(* Without a call the door is to be shut, and the car stands. One that a recall has left
-   between two landings runs down to the next. *)
+(* Without a call the door is asked to shut, and the car stands. A car that a recall has
+   left between two landings runs down to the next one. *)
 LD FALSE
 ST OPEN
 LD LEVEL
 SEL -1, 0
 ST MOTOR
 
-(* Without a call it looks at the next call slot; the one after slot 16 is slot 1. *)
+(* Without a call it looks at the next call slot; after slot 16 it is slot 1 again. *)
 LD SLOT
 MOD 16
 ADD 1
@@ -56,13 +57,13 @@ LD ABOARD
 SEL CALLFROM[SLOT], CALLTO[SLOT]
 ST TARGET
 
-(* Has the car arrived: is it level with the target floor? *)
+(* Is the car level with the target floor? *)
 LD POS
 EQ TARGET
 AND LEVEL
 JMPC ARRIVED
 
-(* Elsewhere the door is to be shut. The interlock lets no motor run before it is locked. *)
+(* Elsewhere the door is asked to shut. Until it is locked, the interlock lets no motor run. *)
 LD FALSE
 ST OPEN
 
@@ -119,7 +120,7 @@ EQ 1
 AND LEVEL
 JMPC AT_FLOOR_1
 
-(* Elsewhere the door is to be shut, and the car runs down. *)
+(* Elsewhere the door is asked to shut, and the car runs down. *)
 LD FALSE
 ST OPEN
 LD -1
@@ -138,11 +139,11 @@ END_PROGRAM
 PROGRAM NEAREST_CAR
 VAR
   SLOT : INT (1..16);      (* the call slot that is looked at *)
-  AWAY1 : INT (0..8);      (* how many floors car 1 is away from the landing *)
-  AWAY2 : INT (0..8);      (* and car 2 *)
+  DISTANCE1 : INT (0..8);  (* how many floors car 1 is away from the landing *)
+  DISTANCE2 : INT (0..8);  (* the same of car 2 *)
 END_VAR
 
-(* It handles one call slot a scan; the one after slot 16 is slot 1. *)
+(* Each scan handles the next call slot; after slot 16 it is slot 1 again. *)
 LD SLOT
 MOD 16
 ADD 1
@@ -158,15 +159,15 @@ RETCN
 LD CPOS[1]
 SUB CALLFROM[SLOT]
 ABS
-ST AWAY1
+ST DISTANCE1
 LD CPOS[2]
 SUB CALLFROM[SLOT]
 ABS
-ST AWAY2
+ST DISTANCE2
 
 (* The call is assigned to car 2 where that is nearer; at a tie to car 1. *)
-LD AWAY2
-LT AWAY1
+LD DISTANCE2
+LT DISTANCE1
 SEL 1, 2
 ST ASSIGN[SLOT]
 END_PROGRAM
@@ -178,7 +179,7 @@ VAR_GLOBAL CONSTANT CARS : INT := 2; FLOORS : INT := 8; SLOTS : INT := 16; END_V
 RESOURCE CABINET ON PLC
 TASK CAR1 (INTERVAL := T#100ms, PRIORITY := 1);
 TASK CAR2 (INTERVAL := T#100ms, PRIORITY := 1);
-TASK GROUP (INTERVAL := T#200ms, PRIORITY := 2);
+TASK GROUP (INTERVAL := T#100ms, PRIORITY := 2);
 PROGRAM P1 WITH CAR1 : RECALLED_CAR;
 PROGRAM P2 WITH CAR2 : RECALLED_CAR;
 PROGRAM P3 WITH GROUP : NEAREST_CAR;

@@ -9,7 +9,7 @@
    call at a time: it fetches the passenger at the landing and takes him to his floor. *)
 PROGRAM LIFT_CAR
 VAR
-  SLOT : INT (1..16);      (* the call slot that the car looks at; while BUSY, the slot of its call *)
+  SLOT : INT (1..16);      (* the call slot that is looked at; while BUSY, that of the car's call *)
   BUSY : BOOL;             (* the car has a call *)
   ABOARD : BOOL;           (* the passenger of this call is in the car *)
   TARGET : INT (0..8);     (* the floor to which the car drives *)
@@ -19,7 +19,7 @@ END_VAR
 LD BUSY
 JMPC DRIVE
 
-(* Without a call it looks at the next call slot; the one after slot 16 is slot 1. *)
+(* Without a call it looks at the next call slot; after slot 16 it is slot 1 again. *)
 LD SLOT
 MOD 16
 ADD 1
@@ -41,13 +41,13 @@ LD ABOARD
 SEL CALLFROM[SLOT], CALLTO[SLOT]
 ST TARGET
 
-(* Has the car arrived: is it level with the target floor? *)
+(* Is the car level with the target floor? *)
 LD POS
 EQ TARGET
 AND LEVEL
 JMPC ARRIVED
 
-(* Elsewhere the door is to be shut. The interlock lets no motor run before it is locked. *)
+(* Elsewhere the door is asked to shut. Until it is locked, the interlock lets no motor run. *)
 LD FALSE
 ST OPEN
 
@@ -104,7 +104,7 @@ VAR
   TURN : INT (0..2);       (* the car with the last assigned call; 0 before the first *)
 END_VAR
 
-(* It handles one call slot a scan; the one after slot 16 is slot 1. *)
+(* Each scan handles the next call slot; after slot 16 it is slot 1 again. *)
 LD SLOT
 MOD 16
 ADD 1
@@ -114,7 +114,7 @@ ST SLOT
 LD CALLWAITS[SLOT]
 RETCN
 
-(* The call is assigned to the next car; the one after car 2 is car 1. *)
+(* The call is assigned to the next car; after car 2 it is car 1 again. *)
 LD TURN
 MOD 2
 ADD 1
@@ -129,7 +129,7 @@ VAR_GLOBAL CONSTANT CARS : INT := 2; FLOORS : INT := 8; SLOTS : INT := 16; END_V
 RESOURCE CABINET ON PLC
 TASK CAR1 (INTERVAL := T#100ms, PRIORITY := 1);
 TASK CAR2 (INTERVAL := T#100ms, PRIORITY := 1);
-TASK GROUP (INTERVAL := T#200ms, PRIORITY := 2);
+TASK GROUP (INTERVAL := T#100ms, PRIORITY := 2);
 PROGRAM P1 WITH CAR1 : LIFT_CAR;
 PROGRAM P2 WITH CAR2 : LIFT_CAR;
 PROGRAM P3 WITH GROUP : IN_TURN;

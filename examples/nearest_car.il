@@ -9,7 +9,7 @@
    call at a time: it fetches the passenger at the landing and takes him to his floor. *)
 PROGRAM LIFT_CAR
 VAR
-  SLOT : INT (1..16);      (* the call slot that the car looks at; while BUSY, the slot of its call *)
+  SLOT : INT (1..16);      (* the call slot that is looked at; while BUSY, that of the car's call *)
   BUSY : BOOL;             (* the car has a call *)
   ABOARD : BOOL;           (* the passenger of this call is in the car *)
   TARGET : INT (0..8);     (* the floor to which the car drives *)
@@ -19,7 +19,7 @@ END_VAR
 LD BUSY
 JMPC DRIVE
 
-(* Without a call it looks at the next call slot; the one after slot 16 is slot 1. *)
+(* Without a call it looks at the next call slot; after slot 16 it is slot 1 again. *)
 LD SLOT
 MOD 16
 ADD 1
@@ -41,13 +41,13 @@ LD ABOARD
 SEL CALLFROM[SLOT], CALLTO[SLOT]
 ST TARGET
 
-(* Has the car arrived: is it level with the target floor? *)
+(* Is the car level with the target floor? *)
 LD POS
 EQ TARGET
 AND LEVEL
 JMPC ARRIVED
 
-(* Elsewhere the door is to be shut. The interlock lets no motor run before it is locked. *)
+(* Elsewhere the door is asked to shut. Until it is locked, the interlock lets no motor run. *)
 LD FALSE
 ST OPEN
 
@@ -101,11 +101,11 @@ END_PROGRAM
 PROGRAM NEAREST_CAR
 VAR
   SLOT : INT (1..16);      (* the call slot that is looked at *)
-  AWAY1 : INT (0..8);      (* how many floors car 1 is away from the landing *)
-  AWAY2 : INT (0..8);      (* and car 2 *)
+  DISTANCE1 : INT (0..8);  (* how many floors car 1 is away from the landing *)
+  DISTANCE2 : INT (0..8);  (* the same of car 2 *)
 END_VAR
 
-(* It handles one call slot a scan; the one after slot 16 is slot 1. *)
+(* Each scan handles the next call slot; after slot 16 it is slot 1 again. *)
 LD SLOT
 MOD 16
 ADD 1
@@ -119,15 +119,15 @@ RETCN
 LD CPOS[1]
 SUB CALLFROM[SLOT]
 ABS
-ST AWAY1
+ST DISTANCE1
 LD CPOS[2]
 SUB CALLFROM[SLOT]
 ABS
-ST AWAY2
+ST DISTANCE2
 
 (* The call is assigned to car 2 where that is nearer; at a tie to car 1. *)
-LD AWAY2
-LT AWAY1
+LD DISTANCE2
+LT DISTANCE1
 SEL 1, 2
 ST ASSIGN[SLOT]
 END_PROGRAM
@@ -139,7 +139,7 @@ VAR_GLOBAL CONSTANT CARS : INT := 2; FLOORS : INT := 8; SLOTS : INT := 16; END_V
 RESOURCE CABINET ON PLC
 TASK CAR1 (INTERVAL := T#100ms, PRIORITY := 1);
 TASK CAR2 (INTERVAL := T#100ms, PRIORITY := 1);
-TASK GROUP (INTERVAL := T#200ms, PRIORITY := 2);
+TASK GROUP (INTERVAL := T#100ms, PRIORITY := 2);
 PROGRAM P1 WITH CAR1 : LIFT_CAR;
 PROGRAM P2 WITH CAR2 : LIFT_CAR;
 PROGRAM P3 WITH GROUP : NEAREST_CAR;
