@@ -1,8 +1,9 @@
 -- What drives a simulation: the presses of each round, and FIRE (own rules).
-use Rattle.std.specs.Prelude.{◌≡◌, ℕ, ◌≤◌, Bool, false, List, [], ◌∷◌, map, filter, Option, Some, None, ◌==◌, nat_le}
+use Rattle.std.specs.Prelude.{ℕ, Bool, false, List, [], ◌∷◌, map, filter, Option, Some, None, ◌==◌, nat_le}
 use Rattle.il_spec.specs.declared.tree.Config.{Config}
-use Rattle.il_machine.specs.Scanning.{HasTask}
+use Rattle.il_spec.specs.declared.tree.Unit.{Unit as ProgramUnit}
 use Rattle.lift_host.specs.declared.press.Press.{Press}
+use Rattle.lift_sound.specs.Tasks.{IsTaskOf}
 use Rattle.lift_spec.specs.declared.calls.Call.{Call}
 use Rattle.lift_spec.specs.declared.image.Sizes.{Sizes}
 use Rattle.lift_spec.specs.declared.journal.Entry.{Entry}
@@ -28,7 +29,7 @@ ArePressed sizes (press ∷ presses) = IsCall sizes (call_of press) × ArePresse
 -- each number is that of a task of the group
 abbrev pub AreTasks : Config → List ℕ → Type 0
 AreTasks c [] = Unit {0}
-AreTasks c (t ∷ tasks) = HasTask c t × AreTasks c tasks
+AreTasks c (t ∷ tasks) = ((u : ProgramUnit) × IsTaskOf c t u) × AreTasks c tasks
 
 -- whether FIRE holds in a round: from the round that is given on, if one is
 abbrev pub is_fire_in : Option ℕ → ℕ → Bool

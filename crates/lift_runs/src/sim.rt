@@ -71,8 +71,8 @@ fn gather_all(world: &mut World, report: &mut Report)
 {
     let _config = world.verified().config();
     let Sizes { floors, .. } = world.sizes();
-    'floors: for floor in 1..floors + 1 {
-        world.apply(&Event::Gather(floor), report);
+    'floors: for below in 0..floors {
+        world.apply(&Event::Gather(below + 1), report);
     }
 }
 
@@ -164,9 +164,9 @@ fn tasks_of(alloc: Global, verified: &Verified) -> Result<Vec<u8>, AllocError>
 {
     let _config = verified.config();
     let mut tasks = Vec::new(alloc);
-    'cars: for car in 1..verified.sizes().cars + 1 {
-        if verified.has_task(car) {
-            tasks.push(car)?;
+    'cars: for below in 0..verified.sizes().cars {
+        if verified.has_task(below + 1) {
+            tasks.push(below + 1)?;
         }
     }
     if verified.has_task(0) {

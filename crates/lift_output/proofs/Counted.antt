@@ -1,0 +1,27 @@
+-- A trace has at least as many bytes as events.
+use Rattle.std.proofs.Common.{◌≡◌, ℕ, zero, suc, ◌+◌, ◌≤◌, List, [], ◌∷◌, ◌++◌, map, length, ap, ◌∙◌, sym, arith, length-append, inl, inr, ◌⊎◌}
+use Rattle.std.specs.Prelude.{Ok}
+use Rattle.std.proofs.lemmas.List.{length-map}
+use Rattle.lift_spec.specs.declared.trace.TraceEvent.{TraceEvent}
+use Rattle.lift_trace.specs.declared.format.Format.{Format}
+use Rattle.lift_trace.specs.Text.{line_of, last_line, trace_lines, text_of_lines, text_of}
+use Rattle.lift_trace.specs.Reading.{Reads, greatest_trace}
+
+lines_long : (lines : List (List ℕ)) → length lines ≤ length (text_of_lines lines)
+lines_long [] = omega arith
+lines_long (line ∷ lines) =
+    let rest = lines_long lines in
+    let both = length-append (line ++ 10 ∷ []) (text_of_lines lines) in
+    let first = length-append line (10 ∷ []) in
+    omega (arith, rest, both, first)
+
+events_long : (format : Format) (events : List TraceEvent) → length events ≤ length (text_of format events)
+events_long format events =
+    let all = lines_long (trace_lines format events) in
+    let both = length-append (map (line_of format) events) (last_line (length events) ∷ []) in
+    let same = length-map {f = line_of format} events in
+    omega (arith, all, both, same)
+
+pub few_events : (cars : ℕ) (text : List ℕ) (events : List TraceEvent) → Reads cars text (Ok events) → length events ≤ greatest_trace
+few_events cars text events (fits, inl one) = let long = events_long _ events in let same = ap length one.spelled in omega (arith, fits, long, same)
+few_events cars text events (fits, inr two) = let long = events_long _ events in let same = ap length two.spelled in omega (arith, fits, long, same)

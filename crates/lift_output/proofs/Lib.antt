@@ -1,0 +1,3 @@
+pub mod Pressed
+pub mod Counted
+pub mod Drawn
