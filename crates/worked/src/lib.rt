@@ -6,6 +6,8 @@ mod block_calls;
 #[cfg(test)]
 mod book_answers;
 #[cfg(test)]
+mod book_rows;
+#[cfg(test)]
 mod call_sets;
 #[cfg(test)]
 mod field_ranges;
