@@ -76,6 +76,21 @@ fn gather_all(world: &mut World, report: &mut Report)
     }
 }
 
+/// The presses of a round, and the gatherings. Where there is no press at all, there is nothing to gather.
+fn desk(world: &mut World, presses: &[Press], round: u16, report: &mut Report)
+    requires calls { ArePressed (sizes_of world.old.verified.config) presses.now }
+    requires idle { presses.now ≡ [] → (world_of world.old).desk ≡ [] }
+    ensures taken { Happen world.old.verified.config (world_of world.old) (desk_events world.old.verified.config (calls_in presses.now round)) (world_of world.new) }
+    ensures idle { presses.now ≡ [] → (world_of world.new).desk ≡ [] }
+    ensures same { world.new.verified ≡ world.old.verified }
+{
+    if presses.is_empty() {
+        return;
+    }
+    press_all(world, presses, round, report);
+    gather_all(world, report);
+}
+
 /// A refresh with fields in range, and its entry.
 fn refresh(
     world: &mut World,
@@ -133,14 +148,15 @@ fn round(
     requires tasks { tasks.now ≡ tasks_in_order world.old.verified.config }
     requires plant { IsPlantOf (sizes_of world.old.verified.config) plant }
     requires closed { IsClosed (world_of world.old) }
+    requires idle { drive.presses.now ≡ [] → (world_of world.old).desk ≡ [] }
     ensures round { IfOk result (λ next. (last : List EntryOf) × (entries.new.items ≡ entries.old.items ++ last) × IsRound world.old.verified.config (calls_in drive.presses.now number) (is_fire_in drive.fire number) plant next (world_of world.old) (world_of world.new) last) }
     ensures plant { IfOk result (IsPlantOf (sizes_of world.old.verified.config)) }
     ensures closed { OnOk result (IsClosed (world_of world.new)) }
+    ensures idle { OnOk result (drive.presses.now ≡ [] → (world_of world.new).desk ≡ []) }
     ensures same { world.new.verified ≡ world.old.verified }
 {
     let mut report = Report::new();
-    press_all(world, drive.presses, number, &mut report);
-    gather_all(world, &mut report);
+    desk(world, drive.presses, number, &mut report);
     let plant = plant.with_fire(is_fire_in(drive.fire, number));
     let (plant, fields) = plant_step(plant, &world.image().outputs);
     refresh(world, fields, entries, &mut report)?;
