@@ -88,12 +88,17 @@ fn fire<'a>(alloc: Global) -> Arg<'a> {
 
 /// The command that simulates.
 fn sim_command<'a>(alloc: Global) -> Result<Command<'a>, AllocError> {
+    sim_with_rounds(alloc)?
+        .arg(presses(alloc))?
+        .arg(fire(alloc))
+}
+
+/// The command that simulates, with FILE and ROUNDS alone.
+fn sim_with_rounds<'a>(alloc: Global) -> Result<Command<'a>, AllocError> {
     Command::new(alloc, "sim")
         .about("Runs FILE on a simulated plant and prints the trace")
         .arg(file(alloc))?
-        .arg(rounds(alloc))?
-        .arg(presses(alloc))?
-        .arg(fire(alloc))
+        .arg(rounds(alloc))
 }
 
 /// The argument TRACE.
@@ -138,26 +143,31 @@ fn bare<'a>(alloc: Global) -> Result<Command<'a>, AllocError> {
 
 /// The program with its commands.
 fn commands<'a>(alloc: Global) -> Result<Command<'a>, AllocError> {
-    let explain = explain_command(alloc)?;
-    with_replay(alloc)?.subcommand(explain)
+    let commands = list_of_commands(alloc)?;
+    bare(alloc)?.subcommands(commands)
 }
 
-/// The program with `check`, `sim` and `replay`.
-fn with_replay<'a>(alloc: Global) -> Result<Command<'a>, AllocError> {
-    let replay = replay_command(alloc)?;
-    with_sim(alloc)?.subcommand(replay)
+/// The commands, in the order in which help lists them.
+fn list_of_commands<'a>(alloc: Global) -> Result<Vec<Command<'a>>, AllocError> {
+    let mut commands = Vec::new(alloc);
+    add_commands(alloc, &mut commands)?;
+    Ok(commands)
 }
 
-/// The program with `check` and `sim`.
-fn with_sim<'a>(alloc: Global) -> Result<Command<'a>, AllocError> {
-    let sim = sim_command(alloc)?;
-    with_check(alloc)?.subcommand(sim)
+fn add_commands<'a>(alloc: Global, commands: &mut Vec<Command<'a>>) -> Result<(), AllocError> {
+    add(commands, check_command(alloc))?;
+    add(commands, sim_command(alloc))?;
+    add(commands, replay_command(alloc))?;
+    add(commands, explain_command(alloc))
 }
 
-/// The program with `check`.
-fn with_check<'a>(alloc: Global) -> Result<Command<'a>, AllocError> {
-    let check = check_command(alloc)?;
-    bare(alloc)?.subcommand(check)
+/// Adds a command that was made.
+fn add<'a>(
+    commands: &mut Vec<Command<'a>>,
+    command: Result<Command<'a>, AllocError>,
+) -> Result<(), AllocError> {
+    commands.push(command?)?;
+    Ok(())
 }
 
 /// What is wrong with words that ask for nothing, though the parser takes them.
@@ -221,35 +231,41 @@ fn error_of(
     command: &mut Command<'_>,
     misuse: Misuse<'_>,
 ) -> Result<clap::Error, AllocError> {
+    let text = text_of(alloc, &misuse)?;
+    command.error(kind_of(&misuse), &text)
+}
+
+/// The parser's kind of the misuse.
+fn kind_of(misuse: &Misuse<'_>) -> ErrorKind {
     match misuse {
-        Misuse::Option(word) => {
-            let text = format!(in alloc; "unexpected argument '{word}' found")?;
-            command.error(ErrorKind::UnknownArgument, &text)
-        }
-        Misuse::NoRound => command.error(
-            ErrorKind::InvalidValue,
+        Misuse::Option(_) => ErrorKind::UnknownArgument,
+        Misuse::NoRound => ErrorKind::InvalidValue,
+        Misuse::Twice => ErrorKind::ArgumentConflict,
+        Misuse::Rounds(_) => ErrorKind::ValueValidation,
+        Misuse::Number(_) => ErrorKind::ValueValidation,
+        Misuse::Missing => ErrorKind::MissingRequiredArgument,
+    }
+}
+
+/// The text of the misuse.
+fn text_of(alloc: Global, misuse: &Misuse<'_>) -> Result<String, AllocError> {
+    match misuse {
+        Misuse::Option(word) => format!(in alloc; "unexpected argument '{word}' found"),
+        Misuse::NoRound => String::from_str(
+            alloc,
             "a value is required for '--fire <ROUND>' but none was supplied",
         ),
-        Misuse::Twice => command.error(
-            ErrorKind::ArgumentConflict,
+        Misuse::Twice => String::from_str(
+            alloc,
             "the argument '--fire <ROUND>' cannot be used multiple times",
         ),
-        Misuse::Rounds(word) => {
-            let text = format!(in alloc;
-                "invalid value '{word}' for '<ROUNDS>': not a decimal from 1 to {MOST_ROUNDS}"
-            )?;
-            command.error(ErrorKind::ValueValidation, &text)
-        }
-        Misuse::Number(word) => {
-            let text = format!(in alloc;
-                "invalid value '{word}' for '<NUMBER>': no fault or refusal has it"
-            )?;
-            command.error(ErrorKind::ValueValidation, &text)
-        }
-        Misuse::Missing => command.error(
-            ErrorKind::MissingRequiredArgument,
-            "a required argument was not provided",
+        Misuse::Rounds(word) => format!(in alloc;
+            "invalid value '{word}' for '<ROUNDS>': not a decimal from 1 to {MOST_ROUNDS}"
         ),
+        Misuse::Number(word) => format!(in alloc;
+            "invalid value '{word}' for '<NUMBER>': no fault or refusal has it"
+        ),
+        Misuse::Missing => String::from_str(alloc, "a required argument was not provided"),
     }
 }
 
