@@ -157,6 +157,14 @@ fn list_of_commands<'a>(alloc: Global) -> Result<Vec<Command<'a>>, AllocError> {
 fn add_commands<'a>(alloc: Global, commands: &mut Vec<Command<'a>>) -> Result<(), AllocError> {
     add(commands, check_command(alloc))?;
     add(commands, sim_command(alloc))?;
+    add_other_commands(alloc, commands)
+}
+
+/// Adds the commands behind `sim`.
+fn add_other_commands<'a>(
+    alloc: Global,
+    commands: &mut Vec<Command<'a>>,
+) -> Result<(), AllocError> {
     add(commands, replay_command(alloc))?;
     add(commands, explain_command(alloc))
 }
