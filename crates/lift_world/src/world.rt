@@ -67,6 +67,7 @@ impl World {
         ensures model { model.happens self.old.verified.config (world_of self.old) event.now ≡ Ok (world_of self.new, reply_with result report.new) }
         ensures same { self.new.verified ≡ self.old.verified }
         ensures well { CallGoesWell self.old.verified.config (world_of self.old) (event.now ∷ []) }
+        ensures reached { IsReached self.old.verified.config (world_of self.old) }
     {
         self.group.happen(event, report)
     }
