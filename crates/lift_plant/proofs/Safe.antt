@@ -172,6 +172,15 @@ opening_sized cars floors slots = record {
 
 -- A STEP IS SAFE
 
+-- what a plant of a group reports is in range
+pub fields_fit : (sizes : Sizes) (plant : PlantState) → 1 ≤ sizes.floors → IsPlantOf sizes plant → FieldsInRange sizes (fields_of_plant plant)
+fields_fit sizes plant some of_group = record {
+  cars = fields_length plant.floors plant.cars ∙ of_group.cars;
+  positions = positions sizes plant.floors plant.cars of_group.floors (let f = of_group.floors in omega (arith, f, some));
+  time = of_group.time;
+  run_limit = of_group.run_limit;
+}
+
 stays_safe : (sizes : Sizes) (plant : PlantState) (outputs : List CarOutputs) → 1 ≤ sizes.floors → IsPlantOf sizes plant → length outputs ≡ length plant.cars → ObeysWithOwnFields plant outputs → StaysSafe sizes plant (plant_after plant outputs)
 unfolding plant_after
 stays_safe sizes plant outputs some of_group same obeys =
@@ -186,13 +195,7 @@ stays_safe sizes plant outputs some of_group same obeys =
           let is : m.before ≡ a = same_car (slice_get plant.cars k) m.before a m.there before in
           let obeys_one : CarObeys (fields_of_car plant.floors a) m.outputs_of = obeys.each k (fields_of_car plant.floors a) m.outputs_of (fields_at plant.floors plant.cars k a before) m.told in
           subst (IsInShaft plant.floors) (sym (m.is ∙ ap (λ c. moved plant.floors c m.outputs_of) is)) (shaft_step plant.floors a m.outputs_of obeys_one inside);
-      fields =
-          record {
-            cars = fields_length plant.floors (moved_all plant.floors plant.cars outputs) ∙ moved_length plant.floors plant.cars outputs ∙ of_group.cars;
-            positions = positions sizes plant.floors (moved_all plant.floors plant.cars outputs) of_group.floors (let f = of_group.floors in omega (arith, f, some));
-            time = omega arith;
-            run_limit = of_group.run_limit;
-          };
+      fields = fields_fit sizes (plant_after plant outputs) some (sized_after sizes plant outputs of_group same);
     }
   where
     same_car : (o : Option PlacedCar) (a b : PlacedCar) → o ≡ Some a → o ≡ Some b → a ≡ b

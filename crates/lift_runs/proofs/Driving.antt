@@ -1,9 +1,10 @@
 -- Rounds, step by step.
-use Rattle.std.proofs.Common.{◌≡◌, ℕ, zero, suc, ◌+◌, ◌<◌, ◌≤◌, Bool, true, false, ◌==◌, List, [], ◌∷◌, ◌++◌, map, flat_map, filter, take, length, Option, Some, None, Ok, refl, sym, ap, ◌∙◌, subst, arith, if◌then◌else◌, eq-eqb}
-use Rattle.std.specs.Prelude.{slice_get, is_some}
+use Rattle.std.proofs.Common.{◌≡◌, ℕ, zero, suc, ◌+◌, ◌<◌, ◌≤◌, Bool, true, false, ◌==◌, List, [], ◌∷◌, ◌++◌, map, flat_map, filter, take, length, Option, Some, None, Ok, refl, sym, ap, ◌∙◌, subst, arith, if◌then◌else◌, eq-eqb, eqb-true, length-append}
+use Rattle.std.specs.Prelude.{slice_get, slice_index_or, is_some}
 use Rattle.std.proofs.lemmas.List.{append_assoc}
 use Rattle.il_spec.specs.declared.tree.Config.{Config}
 use Rattle.il_spec.specs.declared.tree.Unit.{Unit as ProgramUnit}
+use Rattle.il_machine.specs.Scanning.{Program}
 use Rattle.lift_host.specs.declared.press.Press.{Press as PressOf}
 use Rattle.lift_spec.specs.declared.calls.Call.{Call}
 use Rattle.lift_spec.specs.declared.event.Event.{Event}
@@ -14,11 +15,12 @@ use Rattle.lift_spec.specs.Calls.{IsCall}
 use Rattle.lift_spec.specs.Image.{sizes_of}
 use Rattle.lift_spec.specs.Replies.{Reply}
 use Rattle.lift_spec.specs.Snapshot.{program_of, has_task}
-use Rattle.lift_spec.specs.World.{World, happens}
+use Rattle.lift_spec.specs.Plant.{PlantState}
+use Rattle.lift_spec.specs.World.{World, happens, opening}
 use Rattle.lift_sound.specs.Tasks.{IsTaskOf}
-use Rattle.lift_journal.specs.Rounds.{Happen, Scans, ScanEach, counting_from, scan_entries, tasks_in_order}
+use Rattle.lift_journal.specs.Rounds.{Happen, Scans, ScanEach, IsRound, Rounds, counting_from, scan_entries, tasks_in_order}
 use Rattle.lift_journal.proofs.Taking.{happen_one, happen_more, press_taken, gather_taken}
-use Rattle.lift_runs.specs.Driven.{call_of, calls_in, ArePressed, AreTasks}
+use Rattle.lift_runs.specs.Driven.{call_of, calls_in, ArePressed, AreTasks, is_fire_in}
 
 -- LISTS
 
@@ -43,12 +45,31 @@ filter_append p (x ∷ xs) ys = by (p x) (filter_append p xs ys)
     by true rest = ap (λ l. x ∷ l) rest
     by false rest = rest
 
+filtered_length : (p : ℕ → Bool) (xs : List ℕ) → length (filter p xs) ≤ length xs
+filtered_length p [] = omega arith
+filtered_length p (x ∷ xs) = by (p x) (filtered_length p xs)
+  where
+    by : (b : Bool) → length (filter p xs) ≤ length xs → length (if b then x ∷ filter p xs else filter p xs) ≤ length (x ∷ xs)
+    by true rest = omega (arith, rest)
+    by false rest = omega (arith, rest)
+
 counting_next : (first k : ℕ) → counting_from first (k + 1) ≡ counting_from first k ++ (first + k) ∷ []
 counting_next first zero = let same : first ≡ first + 0 = omega arith in ap (λ n. n ∷ []) same
 counting_next first (suc k) =
     let next : suc k + 1 ≡ suc (k + 1) = omega arith in
     let last : (first + 1) + k ≡ first + suc k = omega arith in
     ap (counting_from first) next ∙ ap (λ l. first ∷ l) (counting_next (first + 1) k) ∙ ap (λ n. first ∷ (counting_from (first + 1) k ++ n ∷ [])) last
+
+-- the item at an index
+pub read : {X : Type 0} (xs : List X) (i : ℕ) (d : X) → i < length xs → slice_get xs i ≡ Some (slice_index_or xs i d)
+read [] i d below = absurd (omega (arith, below))
+read (x ∷ xs) zero d below = refl
+read (x ∷ xs) (suc i) d below = read xs i d (omega (arith, below))
+
+-- none where their number is 0
+pub none_left : {X : Type 0} (xs : List X) (b : Bool) → b ≡ (length xs == 0) → b ≡ true → xs ≡ []
+none_left [] b is so = refl
+none_left (x ∷ xs) b is so = let no = eqb-true (length (x ∷ xs)) 0 (sym is ∙ so) in absurd (omega (arith, no))
 
 -- PRESSES
 
@@ -157,6 +178,19 @@ is_task c [] i t are at = let no : None ≡ Some t = at in cc
 is_task c (x ∷ tasks) zero t are at = let same : x ≡ t = cc in subst (λ y. (u : ProgramUnit) × IsTaskOf c y u) same are.0
 is_task c (x ∷ tasks) (suc i) t are at = is_task c tasks i t are.1 at
 
+counting_length : (first k : ℕ) → length (counting_from first k) ≡ k
+counting_length first zero = refl
+counting_length first (suc k) = ap suc (counting_length (first + 1) k)
+
+-- so many cars, a start and a commit of each task beside a refresh: they fit a count
+pub entries_fit : (c : Config) (tasks : List ℕ) → tasks ≡ tasks_in_order c → (sizes_of c).cars ≤ 8 → length tasks ≤ 9
+entries_fit c tasks is few =
+    let all = filtered_length (has_task c) (counting_from 1 (sizes_of c).cars ++ 0 ∷ []) in
+    let long = length-append (counting_from 1 (sizes_of c).cars) (0 ∷ []) in
+    let cars = counting_length 1 (sizes_of c).cars in
+    let same = ap length is in
+    omega (arith, all, long, cars, same, few)
+
 -- SCANS
 
 each_more : (c : Config) (tasks : List ℕ) (t : ℕ) (w m v : World) → ScanEach c tasks w m → Scans c t m v → ScanEach c (tasks ++ t ∷ []) w v
@@ -170,3 +204,21 @@ each_next c tasks i t w m v at before scan = subst (λ l. ScanEach c l w v) (sym
 pub entries_next : (tasks : List ℕ) (i t : ℕ) (old now : List Entry) → slice_get tasks i ≡ Some t → now ≡ old ++ flat_map scan_entries (take i tasks) → now ++ scan_entries t ≡ old ++ flat_map scan_entries (take (i + 1) tasks)
 entries_next tasks i t old now at is =
     ap (λ l. l ++ scan_entries t) is ∙ append_assoc old (flat_map scan_entries (take i tasks)) (scan_entries t) ∙ ap (λ l. old ++ l) (sym (ap (flat_map scan_entries) (take_next tasks i t at) ∙ flat_append scan_entries (take i tasks) (t ∷ [])))
+
+-- ROUNDS
+
+-- one round more
+pub rounds_more :
+    (p q : Program) → q ≡ p → (presses : List PressOf) (fire : Option ℕ) (n : ℕ) (before plant : PlantState) (u w : World) (earlier now last : List Entry) → Rounds p.config (calls_in presses) (is_fire_in fire) n before u earlier → now ≡ earlier ++ last
+    → IsRound q.config (calls_in presses (n + 1)) (is_fire_in fire (n + 1)) before plant u w last → Rounds p.config (calls_in presses) (is_fire_in fire) (n + 1) plant w now
+rounds_more p q same presses fire n before plant u w earlier now last rounds is round =
+    let number : n + 1 ≡ suc n = omega arith in
+    let here : IsRound p.config (calls_in presses (suc n)) (is_fire_in fire (suc n)) before plant u w last =
+        subst (λ k. IsRound p.config (calls_in presses k) (is_fire_in fire k) before plant u w last) number (subst (λ (x : Program). IsRound x.config (calls_in presses (n + 1)) (is_fire_in fire (n + 1)) before plant u w last) same round)
+    in
+    subst (λ k. Rounds p.config (calls_in presses) (is_fire_in fire) k plant w now) (sym number) (before, u, earlier, last, rounds, here, is)
+
+-- the opening world has nothing on the desk
+pub opening_desk : (c : Config) → (opening c).desk ≡ []
+unfolding opening
+opening_desk c = refl

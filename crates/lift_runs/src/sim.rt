@@ -149,12 +149,13 @@ fn round(
     requires plant { IsPlantOf (sizes_of world.old.verified.config) plant }
     requires closed { IsClosed (world_of world.old) }
     requires idle { drive.presses.now ≡ [] → (world_of world.old).desk ≡ [] }
-    ensures round { IfOk result (λ next. (last : List EntryOf) × (entries.new.items ≡ entries.old.items ++ last) × IsRound world.old.verified.config (calls_in drive.presses.now number) (is_fire_in drive.fire number) plant next (world_of world.old) (world_of world.new) last) }
+    ensures round { IfOk result (λ next. (last : List EntryOf) × (entries.new.items ≡ entries.old.items ++ last) × IsRound world.old.verified.config (calls_in drive.entry.presses.now number) (is_fire_in drive.entry.fire number) plant next (world_of world.old) (world_of world.new) last) }
     ensures plant { IfOk result (IsPlantOf (sizes_of world.old.verified.config)) }
     ensures closed { OnOk result (IsClosed (world_of world.new)) }
-    ensures idle { OnOk result (drive.presses.now ≡ [] → (world_of world.new).desk ≡ []) }
+    ensures idle { OnOk result (drive.entry.presses.now ≡ [] → (world_of world.new).desk ≡ []) }
     ensures same { world.new.verified ≡ world.old.verified }
 {
+    let _config = world.verified().config();
     let mut report = Report::new();
     desk(world, drive.presses, number, &mut report);
     let plant = plant.with_fire(is_fire_in(drive.fire, number));
@@ -203,7 +204,7 @@ fn run_rounds(
     requires calls { ArePressed (sizes_of world.old.verified.config) drive.presses.now }
     requires tasks { tasks.now ≡ tasks_in_order world.old.verified.config }
     requires none { entries.old.items ≡ [] }
-    ensures rounds { OnOk result (IsSimulated world.old.verified.config drive.presses.now drive.fire rounds entries.new.items) }
+    ensures rounds { OnOk result (IsSimulated world.old.verified.config drive.entry.presses.now drive.entry.fire rounds entries.new.items) }
     ensures same { world.new.verified ≡ world.old.verified }
 {
     let _config = world.verified().config();
@@ -224,8 +225,9 @@ fn journal_of(
 ) -> Result<Vec<Entry>, AllocError>
     requires opening { world_of world.old ≡ opening world.old.verified.config }
     requires calls { ArePressed (sizes_of world.old.verified.config) drive.presses.now }
-    ensures rounds { IfOk result (λ entries. IsSimulated world.old.verified.config drive.presses.now drive.fire rounds entries.items) }
+    ensures rounds { IfOk result (λ entries. IsSimulated world.old.verified.config drive.entry.presses.now drive.entry.fire rounds entries.items) }
 {
+    let _config = world.verified().config();
     let tasks = tasks_of(alloc, world.verified())?;
     let mut entries = Vec::with_capacity(alloc, usize::from(rounds) * (1 + 2 * tasks.len()))?;
     run_rounds(world, drive, rounds, &tasks, &mut entries)?;
@@ -241,7 +243,7 @@ pub fn simulate(
     rounds: u16,
 ) -> Result<Vec<Entry>, Refusal>
     requires calls { ArePressed (sizes_of verified.config) drive.presses.now }
-    ensures rounds { IfOk result (λ entries. IsSimulated verified.config drive.presses.now drive.fire rounds entries.items) }
+    ensures rounds { IfOk result (λ entries. IsSimulated verified.config drive.entry.presses.now drive.entry.fire rounds entries.items) }
     ensures memory { IfErr result (λ refusal. refusal ≡ Memory) }
 {
     let mut world = World::new(alloc, verified)?;

@@ -1,0 +1,115 @@
+-- What the world's calls say of the events that they hand in.
+use Rattle.std.proofs.Common.{◌≡◌, ℕ, zero, suc, ◌≤◌, ◌<◌, ◌+◌, List, [], ◌∷◌, ◌++◌, replicate, take, drop, length, Result, Ok, Err, IfOk, IfErr, OnOk, refl, sym, ap, ◌∙◌, subst, arith, Option, Some, None}
+use Rattle.std.specs.Prelude.{slice_get, is_some}
+use Rattle.std.proofs.lemmas.List.{append_assoc}
+use Rattle.il_spec.specs.declared.tree.Config.{Config}
+use Rattle.il_machine.specs.Scanning.{Program, IsRunnable, HasTask}
+use Rattle.il_machine.proofs.Scans.{sound_of}
+use Rattle.lift_spec.specs.declared.event.Event.{Event}
+use Rattle.lift_spec.specs.declared.event.Event.TheVariants.{Start, Instruction, Commit, Refresh}
+use Rattle.lift_spec.specs.declared.image.Fields.{Fields}
+use Rattle.lift_spec.specs.Hands.{IsInOrder}
+use Rattle.lift_spec.specs.Image.{sizes_of, FieldsInRange}
+use Rattle.lift_spec.specs.declared.event.EventFault.{EventFault}
+use Rattle.lift_spec.specs.declared.event.Reply.{Reply as Answer}
+use Rattle.lift_spec.specs.declared.event.Reply.TheVariants as answer
+use Rattle.lift_spec.specs.declared.report.Report.{Report}
+use Rattle.lift_spec.specs.declared.trace.TraceEvent.{TraceEvent}
+use Rattle.lift_spec.specs.Replies.{Reply, Started, More, Refreshed, Refused, reply_with}
+use Rattle.lift_spec.specs.World.{World, happens, run, scan_at}
+use Rattle.lift_sound.specs.Runs.{IsReached}
+use Rattle.lift_journal.specs.Journal.{IsAccepted}
+use Rattle.lift_journal.specs.Entered.{AllHaveWords}
+use Rattle.lift_journal.specs.Rounds.{ending, entered_calls_of, FinishesAndCommits, Scans, Takes, TakesAll, Refuses, IsRefusedAt}
+use Rattle.lift_journal.proofs.Journals.{Led}
+use Rattle.lift_journal.proofs.Taking.{IsClosed, IsBegun, start_begins, begun_taken, finished, scan_closes, refresh_taken, entered_are}
+use Rattle.lift_journal.proofs.Calls.{have_words}
+use Rattle.lift_world.proofs.Opening.{sizes_fit}
+use Rattle.lift_world.specs.Running.{instructions, up_to_end}
+use Rattle.lift_runs.proofs.Driving.{take_next}
+
+-- an answer that is no refusal is an accepted reply
+pub answer_taken : (a : Answer) (report : Report) → ((fault : EventFault) → a ≡ answer.Refused fault → ⊥) → IsAccepted (reply_with a report)
+answer_taken answer.Started report other = tt
+answer_taken answer.More report other = tt
+answer_taken answer.End report other = tt
+answer_taken answer.Committed report other = tt
+answer_taken answer.Refreshed report other = tt
+answer_taken answer.New report other = tt
+answer_taken answer.Already report other = tt
+answer_taken (answer.Gathered mask) report other = tt
+answer_taken answer.Held report other = tt
+answer_taken (answer.Refused fault) report other = absurd (other fault refl)
+
+instructions_are : (t n : ℕ) → instructions t n ≡ replicate n (Instruction t)
+instructions_are t zero = refl
+instructions_are t (suc n) = ap (λ l. Instruction t ∷ l) (instructions_are t n)
+
+replies_are : (n : ℕ) → up_to_end n ≡ ending n
+replies_are zero = refl
+replies_are (suc zero) = refl
+replies_are (suc (suc n)) = ap (λ l. More ∷ l) (replies_are (suc n))
+
+-- a scan that is run to its end, and committed
+pub commits : (p q : Program) → q ≡ p → (w u v : World) (t : ℕ) (result : Result ℕ EventFault) (r : Reply) → ((fault : EventFault) → result ≡ Err fault → ⊥)
+    → IfOk result (λ n. (1 ≤ n) × (run p.config w [] (instructions t n) ≡ Ok (u, up_to_end n))) → happens q.config u (Commit t) ≡ Ok (v, r) → FinishesAndCommits p.config t w v
+commits p q same w u v t (Err fault) r other steps commit = absurd (other fault refl)
+commits p q same w u v t (Ok n) r other steps commit =
+    finished p.config w u v t n r steps.0 (ap (run p.config w []) (sym (instructions_are t n)) ∙ steps.1 ∙ ap (λ rs. Ok (u, rs)) (replies_are n)) (subst (λ (x : Program). happens x.config u (Commit t) ≡ Ok (v, r)) same commit)
+
+module _ (p : Program) (runs : IsRunnable p.config) (w v x : World) (t : ℕ) (task : HasTask p.config t) (closed : IsClosed w) (reached : IsReached p.config w) (r : Reply) (start : happens p.config w (Start t) ≡ Ok (v, r)) where
+  begun : IsBegun p.config t w v r
+  begun = start_begins p.config (sound_of p.config runs) w v t task.0 r reached task.1 (closed t) start
+
+  -- a task's scan
+  pub scans : {A : Type 0} (q : Program) → q ≡ p → (result : Result A EventFault) → OnOk result (FinishesAndCommits q.config t v x) → IfErr result (λ fault. (x ≡ v) × (happens q.config v (Instruction t) ≡ Ok (v, Refused fault))) → Scans p.config t w x
+  scans q same (Ok done) taken refused = record { started = v; start = start ∙ ap (Led v) begun.started; rest = subst (λ (y : Program). FinishesAndCommits y.config t v x) same taken }
+  scans q same (Err fault) taken refused = absurd (begun_taken p.config w v t r fault begun (subst (λ (y : Program). happens y.config v (Instruction t) ≡ Ok (v, Refused fault)) same refused.1))
+
+  pub closes : Scans p.config t w x → IsClosed x
+  closes s = scan_closes p.config (sound_of p.config runs) t w x reached s closed
+
+-- REFRESHES
+
+refreshed_is : (a : Answer) (report other : Report) → reply_with a report ≡ Refreshed other → reply_with a report ≡ Refreshed report
+refreshed_is answer.Started report other e = cc
+refreshed_is answer.More report other e = cc
+refreshed_is answer.End report other e = cc
+refreshed_is answer.Committed report other e = cc
+refreshed_is answer.Refreshed report other e = refl
+refreshed_is answer.New report other e = cc
+refreshed_is answer.Already report other e = cc
+refreshed_is (answer.Gathered mask) report other e = cc
+refreshed_is answer.Held report other e = cc
+refreshed_is (answer.Refused fault) report other e = cc
+
+-- a refresh with fields in range reports
+pub refreshes : (c : Config) (w v : World) (fields : Fields) (a : Answer) (report : Report) → FieldsInRange (sizes_of c) fields → happens c w (Refresh fields) ≡ Ok (v, reply_with a report) → happens c w (Refresh fields) ≡ Ok (v, Refreshed report)
+refreshes c w v fields a report inside is = let other = refresh_taken c w v fields (reply_with a report) inside is in is ∙ ap (Led v) (refreshed_is a report other.0 other.1)
+
+-- the calls that it entered fit an entry
+pub entered_fit : (c : Config) → IsRunnable c → (w v : World) (fields : Fields) (report : Report) → IsReached c w → happens c w (Refresh fields) ≡ Ok (v, Refreshed report) → AllHaveWords report.entered × IsInOrder (entered_calls_of report)
+entered_fit c runs w v fields report reached is =
+    let are = entered_are c (sound_of c runs) w v fields report reached is in
+    (have_words (sizes_of c) (sizes_fit c runs).1.1 report.entered are.0, are.1)
+
+-- TRACES
+
+takes_append : (c : Config) (events : List TraceEvent) (e : TraceEvent) (w m v : World) → TakesAll c w events m → Takes c m e v → TakesAll c w (events ++ e ∷ []) v
+takes_append c [] e w m v same last = (v, subst (λ y. Takes c y e v) (sym same) last, refl)
+takes_append c (x ∷ events) e w m v (u, first, rest) last = (u, first, takes_append c events e u m v rest last)
+
+-- one event more is taken
+pub takes_next : (c : Config) (events : List TraceEvent) (i : ℕ) (e : TraceEvent) (w m v : World) → slice_get events i ≡ Some e → TakesAll c w (take i events) m → Takes c m e v → TakesAll c w (take (i + 1) events) v
+takes_next c events i e w m v at before last = subst (λ l. TakesAll c w l v) (sym (take_next events i e at)) (takes_append c (take i events) e w m v before last)
+
+split_at : (events : List TraceEvent) (i : ℕ) (e : TraceEvent) → slice_get events i ≡ Some e → (events ≡ take i events ++ e ∷ drop (i + 1) events) × (i ≡ length (take i events))
+split_at [] i e at = let no : None ≡ Some e = at in cc
+split_at (x ∷ events) zero e at = let same : x ≡ e = cc in (ap (λ y. y ∷ events) same, refl)
+split_at (x ∷ events) (suc i) e at = let rest = split_at events i e at in let next : suc i + 1 ≡ suc (i + 1) = omega arith in (ap (λ l. x ∷ l) rest.0 ∙ ap (λ n. x ∷ (take i events ++ e ∷ drop n (x ∷ events))) (sym next), ap suc rest.1)
+
+-- the first event that is refused
+pub refused_at : (c : Config) (events : List TraceEvent) (i : ℕ) (e : TraceEvent) (fault : EventFault) (w m : World) → slice_get events i ≡ Some e → TakesAll c w (take i events) m → Refuses c m e fault → IsRefusedAt c w events i fault
+refused_at c events i e fault w m at before why =
+    let parts = split_at events i e at in
+    record { first = take i events; event = e; rest = drop (i + 1) events; are = parts.0; behind = parts.1; before = m; taken = before; refused = why }

@@ -1,0 +1,18 @@
+use Rattle.std.proofs.Common.{arith, ◌≡◌, ◌≤◌, ◌+◌, ◌*◌, subst, ap, ◌∙◌, mul-le-mul}
+use Rattle.il_machine.specs.Scanning.{Program, IsRunnable}
+use Rattle.lift_journal.specs.Rounds.{tasks_in_order}
+use Rattle.lift_world.proofs.Opening.{sizes_fit}
+use Rattle.lift_runs.proofs.Driving.{entries_fit}
+use Rattle.lift_runs.proofs.sim.journal_of.Goals as goal
+
+pub overflow_mul-from : goal.overflow_mul-from
+overflow_mul-from c =
+    let fit = sizes_fit c.args.world.now.verified.config (subst (λ (p : Program). IsRunnable p.config) c.verified.ensures c.config-config.ensures.runnable) in
+    let nine = entries_fit c.args.world.now.verified.config c.in_ok-tasks.tasks.items (c.in_ok-tasks.ensures ∙ ap (λ (p : Program). tasks_in_order p.config) c.verified-2.ensures) fit.0.1 in
+    let long = c.len.ensures in
+    let few = c.ranges.rounds.fits in
+    let rounds = c.from.ensures in
+    let first : c.from.result ≤ 65535 = omega (arith, few, rounds) in
+    let second : 1 + 2 * c.len.result ≤ 19 = omega (arith, nine, long) in
+    let product = mul-le-mul first second in
+    omega (arith, product)
