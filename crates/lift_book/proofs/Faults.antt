@@ -26,3 +26,8 @@ refresh_inside b fields e = ap (λ (x : Bool). if x then full_fault b else Some 
 
 pub refresh_outside : (b : Page) (fields : Fields) → fields_in_range (sizes_of b.config) fields ≡ false → refresh_fault b fields ≡ Some FieldOutOfRange
 refresh_outside b fields e = ap (λ (x : Bool). if x then full_fault b else Some FieldOutOfRange) e
+
+-- a test that says yes does not say no
+pub not_so : {A : Type 0} (b : Bool) → b ≡ true → b ≡ false → A
+not_so true so not = cc
+not_so false so not = cc
