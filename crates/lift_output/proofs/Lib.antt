@@ -1,3 +1,4 @@
 pub mod Pressed
 pub mod Counted
 pub mod Drawn
+pub mod Replayed

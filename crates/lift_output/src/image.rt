@@ -37,10 +37,10 @@ fn truth(truth: bool) -> &'static str
 }
 
 /// 1 or 0.
-fn digit(flag: bool) -> &'static str
-    ensures { result.now ≡ flag flag ∷ [] }
+fn digit(set: bool) -> &'static str
+    ensures { result.now ≡ flag set ∷ [] }
 {
-    if flag { "1" } else { "0" }
+    if set { "1" } else { "0" }
 }
 
 #[tactic(auto, unfolding(crate::specs::ImageText::fields_text))]
@@ -141,7 +141,8 @@ fn put_global(text: &mut String, path: &str, value: Option<Value>) -> Result<(),
 fn put_globals(text: &mut String, world: &World) -> Result<(), AllocError>
     ensures { OnOk result (string_bytes text.new ≡ string_bytes text.old ++ globals_text (world_of world.now).group.globals (global_cells world.now.verified.config)) }
 {
-    'globals: for cell in world.verified().globals() {
+    let cells = world.verified().globals();
+    'globals: for cell in cells {
         let path = cell.path.as_str();
         put_global(text, path, world.global(path))?;
     }

@@ -66,8 +66,8 @@ struct Driven {
 
 /// The round that a word spells from which on FIRE holds.
 fn fire_of(word: Option<&str>, rounds: u16) -> Result<Option<u16>, Fault>
-    ensures ok { IfOk result (IsFire rounds (option_map (λ w. w.now) word)) }
-    ensures err { IfErr result (λ fault. (fault ≡ Fault.BadFire) × ((first : Option ℕ) → IsFire rounds (option_map (λ w. w.now) word) first → ⊥)) }
+    ensures ok { IfOk result (IsFire rounds (option_map (λ w. w.now) word.entry)) }
+    ensures err { IfErr result (λ fault. (fault ≡ Fault.BadFire) × ((first : Option ℕ) → IsFire rounds (option_map (λ w. w.now) word.entry) first → ⊥)) }
 {
     match word {
         None => Ok(None),
@@ -79,15 +79,15 @@ fn fire_of(word: Option<&str>, rounds: u16) -> Result<Option<u16>, Fault>
 }
 
 /// The presses and the FIRE that words spell.
-fn driven(
+fn drive_of(
     alloc: Global,
     words: Words<'_>,
     fire: Option<&str>,
     rounds: u16,
     floors: u16,
 ) -> Result<Driven, Fault>
-    ensures ok { IfOk result (λ d. IsDriven rounds floors (words_of words.entry) (option_map (λ w. w.now) fire) d.presses d.fire) }
-    ensures err { IfErr result (IsNotDriven rounds floors (words_of words.entry) (option_map (λ w. w.now) fire)) }
+    ensures ok { IfOk result (λ d. IsDriven rounds floors (words_of words.entry) (option_map (λ w. w.now) fire.entry) d.presses d.fire) }
+    ensures err { IfErr result (IsNotDriven rounds floors (words_of words.entry) (option_map (λ w. w.now) fire.entry)) }
 {
     let presses = presses(alloc, words, rounds, floors)?;
     let fire = fire_of(fire, rounds)?;
@@ -101,11 +101,11 @@ fn simulated(
     words: Words<'_>,
     fire: Option<&str>,
 ) -> Result<Output, Fault>
-    ensures is { IsSimOutcome verified rounds (words_of words.entry) (option_map (λ w. w.now) fire) result }
+    ensures is { IsSimOutcome verified rounds (words_of words.entry) (option_map (λ w. w.now) fire.entry) result }
     ensures unwritten { result ≢ Err Fault.CannotWrite }
 {
     let floors = u16::from(verified.sizes().floors);
-    match driven(alloc, words, fire, rounds, floors) {
+    match drive_of(alloc, words, fire, rounds, floors) {
         Ok(driven) => {
             let drive = Drive {
                 presses: driven.presses.as_slice(),
