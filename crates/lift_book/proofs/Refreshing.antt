@@ -21,9 +21,12 @@ use Rattle.lift_journal.specs.Pages.{Adds}
 use Rattle.lift_journal.proofs.Entering.{enters_first}
 use Rattle.lift_journal.proofs.Orders.{order_left}
 use Rattle.lift_book.specs.declared.ledger.Ledger.{Ledger}
-use Rattle.lift_book.specs.Ledgers.{group_of, page_of, IsLedger, AllHaveWords}
-use Rattle.lift_book.proofs.Calls.{calls}
-use Rattle.lift_book.proofs.Stepping.{v, added, ledger_more, refresh_step, refresh_rows, refresh_stores, refresh_starts, reports_entered, have_words, first_calls}
+use Rattle.lift_journal.specs.Entered.{calls, AllHaveWords}
+use Rattle.lift_journal.proofs.Calls.{have_words}
+use Rattle.lift_journal.proofs.Rounds.{reports_entered}
+use Rattle.lift_journal.proofs.Taking.{calls_left}
+use Rattle.lift_book.specs.Ledgers.{group_of, page_of, IsLedger}
+use Rattle.lift_book.proofs.Stepping.{v, added, ledger_more, refresh_step, refresh_rows, refresh_stores, refresh_starts}
 
 module _ (l : Ledger) (is : IsLedger l) (p : Program) (program : p ≡ l.program.value) (fields : Fields) (inside : fields_in_range (sizes_of p.config) fields ≡ true) where
   pub inside_own : fields_in_range (sizes_of l.program.value.config) fields ≡ true
@@ -49,7 +52,7 @@ module _ (l : Ledger) (is : IsLedger l) (p : Program) (program : p ≡ l.program
     pub entered_words : AllHaveWords report.entered
     entered_words =
         have_words (sizes_of l.program.value.config) ((sizes_fit l.program.value.config is.world.runnable).1.1) report.entered
-        (first_calls (sizes_of l.program.value.config) (calls report.entered) left (subst (AllCalls (sizes_of l.program.value.config)) first all_own))
+        (calls_left (sizes_of l.program.value.config) (calls report.entered) left (subst (AllCalls (sizes_of l.program.value.config)) first all_own))
 
     pub entered_order : IsInOrder (calls report.entered)
     entered_order = order_left (calls report.entered) left (subst IsInOrder first order)

@@ -41,7 +41,7 @@ use Rattle.lift_journal.proofs.Entering.{start_enters, commit_is_step, refresh_i
 use Rattle.lift_journal.proofs.Journals.{journal_reaches, entry_keeps}
 use Rattle.lift_journal.proofs.Orders.{order_left}
 use Rattle.lift_book.specs.declared.ledger.Ledger.{Ledger}
-use Rattle.lift_book.specs.Ledgers.{group_of, page_of, IsLedger, AllHaveWords}
+use Rattle.lift_book.specs.Ledgers.{group_of, page_of, IsLedger}
 use Rattle.lift_book.proofs.Standing.{scan_in, task_in_seat}
 
 -- a scan that isn't open
@@ -196,20 +196,3 @@ module _ (l : Ledger) (is : IsLedger l) where
 
       pub refresh_starts : (j : ℕ) (s : State) (k : Stored) → scan_at v j ≡ Some s → flat (slice_get m.stores.items j) ≡ Some k → Begins c j k
       refresh_starts j s k there kept = is.starts j s k (ap (λ ss. flat (slice_get ss j)) (sym scans_same) ∙ there) (ap (λ ss. flat (slice_get ss.items j)) (sym same) ∙ kept)
-
--- what a refresh reports as entered
-pub reports_entered : (g : Group) (fields : Fields) (hand : List Call) (after : Group) (report : Report) → refreshed_group g fields hand ≡ (after, report) → map (λ (d : EnteredCall). d.call) report.entered ≡ calls_entering g.calls hand
-unfolding refreshed_group
-reports_entered g fields hand after report is = ap (λ (r : Group × Report). map (λ (d : EnteredCall). d.call) r.1.entered) (sym is)
-
--- the calls of a group have words
-pub have_words : (sizes : Sizes) → sizes.floors ≤ 16 → (done : List EnteredCall) → AllCalls sizes (map (λ (d : EnteredCall). d.call) done) → AllHaveWords done
-have_words sizes few [] are = tt
-have_words sizes few (d ∷ done) are =
-    let from = are.0.from in
-    let to = are.0.to in
-    (((omega (arith, from.0), omega (arith, from.1, few)), (omega (arith, to.0), omega (arith, to.1, few))), have_words sizes few done are.1)
-
-pub first_calls : (sizes : Sizes) (xs ys : List Call) → AllCalls sizes (xs ++ ys) → AllCalls sizes xs
-first_calls sizes [] ys are = tt
-first_calls sizes (x ∷ xs) ys are = (are.0, first_calls sizes xs ys are.1)

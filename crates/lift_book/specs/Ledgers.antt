@@ -5,8 +5,6 @@ use Rattle.il_run.specs.State.{State}
 use Rattle.il_exec.specs.Going.{Stored}
 use Rattle.il_machine.specs.Scanned.{Finished, Begins, stands}
 use Rattle.lift_spec.specs.declared.image.Fields.{Fields}
-use Rattle.lift_spec.specs.declared.report.EnteredCall.{EnteredCall}
-use Rattle.lift_spec.specs.Hands.{HasWord}
 use Rattle.lift_spec.specs.Image.{sizes_of, fields_in_range}
 use Rattle.lift_spec.specs.Snapshot.{scan_begins}
 use Rattle.lift_spec.specs.World.{World, TaskState, flat, scan_at, task_at, beginning_of}
@@ -68,8 +66,3 @@ pub record IsOpenHere (b : Page) (task : ℕ) (f : Finished) : Type 0 where
 -- a scan begins with the task's variables and the snapshot as they are now
 abbrev pub SnappedNow : Page → ℕ → State → Type 0
 SnappedNow b t scan = (task : TaskState) × (task_at b.world.group t ≡ Some task) × (scan ≡ scan_begins b.config t (beginning_of b.world.group task))
-
--- each call has a word and a bit
-abbrev pub AllHaveWords : List EnteredCall → Type 0
-AllHaveWords [] = Unit {0}
-AllHaveWords (d ∷ done) = (HasWord d.call.from × HasWord d.call.to) × AllHaveWords done

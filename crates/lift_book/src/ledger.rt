@@ -17,15 +17,16 @@ ghost use Rattle.lift_spec.specs.declared.report.EnteredCall.{EnteredCall as Ent
 ghost use Rattle.lift_journal.specs.Journal.{AllCalls, calls_entering};
 ghost use Rattle.lift_journal.specs.Pages.{Adds, Kept};
 ghost use Rattle.lift_spec.specs.declared.journal.Entry.TheVariants as entry;
-ghost use Rattle.lift_book.specs.Ledgers.{page_of, IsLedger, start_fault, full_fault, refresh_fault, fault_of, fault_in, SnappedNow, IsOpenHere, AllHaveWords};
+ghost use Rattle.lift_book.specs.Ledgers.{page_of, IsLedger, start_fault, full_fault, refresh_fault, fault_of, fault_in, SnappedNow, IsOpenHere};
 ghost use Rattle.lift_journal.specs.declared.fault.StationFault.TheVariants.{NotOpen};
 
 use il_machine::{OpenScan, Scanned, Store, Verified};
 use lift_image::{Fields, in_range};
+use lift_journal::entered::calls_of;
 use lift_journal::fault::StationFault;
 use lift_spec::hand::Hand;
 use lift_spec::journal::Entry;
-use lift_spec::report::{EnteredCall, Report};
+use lift_spec::report::Report;
 use lift_world::Core;
 use lift_world::controller::opening;
 use std::alloc::{AllocError, Global};
@@ -40,19 +41,6 @@ pub struct Ledger {
     pub stores: Vec<Option<Store>>,
     pub capacity: usize,
     pub journal: Vec<Entry>,
-}
-
-// The calls that were entered.
-fn calls_of(entered: &[EnteredCall]) -> Hand
-    requires words { AllHaveWords entered.now }
-    requires order { IsInOrder (map (λ (d : EnteredOf). d.call) entered.now) }
-    ensures { result ≡ map (λ (d : EnteredOf). d.call) entered.now }
-{
-    let mut calls = Hand::new();
-    'entered: for one in entered {
-        calls.insert(one.call);
-    }
-    calls
 }
 
 // The scan of a task begins, in its own store and in another.

@@ -8,10 +8,10 @@ ghost use Rattle.lift_sink.specs.Writes.{Writes, AppendsFront};
 
 use crate::liftplc::Liftplc;
 use lift_host::files::TextFiles;
-use lift_sink::sink::Sink;
 use lift_host::status::Status;
 use lift_shell::entry;
 use lift_shell::entry::Outcome;
+use lift_sink::sink::Sink;
 use std::alloc::Global;
 use std::process::ExitCode;
 

@@ -122,9 +122,9 @@ refresh_enters c w v fields hand report desk none inside are order group scans d
     let at_last : World = record { group = w.group; scans = w.scans; desk = []; hand = taken } in
     let left : (enter_all w.group.calls [] taken).hand ≡ [] = ap (λ (e : Entered). e.hand) (enters_alone w.group.calls hand) in
     let last : happens c at_last (Refresh fields) ≡ Ok (v, Refreshed report) =
-        ap (refreshes at_last fields) inside ∙ ap (λ r. Ok (record { group = r.0; scans = w.scans; desk = []; hand = (enter_all w.group.calls [] taken).hand }, Refreshed r.1)) (refreshed_alone w.group fields hand ∙ group)
-        ∙ ap (λ l. Ok (record { group = v.group; scans = w.scans; desk = []; hand = l }, Refreshed report)) (left ∙ sym hand_after) ∙ ap (λ d. Ok (record { group = v.group; scans = w.scans; desk = d; hand = v.hand }, Refreshed report)) (sym desk_after)
-        ∙ ap (λ ss. Ok (record { group = v.group; scans = ss; desk = v.desk; hand = v.hand }, Refreshed report)) (sym scans)
+    ap (refreshes at_last fields) inside ∙ ap (λ r. Ok (record { group = r.0; scans = w.scans; desk = []; hand = (enter_all w.group.calls [] taken).hand }, Refreshed r.1)) (refreshed_alone w.group fields hand ∙ group)
+    ∙ ap (λ l. Ok (record { group = v.group; scans = w.scans; desk = []; hand = l }, Refreshed report)) (left ∙ sym hand_after) ∙ ap (λ d. Ok (record { group = v.group; scans = w.scans; desk = d; hand = v.hand }, Refreshed report)) (sym desk_after)
+    ∙ ap (λ ss. Ok (record { group = v.group; scans = ss; desk = v.desk; hand = v.hand }, Refreshed report)) (sym scans)
     in
     record {
       instructions = 0;

@@ -327,8 +327,7 @@ odd_from c sound (e ∷ entries) w v t task reached (m, answer, step, rest) =
 pub entries_alternate : (c : Config) → IsSound c → (entries : List Entry) (w : World) (t : ℕ) → IsJournalOf c entries w → Alternate t false entries × (t ≢ refresher → IsOpenWhereOdd w entries t)
 entries_alternate c sound entries w t runs =
     let none : is_some (scan_at (opening c) t) ≡ false = ap is_some (no_scan_open c t) in
-    let reached = opening_reached c in
-    (
+    let reached = opening_reached c in (
       alternate_from c sound entries (opening c) w t false reached none runs,
       λ task. (let same : entries_by t entries + 0 ≡ entries_by t entries = omega arith in ap (λ k. k % 2) (sym same) ∙ ap (λ b. (entries_by t entries + one_if b) % 2) (sym none) ∙ odd_from c sound entries (opening c) w t task reached runs),
     )

@@ -137,7 +137,7 @@ steps_within c sound t n w v reached is =
     let all = accepted_runs_well c sound in
     let here = all.well reached.events w reached.replies reached.is in
     let longer : run c (opening c) [] (reached.events ++ replicate n (Instruction t)) ≡ Ok (v, reached.replies ++ ending n) =
-        appends c (opening c) [] reached.events (replicate n (Instruction t)) ∙ ap (λ r. and_then r (λ m. run c m.0 m.1 (replicate n (Instruction t)))) reached.is ∙ follow c w reached.replies (replicate n (Instruction t)) ∙ ap (before reached.replies) is
+    appends c (opening c) [] reached.events (replicate n (Instruction t)) ∙ ap (λ r. and_then r (λ m. run c m.0 m.1 (replicate n (Instruction t)))) reached.is ∙ follow c w reached.replies (replicate n (Instruction t)) ∙ ap (before reached.replies) is
     in
     let there = (all.well (reached.events ++ replicate n (Instruction t)) v (reached.replies ++ ending n) longer).within t in
     let count = answered_append t 0 reached.events (replicate n (Instruction t)) reached.replies (ending n) here.replies ∙ answered_steps t n (answered t 0 reached.events reached.replies) in

@@ -253,7 +253,7 @@ finish_closes c t w v f =
     let n = f.finish.instructions in
     let all = ending n ++ Committed f.report ∷ [] in
     let runs : run c w [] (replicate n (Instruction t) ++ Commit t ∷ []) ≡ Ok (v, all) =
-        appends c w [] (replicate n (Instruction t)) (Commit t ∷ []) ∙ ap (λ r. and_then r (λ m. run c m.0 m.1 (Commit t ∷ []))) f.finish.steps ∙ ap (λ x. and_then x (λ m. run c m.0 (ending n ++ m.1 ∷ []) [])) f.commit
+    appends c w [] (replicate n (Instruction t)) (Commit t ∷ []) ∙ ap (λ r. and_then r (λ m. run c m.0 m.1 (Commit t ∷ []))) f.finish.steps ∙ ap (λ x. and_then x (λ m. run c m.0 (ending n ++ m.1 ∷ []) [])) f.commit
     in
     (commit_run c n w v t [] all runs (accepted_append (ending n) (Committed f.report ∷ []) (ending_accepted n) (tt, tt))).1
 
@@ -268,7 +268,7 @@ refresh_closes c w v fields report e closed j = ap (λ ss. is_some (flat (slice_
 
 -- WHAT A REFRESH ENTERS
 
-calls_left : (sizes : Sizes) (xs ys : List Call) → AllCalls sizes (xs ++ ys) → AllCalls sizes xs
+pub calls_left : (sizes : Sizes) (xs ys : List Call) → AllCalls sizes (xs ++ ys) → AllCalls sizes xs
 calls_left sizes [] ys all = tt
 calls_left sizes (x ∷ xs) ys all = (all.0, calls_left sizes xs ys all.1)
 
@@ -278,8 +278,7 @@ entered_are c sound w v fields report reached e =
     let r = refresh_of c w v fields report e in
     let hand = ((accepted_runs_well c sound).well reached.events w reached.replies reached.is).hand in
     let same = reports_entered w.group fields w.hand v.group report r.group in
-    let first = enters_first w.group.calls w.hand in
-    (
+    let first = enters_first w.group.calls w.hand in (
       subst (AllCalls (sizes_of c)) (sym same) (calls_left (sizes_of c) _ _ (subst (AllCalls (sizes_of c)) first (all_calls (sizes_of c) w.hand hand.each))),
       subst IsInOrder (sym same) (order_left _ _ (subst IsInOrder first hand.in_order)),
     )

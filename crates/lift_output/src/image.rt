@@ -23,7 +23,11 @@ pub fn image_text(alloc: Global, world: &World) -> Result<String, AllocError>
     let image = world.image();
     let mut text = String::new(alloc);
     put_fields(&mut text, &image.fields)?;
-    put_cars(&mut text, image.fields.cars.as_slice(), image.outputs.as_slice())?;
+    put_cars(
+        &mut text,
+        image.fields.cars.as_slice(),
+        image.outputs.as_slice(),
+    )?;
     put_slots(&mut text, world.slots())?;
     put_globals(&mut text, world)?;
     Ok(text)
@@ -84,14 +88,15 @@ fn put_car(
 {
     write!(text, "CAR {} {} ", number, car.pos)?;
     put_flags(text, car)?;
-    writeln!(text, " {} {}", number_of(outputs.motor), digit(outputs.opens))
+    writeln!(
+        text,
+        " {} {}",
+        number_of(outputs.motor),
+        digit(outputs.opens)
+    )
 }
 
-fn put_cars(
-    text: &mut String,
-    cars: &[CarFields],
-    outputs: &[CarOutputs],
-) -> Result<(), AllocError>
+fn put_cars(text: &mut String, cars: &[CarFields], outputs: &[CarOutputs]) -> Result<(), AllocError>
     requires { length outputs.now ≡ length cars.now }
     ensures { OnOk result (string_bytes text.new ≡ string_bytes text.old ++ cars_text 1 cars.now outputs.now) }
 {

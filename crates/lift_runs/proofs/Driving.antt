@@ -93,8 +93,8 @@ pub press_more : (c : Config) (w m v : World) (presses : List PressOf) (n i : �
     → Happen c w (map Press (calls_in (take i presses) n)) m → happens c m (Press (call_of p)) ≡ Ok (v, r) → Happen c w (map Press (calls_in (take (i + 1) presses) n)) v
 press_more c w m v presses n i p r are at is before here =
     let all : map Press (calls_in (take (i + 1) presses) n) ≡ map Press (calls_in (take i presses) n) ++ Press (call_of p) ∷ [] =
-        ap (λ l. map Press (calls_in l n)) (take_next presses i p at) ∙ ap (map Press) (calls_append (take i presses) (p ∷ []) n ∙ ap (λ l. calls_in (take i presses) n ++ l) (one_call p n true (eq-eqb p.round n is)))
-        ∙ map_append Press (calls_in (take i presses) n) (call_of p ∷ [])
+    ap (λ l. map Press (calls_in l n)) (take_next presses i p at) ∙ ap (map Press) (calls_append (take i presses) (p ∷ []) n ∙ ap (λ l. calls_in (take i presses) n ++ l) (one_call p n true (eq-eqb p.round n is)))
+    ∙ map_append Press (calls_in (take i presses) n) (call_of p ∷ [])
     in
     subst (λ es. Happen c w es v) (sym all) (happen_more c w m v _ _ before (happen_one c m v (Press (call_of p)) r here (press_taken c m v (call_of p) r (is_pressed (sizes_of c) presses i p are at) here)))
 
@@ -102,7 +102,7 @@ press_more c w m v presses n i p r are at is before here =
 pub press_skips : (c : Config) (w m : World) (presses : List PressOf) (n i : ℕ) (p : PressOf) → slice_get presses i ≡ Some p → (p.round == n) ≡ false → Happen c w (map Press (calls_in (take i presses) n)) m → Happen c w (map Press (calls_in (take (i + 1) presses) n)) m
 press_skips c w m presses n i p at other before =
     let all : map Press (calls_in (take (i + 1) presses) n) ≡ map Press (calls_in (take i presses) n) =
-        ap (λ l. map Press (calls_in l n)) (take_next presses i p at) ∙ ap (map Press) (calls_append (take i presses) (p ∷ []) n ∙ ap (λ l. calls_in (take i presses) n ++ l) (one_call p n false other) ∙ nil (calls_in (take i presses) n))
+    ap (λ l. map Press (calls_in l n)) (take_next presses i p at) ∙ ap (map Press) (calls_append (take i presses) (p ∷ []) n ∙ ap (λ l. calls_in (take i presses) n ++ l) (one_call p n false other) ∙ nil (calls_in (take i presses) n))
     in
     subst (λ es. Happen c w es m) (sym all) before
   where
@@ -116,7 +116,7 @@ pub gather_more : (c : Config) (w m v : World) (k : ℕ) (r : Reply) → k < (si
 gather_more c w m v k r low before here =
     let floor : 1 + k ≡ k + 1 = omega arith in
     let all : map Gather (counting_from 1 (k + 1)) ≡ map Gather (counting_from 1 k) ++ Gather (k + 1) ∷ [] =
-        ap (map Gather) (counting_next 1 k ∙ ap (λ n. counting_from 1 k ++ n ∷ []) floor) ∙ map_append Gather (counting_from 1 k) ((k + 1) ∷ [])
+    ap (map Gather) (counting_next 1 k ∙ ap (λ n. counting_from 1 k ++ n ∷ []) floor) ∙ map_append Gather (counting_from 1 k) ((k + 1) ∷ [])
     in
     subst (λ es. Happen c w es v) (sym all) (happen_more c w m v _ _ before (happen_one c m v (Gather (k + 1)) r here (gather_taken c m v (k + 1) r (omega arith) (omega (arith, low)) here)))
 
@@ -214,7 +214,7 @@ pub rounds_more :
 rounds_more p q same presses fire n before plant u w earlier now last rounds is round =
     let number : n + 1 ≡ suc n = omega arith in
     let here : IsRound p.config (calls_in presses (suc n)) (is_fire_in fire (suc n)) before plant u w last =
-        subst (λ k. IsRound p.config (calls_in presses k) (is_fire_in fire k) before plant u w last) number (subst (λ (x : Program). IsRound x.config (calls_in presses (n + 1)) (is_fire_in fire (n + 1)) before plant u w last) same round)
+    subst (λ k. IsRound p.config (calls_in presses k) (is_fire_in fire k) before plant u w last) number (subst (λ (x : Program). IsRound x.config (calls_in presses (n + 1)) (is_fire_in fire (n + 1)) before plant u w last) same round)
     in
     subst (λ k. Rounds p.config (calls_in presses) (is_fire_in fire) k plant w now) (sym number) (before, u, earlier, last, rounds, here, is)
 

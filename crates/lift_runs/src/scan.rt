@@ -27,11 +27,7 @@ pub fn taken(world: &mut World, event: &Event, report: &mut Report) -> Result<()
 }
 
 /// The rest of a task's open scan, and its commit; refused where there is no instruction to run.
-pub fn finish_and_commit(
-    world: &mut World,
-    task: u8,
-    report: &mut Report,
-) -> Result<(), EventFault>
+pub fn finish_and_commit(world: &mut World, task: u8, report: &mut Report) -> Result<(), EventFault>
     ensures taken { OnOk result (FinishesAndCommits world.old.verified.config task (world_of world.old) (world_of world.new)) }
     ensures refused { IfErr result (λ fault. (world_of world.new ≡ world_of world.old) × (happens world.old.verified.config (world_of world.old) (Instruction task) ≡ Ok (world_of world.old, Refused fault))) }
     ensures same { world.new.verified ≡ world.old.verified }

@@ -3,9 +3,9 @@
 use crate::commands::Commands;
 use crate::run::run;
 use lift_host::files::{Disk, TextFiles};
-use lift_sink::sink::{Memory, Stream};
 use lift_host::status::{Fault, Status};
 use lift_show::show::show;
+use lift_sink::sink::{Memory, Stream};
 use std::alloc::Global;
 use std::process::ExitCode;
 use std::{env, io};

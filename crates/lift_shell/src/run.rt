@@ -9,10 +9,10 @@ use crate::commands::Commands;
 use lift_help::command::{Answer, answer_of};
 use lift_host::files::TextFiles;
 use lift_host::request::{Request, asked};
-use lift_sink::sink::Sink;
 use lift_host::status::{Fault, Status};
 use lift_show::output::Output;
 use lift_show::show::show;
+use lift_sink::sink::Sink;
 use std::alloc::Global;
 
 /// The most bytes of FILE that are read: one more than a text may have.

@@ -73,7 +73,10 @@ fn other_car(alloc: Global, verified: &Verified) -> Result<Option<(u8, u8)>, All
     let Ok(begun) = book.start(verified, 1, Store::new(alloc, verified, 1)?) else {
         return Ok(None);
     };
-    if book.start(verified, 2, Store::new(alloc, verified, 2)?).is_err() {
+    if book
+        .start(verified, 2, Store::new(alloc, verified, 2)?)
+        .is_err()
+    {
         return Ok(None);
     }
     let Err((again, _)) = book.start(verified, 1, Store::new(alloc, verified, 1)?) else {
@@ -102,7 +105,15 @@ fn refused_other(alloc: Global) -> Result<Option<(u8, u8)>, Refusal> {
 #[test]
 fn journal_is_full(rt: HostRuntime) {
     let refused = refused_at(rt.alloc());
-    assert!(rt; matches!(refused, Ok(Some(Refused { number: 70, entries: 2 }))));
+    assert!(rt;
+        matches!(
+            refused,
+            Ok(Some(Refused {
+                number: 70,
+                entries: 2
+            }))
+        )
+    );
 }
 
 #[test]

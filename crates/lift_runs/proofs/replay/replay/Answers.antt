@@ -15,10 +15,9 @@ returns-in-Err-clause-refused c =
 
 pub events-preserved : goal.events-preserved
 events-preserved c =
-    let e = c.index-events-index.result in
-    (
+    let e = c.index-events-index.result in (
       takes_next c.args.world.now.verified.config c.args.events.now c.events.index e (world_of c.args.world.now) (world_of c.events.world) (world_of c.take.new.world)
-      (slice_get_read c.args.events.now (length c.args.events.now) c.events.index e refl c.events-test.true c.index-events-index.is) c.events.invariant.0
-      (subst (λ (p : Program). Takes p.config (world_of c.events.world) e (world_of c.take.new.world)) c.events.invariant.1 c.in_default.ensures.taken),
+          (slice_get_read c.args.events.now (length c.args.events.now) c.events.index e refl c.events-test.true c.index-events-index.is) c.events.invariant.0
+          (subst (λ (p : Program). Takes p.config (world_of c.events.world) e (world_of c.take.new.world)) c.events.invariant.1 c.in_default.ensures.taken),
       c.take.ensures.same ∙ c.events.invariant.1,
     )

@@ -11,9 +11,8 @@ use Rattle.lift_runs.proofs.sim.gather_all.Goals as goal
 pub floors-preserved : goal.floors-preserved
 floors-preserved c =
     let low : c.floors.below < c.sizes-floors.result.floors = search rules in
-    let reply = reply_with c.apply.result c.apply.new.report in
-    (
+    let reply = reply_with c.apply.result c.apply.new.report in (
       gather_more c.args.world.now.verified.config (world_of c.args.world.now) (world_of c.floors.world) (world_of c.apply.new.self) c.floors.below reply (subst (λ (s : Sizes). c.floors.below < s.floors) c.sizes-floors.ensures low) c.floors.invariant.0
-      (subst (λ (p : Program). happens p.config (world_of c.floors.world) (Gather (c.floors.below + 1)) ≡ Ok (world_of c.apply.new.self, reply)) c.floors.invariant.1 c.apply.ensures.model),
+          (subst (λ (p : Program). happens p.config (world_of c.floors.world) (Gather (c.floors.below + 1)) ≡ Ok (world_of c.apply.new.self, reply)) c.floors.invariant.1 c.apply.ensures.model),
       c.apply.ensures.same ∙ c.floors.invariant.1,
     )

@@ -43,16 +43,14 @@ presses-preserved c =
     let at = read c.args.presses.now c.presses.press-index none below in
     elim c.if-press-round.branch [
       | then-press-round w ↦
-          let reply = reply_with w.apply.result w.apply.new.report in
-          (
+          let reply = reply_with w.apply.result w.apply.new.report in (
             press_more c.args.world.now.verified.config (world_of c.args.world.now) (world_of c.presses.world) (world_of c.if-press-round.world) c.args.presses.now c.args.round c.presses.press-index press reply c.requires.calls at (search rules) c.presses.invariant.0
-            (subst (λ (p : Program). happens p.config (world_of c.presses.world) (Press (call_of press)) ≡ Ok (world_of c.if-press-round.world, reply)) c.presses.invariant.1
-            (subst (λ (l : Call). happens c.presses.world.verified.config (world_of c.presses.world) (Press l) ≡ Ok (world_of c.if-press-round.world, reply)) w.call_of.ensures (rw w.world-is w.apply.ensures.model))),
+                (subst (λ (p : Program). happens p.config (world_of c.presses.world) (Press (call_of press)) ≡ Ok (world_of c.if-press-round.world, reply)) c.presses.invariant.1
+                (subst (λ (l : Call). happens c.presses.world.verified.config (world_of c.presses.world) (Press l) ≡ Ok (world_of c.if-press-round.world, reply)) w.call_of.ensures (rw w.world-is w.apply.ensures.model))),
             rw w.world-is (w.apply.ensures.same ∙ c.presses.invariant.1),
           )
-      | else-press-round w ↦
-          (
-            rw w.world-is (press_skips c.args.world.now.verified.config (world_of c.args.world.now) (world_of c.presses.world) c.args.presses.now c.args.round c.presses.press-index press at (search rules) c.presses.invariant.0),
-            rw w.world-is c.presses.invariant.1,
-          )
+      | else-press-round w ↦ (
+        rw w.world-is (press_skips c.args.world.now.verified.config (world_of c.args.world.now) (world_of c.presses.world) c.args.presses.now c.args.round c.presses.press-index press at (search rules) c.presses.invariant.0),
+        rw w.world-is c.presses.invariant.1,
+      )
     ]

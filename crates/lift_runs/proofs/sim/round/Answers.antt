@@ -50,15 +50,14 @@ returns-clause-round c =
     let next = c.plant_step-plant.result.0 in
     let report = c.refresh.new.report in
     let refreshing : happens p.config (world_of c.desk.new.world) (Refresh (fields_of_plant next)) ≡ Ok (world_of c.refresh.new.world, Refreshed report) =
-        subst (λ (f : Fields). happens p.config (world_of c.desk.new.world) (Refresh f) ≡ Ok (world_of c.refresh.new.world, Refreshed report)) c.plant_step-plant.ensures.fields
-        (subst (λ (x : Program). happens x.config (world_of c.desk.new.world) (Refresh c.plant_step-plant.result.1) ≡ Ok (world_of c.refresh.new.world, Refreshed report)) c.desk.ensures.same c.in_ok-refresh.ensures.taken)
+    subst (λ (f : Fields). happens p.config (world_of c.desk.new.world) (Refresh f) ≡ Ok (world_of c.refresh.new.world, Refreshed report)) c.plant_step-plant.ensures.fields
+    (subst (λ (x : Program). happens x.config (world_of c.desk.new.world) (Refresh c.plant_step-plant.result.1) ≡ Ok (world_of c.refresh.new.world, Refreshed report)) c.desk.ensures.same c.in_ok-refresh.ensures.taken)
     in
     let last = entry.Refresh (fields_of_plant next) (entered_calls_of report) ∷ flat_map scan_entries (tasks_in_order p.config) in
-    let first = ap (λ (f : Fields). c.args.entries.now.items ++ entry.Refresh f (entered_calls_of report) ∷ []) c.plant_step-plant.ensures.fields in
-    (
+    let first = ap (λ (f : Fields). c.args.entries.now.items ++ entry.Refresh f (entered_calls_of report) ∷ []) c.plant_step-plant.ensures.fields in (
       last,
       c.in_ok-scan_all.ensures.journal ∙ ap₂ (λ es ts. es ++ flat_map scan_entries ts) (c.in_ok-refresh.ensures.journal ∙ first) c.requires.tasks
-      ∙ append_assoc c.args.entries.now.items (entry.Refresh (fields_of_plant next) (entered_calls_of report) ∷ []) (flat_map scan_entries (tasks_in_order p.config)),
+          ∙ append_assoc c.args.entries.now.items (entry.Refresh (fields_of_plant next) (entered_calls_of report) ∷ []) (flat_map scan_entries (tasks_in_order p.config)),
       record {
         gathered = world_of c.desk.new.world;
         desk = c.desk.ensures.taken;

@@ -55,7 +55,7 @@ returns-clause-rounds c =
     let runs = subst (λ (p : Program). IsRunnable p.config) c.verified.ensures c.config-config.ensures.runnable in
     let all : c.rounds.number ≡ c.args.rounds = search rules in
     let driven =
-        subst (λ n. Rounds config (calls_in c.args.drive.presses.now) (is_fire_in c.args.drive.fire) n c.rounds.plant (world_of c.rounds.world) c.rounds.entries.items) all c.rounds.invariant.rounds
+    subst (λ n. Rounds config (calls_in c.args.drive.presses.now) (is_fire_in c.args.drive.fire) n c.rounds.plant (world_of c.rounds.world) c.rounds.entries.items) all c.rounds.invariant.rounds
     in
     record {
       plant = c.rounds.plant;
