@@ -2,7 +2,7 @@
 
 use crate::Meaning;
 
-pub(crate) const TEXTS: [Meaning; 38] = [
+pub(crate) const TEXTS: [Meaning; 40] = [
     Meaning {
         number: 1,
         text: "1: a byte that has no place in a text\n\nA byte outside 32 to 126 that is no tab, line feed, or carriage return directly before a line feed; or a byte that begins no token, such as `$`, `*`, `=` alone, or `-` without a digit behind it. Named is the line of the byte.\n\n    PROGRAM C\n    LD TRUE\n    ST OPEN $\n    END_PROGRAM\n\nrefused 1 at line 3\n\nRemove the byte; write comments in ASCII.\n\n    PROGRAM C\n    LD TRUE\n    ST OPEN\n    END_PROGRAM\n",
@@ -154,5 +154,13 @@ pub(crate) const TEXTS: [Meaning; 38] = [
     Meaning {
         number: 65,
         text: "65: a call to its own floor\n\nPress with the same floor twice.\n\nPress for another floor.\n",
+    },
+    Meaning {
+        number: 80,
+        text: "80: a wrong line in a trace\n\nThe line is complete and has none of the forms of the trace's format, which `TRACE.md` shows. An R line has as many cars as CARS says, and has FIRE in format 2 alone. The number of the E line is that of the lines between the first one and it. Nothing may stand behind a right E line, not even a piece without a line feed. A trace of more than 67108864 bytes is 80 at line 1.\n\n    LIFTTRACE 2\n    R 100 1 1 10110\n    S 1\n    C 1\n    E 3\n\nrefused 80 at line 2\n\nThe R line is one of format 1. In format 2 FIRE stands behind RUNLIMIT:\n\n    LIFTTRACE 2\n    R 100 1 0 1 10110\n    S 1\n    C 1\n    E 3\n",
+    },
+    Meaning {
+        number: 81,
+        text: "81: a trace that ends too early\n\nThe text ends before its E line is complete. A line without its line feed isn't complete, whatever it says. Reported is the line where the text ends: 1 plus the number of its line feeds.\n\n    LIFTTRACE 2\n    R 100 1 0 1 10110\n    S 1\n    C 1\n\nrefused 81 at line 5\n\nIf a part of the trace was lost, copy the trace again. Otherwise end it with the E line and the number of the lines between:\n\n    LIFTTRACE 2\n    R 100 1 0 1 10110\n    S 1\n    C 1\n    E 3\n",
     },
 ];
