@@ -18,6 +18,8 @@ pub enum Line<'l> {
     Run(&'l str),
     /// `?WORDS`: a run, of which the status is printed, and where it has written.
     Status(&'l str),
+    /// `<WORDS`: the same, and the standard output is added to the last file.
+    Keep(&'l str),
     /// Any other line is printed as it is.
     Note,
 }
@@ -43,6 +45,7 @@ pub fn line_of(line: &str) -> Option<Line<'_>> {
         b'>' => Some(Line::Limit(rest.parse().ok()?)),
         b'$' => Some(Line::Run(rest)),
         b'?' => Some(Line::Status(rest)),
+        b'<' => Some(Line::Keep(rest)),
         _ => Some(Line::Note),
     }
 }

@@ -64,6 +64,12 @@ impl Shelf {
         Ok(())
     }
 
+    /// Adds bytes.
+    pub fn add(&mut self, bytes: &[u8]) -> io::Result<()> {
+        self.last()?.extend_from_slice(bytes)?;
+        Ok(())
+    }
+
     /// Adds all bytes of another file.
     pub fn include(&mut self, name: &str) -> io::Result<()> {
         let other = match self.named(name) {

@@ -48,6 +48,11 @@ impl Cases {
                 let outcome = self.outcome(words)?;
                 write_status(line, &outcome, to)
             }
+            Line::Keep(words) => {
+                let outcome = self.outcome(words)?;
+                self.shelf.add(outcome.out.bytes())?;
+                write_status(line, &outcome, to)
+            }
             Line::Note => write!(to, "{line}\n"),
         }
     }
