@@ -1,9 +1,10 @@
 // What the book of one owner journals and refuses. No command shows it yet.
 
-ghost use Rattle.std.specs.Prelude.{◌≡◌, ◌≤◌, true};
+ghost use Rattle.std.specs.Prelude.{◌≡◌, ◌≤◌, true, IfOk, IfSome};
+ghost use Rattle.il_machine.specs.Scanned.{Begins};
 ghost use Rattle.il_machine.specs.Scanning.{HasTask};
 
-use il_machine::{Store, Verified, scan};
+use il_machine::{OpenScan, Store, Verified, scan};
 use il_spec::fault::Refusal;
 use lift_book::Book;
 use lift_load::load;
@@ -24,9 +25,10 @@ END_RESOURCE
 END_CONFIGURATION
 ";
 
-// What was refused, by its number, and how many entries the journal has.
+// What a commit and a start were answered, by the number of a fault or 0, and how many entries the journal has.
 #[derive(Clone, Copy)]
 struct Refused {
+    committed: u8,
     number: u8,
     entries: usize,
 }
@@ -40,52 +42,126 @@ fn has_car(verified: &Verified, car: u8) -> bool
     car <= verified.sizes().cars && verified.has_task(car)
 }
 
-// A round of car 1, and a further start, which a journal of two entries has no room for.
+// The number of the fault of a start of a car, 0 where it starts.
+fn start_fault(
+    alloc: Global,
+    book: &mut Book,
+    verified: &Verified,
+    car: u8,
+) -> Result<u8, AllocError>
+    requires program { verified.now ≡ book.old.program.value }
+    requires there { HasTask verified.now.config car }
+    ensures same { book.new.program ≡ book.old.program }
+{
+    let store = Store::new(alloc, verified, car)?;
+    match book.start(verified, car, store) {
+        Ok(_) => Ok(0),
+        Err((fault, _)) => Ok(fault.number()),
+    }
+}
+
+// The number of the fault of a commit of a scan for a car, 0 where it is done.
+fn commit_fault(book: &mut Book, verified: &Verified, car: u8, begun: OpenScan) -> u8
+    requires program { verified.now ≡ book.old.program.value }
+    requires begins { Begins verified.now.config begun.task begun.store }
+    ensures same { book.new.program ≡ book.old.program }
+{
+    match book.commit(verified, car, scan(verified, begun), &mut Report::new()) {
+        Ok(_) => 0,
+        Err((fault, _)) => fault.number(),
+    }
+}
+
+// A scan of car 1 begins, if it may.
+fn begun(
+    alloc: Global,
+    book: &mut Book,
+    verified: &Verified,
+) -> Result<Option<OpenScan>, AllocError>
+    requires program { verified.now ≡ book.old.program.value }
+    requires there { HasTask verified.now.config 1 }
+    ensures begins { IfOk result (λ o. IfSome o (λ b. Begins verified.now.config b.task b.store)) }
+    ensures same { book.new.program ≡ book.old.program }
+{
+    let store = Store::new(alloc, verified, 1)?;
+    match book.start(verified, 1, store) {
+        Ok(begun) => Ok(Some(begun)),
+        Err(_) => Ok(None),
+    }
+}
+
+// A round of car 1, and a further start: the numbers of the faults of its commit and of that start.
+fn round_and_start(
+    alloc: Global,
+    book: &mut Book,
+    verified: &Verified,
+) -> Result<(u8, u8), AllocError>
+    requires program { verified.now ≡ book.old.program.value }
+    requires there { HasTask verified.now.config 1 }
+{
+    match begun(alloc, book, verified)? {
+        None => Ok((255, 255)),
+        Some(begun) => {
+            let committed = commit_fault(book, verified, 1, begun);
+            Ok((committed, start_fault(alloc, book, verified, 1)?))
+        }
+    }
+}
+
+// A start of a car where its scan is open, and a commit of that scan for the other car, which runs the same program: the numbers of
+// their faults.
+fn start_and_commit_other(
+    alloc: Global,
+    book: &mut Book,
+    verified: &Verified,
+) -> Result<(u8, u8), AllocError>
+    requires program { verified.now ≡ book.old.program.value }
+    requires first { HasTask verified.now.config 1 }
+    requires second { HasTask verified.now.config 2 }
+{
+    match begun(alloc, book, verified)? {
+        None => Ok((255, 255)),
+        Some(begun) => {
+            let second = start_fault(alloc, book, verified, 2);
+            let again = start_fault(alloc, book, verified, 1);
+            let other = commit_fault(book, verified, 2, begun);
+            if second? != 0 {
+                return Ok((255, 255));
+            }
+            Ok((again?, other))
+        }
+    }
+}
+
+// The one place where a book is dropped.
+fn give_up(_book: Book) {}
+
+// The two faults over a journal of two entries, and how many it has then.
 fn third_entry(alloc: Global, verified: &Verified) -> Result<Option<Refused>, AllocError> {
     if !has_car(verified, 1) {
         return Ok(None);
     }
     let mut book = Book::new(alloc, verified, 2)?;
-    let store = Store::new(alloc, verified, 1)?;
-    let Ok(begun) = book.start(verified, 1, store) else {
-        return Ok(None);
-    };
-    let scanned = scan(verified, begun);
-    scanned.is_scan();
-    let Ok(store) = book.commit(verified, 1, scanned, &mut Report::new()) else {
-        return Ok(None);
-    };
-    match book.start(verified, 1, store) {
-        Ok(_) => Ok(None),
-        Err((fault, _)) => Ok(Some(Refused {
-            number: fault.number(),
-            entries: book.journal().len(),
-        })),
-    }
+    let faults = round_and_start(alloc, &mut book, verified);
+    let entries = book.journal().len();
+    give_up(book);
+    let (committed, number) = faults?;
+    Ok(Some(Refused {
+        committed,
+        number,
+        entries,
+    }))
 }
 
-// A start of a car where its scan is open, and a commit of that car's scan for the other car, which runs the same program.
+// The two faults over a journal with room.
 fn other_car(alloc: Global, verified: &Verified) -> Result<Option<(u8, u8)>, AllocError> {
     if !has_car(verified, 1) || !has_car(verified, 2) {
         return Ok(None);
     }
     let mut book = Book::new(alloc, verified, 9)?;
-    let Ok(begun) = book.start(verified, 1, Store::new(alloc, verified, 1)?) else {
-        return Ok(None);
-    };
-    if book
-        .start(verified, 2, Store::new(alloc, verified, 2)?)
-        .is_err()
-    {
-        return Ok(None);
-    }
-    let Err((again, _)) = book.start(verified, 1, Store::new(alloc, verified, 1)?) else {
-        return Ok(None);
-    };
-    match book.commit(verified, 2, scan(verified, begun), &mut Report::new()) {
-        Ok(_) => Ok(None),
-        Err((fault, _)) => Ok(Some((again.number(), fault.number()))),
-    }
+    let faults = start_and_commit_other(alloc, &mut book, verified);
+    give_up(book);
+    Ok(Some(faults?))
 }
 
 fn refused_at(alloc: Global) -> Result<Option<Refused>, Refusal> {
@@ -109,6 +185,7 @@ fn journal_is_full(rt: HostRuntime) {
         matches!(
             refused,
             Ok(Some(Refused {
+                committed: 0,
                 number: 70,
                 entries: 2
             }))

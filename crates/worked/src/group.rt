@@ -31,7 +31,9 @@ pub struct Left {
 /// Hands events to the group of a text, one after the other.
 pub fn play(alloc: Global, text: &[u8], given: &[Given]) -> Result<Left, Refusal> {
     let mut world = opened(alloc, text)?;
-    Ok(left_by(alloc, &mut world, given)?)
+    let left = left_by(alloc, &mut world, given);
+    world.release();
+    Ok(left?)
 }
 
 // The group of a text as it opens.
