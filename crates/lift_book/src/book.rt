@@ -136,6 +136,15 @@ impl Book {
         self.ledger.journal.as_slice()
     }
 
+    /// The journal alone.
+    pub fn into_journal(self) -> Vec<Entry>
+        ensures { result.items ≡ (page_of self).journal }
+    {
+        let Book { ledger } = self;
+        let Ledger { journal, .. } = ledger;
+        journal
+    }
+
     /// A copy of the image.
     pub fn copied_image(&self) -> Image
         ensures { result ≡ (page_of self.now).world.group.image }
@@ -143,7 +152,7 @@ impl Book {
         let image = self.ledger.core.image();
         let _fits = image.outputs.len();
         Image {
-            fields: copied(&image.fields),
+            fields: image.fields.copied(),
             outputs: Row::from_slice(image.outputs.as_slice()),
         }
     }
@@ -168,19 +177,6 @@ impl Book {
         ensures { result ≡ values.get (page_of self.now).world.group.globals path.now }
     {
         self.ledger.core.global(verified, path)
-    }
-}
-
-// A copy of fields.
-fn copied(fields: &Fields) -> Fields
-    ensures { result ≡ fields.now }
-{
-    let _fits = fields.cars.len();
-    Fields {
-        time: fields.time,
-        run_limit: fields.run_limit,
-        fire: fields.fire,
-        cars: Row::from_slice(fields.cars.as_slice()),
     }
 }
 

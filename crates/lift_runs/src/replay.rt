@@ -5,7 +5,6 @@ ghost use Rattle.lift_journal.specs.Rounds.{Takes, TakesAll, Refuses, IsRefusedA
 ghost use Rattle.lift_world.specs.Running.{world_of};
 
 use crate::scan::{finish_and_commit, taken};
-use lift_image::{Fields, Row};
 use lift_spec::event::{Event, EventFault};
 use lift_spec::report::Report;
 use lift_spec::trace::TraceEvent;
@@ -16,19 +15,6 @@ use lift_world::World;
 pub struct Refused {
     pub index: usize,
     pub fault: EventFault,
-}
-
-/// A copy of fields.
-fn copied(fields: &Fields) -> Fields
-    ensures { result ≡ fields.now }
-{
-    let _fits = fields.cars.len();
-    Fields {
-        time: fields.time,
-        run_limit: fields.run_limit,
-        fire: fields.fire,
-        cars: Row::from_slice(fields.cars.as_slice()),
-    }
 }
 
 /// One event of a trace, unless it is refused. A commit comes behind the rest of its task's scan.
@@ -42,7 +28,7 @@ fn take(world: &mut World, event: &TraceEvent, report: &mut Report) -> Result<()
         TraceEvent::Commit(task) => finish_and_commit(world, *task, report),
         TraceEvent::Press(call) => taken(world, &Event::Press(*call), report),
         TraceEvent::Gather(floor) => taken(world, &Event::Gather(*floor), report),
-        TraceEvent::Refresh(fields) => taken(world, &Event::Refresh(copied(fields)), report),
+        TraceEvent::Refresh(fields) => taken(world, &Event::Refresh(fields.copied()), report),
     }
 }
 

@@ -326,24 +326,11 @@ impl Core {
         let settled = settle_all(&self.image.outputs, fields);
         enter_all(&mut self.calls, hand, &mut report.entered);
         self.image = Image {
-            fields: copied(fields),
+            fields: fields.copied(),
             outputs: Row::from_slice(settled.outputs.as_slice()),
         };
         report.outputs = settled.outputs;
         report.denials = settled.denials;
         clear(&mut report.answers);
-    }
-}
-
-// A copy of fields.
-fn copied(fields: &Fields) -> Fields
-    ensures { result ≡ fields.now }
-{
-    let _fits = fields.cars.len();
-    Fields {
-        time: fields.time,
-        run_limit: fields.run_limit,
-        fire: fields.fire,
-        cars: Row::from_slice(fields.cars.as_slice()),
     }
 }
