@@ -136,17 +136,21 @@ impl<'v> Scanned<'v> {
         let _task = self.task;
     }
 
-    /// Whether task, program, variables and snapshot of the scan are these, by value: it began as this store stands, in which a scan
-    /// of the task begins.
+    /// Whether it is a scan of this program, by value: the two configurations are compared part by part.
+    pub fn is_of(&self, verified: &Verified) -> bool
+        ensures { (result ≡ true) ↔ (self.now.program.config ≡ verified.now.config) }
+    {
+        self.verified.config().same(verified.config())
+    }
+
+    /// Whether task, variables and snapshot of a scan of this program are these, by value: it began as this store stands, in which a
+    /// scan of the task begins.
     pub fn began(&self, verified: &Verified, task: u8, store: &Store) -> bool
-        requires { Begins verified.now.config task store.now }
+        requires begins { Begins verified.now.config task store.now }
+        requires program { self.now.program.config ≡ verified.now.config }
         ensures { (result ≡ true) ↔ Began self.now verified.now.config task store.now }
     {
-        let _config = verified.config();
         if self.task != task {
-            return false;
-        }
-        if !self.verified.config().same(verified.config()) {
             return false;
         }
         same_values(&self.first, store.rows(), verified.task_code(task).cells())

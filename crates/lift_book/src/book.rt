@@ -100,6 +100,29 @@ impl Book {
         ensures refused { IfErr result (λ r. (self.new ≡ self.old) × (report.new ≡ report.old) × (r.1 ≡ scanned.entry)) }
         ensures same { self.new.program ≡ self.old.program }
     {
+        if !scanned.is_of(verified) {
+            return Err((StationFault::NotOpen, scanned));
+        }
+        self.ledger.commit(verified, task, scanned, report)
+    }
+
+    /// Commit of a scan of the book's own program, which is not compared again. No allocation.
+    pub fn commit_own<'v>(
+        &mut self,
+        verified: &Verified,
+        task: u8,
+        scanned: Scanned<'v>,
+        report: &mut Report,
+    ) -> Result<Store, (StationFault, Scanned<'v>)>
+        requires program { verified.now ≡ self.old.program.value }
+        requires own { scanned.entry.program.config ≡ verified.now.config }
+        ensures open { IsOpenHere (page_of self.old) task scanned.entry → fault_of result ≡ full_fault (page_of self.old) }
+        ensures other { ¬ (IsOpenHere (page_of self.old) task scanned.entry) → fault_of result ≡ Some NotOpen }
+        ensures mine { OnOk result (IsOpenHere (page_of self.old) task scanned.entry) }
+        ensures done { IfOk result (λ s. Adds (page_of self.old) (entry.Commit task) (Committed report.new) (page_of self.new) × (s ≡ scanned.entry.last)) }
+        ensures refused { IfErr result (λ r. (self.new ≡ self.old) × (report.new ≡ report.old) × (r.1 ≡ scanned.entry)) }
+        ensures same { self.new.program ≡ self.old.program }
+    {
         self.ledger.commit(verified, task, scanned, report)
     }
 

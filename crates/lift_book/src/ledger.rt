@@ -92,6 +92,7 @@ impl Ledger {
     // Whether what is open of this task is this scan.
     fn has_open(&self, verified: &Verified, task: u8, scanned: &Scanned<'_>) -> bool
         requires program { verified.now ≡ self.now.program.value }
+        requires own { scanned.now.program.config ≡ verified.now.config }
         requires kept { IsLedger self.now }
         ensures { (result ≡ true) ↔ IsOpenHere (page_of self.now) task scanned.now }
     {
@@ -140,7 +141,7 @@ impl Ledger {
         Ok(OpenScan::of(task, store))
     }
 
-    /// Commit: a scan that was run is what is open of this task, and hands over what it left. No allocation.
+    /// Commit: a scan of the program that was run is what is open of this task, and hands over what it left. No allocation.
     pub fn commit<'v>(
         &mut self,
         verified: &Verified,
@@ -149,6 +150,7 @@ impl Ledger {
         report: &mut Report,
     ) -> Result<Store, (StationFault, Scanned<'v>)>
         requires program { verified.now ≡ self.old.program.value }
+        requires own { scanned.entry.program.config ≡ verified.now.config }
         requires kept { IsLedger self.old }
         ensures open { IsOpenHere (page_of self.old) task scanned.entry → fault_of result ≡ full_fault (page_of self.old) }
         ensures other { ¬ (IsOpenHere (page_of self.old) task scanned.entry) → fault_of result ≡ Some NotOpen }

@@ -9,13 +9,12 @@ returns c =
     let f = c.args.self.now in
     let config = c.args.verified.now.config in
     let scan : IsScan f = subst IsScan c.self.view_is c.self.invariant.1 in
-    let yes : c.same.result ≡ true = search rules in
     let own : c.self.inside.task ≡ c.args.task = search rules in
-    let program : f.program.config ≡ config = ap (λ (g : Finished). g.program.config) (sym c.self.view_is) ∙ sym c.config.ensures.same ∙ c.same.ensures.0 yes ∙ c.config-2.ensures.same in
+    let program = c.requires.program in
     let task : f.task ≡ c.args.task = ap (λ (g : Finished). g.task) (sym c.self.view_is) ∙ own in
-    let u = c.requires.scan.0 in
-    let is = c.requires.scan.1.program in
+    let u = c.requires.begins.scan.0 in
+    let is = c.requires.begins.scan.1.program in
     let cells = c.cells.ensures ∙ (c.task_code.ensures u is).cells in
     let first = c.self.invariant.0 ∙ ap (λ (g : Finished). g.first.rows) c.self.view_is in
-    began_by f scan config c.args.task c.args.store.now c.requires program task u is c.cells.result.now cells c.self.inside.first first c.same_values.result
+    began_by f scan config c.args.task c.args.store.now c.requires.begins program task u is c.cells.result.now cells c.self.inside.first first c.same_values.result
     (subst (λ (r : Rows). (c.same_values.result ≡ true) ↔ HaveSameValues c.cells.result.now c.self.inside.first r) c.rows.ensures c.same_values.ensures)
