@@ -115,7 +115,7 @@ impl Book {
         report: &mut Report,
     ) -> Result<Store, (StationFault, Scanned<'v>)>
         requires program { verified.now ≡ self.old.program.value }
-        requires own { scanned.entry.program.config ≡ verified.now.config }
+        requires own { scanned.program.config ≡ verified.now.config }
         ensures open { IsOpenHere (page_of self.old) task scanned.entry → fault_of result ≡ full_fault (page_of self.old) }
         ensures other { ¬ (IsOpenHere (page_of self.old) task scanned.entry) → fault_of result ≡ Some NotOpen }
         ensures mine { OnOk result (IsOpenHere (page_of self.old) task scanned.entry) }

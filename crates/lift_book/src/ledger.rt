@@ -150,7 +150,7 @@ impl Ledger {
         report: &mut Report,
     ) -> Result<Store, (StationFault, Scanned<'v>)>
         requires program { verified.now ≡ self.old.program.value }
-        requires own { scanned.entry.program.config ≡ verified.now.config }
+        requires own { scanned.program.config ≡ verified.now.config }
         requires kept { IsLedger self.old }
         ensures open { IsOpenHere (page_of self.old) task scanned.entry → fault_of result ≡ full_fault (page_of self.old) }
         ensures other { ¬ (IsOpenHere (page_of self.old) task scanned.entry) → fault_of result ≡ Some NotOpen }
