@@ -1,0 +1,5 @@
+pub mod Totals
+pub mod Showing
+pub mod Hands
+pub mod Tasks
+pub mod Cross

@@ -1,0 +1,52 @@
+-- What is counted, and what an answer shows (own rules).
+use Rattle.std.specs.Prelude.{◌≡◌, ℕ, ◌+◌, ◌<◌, ◌%◌, List, length, map, slice_index_or, Option, Some, None}
+use Rattle.il_spec.specs.declared.tree.Config.{Config}
+use Rattle.il_machine.specs.Scanned.{Finished}
+use Rattle.lift_spec.specs.declared.image.Fields.{Fields}
+use Rattle.lift_spec.specs.declared.report.Report.{Report}
+use Rattle.lift_spec.specs.declared.report.EnteredCall.{EnteredCall}
+use Rattle.lift_spec.specs.declared.calls.Call.{Call}
+use Rattle.lift_spec.specs.Replies.{Committed, Refreshed}
+use Rattle.lift_spec.specs.declared.journal.Entry.{Entry}
+use Rattle.lift_spec.specs.declared.journal.Entry.TheVariants as entry
+use Rattle.lift_journal.specs.declared.fault.StationFault.{StationFault}
+use Rattle.lift_journal.specs.declared.fault.StationFault.TheVariants.{JournalFull}
+use Rattle.lift_journal.specs.Journal.{entries_by, entered_calls, refresher}
+use Rattle.lift_journal.specs.Pages.{Page, Kept, Adds}
+use Rattle.lift_book.specs.Ledgers.{IsOpenHere}
+
+-- the totals are the numbers of entries of the actors, and of the calls that were entered
+pub record Counted (totals : List ℕ) (journal : List Entry) : Type 0 where
+  pub many : length totals ≡ 11
+  pub actors : (a : ℕ) → a < 10 → slice_index_or totals a 0 ≡ entries_by a journal
+  pub entered : slice_index_or totals 10 0 ≡ entered_calls journal
+
+-- no fault, or 70
+abbrev pub IsNoneOrFull : Option StationFault → Type 0
+IsNoneOrFull None = Unit {0}
+IsNoneOrFull (Some f) = f ≡ JournalFull
+
+-- the calls that a report names as entered, in the order done
+abbrev pub calls_in : Report → List Call
+calls_in report = map (λ (d : EnteredCall). d.call) report.entered
+
+-- The report is that of a commit of this very scan, at the end of a run that holds so many entries of the task.
+pub record IsCommitted (c : Config) (t count : ℕ) (scan : Finished) (report : Report) : Type 0 where
+  pub before : Page
+  pub config : before.config ≡ c
+  pub kept : Kept before
+  pub counted : entries_by t before.journal ≡ count
+  pub is_open : IsOpenHere before t scan
+  pub after : Page
+  pub adds : Adds before (entry.Commit t) (Committed report) after
+
+-- The report is that of a refresh with these fields, at the end of a run that holds so many refreshes and so many entered calls; it
+-- enters the calls that it names.
+pub record IsRefreshed (c : Config) (count entered : ℕ) (fields : Fields) (report : Report) : Type 0 where
+  pub before : Page
+  pub config : before.config ≡ c
+  pub kept : Kept before
+  pub counted : entries_by refresher before.journal ≡ count
+  pub called : entered_calls before.journal ≡ entered
+  pub after : Page
+  pub adds : Adds before (entry.Refresh fields (calls_in report)) (Refreshed report) after

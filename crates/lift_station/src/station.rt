@@ -1,0 +1,344 @@
+// The station.
+
+ghost use Rattle.std.specs.Prelude.{◌≡◌, ◌≤◌, ◌↔◌, ◌%◌, ◌+◌, ◌∷◌, [], false, All, length, map, filter, slice_index_or, Some, Ok, Err, IfOk, IfErr, IfSome, OnOk, OnErr, ◌++◌, ℕ};
+ghost use Rattle.il_spec.specs.declared.fault.Refusal.TheVariants.{Memory};
+ghost use Rattle.il_machine.specs.Scanning.{HasTask};
+ghost use Rattle.il_machine.specs.Scanned.{Begins, stands};
+ghost use Rattle.lift_spec.specs.Image.{sizes_of, fields_in_range, Obeys};
+ghost use Rattle.lift_journal.specs.Journal.{entries_by, entered_calls, refresher};
+ghost use Rattle.lift_journal.specs.Pages.{Kept, IsSnapped, IsShown, IsTold};
+ghost use Rattle.lift_journal.specs.declared.fault.StationFault.TheVariants.{FieldOutOfRange, JournalFull, NotOpen, AlreadyOpen};
+ghost use Rattle.lift_book.specs.Ledgers.{page_of, fault_of, fault_in};
+ghost use Rattle.lift_station.specs.Passes.{task_of, count_of, counts_one, is_task, all_tasks};
+ghost use Rattle.lift_station.specs.Counted.{IsNoneOrFull, calls_in, IsCommitted, IsRefreshed};
+
+use crate::actor::{Blanks, Naming, RefreshPass, TaskShare};
+use crate::locked::Locked;
+use crate::passes::TaskPass;
+use il_machine::{OpenScan, Scanned, Store, Verified};
+use il_spec::fault::Refusal;
+use lift_book::Book;
+use lift_desk::HandPass;
+use lift_image::{Fields, Image};
+use lift_journal::fault::StationFault;
+use lift_spec::report::Report;
+use std::alloc::{AllocError, Global};
+use std::marker::{Model, PhantomData};
+use std::sync::{Mutex, Wait};
+
+// The program of the station. Contracts see it as the program.
+#[derive(Drop)]
+struct Mine<G: Naming> {
+    verified: Verified,
+    of: PhantomData<G>,
+}
+
+impl<G: Naming> Model for Mine<G> {
+    ghost use Rattle.std.specs.Prelude.{◌≡◌};
+    ghost use Rattle.il_machine.specs.Scanning.{Program, verified_code};
+
+    ghost Value = { Program };
+
+    ghost coded = { verified_code };
+
+    ghost view = { λ m. m.verified };
+
+    ghost invariant = { λ m. m.verified ≡ G.program };
+}
+
+impl<G: Naming> Mine<G> {
+    fn program(&self) -> &Verified
+        ensures { result.now ≡ G.program }
+    {
+        &self.verified
+    }
+
+    fn into_verified(self) -> Verified
+        ensures { result ≡ G.program }
+    {
+        let Mine { verified, .. } = self;
+        verified
+    }
+}
+
+// Whether the group has a task of this number.
+fn is_task(verified: &Verified, task: u8) -> bool
+    requires { task ≤ 8 }
+    ensures { result ≡ is_task verified.now.config task }
+{
+    task <= verified.sizes().cars && verified.has_task(task)
+}
+
+// The pass of a task that the program has.
+fn pass_of<G: Naming>(
+    alloc: Global,
+    verified: &Verified,
+    share: TaskShare<G>,
+) -> Result<TaskPass<G>, AllocError>
+    requires program { verified.now ≡ G.program }
+    requires there { HasTask G.program.config (task_of share) }
+    requires new { count_of share ≡ 0 }
+    ensures { IfOk result (λ p. p ≡ record { task = task_of share; count = 0 }) }
+{
+    let store = Store::new(alloc, verified, share.task())?;
+    Ok(TaskPass {
+        share,
+        store: Some(store),
+    })
+}
+
+// The passes of those tasks that the program has.
+fn passes_of<G: Naming>(
+    alloc: Global,
+    verified: &Verified,
+    shares: Vec<TaskShare<G>>,
+) -> Result<Vec<TaskPass<G>>, AllocError>
+    requires program { verified.now ≡ G.program }
+    requires new { All (λ s. count_of s ≡ 0) shares.items }
+    ensures tasks { IfOk result (λ ps. map (λ p. p.task) ps.items ≡ filter (is_task G.program.config) (map task_of shares.items)) }
+    ensures counts { IfOk result (λ ps. All (λ p. p.count ≡ 0) ps.items) }
+{
+    let mut passes = Vec::new(alloc);
+    for share in shares {
+        add_pass(alloc, verified, share, &mut passes)?;
+    }
+    Ok(passes)
+}
+
+// Adds the pass of a task, if the program has it.
+fn add_pass<G: Naming>(
+    alloc: Global,
+    verified: &Verified,
+    share: TaskShare<G>,
+    passes: &mut Vec<TaskPass<G>>,
+) -> Result<(), AllocError>
+    requires program { verified.now ≡ G.program }
+    requires new { count_of share ≡ 0 }
+    ensures tasks { OnOk result (map (λ p. p.task) passes.new.items ≡ map (λ p. p.task) passes.old.items ++ filter (is_task G.program.config) (task_of share ∷ [])) }
+    ensures counts { All (λ p. p.count ≡ 0) passes.old.items → OnOk result (All (λ p. p.count ≡ 0) passes.new.items) }
+{
+    if !is_task(verified, share.task()) {
+        return Ok(());
+    }
+    passes.push(pass_of(alloc, verified, share)?)?;
+    Ok(())
+}
+
+// What lies under the lock at the start, and the passes.
+fn opened<G: Naming>(
+    alloc: Global,
+    blanks: Blanks,
+    verified: &Verified,
+    capacity: usize,
+) -> Result<(Locked<G>, Vec<TaskPass<G>>, RefreshPass<G>), AllocError>
+    requires program { verified.now ≡ G.program }
+    requires names { (i : ℕ) → slice_index_or blanks i 0 ≡ G.names i }
+    ensures tasks { IfOk result (λ r. map (λ p. p.task) r.1.items ≡ filter (is_task G.program.config) all_tasks) }
+    ensures counts { IfOk result (λ r. All (λ p. p.count ≡ 0) r.1.items) }
+    ensures refreshes { IfOk result (λ r. r.2 ≡ record { refreshes = 0; entered = 0 }) }
+{
+    let book = Book::new(alloc, verified, capacity)?;
+    let (counts, shares, refresher) = blanks.open::<G>(alloc)?;
+    let locked = Locked::of(book, counts);
+    let tasks = passes_of(alloc, verified, shares)?;
+    Ok((locked, tasks, refresher))
+}
+
+/// The station: a program, and a book under a lock.
+#[derive(Drop)]
+pub struct Station<G: Naming> {
+    program: Mine<G>,
+    book: Mutex<Locked<G>>,
+}
+
+/// What a closed station leaves: the program, and the book with its journal, image, call slots and globals.
+#[derive(Drop)]
+pub struct Closed {
+    pub verified: Verified,
+    pub book: Book,
+}
+
+impl<G: Naming> Station<G> {
+    /// A station of a program, with room for so many entries in its journal: the passes of its tasks, and the refresher's.
+    pub fn new(
+        alloc: Global,
+        blanks: Blanks,
+        verified: Verified,
+        capacity: usize,
+    ) -> Result<(Station<G>, Vec<TaskPass<G>>, RefreshPass<G>), Refusal>
+        requires program { verified ≡ G.program }
+        requires names { (i : ℕ) → slice_index_or blanks i 0 ≡ G.names i }
+        ensures tasks { IfOk result (λ r. map (λ p. p.task) r.1.items ≡ filter (is_task G.program.config) all_tasks) }
+        ensures counts { IfOk result (λ r. All (λ p. p.count ≡ 0) r.1.items) }
+        ensures refreshes { IfOk result (λ r. r.2 ≡ record { refreshes = 0; entered = 0 }) }
+        ensures memory { IfErr result (λ e. e ≡ Memory) }
+    {
+        let opened = opened::<G>(alloc, blanks, &verified, capacity);
+        match opened {
+            Ok((locked, tasks, refresher)) => {
+                let station = Station {
+                    program: Mine {
+                        verified,
+                        of: PhantomData,
+                    },
+                    book: Mutex::new(locked),
+                };
+                Ok((station, tasks, refresher))
+            }
+            Err(_) => Err(Refusal::Memory),
+        }
+    }
+
+    /// The program.
+    pub fn verified(&self) -> &Verified
+        ensures { result.now ≡ G.program }
+    {
+        self.program.program()
+    }
+
+    /// Start: a scan of the pass's task begins. It waits for the lock.
+    pub fn start(
+        &self,
+        rt: &impl Wait,
+        pass: TaskPass<G>,
+    ) -> (TaskPass<G>, Result<OpenScan, StationFault>)
+        ensures odd { pass.count % 2 ≡ 1 → result.1 ≡ Err AlreadyOpen }
+        ensures even { pass.count % 2 ≡ 0 → IsNoneOrFull (fault_in result.1) }
+        ensures done { OnOk result.1 (result.0 ≡ counts_one pass) }
+        ensures begins { IfOk result.1 (λ o. (o.task ≡ pass.task) × Begins G.program.config pass.task o.store × IsSnapped G.program.config pass.task pass.count (stands G.program.config pass.task o.store)) }
+        ensures refused { OnErr result.1 (result.0 ≡ pass) }
+    {
+        pass.task();
+        let TaskPass { mut share, store } = pass;
+        let Some(store) = store else {
+            return (
+                TaskPass { share, store: None },
+                Err(StationFault::AlreadyOpen),
+            );
+        };
+        let answer = self
+            .book
+            .lock(rt)
+            .start(self.program.program(), &mut share, store);
+        match answer {
+            Ok(open) => (TaskPass { share, store: None }, Ok(open)),
+            Err((fault, store)) => (
+                TaskPass {
+                    share,
+                    store: Some(store),
+                },
+                Err(fault),
+            ),
+        }
+    }
+
+    /// Commit: the pass's scan, which was run, hands over what it left. The scan's program is compared first; then it waits for the lock.
+    pub fn commit<'v>(
+        &self,
+        rt: &impl Wait,
+        pass: TaskPass<G>,
+        scanned: Scanned<'v>,
+        report: &mut Report,
+    ) -> (TaskPass<G>, Result<(), (StationFault, Scanned<'v>)>)
+        ensures even { pass.count % 2 ≡ 0 → fault_of result.1 ≡ Some NotOpen }
+        ensures done { OnOk result.1 (result.0 ≡ counts_one pass) }
+        ensures report { OnOk result.1 (IsCommitted G.program.config pass.task pass.count scanned.entry report.new) }
+        ensures refused { IfErr result.1 (λ r. (result.0 ≡ pass) × (report.new ≡ report.old) × (r.1 ≡ scanned.entry)) }
+    {
+        pass.task();
+        if !scanned.is_of(self.program.program()) {
+            return (pass, Err((StationFault::NotOpen, scanned)));
+        }
+        let TaskPass { mut share, store } = pass;
+        let answer = self
+            .book
+            .lock(rt)
+            .commit(self.program.program(), &mut share, scanned, report);
+        match answer {
+            Ok(left) => (
+                TaskPass {
+                    share,
+                    store: Some(left),
+                },
+                Ok(()),
+            ),
+            Err(refused) => (TaskPass { share, store }, Err(refused)),
+        }
+    }
+
+    /// Refresh: the image takes the fields, and the first calls of the hand enter. It waits for the lock.
+    pub fn refresh(
+        &self,
+        rt: &impl Wait,
+        pass: RefreshPass<G>,
+        fields: Fields,
+        collector: HandPass,
+        report: &mut Report,
+    ) -> (RefreshPass<G>, HandPass, Result<(), StationFault>)
+        requires { collector.floors ≡ (sizes_of G.program.config).floors }
+        ensures out_of_range { (fields_in_range (sizes_of G.program.config) fields ≡ false) ↔ (result.2 ≡ Err FieldOutOfRange) }
+        ensures pass { OnOk result.2 (result.0 ≡ record { refreshes = pass.refreshes + 1; entered = pass.entered + length report.new.entered }) }
+        ensures report { OnOk result.2 (IsRefreshed G.program.config pass.refreshes pass.entered fields report.new) }
+        ensures hand { OnOk result.2 (collector.hand ≡ calls_in report.new ++ result.1.hand) }
+        ensures rest { result.1 ≡ record collector { hand = result.1.hand } }
+        ensures refused { OnErr result.2 ((result.0 ≡ pass) × (result.1 ≡ collector) × (report.new ≡ report.old)) }
+    {
+        let mut pass = pass;
+        let mut collector = collector;
+        let mut hand = collector.hand();
+        let answer = self.book.lock(rt).refresh(
+            self.program.program(),
+            &mut pass,
+            fields,
+            &mut hand,
+            report,
+        );
+        collector.keep(hand);
+        (pass, collector, answer)
+    }
+
+    /// The car to which a slot is told under a ticket, if there is one. It waits for the lock.
+    pub fn told(&self, rt: &impl Wait, ticket: u64) -> Option<u8>
+        ensures { IfSome result (λ car. IsTold G.program.config ticket car) }
+    {
+        self.book.lock(rt).told(ticket)
+    }
+
+    /// The image's fields and outputs, for the refresher. It waits for the lock.
+    pub fn outputs(&self, rt: &impl Wait, pass: RefreshPass<G>) -> (RefreshPass<G>, Image)
+        ensures same { result.0 ≡ pass }
+        ensures shown { IsShown G.program.config pass.refreshes result.1.fields result.1.outputs }
+        ensures obeys { Obeys result.1 }
+        ensures sized { length result.1.outputs ≡ (sizes_of G.program.config).cars }
+    {
+        let mut pass = pass;
+        let image = self.book.lock(rt).image(&mut pass);
+        (pass, image)
+    }
+
+    /// Gives up the station.
+    pub fn release(self) {}
+
+    /// The program and the book at the end: the journal runs to the book's image, and holds as many entries and entered calls as the
+    /// passes count.
+    pub fn close(self, tasks: Vec<TaskPass<G>>, pass: RefreshPass<G>) -> Closed
+        ensures verified { result.verified ≡ G.program }
+        ensures program { result.book.program.value ≡ G.program }
+        ensures kept { Kept (page_of result.book) }
+        ensures tasks { All (λ p. p.count ≡ entries_by p.task (page_of result.book).journal) tasks.items }
+        ensures refreshes { pass.refreshes ≡ entries_by refresher (page_of result.book).journal }
+        ensures entered { pass.entered ≡ entered_calls (page_of result.book).journal }
+    {
+        let Station { program, book } = self;
+        let mut locked = book.into_inner();
+        let mut pass = pass;
+        locked.audit_refreshes(&mut pass);
+        for task in tasks {
+            locked.take_in(task);
+        }
+        Closed {
+            verified: program.into_verified(),
+            book: locked.into_book(),
+        }
+    }
+}
