@@ -13,23 +13,26 @@ use lift_output::outcome::outcome;
 use lift_shell::commands::Commands;
 use lift_show::output::Output;
 use std::alloc::Global;
+use std::sync::Wait;
+use std::thread::Threads;
 
-/// The commands of `liftplc`, over its verifier.
+/// The commands of `liftplc`, over its verifier. `run` alone starts threads.
 #[derive(Clone, Copy)]
 pub struct Liftplc;
 
 impl Commands for Liftplc {
     ghost gives = { λ _ reads fails request text given. IsTextOutcome reads fails request text given };
 
-    fn outcome<F: TextFiles>(
+    fn outcome<R: Threads + Wait + Sync, F: TextFiles>(
         &self,
+        rt: &R,
         alloc: Global,
         request: Request<'_>,
         text: &[u8],
         files: &F,
     ) -> Result<Output, Fault> {
         let verified = loaded(alloc, text)?;
-        outcome(alloc, request, verified, files)
+        outcome(rt, alloc, request, verified, files)
     }
 }
 

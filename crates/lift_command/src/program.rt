@@ -14,9 +14,12 @@ use lift_shell::entry::Outcome;
 use lift_sink::sink::Sink;
 use std::alloc::Global;
 use std::process::ExitCode;
+use std::sync::Wait;
+use std::thread::Threads;
 
-/// Runs `liftplc` on its words, without the program's name.
-pub fn run<F: TextFiles, O: Sink, E: Sink>(
+/// Runs `liftplc` on its words, without the program's name. Only where they ask for `run` it waits for threads.
+pub fn run<R: Threads + Wait + Sync, F: TextFiles, O: Sink, E: Sink>(
+    rt: &R,
     alloc: Global,
     words: &[String],
     files: &F,
@@ -35,15 +38,21 @@ pub fn run<F: TextFiles, O: Sink, E: Sink>(
     ensures nothing { (result ≡ Status.Done) ⊎ (((result ≡ Status.CannotWrite) × (O.has_failed out.new ≡ true)) ⊎ Keeps (O.contents out.old) (O.contents out.new)) }
     ensures front { result ≡ Status.CannotWrite → HasWritten (IsOutcome (F.gives files.now) (F.fails files.now) (IsTextOutcome (F.gives files.now) (F.fails files.now)) (map string_bytes words.now)) (AppendsFront (O.contents out.old) (O.contents out.new)) }
 {
-    lift_shell::run::run(alloc, words, files, &Liftplc, out, err)
+    lift_shell::run::run(rt, alloc, words, files, &Liftplc, out, err)
 }
 
-/// Runs `liftplc` on the words of the command line.
-pub fn command(rt: &HostRuntime) -> ExitCode {
-    entry::command(rt, &Liftplc)
+/// Runs `liftplc` on the words of the command line; `threads` lends the right to start threads and to wait for them.
+pub fn command<R: Threads + Wait + Sync>(rt: &HostRuntime, threads: &R) -> ExitCode {
+    entry::command(rt, threads, &Liftplc)
 }
 
 /// Runs `liftplc` on words over files, with a standard output that takes so many bytes.
-pub fn tried<F: TextFiles>(alloc: Global, words: &[String], files: &F, limit: usize) -> Outcome {
-    entry::tried(alloc, words, files, &Liftplc, limit)
+pub fn tried<R: Threads + Wait + Sync, F: TextFiles>(
+    rt: &R,
+    alloc: Global,
+    words: &[String],
+    files: &F,
+    limit: usize,
+) -> Outcome {
+    entry::tried(rt, alloc, words, files, &Liftplc, limit)
 }

@@ -88,15 +88,41 @@ fn fire<'a>(alloc: Global) -> Arg<'a> {
 
 /// The command that simulates.
 fn sim_command<'a>(alloc: Global) -> Result<Command<'a>, AllocError> {
-    sim_with_rounds(alloc)?
+    rounds_command(
+        alloc,
+        "sim",
+        "Runs FILE on a simulated plant and prints the trace",
+    )
+}
+
+/// The command that runs each task in a thread.
+fn run_command<'a>(alloc: Global) -> Result<Command<'a>, AllocError> {
+    rounds_command(
+        alloc,
+        "run",
+        "Runs FILE with a thread for each task and prints the trace",
+    )
+}
+
+/// A command that takes FILE, ROUNDS, PRESS and `--fire`.
+fn rounds_command<'a>(
+    alloc: Global,
+    name: &'a str,
+    about: &'a str,
+) -> Result<Command<'a>, AllocError> {
+    file_and_rounds(alloc, name, about)?
         .arg(presses(alloc))?
         .arg(fire(alloc))
 }
 
-/// The command that simulates, with FILE and ROUNDS alone.
-fn sim_with_rounds<'a>(alloc: Global) -> Result<Command<'a>, AllocError> {
-    Command::new(alloc, "sim")
-        .about("Runs FILE on a simulated plant and prints the trace")
+/// The same command, with FILE and ROUNDS alone.
+fn file_and_rounds<'a>(
+    alloc: Global,
+    name: &'a str,
+    about: &'a str,
+) -> Result<Command<'a>, AllocError> {
+    Command::new(alloc, name)
+        .about(about)
         .arg(file(alloc))?
         .arg(rounds(alloc))
 }
@@ -105,7 +131,7 @@ fn sim_with_rounds<'a>(alloc: Global) -> Result<Command<'a>, AllocError> {
 fn trace<'a>(alloc: Global) -> Arg<'a> {
     Arg::new(alloc, "TRACE")
         .required(true)
-        .help("A trace that `sim` printed")
+        .help("A trace that `sim` or `run` printed")
 }
 
 /// The command that replays.
@@ -165,6 +191,7 @@ fn add_other_commands<'a>(
     alloc: Global,
     commands: &mut Vec<Command<'a>>,
 ) -> Result<(), AllocError> {
+    add(commands, run_command(alloc))?;
     add(commands, replay_command(alloc))?;
     add(commands, explain_command(alloc))
 }
@@ -182,7 +209,7 @@ fn add<'a>(
 fn misuse_of(words: &[String]) -> Misuse<'_> {
     match words {
         [command, number] if command.as_str() == EXPLAIN => Misuse::Number(number),
-        [command, rest @ ..] if command.as_str() == Name::Sim.as_str() => misuse_of_sim(rest),
+        [command, rest @ ..] if takes_rounds(command) => misuse_of_rounds(rest),
         _ => first_option(words).unwrap_or(Misuse::Missing),
     }
 }
@@ -193,8 +220,13 @@ fn first_option(words: &[String]) -> Option<Misuse<'_>> {
     Some(Misuse::Option(word))
 }
 
-/// What is wrong with words behind `sim`.
-fn misuse_of_sim(words: &[String]) -> Misuse<'_> {
+/// Whether a word is the command `sim` or `run`.
+fn takes_rounds(word: &str) -> bool {
+    word == Name::Sim.as_str() || word == Name::Run.as_str()
+}
+
+/// What is wrong with words behind `sim` or `run`.
+fn misuse_of_rounds(words: &[String]) -> Misuse<'_> {
     let Some(place) = words.iter().position(|word| is_fire(word)) else {
         return misuse_of_places(Words {
             front: words,
@@ -215,7 +247,7 @@ fn is_fire(word: &str) -> bool {
     word == FIRE
 }
 
-/// What is wrong with words behind `sim` that have no `--fire`.
+/// What is wrong with words behind `sim` or `run` that have no `--fire`.
 fn misuse_of_places(words: Words<'_>) -> Misuse<'_> {
     if let Some(misuse) = first_option(words.front).or_else(|| first_option(words.back)) {
         return misuse;

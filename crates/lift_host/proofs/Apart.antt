@@ -5,9 +5,7 @@ use Rattle.std.proofs.lemmas.Bool.{cases_lt}
 use Rattle.std.specs.Global.{Global}
 use Rattle.std.proofs.lemmas.List.{map-append, take-append-drop, length-map}
 use Rattle.std.proofs.lemmas.Option.{slice_get_within, slice_get_read, slice_get-map, slice_get-get_or, same_Some}
-use Rattle.lift_host.specs.Requests.{IsOption, AreNoOptions, IsApart, AsksSim, IsRounds, Asks}
-use Rattle.lift_host.specs.declared.request.Request.{Request}
-use Rattle.lift_host.specs.declared.request.Request.TheVariants as request
+use Rattle.lift_host.specs.Requests.{IsOption, AreNoOptions, IsApart}
 
 cut : {x y : List ℕ} {xs ys : List (List ℕ)} → x ∷ xs ≡ y ∷ ys → (x ≡ y) × (xs ≡ ys)
 cut e = (cc, cc)
@@ -186,55 +184,3 @@ pub parted_at : (words front back : List (String Global)) (n : ℕ) (option valu
 parted_at words front back n option value more rest e f g h is =
     parted words front back n e f ∙ ap (λ ws. map string_bytes front ++ map string_bytes ws) (g ∙ ap (λ ws. option ∷ ws) h)
     ∙ ap (λ w. map string_bytes front ++ w ∷ string_bytes value ∷ map string_bytes rest) is
-
--- WHAT `sim` ASKS FOR
-
--- a file, a number of rounds and presses
-pub record AreParts (positional : List (List ℕ)) : Type 0 where
-  pub file : List ℕ
-  pub text : List ℕ
-  pub presses : List (List ℕ)
-  pub number : ℕ
-  pub are : positional ≡ file ∷ text ∷ presses
-  pub is : IsRounds text number
-
--- words that ask for a simulation have parts
-pub record HasParts (rest : List (List ℕ)) : Type 0 where
-  pub positional : List (List ℕ)
-  pub fire : Option (List ℕ)
-  pub apart : IsApart rest positional fire
-  pub plain : AreNoOptions positional
-  pub parts : AreParts positional
-
-parts_of_sim : (words : List (List ℕ)) (file : List ℕ) (rounds : ℕ) (presses : List (List ℕ)) (fire : Option (List ℕ)) → AsksSim (codes "sim" ∷ words) file rounds presses fire → HasParts words
-parts_of_sim words file rounds presses fire asks = record {
-  positional = asks.positional;
-  fire = fire;
-  apart = subst (λ ws. IsApart ws asks.positional fire) (sym (cut asks.are).1) asks.apart;
-  plain = asks.plain;
-  parts = record { file = file; text = asks.text; presses = presses; number = rounds; are = asks.parts; is = asks.is_rounds };
-}
-
-other : (words : List (List ℕ)) (name : List ℕ) (rest : List (List ℕ)) → (codes "sim" ≡ name → ⊥) → codes "sim" ∷ words ≡ name ∷ rest → ⊥
-other words name rest plain e = plain (cut e).0
-
-pub sim_parts : (words : List (List ℕ)) (request : Request) → Asks (codes "sim" ∷ words) request → HasParts words
-sim_parts words (request.Check file) asks = absurd (other words (codes "check") _ (λ e. cc) asks.0)
-sim_parts words (request.Sim file rounds presses fire) asks = parts_of_sim words file.now rounds _ _ asks
-sim_parts words (request.Replay file trace) asks = absurd (other words (codes "replay") _ (λ e. cc) asks.0)
-
--- words whose only parts are these
-pub only_parts : (words found : List (List ℕ)) → ((positional : List (List ℕ)) (fire : Option (List ℕ)) → IsApart words positional fire → AreNoOptions positional → positional ≡ found)
-    → (request : Request) → Asks (codes "sim" ∷ words) request → AreParts found
-only_parts words found only request asks =
-    let has = sim_parts words request asks in
-    subst AreParts (only has.positional has.fire has.apart has.plain) has.parts
-
-pub no_file : (found : List (List ℕ)) → found ≡ [] → AreParts found → ⊥
-no_file found e parts = no_more (sym parts.are ∙ e)
-
-pub no_rounds : (found behind : List (List ℕ)) (file : List ℕ) → found ≡ file ∷ behind → behind ≡ [] → AreParts found → ⊥
-no_rounds found behind file e none parts = no_more ((cut (sym parts.are ∙ e)).1 ∙ none)
-
-pub no_number : (found behind presses : List (List ℕ)) (file text : List ℕ) → found ≡ file ∷ behind → behind ≡ text ∷ presses → ((n : ℕ) → IsRounds text n → ⊥) → AreParts found → ⊥
-no_number found behind presses file text e more none parts = none parts.number (subst (λ t. IsRounds t parts.number) (cut ((cut (sym parts.are ∙ e)).1 ∙ more)).0 parts.is)

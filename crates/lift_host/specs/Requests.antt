@@ -5,6 +5,7 @@ use Rattle.std.specs.Str.Parse.{digits_value}
 use Rattle.lift_host.specs.declared.request.Name.{Name}
 use Rattle.lift_host.specs.declared.request.Name.TheVariants as name
 use Rattle.lift_host.specs.declared.request.Words.{Words}
+use Rattle.lift_host.specs.declared.request.Rounds.{Rounds}
 use Rattle.lift_host.specs.declared.request.Request.{Request}
 use Rattle.lift_host.specs.declared.request.Request.TheVariants as request
 
@@ -32,12 +33,14 @@ IsOption word = slice_index word 0 ≡ 45
 abbrev pub word_of : Name → List ℕ
 word_of name.Check = codes "check"
 word_of name.Sim = codes "sim"
+word_of name.Run = codes "run"
 word_of name.Replay = codes "replay"
 
 -- the name of a request's file
 abbrev pub name_of : Request → List ℕ
 name_of (request.Check file) = file.now
-name_of (request.Sim file rounds presses fire) = file.now
+name_of (request.Sim rounds) = rounds.file.now
+name_of (request.Run rounds) = rounds.file.now
 name_of (request.Replay file trace) = file.now
 
 -- no word is an option
@@ -54,19 +57,24 @@ IsApart rest positional None = rest ≡ positional
 IsApart rest positional (Some value) =
     (before : List (List ℕ)) × (after : List (List ℕ)) × (rest ≡ before ++ codes "--fire" ∷ value ∷ after) × (positional ≡ before ++ after) × (IsOption value → ⊥)
 
--- `sim FILE ROUNDS`, with any words behind it, and `--fire ROUND` anywhere behind `sim`; no other word is an option
-pub record AsksSim (words : List (List ℕ)) (file : List ℕ) (rounds : ℕ) (presses : List (List ℕ)) (fire : Option (List ℕ)) : Type 0 where
-  pub rest : List (List ℕ)
+-- FILE and ROUNDS, with any words behind them, and `--fire ROUND` anywhere among them; no other word is an option
+pub record GiveRounds (words : List (List ℕ)) (rounds : Rounds) : Type 0 where
   pub positional : List (List ℕ)
   pub text : List ℕ
-  pub are : words ≡ codes "sim" ∷ rest
-  pub apart : IsApart rest positional fire
-  pub parts : positional ≡ file ∷ text ∷ presses
-  pub is_rounds : IsRounds text rounds
+  pub apart : IsApart words positional (option_map (λ value. value.now) rounds.fire)
+  pub parts : positional ≡ rounds.file.now ∷ text ∷ words_of rounds.presses
+  pub is_rounds : IsRounds text rounds.rounds
   pub plain : AreNoOptions positional
 
--- `check FILE`, `sim` as above and `replay FILE TRACE`, where neither FILE nor TRACE is an option
+-- the word of a command, and words behind it that give the rounds
+pub record AsksRounds (name : List ℕ) (words : List (List ℕ)) (rounds : Rounds) : Type 0 where
+  pub rest : List (List ℕ)
+  pub are : words ≡ name ∷ rest
+  pub behind : GiveRounds rest rounds
+
+-- `check FILE`, `sim` and `run` as above and `replay FILE TRACE`, where neither FILE nor TRACE is an option
 abbrev pub Asks : List (List ℕ) → Request → Type 0
 Asks words (request.Check file) = (words ≡ codes "check" ∷ file.now ∷ []) × (IsOption file.now → ⊥)
-Asks words (request.Sim file rounds presses fire) = AsksSim words file.now rounds (words_of presses) (option_map (λ value. value.now) fire)
+Asks words (request.Sim rounds) = AsksRounds (codes "sim") words rounds
+Asks words (request.Run rounds) = AsksRounds (codes "run") words rounds
 Asks words (request.Replay file trace) = (words ≡ codes "replay" ∷ file.now ∷ trace.now ∷ []) × (IsOption file.now → ⊥) × (IsOption trace.now → ⊥)

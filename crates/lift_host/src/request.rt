@@ -1,14 +1,15 @@
 // What the words ask for.
 
 ghost use Rattle.std.specs.Prelude.{◌≡◌, ◌≤◌, ◌<◌, ◌∷◌, ◌++◌, ◌↔◌, [], ℕ, List, Option, Some, true, false, IfSome, IsNone, IsTrue, codes, length, map, option_map, slice_get, string_bytes};
-ghost use Rattle.lift_host.specs.Requests.{IsNumberTo, IsDigits, IsOption, AreNoOptions, IsApart, AsksSim, Asks, name_of, word_of, words_of};
+ghost use Rattle.lift_host.specs.Requests.{IsNumberTo, IsDigits, IsOption, AreNoOptions, IsApart, GiveRounds, Asks, name_of, word_of, words_of};
 ghost use Rattle.lift_host.specs.declared.request.Name.{Name};
 ghost use Rattle.lift_host.specs.declared.request.Request.{Request};
+ghost use Rattle.lift_host.specs.declared.request.Rounds.{Rounds};
 
-/// The most rounds that `sim` runs.
+/// The most rounds that `sim` and `run` run.
 pub const MOST_ROUNDS: u16 = 50_000;
 
-/// The option of `sim` whose value is the round from which on fire recall is on.
+/// The option of `sim` and `run` whose value is the round from which on fire recall is on.
 pub const FIRE: &str = "--fire";
 
 /// The name of a command.
@@ -16,6 +17,7 @@ pub const FIRE: &str = "--fire";
 pub enum Name {
     Check,
     Sim,
+    Run,
     Replay,
 }
 
@@ -26,24 +28,29 @@ pub struct Words<'w> {
     pub back: &'w [String],
 }
 
+/// What `sim` and `run` take.
+#[derive(Clone, Copy)]
+pub struct Rounds<'w> {
+    /// The name of the file.
+    pub file: &'w str,
+    /// How many rounds.
+    pub rounds: u16,
+    /// The words behind ROUNDS, which are to be presses.
+    pub presses: Words<'w>,
+    /// The word behind `--fire`, which is to be a round.
+    pub fire: Option<&'w str>,
+}
+
 /// What the words ask for.
 #[derive(Clone, Copy)]
 pub enum Request<'w> {
-    Check {
-        file: &'w str,
-    },
-    /// The words behind ROUNDS are to be presses, and the word behind `--fire` a round.
-    Sim {
-        file: &'w str,
-        rounds: u16,
-        presses: Words<'w>,
-        fire: Option<&'w str>,
-    },
+    Check { file: &'w str },
+    /// A simulation in one thread.
+    Sim(Rounds<'w>),
+    /// A simulation with a thread for each task.
+    Run(Rounds<'w>),
     /// Both are names of files.
-    Replay {
-        file: &'w str,
-        trace: &'w str,
-    },
+    Replay { file: &'w str, trace: &'w str },
 }
 
 impl Name {
@@ -54,6 +61,7 @@ impl Name {
         match self {
             Name::Check => "check",
             Name::Sim => "sim",
+            Name::Run => "run",
             Name::Replay => "replay",
         }
     }
@@ -62,7 +70,7 @@ impl Name {
         ensures some { IfSome result (λ name. word.now ≡ word_of name) }
         ensures none { IsNone result → (name : Name) → word.now ≡ word_of name → ⊥ }
     {
-        [Name::Check, Name::Sim, Name::Replay]
+        [Name::Check, Name::Sim, Name::Run, Name::Replay]
             .into_iter()
             .find(|name| word == name.as_str())
     }
@@ -98,7 +106,7 @@ impl<'w> Request<'w> {
     {
         match self {
             Request::Check { file } => file,
-            Request::Sim { file, .. } => file,
+            Request::Sim(rounds) | Request::Run(rounds) => rounds.file,
             Request::Replay { file, .. } => file,
         }
     }
@@ -140,7 +148,8 @@ pub fn asked(words: &[String]) -> Option<Request<'_>>
     let (name, rest) = words.split_first()?;
     match Name::of(name)? {
         Name::Check => asked_check(rest),
-        Name::Sim => asked_sim(rest),
+        Name::Sim => asked_rounds(rest).map(Request::Sim),
+        Name::Run => asked_rounds(rest).map(Request::Run),
         Name::Replay => asked_replay(rest),
     }
 }
@@ -167,15 +176,16 @@ fn asked_replay(rest: &[String]) -> Option<Request<'_>>
     }
 }
 
-fn asked_sim(rest: &[String]) -> Option<Request<'_>>
-    ensures some { IfSome result (Asks (codes "sim" ∷ map string_bytes rest.now)) }
-    ensures none { IsNone result → (request : Request) → Asks (codes "sim" ∷ map string_bytes rest.now) request → ⊥ }
+/// The rounds that the words behind `sim` or `run` give.
+fn asked_rounds(rest: &[String]) -> Option<Rounds<'_>>
+    ensures some { IfSome result (GiveRounds (map string_bytes rest.now)) }
+    ensures none { IsNone result → (rounds : Rounds) → GiveRounds (map string_bytes rest.now) rounds → ⊥ }
 {
-    let SimWords { positional, fire } = apart(rest)?;
+    let WordsApart { positional, fire } = apart(rest)?;
     let (file, behind) = positional.split_first()?;
     let (rounds, presses) = behind.split_first()?;
     let rounds = number_to(MOST_ROUNDS, rounds)?;
-    Some(Request::Sim {
+    Some(Rounds {
         file,
         rounds,
         presses,
@@ -183,14 +193,14 @@ fn asked_sim(rest: &[String]) -> Option<Request<'_>>
     })
 }
 
-/// The words behind `sim` that stand in places, and the word behind `--fire`.
-struct SimWords<'w> {
+/// The words behind `sim` or `run` that stand in places, and the word behind `--fire`.
+struct WordsApart<'w> {
     positional: Words<'w>,
     fire: Option<&'w str>,
 }
 
-/// The words behind `sim` apart, where they have no other option and a word behind `--fire`.
-fn apart(rest: &[String]) -> Option<SimWords<'_>>
+/// The words behind `sim` or `run` apart, where they have no other option and a word behind `--fire`.
+fn apart(rest: &[String]) -> Option<WordsApart<'_>>
     ensures some { IfSome result (λ apart. IsApart (map string_bytes rest.now) (words_of apart.positional) (option_map (λ value. value.now) apart.fire)) }
     ensures plain { IfSome result (λ apart. AreNoOptions (words_of apart.positional)) }
     ensures only { IfSome result (λ apart. (positional : List (List ℕ)) (fire : Option (List ℕ)) → IsApart (map string_bytes rest.now) positional fire → AreNoOptions positional → positional ≡ words_of apart.positional) }
@@ -198,7 +208,7 @@ fn apart(rest: &[String]) -> Option<SimWords<'_>>
 {
     let (front, rest) = rest.split_at(first_option(rest));
     let Some((option, rest)) = rest.split_first() else {
-        return Some(SimWords {
+        return Some(WordsApart {
             positional: Words { front, back: rest },
             fire: None,
         });
@@ -207,7 +217,7 @@ fn apart(rest: &[String]) -> Option<SimWords<'_>>
     if !is_fire(option) || is_option(value) || has_option(back) {
         return None;
     }
-    Some(SimWords {
+    Some(WordsApart {
         positional: Words { front, back },
         fire: Some(value),
     })

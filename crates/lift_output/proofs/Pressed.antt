@@ -1,11 +1,13 @@
 -- Presses that words spell are calls of the group.
 use Rattle.std.proofs.Common.{◌≡◌, ℕ, zero, suc, ◌+◌, ◌≤◌, List, [], ◌∷◌, length, refl, arith}
-use Rattle.std.specs.Prelude.{slice_get, Some}
+use Rattle.std.specs.Prelude.{slice_get, Some, All}
+use Rattle.std.proofs.lemmas.List.Elements.{All-cons, All-nil}
 use borrow.Author.Tests.{ne_eqb}
 use Rattle.lift_host.specs.declared.press.Press.{Press}
 use Rattle.lift_host.specs.Presses.{IsPressOf, IsPress, plain, at_panel, AreOfWords, ArePresses}
 use Rattle.lift_spec.specs.declared.image.Sizes.{Sizes}
 use Rattle.lift_spec.specs.Calls.{IsCall}
+use Rattle.lift_desk.specs.Passes.{IsFloorOf}
 use Rattle.lift_runs.specs.Driven.{call_of, ArePressed}
 
 call_is : (sizes : Sizes) (rounds : ℕ) (a b d : List ℕ) (p : Press) → IsPressOf rounds sizes.floors a b d p → IsCall sizes (call_of p)
@@ -24,3 +26,8 @@ each_is sizes rounds (word ∷ words) (p ∷ presses) long each =
 
 pub presses_are : (sizes : Sizes) (rounds : ℕ) (words : List (List ℕ)) (presses : List Press) → ArePresses rounds sizes.floors words presses → ArePressed sizes presses
 presses_are sizes rounds words presses are = each_is sizes rounds words presses are.of_words.long are.of_words.each
+
+-- so each goes to a floor of the group
+pub floors_are : (sizes : Sizes) (presses : List Press) → ArePressed sizes presses → All (λ (p : Press). IsFloorOf sizes.floors p.to) presses
+floors_are sizes [] are = All-nil (λ (p : Press). IsFloorOf sizes.floors p.to)
+floors_are sizes (p ∷ presses) are = All-cons (λ (q : Press). IsFloorOf sizes.floors q.to) p presses are.0.to (floors_are sizes presses are.1)

@@ -4,7 +4,9 @@ use Rattle.il_machine.specs.Scanning.{Program}
 use Rattle.lift_host.specs.declared.files.ReadFault.{ReadFault}
 use Rattle.lift_host.specs.declared.press.Press.{Press}
 use Rattle.lift_host.specs.declared.request.Request.{Request}
+use Rattle.lift_host.specs.declared.request.Rounds.{Rounds}
 use Rattle.lift_host.specs.declared.request.Request.TheVariants as request
+use Rattle.lift_host.specs.declared.status.Fault.{Fault}
 use Rattle.lift_host.specs.declared.status.Fault.TheVariants as fault
 use Rattle.lift_host.specs.Messages.{fault_of_reading}
 use Rattle.lift_host.specs.Presses.{ArePresses}
@@ -23,6 +25,7 @@ use Rattle.lift_spec.specs.World.{World, opening}
 use Rattle.lift_trace.specs.declared.fault.TraceFault.TheVariants.{BadLine, Truncated}
 use Rattle.lift_trace.specs.Reading.{Reads}
 use Rattle.lift_trace.specs.Written.{text_of_entries}
+use Rattle.lift_workers.specs.Ran.{IsRun}
 
 -- CHECK
 
@@ -32,7 +35,11 @@ IsCheckOutcome program (Ok output) = bytes_of output ≡ listing program
 IsCheckOutcome program (Err fault.NoMemory) = Unit {0}
 IsCheckOutcome program (Err _) = ⊥
 
--- SIM
+-- WORDS THAT DRIVE ROUNDS
+
+-- the word behind `--fire`, if one stands there
+abbrev pub fire_word : Rounds → Option (List ℕ)
+fire_word asked = option_map (λ word. word.now) asked.fire
 
 -- the round from which on FIRE holds, as the word behind `--fire` spells it
 abbrev pub IsFire : ℕ → Option (List ℕ) → Option ℕ → Type 0
@@ -41,24 +48,50 @@ IsFire rounds None (Some first) = ⊥
 IsFire rounds (Some word) None = ⊥
 IsFire rounds (Some word) (Some first) = IsNumberTo rounds word first
 
+-- the words behind ROUNDS spell these presses, and the word behind `--fire` this round
+pub record AreDriven (floors : ℕ) (asked : Rounds) (presses : List Press) (first : Option ℕ) : Type 0 where
+  pub spelled : ArePresses asked.rounds floors (words_of asked.presses) presses
+  pub from_round : IsFire asked.rounds (fire_word asked) first
+
+-- One of them is bad, the presses first; memory may be missing.
+abbrev pub IsUndriven : ℕ → Rounds → Fault → Type 0
+IsUndriven floors asked fault.BadPress = (presses : List Press) → ArePresses asked.rounds floors (words_of asked.presses) presses → ⊥
+IsUndriven floors asked fault.BadFire = ((presses : List Press) × ArePresses asked.rounds floors (words_of asked.presses) presses) × ((first : Option ℕ) → IsFire asked.rounds (fire_word asked) first → ⊥)
+IsUndriven floors asked fault.NoMemory = Unit {0}
+IsUndriven floors asked _ = ⊥
+
+-- SIM
+
 -- The trace is that of a journal of the program, a run from its opening: so many rounds, with the presses and the FIRE of the words.
-pub record IsTraceOf (program : Program) (rounds : ℕ) (words : List (List ℕ)) (fire : Option (List ℕ)) (text : List ℕ) : Type 0 where
+pub record IsTraceOf (program : Program) (asked : Rounds) (text : List ℕ) : Type 0 where
   pub presses : List Press
-  pub spelled : ArePresses rounds (sizes_of program.config).floors words presses
   pub first : Option ℕ
-  pub from_round : IsFire rounds fire first
+  pub driven : AreDriven (sizes_of program.config).floors asked presses first
   pub entries : List Entry
-  pub simulated : IsSimulated program.config presses first rounds entries
+  pub simulated : IsSimulated program.config presses first asked.rounds entries
   pub trace : text ≡ text_of_entries entries
 
--- `sim` prints its trace, where its further words are presses and the word behind `--fire` is a round; otherwise one of them is bad,
--- the presses first. Memory may be missing.
-abbrev pub IsSimOutcome : Program → ℕ → List (List ℕ) → Option (List ℕ) → Outcome → Type 0
-IsSimOutcome program rounds words fire (Ok output) = IsTraceOf program rounds words fire (bytes_of output)
-IsSimOutcome program rounds words fire (Err fault.BadPress) = (presses : List Press) → ArePresses rounds (sizes_of program.config).floors words presses → ⊥
-IsSimOutcome program rounds words fire (Err fault.BadFire) = ((presses : List Press) × ArePresses rounds (sizes_of program.config).floors words presses) × ((first : Option ℕ) → IsFire rounds fire first → ⊥)
-IsSimOutcome program rounds words fire (Err fault.NoMemory) = Unit {0}
-IsSimOutcome program rounds words fire (Err _) = ⊥
+-- `sim` prints its trace, where its further words are presses and the word behind `--fire` is a round.
+abbrev pub IsSimOutcome : Program → Rounds → Outcome → Type 0
+IsSimOutcome program asked (Ok output) = IsTraceOf program asked (bytes_of output)
+IsSimOutcome program asked (Err why) = IsUndriven (sizes_of program.config).floors asked why
+
+-- RUN
+
+-- The trace is that of a journal of the program, a run from its opening in whatever order the threads came: each task was started and
+-- committed in each of so many rounds, and the image was refreshed in each.
+pub record IsTraceOfRun (program : Program) (asked : Rounds) (text : List ℕ) : Type 0 where
+  pub presses : List Press
+  pub first : Option ℕ
+  pub driven : AreDriven (sizes_of program.config).floors asked presses first
+  pub entries : List Entry
+  pub ran : IsRun program.config asked.rounds entries
+  pub trace : text ≡ text_of_entries entries
+
+-- `run` prints its trace, where its further words are presses and the word behind `--fire` is a round.
+abbrev pub IsRunOutcome : Program → Rounds → Outcome → Type 0
+IsRunOutcome program asked (Ok output) = IsTraceOfRun program asked (bytes_of output)
+IsRunOutcome program asked (Err why) = IsUndriven (sizes_of program.config).floors asked why
 
 -- REPLAY
 
@@ -107,5 +140,6 @@ pub data IsReplayOutcome (reads : List ℕ → ℕ → List ℕ → Type 0) (fai
 -- A verified program gives what its command prints.
 abbrev pub IsProgramOutcome : (List ℕ → ℕ → List ℕ → Type 0) → (List ℕ → ℕ → ReadFault → Type 0) → Request → Program → Outcome → Type 0
 IsProgramOutcome reads fails (request.Check file) program outcome = IsCheckOutcome program outcome
-IsProgramOutcome reads fails (request.Sim file rounds presses fire) program outcome = IsSimOutcome program rounds (words_of presses) (option_map (λ word. word.now) fire) outcome
+IsProgramOutcome reads fails (request.Sim asked) program outcome = IsSimOutcome program asked outcome
+IsProgramOutcome reads fails (request.Run asked) program outcome = IsRunOutcome program asked outcome
 IsProgramOutcome reads fails (request.Replay file trace) program outcome = IsReplayOutcome reads fails program trace.now outcome

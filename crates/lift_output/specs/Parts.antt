@@ -1,13 +1,10 @@
 -- What parts of a request's outcome are; no public contract but these crate's own functions names them (own rules).
 use Rattle.std.specs.Prelude.{◌≡◌, ◌⊎◌, ℕ, ◌+◌, List, Option, Ok, Err}
 use Rattle.il_spec.specs.declared.tree.Config.{Config}
-use Rattle.lift_host.specs.declared.press.Press.{Press}
 use Rattle.lift_host.specs.declared.status.Fault.{Fault}
 use Rattle.lift_host.specs.declared.status.Fault.TheVariants as fault
-use Rattle.lift_host.specs.Presses.{ArePresses}
 use Rattle.lift_journal.specs.Rounds.{TakesAll, IsRefusedAt}
 use Rattle.lift_output.specs.ImageText.{image_text}
-use Rattle.lift_output.specs.Outcomes.{IsFire}
 use Rattle.lift_show.specs.Outputs.{Outcome, bytes_of}
 use Rattle.lift_spec.specs.declared.event.EventFault.{EventFault}
 use Rattle.lift_spec.specs.declared.trace.TraceEvent.{TraceEvent}
@@ -16,17 +13,6 @@ use Rattle.lift_spec.specs.World.{World, opening}
 use Rattle.lift_trace.specs.declared.fault.TraceFault.{TraceFault}
 use Rattle.lift_trace.specs.declared.fault.TraceFault.TheVariants.{BadLine, Truncated, Write, Memory}
 use Rattle.lift_trace.specs.Reading.{Reads}
-
--- words spell what drives a simulation
-abbrev pub IsDriven : ℕ → ℕ → List (List ℕ) → Option (List ℕ) → List Press → Option ℕ → Type 0
-IsDriven rounds floors words fire presses first = ArePresses rounds floors words presses × IsFire rounds fire first
-
--- they don't
-abbrev pub IsNotDriven : ℕ → ℕ → List (List ℕ) → Option (List ℕ) → Fault → Type 0
-IsNotDriven rounds floors words fire fault.BadPress = (presses : List Press) → ArePresses rounds floors words presses → ⊥
-IsNotDriven rounds floors words fire fault.BadFire = ((presses : List Press) × ArePresses rounds floors words presses) × ((first : Option ℕ) → IsFire rounds fire first → ⊥)
-IsNotDriven rounds floors words fire fault.NoMemory = Unit {0}
-IsNotDriven rounds floors words fire _ = ⊥
 
 -- the fault of a trace that was read; reading writes nothing
 abbrev pub fault_of_trace : TraceFault → Fault

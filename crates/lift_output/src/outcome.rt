@@ -1,13 +1,12 @@
 // What a request prints over a verified configuration.
 
 ghost use Rattle.std.specs.Prelude.{◌≡◌, ◌≢◌, ◌≤◌, ℕ, Option, option_map, length, Ok, Err, IfOk, IfErr};
-ghost use Rattle.lift_host.specs.Requests.{words_of};
 ghost use Rattle.lift_spec.specs.Image.{sizes_of};
 ghost use Rattle.lift_spec.specs.World.{opening};
 ghost use Rattle.lift_trace.specs.Reading.{Reads, greatest_trace};
 ghost use Rattle.lift_world.specs.Running.{world_of};
-ghost use Rattle.lift_output.specs.Outcomes.{IsCheckOutcome, IsFire, IsSimOutcome, IsReplayed, IsReplayOutcome, IsProgramOutcome};
-ghost use Rattle.lift_output.specs.Parts.{IsDriven, IsNotDriven, fault_of_trace, IsTraceUnread, IsWorldReplayed};
+ghost use Rattle.lift_output.specs.Outcomes.{IsCheckOutcome, IsFire, AreDriven, IsUndriven, IsSimOutcome, IsRunOutcome, IsReplayed, IsReplayOutcome, IsProgramOutcome};
+ghost use Rattle.lift_output.specs.Parts.{fault_of_trace, IsTraceUnread, IsWorldReplayed};
 
 use crate::check::check_text;
 use crate::image::image_text;
@@ -15,7 +14,7 @@ use il_machine::Verified;
 use il_spec::list::Items;
 use lift_host::files::TextFiles;
 use lift_host::press::{Press, fire_round, presses};
-use lift_host::request::{Request, Words};
+use lift_host::request::{Request, Rounds};
 use lift_host::status::Fault;
 use lift_runs::replay::replay;
 use lift_runs::sim::{Drive, simulate};
@@ -23,11 +22,16 @@ use lift_show::output::Output;
 use lift_spec::trace::TraceEvent;
 use lift_trace::fault::TraceFault;
 use lift_trace::read::{GREATEST_TRACE, read_trace};
+use lift_workers::gate::Open;
+use lift_workers::run::{Plan, run};
 use lift_world::World;
 use std::alloc::Global;
+use std::sync::Wait;
+use std::thread::Threads;
 
-/// What a request prints over a verified configuration, or why it prints nothing.
-pub fn outcome<F: TextFiles>(
+/// What a request prints over a verified configuration, or why it prints nothing. `run` alone starts threads and waits for them.
+pub fn outcome<F: TextFiles, R: Threads + Wait + Sync>(
+    rt: &R,
     alloc: Global,
     request: Request<'_>,
     verified: Verified,
@@ -38,12 +42,8 @@ pub fn outcome<F: TextFiles>(
 {
     match request {
         Request::Check { .. } => checked(alloc, verified),
-        Request::Sim {
-            rounds,
-            presses,
-            fire,
-            ..
-        } => simulated(alloc, verified, rounds, presses, fire),
+        Request::Sim(asked) => simulated(alloc, verified, asked),
+        Request::Run(asked) => ran(rt, alloc, verified, asked),
         Request::Replay { trace, .. } => replayed(alloc, verified, trace, files),
     }
 }
@@ -78,40 +78,58 @@ fn fire_of(word: Option<&str>, rounds: u16) -> Result<Option<u16>, Fault>
     }
 }
 
-/// The presses and the FIRE that words spell.
-fn drive_of(
-    alloc: Global,
-    words: Words<'_>,
-    fire: Option<&str>,
-    rounds: u16,
-    floors: u16,
-) -> Result<Driven, Fault>
-    ensures ok { IfOk result (λ d. IsDriven rounds floors (words_of words.entry) (option_map (λ w. w.now) fire.entry) d.presses d.fire) }
-    ensures err { IfErr result (IsNotDriven rounds floors (words_of words.entry) (option_map (λ w. w.now) fire.entry)) }
+/// The presses and the FIRE that words spell, for a group of so many floors.
+fn drive_of(alloc: Global, asked: Rounds<'_>, floors: u16) -> Result<Driven, Fault>
+    ensures ok { IfOk result (λ d. AreDriven floors asked.entry d.presses d.fire) }
+    ensures err { IfErr result (IsUndriven floors asked.entry) }
 {
-    let presses = presses(alloc, words, rounds, floors)?;
-    let fire = fire_of(fire, rounds)?;
+    let presses = presses(alloc, asked.presses, asked.rounds, floors)?;
+    let fire = fire_of(asked.fire, asked.rounds)?;
     Ok(Driven { presses, fire })
 }
 
-fn simulated(
-    alloc: Global,
-    verified: Verified,
-    rounds: u16,
-    words: Words<'_>,
-    fire: Option<&str>,
-) -> Result<Output, Fault>
-    ensures is { IsSimOutcome verified rounds (words_of words.entry) (option_map (λ w. w.now) fire.entry) result }
+fn simulated(alloc: Global, verified: Verified, asked: Rounds<'_>) -> Result<Output, Fault>
+    ensures is { IsSimOutcome verified asked.entry result }
     ensures unwritten { result ≢ Err Fault.CannotWrite }
 {
     let floors = u16::from(verified.sizes().floors);
-    match drive_of(alloc, words, fire, rounds, floors) {
+    match drive_of(alloc, asked, floors) {
         Ok(driven) => {
             let drive = Drive {
                 presses: driven.presses.as_slice(),
                 fire: driven.fire,
             };
-            Ok(Output::Trace(simulate(alloc, verified, drive, rounds)?))
+            Ok(Output::Trace(simulate(alloc, verified, drive, asked.rounds)?))
+        }
+        Err(fault) => {
+            verified.release();
+            Err(fault)
+        }
+    }
+}
+
+/// The outcome of a run with threads. A fault of it is no memory, or no room.
+fn ran<R: Threads + Wait + Sync>(
+    rt: &R,
+    alloc: Global,
+    verified: Verified,
+    asked: Rounds<'_>,
+) -> Result<Output, Fault>
+    ensures is { IsRunOutcome verified asked.entry result }
+    ensures unwritten { result ≢ Err Fault.CannotWrite }
+{
+    let floors = u16::from(verified.sizes().floors);
+    match drive_of(alloc, asked, floors) {
+        Ok(driven) => {
+            let plan = Plan {
+                presses: driven.presses.as_slice(),
+                rounds: asked.rounds,
+                fire: driven.fire,
+            };
+            match run(rt, alloc, verified, &Open, plan) {
+                Ok(entries) => Ok(Output::Trace(entries)),
+                Err(_) => Err(Fault::NoMemory),
+            }
         }
         Err(fault) => {
             verified.release();

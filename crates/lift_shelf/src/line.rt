@@ -20,6 +20,8 @@ pub enum Line<'l> {
     Status(&'l str),
     /// `<WORDS`: the same, and the standard output is added to the last file.
     Keep(&'l str),
+    /// `%TEXT`: prints how many lines of the last file begin with the text.
+    Count(&'l str),
     /// Any other line is printed as it is.
     Note,
 }
@@ -46,6 +48,7 @@ pub fn line_of(line: &str) -> Option<Line<'_>> {
         b'$' => Some(Line::Run(rest)),
         b'?' => Some(Line::Status(rest)),
         b'<' => Some(Line::Keep(rest)),
+        b'%' => Some(Line::Count(rest)),
         _ => Some(Line::Note),
     }
 }

@@ -8,7 +8,7 @@ ghost use Rattle.lift_shelf.specs.Stored.{file_named, GivesBytes, FailsFor};
 use crate::escape::add_bytes;
 use lift_host::files::{ReadFault, TextFiles};
 use std::alloc::{AllocError, Global};
-use std::io;
+use std::{io, str};
 
 /// A file. To read a broken one fails for want of memory.
 #[derive(Drop)]
@@ -78,6 +78,15 @@ impl Shelf {
         };
         self.last()?.extend_from_slice(&other)?;
         Ok(())
+    }
+
+    /// How many lines of the last file begin with a text.
+    pub fn count(&self, start: &str) -> io::Result<usize> {
+        let file = self.files.last().ok_or(io::ErrorKind::NotFound)?;
+        let Ok(text) = str::from_utf8(&file.bytes) else {
+            return Err(io::ErrorKind::InvalidData.into());
+        };
+        Ok(text.lines().filter(|line| line.starts_with(start)).count())
     }
 
     /// The bytes of the file to which is added.

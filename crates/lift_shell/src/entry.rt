@@ -8,6 +8,8 @@ use lift_show::show::show;
 use lift_sink::sink::{Memory, Stream};
 use std::alloc::Global;
 use std::process::ExitCode;
+use std::sync::Wait;
+use std::thread::Threads;
 use std::{env, io};
 
 /// In bytes: more than any block that is reserved for a text.
@@ -38,13 +40,25 @@ fn keep_freed_memory(rt: &HostRuntime) {
     let _block = Vec::<u8>::with_capacity(rt.alloc(), LARGE_BLOCK);
 }
 
-/// Runs the program on the words of the command line.
-pub fn command<C: Commands>(rt: &HostRuntime, commands: &C) -> ExitCode {
+/// Runs the program on the words of the command line; `threads` lends the right to start threads and to wait for them.
+pub fn command<R: Threads + Wait + Sync, C: Commands>(
+    rt: &HostRuntime,
+    threads: &R,
+    commands: &C,
+) -> ExitCode {
     keep_freed_memory(rt);
     let mut out = Stream::new(rt.stdout());
     let mut err = Stream::new(rt.stderr());
     let status = match words(rt) {
-        Ok(words) => run(rt.alloc(), &words, &Disk(rt), commands, &mut out, &mut err),
+        Ok(words) => run(
+            threads,
+            rt.alloc(),
+            &words,
+            &Disk(rt),
+            commands,
+            &mut out,
+            &mut err,
+        ),
         Err(fault) => show(Err(fault), &mut out, &mut err),
     };
     ExitCode::from(status.code())
@@ -59,7 +73,8 @@ pub struct Outcome {
 }
 
 /// Runs the program on words over files, with a standard output that takes so many bytes.
-pub fn tried<F: TextFiles, C: Commands>(
+pub fn tried<R: Threads + Wait + Sync, F: TextFiles, C: Commands>(
+    rt: &R,
     alloc: Global,
     words: &[String],
     files: &F,
@@ -68,6 +83,6 @@ pub fn tried<F: TextFiles, C: Commands>(
 ) -> Outcome {
     let mut out = Memory::with_limit(alloc, limit);
     let mut err = Memory::new(alloc);
-    let status = run(alloc, words, files, commands, &mut out, &mut err);
+    let status = run(rt, alloc, words, files, commands, &mut out, &mut err);
     Outcome { status, out, err }
 }

@@ -14,12 +14,15 @@ use lift_show::output::Output;
 use lift_show::show::show;
 use lift_sink::sink::Sink;
 use std::alloc::Global;
+use std::sync::Wait;
+use std::thread::Threads;
 
 /// The most bytes of FILE that are read: one more than a text may have.
 const MOST_BYTES: usize = 262_145;
 
 /// Runs the program on its words, without its name.
-pub fn run<F: TextFiles, C: Commands, O: Sink, E: Sink>(
+pub fn run<R: Threads + Wait + Sync, F: TextFiles, C: Commands, O: Sink, E: Sink>(
+    rt: &R,
     alloc: Global,
     words: &[String],
     files: &F,
@@ -39,11 +42,12 @@ pub fn run<F: TextFiles, C: Commands, O: Sink, E: Sink>(
     ensures nothing { (result ≡ Status.Done) ⊎ (((result ≡ Status.CannotWrite) × (O.has_failed out.new ≡ true)) ⊎ Keeps (O.contents out.old) (O.contents out.new)) }
     ensures front { result ≡ Status.CannotWrite → HasWritten (IsOutcome (F.gives files.now) (F.fails files.now) (C.gives commands.now (F.gives files.now) (F.fails files.now)) (map string_bytes words.now)) (AppendsFront (O.contents out.old) (O.contents out.new)) }
 {
-    show(outcome(alloc, words, files, commands), out, err)
+    show(outcome(rt, alloc, words, files, commands), out, err)
 }
 
 /// What the words make the program print, or why it prints nothing.
-fn outcome<F: TextFiles, C: Commands>(
+fn outcome<R: Threads + Wait + Sync, F: TextFiles, C: Commands>(
+    rt: &R,
     alloc: Global,
     words: &[String],
     files: &F,
@@ -53,7 +57,7 @@ fn outcome<F: TextFiles, C: Commands>(
     ensures unwritten { result ≢ Err Fault.CannotWrite }
 {
     match asked(words) {
-        Some(request) => outcome_of_file(alloc, request, files, commands),
+        Some(request) => outcome_of_file(rt, alloc, request, files, commands),
         None => outcome_of_words(alloc, words),
     }
 }
@@ -71,7 +75,8 @@ fn outcome_of_words(alloc: Global, words: &[String]) -> Result<Output, Fault>
 }
 
 /// The outcome of a request.
-fn outcome_of_file<F: TextFiles, C: Commands>(
+fn outcome_of_file<R: Threads + Wait + Sync, F: TextFiles, C: Commands>(
+    rt: &R,
     alloc: Global,
     request: Request<'_>,
     files: &F,
@@ -81,5 +86,5 @@ fn outcome_of_file<F: TextFiles, C: Commands>(
     ensures unwritten { result ≢ Err Fault.CannotWrite }
 {
     let text = files.read(alloc, request.file(), MOST_BYTES)?;
-    commands.outcome(alloc, request, &text, files)
+    commands.outcome(rt, alloc, request, &text, files)
 }

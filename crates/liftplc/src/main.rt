@@ -6,5 +6,5 @@ use lift_command::program::command;
 use std::process::ExitCode;
 
 fn main(rt: HostRuntime) -> ExitCode {
-    command(&rt)
+    command(&rt, &rt)
 }

@@ -7,6 +7,8 @@ use lift_shelf::words::words_of;
 use lift_shell::entry::Outcome;
 use std::alloc::{AllocError, Global};
 use std::io::Write;
+use std::sync::Wait;
+use std::thread::Threads;
 use std::{io, str};
 
 /// What the lines so far have made: the files, and how many bytes the standard output of the next
@@ -29,7 +31,12 @@ impl Cases {
     }
 
     /// Does what a line says, and prints what it makes.
-    pub fn take<W: Write + Drop>(&mut self, line: &str, to: &mut W) -> io::Result<()> {
+    pub fn take<R: Threads + Wait + Sync, W: Write + Drop>(
+        &mut self,
+        rt: &R,
+        line: &str,
+        to: &mut W,
+    ) -> io::Result<()> {
         match line_of(line).ok_or(io::ErrorKind::InvalidData)? {
             Line::Begin(name) => Ok(self.shelf.begin(name, false)?),
             Line::Break(name) => Ok(self.shelf.begin(name, true)?),
@@ -41,26 +48,31 @@ impl Cases {
                 Ok(())
             }
             Line::Run(words) => {
-                let outcome = self.outcome(words)?;
+                let outcome = self.outcome(rt, words)?;
                 write_run(line, &outcome, to)
             }
             Line::Status(words) => {
-                let outcome = self.outcome(words)?;
+                let outcome = self.outcome(rt, words)?;
                 write_status(line, &outcome, to)
             }
             Line::Keep(words) => {
-                let outcome = self.outcome(words)?;
+                let outcome = self.outcome(rt, words)?;
                 self.shelf.add(outcome.out.bytes())?;
                 write_status(line, &outcome, to)
             }
+            Line::Count(start) => write!(to, "{line} -> {}\n", self.shelf.count(start)?),
             Line::Note => write!(to, "{line}\n"),
         }
     }
 
     /// Runs the program on the words of a line.
-    fn outcome(&mut self, line: &str) -> Result<Outcome, AllocError> {
+    fn outcome<R: Threads + Wait + Sync>(
+        &mut self,
+        rt: &R,
+        line: &str,
+    ) -> Result<Outcome, AllocError> {
         let words = words_of(self.alloc, line)?;
-        let left = tried(self.alloc, &words, &self.shelf, self.limit);
+        let left = tried(rt, self.alloc, &words, &self.shelf, self.limit);
         self.limit = usize::MAX;
         Ok(left)
     }

@@ -13,7 +13,7 @@ fn main(rt: HostRuntime) -> io::Result<()> {
     let mut cases = Cases::new(alloc);
     let mut to = BufWriter::new(alloc, io::writer(&rt))?;
     for line in BufReader::new(alloc, rt.reader())?.lines(alloc) {
-        cases.take(&line?, &mut to)?;
+        cases.take(&rt, &line?, &mut to)?;
     }
     to.flush()
 }

@@ -14,6 +14,6 @@ simulate-requires c =
     record {
       calls =
           subst (λ (l : List Press). ArePressed sizes l) (sym c.as_slice.ensures)
-          (presses_are sizes c.args.rounds (words_of c.args.words) c.in-Ok.driven.presses
-          (subst (λ n. ArePresses c.args.rounds n (words_of c.args.words) c.in-Ok.driven.presses) (c.from-floors.ensures ∙ ap (λ (s : Sizes). s.floors) c.sizes.ensures) c.in-Ok.ensures.ok.0));
+          (presses_are sizes c.args.asked.rounds (words_of c.args.asked.presses) c.in-Ok.driven.presses
+          (subst (λ n. ArePresses c.args.asked.rounds n (words_of c.args.asked.presses) c.in-Ok.driven.presses) (c.from-floors.ensures ∙ ap (λ (s : Sizes). s.floors) c.sizes.ensures) c.in-Ok.ensures.ok.spelled));
     }

@@ -1,0 +1,21 @@
+use Rattle.std.proofs.Common.{◌≡◌, ◌≤◌, ℕ, sym, ap, ◌∙◌, subst}
+use Rattle.std.specs.Prelude.{All}
+use Rattle.lift_desk.specs.Passes.{IsFloorOf}
+use Rattle.lift_host.specs.declared.press.Press.{Press}
+use Rattle.lift_spec.specs.declared.image.Sizes.{Sizes}
+use Rattle.lift_world.proofs.Opening.{sizes_fit}
+use Rattle.lift_workers.proofs.run.run_in.Goals as goal
+
+pub desk_of-requires : goal.desk_of-requires
+desk_of-requires g c =
+    record { floors = subst (λ (s : Sizes). (2 ≤ s.floors) × (s.floors ≤ 16)) (sym c.sizes-sizes.ensures) (sizes_fit c.args.verified.config c.config-config.ensures.runnable).1 }
+
+pub opening-requires-clause-cars : goal.opening-requires-clause-cars
+opening-requires-clause-cars g c = subst (λ (s : Sizes). (1 ≤ s.cars) × (s.cars ≤ 8)) (sym c.sizes-sizes.ensures) (sizes_fit c.args.verified.config c.config-config.ensures.runnable).0
+
+pub opening-requires-clause-floors : goal.opening-requires-clause-floors
+opening-requires-clause-floors g c = subst (λ (s : Sizes). (2 ≤ s.floors) × (s.floors ≤ 16)) (sym c.sizes-sizes.ensures) (sizes_fit c.args.verified.config c.config-config.ensures.runnable).1
+
+pub run_at-requires-clause-presses : goal.run_at-requires-clause-presses
+run_at-requires-clause-presses g c κs within =
+    subst (λ n. All (λ (p : Press). IsFloorOf n p.to) c.args.plan.presses.now) (sym (c.in-Ok-desk_of.ensures.floors.0 ∙ ap (λ (s : Sizes). s.floors) c.sizes-sizes.ensures)) c.requires.presses

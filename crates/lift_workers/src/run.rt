@@ -1,0 +1,328 @@
+// A run: its threads, and what they leave.
+
+ghost use Rattle.std.specs.Prelude.{◌≡◌, ◌+◌, ◌≤◌, ◌*◌, ℕ, All, map, filter, length, slice_index_or, IfOk, IsPermutation};
+ghost use Rattle.std.specs.Thread.{IsSync};
+ghost use Rattle.lift_spec.specs.Image.{sizes_of};
+ghost use Rattle.lift_spec.specs.Plant.{IsPlantOf};
+ghost use Rattle.lift_desk.specs.Passes.{IsFloorOf, AreAllPanels};
+ghost use Rattle.lift_station.specs.Passes.{is_task, all_tasks};
+ghost use Rattle.lift_workers.specs.Ran.{IsRun};
+
+use crate::fault::RunFault;
+use crate::gate::Gate;
+use crate::panel::{PanelHandle, is_pressed};
+use crate::refresher::{Pace, Refresher, RefresherPasses, opening};
+use crate::{panel, refresher, task};
+use il_machine::Verified;
+use lift_desk::{Desk, HandPass, PanelPass};
+use lift_host::press::Press;
+use lift_image::Sizes;
+use lift_spec::journal::Entry;
+use lift_station::{Blanks, Closed, Naming, RefreshPass, Station, TaskPass};
+use std::alloc::{AllocError, Global};
+use std::marker::Brand;
+use std::sync::Wait;
+use std::thread;
+use std::thread::{Scope, Threads};
+
+/// How many panels each floor has.
+pub const PANELS: u8 = 4;
+
+/// What drives a run: the presses, how many rounds, and the round from which on FIRE holds.
+#[derive(Clone, Copy)]
+pub struct Plan<'p> {
+    pub presses: &'p [Press],
+    pub rounds: u16,
+    pub fire: Option<u16>,
+}
+
+/// Those who go into threads.
+#[derive(Drop)]
+pub struct Crew<G: Naming> {
+    pub tasks: Vec<TaskPass<G>>,
+    pub refresher: Refresher<G>,
+    pub panels: Vec<PanelPass>,
+}
+
+/// The passes that came back.
+#[derive(Drop)]
+pub struct Passes<G: Naming> {
+    pub tasks: Vec<TaskPass<G>>,
+    pub refresher: RefresherPasses<G>,
+    pub panels: Vec<PanelPass>,
+}
+
+/// The panels whose workers were started, and those that nobody presses.
+#[derive(Drop)]
+struct Panels {
+    pressed: Vec<PanelHandle>,
+    idle: Vec<PanelPass>,
+}
+
+// Starts a worker for each panel that is pressed.
+fn start_panels<'s, E>(
+    scope: &Scope<'s, E>,
+    alloc: Global,
+    desk: &'s Desk,
+    panels: Vec<PanelPass>,
+    presses: &'s [Press],
+) -> Result<Panels, AllocError>
+    requires tables { All (λ pass. pass.table ≡ desk.now.table) panels.items }
+    requires floors { All (λ press. IsFloorOf desk.now.floors press.to) presses.now }
+    ensures count { IfOk result (λ p. length p.pressed.items + length p.idle.items ≡ length panels.items) }
+    ensures pressed { IfOk result (λ p. All (λ h. h.promise.0.value.table ≡ desk.now.table) p.pressed.items) }
+    ensures idle { IfOk result (λ p. All (λ pass. pass.table ≡ desk.now.table) p.idle.items) }
+{
+    let mut panels = panels;
+    let mut pressed = Vec::new(alloc);
+    let mut idle = Vec::new(alloc);
+    'panels: while let Some(pass) = panels.pop() {
+        if is_pressed(&pass, presses) {
+            pressed.push(panel::start(scope, desk, pass, presses)?)?;
+        } else {
+            idle.push(pass)?;
+        }
+    }
+    Ok(Panels { pressed, idle })
+}
+
+// Joins the workers of panels: the passes of all panels.
+fn join_panels<R: Threads>(
+    rt: &R,
+    desk: &Desk,
+    panels: Panels,
+) -> Result<Vec<PanelPass>, AllocError>
+    requires pressed { All (λ h. h.promise.0.value.table ≡ desk.now.table) panels.pressed.items }
+    requires idle { All (λ pass. pass.table ≡ desk.now.table) panels.idle.items }
+    ensures count { IfOk result (λ ps. length ps.items ≡ length panels.pressed.items + length panels.idle.items) }
+    ensures tables { IfOk result (λ ps. All (λ pass. pass.table ≡ desk.now.table) ps.items) }
+{
+    let Panels { pressed, idle } = panels;
+    let mut pressed = pressed;
+    let mut passes = idle;
+    'pressed: while let Some(handle) = pressed.pop() {
+        passes.push(handle.join(rt))?;
+    }
+    Ok(passes)
+}
+
+/// Runs the crew: a thread for each task, one for the refresher and one for each panel that is pressed. All of them have ended when it answers.
+pub fn run_all<G: Naming + Send + Sync, T: Gate + Sync, R: Threads + Wait + Sync>(
+    rt: &R,
+    alloc: Global,
+    station: &Station<G>,
+    desk: &Desk,
+    gate: &T,
+    crew: Crew<G>,
+    plan: Plan<'_>,
+) -> Result<Passes<G>, RunFault>
+    requires tasks { All (λ p. p.count ≡ 0) crew.tasks.items }
+    requires refreshes { crew.refresher.pass.refreshes ≡ 0 }
+    requires hand { crew.refresher.hand.table ≡ desk.now.table }
+    requires floors { crew.refresher.hand.floors ≡ (sizes_of G.program.config).floors }
+    requires plant { IsPlantOf (sizes_of G.program.config) crew.refresher.plant }
+    requires panels { AreAllPanels desk.now crew.panels.items }
+    requires presses { All (λ press. IsFloorOf desk.now.floors press.to) plan.presses.now }
+    ensures tasks { IfOk result (λ p. map (λ q. q.task) p.tasks.items ≡ map (λ q. q.task) crew.tasks.items) }
+    ensures counts { IfOk result (λ p. All (λ q. q.count ≡ plan.entry.rounds + plan.entry.rounds) p.tasks.items) }
+    ensures refreshes { IfOk result (λ p. p.refresher.pass.refreshes ≡ plan.entry.rounds) }
+    ensures desk { IfOk result (λ p. (p.refresher.hand.table ≡ desk.now.table) × AreAllPanels desk.now p.panels.items) }
+{
+    let Crew {
+        tasks,
+        refresher,
+        panels,
+    } = crew;
+    let Plan {
+        presses,
+        rounds,
+        fire,
+    } = plan;
+    thread::scope(
+        thread::scope_env(),
+        rt,
+        move |scope| -> Result<Passes<G>, RunFault>
+            requires r { IsSync R.row }
+            requires t { IsSync T.row }
+            requires tasks { All (λ p. p.count ≡ 0) tasks.items }
+            requires refreshes { refresher.pass.refreshes ≡ 0 }
+            requires hand { refresher.hand.table ≡ desk.now.table }
+            requires floors { refresher.hand.floors ≡ (sizes_of G.program.config).floors }
+            requires plant { IsPlantOf (sizes_of G.program.config) refresher.plant }
+            requires panels { AreAllPanels desk.now panels.items }
+            requires presses { All (λ press. IsFloorOf desk.now.floors press.to) presses.now }
+            ensures tasks { IfOk result (λ p. map (λ q. q.task) p.tasks.items ≡ map (λ q. q.task) tasks.items) }
+            ensures counts { IfOk result (λ p. All (λ q. q.count ≡ rounds + rounds) p.tasks.items) }
+            ensures refreshes { IfOk result (λ p. p.refresher.pass.refreshes ≡ rounds) }
+            ensures desk { IfOk result (λ p. (p.refresher.hand.table ≡ desk.entry.now.table) × AreAllPanels desk.entry.now p.panels.items) }
+        {
+            let panels = start_panels(scope, alloc, desk, panels, presses)?;
+            let tasks = task::start_all(scope, rt, alloc, station, gate, tasks, rounds)?;
+            let refresher = refresher::start(
+                scope,
+                rt,
+                station,
+                desk,
+                refresher,
+                Pace { rounds, fire },
+            )?;
+            let tasks = task::join_all(rt, alloc, tasks, rounds)?;
+            let refresher = refresher.join(rt)?;
+            let panels = join_panels(rt, desk, panels)?;
+            Ok(Passes {
+                tasks,
+                refresher,
+                panels,
+            })
+        },
+    )
+}
+
+// A copy of the presses, by their rounds; those of one round in their order.
+fn by_round(alloc: Global, presses: &[Press]) -> Result<Vec<Press>, AllocError>
+    ensures { IfOk result (λ ps. IsPermutation presses.now ps.items) }
+{
+    let mut ordered = presses.to_vec(alloc)?;
+    ordered.sort_by_key(|press| press.round)?;
+    Ok(ordered)
+}
+
+// How many entries a journal gets in so many rounds.
+fn entries(verified: &Verified, rounds: u16) -> usize {
+    let tasks = usize::from(verified.sizes().cars) + usize::from(verified.has_task(0));
+    usize::from(rounds) * (1 + 2 * tasks)
+}
+
+// Closes the desk and the station: the journal.
+fn closed<G: Naming>(station: Station<G>, desk: Desk, passes: Passes<G>, rounds: u16) -> Vec<Entry>
+    requires tasks { map (λ q. q.task) passes.tasks.items ≡ filter (is_task G.program.config) all_tasks }
+    requires counts { All (λ q. q.count ≡ rounds + rounds) passes.tasks.items }
+    requires refreshes { passes.refresher.pass.refreshes ≡ rounds }
+    requires desk { (passes.refresher.hand.table ≡ desk.table) × AreAllPanels desk passes.panels.items }
+    ensures { IsRun G.program.config rounds result.items }
+{
+    let Passes {
+        tasks,
+        refresher,
+        panels,
+    } = passes;
+    desk.close(panels, refresher.hand);
+    let Closed { verified, book } = station.close(tasks, refresher.pass);
+    let _config = verified.config();
+    verified.release();
+    book.into_journal()
+}
+
+// A run of a station with its passes.
+fn run_at<G: Naming + Send + Sync, T: Gate + Sync, R: Threads + Wait + Sync>(
+    rt: &R,
+    alloc: Global,
+    station: Station<G>,
+    desk: Desk,
+    gate: &T,
+    crew: Crew<G>,
+    plan: Plan<'_>,
+) -> Result<Vec<Entry>, RunFault>
+    requires tasks { map (λ q. q.task) crew.tasks.items ≡ filter (is_task G.program.config) all_tasks }
+    requires new { All (λ p. p.count ≡ 0) crew.tasks.items }
+    requires refreshes { crew.refresher.pass.refreshes ≡ 0 }
+    requires hand { crew.refresher.hand.table ≡ desk.table }
+    requires floors { crew.refresher.hand.floors ≡ (sizes_of G.program.config).floors }
+    requires plant { IsPlantOf (sizes_of G.program.config) crew.refresher.plant }
+    requires panels { AreAllPanels desk crew.panels.items }
+    requires presses { All (λ press. IsFloorOf desk.floors press.to) plan.presses.now }
+    ensures { IfOk result (λ es. IsRun G.program.config plan.entry.rounds es.items) }
+{
+    match run_all(rt, alloc, &station, &desk, gate, crew, plan) {
+        Ok(passes) => Ok(closed(station, desk, passes, plan.rounds)),
+        Err(fault) => {
+            station.release();
+            Err(fault)
+        }
+    }
+}
+
+/// A desk as it opens, with all passes.
+#[derive(Drop)]
+struct Opened {
+    desk: Desk,
+    panels: Vec<PanelPass>,
+    hand: HandPass,
+}
+
+// The desk of a group.
+fn desk_of(alloc: Global, sizes: Sizes) -> Result<Opened, AllocError>
+    requires floors { (2 ≤ sizes.floors) × (sizes.floors ≤ 16) }
+    ensures floors { IfOk result (λ o. (o.desk.floors ≡ sizes.floors) × (o.hand.floors ≡ sizes.floors)) }
+    ensures hand { IfOk result (λ o. o.hand.table ≡ o.desk.table) }
+    ensures panels { IfOk result (λ o. AreAllPanels o.desk o.panels.items) }
+{
+    match Desk::new(alloc, sizes.floors, PANELS) {
+        Ok((desk, panels, hand)) => Ok(Opened { desk, panels, hand }),
+        Err(_) => Err(AllocError),
+    }
+}
+
+fn run_in<G: Naming + Send + Sync, T: Gate + Sync, R: Threads + Wait + Sync>(
+    rt: &R,
+    alloc: Global,
+    blanks: Blanks,
+    verified: Verified,
+    gate: &T,
+    plan: Plan<'_>,
+) -> Result<Vec<Entry>, RunFault>
+    requires program { verified ≡ G.program }
+    requires names { (i : ℕ) → slice_index_or blanks i 0 ≡ G.names i }
+    requires presses { All (λ press. IsFloorOf (sizes_of verified.config).floors press.to) plan.presses.now }
+    ensures { IfOk result (λ es. IsRun G.program.config plan.entry.rounds es.items) }
+{
+    let _config = verified.config();
+    let sizes = verified.sizes();
+    let capacity = entries(&verified, plan.rounds);
+    let Ok((station, tasks, refresher)) = Station::<G>::new(alloc, blanks, verified, capacity)
+    else {
+        return Err(RunFault::OutOfMemory);
+    };
+    match desk_of(alloc, sizes) {
+        Ok(Opened { desk, panels, hand }) => {
+            let crew = Crew {
+                tasks,
+                refresher: opening(refresher, hand, sizes),
+                panels,
+            };
+            run_at(rt, alloc, station, desk, gate, crew, plan)
+        }
+        Err(_) => {
+            station.release();
+            Err(RunFault::OutOfMemory)
+        }
+    }
+}
+
+/// Runs a group in threads: one for each task, with so many scans, one that gathers calls, moves the plant and refreshes, so many times,
+/// and one for each panel that is pressed. The answer is the journal. Memory for all of its entries is reserved before the first thread starts; a thread that
+/// can't be started ends the run with `OutOfMemory`, once the others have ended.
+pub fn run<T: Gate + Sync, R: Threads + Wait + Sync>(
+    rt: &R,
+    alloc: Global,
+    verified: Verified,
+    gate: &T,
+    plan: Plan<'_>,
+) -> Result<Vec<Entry>, RunFault>
+    requires presses { All (λ press. IsFloorOf (sizes_of verified.config).floors press.to) plan.presses.now }
+    ensures { IfOk result (λ es. IsRun verified.config plan.entry.rounds es.items) }
+{
+    match by_round(alloc, plan.presses) {
+        Ok(ordered) => {
+            let plan = Plan {
+                presses: &ordered,
+                ..plan
+            };
+            run_in::<Brand, T, R>(rt, alloc, Blanks::new(), verified, gate, plan)
+        }
+        Err(_) => {
+            verified.release();
+            Err(RunFault::OutOfMemory)
+        }
+    }
+}
