@@ -12,8 +12,6 @@ mod call_sets;
 #[cfg(test)]
 mod field_ranges;
 #[cfg(test)]
-mod gate_rows;
-#[cfg(test)]
 mod group;
 #[cfg(test)]
 mod interlock_rows;
@@ -21,10 +19,6 @@ mod interlock_rows;
 mod plant_steps;
 #[cfg(test)]
 mod range_rows;
-#[cfg(test)]
-mod station_rows;
-#[cfg(test)]
-mod stations;
 #[cfg(test)]
 mod table_entries;
 #[cfg(test)]
