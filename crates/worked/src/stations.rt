@@ -264,7 +264,7 @@ fn show(desk: &Desk, collector: HandPass, from: u8) -> (HandPass, u64)
 }
 
 /// One step, and what it answers.
-fn step<'s, G: Naming, R: Wait>(
+fn take_step<'s, G: Naming, R: Wait>(
     rt: &R,
     alloc: Global,
     station: &'s Station<G>,
@@ -362,7 +362,18 @@ fn step<'s, G: Naming, R: Wait>(
     ))
 }
 
-/// The steps of a row, one behind the other, and what they answer.
+/// The passes behind the steps, and what the steps answered.
+#[derive(Drop)]
+struct Rest<G: Naming> {
+    tasks: Vec<TaskPass<G>>,
+    refresher: RefreshPass<G>,
+    collector: HandPass,
+    panels: Vec<PanelPass>,
+    report: Report,
+    answers: Vec<u64>,
+}
+
+/// The steps of a row, one behind the other.
 fn steps<'s, G: Naming, R: Wait>(
     rt: &R,
     alloc: Global,
@@ -370,21 +381,65 @@ fn steps<'s, G: Naming, R: Wait>(
     desk: &Desk,
     hands: Hands<'s, G>,
     row: &[Step],
-) -> Result<(Hands<'s, G>, Vec<u64>), AllocError>
+) -> Result<Rest<G>, AllocError>
     requires table { hands.collector.table ≡ desk.now.table }
     requires floors { hands.collector.floors ≡ (sizes_of G.program.config).floors }
     requires panels { AreAllPanels desk.now hands.panels.items }
-    ensures table { IfOk result (λ r. r.0.collector.table ≡ desk.now.table) }
-    ensures panels { IfOk result (λ r. AreAllPanels desk.now r.0.panels.items) }
+    ensures table { IfOk result (λ r. r.collector.table ≡ desk.now.table) }
+    ensures panels { IfOk result (λ r. AreAllPanels desk.now r.panels.items) }
 {
     let mut hands = hands;
     let mut answers = Vec::new(alloc);
     'steps: for one in row {
-        let (next, answer) = step(rt, alloc, station, desk, hands, *one)?;
+        let (next, answer) = take_step(rt, alloc, station, desk, hands, *one)?;
         hands = next;
         answers.push(answer)?;
     }
-    Ok((hands, answers))
+    let Hands {
+        tasks,
+        refresher,
+        collector,
+        panels,
+        report,
+        ..
+    } = hands;
+    Ok(Rest {
+        tasks,
+        refresher,
+        collector,
+        panels,
+        report,
+        answers,
+    })
+}
+
+/// The passes of a row that begins: all tasks, no scan, and the opening of the desk.
+fn rest_of<G: Naming, R: Wait>(
+    rt: &R,
+    alloc: Global,
+    station: &Station<G>,
+    desk: &Desk,
+    passes: (Vec<TaskPass<G>>, RefreshPass<G>),
+    seats: (Vec<PanelPass>, HandPass),
+    row: &[Step],
+) -> Result<Rest<G>, AllocError>
+    requires table { seats.1.table ≡ desk.now.table }
+    requires floors { seats.1.floors ≡ (sizes_of G.program.config).floors }
+    requires panels { AreAllPanels desk.now seats.0.items }
+    ensures table { IfOk result (λ r. r.collector.table ≡ desk.now.table) }
+    ensures panels { IfOk result (λ r. AreAllPanels desk.now r.panels.items) }
+{
+    let (tasks, refresher) = passes;
+    let (panels, collector) = seats;
+    let hands = Hands {
+        tasks,
+        runs: Vec::new(alloc),
+        refresher,
+        collector,
+        panels,
+        report: Report::new(),
+    };
+    steps(rt, alloc, station, desk, hands, row)
 }
 
 /// Opens the station of a program and a desk, with so many panels on each floor and room for so many entries, takes the steps, and closes both.
@@ -405,24 +460,23 @@ fn play_in<G: Naming, R: Wait>(
     let floors = verified.sizes().floors;
     let (station, tasks, refresher) = Station::<G>::new(alloc, blanks, verified, capacity)?;
     let (desk, panels, collector) = Desk::new(alloc, floors, panels)?;
-    let hands = Hands {
+    let rest = rest_of(
+        rt,
+        alloc,
+        &station,
+        &desk,
+        (tasks, refresher),
+        (panels, collector),
+        row,
+    )?;
+    let Rest {
         tasks,
-        runs: Vec::new(alloc),
-        refresher,
-        collector,
-        panels,
-        report: Report::new(),
-    };
-    let (hands, answers) = steps(rt, alloc, &station, &desk, hands, row)?;
-    let Hands {
-        tasks,
-        runs,
         refresher,
         collector,
         panels,
         report,
-    } = hands;
-    drop(runs);
+        answers,
+    } = rest;
     let desk = desk.close(panels, collector);
     let closed = station.close(tasks, refresher);
     Ok(Played {
