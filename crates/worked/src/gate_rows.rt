@@ -74,8 +74,10 @@ fn one_car_commits_while_another_is_held(rt: HostRuntime) -> Result<(), Fail> {
         rounds: 3,
         fire: None,
     };
-    let entries = run(&rt, rt.alloc(), verified, &gate, plan);
-    assert!(rt; matches!(entries, Ok(journal) if journal.len() == 15));
+    let Ok(journal) = run(&rt, rt.alloc(), verified, &gate, plan) else {
+        panic!(&rt; "no memory")
+    };
+    assert!(rt; journal.len() == 15);
     assert!(rt; gate.is_committed.load(Ordering::SeqCst));
     assert!(rt; !gate.has_waited_too_long.load(Ordering::SeqCst));
     Ok(())

@@ -129,9 +129,8 @@ fn has_value(value: Option<Value>, number: i64) -> bool {
 
 /// Whether the globals G and H have these values at the end.
 fn has_globals(played: &Played, g: i64, h: i64) -> bool {
-    let closed = &played.closed;
-    has_value(closed.book.global(&closed.verified, "G"), g)
-        && has_value(closed.book.global(&closed.verified, "H"), h)
+    let [first, second] = played.globals;
+    has_value(first, g) && has_value(second, h)
 }
 
 const START_1: Step = Step::Start(1);

@@ -4,7 +4,7 @@ ghost use Rattle.std.specs.Prelude.{◌≡◌, ◌≤◌, ℕ, IfOk, slice_index
 ghost use Rattle.lift_desk.specs.Passes.{AreAllPanels, IsFloorOf};
 ghost use Rattle.lift_spec.specs.Image.{sizes_of};
 
-use il_machine::{Scanned, Verified, scan};
+use il_machine::{Scanned, Value, Verified, scan};
 use il_spec::fault::Refusal;
 use lift_desk::{Desk, DeskClosed, HandPass, PanelPass, Pressed};
 use lift_image::{CarFields, Fields, Motor, Row};
@@ -45,6 +45,8 @@ pub struct Played {
     pub report: Report,
     pub closed: Closed,
     pub desk: DeskClosed,
+    /// The globals G and H.
+    pub globals: [Option<Value>; 2],
 }
 
 /// A scan that was run.
@@ -479,11 +481,16 @@ fn play_in<G: Naming, R: Wait>(
     } = rest;
     let desk = desk.close(panels, collector);
     let closed = station.close(tasks, refresher);
+    let globals = [
+        closed.book.global(&closed.verified, "G"),
+        closed.book.global(&closed.verified, "H"),
+    ];
     Ok(Played {
         answers,
         report,
         closed,
         desk,
+        globals,
     })
 }
 
