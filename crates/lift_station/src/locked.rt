@@ -25,7 +25,6 @@ use lift_spec::report::Report;
 use std::marker::Model;
 
 /// What lies under the lock. Contracts see it as the book's ledger.
-#[derive(Drop)]
 pub struct Locked<G: Naming> {
     book: Book,
     counts: Counts<G>,
@@ -207,7 +206,10 @@ impl<G: Naming> Locked<G> {
         ensures kept { Kept (page_of result) }
         ensures program { result.program.value ≡ G.program }
     {
-        let Locked { book, counts: _ } = self;
+        let Locked {
+            book,
+            counts: _counts,
+        } = self;
         book.runs();
         book
     }

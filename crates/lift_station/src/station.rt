@@ -27,7 +27,6 @@ use std::marker::{Model, PhantomData};
 use std::sync::{Mutex, Wait};
 
 // The program of the station. Contracts see it as the program.
-#[derive(Drop)]
 struct Mine<G: Naming> {
     verified: Verified,
     of: PhantomData<G>,
@@ -56,7 +55,7 @@ impl<G: Naming> Mine<G> {
     fn into_verified(self) -> Verified
         ensures { result ≡ G.program }
     {
-        let Mine { verified, .. } = self;
+        let Mine { verified, of: _of } = self;
         verified
     }
 }
@@ -137,22 +136,19 @@ fn opened<G: Naming>(
     ensures counts { IfOk result (λ r. All (λ p. p.count ≡ 0) r.1.items) }
     ensures refreshes { IfOk result (λ r. r.2 ≡ record { refreshes = 0; entered = 0 }) }
 {
-    let book = Book::new(alloc, verified, capacity)?;
     let (counts, shares, refresher) = blanks.open::<G>(alloc)?;
-    let locked = Locked::of(book, counts);
     let tasks = passes_of(alloc, verified, shares)?;
-    Ok((locked, tasks, refresher))
+    let book = Book::new(alloc, verified, capacity)?;
+    Ok((Locked::of(book, counts), tasks, refresher))
 }
 
-/// The station: a program, and a book under a lock.
-#[derive(Drop)]
+/// The station: a program, and a book under a lock. It is given up by `close` or `release`.
 pub struct Station<G: Naming> {
     program: Mine<G>,
     book: Mutex<Locked<G>>,
 }
 
-/// What a closed station leaves: the program, and the book with its journal, image, call slots and globals.
-#[derive(Drop)]
+/// What a closed station leaves: the program, and the book with its journal, image, call slots and globals. Each is given up by its `release`.
 pub struct Closed {
     pub verified: Verified,
     pub book: Book,
@@ -185,7 +181,10 @@ impl<G: Naming> Station<G> {
                 };
                 Ok((station, tasks, refresher))
             }
-            Err(_) => Err(Refusal::Memory),
+            Err(_) => {
+                verified.release();
+                Err(Refusal::Memory)
+            }
         }
     }
 
@@ -317,7 +316,11 @@ impl<G: Naming> Station<G> {
     }
 
     /// Gives up the station.
-    pub fn release(self) {}
+    pub fn release(self) {
+        let Station { program, book } = self;
+        program.into_verified().release();
+        book.into_inner().into_book().release();
+    }
 
     /// The program and the book at the end: the journal runs to the book's image, and holds as many entries and entered calls as the
     /// passes count.
