@@ -12,6 +12,8 @@ mod call_sets;
 #[cfg(test)]
 mod field_ranges;
 #[cfg(test)]
+mod gate_rows;
+#[cfg(test)]
 mod group;
 #[cfg(test)]
 mod interlock_rows;
@@ -19,6 +21,10 @@ mod interlock_rows;
 mod plant_steps;
 #[cfg(test)]
 mod range_rows;
+#[cfg(test)]
+mod station_rows;
+#[cfg(test)]
+mod stations;
 #[cfg(test)]
 mod table_entries;
 #[cfg(test)]

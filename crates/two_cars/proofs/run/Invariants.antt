@@ -1,0 +1,5 @@
+use Rattle.std.specs.Prelude.{slice_index_or}
+use Rattle.two_cars.proofs.run.Given as goal
+
+abbrev pub ghosts-run_in : goal.ghosts-run_in
+ghosts-run_in g a = record { program = a.verified; names = λ i. slice_index_or a.blanks i 0 }

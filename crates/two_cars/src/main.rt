@@ -1,0 +1,119 @@
+//! Two cars in threads of their own, over one station: each runs a hundred scans of its program while the other does.
+#![tactic(auto)]
+
+ghost use Rattle.std.specs.Prelude.{◌≡◌, ◌+◌, ℕ, IfOk, slice_index_or};
+ghost use Rattle.lift_book.specs.Ledgers.{page_of};
+ghost use Rattle.lift_journal.specs.Pages.{Kept};
+
+use il_machine::{Verified, scan};
+use il_spec::fault::Refusal;
+use lift_load::load;
+use lift_spec::report::Report;
+use lift_station::{Blanks, Closed, Naming, Station, TaskPass};
+use std::alloc::{AllocError, Global};
+use std::io;
+use std::marker::Brand;
+use std::sync::Wait;
+use std::thread::{Threads, join};
+
+const TEXT: &[u8] = b"PROGRAM COUNTS
+VAR N : INT (0..9); END_VAR
+LD N
+ADD 1
+MOD 10
+ST N
+END_PROGRAM
+CONFIGURATION SHAFTS
+VAR_GLOBAL CONSTANT CARS : INT := 2; FLOORS : INT := 8; SLOTS : INT := 4; END_VAR
+RESOURCE CABINET ON PLC
+TASK CAR1 (INTERVAL := T#100ms, PRIORITY := 1);
+TASK CAR2 (INTERVAL := T#100ms, PRIORITY := 1);
+PROGRAM P1 WITH CAR1 : COUNTS;
+PROGRAM P2 WITH CAR2 : COUNTS;
+END_RESOURCE
+END_CONFIGURATION
+";
+
+/// How many scans each car runs.
+const SCANS: u32 = 100;
+
+/// Two entries for each scan of both cars.
+const ENTRIES: usize = 400;
+
+// Runs the scans of one car, until one is refused.
+fn drive<G: Naming, R: Wait>(rt: &R, station: &Station<G>, pass: TaskPass<G>) -> TaskPass<G> {
+    let mut pass = pass;
+    let mut report = Report::new();
+    for _scan in 0..SCANS {
+        let (back, begun) = station.start(rt, pass);
+        pass = back;
+        let Ok(begun) = begun else {
+            return pass;
+        };
+        let scanned = scan(station.verified(), begun);
+        let (back, committed) = station.commit(rt, pass, scanned, &mut report);
+        pass = back;
+        if committed.is_err() {
+            return pass;
+        }
+    }
+    pass
+}
+
+// Runs both cars, each in a thread of its own: the passes that come back.
+fn drive_both<G: Naming + Send + Sync, R: Threads + Wait + Sync>(
+    rt: &R,
+    alloc: Global,
+    station: &Station<G>,
+    passes: Vec<TaskPass<G>>,
+) -> Result<Vec<TaskPass<G>>, AllocError> {
+    let mut passes = passes;
+    let (Some(second), Some(first)) = (passes.pop(), passes.pop()) else {
+        return Ok(passes);
+    };
+    let (first, second) = join(
+        rt,
+        || drive(rt, station, first),
+        || drive(rt, station, second),
+    );
+    Ok(Vec::from_array(alloc, [first, second])?)
+}
+
+// Opens the station of a program, runs both cars and closes it. Whatever the threads did, the journal runs to the image that is left.
+fn run_in<G: Naming + Send + Sync, R: Threads + Wait + Sync>(
+    rt: &R,
+    alloc: Global,
+    blanks: Blanks,
+    verified: Verified,
+) -> Result<Closed, Refusal>
+    requires program { verified ≡ G.program }
+    requires names { (i : ℕ) → slice_index_or blanks i 0 ≡ G.names i }
+    ensures { IfOk result (λ c. Kept (page_of c.book)) }
+{
+    let (station, passes, refresher) = Station::<G>::new(alloc, blanks, verified, ENTRIES)?;
+    match drive_both(rt, alloc, &station, passes) {
+        Ok(passes) => Ok(station.close(passes, refresher)),
+        Err(_) => {
+            station.release();
+            Err(Refusal::Memory)
+        }
+    }
+}
+
+/// Runs both cars of the text.
+fn run<R: Threads + Wait + Sync>(rt: &R, alloc: Global) -> Result<Closed, Refusal>
+    ensures { IfOk result (λ c. Kept (page_of c.book)) }
+{
+    let verified = load(alloc, TEXT)?;
+    run_in::<Brand, R>(rt, alloc, Blanks::new(), verified)
+}
+
+fn main(rt: HostRuntime) -> io::Result<()> {
+    let Ok(closed) = run(&rt, rt.alloc()) else {
+        return Err(io::ErrorKind::OutOfMemory.into());
+    };
+    let Closed { verified, book } = closed;
+    let entries = book.into_journal();
+    verified.release();
+    println!(rt; "{} entries of two cars", entries.len())
+}

@@ -1,0 +1,5 @@
+use Rattle.std.specs.Prelude.{slice_index_or}
+use Rattle.worked.proofs.stations.play_on.Given as goal
+
+abbrev pub ghosts-play_in : goal.ghosts-play_in
+ghosts-play_in g a = record { program = a.verified; names = λ i. slice_index_or a.blanks i 0 }

@@ -1,0 +1,11 @@
+use Rattle.std.proofs.Common.{◌≡◌}
+use Rattle.lift_spec.specs.Image.{sizes_of}
+use Rattle.lift_desk.specs.Passes.{AreAllPanels}
+use Rattle.worked.proofs.stations.steps.Given as goal
+
+abbrev pub invariant-steps : goal.invariant-steps
+invariant-steps g l = record {
+  table : l.hall.collector.table ≡ l.fn.desk.table;
+  floors : l.hall.collector.floors ≡ (sizes_of g.G.Naming.program.config).floors;
+  panels : AreAllPanels l.fn.desk l.hall.panels.items;
+}
