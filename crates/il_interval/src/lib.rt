@@ -1,11 +1,16 @@
 //! Ranges of integers, and what an operation makes of them.
 #![tactic(auto)]
 
-ghost use Rattle.std.specs.Prelude.{◌≡◌, ◌≢◌, ◌↔◌, IsTrue, ℤ, pos, ◌+ℤ◌, ◌-ℤ◌, ◌*ℤ◌, ◌≤ℤ◌, int_div, int_rem};
+ghost use Rattle.std.specs.Prelude.{IfSome, Bool, cond, ◌≡◌, ◌≢◌, ◌↔◌, IsTrue, ℤ, pos, ◌+ℤ◌, ◌-ℤ◌, ◌*ℤ◌, ◌≤ℤ◌, int_div, int_rem};
 ghost use Rattle.std.specs.Int.{int_min, int_max};
 ghost use Rattle.il_interval.specs.declared.Interval.{Interval};
 ghost use Rattle.il_interval.specs.Interval.{IsIn, IsWithin, IsOrdered, IsWithoutZero, IsEnd, IsOperand, interval_add, interval_sub, span, interval_mul, interval_div, greatest_remainder, interval_mod, interval_abs, interval_min, interval_max, interval_limit, interval_join};
+ghost use Rattle.il_interval.specs.Compared.{integer_equal, unless_empty, at_least, at_most, equal_to, other_than, interval_narrow, LeavesAll, LeavesOnly, LeavesLeast, GrowsNarrowed};
 ghost use Rattle.il_interval.specs.Held.{absolute, limited, Holds1, Holds, Holds3, IsLeast1, IsLeast, IsLeast3, Grows1, Grows, GrowsWithoutZero, Grows3};
+ghost use Rattle.il_spec.specs.declared.tree.Comparison.{Comparison as Comparing};
+ghost use Rattle.il_spec.specs.declared.tree.Comparison.TheVariants.{Greater, GreaterOrEqual, Equal};
+
+use il_spec::tree::Comparison;
 
 /// The integers from `lo` to `hi`, both included: none where `lo` is above `hi` (own rule). An operand has a number, and
 /// its ends lie from -2147483648, the least DINT, to 4294967295, the greatest UDINT.
@@ -50,6 +55,132 @@ fn greatest_remainder(divisor: Interval) -> i128
     ensures { result ≡ greatest_remainder divisor }
 {
     divisor.lo.abs().max(divisor.hi.abs()) - 1
+}
+
+// The range, unless it is empty.
+fn unless_empty(range: Interval) -> Option<Interval>
+    ensures { result ≡ unless_empty range }
+{
+    if range.lo <= range.hi {
+        Some(range)
+    } else {
+        None
+    }
+}
+
+// The numbers of a range from one on.
+fn at_least(range: Interval, number: i128) -> Option<Interval>
+    ensures { result ≡ at_least range number }
+{
+    unless_empty(Interval {
+        lo: range.lo.max(number),
+        hi: range.hi,
+    })
+}
+
+// The numbers of a range up to one.
+fn at_most(range: Interval, number: i128) -> Option<Interval>
+    ensures { result ≡ at_most range number }
+{
+    unless_empty(Interval {
+        lo: range.lo,
+        hi: range.hi.min(number),
+    })
+}
+
+// One number of a range.
+fn equal_to(range: Interval, number: i128) -> Option<Interval>
+    ensures { result ≡ equal_to range number }
+{
+    if range.lo <= number && number <= range.hi {
+        Some(Interval {
+            lo: number,
+            hi: number,
+        })
+    } else {
+        None
+    }
+}
+
+// A lower end behind a number, if it is that number.
+#[tactic(auto, using(crate::proofs::Outcomes::cond_yes, crate::proofs::Outcomes::cond_no))]
+fn end_above(lo: i128, number: i128) -> i128
+    requires { IsEnd lo }
+    ensures { result ≡ cond (integer_equal lo number) (lo +ℤ pos 1) lo }
+{
+    if lo == number { lo + 1 } else { lo }
+}
+
+// An upper end before a number, if it is that number.
+#[tactic(auto, using(crate::proofs::Outcomes::cond_yes, crate::proofs::Outcomes::cond_no))]
+fn end_below(hi: i128, number: i128) -> i128
+    requires { IsEnd hi }
+    ensures { result ≡ cond (integer_equal hi number) (hi -ℤ pos 1) hi }
+{
+    if hi == number { hi - 1 } else { hi }
+}
+
+// The numbers of a range but one, which only an end can lose.
+fn other_than(range: Interval, number: i128) -> Option<Interval>
+    requires { IsOperand range }
+    ensures { result ≡ other_than range number }
+{
+    unless_empty(Interval {
+        lo: end_above(range.lo, number),
+        hi: end_below(range.hi, number),
+    })
+}
+
+// What GT leaves.
+fn greater(range: Interval, number: i128, holds: bool) -> Option<Interval>
+    requires { IsEnd number }
+    ensures { result ≡ interval_narrow Greater holds range number }
+{
+    if holds {
+        at_least(range, number + 1)
+    } else {
+        at_most(range, number)
+    }
+}
+
+// What GE leaves.
+fn greater_or_equal(range: Interval, number: i128, holds: bool) -> Option<Interval>
+    requires { IsEnd number }
+    ensures { result ≡ interval_narrow GreaterOrEqual holds range number }
+{
+    if holds {
+        at_least(range, number)
+    } else {
+        at_most(range, number - 1)
+    }
+}
+
+// What EQ leaves.
+fn equal(range: Interval, number: i128, holds: bool) -> Option<Interval>
+    requires { IsOperand range }
+    ensures { result ≡ interval_narrow Equal holds range number }
+{
+    if holds {
+        equal_to(range, number)
+    } else {
+        other_than(range, number)
+    }
+}
+
+// What a comparison leaves.
+fn narrowed(comparison: Comparison, holds: bool, range: Interval, number: i128) -> Option<Interval>
+    requires range_operand { IsOperand range }
+    requires number_end { IsEnd number }
+    ensures { result ≡ interval_narrow comparison holds range number }
+{
+    match comparison {
+        Comparison::Greater => greater(range, number, holds),
+        Comparison::LessOrEqual => greater(range, number, !holds),
+        Comparison::GreaterOrEqual => greater_or_equal(range, number, holds),
+        Comparison::Less => greater_or_equal(range, number, !holds),
+        Comparison::Equal => equal(range, number, holds),
+        Comparison::NotEqual => equal(range, number, !holds),
+    }
 }
 
 impl Interval {
@@ -217,6 +348,25 @@ impl Interval {
         }
     }
 
+    /// What is left of a range where its numbers compare so with `number`, as GT is `range > number`; none where no number
+    /// does (own rule). Amid the others of NE, and of EQ that does not hold, `number` itself is kept.
+    pub fn narrow(
+        comparison: Comparison,
+        holds: bool,
+        range: Interval,
+        number: i128,
+    ) -> Option<Interval>
+        requires range_operand { IsOperand range }
+        requires number_end { IsEnd number }
+        ensures value { result ≡ interval_narrow comparison holds range number }
+        ensures operand { IfSome result (λ r. IsOperand r) }
+        ensures all { LeavesAll comparison holds range number result }
+        ensures only { LeavesOnly comparison holds range number result }
+        ensures least { LeavesLeast comparison holds range number result }
+    {
+        narrowed(comparison, holds, range, number)
+    }
+
     /// Whether this range lies in the other, by their ends (own rule).
     pub fn within(self, other: Interval) -> bool
         ensures ends { IsTrue result ↔ IsWithin self other }
@@ -238,4 +388,5 @@ pub fn ranges_grow()
     ensures max { Grows interval_max }
     ensures limit { Grows3 interval_limit }
     ensures join { Grows interval_join }
+    ensures narrow { (comparison : Comparing) (holds : Bool) (c : ℤ) → GrowsNarrowed (λ i. interval_narrow comparison holds i c) }
 {}

@@ -8,10 +8,12 @@ mod instructions;
 mod known;
 mod meant;
 mod operands;
+mod places;
 mod scope;
+mod testing;
 
-pub use instructions::hand_on;
 pub use known::{found_operated, known_of, may_be_zero, range};
 pub use meant::Meant;
 pub use operands::{is_inside, right_inside};
+pub use places::hand_on;
 pub use scope::Scope;
