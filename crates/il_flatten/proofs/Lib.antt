@@ -1,4 +1,3 @@
-pub mod LabelTable
 pub mod Resolve
 pub mod Calling
 pub mod Invoking

@@ -1,2 +1,1 @@
-pub mod Labels
 pub mod Resolving

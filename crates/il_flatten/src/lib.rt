@@ -5,7 +5,6 @@ mod bodies;
 mod calls;
 mod here;
 mod invokes;
-mod labels;
 mod operands;
 mod units;
 
