@@ -113,7 +113,7 @@ pub(crate) const TEXTS: [Meaning; 40] = [
     },
     Meaning {
         number: 41,
-        text: "41: a divisor that may be 0\n\n    PROGRAM C\n    VAR\n    D : INT (0..9); V : INT;\n    END_VAR\n    LD 7\n    DIV D\n    ST V\n    END_PROGRAM\n\nrefused 41 at line 6\n\nD may be 0. Declare its range without 0, or divide by a variable of INT (1..9) into which `LD D`, `MAX 1` and ST store. A test and a jump before it don't help: both sides of a jump count as possible.\n\n    PROGRAM C\n    VAR\n    D : INT (1..9); V : INT;\n    END_VAR\n    LD 7\n    DIV D\n    ST V\n    END_PROGRAM\n",
+        text: "41: a divisor that may be 0\n\n    PROGRAM C\n    VAR\n    D : INT (0..9); V : INT;\n    END_VAR\n    LD 7\n    DIV D\n    ST V\n    END_PROGRAM\n\nrefused 41 at line 6\n\nD may be 0. Declare its range without 0, or divide by a variable of INT (1..9) into which `LD D`, `MAX 1` and ST store. Or jump over the division: behind `LD D`, `EQ 0` and `JMPC L` D is 1 to 9.\n\n    PROGRAM C\n    VAR\n    D : INT (1..9); V : INT;\n    END_VAR\n    LD 7\n    DIV D\n    ST V\n    END_PROGRAM\n",
     },
     Meaning {
         number: 42,
