@@ -47,7 +47,8 @@ use Rattle.il_run.specs.Annotation.{Knowledge, Passes}
 use Rattle.il_sound.specs.Agreement.{Agrees, FramesAgree, AreKnown, FrameAgrees}
 use Rattle.il_exec.specs.Framing.{HasRoom}
 use Rattle.il_spec.specs.declared.tree.Named.{Named}
-use Rattle.il_machine.specs.Nesting.{open_at, IsNested, IsNestedFrame, AreNested}
+use Rattle.il_rules.specs.Written.{IsNested}
+use Rattle.il_machine.specs.Nesting.{open_at, IsNestedFrame, AreNested}
 
 -- OPEN PARENTHESES
 
