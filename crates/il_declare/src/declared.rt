@@ -42,7 +42,7 @@ impl Declared {
         ensures nested { IsNested self.now }
         ensures declared { HasNoFault (BreaksDeclarations self.now) }
     {
-        self.scoped.config()
+        self.scoped.written().tree()
     }
 
     /// What its names mean.

@@ -4,7 +4,6 @@ ghost use Rattle.std.specs.Prelude.{◌≡◌, IfOk, Some, option_map, option_an
 ghost use Rattle.il_spec.specs.declared.tree.Unit.{Unit as ProgramUnit};
 ghost use Rattle.il_rules.specs.Names.{entry_of, is_one_of, is_predeclared, meaning, program_role};
 ghost use Rattle.il_rules.specs.Declarations.{global_form, names_of_units};
-ghost use Rattle.il_rules.specs.Written.{IsWritten, HasFewInstructions, IsNested};
 ghost use Rattle.il_scope.specs.Entries.{role_entry};
 ghost use Rattle.il_scope.specs.Images.{image_in};
 ghost use Rattle.il_scope.specs.Views.{block_type, function_number, program_number, type_of, binding_of, variables_of_block};
@@ -59,12 +58,16 @@ impl Scoped {
 
     /// The configuration.
     pub fn config(&self) -> &Config
-        ensures is { result.now ≡ self.now }
-        ensures written { IsWritten self.now }
-        ensures few { HasFewInstructions self.now }
-        ensures nested { IsNested self.now }
+        ensures { result.now ≡ self.now }
     {
         self.written.tree()
+    }
+
+    /// The configuration, as a text can spell it.
+    pub fn written(&self) -> &Written
+        ensures { result.now ≡ self.now }
+    {
+        &self.written
     }
 
     /// Whether no text may declare a name again (own rule).

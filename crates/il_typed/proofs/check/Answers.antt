@@ -1,4 +1,6 @@
 use Rattle.il_results.proofs.Units.{refused_by}
+use Rattle.std.proofs.Common.{subst}
+use Rattle.il_rules.specs.Written.{HasFewInstructions}
 use Rattle.il_typed.proofs.Short.{few_short}
 use Rattle.il_typed.proofs.check.Goals as goal
 
@@ -9,4 +11,4 @@ pub returns-in-None-clause-accepted : goal.returns-in-None-clause-accepted
 returns-in-None-clause-accepted c = c.in_ok-found.ensures.none c.in-None.is
 
 pub types_fault-requires : goal.types_fault-requires
-types_fault-requires c = record { room = few_short c.args.names.now c.config-few.ensures.few }
+types_fault-requires c = record { room = few_short c.args.names.now (subst HasFewInstructions c.written-few.ensures c.tree-few.ensures.few) }
