@@ -11,4 +11,4 @@ pub returns-in-None-clause-accepted : goal.returns-in-None-clause-accepted
 returns-in-None-clause-accepted c = c.in_ok-found.ensures.none c.in-None.is
 
 pub types_fault-requires : goal.types_fault-requires
-types_fault-requires c = record { room = few_short c.args.names.now (subst HasFewInstructions c.written-few.ensures c.tree-few.ensures.few) }
+types_fault-requires c = record { room = few_short c.args.names.now (subst HasFewInstructions c.written.ensures c.tree-few.ensures.few) }
