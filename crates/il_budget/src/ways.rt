@@ -4,7 +4,7 @@ ghost use Rattle.std.specs.Prelude.{◌≡◌, IfOk, Some, map, slice_get};
 ghost use Rattle.il_spec.specs.declared.tree.Unit.{Unit as ProgramUnit};
 ghost use Rattle.il_rules.specs.Names.{Spelling};
 ghost use Rattle.il_rules.specs.Types.{label_place};
-ghost use Rattle.il_run.specs.NameMap as map;
+ghost use Rattle.il_table.specs.NameMap as map;
 ghost use Rattle.il_budget.specs.Ways.{way_of, callee_of};
 
 use il_labels::label_table;

@@ -8,7 +8,7 @@ use Rattle.il_spec.specs.declared.tree.Form.TheVariants.{Scalar as ScalarForm}
 use Rattle.il_spec.specs.declared.tree.Unit.{Unit as ProgramUnit}
 use Rattle.il_spec.specs.declared.tree.Config.{Config}
 use Rattle.il_rules.specs.Names.{is_function}
-use Rattle.il_run.specs.NameMap.{Text}
+use Rattle.il_table.specs.NameMap.{Text}
 use Rattle.il_run.specs.declared.value.Value.{Value}
 use Rattle.il_run.specs.Meaning.{Entity, entities, own_entities, result_entities, block_entities, under, values_at, entity_values, instance_values, fresh_values}
 use Rattle.il_run.specs.Scan.{function_values}

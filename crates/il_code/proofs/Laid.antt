@@ -12,7 +12,7 @@ use Rattle.il_spec.specs.declared.tree.UnitKind.TheVariants.{Function, FunctionB
 use Rattle.il_spec.specs.declared.tree.Unit.{Unit as ProgramUnit}
 use Rattle.il_spec.specs.declared.tree.Config.{Config}
 use Rattle.il_rules.specs.Names.{is_program, is_program_kind}
-use Rattle.il_run.specs.NameMap.{Text}
+use Rattle.il_table.specs.NameMap.{Text}
 use Rattle.il_run.specs.declared.value.Value.{Value}
 use Rattle.il_run.specs.Meaning.{Entity, entities, own_entities, result_entities, block_entities, under, element_path, elements, width, initial_value, values_at, entity_values, instance_values}
 use Rattle.il_scope.specs.declared.entry.BlockType.{BlockType}

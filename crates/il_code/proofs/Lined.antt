@@ -9,7 +9,7 @@ use Rattle.il_spec.specs.declared.tree.Config.{Config}
 use Rattle.il_rules.specs.Faults.{Broken, Declaring, Typing, Ordering, HasNoFault}
 use Rattle.il_rules.specs.Names.{is_program, is_predeclared, program_named}
 use Rattle.il_rules.specs.Written.{IsWritten}
-use Rattle.il_run.specs.NameMap.{Text}
+use Rattle.il_table.specs.NameMap.{Text}
 use Rattle.il_run.specs.Scan.{program_of}
 use Rattle.il_scope.specs.Views.{program_number}
 use Rattle.il_scope.proofs.Filled.{take_next, take_all}

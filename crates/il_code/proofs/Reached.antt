@@ -17,7 +17,7 @@ use Rattle.il_spec.specs.declared.tree.Config.{Config}
 use Rattle.il_rules.specs.Declarations.{names_of_units}
 use Rattle.il_rules.specs.Faults.{HasNoFault, BreaksDeclarations}
 use Rattle.il_rules.specs.Names.{is_one_of, is_predeclared, unit_named}
-use Rattle.il_run.specs.NameMap.{Text}
+use Rattle.il_table.specs.NameMap.{Text}
 use Rattle.il_run.specs.Meaning.{Entity, entities, own_entities}
 use Rattle.il_run.specs.Scan.{block_names, invoked_names, used_names, found_units, used_units}
 use Rattle.il_scope.specs.Views.{place_of, unit_number}

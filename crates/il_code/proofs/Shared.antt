@@ -6,7 +6,7 @@ use Rattle.il_spec.specs.declared.tree.Declaration.{Declaration}
 use Rattle.il_spec.specs.declared.tree.Named.{Named}
 use Rattle.il_rules.specs.Faults.{Broken, Declaring, HasNoFault}
 use Rattle.il_rules.specs.Written.{IsWritten}
-use Rattle.il_run.specs.NameMap.{Text}
+use Rattle.il_table.specs.NameMap.{Text}
 use Rattle.il_run.specs.Meaning.{Entity, entities, block_entities}
 use Rattle.il_sound.proofs.Lists.{at_head, in_tail}
 use Rattle.il_slots.specs.Cells.{HasShort}

@@ -1,7 +1,7 @@
 // The slots of tasks.
 
 ghost use Rattle.std.specs.Prelude.{◌≡◌, option_map, codes, IfOk};
-ghost use Rattle.il_run.specs.NameMap as map;
+ghost use Rattle.il_table.specs.NameMap as map;
 ghost use Rattle.il_slots.specs.Flattened.{place_or_zero};
 ghost use Rattle.il_code.specs.Laying.{laid_task};
 ghost use Rattle.il_slots.specs.Paths.{slot_at, path_at};

@@ -5,7 +5,7 @@ use Rattle.std.specs.Prelude.{flat_map}
 use Rattle.il_spec.specs.declared.tree.Place.{Place}
 use Rattle.il_spec.specs.declared.tree.Named.{Named}
 use Rattle.il_spec.specs.declared.tree.Declaration.{Declaration}
-use Rattle.il_run.specs.NameMap.{get, insert, empty, get-empty}
+use Rattle.il_table.specs.NameMap.{get, insert, empty, get-empty}
 use Rattle.il_rules.specs.Names.{Spelling, is_one_of}
 use Rattle.il_rules.specs.Declarations.{IsAgain, names_in}
 use Rattle.il_found.specs.Least.{NumberedFault, fault_of, earlier_of, IsLeast, When, Either}

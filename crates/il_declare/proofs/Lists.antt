@@ -3,7 +3,7 @@ use Rattle.std.proofs.Common.{◌≡◌, ℕ, zero, suc, ◌+◌, ◌<◌, Bool,
 use Rattle.std.specs.Prelude.{Contains}
 use Rattle.std.proofs.lemmas.List.{map-append}
 use Rattle.std.proofs.lemmas.Slice.Eq.{bytes_eq-Decides}
-use Rattle.il_run.specs.NameMap.{NameMap, get, insert, empty, get-empty}
+use Rattle.il_table.specs.NameMap.{NameMap, get, insert, empty, get-empty}
 use Rattle.il_rules.specs.Names.{Spelling, is_one_of}
 use Rattle.il_scope.proofs.Filled.{get-inserted, take_next}
 use Rattle.il_declare.specs.TaskRules.{IsSet}

@@ -4,7 +4,7 @@ use Rattle.std.specs.Prelude.{Contains, ℤ}
 use Rattle.il_spec.specs.declared.tree.Config.{Config}
 use Rattle.il_spec.specs.declared.tree.ProgramLine.{ProgramLine}
 use Rattle.il_spec.specs.declared.tree.Unit.{Unit as ProgramUnit}
-use Rattle.il_run.specs.NameMap.{NameMap, get}
+use Rattle.il_table.specs.NameMap.{NameMap, get}
 use Rattle.il_rules.specs.Names as rule
 use Rattle.il_rules.specs.Names.{Spelling, is_one_of, CarRole, GroupRole, is_program, program_named, program_role, task_role}
 use Rattle.il_rules.specs.Declarations.{names_of_tasks}

@@ -2,7 +2,7 @@
 use Rattle.std.specs.Prelude.{◌⊎◌, ℕ, IsTrue, List, [], ◌∷◌, map, is_some}
 use Rattle.il_spec.specs.declared.tree.Named.{Named}
 use Rattle.il_spec.specs.declared.tree.Place.{Place}
-use Rattle.il_run.specs.NameMap.{NameMap, get, insert}
+use Rattle.il_table.specs.NameMap.{NameMap, get, insert}
 use Rattle.il_rules.specs.Names.{Spelling}
 use Rattle.il_found.specs.Least.{When}
 

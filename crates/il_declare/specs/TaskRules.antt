@@ -5,7 +5,7 @@ use Rattle.il_spec.specs.declared.tree.Unit.{Unit as ProgramUnit}
 use Rattle.il_spec.specs.declared.tree.Task.{Task}
 use Rattle.il_spec.specs.declared.tree.ProgramLine.{ProgramLine}
 use Rattle.il_spec.specs.declared.tree.Place.{Place}
-use Rattle.il_run.specs.NameMap.{NameMap, get}
+use Rattle.il_table.specs.NameMap.{NameMap, get}
 use Rattle.il_rules.specs.Names as rule
 use Rattle.il_rules.specs.Names.{Spelling, is_one_of, is_program, program_named, program_role, task_role}
 use Rattle.il_rules.specs.Declarations.{names_of_tasks}

@@ -1,7 +1,7 @@
 // Names that are declared again (IEC 61131-3:2003, 2.4.3, 2.5, 2.7).
 
 ghost use Rattle.std.specs.Prelude.{◌≡◌, IfOk, OnOk, OnErr, is_some, flat_map};
-ghost use Rattle.il_run.specs.NameMap as table;
+ghost use Rattle.il_table.specs.NameMap as table;
 ghost use Rattle.il_rules.specs.Declarations.{names_in, unit_names, labels_of};
 ghost use Rattle.il_found.specs.Least.{IsLeast};
 ghost use Rattle.il_declare.specs.Again.{AgainFrom, NamedAgain, after};

@@ -2,6 +2,7 @@
 
 ghost use Rattle.std.specs.Prelude.{◌≡◌};
 ghost use Rattle.il_rules.specs.Faults.{HasNoFault, BreaksDeclarations};
+ghost use Rattle.il_rules.specs.Written.{IsWritten, HasFewInstructions, IsNested};
 
 use il_scope::Scoped;
 use il_spec::tree::Config;
@@ -36,17 +37,12 @@ impl Declared {
     /// The configuration.
     pub fn config(&self) -> &Config
         ensures is { result.now ≡ self.now }
+        ensures written { IsWritten self.now }
+        ensures few { HasFewInstructions self.now }
+        ensures nested { IsNested self.now }
         ensures declared { HasNoFault (BreaksDeclarations self.now) }
     {
-        self.scoped.config()
-    }
-
-    /// The configuration, without what its names mean.
-    pub fn into_config(self) -> Config
-        ensures is { result ≡ self }
-        ensures declared { HasNoFault (BreaksDeclarations self) }
-    {
-        self.scoped.into_config()
+        self.scoped.written().tree()
     }
 
     /// What its names mean.

@@ -23,19 +23,19 @@ use crate::whole::declared_fault;
 pub use declared::Declared;
 pub use fault::DeclareFault;
 use il_found::refusal;
+use il_rules::Written;
 use il_scope::Scoped;
 use il_spec::fault::Refusal;
-use il_spec::tree::Config;
 use std::alloc::Global;
 
-/// Checks the declarations of a configuration (20 to 25), and finds what its names mean.
+/// Checks the declarations of a configuration as a text spells it (20 to 25), and finds what its names mean.
 /// Of the faults the one at the earliest place is named, at one place the one with the lowest number.
-pub fn declare(alloc: Global, config: Config) -> Result<Declared, Refusal>
-    ensures same { IfOk result (λ d. d ≡ config) }
-    ensures accepted { IfOk result (λ _. HasNoFault (BreaksDeclarations config)) }
-    ensures refused { IfErr result (IsRefusedBy (BreaksDeclarations config)) }
+pub fn declare(alloc: Global, written: Written) -> Result<Declared, Refusal>
+    ensures same { IfOk result (λ d. d ≡ written) }
+    ensures accepted { IfOk result (λ _. HasNoFault (BreaksDeclarations written)) }
+    ensures refused { IfErr result (IsRefusedBy (BreaksDeclarations written)) }
 {
-    let scoped = Scoped::of(alloc, config)?;
+    let scoped = Scoped::of(alloc, written)?;
     check(alloc, &scoped)?;
     Ok(Declared::of(scoped))
 }

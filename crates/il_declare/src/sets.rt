@@ -1,7 +1,7 @@
 // Sets of names.
 
 ghost use Rattle.std.specs.Prelude.{◌≡◌, IfOk, is_some, map};
-ghost use Rattle.il_run.specs.NameMap as table;
+ghost use Rattle.il_table.specs.NameMap as table;
 ghost use Rattle.il_declare.specs.TaskRules.{IsSet};
 
 use il_spec::tree::{ProgramLine, Task};

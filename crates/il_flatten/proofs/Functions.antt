@@ -9,7 +9,7 @@ use Rattle.il_spec.specs.declared.tree.Form.TheVariants.{Scalar as ScalarForm, A
 use Rattle.il_spec.specs.declared.tree.UnitKind.TheVariants.{Function}
 use Rattle.il_spec.specs.declared.tree.Unit.{Unit as ProgramUnit}
 use Rattle.il_spec.specs.declared.tree.Config.{Config}
-use Rattle.il_run.specs.NameMap.{Text}
+use Rattle.il_table.specs.NameMap.{Text}
 use Rattle.il_run.specs.Meaning.{Entity, entities, under, values_at, instance_values, entity_values}
 use Rattle.il_rules.specs.Names.{function_named, named_forms, is_function, is_function_kind}
 use Rattle.il_scope.specs.Views.{type_of}

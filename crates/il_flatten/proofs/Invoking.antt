@@ -10,7 +10,7 @@ use Rattle.il_spec.specs.declared.tree.Form.{Form}
 use Rattle.il_spec.specs.declared.tree.Form.TheVariants.{Scalar as ScalarForm, Array as ArrayForm, Block as BlockForm}
 use Rattle.il_rules.specs.Names as rule
 use Rattle.il_rules.specs.Names.{named_forms, standard_function, function_named, is_function}
-use Rattle.il_run.specs.NameMap.{Text, get}
+use Rattle.il_table.specs.NameMap.{Text, get}
 use Rattle.il_run.specs.Meaning.{Entity, entities, denotation}
 use Rattle.il_run.specs.Step.{rest_of}
 use Rattle.il_sound.proofs.Fresh.{entity}

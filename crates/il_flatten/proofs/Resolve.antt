@@ -19,7 +19,7 @@ use Rattle.il_spec.specs.declared.tree.Config.{Config}
 use Rattle.il_rules.specs.Names as rule
 use Rattle.il_rules.specs.Names.{or_else, entry_of, BlockVariables, block_variables, Meaning, MeansVariable, MeansUnit, MeansStandard, meaning, meant_variable, form_named}
 use Rattle.il_rules.specs.Declarations.{is_within}
-use Rattle.il_run.specs.NameMap.{NameMap, Text, get}
+use Rattle.il_table.specs.NameMap.{NameMap, Text, get}
 use Rattle.il_run.specs.Meaning.{Entity, width, block_entities, inputs_of, outputs_of, direct, element_of, indexed_by, inside, member_of, denotation}
 use Rattle.il_scope.specs.declared.entry.Binding.{Binding}
 use Rattle.il_scope.specs.declared.entry.VariableType.{VariableType}

@@ -12,7 +12,7 @@ use Rattle.il_spec.specs.declared.tree.Unit.{Unit as ProgramUnit}
 use Rattle.il_spec.specs.declared.tree.Config.{Config}
 use Rattle.il_rules.specs.Names.{or_else, entry_of, form_named}
 use Rattle.il_rules.specs.Declarations.{is_within}
-use Rattle.il_run.specs.NameMap.{Text, get}
+use Rattle.il_table.specs.NameMap.{Text, get}
 use Rattle.il_run.specs.Meaning.{width, natural, Constant, entities, initial_value}
 use Rattle.il_scope.specs.declared.entry.StandardFunction.{StandardFunction}
 use Rattle.il_scope.specs.declared.entry.StandardFunction.TheVariants.{Absolute, Minimum, Maximum, Limited, Selected, Converted}

@@ -3,7 +3,7 @@
 ghost use Rattle.std.specs.Prelude.{◌≡◌, ◌++◌, ◌∷◌, [], IfOk, option_map};
 ghost use Rattle.il_rules.specs.Names.{Spelling};
 ghost use Rattle.il_rules.specs.Types.{label_place};
-ghost use Rattle.il_run.specs.NameMap as map;
+ghost use Rattle.il_table.specs.NameMap as map;
 ghost use Rattle.il_run.specs.Meaning.{natural, denotation, Constant};
 ghost use Rattle.il_slots.specs.Flattened.{typed, operand_of, place_or_zero, flat, flat_code};
 ghost use Rattle.il_slots.specs.Program.{program_names};

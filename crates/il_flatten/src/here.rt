@@ -2,7 +2,7 @@
 
 ghost use Rattle.std.specs.Prelude.{◌≡◌, Some, IfOk, option_map, option_and_then, slice_get};
 ghost use Rattle.il_rules.specs.Names.{entry_of, form_named};
-ghost use Rattle.il_run.specs.NameMap as map;
+ghost use Rattle.il_table.specs.NameMap as map;
 ghost use Rattle.il_scope.specs.Views.{type_of, variables_of_block};
 ghost use Rattle.il_slots.specs.Making.{IsChecked, all_offsets, unit_offsets};
 ghost use Rattle.il_flatten.specs.Resolving.{declared_by, known, known_by, word_offset, input_known, output_known, function_known, unit_inputs, IsSmall};

@@ -313,7 +313,7 @@ types_place c n p (unreached e h) = unreached_place c p h
 
 order_place : (c : Config) → BreaksAtPlaces c (λ n p. BreaksOrder c n p)
 order_place c n p (recursive e (reaches_itself u h r is)) = at_heading c u p h is
-order_place c n p (long_chain e (chain_too_long u chain h free is once long at)) = at_heading c u p h at
+order_place c n p (long_chain e (chain_too_long u chain h is once long at)) = at_heading c u p h at
 order_place c n p (too_many_slots e (of_task l u functions h program are many at)) = at_line c l p h at
 order_place c n p (too_many_slots e (of_globals many at)) = at_word c p at
 

@@ -13,7 +13,7 @@ use Rattle.il_spec.specs.declared.tree.Condition.TheVariants.{Always, WhenTrue, 
 use Rattle.il_spec.specs.declared.tree.Instruction.{Instruction}
 use Rattle.il_spec.specs.declared.tree.Instruction.TheVariants.{Jump}
 use Rattle.il_rules.specs.Types.{label_place}
-use Rattle.il_run.specs.NameMap.{NameMap, Text, order, get, insert, get-insert}
+use Rattle.il_table.specs.NameMap.{NameMap, Text, order, get, insert, get-insert}
 use Rattle.il_run.specs.Tests.{Test, test_at}
 use Rattle.il_run.specs.declared.known.KnownDeferred.{KnownDeferred}
 use Rattle.il_run.specs.Annotation.{acts_at, narrowed, narrowed_by, WithSide, IsJumped, IsPassed, Knowledge, knowledge, Annotation, Spot, Passes, Leads, LeadsTo, GoesOn, MayPass, HasCondition, IsPart, IsVariableWithin, IsResultWithin, result_at_target}

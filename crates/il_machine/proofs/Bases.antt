@@ -1,7 +1,7 @@
 -- The name of a path, byte by byte.
 use Rattle.std.proofs.Common.{◌≡◌, ◌<◌, ℕ, zero, suc, [], ◌∷◌, ◌++◌, take, drop, length, get_or, ap, arith}
 use Rattle.std.specs.Prelude.{◌==◌, if◌then◌else◌}
-use Rattle.il_run.specs.NameMap.{Text}
+use Rattle.il_table.specs.NameMap.{Text}
 use Rattle.il_machine.specs.Sharing.{base_name}
 
 -- at the index the name ends

@@ -9,7 +9,7 @@ use Rattle.std.proofs.lemmas.Slice.Eq.{bytes_eq-Decides}
 use Rattle.il_rules.specs.Declarations.{declared_limits}
 use Rattle.il_rules.specs.Names.{or_else}
 use Rattle.il_run.specs.declared.value.Value.{Value}
-use Rattle.il_run.specs.NameMap.{Text, order, get, with_entries, get-insert, same_map}
+use Rattle.il_table.specs.NameMap.{Text, order, get, with_entries, get-insert, same_map}
 use Rattle.il_run.specs.State.{Values}
 use Rattle.il_run.specs.Scan.{entries_at}
 use Rattle.il_sound.proofs.Lists.{at_head, in_tail}

@@ -16,7 +16,7 @@ use Rattle.il_rules.specs.Declarations.{declared_limits}
 use Rattle.il_rules.specs.Names.{ImageName, Role, CarRole, GroupRole, image_of, is_program, is_seen_by, program_role}
 use Rattle.il_run.specs.declared.value.Value.{Value}
 use Rattle.il_run.specs.declared.value.Value.TheVariants.{Boolean, Integer}
-use Rattle.il_run.specs.NameMap.{Text}
+use Rattle.il_table.specs.NameMap.{Text}
 use Rattle.il_run.specs.Values.{IsValueIn}
 use Rattle.il_run.specs.Meaning.{Entity, under, element_path, width, entities}
 use Rattle.il_run.specs.Ranges.{HaveValues, element_scalars, scalars_at, entity_scalars, instance_scalars, external_scalars, global_scalars}

@@ -12,7 +12,7 @@ use Rattle.il_rules.specs.Declarations.{unknown_program}
 use Rattle.il_rules.specs.Faults.{Declaring, Broken, HasNoFault, bad_task}
 use Rattle.il_budget.specs.Costs.{cost_of}
 use Rattle.il_costs.proofs.Accepted.{has_longest}
-use Rattle.il_run.specs.NameMap.{Text}
+use Rattle.il_table.specs.NameMap.{Text}
 use Rattle.il_run.specs.Scan.{program_of as program_by}
 use Rattle.il_run.specs.Paths.{IsLongest, longest}
 use Rattle.il_sound.proofs.Lists.{found_in}

@@ -31,7 +31,7 @@ use Rattle.il_spec.specs.declared.tree.Config.{Config}
 use Rattle.il_spec.specs.Grammar.{depth_after, greatest_depth}
 use Rattle.il_rules.specs.Names.{entry_of, StandardBlock, standard_block, named_forms, StandardFunction, Absolute, Minimum, Maximum, Limited, Selected, Converted, standard_function, unit_named, function_named, function_block_named, form_named}
 use Rattle.il_rules.specs.Types.{label_place}
-use Rattle.il_run.specs.NameMap.{Text, get, insert, with_entries}
+use Rattle.il_table.specs.NameMap.{Text, get, insert, with_entries}
 use Rattle.il_run.specs.Values.{is_of}
 use Rattle.il_rules.specs.Declarations.{is_within}
 use Rattle.il_spec.specs.ElementaryTypes.{is_whole, is_same_type}
@@ -47,7 +47,8 @@ use Rattle.il_run.specs.Annotation.{Knowledge, Passes}
 use Rattle.il_sound.specs.Agreement.{Agrees, FramesAgree, AreKnown, FrameAgrees}
 use Rattle.il_exec.specs.Framing.{HasRoom}
 use Rattle.il_spec.specs.declared.tree.Named.{Named}
-use Rattle.il_machine.specs.Nesting.{open_at, IsNested, IsNestedFrame, AreNested}
+use Rattle.il_rules.specs.Written.{IsNested}
+use Rattle.il_machine.specs.Nesting.{open_at, IsNestedFrame, AreNested}
 
 -- OPEN PARENTHESES
 

@@ -9,7 +9,7 @@ use Rattle.il_spec.specs.declared.tree.Unit.{Unit as ProgramUnit}
 use Rattle.il_rules.specs.Names.{within}
 use Rattle.il_run.specs.declared.value.Value.{Value}
 use Rattle.il_run.specs.declared.value.Value.TheVariants.{Boolean, Integer}
-use Rattle.il_run.specs.NameMap.{Text, get}
+use Rattle.il_table.specs.NameMap.{Text, get}
 use Rattle.il_run.specs.Values.{IsOf}
 use Rattle.il_run.specs.State.{State, Values}
 use Rattle.il_run.specs.Meaning.{element_path, width}

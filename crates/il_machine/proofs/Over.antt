@@ -7,7 +7,7 @@ use Rattle.std.specs.FinMap.Entries.{find}
 use Rattle.il_rules.specs.Names.{or_else}
 use Rattle.il_rules.specs.Declarations.{declared_limits}
 use Rattle.il_run.specs.declared.value.Value.{Value}
-use Rattle.il_run.specs.NameMap.{Text, order, get, insert, empty, from_entries, with_entries, get-empty, get-insert, same_map}
+use Rattle.il_table.specs.NameMap.{Text, order, get, insert, empty, from_entries, with_entries, get-empty, get-insert, same_map}
 use Rattle.il_run.specs.State.{Values}
 use Rattle.il_run.specs.Scan.{entries_at, restricted}
 use Rattle.il_table.specs.ByText.{HaveSameNames}

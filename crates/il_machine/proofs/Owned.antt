@@ -9,7 +9,7 @@ use Rattle.il_spec.specs.declared.tree.UnitKind.{UnitKind}
 use Rattle.il_spec.specs.declared.tree.UnitKind.TheVariants.{Function, FunctionBlock, Program}
 use Rattle.il_rules.specs.Names.{is_function, is_function_kind, or_else}
 use Rattle.il_run.specs.declared.value.Value.{Value}
-use Rattle.il_run.specs.NameMap.{Text, get}
+use Rattle.il_table.specs.NameMap.{Text, get}
 use Rattle.il_run.specs.State.{Values}
 use Rattle.il_run.specs.Scan.{function_values, opening_variables}
 use Rattle.il_run.specs.Meaning.{own_entities, depth, block_entities, instance_values, entity_values, fresh_values}

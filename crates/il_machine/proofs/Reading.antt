@@ -5,7 +5,7 @@ use Rattle.std.specs.Ordering.{eq_by_cmp}
 use Rattle.std.proofs.lemmas.Slice.Eq.{bytes_eq-Decides}
 use Rattle.il_rules.specs.Declarations.{declared_limits}
 use Rattle.il_run.specs.declared.value.Value.{Value}
-use Rattle.il_run.specs.NameMap.{Text, order, get, get-empty, get-insert}
+use Rattle.il_table.specs.NameMap.{Text, order, get, get-empty, get-insert}
 use Rattle.il_table.proofs.Copies.{same_text}
 use Rattle.il_slots.specs.declared.flat.Cell.{Cell}
 use Rattle.il_slots.specs.Layout.{Rows, rows, view_of, value_by}

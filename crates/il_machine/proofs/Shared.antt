@@ -18,7 +18,7 @@ use Rattle.il_rules.specs.Declarations.{declared_limits}
 use Rattle.il_rules.specs.Faults.{HasNoFault, Broken, Declaring}
 use Rattle.il_rules.specs.Written.{IsWritten}
 use Rattle.il_run.specs.declared.value.Value.{Value}
-use Rattle.il_run.specs.NameMap.{Text, order, get, from_entries, with_entries, get-insert, same_map}
+use Rattle.il_table.specs.NameMap.{Text, order, get, from_entries, with_entries, get-insert, same_map}
 use Rattle.il_run.specs.Values.{IsOf}
 use Rattle.il_run.specs.State.{Values}
 use Rattle.il_run.specs.Meaning.{Entity, under, element_path, width, entities, own_entities}

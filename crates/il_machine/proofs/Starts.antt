@@ -7,7 +7,7 @@ use Rattle.il_spec.specs.declared.tree.Config.{Config}
 use Rattle.il_spec.specs.declared.tree.Unit.{Unit as ProgramUnit}
 use Rattle.il_rules.specs.Names.{unit_named}
 use Rattle.il_run.specs.declared.value.Value.{Value}
-use Rattle.il_run.specs.NameMap.{Text, from_entries}
+use Rattle.il_table.specs.NameMap.{Text, from_entries}
 use Rattle.il_run.specs.Ranges.{HaveValues, HoldsTask, task_scalars, external_scalars}
 use Rattle.il_run.specs.Scan.{begins}
 use Rattle.il_sound.specs.Accepted.{IsAccepted}

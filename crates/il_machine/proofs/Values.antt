@@ -7,7 +7,7 @@ use Rattle.il_spec.specs.declared.tree.Unit.{Unit as ProgramUnit}
 use Rattle.il_rules.specs.Declarations.{declared_limits}
 use Rattle.il_run.specs.declared.value.Content.{Content}
 use Rattle.il_run.specs.declared.value.Value.{Value}
-use Rattle.il_run.specs.NameMap.{Text, get, insert, empty}
+use Rattle.il_table.specs.NameMap.{Text, get, insert, empty}
 use Rattle.il_run.specs.State.{Values, Frame, State}
 use Rattle.il_run.specs.Scan.{begins}
 use Rattle.il_slots.specs.declared.flat.Cell.{Cell}

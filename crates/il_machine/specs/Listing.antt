@@ -8,7 +8,7 @@ use Rattle.il_spec.specs.declared.tree.ProgramLine.{ProgramLine}
 use Rattle.il_budget.specs.declared.units.UnitCost.{UnitCost}
 use Rattle.il_machine.specs.declared.verified.UnitInfo.{UnitInfo}
 use Rattle.il_machine.specs.declared.verified.TaskInfo.{TaskInfo}
-use Rattle.il_run.specs.NameMap.{Text}
+use Rattle.il_table.specs.NameMap.{Text}
 use Rattle.il_run.specs.Paths.{IsLongest}
 use Rattle.lift_spec.specs.Snapshot.{task_name, program_of}
 use Rattle.il_machine.specs.Scanning.{Program}

@@ -13,10 +13,6 @@ open_at depth [] place = depth
 open_at depth (s ∷ steps) zero = depth
 open_at depth (s ∷ steps) (suc place) = open_at (depth_after depth s.instruction) steps place
 
--- in no body more than 16 are open at once: the limit of a text (own rule)
-abbrev pub IsNested : Config → Type 0
-IsNested c = All (λ (u : ProgramUnit). greatest_depth 0 u.body.steps ≤ 16) c.units
-
 -- a frame has set aside no more operations than parentheses are open at its place
 abbrev pub IsNestedFrame : Config → Frame → Type 0
 IsNestedFrame c f = (u : ProgramUnit) → unit_named c f.unit ≡ Some u → length f.deferred ≤ open_at 0 u.body.steps f.place

@@ -5,11 +5,11 @@ use Rattle.il_spec.specs.contracts.tree.Config as config
 use Rattle.il_spec.specs.declared.tree.Config.{Config}
 use Rattle.il_spec.specs.declared.tree.Unit.{Unit as ProgramUnit}
 use Rattle.il_rules.specs.Faults.{Declaring, Typing, Ordering, Broken, HasNoFault}
-use Rattle.il_rules.specs.Written.{IsWritten}
+use Rattle.il_rules.specs.Written.{IsWritten, IsNested}
 use Rattle.il_budget.specs.contracts.units.UnitCost as unit_cost
 use Rattle.il_budget.specs.declared.units.UnitCost.{UnitCost}
 use Rattle.il_run.specs.declared.value.Content.{Content}
-use Rattle.il_run.specs.NameMap.{empty, with_entries}
+use Rattle.il_table.specs.NameMap.{empty, with_entries}
 use Rattle.il_run.specs.State.{Values, Frame, State}
 use Rattle.il_run.specs.Annotation.{Annotated}
 use Rattle.il_run.specs.Paths.{longest}
@@ -25,7 +25,7 @@ use Rattle.il_exec.specs.Going.{Stored}
 use Rattle.il_exec.specs.Framing.{framed, all_frames, state_by, IsFramedScan}
 use Rattle.lift_spec.specs.Snapshot.{program_of}
 use Rattle.lift_sound.specs.Tasks.{IsTaskOf}
-use Rattle.il_machine.specs.Nesting.{IsNested, AreNested}
+use Rattle.il_machine.specs.Nesting.{AreNested}
 
 -- A verified configuration as contracts see it: the tree, and what each unit costs.
 pub record Program : Type 0 where

@@ -5,7 +5,7 @@ use Rattle.il_spec.specs.declared.tree.Step.{Step}
 use Rattle.il_spec.specs.declared.tree.Unit.{Unit as ProgramUnit}
 use Rattle.il_rules.specs.Names.{is_one_of}
 use Rattle.il_rules.specs.Types.{stored_names}
-use Rattle.il_run.specs.NameMap.{Text}
+use Rattle.il_table.specs.NameMap.{Text}
 use Rattle.il_run.specs.State.{Values}
 use Rattle.il_run.specs.Meaning.{entities}
 use Rattle.il_run.specs.Scan.{program_of as line_program}

@@ -1,7 +1,7 @@
 // What a scan leaves of its outputs: the wishes of a car, and the cars that the group assigns.
 
 ghost use Rattle.std.specs.Prelude.{◌≡◌, ◌≤◌, ◌≤ℤ◌, pos, nat_abs, codes};
-ghost use Rattle.il_run.specs.NameMap.{get};
+ghost use Rattle.il_table.specs.NameMap.{get};
 ghost use Rattle.lift_spec.specs.Image.{sizes_of};
 ghost use Rattle.lift_spec.specs.Snapshot.{whole_of, truth_of, motor_of, wishes_of, assigned};
 ghost use Rattle.il_machine.specs.Scanning.{state_of, kept_of, value_at, IsScanOf};

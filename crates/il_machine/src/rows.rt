@@ -1,7 +1,7 @@
 // Parts of rows, and the variables that they hold.
 
 ghost use Rattle.std.specs.Prelude.{◌≡◌, ◌+◌, ◌<◌, ◌≤◌, ◌++◌, IfOk, length, take, drop};
-ghost use Rattle.il_run.specs.NameMap.{get};
+ghost use Rattle.il_table.specs.NameMap.{get};
 ghost use Rattle.il_slots.specs.Layout.{rows};
 ghost use Rattle.il_machine.specs.Scanning.{front, value_at, variables_in, FitsOwn};
 

@@ -2,6 +2,7 @@
 
 ghost use Rattle.std.specs.Prelude.{◌≡◌};
 ghost use Rattle.il_rules.specs.Faults.{Broken, Typing, Ordering, HasNoFault, BreaksDeclarations};
+ghost use Rattle.il_rules.specs.Written.{IsWritten, HasFewInstructions, IsNested};
 
 use il_scope::Scoped;
 use il_spec::tree::Config;
@@ -37,21 +38,14 @@ impl Ordered {
     /// The configuration.
     pub fn config(&self) -> &Config
         ensures is { result.now ≡ self.now }
+        ensures written { IsWritten self.now }
+        ensures few { HasFewInstructions self.now }
+        ensures nested { IsNested self.now }
         ensures declared { HasNoFault (BreaksDeclarations self.now) }
         ensures typed { HasNoFault (Broken Typing self.now) }
         ensures ordered { HasNoFault (Broken Ordering self.now) }
     {
         self.typed.config()
-    }
-
-    /// The configuration, without what its names mean.
-    pub fn into_config(self) -> Config
-        ensures is { result ≡ self }
-        ensures declared { HasNoFault (BreaksDeclarations self) }
-        ensures typed { HasNoFault (Broken Typing self) }
-        ensures ordered { HasNoFault (Broken Ordering self) }
-    {
-        self.typed.into_config()
     }
 
     /// What its names mean.

@@ -1,10 +1,9 @@
 -- Which answer refuses a text, and the limits of a tree.
-use Rattle.std.specs.Prelude.{◌≤◌, Result, Ok, Err, All, length}
+use Rattle.std.specs.Prelude.{◌≤◌, Result, Ok, Err, length}
 use Rattle.il_spec.specs.declared.fault.Refusal.{Refusal}
 use Rattle.il_spec.specs.declared.fault.Refusal.TheVariants as refusal
-use Rattle.il_spec.specs.declared.tree.Unit.{Unit as ProgramUnit}
 use Rattle.il_spec.specs.declared.tree.Config.{Config}
-use Rattle.il_spec.specs.Grammar.{greatest_depth}
+use Rattle.il_rules.specs.Written.{HasFewInstructions, IsNested}
 use Rattle.il_read.specs.Reads.{IsNumberOfParser}
 
 -- a fault, and not out of memory
@@ -18,12 +17,8 @@ abbrev pub IsOfParser : Refusal → Type 0
 IsOfParser (refusal.Fault number line) = IsNumberOfParser number
 IsOfParser refusal.Memory = Unit {0}
 
--- no more than 4096 instructions in each unit
-abbrev pub HasFewInstructions : Config → Type 0
-HasFewInstructions c = All (λ (u : ProgramUnit). length u.body.steps ≤ 4096) c.units
-
 -- the limits of a text but that of its bytes
 pub record IsSmall (c : Config) : Type 0 where
   pub units : length c.units ≤ 64
   pub instructions : HasFewInstructions c
-  pub nesting : All (λ (u : ProgramUnit). greatest_depth 0 u.body.steps ≤ 16) c.units
+  pub nesting : IsNested c

@@ -14,9 +14,10 @@ mod units;
 
 use configuration::configuration;
 use il_read::{Source, Stop, Tokens};
+pub use il_rules::Written;
 pub use il_spec::fault::Refusal;
 pub use il_spec::token::Token;
-pub use il_spec::tree::Config;
+use il_spec::tree::Config;
 use std::alloc::Global;
 
 /// The configuration that the tokens of a text spell.
@@ -24,7 +25,7 @@ use std::alloc::Global;
 /// Fault 10 stands at the first token with which no text goes on; at the end of the text its line is one more than the line
 /// feeds. Fault 11 stands at the 17th parenthesis that is open at once, and fault 12 at the 65th unit and at the operator of a
 /// unit's 4097th instruction.
-pub fn parse(alloc: Global, text: &[u8], tokens: &[Token]) -> Result<Config, Refusal>
+pub fn parse(alloc: Global, text: &[u8], tokens: &[Token]) -> Result<Written, Refusal>
     requires { AreTokens text.now 0 tokens.now }
     // What is read is spelled so.
     ensures found { IfOk result (λ c. AfterLines (SpellsConfig text.now c) tokens.now []) }
@@ -44,7 +45,7 @@ pub fn parse(alloc: Global, text: &[u8], tokens: &[Token]) -> Result<Config, Ref
     ensures only { IfOk result (λ c. (d : Config) → AfterLines (SpellsConfig text.now d) tokens.now [] → d ≡ c) }
 {
     match read(alloc, text, tokens) {
-        Ok(config) => Ok(config),
+        Ok(tree) => Ok(Written::of(tree)),
         Err(Stop::Memory) => Err(Refusal::Memory),
         Err(Stop::Fault { flaw, line }) => Err(Refusal::Fault {
             number: flaw.number(),

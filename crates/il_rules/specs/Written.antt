@@ -1,5 +1,5 @@
 -- What the grammar gives of each tree that a text spells, as far as the rules and their laws ask for it.
-use Rattle.std.specs.Prelude.{◌≡◌, ◌≢◌, ℤ, false, IsTrue, [], Some, Contains}
+use Rattle.std.specs.Prelude.{◌≡◌, ◌≢◌, ◌≤◌, ℤ, false, IsTrue, [], Some, Contains, All, length}
 use Rattle.il_spec.specs.declared.tree.Config.{Config}
 use Rattle.il_spec.specs.declared.tree.Unit.{Unit as ProgramUnit}
 use Rattle.il_spec.specs.declared.tree.Declaration.{Declaration}
@@ -8,6 +8,7 @@ use Rattle.il_spec.specs.declared.tree.Named.{Named}
 use Rattle.il_spec.specs.declared.tree.Elementary.{Elementary}
 use Rattle.il_spec.specs.declared.tree.Literal.TheVariants.{Whole}
 use Rattle.il_spec.specs.ElementaryTypes.{is_whole}
+use Rattle.il_spec.specs.Grammar.{greatest_depth}
 use Rattle.il_rules.specs.Names.{Spelling, is_program}
 use Rattle.il_rules.specs.Declarations.{unit_names, names_in, all_declarations}
 
@@ -27,3 +28,11 @@ pub record IsWritten (c : Config) : Type 0 where
   pub externals : (u : ProgramUnit) → Contains c.units u → is_program u ≡ false → u.externals ≡ []
   -- the type before a number is a whole one (2.2.1)
   pub literals : (d : Declaration) (i : Initial) (e : Elementary) (z : ℤ) → Contains (all_declarations c) d → d.initial ≡ Some i → i.literal ≡ Whole e z → IsTrue (is_whole e)
+
+-- no more than 4096 instructions in each unit: a limit of a text (own rule)
+abbrev pub HasFewInstructions : Config → Type 0
+HasFewInstructions c = All (λ (u : ProgramUnit). length u.body.steps ≤ 4096) c.units
+
+-- in no body more than 16 parentheses are open at once: a limit of a text (own rule)
+abbrev pub IsNested : Config → Type 0
+IsNested c = All (λ (u : ProgramUnit). greatest_depth 0 u.body.steps ≤ 16) c.units

@@ -12,7 +12,7 @@ use Rattle.il_spec.specs.declared.tree.Declaration.{Declaration}
 use Rattle.il_spec.specs.declared.tree.ProgramLine.{ProgramLine}
 use Rattle.il_spec.specs.declared.tree.Named.{Named}
 use Rattle.il_spec.specs.declared.tree.Form.{Form}
-use Rattle.il_run.specs.NameMap.{NameMap, get, insert, get-insert, empty, get-empty}
+use Rattle.il_table.specs.NameMap.{NameMap, get, insert, get-insert, empty, get-empty}
 use Rattle.il_rules.specs.Names.{Spelling, or_else, entry_of, is_one_of, named_forms, program_role, role_from, task_role}
 use Rattle.il_rules.specs.Names as rule
 use Rattle.il_scope.specs.declared.entry.VariableType.{VariableType}

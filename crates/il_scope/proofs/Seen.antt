@@ -11,7 +11,7 @@ use Rattle.il_spec.specs.declared.tree.Scalar.{Scalar}
 use Rattle.il_spec.specs.declared.tree.Place.{Place}
 use Rattle.il_spec.specs.declared.tree.Form.{Form}
 use Rattle.il_spec.specs.declared.tree.Form.TheVariants.{Scalar as OfScalar}
-use Rattle.il_run.specs.NameMap.{NameMap, get, empty, get-empty}
+use Rattle.il_table.specs.NameMap.{NameMap, get, empty, get-empty}
 use Rattle.il_rules.specs.Names as rule
 use Rattle.il_rules.specs.Names.{Spelling, or_else, entry_of, is_one_of, BlockVariables, own_block_variables, named_forms, with_origin, result_of, variables_of, own_variable, is_predeclared, is_program_kind, is_seen_by, Everybody, CarPrograms, GroupPrograms, CarRole, GroupRole, sees, image_meaning, unit_named, global_meaning, outer_meaning, image_name, program_role, meaning, MeansVariable, MeansUnit, MeansStandard, AsInput, AsOutput, AsVariable, AsExternal}
 use Rattle.il_rules.specs.Declarations.{names_of_units}

@@ -5,7 +5,7 @@ use Rattle.il_spec.specs.declared.tree.Unit.{Unit as ProgramUnit}
 use Rattle.il_spec.specs.declared.tree.ProgramLine.{ProgramLine}
 use Rattle.il_spec.specs.declared.tree.Declaration.{Declaration}
 use Rattle.il_spec.specs.declared.tree.Named.{Named}
-use Rattle.il_run.specs.NameMap.{NameMap, get, insert}
+use Rattle.il_table.specs.NameMap.{NameMap, get, insert}
 use Rattle.il_rules.specs.Names.{Spelling, or_else, entry_of, is_one_of, named_forms, own_variable, image_name, task_role, program_role}
 use Rattle.il_rules.specs.Names as rule
 use Rattle.il_rules.specs.Declarations.{names_of_units}

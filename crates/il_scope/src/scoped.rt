@@ -15,15 +15,25 @@ use crate::meaning::meaning;
 use crate::numbers::{block_type, function_number, program_number};
 use crate::tables::{Tables, tables_of, type_of};
 use crate::words::is_predeclared;
+use il_rules::Written;
 use il_spec::tree::{Config, Form};
 use std::alloc::{AllocError, Global};
 use std::marker::Model;
 
 /// A configuration with what its names mean. Units are named by their numbers, counted from 0.
-#[derive(Drop)]
 pub struct Scoped {
-    config: Config,
+    written: Written,
     tables: Tables,
+}
+
+// Written by hand, since who drops a type whose drop is derived proves the drop of each type inside again.
+impl Drop for Scoped {
+    fn drop(self) {
+        let Scoped {
+            written: _written,
+            tables: _tables,
+        } = self;
+    }
 }
 
 impl Model for Scoped {
@@ -32,39 +42,39 @@ impl Model for Scoped {
 
     ghost Value = { Config };
 
-    ghost view = { λ s. s.config };
+    ghost view = { λ s. s.written };
 
-    ghost invariant = { λ s. AreTables s.config s.tables };
+    ghost invariant = { λ s. AreTables s.written s.tables };
 }
 
 impl Scoped {
     /// Finds what the names of a configuration mean.
-    pub fn of(alloc: Global, config: Config) -> Result<Scoped, AllocError>
-        ensures { IfOk result (λ s. s ≡ config) }
+    pub fn of(alloc: Global, written: Written) -> Result<Scoped, AllocError>
+        ensures { IfOk result (λ s. s ≡ written) }
     {
-        let tables = tables_of(alloc, &config)?;
-        Ok(Scoped { config, tables })
+        let tables = tables_of(alloc, written.tree())?;
+        Ok(Scoped { written, tables })
     }
 
     /// The configuration.
     pub fn config(&self) -> &Config
         ensures { result.now ≡ self.now }
     {
-        &self.config
+        self.written.tree()
     }
 
-    /// The configuration, without its tables.
-    pub fn into_config(self) -> Config
-        ensures { result ≡ self }
+    /// The configuration, as a text can spell it.
+    pub fn written(&self) -> &Written
+        ensures { result.now ≡ self.now }
     {
-        self.config
+        &self.written
     }
 
     /// Whether no text may declare a name again (own rule).
     pub fn is_predeclared(&self, name: &str) -> bool
         ensures { result ≡ is_predeclared self.now name.now }
     {
-        is_predeclared(&self.config, name)
+        is_predeclared(self.written.tree(), name)
     }
 
     /// Whether a unit has a name, predeclared or not.
@@ -78,21 +88,21 @@ impl Scoped {
     pub fn function(&self, name: &str) -> Option<usize>
         ensures { result ≡ function_number self.now name.now }
     {
-        function_number(&self.config, &self.tables.units, name)
+        function_number(self.written.tree(), &self.tables.units, name)
     }
 
     /// The number of the program of a name (2.5.3).
     pub fn program(&self, name: &str) -> Option<usize>
         ensures { result ≡ program_number self.now name.now }
     {
-        program_number(&self.config, &self.tables.units, name)
+        program_number(self.written.tree(), &self.tables.units, name)
     }
 
     /// The block of a name, standard or own (2.5.2).
     pub fn block(&self, name: &str) -> Option<BlockType>
         ensures { result ≡ block_type self.now name.now }
     {
-        block_type(&self.config, &self.tables.units, name)
+        block_type(self.written.tree(), &self.tables.units, name)
     }
 
     /// The role of the program of a name: that of the first PROGRAM line that gives it one (own rule).
@@ -106,7 +116,7 @@ impl Scoped {
     pub fn type_of(&self, form: &Form) -> VariableType
         ensures { result ≡ type_of self.now form.now }
     {
-        type_of(&self.config, &self.tables.units, form)
+        type_of(self.written.tree(), &self.tables.units, form)
     }
 
     /// The type of the first global of a name (2.4.3).
@@ -120,14 +130,14 @@ impl Scoped {
     pub fn meaning(&self, at: usize, name: &str) -> Option<Binding>
         ensures { (unit : ProgramUnit) → slice_get self.now.units at ≡ Some unit → result ≡ option_map (binding_of self.now) (meaning self.now unit name.now) }
     {
-        meaning(&self.config, &self.tables, at, name)
+        meaning(self.written.tree(), &self.tables, at, name)
     }
 
     /// The image name of a row of the table (own rule).
     pub fn image_name(&self, row: &ImageRow) -> ImageName
         ensures { result ≡ image_in self.now row.now }
     {
-        image_in(&self.config, row)
+        image_in(self.written.tree(), row)
     }
 
     /// The type of a block's input by its word (2.5.2).

@@ -2,7 +2,7 @@
 
 ghost use Rattle.std.specs.Prelude.{◌≡◌, IfOk, OnOk, map};
 ghost use Rattle.il_rules.specs.Names.{Spelling, or_else};
-ghost use Rattle.il_run.specs.NameMap as table;
+ghost use Rattle.il_table.specs.NameMap as table;
 ghost use Rattle.il_scope.specs.Views.{place_of, type_of};
 ghost use Rattle.il_scope.specs.Meanings.{own_result};
 ghost use Rattle.il_scope.specs.Tables.{with_new, with_role, AreUnits, HasForms, HasNames, HasRoles, HasList, HasVariables, HasImages, HasOwn, IsScope, AreScopes, AreTables};

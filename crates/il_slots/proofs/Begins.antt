@@ -16,7 +16,7 @@ use Rattle.il_spec.specs.declared.tree.UnitKind.TheVariants.{Function, FunctionB
 use Rattle.il_rules.specs.Names.{StandardBlock, Sr, Rs, RTrig, FTrig, Ctu, Ctd, Ctud, Tp, Ton, Tof, standard_variables}
 use Rattle.il_rules.specs.Declarations.{Admitted, ScalarsAlone, admitted_variables, admits_arrays, result_types, written_types, all_declarations, unit_declarations, type_numbers, bounds_numbers, subrange_numbers, unless, declared_limits}
 use Rattle.il_rules.specs.Faults.{HasNoFault, Broken, Declaring}
-use Rattle.il_run.specs.NameMap.{Text}
+use Rattle.il_table.specs.NameMap.{Text}
 use Rattle.il_run.specs.declared.value.Value.{Value}
 use Rattle.il_run.specs.declared.value.Value.TheVariants.{Boolean, Integer}
 use Rattle.il_run.specs.Values.{IsOf, IsValueIn}

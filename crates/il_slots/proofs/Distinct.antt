@@ -20,7 +20,7 @@ use Rattle.il_rules.specs.Names.{is_program, is_program_kind, ImageName, image_o
 use Rattle.il_rules.specs.Declarations.{Admitted, ScalarsAlone, ScalarsAndArrays, admitted_variables, admits_arrays, types_in, unit_types, written_types, unit_declarations, unit_names, names_in, type_numbers, bounds_numbers, subrange_numbers, unless, has_value, is_within, sizes_of, predeclared_unit, predeclared_variable, second_variable, size_outside}
 use Rattle.il_rules.specs.Faults.{duplicate, initial_outside, HasNoFault, Broken, Declaring}
 use Rattle.il_rules.specs.Written.{IsWord, IsWritten}
-use Rattle.il_run.specs.NameMap.{Text}
+use Rattle.il_table.specs.NameMap.{Text}
 use Rattle.il_run.specs.Meaning.{Entity, entities, own_entities, result_entities, block_entities, standard_entities, width, width_of}
 use Rattle.il_sound.proofs.Lists.{in_nothing, at_head, in_tail, in_map, in_flat_map, AreDistinct, distinct_names}
 use Rattle.il_sound.proofs.Fresh.{entity, of_entities}

@@ -5,7 +5,7 @@ use Rattle.std.proofs.lemmas.Slice.Eq.{bytes_eq-Decides}
 use Rattle.il_spec.specs.declared.tree.Unit.{Unit as ProgramUnit}
 use Rattle.il_spec.specs.declared.tree.Config.{Config}
 use Rattle.il_rules.specs.Names.{is_function, is_one_of}
-use Rattle.il_run.specs.NameMap.{Text}
+use Rattle.il_table.specs.NameMap.{Text}
 use Rattle.il_run.specs.Meaning.{under, depth, block_entities}
 use Rattle.il_run.specs.Scan.{used_units, used_names, found_units}
 use Rattle.il_sound.specs.Agreement.{HasUse, IsStack}

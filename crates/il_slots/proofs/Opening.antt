@@ -7,7 +7,7 @@ use Rattle.il_spec.specs.declared.tree.Form.TheVariants.{Scalar as ScalarForm, A
 use Rattle.il_spec.specs.declared.tree.Config.{Config}
 use Rattle.il_rules.specs.Declarations.{declared_limits}
 use Rattle.il_run.specs.declared.value.Value.{Value}
-use Rattle.il_run.specs.NameMap.{Text, insert, from_entries}
+use Rattle.il_table.specs.NameMap.{Text, insert, from_entries}
 use Rattle.il_run.specs.Meaning.{Entity, under, width, elements, values_at, entity_values, instance_values, initial_value, block_entities}
 use Rattle.il_slots.specs.declared.flat.Cell.{Cell}
 use Rattle.il_slots.specs.Layout.{view, value_by, number_part, flag_part, HasKind}

@@ -9,7 +9,7 @@ use Rattle.il_spec.specs.declared.tree.UnitKind.{UnitKind}
 use Rattle.il_spec.specs.declared.tree.UnitKind.TheVariants.{Function, FunctionBlock, Program}
 use Rattle.il_spec.specs.declared.tree.Config.{Config}
 use Rattle.il_rules.specs.Names.{is_function, is_function_kind}
-use Rattle.il_run.specs.NameMap.{Text, order, get, from_entries, get-empty, get-insert, same_map}
+use Rattle.il_table.specs.NameMap.{Text, order, get, from_entries, get-empty, get-insert, same_map}
 use Rattle.il_run.specs.declared.value.Value.{Value}
 use Rattle.il_run.specs.Scan.{used_units, function_values, opening_variables}
 use Rattle.il_run.specs.Meaning.{own_entities, depth, block_entities, instance_values, entity_values, fresh_values}

@@ -11,7 +11,7 @@ use Rattle.il_spec.specs.declared.tree.Scalar.{Scalar}
 use Rattle.il_spec.specs.declared.tree.Form.{Form}
 use Rattle.il_spec.specs.declared.tree.Form.TheVariants.{Scalar as ScalarForm, Array as ArrayForm, Block as BlockForm}
 use Rattle.il_spec.specs.declared.tree.Config.{Config}
-use Rattle.il_run.specs.NameMap.{Text, order}
+use Rattle.il_table.specs.NameMap.{Text, order}
 use Rattle.il_run.specs.Meaning.{Entity, under, element_path, width, block_entities}
 use Rattle.il_table.proofs.Copies.{same_text}
 use Rattle.il_slots.specs.declared.flat.Cell.{Cell}

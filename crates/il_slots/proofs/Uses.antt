@@ -10,7 +10,7 @@ use Rattle.il_spec.specs.declared.tree.Config.{Config}
 use Rattle.il_rules.specs.Names.{StandardBlock, Sr, Rs, RTrig, FTrig, Ctu, Ctd, Ctud, Tp, Ton, Tof, standard_block, standard_variables, is_predeclared, unit_named, function_block_named}
 use Rattle.il_rules.specs.Declarations.{predeclared_unit}
 use Rattle.il_rules.specs.Faults.{duplicate, HasNoFault, Broken, Declaring}
-use Rattle.il_run.specs.NameMap.{Text}
+use Rattle.il_table.specs.NameMap.{Text}
 use Rattle.il_run.specs.Meaning.{Entity, own_entities, standard_entities, block_entities}
 use Rattle.il_run.specs.Scan.{block_names, invoked_names, used_names, found_units}
 use Rattle.il_sound.specs.Accepted.{IsOrdered}

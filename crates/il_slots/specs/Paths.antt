@@ -1,6 +1,6 @@
 -- Which slot a path has (own rules).
 use Rattle.std.specs.Prelude.{◌≡◌, ℕ, suc, bytes_eq, if◌then◌else◌, List, [], ◌∷◌, slice_get, Option, Some, None, option_map}
-use Rattle.il_run.specs.NameMap.{Text}
+use Rattle.il_table.specs.NameMap.{Text}
 use Rattle.il_slots.specs.declared.flat.Cell.{Cell}
 
 -- the slot of a path

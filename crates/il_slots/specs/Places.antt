@@ -5,7 +5,7 @@ use Rattle.il_spec.specs.declared.tree.Form.TheVariants.{Scalar as ScalarForm, A
 use Rattle.il_spec.specs.declared.tree.Unit.{Unit as ProgramUnit}
 use Rattle.il_spec.specs.declared.tree.Config.{Config}
 use Rattle.il_rules.specs.Names.{ImageName, Audience, Everybody, CarPrograms, GroupPrograms, image_of, image_name, sees, unit_named}
-use Rattle.il_run.specs.NameMap.{Text}
+use Rattle.il_table.specs.NameMap.{Text}
 use Rattle.il_run.specs.Meaning.{Entity, width, entities, own_entities, result_entities, block_entities}
 use Rattle.il_run.specs.Scan.{used_names, found_units}
 use Rattle.il_slots.specs.declared.flat.Cell.{Cell}

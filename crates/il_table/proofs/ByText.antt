@@ -10,7 +10,7 @@ use Rattle.std.specs.Map.{lookup}
 use Rattle.std.specs.String.{string_bytes, string_eq}
 use Rattle.std.specs.HashMap as hash
 use Rattle.std.proofs.lemmas.Map.Text.{hash_map_updates_text, is_eq-slice_cmp}
-use Rattle.il_run.specs.NameMap.{Text, get, insert, get-insert, get-empty, same_map}
+use Rattle.il_table.specs.NameMap.{Text, get, insert, get-insert, get-empty, same_map}
 use Rattle.il_table.specs.ByText.{by_text}
 
 -- what the map of some entries has at a path: the first entry's value

@@ -11,7 +11,7 @@ use Rattle.std.proofs.lemmas.Map.Text.{is_eq-slice_cmp}
 use Rattle.std.specs.Ordering.{eq_by_cmp, is_eq}
 use Rattle.std.specs.Cmp.{eq_by_cmp_equiv}
 use Rattle.std.specs.Cmp.Lexicographic.{nat_list_cmp_total}
-use Rattle.il_run.specs.NameMap.{NameMap, Text, order, get, insert, empty, get-insert, get-empty, same_map}
+use Rattle.il_table.specs.NameMap.{NameMap, Text, order, get, insert, empty, get-insert, get-empty, same_map}
 use Rattle.il_table.specs.ByText.{by_text, HaveSameNames}
 
 -- the map after writes at these paths, one after another

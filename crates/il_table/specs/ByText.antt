@@ -1,7 +1,7 @@
 -- A map with text keys, seen as a map from texts (own rules).
 use Rattle.std.specs.Prelude.{◌≡◌, List, map, String, is_some}
 use Rattle.std.specs.String.{string_bytes}
-use Rattle.il_run.specs.NameMap.{NameMap, Text, from_entries, get}
+use Rattle.il_table.specs.NameMap.{NameMap, Text, from_entries, get}
 
 -- the map of such entries
 abbrev pub by_text : {A X : Type 0} → List (String A × X) → NameMap X

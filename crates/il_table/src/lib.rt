@@ -2,7 +2,7 @@
 #![tactic(auto)]
 
 ghost use Rattle.std.specs.Prelude.{◌≡◌, IfOk, IsSome, OnOk, OnErr};
-ghost use Rattle.il_run.specs.NameMap as map;
+ghost use Rattle.il_table.specs.NameMap as map;
 ghost use Rattle.il_table.specs.ByText.{HaveSameNames, by_text};
 
 use std::alloc::{AllocError, Global};
@@ -16,7 +16,7 @@ pub struct Table<X: Copy> {
 }
 
 impl<X: Copy> Model for Table<X> {
-    ghost use Rattle.il_run.specs.NameMap.{NameMap, code};
+    ghost use Rattle.il_table.specs.NameMap.{NameMap, code};
     ghost use Rattle.il_table.specs.ByText.{by_text};
 
     ghost Value = { NameMap X };

@@ -23,7 +23,7 @@ use Rattle.il_spec.specs.declared.tree.Step.{Step}
 use Rattle.il_spec.specs.ElementaryTypes.{limits, is_whole, is_counted, is_same_type}
 use Rattle.il_rules.specs.Declarations.{is_within_any}
 use Rattle.il_rules.specs.Types.{label_place}
-use Rattle.il_run.specs.NameMap.{Text, get}
+use Rattle.il_table.specs.NameMap.{Text, get}
 use Rattle.il_run.specs.Meaning.{Denotation, Constant, Direct, Numbered, Indexed, Inside, Unknown}
 use Rattle.il_run.specs.Step.{instruction_at, instruction_or_return}
 use Rattle.il_run.specs.Tests.{Test, if_value, literal_number, operand_number, counted_variable, loaded_variable, comparison_of, jump_on, if_unlabelled, unlabelled, compared_at, test_at}

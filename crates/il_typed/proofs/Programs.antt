@@ -3,7 +3,7 @@ use Rattle.std.proofs.Common.{◌≡◌, ℕ, ◌≤◌, List, length, Option, S
 use Rattle.il_spec.specs.declared.tree.Config.{Config}
 use Rattle.il_spec.specs.declared.tree.Unit.{Unit as ProgramUnit}
 use Rattle.il_spec.specs.declared.tree.Step.{Step}
-use Rattle.il_run.specs.NameMap.{NameMap}
+use Rattle.il_table.specs.NameMap.{NameMap}
 use Rattle.il_rules.specs.Names.{Spelling, program_named}
 use Rattle.il_scope.specs.Views.{program_number}
 use Rattle.il_scope.proofs.Laws.{program_found}

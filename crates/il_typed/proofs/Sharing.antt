@@ -13,7 +13,7 @@ use Rattle.il_spec.specs.declared.tree.UnitKind.{UnitKind}
 use Rattle.il_spec.specs.declared.tree.UnitKind.TheVariants.{Function, FunctionBlock, Program}
 use Rattle.il_spec.specs.declared.tree.Place.{Place}
 use Rattle.il_spec.specs.declared.tree.ProgramLine.{ProgramLine}
-use Rattle.il_run.specs.NameMap.{NameMap, get, insert, empty, get-empty}
+use Rattle.il_table.specs.NameMap.{NameMap, get, insert, empty, get-empty}
 use Rattle.il_rules.specs.Names as rule
 use Rattle.il_rules.specs.Names.{Spelling, ImageName, image_of, image_name, own_variable, variables_of, result_of, with_origin, named_forms, program_named, or_else, Meaning, MeansVariable, MeansUnit, MeansStandard, meaning, sees, outer_meaning, unit_named, is_predeclared, global_meaning, AsInput, AsOutput, AsVariable, AsExternal, AsResult, AsReadImage, AsWrittenImage}
 use Rattle.il_rules.specs.Types.{IsExternalOf, TaskWrites, stored_names}

@@ -10,7 +10,7 @@ use Rattle.il_spec.specs.declared.tree.Named.{Named}
 use Rattle.il_spec.specs.declared.tree.ProgramLine.{ProgramLine}
 use Rattle.il_spec.specs.declared.tree.Elementary.{Elementary}
 use Rattle.il_spec.specs.declared.tree.Form.{Form}
-use Rattle.il_run.specs.NameMap.{NameMap}
+use Rattle.il_table.specs.NameMap.{NameMap}
 use Rattle.il_rules.specs.Names.{Spelling, named_forms}
 use Rattle.il_rules.specs.Types.{scalar_type}
 use Rattle.il_scope.proofs.Filled.{take_next}

@@ -6,7 +6,7 @@ use Rattle.il_spec.specs.declared.tree.Unit.{Unit as ProgramUnit}
 use Rattle.il_spec.specs.declared.tree.ProgramLine.{ProgramLine}
 use Rattle.il_spec.specs.declared.tree.Step.{Step}
 use Rattle.il_spec.specs.declared.tree.Place.{Place}
-use Rattle.il_run.specs.NameMap.{NameMap, get, insert}
+use Rattle.il_table.specs.NameMap.{NameMap, get, insert}
 use Rattle.il_rules.specs.Names.{Spelling, Variable, Origin, AsInput, AsOutput, AsVariable, AsExternal, AsResult, AsReadImage, AsWrittenImage, own_variable, program_named}
 use Rattle.il_rules.specs.Types.{stored_names}
 use Rattle.il_found.specs.Least.{When, Below}

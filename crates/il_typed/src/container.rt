@@ -2,6 +2,7 @@
 
 ghost use Rattle.std.specs.Prelude.{◌≡◌};
 ghost use Rattle.il_rules.specs.Faults.{Broken, Typing, HasNoFault, BreaksDeclarations};
+ghost use Rattle.il_rules.specs.Written.{IsWritten, HasFewInstructions, IsNested};
 
 use il_declare::Declared;
 use il_scope::Scoped;
@@ -37,19 +38,13 @@ impl Typed {
     /// The configuration.
     pub fn config(&self) -> &Config
         ensures is { result.now ≡ self.now }
+        ensures written { IsWritten self.now }
+        ensures few { HasFewInstructions self.now }
+        ensures nested { IsNested self.now }
         ensures declared { HasNoFault (BreaksDeclarations self.now) }
         ensures typed { HasNoFault (Broken Typing self.now) }
     {
         self.declared.config()
-    }
-
-    /// The configuration, without what its names mean.
-    pub fn into_config(self) -> Config
-        ensures is { result ≡ self }
-        ensures declared { HasNoFault (BreaksDeclarations self) }
-        ensures typed { HasNoFault (Broken Typing self) }
-    {
-        self.declared.into_config()
     }
 
     /// What its names mean.

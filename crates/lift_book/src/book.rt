@@ -1,7 +1,7 @@
 // The book of one owner.
 
 ghost use Rattle.std.specs.Prelude.{◌≡◌, ◌++◌, ◌∷◌, [], map, Some, IfOk, IfErr, OnOk, OnErr};
-ghost use Rattle.il_run.specs.NameMap as values;
+ghost use Rattle.il_table.specs.NameMap as values;
 ghost use Rattle.lift_spec.specs.Calls.{told_car};
 ghost use Rattle.il_machine.specs.Scanning.{HasTask, IsScanOf};
 ghost use Rattle.il_machine.specs.Scanned.{Begins, stands};

@@ -21,7 +21,7 @@ use Rattle.lift_spec.specs.Image.{sizes_of, opening_fields, opening_outputs}
 use Rattle.std.specs.Fmt.{digits}
 use Rattle.il_rules.specs.Names.{meaning, image_name, standard_function, standard_block}
 use Rattle.il_rules.specs.Types.{label_place}
-use Rattle.il_run.specs.NameMap.{get, insert, empty}
+use Rattle.il_table.specs.NameMap.{get, insert, empty}
 use Rattle.il_run.specs.Scan.{begins, opening_variables, opening_globals, restricted}
 use Rattle.lift_spec.specs.Settle.{settled_car, settled_all}
 use Rattle.lift_spec.specs.Calls.{serve}

@@ -8,7 +8,7 @@ use Rattle.il_spec.specs.declared.tree.Config.{Config}
 use Rattle.il_spec.specs.Text.{HasNoTokens}
 use Rattle.il_text.specs.Refused.{IsMemoryOrFaultOfBytes}
 use Rattle.il_parse.specs.Refused.{IsFault, IsOfParser}
-use Rattle.lift_load.specs.Loading.{IsSpelled, IsRefusedFor, SpellsNone, of_text, of_tree, IsExplained}
+use Rattle.lift_load.specs.Loading.{IsSpelled, IsRefusedFor, SpellsNone, IsNumberOfText, of_text, of_tree, IsExplained}
 
 -- a refusal that is handed on is of the same kind
 pub handed_as : {X : Type 0} (P : Refusal → Type 0) (e : Refusal) (r : Result X Refusal) → IsErrAnd r (λ d. d ≡ e) → P e → IfErr r P
@@ -31,9 +31,9 @@ explained_by_tree text c Memory spelled refused = tt
 
 -- a fault of the parser
 pub explained_by_parser : (text : List ℕ) (e : Refusal) → IsOfParser e → (IsFault {A = Config} (Err e) → SpellsNone text) → IsExplained text e
-explained_by_parser text (Fault number line) (inl is) none = of_text (omega (arith, is)) (none tt)
-explained_by_parser text (Fault number line) (inr (inl is)) none = of_text (omega (arith, is)) (none tt)
-explained_by_parser text (Fault number line) (inr (inr is)) none = of_text (omega (arith, is)) (none tt)
+explained_by_parser text (Fault number line) (inl is) none = of_text (inr (omega (arith, is), omega (arith, is))) (none tt)
+explained_by_parser text (Fault number line) (inr (inl is)) none = of_text (inr (omega (arith, is), omega (arith, is))) (none tt)
+explained_by_parser text (Fault number line) (inr (inr is)) none = of_text (inr (omega (arith, is), omega (arith, is))) (none tt)
 explained_by_parser text Memory is none = tt
 
 -- a fault of the bytes, or a text that is too long
@@ -42,10 +42,10 @@ pub explained_by_tokens : {A : Type 0} (text : List ℕ) (e : Refusal) → (2621
 explained_by_tokens text Memory long bytes none = tt
 explained_by_tokens {A} text (Fault number line) long bytes none = of_text low (λ c s. none tt s.limits.bytes s.spelled.0 s.spelled.1)
   where
-    low : number ≤ 12
+    low : IsNumberOfText number
     low = elim (cases_lt 262144 (length text)) [
-      | inl over ↦ let is : number ≡ 6 = number_of (long over) in omega (arith, is)
-      | inr within ↦ let is = bytes within in omega (arith, is.1)
+      | inl over ↦ let is : number ≡ 6 = number_of (long over) in inl (omega (arith, is), omega (arith, is))
+      | inr within ↦ let is = bytes within in inl (is.0, omega (arith, is.1))
     ]
       where
         number_of : ◌≡◌ {A = Result A Refusal} (Err (Fault number line)) (Err (Fault 6 1)) → number ≡ 6

@@ -1,22 +1,18 @@
 -- What the phases say of a text.
 use Rattle.std.proofs.Common.{◌≡◌, ℕ, ◌≤◌, List, [], length, subst, sym, ap, map, ◌∙◌, Result, Ok, Err, arith}
 use Rattle.std.specs.Prelude.{IsErrAnd, IfErr, IfOk}
-use Rattle.std.proofs.lemmas.Option.{slice_get_within, get_or_from_slice_get}
 use Rattle.il_spec.specs.declared.tree.Config.{Config}
-use Rattle.il_spec.specs.declared.tree.Unit.{Unit as Organized}
 use Rattle.il_spec.specs.declared.token.Token.{Token}
 use Rattle.il_spec.specs.declared.fault.Refusal.{Refusal}
 use Rattle.il_spec.specs.declared.fault.Refusal.TheVariants.{Fault, Memory}
 use Rattle.il_spec.specs.Text.{AreTokens}
 use Rattle.il_spec.specs.Grammar.{AfterLines, SpellsConfig, Spells, IsWithinLimits}
 use Rattle.il_rules.specs.Faults.{HasNoFault, IsRefusedBy, BreaksDeclarations, Broken, Typing, Ordering}
-use Rattle.il_rules.specs.Written.{IsWritten}
-use Rattle.il_typed.specs.Judged.{AreShort}
+use Rattle.il_rules.specs.Written.{IsWritten, IsNested}
 use Rattle.il_parse.specs.Refused.{IsFault}
 use Rattle.il_ranges.specs.Unannotated.{IsUnannotatedBy}
 use Rattle.il_budget.specs.Costs.{IsTooLong}
 use Rattle.il_run.specs.Annotation.{Annotated}
-use Rattle.il_machine.specs.Nesting.{IsNested}
 use Rattle.il_machine.specs.Scanning.{Program, IsRunnable}
 use Rattle.lift_sound.specs.Runs.{RunsWell}
 use Rattle.lift_load.specs.Loading.{IsSpelled, SpellsOnly, IsAccepted, IsRefusedFor, by_declarations, by_types, by_order, IsUnbroken, by_ranges, by_budgets, IsExplained}
@@ -84,11 +80,3 @@ at_budgets c names e is unbroken annotated refused = by_budgets unbroken annotat
 -- out of memory says nothing
 pub at_memory : (c : Config) (e : Refusal) → e ≡ Memory → IsRefusedFor c e
 at_memory c e is = subst (IsRefusedFor c) (sym is) (by_declarations tt)
-
--- LIMITS
-
--- what the limits allow is short
-pub within_short : (text : List ℕ) (c : Config) → IsWithinLimits text c → AreShort c.units
-within_short text c limits at unit stands =
-    let few = subst (λ (v : Organized). length v.body.steps ≤ 4096) (get_or_from_slice_get c.units at unit unit stands) (limits.instructions at unit (slice_get_within c.units at unit stands)) in
-    omega (arith, few)

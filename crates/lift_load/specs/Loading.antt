@@ -1,5 +1,5 @@
 -- Which texts are accepted (own rules).
-use Rattle.std.specs.Prelude.{◌≡◌, ℕ, ◌≤◌, List}
+use Rattle.std.specs.Prelude.{◌≡◌, ◌⊎◌, ℕ, ◌≤◌, List}
 use Rattle.il_spec.specs.declared.fault.Refusal.{Refusal}
 use Rattle.il_spec.specs.declared.fault.Refusal.TheVariants.{Fault, Memory}
 use Rattle.il_spec.specs.declared.tree.Config.{Config}
@@ -51,9 +51,13 @@ IsSpelledWith text refusal = (c : Config) × IsSpelled text c × IsRefusedFor c 
 abbrev pub SpellsNone : List ℕ → Type 0
 SpellsNone text = (c : Config) → IsSpelled text c → ⊥
 
--- What a fault says of the text: by a number up to 12 that it spells no configuration, and by any other that it spells one whose fault this is.
+-- the numbers of a text that spells no configuration within the limits: of its bytes and tokens, and of the grammar and its limits
+abbrev pub IsNumberOfText : ℕ → Type 0
+IsNumberOfText number = ((1 ≤ number) × (number ≤ 6)) ⊎ ((10 ≤ number) × (number ≤ 12))
+
+-- What a fault says of the text: by such a number that it spells no configuration, and by any other that it spells one whose fault this is.
 pub data Explains (text : List ℕ) (number line : ℕ) : Type 0 where
-  of_text : number ≤ 12 → SpellsNone text → Explains text number line
+  of_text : IsNumberOfText number → SpellsNone text → Explains text number line
   of_tree : IsSpelledWith text (Fault number line) → Explains text number line
 
 -- the same of a refusal; out of memory says nothing

@@ -4,12 +4,10 @@ ghost use Rattle.std.specs.Prelude.{◌≡◌, IfOk, IfErr, IsErrAnd, map};
 ghost use Rattle.il_spec.specs.declared.fault.Refusal.TheVariants.{Memory};
 ghost use Rattle.il_spec.specs.declared.tree.Config.{Config as ConfigOf};
 ghost use Rattle.il_rules.specs.Faults.{BreaksDeclarations, Broken, Typing, HasNoFault, IsRefusedBy};
-ghost use Rattle.il_rules.specs.Written.{IsWritten};
+ghost use Rattle.il_rules.specs.Written.{IsWritten, IsNested};
 ghost use Rattle.il_run.specs.Annotation.{Annotated};
-ghost use Rattle.il_typed.specs.Judged.{AreShort};
 ghost use Rattle.il_parse.specs.Refused.{IsFault};
 ghost use Rattle.il_budget.specs.Costs.{IsTooLong, cost_of};
-ghost use Rattle.il_machine.specs.Nesting.{IsNested};
 ghost use Rattle.lift_sound.specs.Runs.{RunsWell};
 ghost use Rattle.lift_load.specs.Loading.{IsSpelled, SpellsOnly, SpellsNone, IsUnbroken, IsAccepted, IsRefusedFor, IsExplained};
 
@@ -18,11 +16,10 @@ use il_code::{Code, code};
 use il_declare::declare;
 use il_machine::{UnitCost, Verified};
 use il_order::{Ordered, ordered};
-use il_parse::parse;
+use il_parse::{Written, parse};
 use il_spec::fault::Refusal;
 use il_spec::list::Items;
 use il_spec::pair::both;
-use il_spec::tree::Config;
 use il_text::tokens;
 use il_typed::{Typed, typed};
 use il_verify::{Checked, verify};
@@ -46,10 +43,9 @@ pub fn load(alloc: Global, text: &[u8]) -> Result<Verified, Refusal>
 }
 
 // The configuration that a text spells. Its tokens are given up before it is verified.
-fn parsed(alloc: Global, text: &[u8]) -> Result<Config, Refusal>
+fn parsed(alloc: Global, text: &[u8]) -> Result<Written, Refusal>
     ensures only { IfOk result (SpellsOnly text.now) }
     ensures written { IfOk result IsWritten }
-    ensures short { IfOk result (λ c. AreShort c.units) }
     ensures nested { IfOk result IsNested }
     ensures none { IsFault result → SpellsNone text.now }
     ensures number { IfErr result (IsExplained text.now) }
@@ -60,10 +56,7 @@ fn parsed(alloc: Global, text: &[u8]) -> Result<Config, Refusal>
 }
 
 // A configuration that a text spells, verified, or its first fault.
-fn verified(alloc: Global, config: Config) -> Result<Verified, Refusal>
-    requires written { IsWritten config }
-    requires short { AreShort config.units }
-    requires nested { IsNested config }
+fn verified(alloc: Global, config: Written) -> Result<Verified, Refusal>
     ensures same { IfOk result (λ v. v.config ≡ config) }
     ensures unbroken { IfOk result (λ _. IsUnbroken config) }
     ensures annotated { IfOk result (λ _. Annotated config) }
@@ -77,7 +70,6 @@ fn verified(alloc: Global, config: Config) -> Result<Verified, Refusal>
 
 // A configuration with ranges none of whose units costs too much, verified, or the first that does.
 fn affordable(alloc: Global, checked: Checked) -> Result<Verified, Refusal>
-    requires { IsNested checked }
     ensures same { IfOk result (λ v. v.config ≡ checked) }
     ensures affordable { IfOk result (λ _. HasNoFault (IsTooLong checked)) }
     ensures costs { IfOk result (λ v. v.costs ≡ map (cost_of v.config) v.config.units) }
@@ -90,7 +82,6 @@ fn affordable(alloc: Global, checked: Checked) -> Result<Verified, Refusal>
 
 // A configuration with ranges, verified, by what its units cost.
 fn with_costs(alloc: Global, checked: Checked, costs: Items<UnitCost>) -> Result<Verified, Refusal>
-    requires nested { IsNested checked }
     requires costs { costs ≡ map (cost_of checked) checked.units }
     ensures same { IfOk result (λ v. v.config ≡ checked) }
     ensures costs { IfOk result (λ v. v.costs ≡ map (cost_of v.config) v.config.units) }
@@ -109,9 +100,7 @@ fn costs(alloc: Global, checked: &Checked) -> Result<Items<UnitCost>, Refusal>
 }
 
 // The code of a configuration each of whose instructions has ranges, or the first fault before.
-fn checked(alloc: Global, config: Config) -> Result<Checked, Refusal>
-    requires written { IsWritten config }
-    requires short { AreShort config.units }
+fn checked(alloc: Global, config: Written) -> Result<Checked, Refusal>
     ensures same { IfOk result (λ k. k ≡ config) }
     ensures unbroken { IfOk result (λ _. IsUnbroken config) }
     ensures annotated { IfOk result (λ _. Annotated config) }
@@ -122,20 +111,17 @@ fn checked(alloc: Global, config: Config) -> Result<Checked, Refusal>
 }
 
 // The code of a configuration that breaks no rule of declarations, types and order, or the first that it breaks.
-fn coded(alloc: Global, config: Config) -> Result<Code, Refusal>
-    requires written { IsWritten config }
-    requires short { AreShort config.units }
+fn coded(alloc: Global, config: Written) -> Result<Code, Refusal>
     ensures same { IfOk result (λ k. k ≡ config) }
     ensures unbroken { IfOk result (λ _. IsUnbroken config) }
     ensures refused { IfErr result (IsRefusedFor config) }
 {
     let ordered = in_order(alloc, config)?;
-    Ok(code(alloc, ordered)?)
+    code(alloc, ordered)
 }
 
 // A configuration that breaks no rule of declarations, types and order, or the first that it breaks.
-fn in_order(alloc: Global, config: Config) -> Result<Ordered, Refusal>
-    requires { AreShort config.units }
+fn in_order(alloc: Global, config: Written) -> Result<Ordered, Refusal>
     ensures same { IfOk result (λ o. o ≡ config) }
     ensures unbroken { IfOk result (λ _. IsUnbroken config) }
     ensures refused { IfErr result (IsRefusedFor config) }
@@ -145,8 +131,7 @@ fn in_order(alloc: Global, config: Config) -> Result<Ordered, Refusal>
 }
 
 // A configuration that breaks no rule of declarations and types, or the first that it breaks.
-fn well_typed(alloc: Global, config: Config) -> Result<Typed, Refusal>
-    requires { AreShort config.units }
+fn well_typed(alloc: Global, config: Written) -> Result<Typed, Refusal>
     ensures same { IfOk result (λ t. t ≡ config) }
     ensures declared { IfOk result (λ _. HasNoFault (BreaksDeclarations config)) }
     ensures typed { IfOk result (λ _. HasNoFault (Broken Typing config)) }

@@ -2,7 +2,7 @@
 use Rattle.std.specs.Prelude.{ℕ, ◌+◌, Bool, true, false, List, [], ◌∷◌, ◌++◌, flat_map, codes, decimal, Option, Some, None}
 use Rattle.std.specs.Fmt.{signed_decimal}
 use Rattle.il_spec.specs.declared.tree.Config.{Config}
-use Rattle.il_run.specs.NameMap.{get}
+use Rattle.il_table.specs.NameMap.{get}
 use Rattle.il_run.specs.State.{Values}
 use Rattle.il_run.specs.declared.value.Value.{Value}
 use Rattle.il_run.specs.declared.value.Value.TheVariants.{Boolean, Integer}

@@ -1,7 +1,7 @@
 // What `replay` prints.
 
 ghost use Rattle.std.specs.Prelude.{◌≡◌, ◌++◌, ◌∷◌, [], length, IfOk, OnOk, string_bytes};
-ghost use Rattle.il_run.specs.NameMap.{get};
+ghost use Rattle.il_table.specs.NameMap.{get};
 ghost use Rattle.il_slots.specs.declared.flat.Cell.{Cell as CellOf};
 ghost use Rattle.il_slots.specs.Program.{global_cells};
 ghost use Rattle.lift_spec.specs.Snapshot.{motor_number};

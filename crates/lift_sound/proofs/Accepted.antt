@@ -3,7 +3,7 @@ use Rattle.std.proofs.Common.{◌≡◌, ◌≤◌, ℕ, true, false, List, ◌+
 use Rattle.std.proofs.lemmas.List.Elements.{Contains-append_right}
 use Rattle.il_spec.specs.declared.tree.Config.{Config}
 use Rattle.il_spec.specs.declared.tree.Unit.{Unit as ProgramUnit}
-use Rattle.il_run.specs.NameMap.{from_entries}
+use Rattle.il_table.specs.NameMap.{from_entries}
 use Rattle.il_run.specs.State.{Frame, State}
 use Rattle.il_run.specs.Scan.{Reaches, HasEnded, has_ended, begins}
 use Rattle.il_run.specs.Ranges.{HaveValues, HoldsTask, task_scalars, external_scalars}

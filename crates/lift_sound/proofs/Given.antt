@@ -9,7 +9,7 @@ use Rattle.il_spec.specs.declared.tree.Scalar.{Scalar}
 use Rattle.il_spec.specs.declared.tree.Unit.{Unit as ProgramUnit}
 use Rattle.il_rules.specs.Names.{is_one_of}
 use Rattle.il_run.specs.declared.value.Value.{Value}
-use Rattle.il_run.specs.NameMap.{Text, get, from_entries}
+use Rattle.il_table.specs.NameMap.{Text, get, from_entries}
 use Rattle.il_run.specs.Values.{IsOf}
 use Rattle.il_run.specs.State.{Values}
 use Rattle.il_run.specs.Meaning.{under, element_path, Entity, entities, initial_value, elements, width, values_at, entity_values}

@@ -10,7 +10,7 @@ use Rattle.il_spec.specs.ElementaryTypes.{plain}
 use Rattle.il_rules.specs.Names.{within}
 use Rattle.il_run.specs.declared.value.Value.{Value}
 use Rattle.il_run.specs.declared.value.Value.TheVariants.{Boolean, Integer}
-use Rattle.il_run.specs.NameMap.{Text, from_entries}
+use Rattle.il_table.specs.NameMap.{Text, from_entries}
 use Rattle.il_run.specs.Values.{IsOf}
 use Rattle.il_run.specs.State.{Values}
 use Rattle.il_run.specs.Meaning.{width}

@@ -13,7 +13,7 @@ use Rattle.il_spec.specs.declared.tree.Unit.{Unit as ProgramUnit}
 use Rattle.il_rules.specs.Names.{ImageName, Role, CarRole, GroupRole, is_seen_by, image_of, program_named, program_role, task_role}
 use Rattle.il_rules.specs.Declarations.{is_within, sizes_of as sizes_with_limits, size_outside, other_role}
 use Rattle.il_rules.specs.Faults.{HasNoFault, Broken, Declaring, initial_outside, bad_task}
-use Rattle.il_run.specs.NameMap.{Text}
+use Rattle.il_table.specs.NameMap.{Text}
 use Rattle.il_run.specs.Scan.{program_of as line_program}
 use Rattle.il_sound.specs.Accepted.{IsAccepted}
 use Rattle.il_sound.specs.Listed.{seen_scalars, image_entity}

@@ -20,7 +20,7 @@ use Rattle.il_rules.specs.Order.{Uses, calls, declares, IsChain, UsesThrough, re
 use Rattle.il_rules.specs.Types.{StandsAt, unknown_label, backward, two_writers, unreached}
 use Rattle.il_rules.specs.Written.{IsWord, IsWritten}
 use Rattle.il_rules.proofs.Rows.{program, frame, only, not_both}
-use Rattle.il_run.specs.NameMap.{NameMap, Text, order, get, insert, empty, get-empty, get-insert}
+use Rattle.il_table.specs.NameMap.{NameMap, Text, order, get, insert, empty, get-empty, get-insert}
 use Rattle.il_run.specs.Step.{instruction_at}
 use Rattle.il_run.specs.Annotation.{Knowledge, knowledge, Annotation, IsVariableWithin, IsEntry, IsAnnotated, Annotated, Passes, form_range, declared_range}
 use Rattle.il_sound.specs.Accepted.{IsOrdered}
@@ -166,7 +166,7 @@ short_chain (next ∷ chain) c long = no_uses next c.0
 
 is_ordered : IsOrdered idle
 is_ordered number place other (of_recursive e (recursive unit among reaches is)) = one (λ u. UsesThrough idle u reaches.0 u → ⊥) unit (reaches_none reaches.0 body) among reaches.1
-is_ordered number place other (of_long_chain e (long_chain unit chain among free is_chain none_twice long is)) = one (λ u. IsChain idle u chain → 16 < length (u ∷ chain) → ⊥) unit (short_chain chain) among is_chain long
+is_ordered number place other (of_long_chain e (long_chain unit chain among is_chain none_twice long is)) = one (λ u. IsChain idle u chain → 16 < length (u ∷ chain) → ⊥) unit (short_chain chain) among is_chain long
 is_ordered number place other (of_slots e s) = other e
 
 is_written : IsWritten idle

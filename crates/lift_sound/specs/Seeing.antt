@@ -3,7 +3,7 @@ use Rattle.std.specs.Prelude.{ℕ, ◌≤◌, List, [], map, filter, Some}
 use Rattle.il_spec.specs.declared.tree.Config.{Config}
 use Rattle.il_spec.specs.declared.tree.Scalar.{Scalar}
 use Rattle.il_rules.specs.Names.{ImageName, is_seen_by, image_of}
-use Rattle.il_run.specs.NameMap.{Text, from_entries}
+use Rattle.il_table.specs.NameMap.{Text, from_entries}
 use Rattle.il_run.specs.Ranges.{entity_scalars, HaveValues}
 use Rattle.il_sound.specs.Listed.{HaveOneType, image_entity}
 use Rattle.lift_spec.specs.Image.{sizes_of}

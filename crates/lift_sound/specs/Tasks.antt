@@ -4,7 +4,7 @@ use Rattle.il_spec.specs.declared.tree.Config.{Config}
 use Rattle.il_spec.specs.declared.tree.Scalar.{Scalar}
 use Rattle.il_spec.specs.declared.tree.Unit.{Unit as ProgramUnit}
 use Rattle.il_rules.specs.Names.{ImageName, Origin, AsWrittenImage, Role, GroupRole, CarRole, is_seen_by, image_of}
-use Rattle.il_run.specs.NameMap.{Text}
+use Rattle.il_table.specs.NameMap.{Text}
 use Rattle.il_run.specs.Ranges.{entity_scalars}
 use Rattle.il_run.specs.Paths.{longest}
 use Rattle.lift_spec.specs.Image.{sizes_of}

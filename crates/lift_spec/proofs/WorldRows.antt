@@ -25,7 +25,7 @@ use Rattle.il_rules.specs.Names.{meaning, image_name, standard_function, standar
 use Rattle.il_rules.specs.Types.{label_place}
 use Rattle.il_run.specs.declared.value.Value.{Value}
 use Rattle.il_run.specs.declared.value.Value.TheVariants.{Boolean, Integer}
-use Rattle.il_run.specs.NameMap.{get, insert, empty}
+use Rattle.il_table.specs.NameMap.{get, insert, empty}
 use Rattle.il_run.specs.Step.{step}
 use Rattle.il_run.specs.Scan.{begins, opening_variables, opening_globals, restricted}
 use Rattle.lift_spec.specs.declared.image.Motor.TheVariants.{Up, Still}

@@ -4,7 +4,7 @@ use Rattle.il_spec.specs.declared.tree.Config.{Config}
 use Rattle.il_spec.specs.declared.tree.Unit.{Unit as Organized}
 use Rattle.il_run.specs.declared.value.Value.{Value}
 use Rattle.il_run.specs.declared.value.Value.TheVariants.{Boolean, Integer}
-use Rattle.il_run.specs.NameMap.{Text, get, empty, with_entries}
+use Rattle.il_table.specs.NameMap.{Text, get, empty, with_entries}
 use Rattle.il_run.specs.State.{Values, State}
 use Rattle.il_run.specs.Meaning.{element_path}
 use Rattle.il_run.specs.Scan.{begins, entries_at, external_paths, written_paths, task_program}

@@ -2,7 +2,7 @@
 use Rattle.std.proofs.Common.{◌≡◌, ℕ, zero, suc, ◌+◌, ◌<◌, ◌≤◌, ◌⊎◌, inl, inr, true, false, List, [], ◌∷◌, length, Option, Some, None, refl, sym, ap, ap₂, ◌∙◌, arith}
 use Rattle.std.specs.Prelude.{slice_get, slice_set, slice_index_or, is_some, option_and_then}
 use Rattle.il_spec.specs.declared.tree.Config.{Config}
-use Rattle.il_run.specs.NameMap.{get}
+use Rattle.il_table.specs.NameMap.{get}
 use Rattle.il_exec.specs.Going.{Stored}
 use Rattle.il_machine.specs.Scanning.{variables_in}
 use Rattle.lift_spec.specs.World.{TaskState, flat}

@@ -2,7 +2,7 @@
 
 ghost use Rattle.std.specs.Prelude.{◌≡◌, ℕ, suc, ◌≤◌, [], All, List, Option, length, map, slice_get, Some, None, IfOk, IsSome, option_and_then, option_copied};
 ghost use Rattle.il_spec.specs.declared.tree.Config.{Config as ConfigOf};
-ghost use Rattle.il_run.specs.NameMap as values;
+ghost use Rattle.il_table.specs.NameMap as values;
 ghost use Rattle.il_run.specs.Ranges.{HoldGlobals};
 ghost use Rattle.il_run.specs.Scan.{restricted};
 ghost use Rattle.lift_world.specs.declared.shared.Seat.{Seat as SeatOf};

@@ -3,7 +3,7 @@
 ghost use Rattle.il_spec.specs.declared.fault.Refusal.TheVariants.{Memory};
 ghost use Rattle.std.specs.Prelude.{◌≡◌, ℕ, ◌+◌, ◌≤◌, [], ◌∷◌, length, option_and_then, IfOk, IfErr, Ok, Some};
 ghost use Rattle.il_spec.specs.declared.tree.Unit.{Unit as Organized};
-ghost use Rattle.il_run.specs.NameMap as values;
+ghost use Rattle.il_table.specs.NameMap as values;
 ghost use Rattle.il_machine.specs.Listing.{TaskLine, task_line};
 ghost use Rattle.lift_spec.specs.Image.{sizes_of, FieldsInRange, Obeys};
 ghost use Rattle.lift_spec.specs.Replies.{reply_with, Refused};

@@ -1,5 +1,6 @@
 use Rattle.std.proofs.Common.{[]}
 use Rattle.il_grammar.proofs.Configurations.{config_one}
+use Rattle.il_grammar.proofs.Spelled.{spelled_written}
 use Rattle.il_parse.proofs.parse.Goals as goal
 
 pub returns-in-Ok-clause-found : goal.returns-in-Ok-clause-found
@@ -13,3 +14,12 @@ returns-in-Ok-clause-only c = λ d w. ((config_one c.args.text.now).only d _ _ _
 
 pub returns-in-Err-Fault-clause-refused : goal.returns-in-Err-Fault-clause-refused
 returns-in-Err-Fault-clause-refused c = λ fault d w small. (rw c.in-Err-Fault.field-0-is at c.in-Err-Fault.ensures.refused).never tt d [] (w, small)
+
+pub of-requires-clause-written : goal.of-requires-clause-written
+of-requires-clause-written c = spelled_written c.args.text.now c.in-Ok.tree (_, c.requires, c.in-Ok.ensures.reads.found.0)
+
+pub of-requires-clause-few : goal.of-requires-clause-few
+of-requires-clause-few c = c.in-Ok.ensures.reads.found.1.instructions
+
+pub of-requires-clause-nested : goal.of-requires-clause-nested
+of-requires-clause-nested c = c.in-Ok.ensures.reads.found.1.nesting

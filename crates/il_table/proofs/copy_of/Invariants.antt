@@ -1,5 +1,5 @@
 use Rattle.std.proofs.Common.{◌≡◌}
-use Rattle.il_run.specs.NameMap as map
+use Rattle.il_table.specs.NameMap as map
 use Rattle.il_table.proofs.Copies.{put_all}
 use Rattle.il_table.proofs.copy_of.Given as goal
 

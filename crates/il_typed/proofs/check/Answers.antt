@@ -1,4 +1,7 @@
 use Rattle.il_results.proofs.Units.{refused_by}
+use Rattle.std.proofs.Common.{subst}
+use Rattle.il_rules.specs.Written.{HasFewInstructions}
+use Rattle.il_typed.proofs.Short.{few_short}
 use Rattle.il_typed.proofs.check.Goals as goal
 
 pub returns-in-Some-clause-refused : goal.returns-in-Some-clause-refused
@@ -6,3 +9,6 @@ returns-in-Some-clause-refused c = refused_by c.args.names.now c.in_ok-found.fie
 
 pub returns-in-None-clause-accepted : goal.returns-in-None-clause-accepted
 returns-in-None-clause-accepted c = c.in_ok-found.ensures.none c.in-None.is
+
+pub types_fault-requires : goal.types_fault-requires
+types_fault-requires c = record { room = few_short c.args.names.now (subst HasFewInstructions c.written.ensures c.tree-few.ensures.few) }

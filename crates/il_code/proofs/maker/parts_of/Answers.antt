@@ -1,4 +1,5 @@
-use Rattle.std.proofs.Common.{sym}
+use Rattle.std.proofs.Common.{sym, subst}
+use Rattle.il_rules.specs.Written.{IsWritten}
 use Rattle.il_code.proofs.Contained.{declared_along, typed_along, ordered_along}
 use Rattle.il_code.proofs.maker.parts_of.Goals as goal
 
@@ -10,3 +11,6 @@ parts_by-requires-clause-typed c = typed_along c.args.ordered.now c.names.result
 
 pub parts_by-requires-clause-ordered : goal.parts_by-requires-clause-ordered
 parts_by-requires-clause-ordered c = ordered_along c.args.ordered.now c.names.result.now (sym c.names.ensures) c.config-config.ensures.ordered
+
+pub parts_by-requires-clause-written : goal.parts_by-requires-clause-written
+parts_by-requires-clause-written c = subst IsWritten (sym c.names.ensures) c.config-config.ensures.written

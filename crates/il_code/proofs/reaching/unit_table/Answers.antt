@@ -1,6 +1,6 @@
 use Rattle.std.proofs.Common.{◌∙◌, arith, ap, sym}
 use Rattle.il_spec.specs.declared.tree.Unit.{Unit as ProgramUnit}
-use Rattle.il_run.specs.NameMap.{get, get-empty}
+use Rattle.il_table.specs.NameMap.{get, get-empty}
 use Rattle.il_code.proofs.Indexed.{place_next, units_tabled}
 use Rattle.il_code.proofs.reaching.unit_table.Goals as goal
 

@@ -1,5 +1,5 @@
 use Rattle.std.proofs.Common.{◌≡◌, map, take}
-use Rattle.il_run.specs.NameMap.{Text, get}
+use Rattle.il_table.specs.NameMap.{Text, get}
 use Rattle.il_scope.specs.Views.{place_of}
 use Rattle.il_code.proofs.slots.index_of.Given as goal
 

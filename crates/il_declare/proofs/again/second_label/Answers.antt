@@ -1,6 +1,6 @@
 use Rattle.std.proofs.Common.{◌++◌, ◌∙◌, ap, subst}
 use Rattle.std.specs.Prelude.{flat_map}
-use Rattle.il_run.specs.NameMap.{empty}
+use Rattle.il_table.specs.NameMap.{empty}
 use Rattle.il_spec.specs.declared.tree.Step.{Step}
 use Rattle.il_found.specs.Least.{IsLeast}
 use Rattle.il_declare.specs.Again.{NamedAgain}

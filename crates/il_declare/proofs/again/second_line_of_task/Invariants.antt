@@ -1,6 +1,6 @@
 use Rattle.std.proofs.Common.{take}
 use Rattle.il_spec.specs.declared.tree.ProgramLine.{ProgramLine as Item}
-use Rattle.il_run.specs.NameMap.{empty}
+use Rattle.il_table.specs.NameMap.{empty}
 use Rattle.il_declare.proofs.Againness.{IsSoFar}
 use Rattle.il_declare.proofs.again.second_line_of_task.Given as goal
 

@@ -1,6 +1,6 @@
 use Rattle.std.proofs.Common.{take}
 use Rattle.il_spec.specs.declared.tree.Unit.{Unit as Item}
-use Rattle.il_run.specs.NameMap.{empty}
+use Rattle.il_table.specs.NameMap.{empty}
 use Rattle.il_declare.proofs.Againness.{IsSoFar}
 use Rattle.il_declare.proofs.again.second_unit.Given as goal
 

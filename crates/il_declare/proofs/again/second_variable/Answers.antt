@@ -1,4 +1,4 @@
-use Rattle.il_run.specs.NameMap.{empty}
+use Rattle.il_table.specs.NameMap.{empty}
 use Rattle.il_declare.proofs.Againness.{four_lists}
 use Rattle.il_declare.proofs.again.second_variable.Goals as goal
 

@@ -1,5 +1,5 @@
 use Rattle.std.proofs.Common.{ap, ◌∙◌}
-use Rattle.il_run.specs.NameMap.{get}
+use Rattle.il_table.specs.NameMap.{get}
 use Rattle.il_scope.proofs.Seen.{own_seen_is}
 use Rattle.il_scope.proofs.tables.own_table.Goals as goal
 

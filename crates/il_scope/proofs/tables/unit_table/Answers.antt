@@ -1,5 +1,5 @@
 use Rattle.std.proofs.Common.{◌∙◌, arith, ap, map, sym}
-use Rattle.il_run.specs.NameMap.{get, get-empty}
+use Rattle.il_table.specs.NameMap.{get, get-empty}
 use Rattle.il_scope.specs.Views.{place_of}
 use Rattle.il_scope.proofs.Filled.{unit_next, take_all}
 use Rattle.il_scope.proofs.tables.unit_table.Goals as goal

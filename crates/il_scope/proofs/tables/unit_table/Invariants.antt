@@ -1,6 +1,6 @@
 use Rattle.std.proofs.Common.{◌≡◌, map, take}
 use Rattle.il_rules.specs.Names.{Spelling}
-use Rattle.il_run.specs.NameMap.{get}
+use Rattle.il_table.specs.NameMap.{get}
 use Rattle.il_scope.specs.Views.{place_of}
 use Rattle.il_scope.proofs.tables.unit_table.Given as goal
 

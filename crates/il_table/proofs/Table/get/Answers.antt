@@ -1,5 +1,5 @@
 use Rattle.std.proofs.Common.{refl, sym, ap, ◌∙◌}
-use Rattle.il_run.specs.NameMap as map
+use Rattle.il_table.specs.NameMap as map
 use Rattle.il_table.proofs.ByText.{none_in_empty, get-by_text}
 use Rattle.il_table.proofs.Table.get.Goals as goal
 

@@ -1,5 +1,5 @@
 use Rattle.std.proofs.Common.{◌≡◌, ap, ◌∙◌, string_bytes}
-use Rattle.il_run.specs.NameMap as map
+use Rattle.il_table.specs.NameMap as map
 use Rattle.il_table.specs.ByText.{by_text}
 use Rattle.il_table.proofs.ByText.{by_text-insert}
 use Rattle.il_table.proofs.Table.put.Goals as goal

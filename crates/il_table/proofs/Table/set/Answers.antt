@@ -1,5 +1,5 @@
 use Rattle.std.proofs.Common.{◌≡◌, sym, ap, ◌∙◌, None, rules}
-use Rattle.il_run.specs.NameMap as map
+use Rattle.il_table.specs.NameMap as map
 use Rattle.std.specs.Option.{option_copied_mut}
 use Rattle.il_table.proofs.ByText.{get-by_text, by_text-set}
 use Rattle.il_table.proofs.Table.set.Goals as goal

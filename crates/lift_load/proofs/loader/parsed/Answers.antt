@@ -4,7 +4,7 @@ use Rattle.il_grammar.proofs.Spelled.{spelled_written}
 use Rattle.lift_load.specs.Loading.{IsExplained}
 use Rattle.lift_load.proofs.Explaining.{handed_as, explained_by_tokens, explained_by_parser}
 use Rattle.lift_load.proofs.Accepting.{handed_on, none_spelled}
-use Rattle.lift_load.proofs.Phases.{spells_only, within_short}
+use Rattle.lift_load.proofs.Phases.{spells_only}
 use Rattle.lift_load.proofs.loader.parsed.Goals as goal
 
 -- NO TOKENS
@@ -35,8 +35,6 @@ returns-clause-only c =
 pub returns-clause-written : goal.returns-clause-written
 returns-clause-written c = spelled_written c.args.text.now c.in_ok-config.config c.in_ok-config.ensures.spelled
 
-pub returns-clause-short : goal.returns-clause-short
-returns-clause-short c = within_short c.args.text.now c.in_ok-config.config (c.in_ok-config.ensures.limits c.in_ok-tokens.ensures.short)
 
 pub returns-clause-nested : goal.returns-clause-nested
 returns-clause-nested c = c.in_ok-config.ensures.small.nesting

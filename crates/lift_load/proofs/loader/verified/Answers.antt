@@ -2,15 +2,12 @@ use Rattle.std.proofs.Common.{◌≡◌, ◌∙◌, subst, sym}
 use Rattle.il_rules.specs.Faults.{HasNoFault, IsRefusedBy}
 use Rattle.il_run.specs.Annotation.{Annotated}
 use Rattle.il_budget.specs.Costs.{IsTooLong}
-use Rattle.il_machine.specs.Nesting.{IsNested}
 use Rattle.il_machine.specs.Scanning.{Program}
 use Rattle.lift_load.specs.Loading.{IsUnbroken, IsRefusedFor}
 use Rattle.lift_load.proofs.Explaining.{handed_as, if_ok, if_err}
 use Rattle.lift_load.proofs.Phases.{at_budgets}
 use Rattle.lift_load.proofs.loader.verified.Goals as goal
 
-pub affordable-requires : goal.affordable-requires
-affordable-requires c = subst IsNested (sym c.in_ok-checked.ensures.same) c.requires.nested
 
 pub returns-in_err-checked-clause-refused : goal.returns-in_err-checked-clause-refused
 returns-in_err-checked-clause-refused c = handed_as (IsRefusedFor c.args.config) _ _ c.from_residual.ensures.1 c.in_err-checked.ensures.refused

@@ -1,14 +1,10 @@
 use Rattle.std.proofs.Common.{◌≡◌, ◌∙◌, subst, sym}
-use Rattle.il_spec.specs.declared.tree.Config.{Config}
 use Rattle.il_rules.specs.Faults.{HasNoFault, IsRefusedBy, Broken, Typing}
-use Rattle.il_typed.specs.Judged.{AreShort}
 use Rattle.lift_load.specs.Loading.{IsRefusedFor, by_declarations}
 use Rattle.lift_load.proofs.Explaining.{handed_as, if_ok, if_err}
 use Rattle.lift_load.proofs.Phases.{at_types}
 use Rattle.lift_load.proofs.loader.well_typed.Goals as goal
 
-pub typed-requires : goal.typed-requires
-typed-requires c = record { short = subst (λ (d : Config). AreShort d.units) (sym c.in_ok-declared.ensures.same) c.requires }
 
 pub returns-in_err-declared-clause-refused : goal.returns-in_err-declared-clause-refused
 returns-in_err-declared-clause-refused c = handed_as (IsRefusedFor c.args.config) _ _ c.from_residual.ensures.1 (by_declarations c.in_err-declared.ensures.refused)

@@ -1,3 +1,5 @@
+use Rattle.std.proofs.Common.{subst}
+use Rattle.il_rules.specs.Written.{IsNested}
 use Rattle.il_code.proofs.Contained.{declared_along, typed_along, ordered_along}
 use Rattle.il_code.proofs.container.Code.config.Goals as goal
 
@@ -9,3 +11,6 @@ returns-clause-typed c = typed_along c.self.inside.ordered c.args.self.now c.sel
 
 pub returns-clause-ordered : goal.returns-clause-ordered
 returns-clause-ordered c = ordered_along c.self.inside.ordered c.args.self.now c.self.view_is c.self.invariant.0.ordered
+
+pub returns-clause-nested : goal.returns-clause-nested
+returns-clause-nested c = subst IsNested c.self.view_is c.config.ensures.nested

@@ -1,6 +1,6 @@
 use Rattle.std.proofs.Common.{ℕ, Option, ◌∙◌, ap}
 use Rattle.std.specs.Prelude.{option_and_then}
-use Rattle.il_run.specs.NameMap.{NameMap, get}
+use Rattle.il_table.specs.NameMap.{NameMap, get}
 use Rattle.il_flatten.proofs.Resolve.{table_there}
 use Rattle.il_flatten.proofs.here.Here.offset.Goals as goal
 

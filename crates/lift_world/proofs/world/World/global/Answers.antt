@@ -1,5 +1,5 @@
 use Rattle.std.proofs.Common.{ap, ◌∙◌}
-use Rattle.il_run.specs.NameMap.{get}
+use Rattle.il_table.specs.NameMap.{get}
 use Rattle.lift_world.specs.declared.controller.Controller.{Controller}
 use Rattle.lift_world.specs.Running.{world_of}
 use Rattle.lift_world.proofs.world.World.global.Goals as goal
