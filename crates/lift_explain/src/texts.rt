@@ -105,7 +105,7 @@ pub(crate) const TEXTS: [Meaning; 40] = [
     },
     Meaning {
         number: 46,
-        text: "46: a chain of uses that is too long\n\nA unit with a chain of more than 16 units, itself counted, of which each uses the next. Named is its heading. A unit that leads to a recursion is not judged for it. Let functions and blocks use one another less deep.\n\n12, of slots, belongs to this phase too; it stands above.\n",
+        text: "46: a chain of uses that is too long\n\nA unit with a chain of more than 16 units, itself counted, of which each uses the next and none is named twice. Named is its heading; where the unit uses itself too, 36 is named. Let functions and blocks use one another less deep.\n\n12, of slots, belongs to this phase too; it stands above.\n",
     },
     Meaning {
         number: 40,
