@@ -4,26 +4,13 @@ ghost use Rattle.std.specs.Prelude.{◌≡◌, ◌≤◌, true, IfOk, IfSome};
 ghost use Rattle.il_machine.specs.Scanned.{Begins};
 ghost use Rattle.il_machine.specs.Scanning.{HasTask};
 
+use crate::texts::TWO_IDLE;
 use il_machine::{OpenScan, Store, Verified, scan};
 use il_spec::fault::Refusal;
 use lift_book::Book;
 use lift_load::load;
 use lift_spec::report::Report;
 use std::alloc::{AllocError, Global};
-
-// Two cars with one empty program.
-const IDLE: &[u8] = b"PROGRAM C
-END_PROGRAM
-CONFIGURATION K
-VAR_GLOBAL CONSTANT CARS : INT := 2; FLOORS : INT := 2; SLOTS : INT := 1; END_VAR
-RESOURCE M ON PLC
-TASK CAR1 (INTERVAL := T#100ms, PRIORITY := 1);
-TASK CAR2 (INTERVAL := T#100ms, PRIORITY := 1);
-PROGRAM P1 WITH CAR1 : C;
-PROGRAM P2 WITH CAR2 : C;
-END_RESOURCE
-END_CONFIGURATION
-";
 
 // What a commit and a start were answered, by the number of a fault or 0, and how many entries the journal has.
 #[derive(Clone, Copy)]
@@ -165,14 +152,14 @@ fn other_car(alloc: Global, verified: &Verified) -> Result<Option<(u8, u8)>, All
 }
 
 fn refused_at(alloc: Global) -> Result<Option<Refused>, Refusal> {
-    let verified = load(alloc, IDLE)?;
+    let verified = load(alloc, TWO_IDLE)?;
     let refused = third_entry(alloc, &verified);
     verified.release();
     Ok(refused?)
 }
 
 fn refused_other(alloc: Global) -> Result<Option<(u8, u8)>, Refusal> {
-    let verified = load(alloc, IDLE)?;
+    let verified = load(alloc, TWO_IDLE)?;
     let refused = other_car(alloc, &verified);
     verified.release();
     Ok(refused?)

@@ -1,7 +1,6 @@
 // Workers run at once: a gate holds one of them until another has got on.
 
-ghost use Rattle.std.specs.Prelude.{◌≡◌};
-
+use crate::texts::TWO_IDLE;
 use lift_load::load;
 use lift_workers::gate::Gate;
 use lift_workers::run::{Plan, run};
@@ -10,20 +9,6 @@ use std::sync::atomic::{AtomicBool, Ordering};
 use std::test::Fail;
 use std::thread;
 use std::time::{Clock, Duration};
-
-// Two cars with an empty program.
-const IDLE: &[u8] = b"PROGRAM C
-END_PROGRAM
-CONFIGURATION K
-VAR_GLOBAL CONSTANT CARS : INT := 2; FLOORS : INT := 2; SLOTS : INT := 1; END_VAR
-RESOURCE M ON PLC
-TASK CAR1 (INTERVAL := T#100ms, PRIORITY := 1);
-TASK CAR2 (INTERVAL := T#100ms, PRIORITY := 1);
-PROGRAM P1 WITH CAR1 : C;
-PROGRAM P2 WITH CAR2 : C;
-END_RESOURCE
-END_CONFIGURATION
-";
 
 /// How often car 1's worker looks whether car 2 has committed, and how many milliseconds it sleeps between.
 const TURNS: u32 = 1000;
@@ -66,7 +51,7 @@ fn one_car_commits_while_another_is_held(rt: HostRuntime) -> Result<(), Fail> {
         is_committed: AtomicBool::new(false),
         has_waited_too_long: AtomicBool::new(false),
     };
-    let Ok(verified) = load(rt.alloc(), IDLE) else {
+    let Ok(verified) = load(rt.alloc(), TWO_IDLE) else {
         panic!(&rt; "no memory")
     };
     let plan = Plan {

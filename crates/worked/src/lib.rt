@@ -28,6 +28,8 @@ mod stations;
 #[cfg(test)]
 mod table_entries;
 #[cfg(test)]
+mod texts;
+#[cfg(test)]
 mod token_places;
 #[cfg(test)]
 mod world_rows;

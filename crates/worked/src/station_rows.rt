@@ -1,8 +1,9 @@
 // What stations and desks answer step by step, and what they leave.
 
 use crate::stations::{Played, Step, play};
+use crate::texts::{STILL, TELLING, TWO_RISING, UP};
 use il_machine::Value;
-use lift_image::{CarOutputs, Motor};
+use lift_image::CarOutputs;
 use lift_sink::sink::Memory;
 use lift_spec::calls::{Answer, Call, Slot};
 use lift_spec::journal::Entry;
@@ -10,22 +11,6 @@ use lift_spec::report::{Denial, Rule};
 use lift_trace::write::write_trace;
 use std::alloc::Global;
 use std::test::Fail;
-
-// Two cars whose motors are asked to go up.
-const TWO_RISING: &[u8] = b"PROGRAM C
-LD 1
-ST MOTOR
-END_PROGRAM
-CONFIGURATION K
-VAR_GLOBAL CONSTANT CARS : INT := 2; FLOORS : INT := 2; SLOTS : INT := 1; END_VAR
-RESOURCE M ON PLC
-TASK CAR1 (INTERVAL := T#100ms, PRIORITY := 1);
-TASK CAR2 (INTERVAL := T#100ms, PRIORITY := 1);
-PROGRAM P1 WITH CAR1 : C;
-PROGRAM P2 WITH CAR2 : C;
-END_RESOURCE
-END_CONFIGURATION
-";
 
 // One car whose motor is asked to go up.
 const RISING: &[u8] = b"PROGRAM C
@@ -53,26 +38,6 @@ END_RESOURCE
 END_CONFIGURATION
 ";
 
-// One car that serves slot 1 in each scan, and a group that tells it slot 1.
-const TELLING: &[u8] = b"PROGRAM C
-LD 1
-ST SERVE
-END_PROGRAM
-PROGRAM D
-LD 1
-ST ASSIGN[1]
-END_PROGRAM
-CONFIGURATION K
-VAR_GLOBAL CONSTANT CARS : INT := 1; FLOORS : INT := 8; SLOTS : INT := 1; END_VAR
-RESOURCE M ON PLC
-TASK CAR1 (INTERVAL := T#100ms, PRIORITY := 1);
-TASK GROUP (INTERVAL := T#100ms, PRIORITY := 1);
-PROGRAM P1 WITH CAR1 : C;
-PROGRAM P2 WITH GROUP : D;
-END_RESOURCE
-END_CONFIGURATION
-";
-
 // Car 1 writes G, and car 2 copies it into H.
 const COPYING: &[u8] = b"PROGRAM A
 VAR_EXTERNAL G : INT; END_VAR
@@ -95,16 +60,6 @@ PROGRAM P2 WITH CAR2 : B;
 END_RESOURCE
 END_CONFIGURATION
 ";
-
-const UP: CarOutputs = CarOutputs {
-    motor: Motor::Up,
-    opens: false,
-};
-
-const STILL: CarOutputs = CarOutputs {
-    motor: Motor::Still,
-    opens: false,
-};
 
 /// Whether the trace of a journal is this text.
 fn has_trace(alloc: Global, journal: &[Entry], text: &str) -> bool {

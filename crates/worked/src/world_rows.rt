@@ -1,27 +1,12 @@
 // What groups reply to events in any order, and what these leave. No command shows it: `sim` hands in what its plant gives.
 
 use crate::group::{Given, play};
+use crate::texts::{STILL, TELLING, TWO_RISING, UP};
 use lift_image::{CarOutputs, Motor};
 use lift_spec::calls::{Answer, Call, Slot};
 use lift_spec::event::{EventFault, Reply};
 use lift_spec::report::{Denial, Rule};
 use std::test::Fail;
-
-// Two cars whose motors are asked to go up; a scan has three steps.
-const RISING: &[u8] = b"PROGRAM C
-LD 1
-ST MOTOR
-END_PROGRAM
-CONFIGURATION K
-VAR_GLOBAL CONSTANT CARS : INT := 2; FLOORS : INT := 2; SLOTS : INT := 1; END_VAR
-RESOURCE M ON PLC
-TASK CAR1 (INTERVAL := T#100ms, PRIORITY := 1);
-TASK CAR2 (INTERVAL := T#100ms, PRIORITY := 1);
-PROGRAM P1 WITH CAR1 : C;
-PROGRAM P2 WITH CAR2 : C;
-END_RESOURCE
-END_CONFIGURATION
-";
 
 // One car with an empty program; a scan has one step.
 const IDLE: &[u8] = b"PROGRAM C
@@ -34,36 +19,6 @@ PROGRAM P1 WITH CAR1 : C;
 END_RESOURCE
 END_CONFIGURATION
 ";
-
-// One car that serves slot 1 in each scan, and a group that tells it slot 1; a scan has three steps.
-const TELLING: &[u8] = b"PROGRAM C
-LD 1
-ST SERVE
-END_PROGRAM
-PROGRAM D
-LD 1
-ST ASSIGN[1]
-END_PROGRAM
-CONFIGURATION K
-VAR_GLOBAL CONSTANT CARS : INT := 1; FLOORS : INT := 8; SLOTS : INT := 1; END_VAR
-RESOURCE M ON PLC
-TASK CAR1 (INTERVAL := T#100ms, PRIORITY := 1);
-TASK GROUP (INTERVAL := T#100ms, PRIORITY := 1);
-PROGRAM P1 WITH CAR1 : C;
-PROGRAM P2 WITH GROUP : D;
-END_RESOURCE
-END_CONFIGURATION
-";
-
-const UP: CarOutputs = CarOutputs {
-    motor: Motor::Up,
-    opens: false,
-};
-
-const STILL: CarOutputs = CarOutputs {
-    motor: Motor::Still,
-    opens: false,
-};
 
 // Events handed to the group of a text, what it replies, and its last report and its slots then.
 struct WorldRow {
@@ -79,7 +34,7 @@ struct WorldRow {
 static ROWS: [WorldRow; 6] = [
     // Of two cars, that which commits first under a run limit of 1 runs.
     WorldRow {
-        text: RISING,
+        text: TWO_RISING,
         given: &[
             Given::Refresh {
                 run_limit: 1,
@@ -120,7 +75,7 @@ static ROWS: [WorldRow; 6] = [
     },
     // Under a lower run limit a refresh stops the car of the highest number.
     WorldRow {
-        text: RISING,
+        text: TWO_RISING,
         given: &[
             Given::Refresh {
                 run_limit: 2,
