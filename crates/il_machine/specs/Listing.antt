@@ -5,7 +5,7 @@ use Rattle.std.specs.Coded.{Coded, code_by, coded×, coded_list, coded_ℕ, code
 use Rattle.il_spec.specs.declared.tree.Unit.{Unit as Organized}
 use Rattle.il_spec.specs.declared.tree.Task.{Task}
 use Rattle.il_spec.specs.declared.tree.ProgramLine.{ProgramLine}
-use Rattle.il_budget.specs.declared.units.UnitCost.{UnitCost}
+use Rattle.il_budget.specs.Costs.{UnitCost}
 use Rattle.il_machine.specs.declared.verified.UnitInfo.{UnitInfo}
 use Rattle.il_machine.specs.declared.verified.TaskInfo.{TaskInfo}
 use Rattle.il_table.specs.NameMap.{Text}
@@ -36,6 +36,13 @@ abbrev pub unit_lines : List Organized → List UnitCost → List UnitLine
 unit_lines [] costs = []
 unit_lines (u ∷ us) [] = []
 unit_lines (u ∷ us) (c ∷ cs) = unit_line u c ∷ unit_lines us cs
+
+-- each unit with its cost and its path, to the end of the shortest list (own rule)
+abbrev pub lines_with : List Organized → List ℕ → List (List ℕ) → List UnitLine
+lines_with [] costs paths = []
+lines_with (u ∷ us) [] paths = []
+lines_with (u ∷ us) (c ∷ cs) [] = []
+lines_with (u ∷ us) (c ∷ cs) (p ∷ ps) = record { name = u.name.name; cost = c; path = p } ∷ lines_with us cs ps
 
 -- what is shown of a unit (own rule)
 abbrev pub unit_shown : UnitInfo → UnitLine

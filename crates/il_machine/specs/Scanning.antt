@@ -6,8 +6,7 @@ use Rattle.il_spec.specs.declared.tree.Config.{Config}
 use Rattle.il_spec.specs.declared.tree.Unit.{Unit as ProgramUnit}
 use Rattle.il_rules.specs.Faults.{Declaring, Typing, Ordering, Broken, HasNoFault}
 use Rattle.il_rules.specs.Written.{IsWritten, IsNested}
-use Rattle.il_budget.specs.contracts.units.UnitCost as unit_cost
-use Rattle.il_budget.specs.declared.units.UnitCost.{UnitCost}
+use Rattle.il_budget.specs.Costs.{UnitCost, unit_cost_code}
 use Rattle.il_run.specs.declared.value.Content.{Content}
 use Rattle.il_table.specs.NameMap.{empty, with_entries}
 use Rattle.il_run.specs.State.{Values, Frame, State}
@@ -34,7 +33,7 @@ pub record Program : Type 0 where
 
 -- its code
 abbrev pub verified_code : Coded Program
-verified_code = code_by (Config × List UnitCost) (coded× config.the_row.coded (coded_list unit_cost.the_row.coded)) (λ p. (p.config, p.costs)) (λ c. record { config = c.0; costs = c.1 }) (λ _. refl)
+verified_code = code_by (Config × List UnitCost) (coded× config.the_row.coded (coded_list unit_cost_code)) (λ p. (p.config, p.costs)) (λ c. record { config = c.0; costs = c.1 }) (λ _. refl)
 
 -- A configuration that the machine runs: a text spells it, it breaks no rule, each unit has an annotation, and no more parentheses are open at once than a text may have.
 pub record IsRunnable (c : Config) : Type 0 where

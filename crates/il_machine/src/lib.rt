@@ -10,7 +10,6 @@ mod sharing;
 pub mod store;
 pub mod verified;
 
-pub use il_budget::UnitCost;
 pub use il_exec::rows::Rows;
 pub use il_image::opening_image;
 pub use il_run::value::Value;

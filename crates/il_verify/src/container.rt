@@ -10,9 +10,15 @@ use std::marker::Model;
 
 /// The code of a configuration of which no rule of declarations, types and order is broken, each instruction of which has ranges, so that
 /// none of its scans traps.
-#[derive(Drop)]
 pub struct Checked {
     code: Code,
+}
+
+// Written by hand, since who drops a type whose drop is derived proves the drop of each type inside again.
+impl Drop for Checked {
+    fn drop(self) {
+        let Checked { code: _code } = self;
+    }
 }
 
 impl Model for Checked {
@@ -47,10 +53,10 @@ impl Checked {
     }
 
     /// The code.
-    pub fn into_code(self) -> Code
-        ensures is { result ≡ self }
-        ensures annotated { Annotated self }
+    pub fn code(&self) -> &Code
+        ensures is { result.now ≡ self.now }
+        ensures annotated { Annotated self.now }
     {
-        self.code
+        &self.code
     }
 }

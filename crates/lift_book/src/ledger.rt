@@ -70,7 +70,6 @@ impl Ledger {
         ensures kept { IfOk result IsLedger }
     {
         let _config = verified.config();
-        let _costs = verified.costs();
         let opened = opening(alloc, verified)?;
         let journal = Vec::with_capacity(alloc, capacity)?;
         Ok(Ledger {

@@ -14,11 +14,10 @@ ghost use Rattle.lift_load.specs.Loading.{IsSpelled, SpellsOnly, SpellsNone, IsU
 use il_budget::budget;
 use il_code::{Code, code};
 use il_declare::declare;
-use il_machine::{UnitCost, Verified};
+use il_machine::Verified;
 use il_order::{Ordered, ordered};
 use il_parse::{Written, parse};
 use il_spec::fault::Refusal;
-use il_spec::list::Items;
 use il_spec::pair::both;
 use il_text::tokens;
 use il_typed::{Typed, typed};
@@ -75,28 +74,9 @@ fn affordable(alloc: Global, checked: Checked) -> Result<Verified, Refusal>
     ensures costs { IfOk result (λ v. v.costs ≡ map (cost_of v.config) v.config.units) }
     ensures refused { IfErr result (IsRefusedBy (IsTooLong checked)) }
 {
-    let costs = costs(alloc, &checked);
-    let (checked, costs) = both(checked, costs)?;
-    with_costs(alloc, checked, costs)
-}
-
-// A configuration with ranges, verified, by what its units cost.
-fn with_costs(alloc: Global, checked: Checked, costs: Items<UnitCost>) -> Result<Verified, Refusal>
-    requires costs { costs ≡ map (cost_of checked) checked.units }
-    ensures same { IfOk result (λ v. v.config ≡ checked) }
-    ensures costs { IfOk result (λ v. v.costs ≡ map (cost_of v.config) v.config.units) }
-    ensures memory { IfErr result (λ e. e ≡ Memory) }
-{
-    Ok(Verified::of(alloc, checked.into_code(), costs)?)
-}
-
-// What each unit costs, or the first that costs too much.
-fn costs(alloc: Global, checked: &Checked) -> Result<Items<UnitCost>, Refusal>
-    ensures costs { IfOk result (λ costs. costs ≡ map (cost_of checked.now) checked.now.units) }
-    ensures affordable { IfOk result (λ _. HasNoFault (IsTooLong checked.now)) }
-    ensures refused { IfErr result (IsRefusedBy (IsTooLong checked.now)) }
-{
-    budget(alloc, checked.names())
+    let found = budget(alloc, &checked);
+    let (checked, found) = both(checked, found)?;
+    Ok(Verified::of(alloc, checked, found.0, found.1)?)
 }
 
 // The code of a configuration each of whose instructions has ranges, or the first fault before.

@@ -153,7 +153,6 @@ impl Controller {
         ensures world { IfOk result IsWorldOf }
     {
         let _config = verified.config();
-        let _costs = verified.costs();
         let opened = opening(alloc, &verified);
         let (verified, opened) = both(verified, opened)?;
         Ok(Controller::of(verified, opened))

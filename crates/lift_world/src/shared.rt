@@ -34,12 +34,23 @@ pub struct Seat {
 }
 
 /// What the tasks of a group share, and the tasks: GROUP first, then CAR1 and so on; none where the group has no such task.
-#[derive(Drop)]
 pub struct Core {
     image: Image,
     calls: CallBook,
     globals: Rows,
     seats: Vec<Option<Seat>>,
+}
+
+// Written by hand, since who drops a type whose drop is derived proves the drop of each type inside again.
+impl Drop for Core {
+    fn drop(self) {
+        let Core {
+            image: _image,
+            calls: _calls,
+            globals: _globals,
+            seats: _seats,
+        } = self;
+    }
 }
 
 // A task as it opens, if the group has it.

@@ -28,7 +28,7 @@ returns-clause-world c =
     rw (c.of.ensures.verified, c.of.ensures.core, c.of.ensures.stores, c.of.ensures.calls.0, c.of.ensures.calls.1, c.in_ok-verified.ensures.ok.0)
     (record {
       runnable = c.config-config.ensures.runnable;
-      costs = c.costs-costs.ensures.greatest;
+      costs = c.config-config.ensures.costs;
       rows = subst (λ r. IfOk r (λ (o : Opened). CoreFits config o.core)) c.in_ok-verified.ensures.ok.1 c.opening-opened.ensures.rows;
       stores = subst (λ r. IfOk r (λ (o : Opened). StoresFit config o.core o.stores.items)) c.in_ok-verified.ensures.ok.1 c.opening-opened.ensures.stores;
       reached = opening_reached config _ (world_opens config c.in_ok-verified.opened.core c.in_ok-verified.opened.stores.items (group c) (many c));
