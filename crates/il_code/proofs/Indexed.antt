@@ -4,8 +4,8 @@ use Rattle.std.proofs.lemmas.List.{map-append}
 use Rattle.il_spec.specs.declared.tree.Config.{Config}
 use Rattle.il_spec.specs.declared.tree.Unit.{Unit as ProgramUnit}
 use Rattle.il_rules.specs.Names.{or_else}
-use Rattle.il_table.specs.NameMap.{NameMap, Text, get}
-use Rattle.il_scope.specs.Tables.{with_new, AreUnits}
+use Rattle.il_table.specs.NameMap.{NameMap, Text, get, with_new}
+use Rattle.il_scope.specs.Tables.{AreUnits}
 use Rattle.il_scope.specs.Views.{place_of}
 use Rattle.il_scope.proofs.Filled.{get-with_new, take_next, take_all}
 use Rattle.il_slots.specs.declared.flat.Cell.{Cell}

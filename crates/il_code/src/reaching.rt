@@ -7,7 +7,6 @@ ghost use Rattle.il_run.specs.Meaning.{entities, own_entities};
 ghost use Rattle.il_order.specs.Related.{is_set, holds, tabulate};
 ghost use Rattle.il_code.specs.Laying.{is_there, noted, with_instance, with_instances, with_named, with_call, with_calls, used_by, leads, path_row, paths_to, all_paths};
 
-use crate::slots::put_new;
 use il_scope::Scoped;
 use il_spec::list::Items;
 use il_spec::tree::{Declaration, Form, Instruction, Named, Step, Unit};
@@ -21,7 +20,7 @@ fn unit_table(alloc: Global, names: &Scoped) -> Result<Table<usize>, AllocError>
     let units = names.config().units.as_slice();
     let mut table = Table::new(alloc);
     for at in 0..units.len() {
-        put_new(alloc, &mut table, units[at].name.name.as_str(), at)?;
+        table.put_new(alloc, units[at].name.name.as_str(), at)?;
     }
     Ok(table)
 }

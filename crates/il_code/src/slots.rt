@@ -1,7 +1,6 @@
 // The slots of a task, and the slot of each path.
 
 ghost use Rattle.std.specs.Prelude.{◌≡◌, ◌++◌, map, IfOk, OnOk};
-ghost use Rattle.il_scope.specs.Tables.{with_new};
 ghost use Rattle.il_code.specs.Laying.{cell_of};
 ghost use Rattle.il_code.specs.Tasks.{AreIndexed};
 
@@ -12,28 +11,13 @@ use il_spec::name::Name;
 use il_table::Table;
 use std::alloc::{AllocError, Global};
 
-/// Adds a name with its entry, if it is not there.
-pub fn put_new(
-    alloc: Global,
-    table: &mut Table<usize>,
-    name: &str,
-    entry: usize,
-) -> Result<(), AllocError>
-    ensures { OnOk result (table.new ≡ with_new table.old name.now entry) }
-{
-    if table.get(name).is_some() {
-        return Ok(());
-    }
-    table.put(alloc, name, entry)
-}
-
 /// The slot of each path.
 pub fn index_of(alloc: Global, cells: &[Cell]) -> Result<Table<usize>, AllocError>
     ensures { IfOk result (λ t. AreIndexed t cells.now) }
 {
     let mut table = Table::new(alloc);
     for slot in 0..cells.len() {
-        put_new(alloc, &mut table, cells[slot].path.as_str(), slot)?;
+        table.put_new(alloc, cells[slot].path.as_str(), slot)?;
     }
     Ok(table)
 }

@@ -13,7 +13,7 @@ use Rattle.il_table.specs.NameMap.{Text, order, get, with_entries, get-insert, s
 use Rattle.il_run.specs.State.{Values}
 use Rattle.il_run.specs.Scan.{entries_at}
 use Rattle.il_sound.proofs.Lists.{at_head, in_tail}
-use Rattle.il_table.proofs.Copies.{same_text}
+use Rattle.il_table.proofs.Texts.{same_text}
 use Rattle.il_slots.specs.declared.flat.Cell.{Cell}
 use Rattle.il_slots.specs.Flattened.{place_or_zero}
 use Rattle.il_slots.specs.Layout.{Rows, Fits, HasKind, number_part, flag_part, value_by, view, view_of}

@@ -11,7 +11,7 @@ use Rattle.il_table.specs.NameMap.{Text, order, get, insert, empty, from_entries
 use Rattle.il_run.specs.State.{Values}
 use Rattle.il_run.specs.Scan.{entries_at, restricted}
 use Rattle.il_table.specs.ByText.{HaveSameNames}
-use Rattle.il_table.proofs.Copies.{same_text, same_names-insert}
+use Rattle.il_table.proofs.Texts.{same_text, same_names-insert}
 use Rattle.il_slots.specs.declared.flat.Cell.{Cell}
 use Rattle.il_slots.specs.Layout.{Rows, Fits, value_by, view_of, view}
 use Rattle.il_machine.specs.Scanning.{over, front, behind}

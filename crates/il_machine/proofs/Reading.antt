@@ -6,7 +6,7 @@ use Rattle.std.proofs.lemmas.Slice.Eq.{bytes_eq-Decides}
 use Rattle.il_rules.specs.Declarations.{declared_limits}
 use Rattle.il_run.specs.declared.value.Value.{Value}
 use Rattle.il_table.specs.NameMap.{Text, order, get, get-empty, get-insert}
-use Rattle.il_table.proofs.Copies.{same_text}
+use Rattle.il_table.proofs.Texts.{same_text}
 use Rattle.il_slots.specs.declared.flat.Cell.{Cell}
 use Rattle.il_slots.specs.Layout.{Rows, rows, view_of, value_by}
 use Rattle.il_slots.specs.Paths.{slot_at}

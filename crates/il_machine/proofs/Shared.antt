@@ -31,7 +31,7 @@ use Rattle.il_sound.proofs.Lists.{in_nothing, at_head, in_tail}
 use Rattle.il_sound.proofs.Opening.{globals_open}
 use Rattle.il_sound.proofs.Paths.{value_of, values_of}
 use Rattle.il_sound.proofs.Texts.{element_is}
-use Rattle.il_table.proofs.Copies.{same_text}
+use Rattle.il_table.proofs.Texts.{same_text}
 use Rattle.il_slots.specs.declared.flat.Cell.{Cell}
 use Rattle.il_slots.specs.Cells.{element_cells, cells_at, entity_cells, instance_cells, IsPlain, AreNamed}
 use Rattle.il_slots.specs.Flattened.{place_or_zero}

@@ -12,7 +12,7 @@ use Rattle.il_spec.specs.declared.tree.Declaration.{Declaration}
 use Rattle.il_spec.specs.declared.tree.ProgramLine.{ProgramLine}
 use Rattle.il_spec.specs.declared.tree.Named.{Named}
 use Rattle.il_spec.specs.declared.tree.Form.{Form}
-use Rattle.il_table.specs.NameMap.{NameMap, get, insert, get-insert, empty, get-empty}
+use Rattle.il_table.specs.NameMap.{NameMap, get, insert, with_new, get-insert, empty, get-empty}
 use Rattle.il_rules.specs.Names.{Spelling, or_else, entry_of, is_one_of, named_forms, program_role, role_from, task_role}
 use Rattle.il_rules.specs.Names as rule
 use Rattle.il_scope.specs.declared.entry.VariableType.{VariableType}
@@ -26,7 +26,7 @@ use Rattle.il_scope.specs.declared.image.ImageRow.{ImageRow}
 use Rattle.il_spec.specs.declared.tree.UnitKind.{UnitKind}
 use Rattle.il_scope.specs.Words.{is_name}
 use Rattle.il_scope.specs.Images.{image_in, row_among}
-use Rattle.il_scope.specs.Tables.{with_new, with_role, with_role_of, HasForms, HasNames, HasList, HasImages, HasRoles, IsScope, AreScopes}
+use Rattle.il_scope.specs.Tables.{with_role, with_role_of, HasForms, HasNames, HasList, HasImages, HasRoles, IsScope, AreScopes}
 use Rattle.il_scope.specs.Meanings.{listed_as, image_seen}
 
 -- what a table has after an insertion

@@ -11,7 +11,7 @@ use Rattle.il_spec.specs.declared.tree.Scalar.{Scalar}
 use Rattle.il_spec.specs.declared.tree.Place.{Place}
 use Rattle.il_spec.specs.declared.tree.Form.{Form}
 use Rattle.il_spec.specs.declared.tree.Form.TheVariants.{Scalar as OfScalar}
-use Rattle.il_table.specs.NameMap.{NameMap, get, empty, get-empty}
+use Rattle.il_table.specs.NameMap.{NameMap, get, with_new, empty, get-empty}
 use Rattle.il_rules.specs.Names as rule
 use Rattle.il_rules.specs.Names.{Spelling, or_else, entry_of, is_one_of, BlockVariables, own_block_variables, named_forms, with_origin, result_of, variables_of, own_variable, is_predeclared, is_program_kind, is_seen_by, Everybody, CarPrograms, GroupPrograms, CarRole, GroupRole, sees, image_meaning, unit_named, global_meaning, outer_meaning, image_name, program_role, meaning, MeansVariable, MeansUnit, MeansStandard, AsInput, AsOutput, AsVariable, AsExternal}
 use Rattle.il_rules.specs.Declarations.{names_of_units}
@@ -29,7 +29,7 @@ use Rattle.il_scope.specs.Entries.{origin_entry, audience_entry, role_entry}
 use Rattle.il_scope.specs.Views.{place_of, unit_number, type_of, variable_of, image_entry, binding_of}
 use Rattle.il_scope.specs.declared.image.ImageRow.{ImageRow}
 use Rattle.il_scope.specs.Images.{image_in, named, row_among, image_entries}
-use Rattle.il_scope.specs.Tables.{with_new, seen_variable, HasVariables, HasList, HasImages, role_of, own_seen, HasOwn, IsScope, AreScopes}
+use Rattle.il_scope.specs.Tables.{seen_variable, HasVariables, HasList, HasImages, role_of, own_seen, HasOwn, IsScope, AreScopes}
 use Rattle.il_scope.specs.Meanings.{listed_as, own_result, seen_by, image_seen, variable_binding, global_binding}
 use Rattle.il_scope.proofs.Filled.{or_else_assoc, map-or_else, get-with_new}
 use Rattle.il_scope.proofs.Known.{image_is}

@@ -5,7 +5,7 @@ use Rattle.il_spec.specs.declared.tree.Unit.{Unit as ProgramUnit}
 use Rattle.il_spec.specs.declared.tree.ProgramLine.{ProgramLine}
 use Rattle.il_spec.specs.declared.tree.Declaration.{Declaration}
 use Rattle.il_spec.specs.declared.tree.Named.{Named}
-use Rattle.il_table.specs.NameMap.{NameMap, get, insert}
+use Rattle.il_table.specs.NameMap.{NameMap, get, with_new}
 use Rattle.il_rules.specs.Names.{Spelling, or_else, entry_of, is_one_of, named_forms, own_variable, image_name, task_role, program_role}
 use Rattle.il_rules.specs.Names as rule
 use Rattle.il_rules.specs.Declarations.{names_of_units}
@@ -21,10 +21,6 @@ use Rattle.il_scope.specs.Entries.{role_entry}
 use Rattle.il_scope.specs.Images.{image_in, row_among}
 use Rattle.il_scope.specs.Views.{place_of, type_of, variable_of, image_entry}
 use Rattle.il_scope.specs.Meanings.{listed_as, image_seen}
-
--- a table with a name that it did not have
-abbrev pub with_new : {X : Type 0} → NameMap X → Spelling → X → NameMap X
-with_new table name entry = if is_some (get table name) then table else insert table name entry
 
 -- the number of the first unit of each name
 abbrev pub AreUnits : Config → NameMap ℕ → Type 0

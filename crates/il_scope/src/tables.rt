@@ -5,7 +5,7 @@ ghost use Rattle.il_rules.specs.Names.{Spelling, or_else};
 ghost use Rattle.il_table.specs.NameMap as table;
 ghost use Rattle.il_scope.specs.Views.{place_of, type_of};
 ghost use Rattle.il_scope.specs.Meanings.{own_result};
-ghost use Rattle.il_scope.specs.Tables.{with_new, with_role, AreUnits, HasForms, HasNames, HasRoles, HasList, HasVariables, HasImages, HasOwn, IsScope, AreScopes, AreTables};
+ghost use Rattle.il_scope.specs.Tables.{with_role, AreUnits, HasForms, HasNames, HasRoles, HasList, HasVariables, HasImages, HasOwn, IsScope, AreScopes, AreTables};
 
 use crate::entry::{Origin, Role, Variable, VariableType};
 use crate::image::{ImageRow, image_in, image_rows};
@@ -70,7 +70,7 @@ fn unit_table(alloc: Global, units: &[Unit]) -> Result<Table<usize>, AllocError>
 {
     let mut table = Table::new(alloc);
     for index in 0..units.len() {
-        put_new(alloc, &mut table, units[index].name.name.as_str(), index)?;
+        table.put_new(alloc, units[index].name.name.as_str(), index)?;
     }
     Ok(table)
 }
@@ -96,7 +96,7 @@ fn put_role(
     ensures { OnOk result (roles.new ≡ with_role cars line.now roles.old) }
 {
     match task_role(cars, line.task.name.as_str()) {
-        Some(role) => put_new(alloc, roles, line.program.name.as_str(), role),
+        Some(role) => roles.put_new(alloc, line.program.name.as_str(), role),
         None => Ok(()),
     }
 }
@@ -169,7 +169,7 @@ fn put_images(
 {
     for row in rows {
         let seen = image_seen(kind, role, image_in(config, row));
-        put_new(alloc, own, row.name, seen)?;
+        own.put_new(alloc, row.name, seen)?;
     }
     Ok(())
 }
@@ -235,7 +235,7 @@ fn put_result(
                 declared: VariableType::Scalar(scalar),
                 origin: Origin::FunctionResult,
             };
-            put_new(alloc, own, unit.name.name.as_str(), Some(result))
+            own.put_new(alloc, unit.name.name.as_str(), Some(result))
         }
         _ => Ok(()),
     }
@@ -289,24 +289,9 @@ fn put_names<X: Copy>(
     ensures { OnOk result (HasNames names.now value table.old table.new) }
 {
     for named in names {
-        put_new(alloc, table, named.name.as_str(), value)?;
+        table.put_new(alloc, named.name.as_str(), value)?;
     }
     Ok(())
-}
-
-// Adds a name with its entry, if it is not there.
-fn put_new<X: Copy>(
-    alloc: Global,
-    table: &mut Table<X>,
-    name: &str,
-    entry: X,
-) -> Result<(), AllocError>
-    ensures { OnOk result (table.new ≡ with_new table.old name.now entry) }
-{
-    if table.get(name).is_some() {
-        return Ok(());
-    }
-    table.put(alloc, name, entry)
 }
 
 /// A written type.

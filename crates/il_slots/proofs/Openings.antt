@@ -18,7 +18,7 @@ use Rattle.il_sound.proofs.Lists.{in_nothing, at_head, in_tail}
 use Rattle.il_sound.proofs.Listing.{used_stack}
 use Rattle.il_sound.proofs.Used.{used_among}
 use Rattle.il_sound.proofs.Declared.{one_unit}
-use Rattle.il_table.proofs.Copies.{same_text}
+use Rattle.il_table.proofs.Texts.{same_text}
 use Rattle.il_slots.specs.declared.flat.Cell.{Cell}
 use Rattle.il_slots.specs.Layout.{AreOnce, view}
 use Rattle.il_slots.specs.Cells.{entity_cells, instance_cells}

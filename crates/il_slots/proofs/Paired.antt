@@ -5,7 +5,7 @@ use Rattle.std.specs.Ordering.{eq_by_cmp}
 use Rattle.std.proofs.lemmas.Option.{same_Some}
 use Rattle.std.proofs.lemmas.Slice.Eq.{bytes_eq-Decides}
 use Rattle.il_table.specs.NameMap.{Text, order}
-use Rattle.il_table.proofs.Copies.{same_text}
+use Rattle.il_table.proofs.Texts.{same_text}
 use Rattle.il_slots.specs.declared.flat.Cell.{Cell}
 use Rattle.il_slots.specs.Layout.{AreOnce}
 use Rattle.il_slots.specs.Paths.{slot_at, path_at, ArePaired}

@@ -13,7 +13,7 @@ use Rattle.il_spec.specs.declared.tree.Form.TheVariants.{Scalar as ScalarForm, A
 use Rattle.il_spec.specs.declared.tree.Config.{Config}
 use Rattle.il_table.specs.NameMap.{Text, order}
 use Rattle.il_run.specs.Meaning.{Entity, under, element_path, width, block_entities}
-use Rattle.il_table.proofs.Copies.{same_text}
+use Rattle.il_table.proofs.Texts.{same_text}
 use Rattle.il_slots.specs.declared.flat.Cell.{Cell}
 use Rattle.il_slots.specs.Layout.{cell, IsNew, AreOnce}
 use Rattle.il_slots.specs.Cells.{element_cells, cells_at, entity_cells, instance_cells, offset_in, form_in, Stands, IsShort, HasShort, IsPlain, HasNone, AreNamed}

@@ -1,5 +1,5 @@
 -- What the map from paths answers.
-use Rattle.std.proofs.Common.{◌≡◌, List, [], ◌∷◌, length, sym, ap, ◌∙◌, cond, Some, None, HashMap, arith}
+use Rattle.std.proofs.Common.{◌≡◌, List, [], ◌∷◌, length, sym, ap, ◌∙◌, cond, Some, None, arith}
 use Rattle.std.specs.Prelude.{String}
 use Rattle.std.proofs.lemmas.Cmp.{nat_list_cmp_total}
 use Rattle.std.specs.Cmp.Lexicographic.{slice_cmp}
@@ -8,8 +8,8 @@ use Rattle.std.specs.Cmp.{eq_by_cmp_equiv}
 use Rattle.std.specs.Str.{bytes_eq}
 use Rattle.std.specs.Map.{lookup}
 use Rattle.std.specs.String.{string_bytes, string_eq}
-use Rattle.std.specs.HashMap as hash
 use Rattle.std.proofs.lemmas.Map.Text.{hash_map_updates_text, is_eq-slice_cmp}
+use Rattle.indexmap.specs.IndexMap.{IndexMap, Updates, UpdatesBy, get_by_text}
 use Rattle.il_table.specs.NameMap.{Text, get, insert, get-insert, get-empty, same_map}
 use Rattle.il_table.specs.ByText.{by_text}
 
@@ -25,16 +25,16 @@ pub none_in_empty : {A X : Type 0} (es : List (String A × X)) (q : Text) → le
 none_in_empty [] q none = sym (get-empty q)
 none_in_empty (e ∷ es) q none = absurd (omega arith)
 
-pub get-by_text : {A X S : Type 0} (m : HashMap (String A) X S) (q : Text) → get (by_text m.entries) q ≡ hash.get_by_text m q
+pub get-by_text : {A X S : Type 0} (m : IndexMap (String A) X S) (q : Text) → get (by_text m.entries) q ≡ get_by_text m q
 get-by_text m q = get-by_text_entries m.entries q
 
 -- a write at a path is an insertion
-pub by_text-set : {A X S : Type 0} (m n : HashMap (String A) X S) (k : Text) (v : X) → hash.UpdatesBy string_eq (λ x. bytes_eq k (string_bytes x)) m n (Some v) → by_text n.entries ≡ insert (by_text m.entries) k v
+pub by_text-set : {A X S : Type 0} (m n : IndexMap (String A) X S) (k : Text) (v : X) → UpdatesBy string_eq (λ x. bytes_eq k (string_bytes x)) m n (Some v) → by_text n.entries ≡ insert (by_text m.entries) k v
 by_text-set m n k v h = same_map _ _ (λ q.
     get-by_text n q ∙ hash_map_updates_text k m n (Some v) h q
-    ∙ ap (λ b. cond b (Some v) (hash.get_by_text m q)) (sym (is_eq-slice_cmp k q) ∙ (eq_by_cmp_equiv nat_list_cmp_total).symm k q)
+    ∙ ap (λ b. cond b (Some v) (get_by_text m q)) (sym (is_eq-slice_cmp k q) ∙ (eq_by_cmp_equiv nat_list_cmp_total).symm k q)
     ∙ ap (λ o. cond (eq_by_cmp (slice_cmp nat_cmp) q k) (Some v) o) (sym (get-by_text m q)) ∙ sym (get-insert (by_text m.entries) k v q))
 
 -- an insertion into the table is one into the map
-pub by_text-insert : {A X S : Type 0} (m n : HashMap (String A) X S) (k : String A) (v : X) → hash.Updates string_eq m n k (Some v) → by_text n.entries ≡ insert (by_text m.entries) (string_bytes k) v
+pub by_text-insert : {A X S : Type 0} (m n : IndexMap (String A) X S) (k : String A) (v : X) → Updates string_eq m n k (Some v) → by_text n.entries ≡ insert (by_text m.entries) (string_bytes k) v
 by_text-insert m n k v h = by_text-set m n (string_bytes k) v h

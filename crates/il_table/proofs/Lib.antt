@@ -1,2 +1,2 @@
 pub mod ByText
-pub mod Copies
+pub mod Texts

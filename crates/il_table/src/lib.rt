@@ -1,18 +1,23 @@
 //! Tables: an entry for each of some names.
 #![tactic(auto)]
 
-ghost use Rattle.std.specs.Prelude.{◌≡◌, IfOk, IsSome, OnOk, OnErr};
+ghost use Rattle.std.specs.Prelude.{◌≡◌, OnOk, OnErr};
 ghost use Rattle.il_table.specs.NameMap as map;
-ghost use Rattle.il_table.specs.ByText.{HaveSameNames, by_text};
 
+use indexmap::IndexMap;
 use std::alloc::{AllocError, Global};
-use std::collections::HashMap;
 use std::marker::Model;
 
-/// A table: an entry for each of some names, as `V`. Contracts see the finite map.
-#[derive(Drop)]
+/// A table: an entry for each of some names, in the order in which they were first put in. Contracts see the finite map.
 pub struct Table<X: Copy> {
-    map: HashMap<String, X>,
+    map: IndexMap<String, X>,
+}
+
+// Written by hand, since who drops a type whose drop is derived proves the drop of each type inside again.
+impl<X: Copy> Drop for Table<X> {
+    fn drop(self) {
+        let Table { map: _map } = self;
+    }
 }
 
 impl<X: Copy> Model for Table<X> {
@@ -32,7 +37,7 @@ impl<X: Copy> Table<X> {
         ensures { result ≡ map.empty }
     {
         Table {
-            map: HashMap::new(alloc),
+            map: IndexMap::new(alloc),
         }
     }
 
@@ -56,50 +61,14 @@ impl<X: Copy> Table<X> {
         Ok(())
     }
 
-    /// Gives a name that is there an entry.
-    pub fn set(&mut self, name: &str, entry: X)
-        requires { IsSome (map.get self.old name.now) }
-        ensures { self.new ≡ map.insert self.old name.now entry }
+    /// Adds a name with its entry, if it is not there.
+    pub fn put_new(&mut self, alloc: Global, name: &str, entry: X) -> Result<(), AllocError>
+        ensures ok { OnOk result (self.new ≡ map.with_new self.old name.now entry) }
+        ensures err { OnErr result (self.new ≡ self.old) }
     {
-        let Some(place) = self.map.get_mut(name) else {
-            unreachable!()
-        };
-        *place = entry;
+        if self.get(name).is_some() {
+            return Ok(());
+        }
+        self.put(alloc, name, entry)
     }
-
-    /// The same entries on memory of their own.
-    pub fn try_copy(&self, alloc: Global) -> Result<Table<X>, AllocError>
-        ensures { IfOk result (λ t. t ≡ self.now) }
-    {
-        copy_of(alloc, &self.map)
-    }
-
-    /// Takes all entries of a table with the same names.
-    pub fn copy_from(&mut self, other: &Table<X>)
-        requires { HaveSameNames self.old other.now }
-        ensures { self.new ≡ other.now }
-    {
-        put_all(self, &other.map);
-    }
-}
-
-// Writes all entries of a map with the same names.
-fn put_all<X: Copy>(table: &mut Table<X>, entries: &HashMap<String, X>)
-    requires { HaveSameNames table.old (by_text entries.now.entries) }
-    ensures { table.new ≡ by_text entries.now.entries }
-{
-    for (name, entry) in entries.iter() {
-        table.set(name.as_str(), *entry);
-    }
-}
-
-// The entries of a map.
-fn copy_of<X: Copy>(alloc: Global, entries: &HashMap<String, X>) -> Result<Table<X>, AllocError>
-    ensures { IfOk result (λ t. t ≡ by_text entries.now.entries) }
-{
-    let mut table = Table::new(alloc);
-    for (name, entry) in entries.iter() {
-        table.put(alloc, name.as_str(), *entry)?;
-    }
-    Ok(table)
 }

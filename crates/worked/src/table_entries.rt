@@ -9,9 +9,9 @@ fn keeps_entries(rt: HostRuntime) -> Result<(), Fail> {
     let mut table = Table::new(alloc);
     table.put(alloc, "A", 1u8)?;
     table.put(alloc, "POS", 2u8)?;
-    let mut copy = table.try_copy(alloc)?;
-    copy.put(alloc, "A", 3u8)?;
-    assert!(rt; copy.get("POS") == Some(2) && copy.get("B").is_none());
-    assert!(rt; copy.get("A") == Some(3) && table.get("A") == Some(1));
+    table.put_new(alloc, "POS", 4u8)?;
+    assert!(rt; table.get("A") == Some(1) && table.get("POS") == Some(2));
+    table.put(alloc, "A", 3u8)?;
+    assert!(rt; table.get("A") == Some(3) && table.get("B").is_none());
     Ok(())
 }
