@@ -19,7 +19,10 @@ use Rattle.il_sound.proofs.Lists.{found_in}
 use Rattle.il_sound.proofs.Meant.{program_is}
 use Rattle.il_code.specs.Laying.{used_by, all_paths, program_task}
 use Rattle.il_slots.specs.Program.{program_names}
-use Rattle.il_code.specs.Tasks.{TaskLayout, IsTaskOf, AreTasksOf, Belongs}
+use Rattle.il_slots.specs.Layout.{AreOnce}
+use Rattle.il_slots.proofs.Tasks.{cells_once}
+use Rattle.il_slots.proofs.Globals.{globals_once}
+use Rattle.il_code.specs.Tasks.{TaskLayout, IsTaskOf, AreGlobals, AreTasksOf, Belongs}
 use Rattle.il_slots.specs.Whole.{unit_code}
 use Rattle.il_slots.specs.declared.flat.UnitCode.{UnitCode}
 use Rattle.il_slots.proofs.Counted.{length_mapped, one_there}
@@ -109,3 +112,13 @@ belongs c flat ts written declared typed ordered units are = record {
     by_line line t p e None at found = cc
     by_line line t p e (Some l) at found =
         are.each line l t p at e found (record { written = written; declared = declared; typed = typed; ordered = λ number place differs. ordered number place; program = named_itself c l.program.name p found })
+
+-- no two slots of a task have one path
+pub task_once : (c : Config) (flat : List UnitCode) (ts : List TaskLayout) → Belongs c flat ts → (o : Option ProgramLine) (t : TaskLayout) (p : ProgramUnit) → program_of c o ≡ Some p → IsTaskOf c p t → AreOnce t.cells
+task_once c flat ts h None t p found is = cc
+task_once c flat ts h (Some l) t p found is =
+    subst AreOnce (sym is.cells) (cells_once c p (record { written = h.written; declared = h.declared; typed = h.typed; ordered = λ number place differs. h.ordered number place; program = named_itself c l.program.name p found }))
+
+-- nor have two of the globals
+pub shared_once : (c : Config) (flat : List UnitCode) (ts : List TaskLayout) → Belongs c flat ts → (t : TaskLayout) → AreGlobals c t → AreOnce t.cells
+shared_once c flat ts h t are = subst AreOnce (sym are.cells) (globals_once c h.declared h.written)

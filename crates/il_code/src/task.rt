@@ -1,9 +1,10 @@
 // The slots of tasks.
 
-ghost use Rattle.std.specs.Prelude.{◌≡◌, option_map, codes, IfOk};
+ghost use Rattle.std.specs.Prelude.{◌≡◌, Some, option_map, codes, IfOk, IfSome};
 ghost use Rattle.il_table.specs.NameMap as map;
 ghost use Rattle.il_slots.specs.Flattened.{place_or_zero};
 ghost use Rattle.il_code.specs.Laying.{laid_task};
+ghost use Rattle.il_slots.specs.Layout.{AreOnce};
 ghost use Rattle.il_slots.specs.Paths.{slot_at, path_at};
 
 use crate::laying::Opening;
@@ -103,14 +104,16 @@ impl TaskCode {
 
     /// The slot of a path, if a variable has it.
     pub fn slot_of(&self, path: &str) -> Option<usize>
-        ensures { result ≡ slot_at self.now.cells path.now }
+        ensures slot { result ≡ slot_at self.now.cells path.now }
+        ensures back { IfSome result (λ slot. path_at self.now.cells slot ≡ Some path.now) }
     {
         self.paths.get(path)
     }
 
-    /// The path of a slot, if there is one.
+    /// The path of a slot, if there is one. No two slots of a task have one path, nor two of the globals.
     pub fn name_of(&self, slot: usize) -> Option<&str>
-        ensures { option_map (λ s. s.now) result ≡ path_at self.now.cells slot }
+        ensures path { option_map (λ s. s.now) result ≡ path_at self.now.cells slot }
+        ensures back { AreOnce self.now.cells → IfSome result (λ path. slot_at self.now.cells path.now ≡ Some slot) }
     {
         match self.cells.as_slice().get(slot) {
             Some(cell) => Some(cell.path.as_str()),

@@ -17,7 +17,7 @@ use Rattle.il_spec.specs.declared.tree.Form.TheVariants.{Scalar as ScalarForm, A
 use Rattle.il_spec.specs.declared.tree.UnitKind.{UnitKind}
 use Rattle.il_spec.specs.declared.tree.UnitKind.TheVariants.{Function, FunctionBlock, Program}
 use Rattle.il_rules.specs.Names.{is_program, is_program_kind, ImageName, image_of, image_name, is_predeclared, standard_function, standard_block, standard_variables, StandardBlock, Sr, Rs, RTrig, FTrig, Ctu, Ctd, Ctud, Tp, Ton, Tof, sees}
-use Rattle.il_rules.specs.Declarations.{Admitted, ScalarsAlone, ScalarsAndArrays, admitted_variables, admits_arrays, types_in, unit_types, written_types, unit_declarations, unit_names, names_in, type_numbers, bounds_numbers, subrange_numbers, unless, has_value, is_within, sizes_of, predeclared_unit, predeclared_variable, second_variable, size_outside}
+use Rattle.il_rules.specs.Declarations.{Admitted, ScalarsAlone, ScalarsAndArrays, admitted_variables, admits_arrays, types_in, unit_types, written_types, unit_declarations, unit_names, names_in, type_numbers, bounds_numbers, subrange_numbers, unless, has_value, is_within, sizes_of, predeclared_unit, predeclared_variable, second_variable, second_global, size_outside}
 use Rattle.il_rules.specs.Faults.{duplicate, initial_outside, HasNoFault, Broken, Declaring}
 use Rattle.il_rules.specs.Written.{IsWord, IsWritten}
 use Rattle.il_table.specs.NameMap.{Text}
@@ -159,6 +159,19 @@ module _ (c : Config) (unbroken : HasNoFault (Broken Declaring c)) where
           let l = of_entities (unit_declarations u) e has in
           let word : IsWord l.name_of.name = written.names u l.name_of among (in_flat_map (λ (d : Declaration). d.names) (unit_declarations u) l.declaration l.name_of l.among l.listed) in
           (subst (λ (x : Entity). IsWord x.name) l.same word, subst (λ (x : Entity). HasShort x.form) l.same (declared_short u among l.declaration l.among))
+
+  -- so do those of the globals
+  pub globals_named : IsWritten c → AreNamed (entities c.globals)
+  globals_named written = named_by (entities c.globals) each apart
+    where
+      apart : AreDistinct (map (λ (e : Entity). e.name) (entities c.globals))
+      apart = subst AreDistinct (sym (entity_names c.globals)) (distinct_names (λ (n : Named). n.name) (names_in c.globals) (λ n again. unbroken 20 n.place (duplicate refl (second_global n again refl))))
+
+      each : (e : Entity) → Contains (entities c.globals) e → IsWord e.name × HasShort e.form
+      each e has =
+          let l = of_entities c.globals e has in
+          let word : IsWord l.name_of.name = written.globals l.name_of (in_flat_map (λ (d : Declaration). d.names) c.globals l.declaration l.name_of l.among l.listed) in
+          (subst (λ (x : Entity). IsWord x.name) l.same word, subst (λ (x : Entity). HasShort x.form) l.same (globals_short l.declaration l.among))
 
   pub declared_named : IsWritten c → (u : ProgramUnit) → Contains c.units u → AreNamed (own_entities u ++ entities u.externals)
   declared_named written u among = subst AreNamed (declared_entities u) (unit_named_once written u among)

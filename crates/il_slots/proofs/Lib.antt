@@ -11,6 +11,7 @@ pub mod Opening
 pub mod Paired
 pub mod Frames
 pub mod Tasks
+pub mod Globals
 pub mod Openings
 pub mod Seen
 pub mod Counted

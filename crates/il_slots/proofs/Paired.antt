@@ -1,6 +1,6 @@
 -- Paths and slots are paired.
 use Rattle.std.proofs.Common.{◌≡◌, ℕ, zero, suc, Bool, true, false, List, [], ◌∷◌, slice_get, refl, sym, ap, ◌∙◌, Some, None, Option, subst}
-use Rattle.std.specs.Prelude.{option_map, bytes_eq, if◌then◌else◌}
+use Rattle.std.specs.Prelude.{IfSome, option_map, bytes_eq, if◌then◌else◌}
 use Rattle.std.specs.Ordering.{eq_by_cmp}
 use Rattle.std.proofs.lemmas.Option.{same_Some}
 use Rattle.std.proofs.lemmas.Slice.Eq.{bytes_eq-Decides}
@@ -41,6 +41,11 @@ named_slot (x ∷ xs) path k is = by_test (bytes_eq x.path path) refl is (λ j m
     by_test true test e more = ap (path_at (x ∷ xs)) (sym (same_Some 0 k e)) ∙ ap Some ((bytes_eq-Decides x.path path).0 test)
     by_test false test e more = let w = behind (slot_at xs path) k e in ap (path_at (x ∷ xs)) w.2 ∙ more w.0 w.1
 
+-- the slot that a path has keeps it
+pub slot_named : (xs : List Cell) (path : Text) (o : Option ℕ) → o ≡ slot_at xs path → IfSome o (λ slot. path_at xs slot ≡ Some path)
+slot_named xs path None is = tt
+slot_named xs path (Some slot) is = named_slot xs path slot (sym is)
+
 -- paths and slots are paired
 pub paired : (xs : List Cell) → AreOnce xs → ArePaired xs
 paired xs once = record { named = named_slot xs; placed = λ path slot is. of_cell path slot (slice_get xs slot) refl is }
@@ -48,3 +53,7 @@ paired xs once = record { named = named_slot xs; placed = λ path slot is. of_ce
     of_cell : (path : Text) (slot : ℕ) (o : Option Cell) → slice_get xs slot ≡ o → option_map (λ (c : Cell). c.path) o ≡ Some path → slot_at xs path ≡ Some slot
     of_cell path slot None at is = cc
     of_cell path slot (Some x) at is = subst (λ p. slot_at xs p ≡ Some slot) (same_Some x.path path is) (stands_slot xs once slot x at)
+
+-- the path that a slot keeps has that slot
+pub path_placed : (xs : List Cell) → AreOnce xs → (slot : ℕ) (path : Text) → path_at xs slot ≡ Some path → slot_at xs path ≡ Some slot
+path_placed xs once slot path is = (paired xs once).placed path slot is
