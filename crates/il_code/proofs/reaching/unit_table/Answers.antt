@@ -9,7 +9,7 @@ loop-at-init c = λ q. ap (λ m. get m q) c.new-table.ensures ∙ get-empty q
 
 pub loop-at-preserved : goal.loop-at-preserved
 loop-at-preserved c =
-    place_next (λ (x : ProgramUnit). x.name.name) c.as_slice-units.result.now c.loop-at.at c.index-units-at.result c.loop-at.table c.put_new.new.table c.as_str.result.now (omega arith) c.index-units-at.is
+    place_next (λ (x : ProgramUnit). x.name.name) c.as_slice-units.result.now c.loop-at.at c.index-units-at.result c.loop-at.table c.put_new.new.self c.as_str.result.now (omega arith) c.index-units-at.is
     (c.as_str.ensures ∙ ap (λ x. x.name.name) (sym c.index-units-at.is)) c.in_ok-put_new.ensures.ok c.loop-at.invariant
 
 pub returns : goal.returns

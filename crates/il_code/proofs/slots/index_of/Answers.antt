@@ -9,7 +9,7 @@ loop-slot-init c = λ q. ap (λ m. get m q) c.new-table.ensures ∙ get-empty q
 
 pub loop-slot-preserved : goal.loop-slot-preserved
 loop-slot-preserved c =
-    place_next (λ (x : Cell). x.path) c.args.cells.now c.loop-slot.slot c.index-cells-slot.result c.loop-slot.table c.put_new.new.table c.as_str.result.now (omega arith) c.index-cells-slot.is (c.as_str.ensures ∙ ap (λ x. x.path) (sym c.index-cells-slot.is))
+    place_next (λ (x : Cell). x.path) c.args.cells.now c.loop-slot.slot c.index-cells-slot.result c.loop-slot.table c.put_new.new.self c.as_str.result.now (omega arith) c.index-cells-slot.is (c.as_str.ensures ∙ ap (λ x. x.path) (sym c.index-cells-slot.is))
     c.in_ok-put_new.ensures.ok c.loop-slot.invariant
 
 pub returns : goal.returns
