@@ -1,6 +1,6 @@
 -- The path that the code's table gives is that of the definitions' table, where its cost is within the limit.
-use Rattle.std.proofs.Common.{◌≡◌, ℕ, zero, suc, ◌+◌, ◌-◌, ◌<◌, ◌≤◌, ◌⊎◌, inl, inr, Bool, true, false, List, [], ◌∷◌, map, length, slice_get, Option, Some, None, refl, sym, ap, ◌∙◌, subst, arith}
-use Rattle.std.specs.Prelude.{nat_lt, cond}
+use Rattle.std.proofs.Common.{◌≡◌, ℕ, zero, suc, ◌+◌, ◌-◌, ◌<◌, ◌≤◌, inl, inr, Bool, true, false, List, ◌∷◌, length, slice_get, Option, Some, None, refl, sym, ap, ◌∙◌, subst, arith}
+use Rattle.std.specs.Prelude.{cond}
 use Rattle.std.proofs.lemmas.Bool.{cases_lt}
 use Rattle.il_spec.specs.declared.tree.Config.{Config}
 use Rattle.il_spec.specs.declared.tree.Unit.{Unit as ProgramUnit}
@@ -9,12 +9,11 @@ use Rattle.il_spec.specs.declared.tree.Condition.{Condition}
 use Rattle.il_spec.specs.declared.tree.Condition.TheVariants.{Always, WhenTrue, WhenFalse}
 use Rattle.il_spec.specs.declared.tree.Instruction.{Instruction}
 use Rattle.il_spec.specs.declared.tree.Instruction.TheVariants.{Load, Store, Not, Operate, Defer, Evaluate, Jump, Return, Call, Invoke}
-use Rattle.il_rules.specs.Types.{label_place, JumpsAt}
+use Rattle.il_rules.specs.Types.{label_place}
 use Rattle.il_run.specs.Paths as path
 use Rattle.il_run.specs.Paths.{rest_at, place_rest, cost_of, callee, table_of}
 use Rattle.il_costs.specs.Forward.{IsForward}
-use Rattle.il_costs.proofs.Table.{at_place, at_end, Behind, behind, place_within}
-use Rattle.il_budget.specs.declared.table.Rest.{Rest}
+use Rattle.il_costs.proofs.Table.{at_place, at_end, behind, place_within}
 use Rattle.il_budget.specs.Tables.{rest_up, rests_above}
 use Rattle.il_budget.specs.Rounds.{unit_ways, followed}
 use Rattle.il_budget.proofs.Agreeing.{AreCosts, Stacks, rests_agree}

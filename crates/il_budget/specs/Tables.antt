@@ -1,6 +1,5 @@
 -- The table of costs, as the code keeps it: the last place first, and no cost over one more than a unit may cost (own rules).
-use Rattle.std.specs.Prelude.{ℕ, ◌+◌, ◌-◌, min, Bool, cond, nat_lt, if◌then◌else◌, List, [], ◌∷◌, ◌++◌, length, slice_get, unwrap_or, Option, Some, None}
-use Rattle.il_spec.specs.declared.tree.Condition.{Condition}
+use Rattle.std.specs.Prelude.{ℕ, ◌+◌, ◌-◌, min, nat_lt, if◌then◌else◌, List, [], ◌∷◌, ◌++◌, length, slice_get, Option, Some, None}
 use Rattle.il_spec.specs.declared.tree.Condition.TheVariants.{Always}
 use Rattle.il_budget.specs.declared.ways.Way.{Way}
 use Rattle.il_budget.specs.declared.ways.Way.TheVariants.{Next, Jump, Return}

@@ -10,7 +10,7 @@ use Rattle.il_spec.specs.declared.tree.ProgramLine.{ProgramLine}
 use Rattle.il_rules.specs.Names.{is_predeclared, is_program, program_named}
 use Rattle.il_rules.specs.Declarations.{unknown_program}
 use Rattle.il_rules.specs.Faults.{Declaring, Broken, HasNoFault, bad_task}
-use Rattle.il_budget.specs.Costs.{cost_of, longest_lines}
+use Rattle.il_budget.specs.Costs.{cost_of, path_of}
 use Rattle.il_costs.proofs.Accepted.{has_longest}
 use Rattle.il_table.specs.NameMap.{Text}
 use Rattle.il_run.specs.Scan.{program_of as program_by}
@@ -154,7 +154,7 @@ prints_budgets p runs costs n line u shown program =
     (has_longest p.config runs.declared runs.typed (λ number place other. runs.ordered number place) u (program_among p.config (find (λ l. bytes_eq (task_name n) l.task.name) p.config.programs) u program)).greatest
 
 -- what is kept of units shows what they cost
-pub shown_as : (c : Config) (us : List Organized) → lines_with us (map (longest c) us) (map (longest_lines c) us) ≡ unit_lines us (map (cost_of c) us)
+pub shown_as : (c : Config) (us : List Organized) → lines_with us (map (longest c) us) (map (path_of c) us) ≡ unit_lines us (map (cost_of c) us)
 shown_as c [] = refl
 shown_as c (u ∷ us) = ap (λ ls. unit_line u (cost_of c u) ∷ ls) (shown_as c us)
 

@@ -1,4 +1,4 @@
-use Rattle.std.proofs.Common.{arith, ap, ◌∙◌, ◌≡◌, true, length}
+use Rattle.std.proofs.Common.{arith, ap, ◌∙◌, ◌≡◌, true}
 use Rattle.std.specs.Prelude.{nat_lt}
 use Rattle.il_found.specs.Least.{When, fault_of}
 use Rattle.il_found.proofs.Least.{least_next}
