@@ -1,16 +1,16 @@
-use Rattle.std.proofs.Common.{[]}
+use Rattle.std.proofs.Common.{[], sym, ◌∙◌}
 use Rattle.il_grammar.proofs.Configurations.{config_one}
 use Rattle.il_grammar.proofs.Spelled.{spelled_written}
 use Rattle.il_parse.proofs.parse.Goals as goal
 
 pub returns-in-Ok-clause-found : goal.returns-in-Ok-clause-found
-returns-in-Ok-clause-found c = c.in-Ok.ensures.reads.found.0
+returns-in-Ok-clause-found c = rw c.of.ensures c.in-Ok.ensures.reads.found.0
 
 pub returns-in-Ok-clause-spelled : goal.returns-in-Ok-clause-spelled
-returns-in-Ok-clause-spelled c = (_, c.requires, c.in-Ok.ensures.reads.found.0)
+returns-in-Ok-clause-spelled c = rw c.of.ensures (_, c.requires, c.in-Ok.ensures.reads.found.0)
 
 pub returns-in-Ok-clause-only : goal.returns-in-Ok-clause-only
-returns-in-Ok-clause-only c = λ d w. ((config_one c.args.text.now).only d _ _ _ _ w c.in-Ok.ensures.reads.found.0).0
+returns-in-Ok-clause-only c = λ d w. ((config_one c.args.text.now).only d _ _ _ _ w c.in-Ok.ensures.reads.found.0).0 ∙ sym c.of.ensures
 
 pub returns-in-Err-Fault-clause-refused : goal.returns-in-Err-Fault-clause-refused
 returns-in-Err-Fault-clause-refused c = λ fault d w small. (rw c.in-Err-Fault.field-0-is at c.in-Err-Fault.ensures.refused).never tt d [] (w, small)
