@@ -1,7 +1,7 @@
 -- What the code looks for are the rules.
 use Rattle.std.proofs.Common.{◌≡◌, ℕ, suc, ◌+◌, ◌<◌, inl, inr, Bool, true, false, nat_lt, List, length, slice_get, Option, Some, None, is_some, option_and_then, refl, sym, ap, ◌∙◌, subst, arith}
 use Rattle.std.specs.Prelude.{Contains, sum_by}
-use Rattle.std.proofs.lemmas.Bool.{ltb-true, ltb-false}
+use Rattle.std.proofs.lemmas.Bool.{ltb-true}
 use Rattle.std.proofs.lemmas.Option.{slice_get_within}
 use Rattle.il_spec.specs.declared.tree.Config.{Config}
 use Rattle.il_spec.specs.declared.tree.Place.{Place}
@@ -16,13 +16,12 @@ use Rattle.il_found.specs.Least.{NumberedFault, earlier_of, IsLeast, Either}
 use Rattle.il_found.proofs.Least.{least_both, least_same}
 use Rattle.il_scope.specs.Views.{program_number}
 use Rattle.il_scope.proofs.Laws.{program_found, program_there}
-use Rattle.il_order.specs.Related.{closed}
 use Rattle.il_order.specs.Used.{uses}
-use Rattle.il_order.specs.Chained.{chained}
+use Rattle.il_order.specs.Chained.{chains}
 use Rattle.il_order.specs.Counted.{counts, counts_of, unit_counts, units_listed, all_listed, with_variables, is_over, is_over_of, task_count, with_declared}
 use Rattle.il_order.specs.declared.variables.Variables.{Variables}
 use Rattle.il_order.specs.Breaks.{reached, UnitsBreak, LinesBreak, GlobalsBreak, SlotsBreak, AllUnitsBreak}
-use Rattle.il_order.proofs.Tabled.{place_in, in_place}
+use Rattle.il_order.proofs.Tabled.{place_in, in_place, below_true}
 use Rattle.il_order.proofs.Distinct.{AreDistinct, distinct}
 use Rattle.il_order.proofs.Using.{found_at}
 use Rattle.il_order.proofs.Reaching.{reach_to, reach_from}
@@ -30,18 +29,11 @@ use Rattle.il_order.proofs.Chaining.{long_to, long_from}
 use Rattle.il_order.proofs.Counting.{over_cap, cap_over, globals_are}
 use Rattle.il_order.proofs.Tasks.{functions, are_functions, most_slots, task_is}
 
-below_true : (a b : ℕ) → a < b → nat_lt a b ≡ true
-below_true a b low = by_test (nat_lt a b) refl
-  where
-    by_test : (t : Bool) → nat_lt a b ≡ t → nat_lt a b ≡ true
-    by_test true e = e
-    by_test false e = let not_low = ltb-false a b e in absurd (omega (arith, low, not_low))
-
 module _ (c : Config) (apart : AreDistinct c) where
   units_up : (n : ℕ) (p : Place) → AllUnitsBreak c n p → BreaksOrder c n p
   units_up n p (at, u, low, there, inl (is, number, place)) = of_recursive number (recursive u (in_place c.units at u there) (reach_to c at at u u there there is) place)
   units_up n p (at, u, low, there, inr (is, number, place)) =
-      let w = long_to c apart at u there is in of_long_chain number (long_chain u w.chain (in_place c.units at u there) w.free w.is_chain w.once w.long place)
+      let w = long_to c apart at u there is in of_long_chain number (long_chain u w.chain (in_place c.units at u there) w.is_chain w.once w.long place)
 
   over_is : (at : ℕ) (P : ProgramUnit) (there : slice_get c.units at ≡ Some P) → nat_lt 4096 (task_count c (reached c) (counts c (suc (length c.units + 1))) at (length c.units)) ≡ true
       → 4096 < unit_slots c P + sum_by (function_slots c) (functions c apart at P there (length c.units))
@@ -75,8 +67,8 @@ module _ (c : Config) (apart : AreDistinct c) where
   down : (n : ℕ) (p : Place) → BreaksOrder c n p → Either (AllUnitsBreak c) (SlotsBreak c) n p
   down n p (of_recursive number (recursive u among way place)) =
       let r = place_in c.units u among in inl (r.0, u, slice_get_within c.units r.0 u r.1, r.1, inl (reach_from c apart r.0 r.0 u u r.1 r.1 way, number, place))
-  down n p (of_long_chain number (long_chain u chain among free is_chain once long place)) =
-      let r = place_in c.units u among in inl (r.0, u, slice_get_within c.units r.0 u r.1, r.1, inr (long_from c apart r.0 u chain r.1 free is_chain long, number, place))
+  down n p (of_long_chain number (long_chain u chain among is_chain once long place)) =
+      let r = place_in c.units u among in inl (r.0, u, slice_get_within c.units r.0 u r.1, r.1, inr (long_from c apart r.0 u chain r.1 is_chain once long, number, place))
   down n p (too_many_slots number (of_task line program fs among named are over place)) =
       let l = place_in c.programs line among in
       let r = found_at c (program_number c line.program.name) (program_named c line.program.name) program (program_found c line.program.name) named in
@@ -116,14 +108,11 @@ slots_least c r count total units declared counted all lines globals found reach
     sum_is = total_is ∙ ap (λ d. with_variables (count + 1) counted 0 d) declared_are ∙ ap (λ x. with_declared c (count + 1) x 0 c.globals) own ∙ ap (λ x. with_declared c (x + 1) (counts c (length c.units + 1)) 0 c.globals) counting
 
 -- all of order
-pub order_least : (c : Config) → HasNoFault (BreaksDeclarations c) → (count : ℕ) (used : List (List Bool)) (long : List Bool) (r : List (List Bool)) (units slots found : Option NumberedFault)
-    → count ≡ length c.units → used ≡ uses c → long ≡ chained count used 16 → r ≡ closed count used count
+pub order_least : (c : Config) → HasNoFault (BreaksDeclarations c) → (count : ℕ) (used r long : List (List Bool)) (units slots found : Option NumberedFault)
+    → count ≡ length c.units → used ≡ uses c → r ≡ reached c → long ≡ chains count used r 16
     → IsLeast units (UnitsBreak c r long (length c.units)) → IsLeast slots (SlotsBreak c) → found ≡ earlier_of units slots → IsLeast found (λ n p. BreaksOrder c n p)
-order_least c declared count used long r units slots found counting using chaining closing a b is =
+order_least c declared count used r long units slots found counting using reach chaining a b is =
     least_order c declared units slots found is (subst (λ x. IsLeast units (UnitsBreak c (reached c) x (length c.units))) chain (subst (λ x. IsLeast units (UnitsBreak c x long (length c.units))) reach a)) b
   where
-    chain : long ≡ chained (length c.units) (uses c) 16
-    chain = chaining ∙ ap (λ u. chained count u 16) using ∙ ap (λ n. chained n (uses c) 16) counting
-
-    reach : r ≡ reached c
-    reach = closing ∙ ap (λ u. closed count u count) using ∙ ap (λ n. closed n (uses c) n) counting
+    chain : long ≡ chains (length c.units) (uses c) (reached c) 16
+    chain = chaining ∙ ap (λ u. chains count u r 16) using ∙ ap (λ n. chains n (uses c) r 16) counting ∙ ap (λ x. chains (length c.units) (uses c) x 16) reach

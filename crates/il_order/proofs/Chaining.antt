@@ -1,120 +1,144 @@
--- Chains of uses, and recursions behind them.
-use Rattle.std.proofs.Common.{◌≡◌, ◌≢◌, ℕ, zero, suc, ◌<◌, ◌≤◌, inl, inr, Bool, true, false, ◌&&◌, List, [], ◌∷◌, length, get_or, slice_get, Some, refl, sym, ap, ◌∙◌, subst, arith}
-use Rattle.std.specs.Prelude.{not, All}
+-- Chains of units, and the ways along their numbers.
+use Rattle.std.proofs.Common.{◌≡◌, ◌≢◌, ℕ, zero, suc, ◌+◌, ◌<◌, inl, inr, Bool, true, false, List, [], ◌∷◌, ◌++◌, length, get_or, slice_get, Some, refl, sym, ap, ◌∙◌, subst, append_assoc, append-nil, arith}
+use Rattle.std.specs.Prelude.{nat_eq}
+use Rattle.std.proofs.Math.Seq.{get_or-append_seam}
+use Rattle.std.proofs.lemmas.Bool.Decides.{nat_tests}
 use Rattle.std.proofs.lemmas.Option.{slice_get-get_or, slice_get_within}
-use Rattle.std.proofs.lemmas.List.Kept.{AllPairs-cons}
+use Rattle.std.proofs.lemmas.List.{length-append, get_or_append_left}
+use Rattle.std.proofs.lemmas.List.Quantifiers.{all_pairs_push}
 use Rattle.il_spec.specs.declared.tree.Config.{Config}
 use Rattle.il_spec.specs.declared.tree.Unit.{Unit as ProgramUnit}
-use Rattle.il_rules.specs.Order.{Uses, IsChain, Reaches, NamesNoneTwice, IsFreeOfLoops}
-use Rattle.il_order.specs.Related.{any_below, is_entry, is_set, holds}
-use Rattle.il_order.specs.Used.{uses}
-use Rattle.il_order.specs.Chained.{is_longer, chained, meets_loop, is_long}
-use Rattle.il_order.proofs.Tabled.{or_left, or_right, from_or, and_both, from_and, not_both, some_same, tabulated, some_below, below_some}
+use Rattle.il_rules.specs.Order.{IsChain, NamesNoneTwice}
+use Rattle.il_order.specs.Related.{holds}
+use Rattle.il_order.specs.Used.{uses, is_among}
+use Rattle.il_order.specs.Chained.{chains}
+use Rattle.il_order.specs.Breaks.{reached}
+use Rattle.il_order.proofs.Tabled.{from_or, or_left, or_right}
 use Rattle.il_order.proofs.Distinct.{AreDistinct}
 use Rattle.il_order.proofs.Using.{held_to, held_from}
-use Rattle.il_order.specs.Breaks.{reached}
-use Rattle.il_order.proofs.Reaching.{reaches_on, reached_at, reach_to, reach_from}
+use Rattle.il_order.proofs.Ways.{IsWay, AreFresh}
+use Rattle.il_order.proofs.Searching.{chain_to, chain_from}
+
+nat_same : (a b : ℕ) → nat_eq a b ≡ true → a ≡ b
+nat_same a b e = grind (arith, nat_tests)
+
+same_nat : (a b : ℕ) → a ≡ b → nat_eq a b ≡ true
+same_nat a b e = grind (arith, nat_tests)
 
 module _ (c : Config) where
-  -- the units from which a chain of so many uses leads
-  abbrev pub Chained : ℕ → ℕ → Type 0
-  Chained d u = is_set (chained (length c.units) (uses c) d) u ≡ true
+  abbrev pub IsNumberWay : ℕ → List ℕ → Type 0
+  IsNumberWay u ks = IsWay (length c.units) (uses c) u ks
 
-  set_is : (d u : ℕ) → u < length c.units → is_set (chained (length c.units) (uses c) (suc d)) u ≡ is_longer (length c.units) (uses c) (chained (length c.units) (uses c) d) u
-  set_is d u low = ap is_entry (tabulated (λ from. is_longer (length c.units) (uses c) (chained (length c.units) (uses c) d) from) (length c.units) u low)
+  -- units, by their numbers
+  abbrev pub AreAt : List ℕ → List ProgramUnit → Type 0
+  AreAt [] [] = Unit {0}
+  AreAt [] (U ∷ units) = ⊥
+  AreAt (k ∷ ks) [] = ⊥
+  AreAt (k ∷ ks) (U ∷ units) = (slice_get c.units k ≡ Some U) × AreAt ks units
 
-  pub chain_to : (d u : ℕ) (U : ProgramUnit) → slice_get c.units u ≡ Some U → Chained d u → (chain : List ProgramUnit) × IsChain c U chain × (length chain ≡ d)
-  chain_to zero u U here a = ([], tt, refl)
-  chain_to (suc d) u U here a =
-      let test : ℕ → Bool = λ to. holds (uses c) u to && is_set (chained (length c.units) (uses c) d) to in
-      let r = some_below test (length c.units) (sym (set_is d u (slice_get_within c.units u U here)) ∙ a) in
-      let both = from_and (holds (uses c) u r.0) (is_set (chained (length c.units) (uses c) d) r.0) r.2 in
-      let there : slice_get c.units r.0 ≡ Some (get_or c.units r.0 U) = slice_get-get_or c.units r.0 U r.1 in
-      let rest = chain_to d r.0 (get_or c.units r.0 U) there both.1 in
-      (get_or c.units r.0 U ∷ rest.0, (held_to c u r.0 U (get_or c.units r.0 U) here there both.0, rest.1), ap suc rest.2)
+  as_many : (ks : List ℕ) (units : List ProgramUnit) → AreAt ks units → length ks ≡ length units
+  as_many [] [] are = refl
+  as_many [] (U ∷ units) are = absurd are
+  as_many (k ∷ ks) [] are = absurd are
+  as_many (k ∷ ks) (U ∷ units) are = ap suc (as_many ks units are.1)
 
-  pub chain_from : (d u : ℕ) (U : ProgramUnit) → slice_get c.units u ≡ Some U → (chain : List ProgramUnit) → IsChain c U chain → d ≤ length chain → Chained d u
-  chain_from zero u U here chain is le = ap is_entry (tabulated (λ _. true) (length c.units) u (slice_get_within c.units u U here))
-  chain_from (suc d) u U here [] is le = absurd (omega (arith, le))
-  chain_from (suc d) u U here (next ∷ chain) is le =
+  at_push : (ks : List ℕ) (units : List ProgramUnit) (k : ℕ) (U : ProgramUnit) → AreAt ks units → slice_get c.units k ≡ Some U → AreAt (ks ++ k ∷ []) (units ++ U ∷ [])
+  at_push [] [] k U are there = (there, tt)
+  at_push [] (V ∷ units) k U are there = absurd are
+  at_push (j ∷ ks) [] k U are there = absurd are
+  at_push (j ∷ ks) (V ∷ units) k U are there = (are.0, at_push ks units k U are.1 there)
+
+  units_of : (ks : List ℕ) (u : ℕ) (U : ProgramUnit) → slice_get c.units u ≡ Some U → IsNumberWay u ks → (chain : List ProgramUnit) × IsChain c U chain × AreAt ks chain
+  units_of [] u U here way = ([], tt, tt)
+  units_of (k ∷ ks) u U here way =
+      let there : slice_get c.units k ≡ Some (get_or c.units k U) = slice_get-get_or c.units k U way.1 in
+      let rest = units_of ks k (get_or c.units k U) there way.2 in
+      (get_or c.units k U ∷ rest.0, (held_to c u k U (get_or c.units k U) here there way.0, rest.1), (there, rest.2))
+
+  numbers_of : (chain : List ProgramUnit) (u : ℕ) (U : ProgramUnit) → slice_get c.units u ≡ Some U → IsChain c U chain → (ks : List ℕ) × IsNumberWay u ks × AreAt ks chain
+  numbers_of [] u U here is = ([], tt, tt)
+  numbers_of (next ∷ chain) u U here is =
       let r = held_from c u U next here is.0 in
-      let rest = chain_from d r.0 next r.1 chain is.1 (omega (arith, le)) in
-      set_is d u (slice_get_within c.units u U here)
-      ∙ below_some (λ to. holds (uses c) u to && is_set (chained (length c.units) (uses c) d) to) (length c.units) r.0 (slice_get_within c.units r.0 next r.1) (and_both (holds (uses c) u r.0) (is_set (chained (length c.units) (uses c) d) r.0) r.2 rest)
+      let rest = numbers_of chain r.0 next r.1 is.1 in
+      (r.0 ∷ rest.0, (r.2, slice_get_within c.units r.0 next r.1, rest.1), (r.1, rest.2))
 
-  -- each unit of a chain is reached
-  chain_reaches : (chain : List ProgramUnit) (U : ProgramUnit) → IsChain c U chain → (k : ℕ) (d : ProgramUnit) → k < length chain → Reaches c U (get_or chain k d)
-  chain_reaches [] U is k d low = absurd (omega (arith, low))
-  chain_reaches (next ∷ chain) U is zero d low = ([], is.0)
-  chain_reaches (next ∷ chain) U is (suc k) d low = reaches_on c U next (get_or chain k d) ([], is.0) (chain_reaches chain next is.1 k d (omega (arith, low)))
+  -- a unit whose number is in a list is named there
+  named : (before : List ℕ) (units : List ProgramUnit) (k : ℕ) (K : ProgramUnit) → AreAt before units → slice_get c.units k ≡ Some K → is_among before k ≡ true → (i : ℕ) × (i < length units) × ((d : ProgramUnit) → (get_or units i d).name.name ≡ K.name.name)
+  named [] units k K are there among = let bad : false ≡ true = among in cc
+  named (b ∷ before) [] k K are there among = absurd are
+  named (b ∷ before) (B ∷ units) k K are there among = elim (from_or (nat_eq b k) (is_among before k) among) [
+    | inl a ↦ (0, omega arith, λ d. itself (nat_same b k a))
+    | inr a ↦ (let r = named before units k K are.1 there a in (suc r.0, (let low = r.1 in omega (arith, low)), r.2))
+  ]
+    where
+      some_same : (A B : ProgramUnit) → Some A ≡ Some B → A ≡ B
+      some_same A B e = cc
 
-  free_next : (U next : ProgramUnit) → Uses c U next → IsFreeOfLoops c U → IsFreeOfLoops c next
-  free_next U next used free = record {
-    itself = λ loop. free.further next ([], used) loop;
-    further = λ other way loop. free.further other (reaches_on c U next other ([], used) way) loop;
-  }
+      itself : b ≡ k → B.name.name ≡ K.name.name
+      itself same = ap (λ (x : ProgramUnit). x.name.name) (some_same B K (sym are.0 ∙ ap (slice_get c.units) same ∙ there))
 
   module _ (apart : AreDistinct c) where
-    -- a unit that meets no recursion is none of its chain
-    others : (chain : List ProgramUnit) (u : ℕ) (U : ProgramUnit) → slice_get c.units u ≡ Some U → IsFreeOfLoops c U → IsChain c U chain → All (λ (b : ProgramUnit). U.name.name ≢ b.name.name) chain
-    others chain u U here free is = λ k d low same.
-        let way = chain_reaches chain U is k d low in
-        let there = reached_at c U (get_or chain k d) u here way.0 way.1 in
-        let one : u ≡ there.0 = apart u there.0 U (get_or chain k d) here there.1 same in
-        let equal : U ≡ get_or chain k d = some_same U (get_or chain k d) (sym here ∙ ap (slice_get c.units) one ∙ there.1) in
-        free.itself (subst (λ (x : ProgramUnit). Reaches c U x) (sym equal) way)
-
-    -- a chain that meets no recursion names no unit twice
-    pub none_twice : (chain : List ProgramUnit) (u : ℕ) (U : ProgramUnit) → slice_get c.units u ≡ Some U → IsFreeOfLoops c U → IsChain c U chain → NamesNoneTwice (U ∷ chain)
-    none_twice [] u U here free is = λ i j d low high. absurd (omega (arith, low, high))
-    none_twice (next ∷ chain) u U here free is =
-        let r = held_from c u U next here is.0 in
-        AllPairs-cons (λ (a b : ProgramUnit). a.name.name ≢ b.name.name) U (next ∷ chain) (others (next ∷ chain) u U here free is) (none_twice chain r.0 next r.1 (free_next U next is.0 free) is.1)
-
-    abbrev again : ℕ → ℕ → Bool
-    again u to = holds (reached c) u to && holds (reached c) to to
-
-    pub free_of : (u : ℕ) (U : ProgramUnit) → slice_get c.units u ≡ Some U → meets_loop (length c.units) (reached c) u ≡ false → IsFreeOfLoops c U
-    free_of u U here none = record {
-      itself = λ loop. not_both (meets_loop (length c.units) (reached c) u) (or_left (holds (reached c) u u) (any_below (length c.units) (again u)) (reach_from c apart u u U U here here loop)) none;
-      further = λ other way loop.
-          let r = reached_at c U other u here way.0 way.1 in
-          let both : again u r.0 ≡ true = and_both (holds (reached c) u r.0) (holds (reached c) r.0 r.0) (reach_from c apart u r.0 U other here r.1 way) (reach_from c apart r.0 r.0 other other r.1 r.1 loop) in
-          not_both (meets_loop (length c.units) (reached c) u) (or_right (holds (reached c) u u) (any_below (length c.units) (again u)) (below_some (again u) (length c.units) r.0 (slice_get_within c.units r.0 other r.1) both)) none;
-    }
-
-    loop_of : (u : ℕ) (U : ProgramUnit) → slice_get c.units u ≡ Some U → IsFreeOfLoops c U → meets_loop (length c.units) (reached c) u ≡ true → ⊥
-    loop_of u U here free meets = elim (from_or (holds (reached c) u u) (any_below (length c.units) (again u)) meets) [ inl a ↦ free.itself (reach_to c u u U U here here a) | inr b ↦ later (some_below (again u) (length c.units) b) ]
+    -- and one whose number is not there isn't
+    differ : (before : List ℕ) (units : List ProgramUnit) (k : ℕ) (K : ProgramUnit) → AreAt before units → slice_get c.units k ≡ Some K → is_among before k ≡ false → (i : ℕ) (d : ProgramUnit) → i < length units → (get_or units i d).name.name ≢ K.name.name
+    differ [] [] k K are there off i d low same = absurd (omega (arith, low))
+    differ [] (B ∷ units) k K are there off i d low same = absurd are
+    differ (b ∷ before) [] k K are there off i d low same = absurd are
+    differ (b ∷ before) (B ∷ units) k K are there off zero d low same =
+        let bad : true ≡ false = sym (or_left (nat_eq b k) (is_among before k) (same_nat b k (apart b k B K are.0 there same))) ∙ off in cc
+    differ (b ∷ before) (B ∷ units) k K are there off (suc i) d low same = differ before units k K are.1 there (by_test (is_among before k) refl) i d (omega (arith, low)) same
       where
-        later : (i : ℕ) × (i < length c.units) × (again u i ≡ true) → ⊥
-        later (i, low, is) =
-            let both = from_and (holds (reached c) u i) (holds (reached c) i i) is in
-            let there : slice_get c.units i ≡ Some (get_or c.units i U) = slice_get-get_or c.units i U low in
-            free.further (get_or c.units i U) (reach_to c u i U (get_or c.units i U) here there both.0) (reach_to c i i (get_or c.units i U) (get_or c.units i U) there there both.1)
+        by_test : (t : Bool) → is_among before k ≡ t → is_among before k ≡ false
+        by_test true is = let bad : true ≡ false = sym (or_right (nat_eq b k) (is_among before k) is) ∙ off in cc
+        by_test false is = is
+
+    once_to : (ks : List ℕ) (chain : List ProgramUnit) (before : List ℕ) (units : List ProgramUnit) → AreAt before units → AreAt ks chain → NamesNoneTwice units → AreFresh before ks → NamesNoneTwice (units ++ chain)
+    once_to [] [] before units are at once fresh = subst NamesNoneTwice (sym (append-nil units)) once
+    once_to [] (K ∷ chain) before units are at once fresh = absurd at
+    once_to (k ∷ ks) [] before units are at once fresh = absurd at
+    once_to (k ∷ ks) (K ∷ chain) before units are at once fresh =
+        subst NamesNoneTwice (append_assoc units (K ∷ []) chain)
+        (once_to ks chain (before ++ k ∷ []) (units ++ K ∷ []) (at_push before units k K are at.0) at.1
+        (all_pairs_push (λ (a b : ProgramUnit). a.name.name ≢ b.name.name) units K once (differ before units k K are at.0 fresh.0)) fresh.1)
+
+    once_from : (ks : List ℕ) (chain : List ProgramUnit) (before : List ℕ) (units : List ProgramUnit) → AreAt before units → AreAt ks chain → NamesNoneTwice (units ++ chain) → AreFresh before ks
+    once_from [] chain before units are at once = tt
+    once_from (k ∷ ks) [] before units are at once = absurd at
+    once_from (k ∷ ks) (K ∷ chain) before units are at once = (by_test (is_among before k) refl, once_from ks chain (before ++ k ∷ []) (units ++ K ∷ []) (at_push before units k K are at.0) at.1 (subst NamesNoneTwice (sym (append_assoc units (K ∷ []) chain)) once))
+      where
+        twice : (i : ℕ) × (i < length units) × ((d : ProgramUnit) → (get_or units i d).name.name ≡ K.name.name) → ⊥
+        twice (i, low, same) =
+            let long = length-append units (K ∷ chain) in
+            let first : get_or (units ++ K ∷ chain) i K ≡ get_or units i K = get_or_append_left units (K ∷ chain) K i low in
+            let second : get_or (units ++ K ∷ chain) (length units) K ≡ K = get_or-append_seam units K chain K in
+            once i (length units) K low (within long) (ap (λ (x : ProgramUnit). x.name.name) first ∙ same K ∙ sym (ap (λ (x : ProgramUnit). x.name.name) second))
+          where
+            within : length (units ++ K ∷ chain) ≡ length units + length (K ∷ chain) → length units < length (units ++ K ∷ chain)
+            within e = omega (arith, e)
+
+        by_test : (t : Bool) → is_among before k ≡ t → is_among before k ≡ false
+        by_test true is = absurd (twice (named before units k K are at.0 is))
+        by_test false is = is
 
     -- a unit has a long chain where the code finds one
     pub record IsLong (U : ProgramUnit) : Type 0 where
       pub chain : List ProgramUnit
-      pub free : IsFreeOfLoops c U
       pub is_chain : IsChain c U chain
       pub once : NamesNoneTwice (U ∷ chain)
       pub long : 16 < length (U ∷ chain)
 
-    not_true : (b : Bool) → not b ≡ true → b ≡ false
-    not_true true e = let bad : false ≡ true = e in cc
-    not_true false e = refl
+    alone : (U : ProgramUnit) → NamesNoneTwice (U ∷ [])
+    alone U = λ i j d low high. absurd (omega (arith, low, high))
 
-    pub long_to : (u : ℕ) (U : ProgramUnit) → slice_get c.units u ≡ Some U → is_long (length c.units) (reached c) (chained (length c.units) (uses c) 16) u ≡ true → IsLong U
+    pub long_to : (u : ℕ) (U : ProgramUnit) → slice_get c.units u ≡ Some U → holds (chains (length c.units) (uses c) (reached c) 16) 16 u ≡ true → IsLong U
     long_to u U here e =
-        let both = from_and (is_set (chained (length c.units) (uses c) 16) u) (not (meets_loop (length c.units) (reached c) u)) e in
-        let free = free_of u U here (not_true (meets_loop (length c.units) (reached c) u) both.1) in
-        let r = chain_to 16 u U here both.0 in
-        record { chain = r.0; free = free; is_chain = r.1; once = none_twice r.0 u U here free r.1; long = (let n = r.2 in omega (arith, n)) }
+        let way = chain_to (length c.units) (uses c) 16 u (slice_get_within c.units u U here) e in
+        let r = units_of way.0 u U here way.1 in
+        let long = as_many way.0 r.0 r.2 in
+        let sixteen = way.2 in
+        record { chain = r.0; is_chain = r.1; once = once_to way.0 r.0 (u ∷ []) (U ∷ []) (here, tt) r.2 (alone U) way.3; long = omega (arith, long, sixteen) }
 
-    pub long_from : (u : ℕ) (U : ProgramUnit) (chain : List ProgramUnit) → slice_get c.units u ≡ Some U → IsFreeOfLoops c U → IsChain c U chain → 16 < length (U ∷ chain) → is_long (length c.units) (reached c) (chained (length c.units) (uses c) 16) u ≡ true
-    long_from u U chain here free is long =
-        and_both (is_set (chained (length c.units) (uses c) 16) u) (not (meets_loop (length c.units) (reached c) u)) (chain_from 16 u U here chain is (omega (arith, long))) (by_test (meets_loop (length c.units) (reached c) u) refl)
-      where
-        by_test : (b : Bool) → meets_loop (length c.units) (reached c) u ≡ b → not b ≡ true
-        by_test true is = absurd (loop_of u U here free is)
-        by_test false is = refl
+    pub long_from : (u : ℕ) (U : ProgramUnit) (chain : List ProgramUnit) → slice_get c.units u ≡ Some U → IsChain c U chain → NamesNoneTwice (U ∷ chain) → 16 < length (U ∷ chain) → holds (chains (length c.units) (uses c) (reached c) 16) 16 u ≡ true
+    long_from u U chain here is once long =
+        let r = numbers_of chain u U here is in
+        let same = as_many r.0 chain r.2 in
+        chain_from (length c.units) (uses c) 16 u r.0 (slice_get_within c.units u U here) r.1 (once_from r.0 chain (u ∷ []) (U ∷ []) (here, tt) r.2 once) (omega (arith, same, long))

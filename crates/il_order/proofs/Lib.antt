@@ -3,6 +3,8 @@ pub mod Closing
 pub mod Distinct
 pub mod Using
 pub mod Reaching
+pub mod Ways
+pub mod Searching
 pub mod Chaining
 pub mod Counting
 pub mod Tasks

@@ -1,7 +1,7 @@
 -- Values by their numbers, and tests of them.
 use Rattle.std.proofs.Common.{◌≡◌, ℕ, zero, suc, ◌<◌, ◌≤◌, ◌⊎◌, inl, inr, Bool, true, false, ◌||◌, ◌&&◌, List, [], ◌∷◌, ◌++◌, length, get_or, slice_get, Some, refl, sym, ap, ◌∙◌, subst, arith}
-use Rattle.std.specs.Prelude.{Contains}
-use Rattle.std.proofs.lemmas.Bool.{cases_lt}
+use Rattle.std.specs.Prelude.{Contains, nat_lt}
+use Rattle.std.proofs.lemmas.Bool.{cases_lt, ltb-false}
 use Rattle.std.proofs.lemmas.List.{length-append, get_or_append_left}
 use Rattle.std.proofs.Math.Seq.{get_or-append_seam}
 use Rattle.std.proofs.lemmas.Option.{slice_get-get_or, slice_get_within, get_or_from_slice_get}
@@ -35,6 +35,13 @@ not_both a e f = let bad : true ≡ false = sym e ∙ f in cc
 pub some_same : {A : Type 0} (a b : A) → Some a ≡ Some b → a ≡ b
 some_same a b e = cc
 
+pub below_true : (a b : ℕ) → a < b → nat_lt a b ≡ true
+below_true a b low = by_test (nat_lt a b) refl
+  where
+    by_test : (t : Bool) → nat_lt a b ≡ t → nat_lt a b ≡ true
+    by_test true e = e
+    by_test false e = let not_low = ltb-false a b e in absurd (omega (arith, low, not_low))
+
 -- ELEMENTS BY THEIR PLACES
 
 pub place_in : {A : Type 0} (xs : List A) (x : A) → Contains xs x → (i : ℕ) × (slice_get xs i ≡ Some x)
@@ -42,6 +49,15 @@ place_in xs x (i, low, e) = (i, slice_get-get_or xs i x low ∙ ap Some e)
 
 pub in_place : {A : Type 0} (xs : List A) (i : ℕ) (x : A) → slice_get xs i ≡ Some x → Contains xs x
 in_place xs i x e = (i, slice_get_within xs i x e, get_or_from_slice_get xs i x x e)
+
+pub slice_get_left : {A : Type 0} (xs ys : List A) (i : ℕ) → i < length xs → slice_get (xs ++ ys) i ≡ slice_get xs i
+slice_get_left [] ys i low = absurd (omega (arith, low))
+slice_get_left (x ∷ xs) ys zero low = refl
+slice_get_left (x ∷ xs) ys (suc i) low = slice_get_left xs ys i (omega (arith, low))
+
+pub slice_get_last : {A : Type 0} (xs : List A) (x : A) → slice_get (xs ++ x ∷ []) (length xs) ≡ Some x
+slice_get_last [] x = refl
+slice_get_last (y ∷ xs) x = slice_get_last xs x
 
 -- TABLES
 

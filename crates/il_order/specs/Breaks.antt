@@ -5,7 +5,7 @@ use Rattle.il_spec.specs.declared.tree.Place.{Place}
 use Rattle.il_found.specs.Least.{When, Either, Below}
 use Rattle.il_order.specs.Related.{holds, closed}
 use Rattle.il_order.specs.Used.{uses}
-use Rattle.il_order.specs.Chained.{chained, is_long}
+use Rattle.il_order.specs.Chained.{chains}
 use Rattle.il_order.specs.Counted.{with_declared, counts, is_over}
 
 -- the relation of the units that reach which
@@ -13,12 +13,12 @@ abbrev pub reached : Config → List (List Bool)
 reached config = closed (length config.units) (uses config) (length config.units)
 
 -- a unit that reaches itself, or has a chain that is too long
-abbrev pub UnitBreaks : ℕ → List (List Bool) → List Bool → ℕ → Place → ℕ → Place → Type 0
-UnitBreaks count reached chained at place = Either (When (holds reached at at ≡ true) 36 place) (When (is_long count reached chained at ≡ true) 46 place)
+abbrev pub UnitBreaks : List (List Bool) → List (List Bool) → ℕ → Place → ℕ → Place → Type 0
+UnitBreaks reached chains at place = Either (When (holds reached at at ≡ true) 36 place) (When (holds chains 16 at ≡ true) 46 place)
 
 -- those below an index
-abbrev pub UnitsBreak : Config → List (List Bool) → List Bool → ℕ → ℕ → Place → Type 0
-UnitsBreak config reached chained = Below (λ at unit. UnitBreaks (length config.units) reached chained at unit.place) config.units
+abbrev pub UnitsBreak : Config → List (List Bool) → List (List Bool) → ℕ → ℕ → Place → Type 0
+UnitsBreak config reached chains = Below (λ at unit. UnitBreaks reached chains at unit.place) config.units
 
 -- PROGRAM lines below an index with too many slots
 abbrev pub LinesBreak : Config → List (List Bool) → List ℕ → ℕ → ℕ → Place → Type 0
@@ -36,4 +36,4 @@ SlotsBreak config = Either (LinesBreak config (reached config) (counts config (s
 
 -- all of order
 abbrev pub AllUnitsBreak : Config → ℕ → Place → Type 0
-AllUnitsBreak config = UnitsBreak config (reached config) (chained (length config.units) (uses config) 16) (length config.units)
+AllUnitsBreak config = UnitsBreak config (reached config) (chains (length config.units) (uses config) (reached config) 16) (length config.units)

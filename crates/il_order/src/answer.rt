@@ -6,7 +6,7 @@ ghost use Rattle.il_found.specs.Least.{IsLeast};
 ghost use Rattle.il_order.specs.Breaks as breaks;
 ghost use Rattle.il_order.specs.Breaks.{UnitBreaks, UnitsBreak, AllUnitsBreak, LinesBreak, GlobalsBreak, SlotsBreak};
 
-use crate::chains::{chained, is_long};
+use crate::chains::{LONGEST, chains};
 use crate::fault::OrderFault;
 use crate::relation::{Relation, closed, holds};
 use crate::slots::{MOST, counts, is_over, unit_counts, with_variables};
@@ -24,27 +24,31 @@ pub fn order_fault(alloc: Global, names: &Scoped) -> Result<Option<Found<OrderFa
     ensures { IfOk result (λ found. IsLeast found (λ n p. BreaksOrder names.now n p)) }
 {
     let count = names.config().units.as_slice().len();
+    let reached = reached(alloc, names)?;
     let uses = uses(alloc, names)?;
-    let chained = chained(alloc, &uses, count)?;
-    let reached = closed(alloc, uses, count)?;
-    let units = units_fault(names, &reached, &chained);
+    let chains = chains(alloc, &uses, &reached, count)?;
+    let units = units_fault(names, &reached, &chains);
     let slots = slots_fault(alloc, names, &reached)?;
     Ok(earlier(units, slots))
 }
 
+// Which units reach which; the relation of uses is used up.
+fn reached(alloc: Global, names: &Scoped) -> Result<Relation, AllocError>
+    ensures { IfOk result (λ r. r ≡ breaks.reached names.now) }
+{
+    let count = names.config().units.as_slice().len();
+    closed(alloc, uses(alloc, names)?, count)
+}
+
 // The first unit that reaches itself, or has a chain of uses that is too long.
-fn units_fault(
-    names: &Scoped,
-    reached: &Relation,
-    chained: &Items<bool>,
-) -> Option<Found<OrderFault>>
-    ensures { IsLeast result (UnitsBreak names.now reached.now chained.now (length names.now.units)) }
+fn units_fault(names: &Scoped, reached: &Relation, chains: &Relation) -> Option<Found<OrderFault>>
+    ensures { IsLeast result (UnitsBreak names.now reached.now chains.now (length names.now.units)) }
 {
     let units = names.config().units.as_slice();
     let mut found = None;
     for at in 0..units.len() {
         let unit = &units[at];
-        let here = unit_fault(reached, units.len(), chained, at, unit.place);
+        let here = unit_fault(reached, chains, at, unit.place);
         found = earlier(found, here);
     }
     found
@@ -53,19 +57,14 @@ fn units_fault(
 // Whether a unit does.
 fn unit_fault(
     reached: &Relation,
-    count: usize,
-    chained: &Items<bool>,
+    chains: &Relation,
     at: usize,
     place: Place,
 ) -> Option<Found<OrderFault>>
-    ensures { IsLeast result (UnitBreaks count reached.now chained.now at place) }
+    ensures { IsLeast result (UnitBreaks reached.now chains.now at place) }
 {
     let recursive = fault_if(holds(reached, at, at), OrderFault::Recursive, place);
-    let long = fault_if(
-        is_long(reached, count, chained, at),
-        OrderFault::TooDeepCalls,
-        place,
-    );
+    let long = fault_if(holds(chains, LONGEST, at), OrderFault::TooDeepCalls, place);
     earlier(recursive, long)
 }
 

@@ -1,30 +1,42 @@
-// Long chains of uses.
+// Chains of uses that name no unit twice.
 
-ghost use Rattle.std.specs.Prelude.{◌≡◌, IfOk, []};
+ghost use Rattle.std.specs.Prelude.{◌≡◌, ◌+◌, ◌≤◌, IfOk, [], true, length};
 ghost use Rattle.il_order.specs.Related.{tabulate};
-ghost use Rattle.il_order.specs.Chained.{is_longer, chained, meets_loop, is_long};
+ghost use Rattle.il_order.specs.Chained.{goes_on, leads_on, others, has_longer, chains};
 
-use crate::relation::{Relation, holds, is_set};
+use crate::relation::{Relation, holds};
+use crate::uses::is_among;
+use arrayvec::ArrayVec;
 use il_spec::list::Items;
 use std::alloc::{AllocError, Global};
 
 /// The most units of a chain of uses (own rule).
-const LONGEST: usize = 16;
+pub const LONGEST: usize = 16;
 
-/// The units from which a chain of 16 uses leads, one after another.
-pub fn chained(alloc: Global, uses: &Relation, count: usize) -> Result<Items<bool>, AllocError>
-    ensures { IfOk result (λ c. c ≡ chained count uses.now 16) }
+/// The units on the way of a search.
+type Way = ArrayVec<usize, LONGEST>;
+
+/// The units from which a chain of uses leads, for each number of uses up to 16.
+pub fn chains(
+    alloc: Global,
+    uses: &Relation,
+    reached: &Relation,
+    count: usize,
+) -> Result<Relation, AllocError>
+    ensures { IfOk result (λ c. c ≡ chains count uses.now reached.now 16) }
 {
-    let mut chained = all_set(alloc, count)?;
-    for _round in 0..LONGEST {
-        chained = longer(alloc, uses, count, &chained)?;
+    let mut chains = Items::new(alloc);
+    chains.push(all_set(alloc, count)?)?;
+    for length in 0..LONGEST {
+        let longer = longer(alloc, uses, reached, &chains, count, length)?;
+        chains.push(longer)?;
     }
-    Ok(chained)
+    Ok(chains)
 }
 
-// A row with all entries set.
+// A row with all entries set: no use is a chain from each unit.
 fn all_set(alloc: Global, count: usize) -> Result<Items<bool>, AllocError>
-    ensures { IfOk result (λ r. r ≡ chained count [] 0) }
+    ensures { IfOk result (λ r. r ≡ tabulate count (λ _. true)) }
 {
     let mut row = Items::new(alloc);
     for _at in 0..count {
@@ -37,48 +49,91 @@ fn all_set(alloc: Global, count: usize) -> Result<Items<bool>, AllocError>
 fn longer(
     alloc: Global,
     uses: &Relation,
+    reached: &Relation,
+    chains: &Relation,
     count: usize,
-    chained: &Items<bool>,
+    length: usize,
 ) -> Result<Items<bool>, AllocError>
-    ensures { IfOk result (λ r. r ≡ tabulate count (λ from. is_longer count uses.now chained.now from)) }
+    requires { length ≤ 15 }
+    ensures { IfOk result (λ r. r ≡ tabulate count (λ from. has_longer count uses.now reached.now chains.now length from)) }
 {
     let mut row = Items::new(alloc);
     for from in 0..count {
-        row.push(is_longer(uses, count, chained, from))?;
+        row.push(has_longer(uses, reached, chains, count, length, from))?;
     }
     Ok(row)
 }
 
-// Whether a unit uses one of some units.
-fn is_longer(uses: &Relation, count: usize, chained: &Items<bool>, from: usize) -> bool
-    ensures { result ≡ is_longer count uses.now chained.now from }
+// Whether such a chain leads from a unit. No search is made where one use less is too many, or too few units are reached.
+fn has_longer(
+    uses: &Relation,
+    reached: &Relation,
+    chains: &Relation,
+    count: usize,
+    length: usize,
+    from: usize,
+) -> bool
+    requires { length ≤ 15 }
+    ensures { result ≡ has_longer count uses.now reached.now chains.now length from }
 {
-    let mut longer = false;
-    for to in 0..count {
-        let used = holds(uses, from, to);
-        let long = is_set(chained, to);
-        longer = longer || (used && long);
-    }
-    longer
+    let mut way = ArrayVec::new();
+    holds(chains, length, from)
+        && length < others(reached, count, from)
+        && leads_on(uses, reached, chains, count, length + 1, &mut way, from)
 }
 
-/// Whether a unit has a chain of uses that is too long, and meets no recursion.
-pub fn is_long(reached: &Relation, count: usize, chained: &Items<bool>, from: usize) -> bool
-    ensures { result ≡ is_long count reached.now chained.now from }
+// How many others a unit reaches.
+fn others(reached: &Relation, count: usize, from: usize) -> usize
+    ensures { result ≡ others count reached.now from }
 {
-    let loops = meets_loop(reached, count, from);
-    is_set(chained, from) && !loops
+    let mut others = 0;
+    for to in 0..count {
+        if holds(reached, from, to) && to != from {
+            others += 1;
+        }
+    }
+    others
 }
 
-// Whether a unit reaches itself, or one that does.
-fn meets_loop(reached: &Relation, count: usize, from: usize) -> bool
-    ensures { result ≡ meets_loop count reached.now from }
+// Whether so many uses lead on from a unit to none on the way to it. Where nothing leads back, the rows tell; else each way is tried.
+fn leads_on(
+    uses: &Relation,
+    reached: &Relation,
+    chains: &Relation,
+    count: usize,
+    left: usize,
+    way: &mut Way,
+    from: usize,
+) -> bool
+    requires { length way.old.items + left ≤ 16 }
+    ensures same { way.new.items ≡ way.old.items }
+    ensures found { result ≡ leads_on count uses.now reached.now chains.now left way.old.items from }
 {
-    let mut further = false;
-    for to in 0..count {
-        let there = holds(reached, from, to);
-        let again = holds(reached, to, to);
-        further = further || (there && again);
+    if left == 0 {
+        return true;
     }
-    holds(reached, from, from) || further
+    way.push(from);
+    let mut found = false;
+    for to in 0..count {
+        if !found && goes_on(uses, chains, left - 1, way.as_slice(), from, to) {
+            found = !holds(reached, to, from)
+                || leads_on(uses, reached, chains, count, left - 1, way, to);
+        }
+    }
+    way.pop();
+    found
+}
+
+// Whether a way goes on to a unit that is not on it, from which a chain of the uses that are left leads.
+fn goes_on(
+    uses: &Relation,
+    chains: &Relation,
+    left: usize,
+    way: &[usize],
+    from: usize,
+    to: usize,
+) -> bool
+    ensures { result ≡ goes_on uses.now chains.now left way.now from to }
+{
+    holds(uses, from, to) && !is_among(way, to) && holds(chains, left, to)
 }

@@ -36,16 +36,16 @@ fn row_of(alloc: Global, used: &Items<usize>, count: usize) -> Result<Items<bool
 {
     let mut row = Items::new(alloc);
     for to in 0..count {
-        row.push(is_among(used, to))?;
+        row.push(is_among(used.as_slice(), to))?;
     }
     Ok(row)
 }
 
-// Whether a number is one of a list.
-fn is_among(used: &Items<usize>, number: usize) -> bool
-    ensures { result ≡ is_among used.now number }
+/// Whether a number is one of a list.
+pub fn is_among(numbers: &[usize], number: usize) -> bool
+    ensures { result ≡ is_among numbers.now number }
 {
-    for one in used.as_slice() {
+    for one in numbers {
         if *one == number {
             return true;
         }

@@ -4,8 +4,9 @@
 mod container;
 
 ghost use Rattle.std.specs.Prelude.{◌≡◌, IfOk, IfErr};
+ghost use Rattle.il_rules.specs.Faults.{IsRefusedBy};
 ghost use Rattle.il_run.specs.Annotation.{Annotated};
-ghost use Rattle.il_ranges.specs.Unannotated.{IsUnannotatedBy};
+ghost use Rattle.il_ranges.specs.Lacking.{BreaksRanges};
 
 pub use container::Checked;
 use il_code::Code;
@@ -21,7 +22,7 @@ use std::alloc::Global;
 pub fn verify(alloc: Global, code: Code) -> Result<Checked, Refusal>
     ensures same { IfOk result (λ c. c ≡ code) }
     ensures accepted { IfOk result (λ _. Annotated code) }
-    ensures refused { IfErr result (IsUnannotatedBy code) }
+    ensures refused { IfErr result (IsRefusedBy (BreaksRanges code)) }
 {
     let found = check(alloc, &code);
     let (code, ()) = both(code, found)?;
@@ -31,7 +32,7 @@ pub fn verify(alloc: Global, code: Code) -> Result<Checked, Refusal>
 // Finds ranges for each instruction.
 fn check(alloc: Global, code: &Code) -> Result<(), Refusal>
     ensures accepted { IfOk result (λ _. Annotated code.now) }
-    ensures refused { IfErr result (IsUnannotatedBy code.now) }
+    ensures refused { IfErr result (IsRefusedBy (BreaksRanges code.now)) }
 {
     annotated(alloc, code.names())
 }

@@ -3,6 +3,7 @@ use Rattle.std.proofs.Common.{◌≡◌, refl, sym, subst, ℕ, ◌+◌, ◌<◌
 use Rattle.std.specs.Prelude.{Ok, Err, Result, IsErrAnd}
 use Rattle.std.proofs.lemmas.Option.{slice_get_within}
 use Rattle.il_spec.specs.declared.tree.Config.{Config}
+use Rattle.il_spec.specs.declared.tree.Place.{Place}
 use Rattle.il_spec.specs.declared.token.Token.{Token}
 use Rattle.il_spec.specs.declared.fault.Refusal.{Refusal}
 use Rattle.il_spec.specs.declared.fault.Refusal.TheVariants.{Fault, Memory}
@@ -10,25 +11,28 @@ use Rattle.il_spec.specs.Text.{AreTokens}
 use Rattle.il_spec.specs.Grammar.{AfterLines, SpellsConfig}
 use Rattle.il_rules.specs.Faults.{HasNoFault}
 use Rattle.il_run.specs.Annotation.{Annotated}
+use Rattle.il_ranges.specs.Lacking.{BreaksRanges, lacks_ranges}
 use Rattle.il_budget.specs.Costs.{IsTooLong}
 use Rattle.il_parse.specs.Refused.{IsSmall, IsFault}
 use Rattle.lift_load.specs.Loading.{IsSpelled, IsAccepted, IsUnbroken, IsRefusedFor, by_declarations, by_types, by_order, by_ranges, by_budgets}
 
 -- REFUSALS
 
+-- what lacks ranges has none
+lacking : (c : Config) (number : ℕ) (place : Place) → BreaksRanges c number place → Annotated c → ⊥
+lacking c number place (lacks_ranges u among lacks) annotated =
+    let found = annotated u among in
+    lacks.first.none found.0 (record { entry = found.1.entry; each = λ place k below is. found.1.each place k (within_body lacks.at (length u.body.steps) place (slice_get_within u.body.steps lacks.at lacks.step lacks.stands) below) is })
+  where
+    within_body : (at n place : ℕ) → at < n → place < at + 1 → place < n + 1
+    within_body at n place low below = omega (arith, low, below)
+
 -- what is named is broken, or has no ranges
 pub names_broken : {text : List ℕ} (c : Config) (number line : ℕ) → IsRefusedFor c (Fault number line) → IsAccepted text c → ⊥
 names_broken c number line (by_declarations (place, first, at)) a = a.declared number place first.broken
 names_broken c number line (by_types declared (place, first, at)) a = a.typed number place first.broken
 names_broken c number line (by_order declared typed (place, first, at)) a = a.ordered number place first.broken
-names_broken c number line (by_ranges unbroken (s, earliest, at)) a =
-    let u = earliest.unit in
-    let first = earliest.first in
-    let found = a.annotated u earliest.among in
-    first.first.none found.0 (record { entry = found.1.entry; each = λ place k below is. found.1.each place k (within_body first.at (length u.body.steps) place (slice_get_within u.body.steps first.at s first.stands) below) is })
-  where
-    within_body : (at n place : ℕ) → at < n → place < at + 1 → place < n + 1
-    within_body at n place low below = omega (arith, low, below)
+names_broken c number line (by_ranges unbroken (place, first, at)) a = lacking c number place first.broken a.annotated
 names_broken c number line (by_budgets unbroken annotated (place, first, at)) a = a.affordable number place first.broken
 
 -- a fault that is handed on is a fault

@@ -10,7 +10,7 @@ use Rattle.il_spec.specs.Grammar.{AfterLines, SpellsConfig, Spells, IsWithinLimi
 use Rattle.il_rules.specs.Faults.{HasNoFault, IsRefusedBy, BreaksDeclarations, Broken, Typing, Ordering}
 use Rattle.il_rules.specs.Written.{IsWritten, IsNested}
 use Rattle.il_parse.specs.Refused.{IsFault}
-use Rattle.il_ranges.specs.Unannotated.{IsUnannotatedBy}
+use Rattle.il_ranges.specs.Lacking.{BreaksRanges}
 use Rattle.il_budget.specs.Costs.{IsTooLong}
 use Rattle.il_run.specs.Annotation.{Annotated}
 use Rattle.il_machine.specs.Scanning.{Program, IsRunnable}
@@ -71,8 +71,8 @@ at_order c typed e is fine well_typed refused = by_order fine well_typed (subst 
 pub unbroken_by : (c typed : Config) → typed ≡ c → HasNoFault (BreaksDeclarations c) → HasNoFault (Broken Typing c) → HasNoFault (Broken Ordering typed) → IsUnbroken c
 unbroken_by c typed is fine well_typed in_order = record { declared = fine; typed = well_typed; ordered = subst (λ d. HasNoFault (Broken Ordering d)) is in_order }
 
-pub at_ranges : (c code : Config) (e : Refusal) → code ≡ c → IsUnbroken c → IsUnannotatedBy code e → IsRefusedFor c e
-at_ranges c code e is unbroken refused = by_ranges unbroken (subst (λ d. IsUnannotatedBy d e) is refused)
+pub at_ranges : (c code : Config) (e : Refusal) → code ≡ c → IsUnbroken c → IsRefusedBy (BreaksRanges code) e → IsRefusedFor c e
+at_ranges c code e is unbroken refused = by_ranges unbroken (subst (λ d. IsRefusedBy (BreaksRanges d) e) is refused)
 
 pub at_budgets : (c names : Config) (e : Refusal) → names ≡ c → IsUnbroken c → Annotated c → IsRefusedBy (IsTooLong names) e → IsRefusedFor c e
 at_budgets c names e is unbroken annotated refused = by_budgets unbroken annotated (subst (λ d. IsRefusedBy (IsTooLong d) e) is refused)

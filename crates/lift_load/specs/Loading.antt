@@ -6,7 +6,7 @@ use Rattle.il_spec.specs.declared.tree.Config.{Config}
 use Rattle.il_spec.specs.Grammar.{Spells, IsWithinLimits}
 use Rattle.il_rules.specs.Faults.{IsRefusedBy, BreaksDeclarations, Typing, Ordering, HasNoFault, Broken}
 use Rattle.il_run.specs.Annotation.{Annotated}
-use Rattle.il_ranges.specs.Unannotated.{IsUnannotatedBy}
+use Rattle.il_ranges.specs.Lacking.{BreaksRanges}
 use Rattle.il_budget.specs.Costs.{IsTooLong}
 
 -- The text spells the configuration within the limits.
@@ -40,7 +40,7 @@ pub data IsRefusedFor (c : Config) (refusal : Refusal) : Type 0 where
   by_declarations : IsRefusedBy (BreaksDeclarations c) refusal → IsRefusedFor c refusal
   by_types : HasNoFault (BreaksDeclarations c) → IsRefusedBy (Broken Typing c) refusal → IsRefusedFor c refusal
   by_order : HasNoFault (BreaksDeclarations c) → HasNoFault (Broken Typing c) → IsRefusedBy (Broken Ordering c) refusal → IsRefusedFor c refusal
-  by_ranges : IsUnbroken c → IsUnannotatedBy c refusal → IsRefusedFor c refusal
+  by_ranges : IsUnbroken c → IsRefusedBy (BreaksRanges c) refusal → IsRefusedFor c refusal
   by_budgets : IsUnbroken c → Annotated c → IsRefusedBy (IsTooLong c) refusal → IsRefusedFor c refusal
 
 -- The text spells a configuration, and this is the fault of its declarations, types, order, ranges or budgets.

@@ -1,6 +1,7 @@
 use Rattle.std.proofs.Common.{◌≡◌, ◌∙◌, subst}
 use Rattle.il_run.specs.Annotation.{Annotated}
-use Rattle.il_ranges.specs.Unannotated.{IsUnannotatedBy}
+use Rattle.il_rules.specs.Faults.{IsRefusedBy}
+use Rattle.il_ranges.specs.Lacking.{BreaksRanges}
 use Rattle.lift_load.specs.Loading.{IsRefusedFor, IsUnbroken}
 use Rattle.lift_load.proofs.Explaining.{handed_as, if_ok, if_err}
 use Rattle.lift_load.proofs.Phases.{at_ranges}
@@ -20,4 +21,4 @@ returns-clause-annotated c = if_ok (λ _. Annotated c.in_ok-code.code) (λ _. An
 
 pub returns-clause-refused : goal.returns-clause-refused
 returns-clause-refused c =
-    if_err (IsUnannotatedBy c.in_ok-code.code) (IsRefusedFor c.args.config) c.verify.result (λ e refused. at_ranges c.args.config c.in_ok-code.code e c.in_ok-code.ensures.same c.in_ok-code.ensures.unbroken refused) c.verify.ensures.refused
+    if_err (IsRefusedBy (BreaksRanges c.in_ok-code.code)) (IsRefusedFor c.args.config) c.verify.result (λ e refused. at_ranges c.args.config c.in_ok-code.code e c.in_ok-code.ensures.same c.in_ok-code.ensures.unbroken refused) c.verify.ensures.refused
