@@ -1,15 +1,16 @@
 -- What the verifier of the program answers of a text.
 use Rattle.std.specs.Prelude.{◌≡◌, List, ℕ, Result, IfOk, IfErr, IsErrAnd, map}
 use Rattle.il_spec.specs.declared.fault.Refusal.{Refusal}
+use Rattle.il_spec.specs.declared.fault.Refusal.TheVariants.{Fault}
 use Rattle.il_spec.specs.declared.tree.Config.{Config}
 use Rattle.il_parse.specs.Refused.{IsFault}
 use Rattle.il_machine.specs.Scanning.{Program}
 use Rattle.lift_sound.specs.Runs.{RunsWell}
 use Rattle.il_budget.specs.Costs.{cost_of}
-use Rattle.lift_load.specs.Loading.{IsSpelled, IsAccepted, IsRefusedFor, IsExplained}
+use Rattle.lift_load.specs.Loading.{IsSpelled, IsSpelledWith, IsAccepted, IsRefusedFor, IsExplained}
 
 -- Either a program that the text spells, that breaks no rule and that runs well, or a refusal: up to 12 of a text that spells no
--- configuration, otherwise the first fault of the one that it spells.
+-- configuration, otherwise the first fault of the one that it spells, which has no other.
 pub record IsLoaded (text : List ℕ) (answer : Result Program Refusal) : Type 0 where
   pub found : IfOk answer (λ v. IsAccepted text v.config)
   pub costs : IfOk answer (λ v. v.costs ≡ map (cost_of v.config) v.config.units)
@@ -17,3 +18,4 @@ pub record IsLoaded (text : List ℕ) (answer : Result Program Refusal) : Type 0
   pub refused : IsFault answer → (c : Config) → IsAccepted text c → ⊥
   pub named : IsFault answer → (c : Config) → IsSpelled text c → IsErrAnd answer (IsRefusedFor c)
   pub number : IfErr answer (IsExplained text)
+  pub one : IsFault answer → (n l : ℕ) → IsSpelledWith text (Fault n l) → IsErrAnd answer (λ e. e ≡ Fault n l)

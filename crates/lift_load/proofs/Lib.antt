@@ -1,3 +1,4 @@
 pub mod Explaining
 pub mod Accepting
 pub mod Phases
+pub mod OneFault

@@ -1,7 +1,7 @@
 // From a text to a verified configuration.
 
-ghost use Rattle.std.specs.Prelude.{◌≡◌, IfOk, IfErr, IsErrAnd, map};
-ghost use Rattle.il_spec.specs.declared.fault.Refusal.TheVariants.{Memory};
+ghost use Rattle.std.specs.Prelude.{ℕ, ◌≡◌, IfOk, IfErr, IsErrAnd, map};
+ghost use Rattle.il_spec.specs.declared.fault.Refusal.TheVariants.{Fault};
 ghost use Rattle.il_spec.specs.declared.tree.Config.{Config as ConfigOf};
 ghost use Rattle.il_rules.specs.Faults.{BreaksDeclarations, Broken, Typing, HasNoFault, IsRefusedBy};
 ghost use Rattle.il_rules.specs.Written.{IsWritten, IsNested};
@@ -9,7 +9,7 @@ ghost use Rattle.il_run.specs.Annotation.{Annotated};
 ghost use Rattle.il_parse.specs.Refused.{IsFault};
 ghost use Rattle.il_budget.specs.Costs.{IsTooLong, cost_of};
 ghost use Rattle.lift_sound.specs.Runs.{RunsWell};
-ghost use Rattle.lift_load.specs.Loading.{IsSpelled, SpellsOnly, SpellsNone, IsUnbroken, IsAccepted, IsRefusedFor, IsExplained};
+ghost use Rattle.lift_load.specs.Loading.{IsSpelled, SpellsOnly, SpellsNone, IsUnbroken, IsAccepted, IsRefusedFor, IsSpelledWith, IsExplained};
 
 use il_budget::budget;
 use il_code::{Code, code};
@@ -36,6 +36,9 @@ pub fn load(alloc: Global, text: &[u8]) -> Result<Verified, Refusal>
     ensures refused { IsFault result → (c : ConfigOf) → IsAccepted text.now c → ⊥ }
     ensures named { IsFault result → (c : ConfigOf) → IsSpelled text.now c → IsErrAnd result (IsRefusedFor c) }
     ensures number { IfErr result (IsExplained text.now) }
+
+    // A text that spells a configuration has no other fault.
+    ensures one { IsFault result → (n l : ℕ) → IsSpelledWith text.now (Fault n l) → IsErrAnd result (λ e. e ≡ Fault n l) }
 {
     let config = parsed(alloc, text)?;
     verified(alloc, config)

@@ -8,4 +8,5 @@ returns c = record {
   refused = c.load.ensures.refused;
   named = c.load.ensures.named;
   number = c.load.ensures.number;
+  one = c.load.ensures.one;
 }

@@ -3,6 +3,7 @@ use Rattle.lift_load.specs.Loading.{IsExplained}
 use Rattle.lift_load.proofs.Explaining.{handed_as}
 use Rattle.lift_load.proofs.Accepting.{handed_on}
 use Rattle.lift_load.proofs.Phases.{found_by, runs_by, refused_by, named_by, explained_by}
+use Rattle.lift_load.proofs.OneFault.{one_by}
 use Rattle.lift_load.proofs.loader.load.Goals as goal
 
 -- TOKENS AND GRAMMAR
@@ -15,6 +16,9 @@ returns-in_err-config-clause-named c = λ fault d a. absurd (c.in_err-config.ens
 
 pub returns-in_err-config-clause-number : goal.returns-in_err-config-clause-number
 returns-in_err-config-clause-number c = handed_as (IsExplained c.args.text.now) _ _ c.from_residual.ensures.1 c.in_err-config.ensures.number
+
+pub returns-in_err-config-clause-one : goal.returns-in_err-config-clause-one
+returns-in_err-config-clause-one c = λ fault n l w. absurd (c.in_err-config.ensures.none (handed_on Config _ _ c.from_residual.ensures.1 fault) w.0 w.1)
 
 -- THE CONFIGURATION
 
@@ -32,3 +36,6 @@ returns-clause-named c = named_by c.args.text.now c.in_ok-config.config c.in_ok-
 
 pub returns-clause-number : goal.returns-clause-number
 returns-clause-number c = explained_by c.args.text.now c.in_ok-config.config c.in_ok-config.ensures.only c.verified.result c.verified.ensures.refused
+
+pub returns-clause-one : goal.returns-clause-one
+returns-clause-one c = one_by c.args.text.now c.in_ok-config.config c.in_ok-config.ensures.only c.verified.result c.verified.ensures.refused

@@ -1,0 +1,99 @@
+-- A text that is spelled has one fault at most, by its number and its line.
+use Rattle.std.proofs.Common.{◌≡◌, ◌<◌, ◌+◌, ℕ, List, Result, Ok, Err, arith, sym, ap₂, ◌∙◌, subst, slice_get, length}
+use Rattle.std.specs.Prelude.{Contains, IfErr, IsErrAnd, flat_map}
+use Rattle.std.proofs.lemmas.Option.{slice_get_within}
+use Rattle.il_spec.specs.declared.fault.Refusal.{Refusal}
+use Rattle.il_spec.specs.declared.fault.Refusal.TheVariants.{Fault, Memory}
+use Rattle.il_spec.specs.declared.tree.Config.{Config}
+use Rattle.il_spec.specs.declared.tree.Place.{Place}
+use Rattle.il_spec.specs.declared.tree.Step.{Step}
+use Rattle.il_spec.specs.declared.tree.Unit.{Unit as Organized}
+use Rattle.il_spec.specs.Grammar.{Spells}
+use Rattle.il_rules.specs.Faults.{Declaring, Typing, Ordering, Broken, BreaksDeclarations, HasNoFault, IsRefusedBy}
+use Rattle.il_grammar.specs.Places.{places, unit_places, inner_places, result_places, declaration_places, step_places, name_places, BreaksAtPlaces}
+use Rattle.il_grammar.proofs.Members.{first_in, later_in, left_in, right_in, given_in, standing_in}
+use Rattle.il_grammar.proofs.FaultPlaces.{broken_place}
+use Rattle.il_grammar.proofs.FirstLines.{first_at_one_line}
+use Rattle.il_run.specs.Annotation.{Annotated}
+use Rattle.il_ranges.specs.Lacking.{BreaksRanges, lacks_ranges}
+use Rattle.il_budget.specs.Costs.{IsTooLong, too_long}
+use Rattle.il_machine.specs.Scanning.{Program}
+use Rattle.il_parse.specs.Refused.{IsFault}
+use Rattle.lift_load.specs.Loading.{SpellsOnly, IsRefusedFor, by_declarations, by_types, by_order, by_ranges, by_budgets, IsSpelledWith}
+
+-- PLACES
+
+heading_in : (c : Config) (u : Organized) → Contains c.units u → Contains (places c) u.place
+heading_in c u has = left_in (flat_map unit_places c.units) _ u.place (given_in unit_places c.units u u.place has (first_in u.place _))
+
+step_in : (c : Config) (u : Organized) (s : Step) → Contains c.units u → Contains u.body.steps s → Contains (places c) s.place
+step_in c u s has among =
+    left_in (flat_map unit_places c.units) _ s.place (given_in unit_places c.units u s.place has
+    (later_in u.place _ s.place (later_in u.name.place _ s.place (right_in (result_places u.kind) (inner_places u) s.place
+    (right_in (flat_map declaration_places u.inputs) _ s.place (right_in (flat_map declaration_places u.outputs) _ s.place
+    (right_in (flat_map declaration_places u.variables) _ s.place (right_in (flat_map declaration_places u.externals) _ s.place
+    (left_in (flat_map step_places u.body.steps) _ s.place (given_in step_places u.body.steps s s.place among
+    (right_in (flat_map name_places s.labels) _ s.place (first_in s.place _))))))))))))
+
+ranges_at : (c : Config) → BreaksAtPlaces c (BreaksRanges c)
+ranges_at c n p (lacks_ranges u has lacks) = subst (Contains (places c)) (sym lacks.place_is) (step_in c u lacks.step has (standing_in u.body.steps lacks.at lacks.step lacks.stands))
+
+budgets_at : (c : Config) → BreaksAtPlaces c (IsTooLong c)
+budgets_at c n p (too_long u cost has longest over number is) = subst (Contains (places c)) (sym is) (heading_in c u has)
+
+-- ONE PHASE
+
+-- two first faults of a rule are one
+same_fault : (text : List ℕ) (c : Config) (rule : ℕ → Place → Type 0) → Spells text c → BreaksAtPlaces c rule → (n l m k : ℕ) → IsRefusedBy rule (Fault n l) → IsRefusedBy rule (Fault m k) → (n ≡ m) × (l ≡ k)
+same_fault text c rule spelled at n l m k (p, first, is) (q, other, too) = let same = first_at_one_line text c rule spelled at n m p q first other in (same.0, is ∙ same.1 ∙ sym too)
+
+-- a fault of a rule is broken
+is_broken : (rule : ℕ → Place → Type 0) (n l : ℕ) → IsRefusedBy rule (Fault n l) → HasNoFault rule → ⊥
+is_broken rule n l (p, first, is) none = none n p first.broken
+
+-- where each unit has ranges, none lacks them
+lacks_none : (c : Config) (n l : ℕ) → IsRefusedBy (BreaksRanges c) (Fault n l) → Annotated c → ⊥
+lacks_none c n l (p, first, is) ranged = by_unit first.broken
+  where
+    by_unit : BreaksRanges c n p → ⊥
+    by_unit (lacks_ranges u has lacks) =
+        let a = ranged u has in
+        let within = slice_get_within u.body.steps lacks.at lacks.step lacks.stands in
+        lacks.first.none a.0 (record { entry = a.1.entry; each = λ place k low at. a.1.each place k (omega (arith, low, within)) at })
+
+-- ALL PHASES
+
+module _ (text : List ℕ) (c : Config) (spelled : Spells text c) (n l m k : ℕ) where
+  pub one_fault : IsRefusedFor c (Fault n l) → IsRefusedFor c (Fault m k) → (n ≡ m) × (l ≡ k)
+  one_fault (by_declarations a) (by_declarations b) = same_fault text c (BreaksDeclarations c) spelled (broken_place Declaring c) n l m k a b
+  one_fault (by_declarations a) (by_types d b) = absurd (is_broken (BreaksDeclarations c) n l a d)
+  one_fault (by_declarations a) (by_order d t b) = absurd (is_broken (BreaksDeclarations c) n l a d)
+  one_fault (by_declarations a) (by_ranges u b) = absurd (is_broken (BreaksDeclarations c) n l a u.declared)
+  one_fault (by_declarations a) (by_budgets u r b) = absurd (is_broken (BreaksDeclarations c) n l a u.declared)
+  one_fault (by_types d a) (by_declarations b) = absurd (is_broken (BreaksDeclarations c) m k b d)
+  one_fault (by_types d a) (by_types e b) = same_fault text c (Broken Typing c) spelled (broken_place Typing c) n l m k a b
+  one_fault (by_types d a) (by_order e t b) = absurd (is_broken (Broken Typing c) n l a t)
+  one_fault (by_types d a) (by_ranges u b) = absurd (is_broken (Broken Typing c) n l a u.typed)
+  one_fault (by_types d a) (by_budgets u r b) = absurd (is_broken (Broken Typing c) n l a u.typed)
+  one_fault (by_order d t a) (by_declarations b) = absurd (is_broken (BreaksDeclarations c) m k b d)
+  one_fault (by_order d t a) (by_types e b) = absurd (is_broken (Broken Typing c) m k b t)
+  one_fault (by_order d t a) (by_order e v b) = same_fault text c (Broken Ordering c) spelled (broken_place Ordering c) n l m k a b
+  one_fault (by_order d t a) (by_ranges u b) = absurd (is_broken (Broken Ordering c) n l a u.ordered)
+  one_fault (by_order d t a) (by_budgets u r b) = absurd (is_broken (Broken Ordering c) n l a u.ordered)
+  one_fault (by_ranges u a) (by_declarations b) = absurd (is_broken (BreaksDeclarations c) m k b u.declared)
+  one_fault (by_ranges u a) (by_types e b) = absurd (is_broken (Broken Typing c) m k b u.typed)
+  one_fault (by_ranges u a) (by_order e v b) = absurd (is_broken (Broken Ordering c) m k b u.ordered)
+  one_fault (by_ranges u a) (by_ranges v b) = same_fault text c (BreaksRanges c) spelled (ranges_at c) n l m k a b
+  one_fault (by_ranges u a) (by_budgets v r b) = absurd (lacks_none c n l a r)
+  one_fault (by_budgets u r a) (by_declarations b) = absurd (is_broken (BreaksDeclarations c) m k b u.declared)
+  one_fault (by_budgets u r a) (by_types e b) = absurd (is_broken (Broken Typing c) m k b u.typed)
+  one_fault (by_budgets u r a) (by_order e v b) = absurd (is_broken (Broken Ordering c) m k b u.ordered)
+  one_fault (by_budgets u r a) (by_ranges v b) = absurd (lacks_none c m k b r)
+  one_fault (by_budgets u r a) (by_budgets v s b) = same_fault text c (IsTooLong c) spelled (budgets_at c) n l m k a b
+
+-- what a text is refused for is its one fault
+pub one_by : (text : List ℕ) (c : Config) → SpellsOnly text c → (r : Result Program Refusal) → IfErr r (IsRefusedFor c) → IsFault r → (n l : ℕ) → IsSpelledWith text (Fault n l) → IsErrAnd r (λ e. e ≡ Fault n l)
+one_by text c only (Ok v) refused fault n l w = absurd fault
+one_by text c only (Err Memory) refused fault n l w = absurd fault
+one_by text c only (Err (Fault m k)) refused fault n l w =
+    let one = one_fault text c only.spelled.spelled m k n l refused (subst (λ d. IsRefusedFor d (Fault n l)) (only.only w.0 w.1) w.2) in ap₂ Fault one.0 one.1
