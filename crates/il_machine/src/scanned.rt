@@ -65,7 +65,7 @@ impl OpenScan {
     pub fn of(task: u8, store: Store) -> OpenScan
         ensures { result ≡ record { task = task; store = store } }
     {
-        let Store { scan, mut first } = store;
+        let (scan, mut first) = store.into_parts();
         copy_front(&mut first, &scan.rows);
         OpenScan { task, scan, first }
     }
