@@ -277,8 +277,8 @@ module _ (n : Names) (f : Facts) (fine : IsFine n f) (denotes : (r : Reference) 
     of_operation left right is there None e =
         divisor_number Number op (Some right) (λ h. zero_divisor refl (of_value left Divisor is (some_with (value left) right (DividesByZero op) there h)))
         (λ none. out_of_type refl (λ h. none (with_some (value left) right (DividesByZero op) there (to_value left Divisor is h)))
-            (λ h. let k = (operation left right is there).complete (λ _. Unit {0}) (with_some (value left) right (Result left) there (to_value left Result is h)) in
-                let bad : ◌≡◌ {A = Option Known} None (Some k.least) = sym e ∙ k.is in cc))
+        (λ h. let k = (operation left right is there).complete (λ _. Unit {0}) (with_some (value left) right (Result left) there (to_value left Result is h)) in
+        let bad : ◌≡◌ {A = Option Known} None (Some k.least) = sym e ∙ k.is in cc))
 
     of_right : (left : Known) → f.result ≡ Some left → (z : Option Known) → value left ≡ z → Number (operated_fault op left z (unless_outside (get (variables_of n f.row)) what 40))
     of_right left is None e = out_of_type refl (λ h. with_none (value left) (DividesByZero op) e (to_value left Divisor is h)) (λ h. with_none (value left) (Result left) e (to_value left Result is h))

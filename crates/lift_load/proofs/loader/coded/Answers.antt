@@ -5,7 +5,6 @@ use Rattle.lift_load.proofs.Explaining.{handed_as, if_ok, if_err}
 use Rattle.lift_load.proofs.Phases.{at_memory}
 use Rattle.lift_load.proofs.loader.coded.Goals as goal
 
-
 pub returns-in_err-ordered-clause-refused : goal.returns-in_err-ordered-clause-refused
 returns-in_err-ordered-clause-refused c = handed_as (IsRefusedFor c.args.config) _ _ c.from_residual.ensures.1 c.in_err-ordered.ensures.refused
 

@@ -35,6 +35,5 @@ returns-clause-only c =
 pub returns-clause-written : goal.returns-clause-written
 returns-clause-written c = spelled_written c.args.text.now c.in_ok-config.config c.in_ok-config.ensures.spelled
 
-
 pub returns-clause-nested : goal.returns-clause-nested
 returns-clause-nested c = c.in_ok-config.ensures.small.nesting

@@ -8,7 +8,6 @@ use Rattle.lift_load.proofs.Explaining.{handed_as, if_ok, if_err}
 use Rattle.lift_load.proofs.Phases.{at_budgets}
 use Rattle.lift_load.proofs.loader.verified.Goals as goal
 
-
 pub returns-in_err-checked-clause-refused : goal.returns-in_err-checked-clause-refused
 returns-in_err-checked-clause-refused c = handed_as (IsRefusedFor c.args.config) _ _ c.from_residual.ensures.1 c.in_err-checked.ensures.refused
 

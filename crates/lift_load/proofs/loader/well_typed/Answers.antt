@@ -5,7 +5,6 @@ use Rattle.lift_load.proofs.Explaining.{handed_as, if_ok, if_err}
 use Rattle.lift_load.proofs.Phases.{at_types}
 use Rattle.lift_load.proofs.loader.well_typed.Goals as goal
 
-
 pub returns-in_err-declared-clause-refused : goal.returns-in_err-declared-clause-refused
 returns-in_err-declared-clause-refused c = handed_as (IsRefusedFor c.args.config) _ _ c.from_residual.ensures.1 (by_declarations c.in_err-declared.ensures.refused)
 
