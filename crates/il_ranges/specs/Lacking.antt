@@ -1,5 +1,5 @@
 -- Which units have no annotation, where, and what is wrong there (own rules).
-use Rattle.std.specs.Prelude.{◌≡◌, ℕ, pos, List, [], ◌∷◌, ◌++◌, flat_map, Option, Some, None, option_to_list, slice_get, Contains, Any}
+use Rattle.std.specs.Prelude.{◌≡◌, ℕ, pos, List, [], ◌∷◌, flat_map, Option, Some, None, option_to_list, slice_get, Contains, Any}
 use Rattle.il_interval.specs.Interval.{IsIn, IsWithin}
 use Rattle.il_spec.specs.declared.tree.Elementary.{Elementary}
 use Rattle.il_spec.specs.declared.tree.Operand.{Operand}
