@@ -14,7 +14,7 @@ pub returns : goal.returns
 returns c = λ u is.
     let config = c.args.code.now in
     let line = line_of_task config c.requires.runs c.args.task c.args.line c.requires.there config.programs refl c.requires.line u is in
-    let t = c.task.ensures u line in
+    let t = c.task.ensures.is u line in
     let stands = c.program_number-unit.ensures.stands u is in
     let units = c.as_slice.ensures ∙ ap (λ (k : Config). k.units) c.config.ensures.is in
     let read = read_at c.as_slice.result.now config.units c.program_number-unit.result c.index-as_slice-unit.result units (got_within c.as_slice.result.now c.program_number-unit.result u (ap (λ l. slice_get l c.program_number-unit.result) units ∙ stands)) c.index-as_slice-unit.is in
@@ -26,8 +26,8 @@ returns c = λ u is.
       line = line;
       stands = stands;
       first = c.program_number-unit.ensures.first u is;
-      listed = c.in_ok-listed.ensures ∙ ap₂ (λ (g xs : List Cell). map (slot_in g) xs) c.globals.ensures.cells cells;
+      listed = c.in_ok-listed.ensures ∙ ap₂ (λ (g xs : List Cell). map (slot_in g) xs) c.globals.ensures.is.cells cells;
       written = c.in_ok-written.ensures ∙ ap (λ (ss : List Step). transfers ss c.task.result.now.cells c.globals-2.result.now.cells c.externals-cells.result.now) steps
-          ∙ ap₂ (λ (g xs : List Cell). transfers u.body.steps c.task.result.now.cells g xs) c.globals-2.ensures.cells cells
+          ∙ ap₂ (λ (g xs : List Cell). transfers u.body.steps c.task.result.now.cells g xs) c.globals-2.ensures.is.cells cells
           ∙ ap (λ (g : List Cell). transfers u.body.steps g (global_cells config) (external_cells config u)) t.cells;
     }
