@@ -1,5 +1,5 @@
 -- A text that is spelled has one fault at most, by its number and its line.
-use Rattle.std.proofs.Common.{◌≡◌, ◌<◌, ◌+◌, ℕ, List, Result, Ok, Err, arith, sym, ap₂, ◌∙◌, subst, slice_get, length}
+use Rattle.std.proofs.Common.{◌≡◌, ◌<◌, ◌+◌, ◌++◌, ◌∷◌, [], ℕ, List, Result, Ok, Err, arith, sym, ap₂, ◌∙◌, subst, slice_get, length}
 use Rattle.std.specs.Prelude.{Contains, IfErr, IsErrAnd, flat_map}
 use Rattle.std.proofs.lemmas.Option.{slice_get_within}
 use Rattle.il_spec.specs.declared.fault.Refusal.{Refusal}
@@ -10,7 +10,7 @@ use Rattle.il_spec.specs.declared.tree.Step.{Step}
 use Rattle.il_spec.specs.declared.tree.Unit.{Unit as Organized}
 use Rattle.il_spec.specs.Grammar.{Spells}
 use Rattle.il_rules.specs.Faults.{Declaring, Typing, Ordering, Broken, BreaksDeclarations, HasNoFault, IsRefusedBy}
-use Rattle.il_grammar.specs.Places.{places, unit_places, inner_places, result_places, declaration_places, step_places, name_places, BreaksAtPlaces}
+use Rattle.il_grammar.specs.Places.{places, unit_places, inner_places, result_places, declaration_places, step_places, instruction_places, name_places, BreaksAtPlaces}
 use Rattle.il_grammar.proofs.Members.{first_in, later_in, left_in, right_in, given_in, standing_in}
 use Rattle.il_grammar.proofs.FaultPlaces.{broken_place}
 use Rattle.il_grammar.proofs.FirstLines.{first_at_one_line}
@@ -24,16 +24,16 @@ use Rattle.lift_load.specs.Loading.{SpellsOnly, IsRefusedFor, by_declarations, b
 -- PLACES
 
 heading_in : (c : Config) (u : Organized) → Contains c.units u → Contains (places c) u.place
-heading_in c u has = left_in (flat_map unit_places c.units) _ u.place (given_in unit_places c.units u u.place has (first_in u.place _))
+heading_in c u has = left_in (flat_map unit_places c.units) _ u.place (given_in unit_places c.units u u.place has (first_in u.place (u.name.place ∷ (result_places u.kind ++ inner_places u))))
 
 step_in : (c : Config) (u : Organized) (s : Step) → Contains c.units u → Contains u.body.steps s → Contains (places c) s.place
 step_in c u s has among =
     left_in (flat_map unit_places c.units) _ s.place (given_in unit_places c.units u s.place has
-    (later_in u.place _ s.place (later_in u.name.place _ s.place (right_in (result_places u.kind) (inner_places u) s.place
+    (later_in u.place (u.name.place ∷ (result_places u.kind ++ inner_places u)) s.place (later_in u.name.place (result_places u.kind ++ inner_places u) s.place (right_in (result_places u.kind) (inner_places u) s.place
     (right_in (flat_map declaration_places u.inputs) _ s.place (right_in (flat_map declaration_places u.outputs) _ s.place
     (right_in (flat_map declaration_places u.variables) _ s.place (right_in (flat_map declaration_places u.externals) _ s.place
-    (left_in (flat_map step_places u.body.steps) _ s.place (given_in step_places u.body.steps s s.place among
-    (right_in (flat_map name_places s.labels) _ s.place (first_in s.place _))))))))))))
+    (left_in (flat_map step_places u.body.steps) (flat_map name_places u.body.last_labels ++ u.body.end ∷ []) s.place (given_in step_places u.body.steps s s.place among
+    (right_in (flat_map name_places s.labels) (s.place ∷ instruction_places s.instruction) s.place (first_in s.place (instruction_places s.instruction)))))))))))))
 
 ranges_at : (c : Config) → BreaksAtPlaces c (BreaksRanges c)
 ranges_at c n p (lacks_ranges u has lacks) = subst (Contains (places c)) (sym lacks.place_is) (step_in c u lacks.step has (standing_in u.body.steps lacks.at lacks.step lacks.stands))
