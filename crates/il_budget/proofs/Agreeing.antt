@@ -10,6 +10,7 @@ use Rattle.il_spec.specs.declared.tree.Form.TheVariants.{Scalar as OfScalar, Arr
 use Rattle.il_spec.specs.declared.tree.Condition.TheVariants.{Always, WhenTrue, WhenFalse}
 use Rattle.il_spec.specs.declared.tree.Instruction.{Instruction}
 use Rattle.il_spec.specs.declared.tree.Instruction.TheVariants.{Load, Store, Not, Operate, Defer, Evaluate, Jump, Return, Call, Invoke}
+use Rattle.il_rules.specs.declared.names.StandardBlock.{StandardBlock}
 use Rattle.il_rules.specs.Names as rule
 use Rattle.il_rules.specs.Names.{Spelling, Meaning, MeansVariable, MeansUnit, MeansStandard, meaning, meant_variable, image_name, standard_function, standard_block, function_named, function_block_named, form_named, is_function, is_function_block}
 use Rattle.il_rules.specs.Types.{label_place}
@@ -17,7 +18,6 @@ use Rattle.il_run.specs.Paths as path
 use Rattle.il_run.specs.Paths.{rest_at, place_rest, rests, cost_of, callee, block_unit, table_of, longest_within}
 use Rattle.il_scope.specs.declared.entry.BlockType.{BlockType}
 use Rattle.il_scope.specs.declared.entry.BlockType.TheVariants.{Standard as StandardType, Own}
-use Rattle.il_scope.specs.Entries.{block_entry}
 use Rattle.il_scope.specs.declared.entry.VariableType.{VariableType}
 use Rattle.il_scope.specs.declared.entry.VariableType.TheVariants.{Instance}
 use Rattle.il_scope.specs.Views.{passes, unit_number, function_number, function_block_number, block_type, type_of, binding_of}
@@ -138,10 +138,10 @@ unfolding function_block_number
 finds_block c name = finds_by c (function_block_number c name) (function_block_named c name) (function_block_found c name) (λ k e. unit_there is_function_block c (unit_number c name) k e)
 
 -- a standard block is no own one
-standard_is_not_own : (c : Config) (name : Spelling) (b : rule.StandardBlock) → standard_block name ≡ Some b → function_block_named c name ≡ None
+standard_is_not_own : (c : Config) (name : Spelling) (b : StandardBlock) → standard_block name ≡ Some b → function_block_named c name ≡ None
 standard_is_not_own c name b is = none (is_some (image_name c name) || is_some (standard_function name) || is_some (standard_block name)) (predeclared (is_some (image_name c name)) (is_some (standard_function name)) (standard_block name) is)
   where
-    predeclared : (x y : Bool) (s : Option rule.StandardBlock) → s ≡ Some b → (x || y || is_some s) ≡ true
+    predeclared : (x y : Bool) (s : Option StandardBlock) → s ≡ Some b → (x || y || is_some s) ≡ true
     predeclared true y s e = refl
     predeclared false true s e = refl
     predeclared false false s e = ap is_some e
@@ -154,8 +154,8 @@ standard_is_not_own c name b is = none (is_some (image_name c name) || is_some (
 abbrev pub type_by : Option BlockType → VariableType
 type_by o = Instance o
 
-abbrev pub or_type : Option rule.StandardBlock → Option ℕ → Option BlockType
-or_type s o = rule.or_else (option_map (λ b. StandardType (block_entry b)) s) (option_map Own o)
+abbrev pub or_type : Option StandardBlock → Option ℕ → Option BlockType
+or_type s o = rule.or_else (option_map (λ b. StandardType b) s) (option_map Own o)
 
 finds_form : (c : Config) (f : Form) → Finds c (own_of (type_of c f)) (block_unit c (Some f))
 unfolding block_type
@@ -167,7 +167,7 @@ finds_form c (OfBlock name) = by_standard (standard_block name) refl
     by_own None named h = h
     by_own (Some k) named h = h
 
-    by_standard : (s : Option rule.StandardBlock) → standard_block name ≡ s → Finds c (own_of (type_by (or_type s (function_block_number c name)))) (function_block_named c name)
+    by_standard : (s : Option StandardBlock) → standard_block name ≡ s → Finds c (own_of (type_by (or_type s (function_block_number c name)))) (function_block_named c name)
     by_standard (Some b) is = standard_is_not_own c name b is
     by_standard None is = by_own (function_block_number c name) (function_block_named c name) (finds_block c name)
 

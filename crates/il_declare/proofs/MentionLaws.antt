@@ -14,8 +14,7 @@ use Rattle.il_rules.specs.Names as rule
 use Rattle.il_rules.specs.Names.{Spelling, BlockVariables, entry_of, Meaning, MeansVariable, MeansUnit, MeansStandard, standard_function, function_named}
 use Rattle.il_rules.specs.Declarations.{Access, Reads, unless, reference_numbers, name_numbers, is_visible, scalar_numbers, scalar_form_numbers, array_numbers, array_form_numbers, called_numbers, called_form_numbers, member_numbers, member_form_numbers}
 use Rattle.il_scope.specs.Views.{type_of, binding_of, function_number}
-use Rattle.il_scope.specs.Entries.{function_entry}
-use Rattle.il_scope.specs.declared.entry.StandardFunction.{StandardFunction}
+use Rattle.il_rules.specs.declared.names.StandardFunction.{StandardFunction}
 use Rattle.il_scope.proofs.Laws.{block_found, function_there}
 use Rattle.il_found.specs.Least.{NumberedFault, fault_of}
 use Rattle.il_declare.specs.Places.{lowest_at}
@@ -71,21 +70,21 @@ member_is config access word (Some MeansStandard) = refl
 member_is config access word None = refl
 
 -- a function
-pub function_unknown : (config : Config) (name : Spelling) (place : Place) (s : Option StandardFunction) (o : Option ℕ) (standard known : Bool) (r : Option NumberedFault) → s ≡ option_map function_entry (standard_function name) → standard ≡ is_some s → standard ≡ false → o ≡ function_number config name → known ≡ is_some o → r ≡ fault_of (not known) 21 place
+pub function_unknown : (config : Config) (name : Spelling) (place : Place) (s : Option StandardFunction) (o : Option ℕ) (standard known : Bool) (r : Option NumberedFault) → s ≡ standard_function name → standard ≡ is_some s → standard ≡ false → o ≡ function_number config name → known ≡ is_some o → r ≡ fault_of (not known) 21 place
     → r ≡ lowest_at (if is_some (standard_function name) then [] else unless (is_some (function_named config name)) 21) place
 function_unknown config name place s o standard known r word test other number there is =
     is ∙ at_unless known 21 place ∙ ap (λ b. lowest_at (unless b 21) place) (there ∙ ap is_some number ∙ function_there config name) ∙ ap (λ b. lowest_at (if b then [] else unless (is_some (function_named config name)) 21) place) (sym (sym (mapped (standard_function name)) ∙ sym (ap is_some word) ∙ sym test ∙ other))
   where
-    mapped : (x : Option rule.StandardFunction) → is_some (option_map function_entry x) ≡ is_some x
+    mapped : (x : Option StandardFunction) → is_some x ≡ is_some x
     mapped (Some y) = refl
     mapped None = refl
 
-pub function_standard : (config : Config) (name : Spelling) (place : Place) (s : Option StandardFunction) (standard : Bool) → s ≡ option_map function_entry (standard_function name) → standard ≡ is_some s → standard ≡ true
+pub function_standard : (config : Config) (name : Spelling) (place : Place) (s : Option StandardFunction) (standard : Bool) → s ≡ standard_function name → standard ≡ is_some s → standard ≡ true
     → None ≡ lowest_at (if is_some (standard_function name) then [] else unless (is_some (function_named config name)) 21) place
 function_standard config name place s standard word test there =
     ap (λ b. lowest_at (if b then [] else unless (is_some (function_named config name)) 21) place) (sym (sym (mapped (standard_function name)) ∙ sym (ap is_some word) ∙ sym test ∙ there))
   where
-    mapped : (x : Option rule.StandardFunction) → is_some (option_map function_entry x) ≡ is_some x
+    mapped : (x : Option StandardFunction) → is_some x ≡ is_some x
     mapped (Some y) = refl
     mapped None = refl
 

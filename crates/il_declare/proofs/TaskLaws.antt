@@ -5,11 +5,11 @@ use Rattle.il_spec.specs.declared.tree.Config.{Config}
 use Rattle.il_spec.specs.declared.tree.ProgramLine.{ProgramLine}
 use Rattle.il_spec.specs.declared.tree.Unit.{Unit as ProgramUnit}
 use Rattle.il_table.specs.NameMap.{NameMap, get}
+use Rattle.il_rules.specs.declared.names.Role.TheVariants.{Car as CarRole, Group as GroupRole}
 use Rattle.il_rules.specs.Names as rule
-use Rattle.il_rules.specs.Names.{Spelling, is_one_of, CarRole, GroupRole, is_program, program_named, program_role, task_role}
+use Rattle.il_rules.specs.Names.{Spelling, is_one_of, is_program, program_named, program_role, task_role}
 use Rattle.il_rules.specs.Declarations.{names_of_tasks}
-use Rattle.il_scope.specs.declared.entry.Role.{Role}
-use Rattle.il_scope.specs.Entries.{role_entry}
+use Rattle.il_rules.specs.declared.names.Role.{Role}
 use Rattle.il_scope.specs.Views.{program_number}
 use Rattle.il_scope.proofs.Laws.{program_there}
 use Rattle.il_declare.specs.TaskRules.{IsSet, BreaksLine, unknown_task, unknown_program, other_role_given, IsUnusedOf, other_role, has_other_role, is_wrong_line}
@@ -24,7 +24,7 @@ pub is_none_of : {A : Type 0} (o : Option A) → o ≡ None → not (is_some o) 
 is_none_of o e = ap (λ x. not (is_some x)) e
 
 -- a task of no role
-pub no_role : (config seen : Config) (cars : ℤ) (name key : Spelling) (r : Option Role) (none : Bool) → seen ≡ config → cars ≡ seen.cars.value → key ≡ name → r ≡ option_map role_entry (task_role cars key) → is_some r ≡ not none → none ≡ not (is_some (task_role config.cars.value name))
+pub no_role : (config seen : Config) (cars : ℤ) (name key : Spelling) (r : Option Role) (none : Bool) → seen ≡ config → cars ≡ seen.cars.value → key ≡ name → r ≡ task_role cars key → is_some r ≡ not none → none ≡ not (is_some (task_role config.cars.value name))
 no_role config seen cars name key r none same value named found there =
     back none ∙ ap not (sym there ∙ ap is_some found ∙ mapped (task_role cars key) ∙ ap (λ z. is_some (task_role z key)) (value ∙ ap (λ k. k.cars.value) same) ∙ ap (λ k. is_some (task_role config.cars.value k)) named)
   where
@@ -32,7 +32,7 @@ no_role config seen cars name key r none same value named found there =
     back true = refl
     back false = refl
 
-    mapped : (o : Option rule.Role) → is_some (option_map role_entry o) ≡ is_some o
+    mapped : (o : Option Role) → is_some o ≡ is_some o
     mapped (Some x) = refl
     mapped None = refl
 
@@ -44,7 +44,7 @@ pub set_in_none : {X : Type 0} (names : List Spelling) (set : NameMap X) (q key 
 set_in_none names set q key h is same all never = ap not (is ∙ ap (λ k. is_some (get set k)) same ∙ all q) ∙ in_none names q never
 
 -- another role
-role_differs : (a b : Option rule.Role) → other_role (option_map role_entry a) (option_map role_entry b) ≡ true → (role : rule.Role) × (a ≡ Some role) × (b ≡ Some role → ⊥)
+role_differs : (a b : Option Role) → other_role a (b) ≡ true → (role : Role) × (a ≡ Some role) × (b ≡ Some role → ⊥)
 role_differs None b e = let bad : false ≡ true = e in cc
 role_differs (Some CarRole) None e = (CarRole, refl, λ h. let bad : None ≡ Some CarRole = h in cc)
 role_differs (Some CarRole) (Some CarRole) e = let bad : false ≡ true = e in cc
@@ -53,7 +53,7 @@ role_differs (Some GroupRole) None e = (GroupRole, refl, λ h. let bad : None �
 role_differs (Some GroupRole) (Some CarRole) e = (GroupRole, refl, λ h. let bad : Some CarRole ≡ Some GroupRole = h in cc)
 role_differs (Some GroupRole) (Some GroupRole) e = let bad : false ≡ true = e in cc
 
-differs_role : (a b : Option rule.Role) (role : rule.Role) → a ≡ Some role → (b ≡ Some role → ⊥) → other_role (option_map role_entry a) (option_map role_entry b) ≡ true
+differs_role : (a b : Option Role) (role : Role) → a ≡ Some role → (b ≡ Some role → ⊥) → other_role a (b) ≡ true
 differs_role None b role e other = let bad : None ≡ Some role = e in cc
 differs_role (Some CarRole) None role e other = refl
 differs_role (Some CarRole) (Some CarRole) role e other = absurd (other e)

@@ -10,9 +10,8 @@ use Rattle.il_rules.specs.Names as rule
 use Rattle.il_rules.specs.Names.{Spelling, is_one_of, is_program, program_named, program_role, task_role}
 use Rattle.il_rules.specs.Declarations.{names_of_tasks}
 use Rattle.il_found.specs.Least.{When, Either}
-use Rattle.il_scope.specs.declared.entry.Role.{Role}
-use Rattle.il_scope.specs.declared.entry.Role.TheVariants.{Car, Group}
-use Rattle.il_scope.specs.Entries.{role_entry}
+use Rattle.il_rules.specs.declared.names.Role.{Role}
+use Rattle.il_rules.specs.declared.names.Role.TheVariants.{Car, Group}
 
 -- a table has these names
 abbrev pub IsSet : {X : Type 0} → List Spelling → NameMap X → Type 0
@@ -25,7 +24,7 @@ TaskBreaks config task =
 
 -- a PROGRAM line gives a program to a task of the other role
 abbrev pub HasOtherRole : Config → ProgramLine → Type 0
-HasOtherRole config line = (role : rule.Role) × (task_role config.cars.value line.task.name ≡ Some role) × (program_role config line.program.name config.programs ≡ Some role → ⊥)
+HasOtherRole config line = (role : Role) × (task_role config.cars.value line.task.name ≡ Some role) × (program_role config line.program.name config.programs ≡ Some role → ⊥)
 
 -- a PROGRAM line has no TASK line, names no program, or one of the other role
 pub data BreaksLine (config : Config) (line : ProgramLine) : Type 0 where
@@ -49,7 +48,7 @@ other_role (Some Group) None = true
 
 -- the same of a PROGRAM line
 abbrev pub has_other_role : Config → ProgramLine → Bool
-has_other_role config line = other_role (option_map role_entry (task_role config.cars.value line.task.name)) (option_map role_entry (program_role config line.program.name config.programs))
+has_other_role config line = other_role (task_role config.cars.value line.task.name) (program_role config line.program.name config.programs)
 
 -- whether a PROGRAM line breaks a rule
 abbrev pub is_wrong_line : Config → ProgramLine → Bool

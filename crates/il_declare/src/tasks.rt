@@ -9,7 +9,7 @@ ghost use Rattle.il_declare.specs.TaskRules.{IsSet, other_role, TaskBreaks, Brea
 use crate::fault::DeclareFault;
 use crate::sets::{has_name, lines_programs, lines_tasks, task_names};
 use il_found::{Found, earlier, fault_if};
-use il_scope::entry::Role;
+use il_rules::names::Role;
 use il_scope::roles::task_role;
 use il_scope::{Scoped, is_program};
 use il_spec::tree::{ProgramLine, Task, Unit};

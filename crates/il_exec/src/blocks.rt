@@ -2,11 +2,11 @@
 // inputs, outputs and inner ones.
 
 ghost use Rattle.std.specs.Prelude.{◌≡◌, IsSome, Some, pos};
-ghost use Rattle.il_scope.specs.declared.entry.StandardBlock.TheVariants.{Sr, Rs, RTrig, FTrig, Ctu, Ctd, Ctud, Tp, Ton, Tof};
+ghost use Rattle.il_rules.specs.declared.names.StandardBlock.TheVariants.{Sr, Rs, RTrig, FTrig, Ctu, Ctd, Ctud, Tp, Ton, Tof};
 ghost use Rattle.il_exec.specs.Blocks.{set_dominant_at, reset_dominant_at, detector_at, put_detector, up_counter_at, down_counter_at, put_counter, up_down_counter_at, put_up_down_counter, delay_timer_at, put_delay_timer, pulse_timer_at, put_pulse_timer, block_called};
 
 use crate::rows::Rows;
-use il_scope::entry::StandardBlock;
+use il_rules::names::StandardBlock;
 use std_blocks::bistable::{ResetDominant, SetDominant};
 use std_blocks::counters::{DownCounter, UpCounter, UpDownCounter};
 use std_blocks::edges::EdgeDetector;

@@ -6,13 +6,13 @@ ghost use Rattle.il_spec.specs.declared.tree.Arithmetic.TheVariants.{Add, Sub, M
 ghost use Rattle.il_run.specs.Step.{logic, negated_if, truth, content, compared, chosen, integer_equal};
 ghost use Rattle.il_run.specs.declared.value.Value.TheVariants.{Integer};
 ghost use Rattle.il_run.specs.declared.value.Content.{Content as Left};
-ghost use Rattle.il_scope.specs.declared.entry.StandardFunction.TheVariants.{Limited};
+ghost use Rattle.il_rules.specs.declared.names.StandardFunction.TheVariants.{Limited};
 ghost use Rattle.il_slots.specs.Layout.{rows};
 ghost use Rattle.il_exec.specs.Effect.{with_some, place, operand, number_left, computed, compared_as, operated, applied_alone, applied_to, applied_to_both, applied, loaded, stored, effect, is_straight, from_base};
 
 use crate::rows::{Rows, boolean_of, element, number_of, read, write};
 use il_run::value::{Content, Value};
-use il_scope::entry::StandardFunction;
+use il_rules::names::StandardFunction;
 use il_slots::flat::{Flat, Operand, Slot};
 use il_spec::tree::{Arithmetic, Comparison, Elementary, Logic, Operator, Store};
 

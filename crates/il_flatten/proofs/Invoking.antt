@@ -8,6 +8,8 @@ use Rattle.il_spec.specs.declared.tree.Declaration.{Declaration}
 use Rattle.il_spec.specs.declared.tree.Named.{Named}
 use Rattle.il_spec.specs.declared.tree.Form.{Form}
 use Rattle.il_spec.specs.declared.tree.Form.TheVariants.{Scalar as ScalarForm, Array as ArrayForm, Block as BlockForm}
+use Rattle.il_rules.specs.declared.names.StandardFunction.{StandardFunction}
+use Rattle.il_rules.specs.declared.names.StandardFunction.TheVariants.{Absolute, Minimum, Maximum, Limited, Selected, Converted}
 use Rattle.il_rules.specs.Names as rule
 use Rattle.il_rules.specs.Names.{named_forms, standard_function, function_named, is_function}
 use Rattle.il_table.specs.NameMap.{Text, get}
@@ -17,7 +19,6 @@ use Rattle.il_sound.proofs.Fresh.{entity}
 use Rattle.il_sound.proofs.Lists.{at_head, in_tail, in_map}
 use Rattle.il_sound.proofs.Meant.{inputs_seen}
 use Rattle.il_sound.proofs.Named.{function_is_unit}
-use Rattle.il_scope.specs.Entries.{function_entry}
 use Rattle.il_scope.specs.Views.{type_of, function_number}
 use Rattle.il_scope.proofs.Laws.{function_found, function_there}
 use Rattle.il_slots.specs.declared.flat.Flat.TheVariants.{Apply, Invoke as FlatInvoke}
@@ -130,16 +131,16 @@ module _ (c : Config) (checked : IsChecked c) (at : ℕ) (u : ProgramUnit) (ther
 
   -- STANDARD ONES
 
-  literals_are : (f : rule.StandardFunction) → literal_beside (function_entry f) ≡ argument_literal f
-  literals_are rule.Absolute = refl
-  literals_are rule.Minimum = refl
-  literals_are rule.Maximum = refl
-  literals_are rule.Limited = refl
-  literals_are rule.Selected = refl
-  literals_are (rule.Converted from to) = refl
+  literals_are : (f : StandardFunction) → literal_beside f ≡ argument_literal f
+  literals_are Absolute = refl
+  literals_are Minimum = refl
+  literals_are Maximum = refl
+  literals_are Limited = refl
+  literals_are Selected = refl
+  literals_are (Converted from to) = refl
 
-  operands_are : (f : rule.StandardFunction) (os : List Written)
-      → map (λ o. by_resolved (literal_beside (function_entry f)) (resolve c u o.reference)) os ≡ map (λ o. operand_of n (argument_literal f) (denotation c u o.reference)) os
+  operands_are : (f : StandardFunction) (os : List Written)
+      → map (λ o. by_resolved (literal_beside f) (resolve c u o.reference)) os ≡ map (λ o. operand_of n (argument_literal f) (denotation c u o.reference)) os
   operands_are f [] = refl
   operands_are f (o ∷ os) =
       ap₂ (λ x xs. x ∷ xs) (ap (λ g. by_resolved g (resolve c u o.reference)) (literals_are f) ∙ resolved_is c checked at u there (argument_literal f) o.reference) (operands_are f os)
@@ -202,9 +203,9 @@ module _ (c : Config) (checked : IsChecked c) (at : ℕ) (u : ProgramUnit) (ther
       let own = function_at c name k is in
       ap₂ (λ j xs. FlatInvoke j xs) (sym (function_number_is c name k is)) (own_is name k own os) ∙ ap (invokes n c u name os None) (sym own.is)
 
-  by_standard : (name : Text) (os : List Written) (f : Option rule.StandardFunction) → invoke_of c u os (option_map function_entry f) (function_number c name) ≡ invokes n c u name os f (function_named c name)
-  by_standard name os (Some f) = ap (Apply (function_entry f)) (operands_are f os)
+  by_standard : (name : Text) (os : List Written) (f : Option StandardFunction) → invoke_of c u os f (function_number c name) ≡ invokes n c u name os f (function_named c name)
+  by_standard name os (Some f) = ap (Apply f) (operands_are f os)
   by_standard name os None = by_number name os (function_number c name) refl
 
-  pub invoke_is : (name : Text) (os : List Written) → invoke_of c u os (option_map function_entry (standard_function name)) (function_number c name) ≡ invokes n c u name os (standard_function name) (function_named c name)
+  pub invoke_is : (name : Text) (os : List Written) → invoke_of c u os (standard_function name) (function_number c name) ≡ invokes n c u name os (standard_function name) (function_named c name)
   invoke_is name os = by_standard name os (standard_function name)

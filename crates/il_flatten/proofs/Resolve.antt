@@ -16,6 +16,7 @@ use Rattle.il_spec.specs.declared.tree.Reference.{Reference}
 use Rattle.il_spec.specs.declared.tree.Reference.TheVariants.{Literal as LiteralReference, Variable, Element, Member}
 use Rattle.il_spec.specs.declared.tree.Unit.{Unit as ProgramUnit}
 use Rattle.il_spec.specs.declared.tree.Config.{Config}
+use Rattle.il_rules.specs.declared.names.StandardBlock.{StandardBlock}
 use Rattle.il_rules.specs.Names as rule
 use Rattle.il_rules.specs.Names.{or_else, entry_of, BlockVariables, block_variables, Meaning, MeansVariable, MeansUnit, MeansStandard, meaning, meant_variable, form_named}
 use Rattle.il_rules.specs.Declarations.{is_within}
@@ -26,7 +27,6 @@ use Rattle.il_scope.specs.declared.entry.VariableType.{VariableType}
 use Rattle.il_scope.specs.declared.entry.VariableType.TheVariants.{Array, Instance}
 use Rattle.il_scope.specs.declared.entry.BlockType.{BlockType}
 use Rattle.il_scope.specs.declared.entry.BlockType.TheVariants.{Standard, Own}
-use Rattle.il_scope.specs.Entries.{block_entry}
 use Rattle.il_scope.specs.Views.{type_of, binding_of, block_type, variables_of_block}
 use Rattle.il_scope.proofs.Laws.{block_found}
 use Rattle.il_slots.specs.declared.flat.Operand.{Operand}
@@ -121,8 +121,8 @@ pub record IsBlockOf (c : Config) (name : Text) (b : BlockType) : Type 0 where
   pub variables : variables_of_block c b ≡ block_variables c name
   pub offsets : (word : Text) → word_offset c b word ≡ offset_found (form_width (block_width 17 c)) (block_entities c name) word
 
-standard_table : (c : Config) (s : rule.StandardBlock) → slice_get (map (λ vs. offsets_of (length c.units) (sizes_of c) vs) standard_lists) (standard_number (block_entry s)) ≡ Some (offsets_of (length c.units) (sizes_of c) (standard_list (block_entry s)))
-standard_table c s = mapped_at (λ vs. offsets_of (length c.units) (sizes_of c) vs) standard_lists (standard_number (block_entry s)) (standard_list (block_entry s)) (standard_at s)
+standard_table : (c : Config) (s : StandardBlock) → slice_get (map (λ vs. offsets_of (length c.units) (sizes_of c) vs) standard_lists) (standard_number s) ≡ Some (offsets_of (length c.units) (sizes_of c) (standard_list s))
+standard_table c s = mapped_at (λ vs. offsets_of (length c.units) (sizes_of c) vs) standard_lists (standard_number s) (standard_list s) (standard_at s)
 
 pub block_of_name : (c : Config) → IsChecked c → (name : Text) (b : BlockType) → block_type c name ≡ Some b → IsBlockOf c name b
 block_of_name c checked name b is = record { variables = ap (option_and_then (variables_of_block c)) (sym is) ∙ block_found c name; offsets = by_case (block_type c name) (which_block c name) is }
@@ -135,8 +135,8 @@ block_of_name c checked name b is = record { variables = ap (option_and_then (va
 
     by_case : (o : Option BlockType) → IsBlock c name o → o ≡ Some b → (word : Text) → word_offset c b word ≡ offset_found wide (block_entities c name) word
     by_case _ (of_standard s o at e) h word =
-        ap (λ d. word_offset c d word) (same_Some b (Standard (block_entry s)) (sym h ∙ e))
-        ∙ ap (option_and_then (λ t. get t word)) (at_standard c (unit_offsets c) others (standard_number (block_entry s)) ∙ standard_table c s)
+        ap (λ d. word_offset c d word) (same_Some b (Standard s) (sym h ∙ e))
+        ∙ ap (option_and_then (λ t. get t word)) (at_standard c (unit_offsets c) others (standard_number s) ∙ standard_table c s)
         ∙ ap (λ vs. get (offsets_of (length c.units) (sizes_of c) vs) word) (sym (ap (map (shown c)) (block_is_standard c name s at) ∙ standard_is c s)) ∙ offsets_are c (block_entities c name) word
     by_case _ (of_own k o v e) h word =
         let among : Contains c.units v.unit = at_contains c.units k v.unit v.there in

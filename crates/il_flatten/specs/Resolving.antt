@@ -14,8 +14,8 @@ use Rattle.il_rules.specs.Names.{or_else, entry_of, form_named}
 use Rattle.il_rules.specs.Declarations.{is_within}
 use Rattle.il_table.specs.NameMap.{Text, get}
 use Rattle.il_run.specs.Meaning.{width, natural, Constant, entities, initial_value}
-use Rattle.il_scope.specs.declared.entry.StandardFunction.{StandardFunction}
-use Rattle.il_scope.specs.declared.entry.StandardFunction.TheVariants.{Absolute, Minimum, Maximum, Limited, Selected, Converted}
+use Rattle.il_rules.specs.declared.names.StandardFunction.{StandardFunction}
+use Rattle.il_rules.specs.declared.names.StandardFunction.TheVariants.{Absolute, Minimum, Maximum, Limited, Selected, Converted}
 use Rattle.il_slots.specs.Cells.{IsShort}
 use Rattle.il_scope.specs.declared.entry.BlockType.{BlockType}
 use Rattle.il_scope.specs.declared.entry.VariableType.{VariableType}

@@ -8,7 +8,7 @@ ghost use Rattle.il_flatten.specs.Resolving.{resolve, by_resolved, literal_besid
 
 use crate::here::Here;
 use crate::operands::{Resolved, natural, operand_for, resolve, slot_known, typed, untyped};
-use il_scope::entry::StandardFunction;
+use il_rules::names::StandardFunction;
 use il_scope::functions::standard_function;
 use il_slots::flat::{Assignment, Flat, Operand};
 use il_slots::variables::Variable;

@@ -13,7 +13,9 @@ use Rattle.il_spec.specs.declared.tree.Form.{Form}
 use Rattle.il_spec.specs.declared.tree.Form.TheVariants.{Scalar as ScalarForm, Array as ArrayForm, Block as BlockForm}
 use Rattle.il_rules.specs.Faults.{HasNoFault, Broken, Declaring}
 use Rattle.il_rules.specs.Declarations.{declared_limits}
-use Rattle.il_rules.specs.Names.{ImageName, Role, CarRole, GroupRole, image_of, is_program, is_seen_by, program_role}
+use Rattle.il_rules.specs.declared.names.Role.{Role}
+use Rattle.il_rules.specs.declared.names.Role.TheVariants.{Car as CarRole, Group as GroupRole}
+use Rattle.il_rules.specs.Names.{ImageName, image_of, is_program, is_seen_by, program_role}
 use Rattle.il_run.specs.declared.value.Value.{Value}
 use Rattle.il_run.specs.declared.value.Value.TheVariants.{Boolean, Integer}
 use Rattle.il_table.specs.NameMap.{Text}

@@ -29,7 +29,10 @@ use Rattle.il_spec.specs.declared.tree.UnitKind.{UnitKind}
 use Rattle.il_spec.specs.declared.tree.UnitKind.TheVariants.{Function, FunctionBlock, Program}
 use Rattle.il_spec.specs.declared.tree.Config.{Config}
 use Rattle.il_spec.specs.Grammar.{depth_after, greatest_depth}
-use Rattle.il_rules.specs.Names.{entry_of, StandardBlock, standard_block, named_forms, StandardFunction, Absolute, Minimum, Maximum, Limited, Selected, Converted, standard_function, unit_named, function_named, function_block_named, form_named}
+use Rattle.il_rules.specs.declared.names.StandardFunction.{StandardFunction}
+use Rattle.il_rules.specs.declared.names.StandardFunction.TheVariants.{Absolute, Minimum, Maximum, Limited, Selected, Converted}
+use Rattle.il_rules.specs.declared.names.StandardBlock.{StandardBlock}
+use Rattle.il_rules.specs.Names.{entry_of, standard_block, named_forms, standard_function, unit_named, function_named, function_block_named, form_named}
 use Rattle.il_rules.specs.Types.{label_place}
 use Rattle.il_table.specs.NameMap.{Text, get, insert, with_entries}
 use Rattle.il_run.specs.Values.{is_of}

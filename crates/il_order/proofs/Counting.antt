@@ -12,11 +12,10 @@ use Rattle.il_spec.specs.declared.tree.Form.{Form}
 use Rattle.il_spec.specs.declared.tree.Form.TheVariants.{Scalar as OfScalar, Array as OfArray, Block as OfBlock}
 use Rattle.il_rules.specs.Names.{Spelling, named_forms, own_block_variables, block_variables, standard_variables}
 use Rattle.il_rules.specs.Order.{form_slots, variable_slots, known_block_slots, block_slots, unit_slots, global_slots}
-use Rattle.il_scope.specs.Entries.{shown_block}
 use Rattle.il_scope.specs.declared.entry.BlockType.{BlockType}
 use Rattle.il_scope.specs.declared.entry.BlockType.TheVariants.{Standard as StandardType, Own}
-use Rattle.il_scope.specs.declared.entry.StandardBlock.{StandardBlock}
-use Rattle.il_scope.specs.declared.entry.StandardBlock.TheVariants.{Sr, Rs, RTrig, FTrig, Ctu, Ctd, Ctud, Tp, Ton, Tof}
+use Rattle.il_rules.specs.declared.names.StandardBlock.{StandardBlock}
+use Rattle.il_rules.specs.declared.names.StandardBlock.TheVariants.{Sr, Rs, RTrig, FTrig, Ctu, Ctd, Ctud, Tp, Ton, Tof}
 use Rattle.il_scope.specs.Views.{block_type, variables_of_block}
 use Rattle.il_scope.proofs.Laws.{block_found}
 use Rattle.il_order.specs.Counted.{capped, standard_slots, number_in, number_at, block_count, type_count, form_count, all_listed, unit_listed, units_listed, with_variables, with_declared, counts}
@@ -105,7 +104,7 @@ unit_from c depth forms u =
     from_zero a b e = omega arith
 
 -- standard blocks have scalars
-standard_is : (block : Spelling → ℕ) (b : StandardBlock) → standard_slots b ≡ capped (known_block_slots block (Some (standard_variables (shown_block b))))
+standard_is : (block : Spelling → ℕ) (b : StandardBlock) → standard_slots b ≡ capped (known_block_slots block (Some (standard_variables b)))
 standard_is block Sr = refl
 standard_is block Rs = refl
 standard_is block RTrig = refl

@@ -12,10 +12,10 @@ use Rattle.il_spec.specs.declared.tree.Form.{Form}
 use Rattle.il_spec.specs.declared.tree.Form.TheVariants.{Scalar as OfScalar, Array as OfArray, Block as OfBlock}
 use Rattle.il_spec.specs.declared.tree.Instruction.{Instruction}
 use Rattle.il_spec.specs.declared.tree.Instruction.TheVariants.{Load, Store, Not, Operate, Defer, Evaluate, Jump, Return, Call, Invoke}
+use Rattle.il_rules.specs.declared.names.StandardBlock.{StandardBlock}
 use Rattle.il_rules.specs.Names as rule
 use Rattle.il_rules.specs.Names.{Spelling, or_else, is_function_block, image_name, standard_function, standard_block, function_named, function_block_named}
 use Rattle.il_rules.specs.Order.{Uses, calls, declares}
-use Rattle.il_scope.specs.Entries.{block_entry}
 use Rattle.il_scope.specs.declared.entry.BlockType.{BlockType}
 use Rattle.il_scope.specs.declared.entry.BlockType.TheVariants.{Standard as StandardType, Own}
 use Rattle.il_scope.specs.Views.{function_number, function_block_number, block_type}
@@ -69,8 +69,8 @@ own_of_type : (c : Config) (name : Spelling) (v : ℕ) → block_type c name ≡
 unfolding block_type
 own_of_type c name v e = by_standard (standard_block name) (function_block_number c name) e
   where
-    by_standard : (s : Option rule.StandardBlock) (o : Option ℕ) → or_else (option_map (λ b. StandardType (block_entry b)) s) (option_map Own o) ≡ Some (Own v) → o ≡ Some v
-    by_standard (Some b) o e = let bad : Some (StandardType (block_entry b)) ≡ Some (Own v) = e in cc
+    by_standard : (s : Option StandardBlock) (o : Option ℕ) → or_else (option_map (λ b. StandardType b) s) (option_map Own o) ≡ Some (Own v) → o ≡ Some v
+    by_standard (Some b) o e = let bad : Some (StandardType b) ≡ Some (Own v) = e in cc
     by_standard None None e = let bad : None ≡ Some (Own v) = e in cc
     by_standard None (Some k) e = let same : Some (Own k) ≡ Some (Own v) = e in cc
 
@@ -79,7 +79,7 @@ type_of_own : (c : Config) (name : Spelling) (v : ℕ) (U : ProgramUnit) → fun
 unfolding block_type
 type_of_own c name v U named number = by_standard (standard_block name) refl
   where
-    predeclared : (a b : Bool) (s : Option rule.StandardBlock) (sb : rule.StandardBlock) → s ≡ Some sb → (a || b || is_some s) ≡ true
+    predeclared : (a b : Bool) (s : Option StandardBlock) (sb : StandardBlock) → s ≡ Some sb → (a || b || is_some s) ≡ true
     predeclared true b s sb e = refl
     predeclared false true s sb e = refl
     predeclared false false s sb e = ap is_some e
@@ -88,7 +88,7 @@ type_of_own c name v U named number = by_standard (standard_block name) refl
     none true is e = let bad : None ≡ Some U = e in cc
     none false is e = let bad : false ≡ true = is in cc
 
-    by_standard : (s : Option rule.StandardBlock) → standard_block name ≡ s → or_else (option_map (λ b. StandardType (block_entry b)) s) (option_map Own (function_block_number c name)) ≡ Some (Own v)
+    by_standard : (s : Option StandardBlock) → standard_block name ≡ s → or_else (option_map (λ b. StandardType b) s) (option_map Own (function_block_number c name)) ≡ Some (Own v)
     by_standard (Some b) is = absurd (none (is_some (image_name c name) || is_some (standard_function name) || is_some (standard_block name)) (predeclared (is_some (image_name c name)) (is_some (standard_function name)) (standard_block name) b is) named)
     by_standard None is = ap (option_map Own) number
 

@@ -21,7 +21,8 @@ use Rattle.il_spec.specs.declared.tree.Instruction.TheVariants.{Load, Store, Not
 use Rattle.il_spec.specs.declared.tree.Unit.{Unit as ProgramUnit}
 use Rattle.il_spec.specs.declared.tree.Config.{Config}
 use Rattle.il_spec.specs.ElementaryTypes.{limits, LiesIn, IsValueOf, is_whole}
-use Rattle.il_rules.specs.Names.{StandardFunction, standard_function}
+use Rattle.il_rules.specs.declared.names.StandardFunction.{StandardFunction}
+use Rattle.il_rules.specs.Names.{standard_function}
 use Rattle.il_table.specs.NameMap.{NameMap, get}
 use Rattle.il_run.specs.Meaning.{Denotation, Constant, Direct, Numbered, Indexed, Inside, Unknown, denotation}
 use Rattle.il_run.specs.declared.known.Known.{Known}

@@ -14,7 +14,8 @@ use Rattle.il_spec.specs.declared.tree.Place.{Place}
 use Rattle.il_spec.specs.declared.tree.Step.{Step}
 use Rattle.il_spec.specs.declared.tree.Unit.{Unit as ProgramUnit}
 use Rattle.il_spec.specs.declared.tree.Config.{Config}
-use Rattle.il_rules.specs.Names.{StandardFunction, standard_function}
+use Rattle.il_rules.specs.declared.names.StandardFunction.{StandardFunction}
+use Rattle.il_rules.specs.Names.{standard_function}
 use Rattle.il_table.specs.NameMap.{NameMap, get}
 use Rattle.il_interval.specs.declared.Interval.{Interval}
 use Rattle.il_run.specs.Meaning.{Denotation, Numbered, Indexed, denotation, natural}

@@ -4,7 +4,8 @@ use Rattle.std.specs.Prelude.{◌≢◌, bytes_eq, codes, Some}
 use lib.Signed.{le_z_yes}
 use Rattle.il_spec.specs.declared.tree.Task.{Task}
 use Rattle.il_spec.specs.declared.tree.Elementary.TheVariants as elementary
-use Rattle.il_rules.specs.Names.{Spelling, GroupRole, car_number, image_name, standard_function, standard_block, block_variables, meaning}
+use Rattle.il_rules.specs.declared.names.Role.TheVariants.{Group as GroupRole}
+use Rattle.il_rules.specs.Names.{Spelling, car_number, image_name, standard_function, standard_block, block_variables, meaning}
 use Rattle.il_rules.specs.Declarations.{type_numbers, name_numbers, predeclared_unit as unit_predeclared, second_unit, predeclared_variable as variable_predeclared, variable_as_unit as named_as_unit, second_label, predeclared_global as global_predeclared, global_as_unit as global_named_as_unit, second_global, second_task, second_program_line, unknown_type as type_unknown, unknown_global, unknown_name as name_unknown, size_outside, unknown_task as task_unknown, second_line, unknown_program as program_unknown, other_role, missing_task, missing_line as line_missing, unused_program as program_unused, type_misplaced, external_differs}
 use Rattle.il_rules.specs.Types.{scalar_type}
 use Rattle.il_rules.specs.Faults.{Broken, Declaring, duplicate, unknown, empty_range, initial_outside, bad_task, other_type}

@@ -32,7 +32,8 @@ use Rattle.il_spec.specs.declared.tree.Argument.TheVariants.{Input, Output}
 use Rattle.il_spec.specs.declared.tree.Instruction.{Instruction}
 use Rattle.il_spec.specs.declared.tree.Instruction.TheVariants.{Load, Store as StoreInto, Not, Operate, Defer, Evaluate, Jump, Return, Call, Invoke}
 use Rattle.il_spec.specs.ElementaryTypes.{limits, is_same_type, is_whole}
-use Rattle.il_rules.specs.Names.{Spelling, or_else, entry_of, standard_function, BlockVariables, block_variables, named_forms, is_predeclared, is_program, function_named, program_named, Role, task_role, car_number, program_role, Meaning, MeansVariable, MeansUnit, MeansStandard, meaning}
+use Rattle.il_rules.specs.declared.names.Role.{Role}
+use Rattle.il_rules.specs.Names.{Spelling, or_else, entry_of, standard_function, BlockVariables, block_variables, named_forms, is_predeclared, is_program, function_named, program_named, task_role, car_number, program_role, Meaning, MeansVariable, MeansUnit, MeansStandard, meaning}
 
 -- ELEMENTARY TYPES AND LITERALS
 

@@ -14,6 +14,16 @@ use Rattle.il_spec.specs.declared.tree.Scalar.{Scalar}
 use Rattle.il_spec.specs.declared.tree.Elementary.{Elementary}
 use Rattle.il_spec.specs.declared.tree.Elementary.TheVariants.{Bool as Boolean, Sint, Int, Dint, Usint, Uint, Udint, Time}
 use Rattle.il_spec.specs.ElementaryTypes.{plain}
+use Rattle.il_rules.specs.declared.names.StandardFunction.{StandardFunction}
+use Rattle.il_rules.specs.declared.names.StandardFunction.TheVariants.{Absolute, Minimum, Maximum, Limited, Selected, Converted}
+use Rattle.il_rules.specs.declared.names.StandardBlock.{StandardBlock}
+use Rattle.il_rules.specs.declared.names.StandardBlock.TheVariants.{Sr, Rs, RTrig, FTrig, Ctu, Ctd, Ctud, Tp, Ton, Tof}
+use Rattle.il_rules.specs.declared.names.Origin.{Origin}
+use Rattle.il_rules.specs.declared.names.Origin.TheVariants.{Input as AsInput, Output as AsOutput, Local as AsVariable, External as AsExternal, FunctionResult as AsResult, ReadImage as AsReadImage, WrittenImage as AsWrittenImage}
+use Rattle.il_rules.specs.declared.names.Audience.{Audience}
+use Rattle.il_rules.specs.declared.names.Audience.TheVariants.{Everybody, CarPrograms, GroupPrograms}
+use Rattle.il_rules.specs.declared.names.Role.{Role}
+use Rattle.il_rules.specs.declared.names.Role.TheVariants.{Car as CarRole, Group as GroupRole}
 
 -- a name, as its bytes in capital letters (2.1.2)
 abbrev pub Spelling : Type 0
@@ -31,11 +41,6 @@ is_one_of names name = list_any (λ n. bytes_eq n name) names
 -- the entry of a table under a name
 abbrev pub entry_of : {A : Type 0} → List (Spelling × A) → Spelling → Option A
 entry_of table name = option_map (λ e. e.1) (find (λ e. bytes_eq e.0 name) table)
-
--- the standard functions of the profile (2.5.1.5)
-pub data StandardFunction : Type 0 where
-  Absolute Minimum Maximum Limited Selected : StandardFunction
-  Converted : Elementary → Elementary → StandardFunction
 
 -- the six whole types with their words (2.3.1)
 abbrev pub whole_types : List (Spelling × Elementary)
@@ -77,10 +82,6 @@ pub record BlockVariables : Type 0 where
 -- variables of one elementary type
 abbrev pub all_of : Elementary → List Spelling → List (Spelling × Form)
 all_of elementary names = map (λ n. (n, OfScalar (plain elementary))) names
-
--- the standard blocks of the profile (2.5.2.3)
-pub data StandardBlock : Type 0 where
-  Sr Rs RTrig FTrig Ctu Ctd Ctud Tp Ton Tof : StandardBlock
 
 -- the standard blocks by name (2.5.2.3)
 abbrev pub standard_blocks : List (Spelling × StandardBlock)
@@ -135,19 +136,11 @@ standard_inner Tof = all_of Boolean (codes "RUN" ∷ []) ++ all_of Time (codes "
 abbrev pub standard_variables : StandardBlock → BlockVariables
 standard_variables block = record { inputs = standard_inputs block; outputs = standard_outputs block; inner = standard_inner block }
 
--- where a variable stands: in a list of its unit, as a function's result, or in the image (2.4.3)
-pub data Origin : Type 0 where
-  AsInput AsOutput AsVariable AsExternal AsResult AsReadImage AsWrittenImage : Origin
-
 -- a variable that a name means
 pub record Variable : Type 0 where
   pub name : Spelling
   pub form : Form
   pub origin : Origin
-
--- which programs see an image name (own rule)
-pub data Audience : Type 0 where
-  Everybody CarPrograms GroupPrograms : Audience
 
 -- an image name (own rule)
 pub record ImageName : Type 0 where
@@ -286,10 +279,6 @@ variables_of unit =
 -- the variable of a unit under a name: the first with it
 abbrev pub own_variable : ProgramUnit → Spelling → Option Variable
 own_variable unit name = find (λ v. bytes_eq v.name name) (variables_of unit)
-
--- the tasks of a group: one for each car, and GROUP (own rule)
-pub data Role : Type 0 where
-  CarRole GroupRole : Role
 
 -- the value of decimal digits behind those already read; none where another byte stands among them
 abbrev pub decimal_value : ℕ → Spelling → Option ℕ

@@ -33,7 +33,11 @@ use Rattle.il_spec.specs.declared.tree.Argument.{Argument}
 use Rattle.il_spec.specs.declared.tree.Argument.TheVariants.{Input, Output}
 use Rattle.il_spec.specs.declared.tree.Instruction.{Instruction}
 use Rattle.il_spec.specs.declared.tree.Instruction.TheVariants.{Load, Store as StoreInto, Not, Operate, Defer, Evaluate, Jump, Return, Call, Invoke}
-use Rattle.il_rules.specs.Names.{Spelling, or_else, is_one_of, entry_of, StandardFunction, Absolute, Minimum, Maximum, Limited, Selected, Converted, standard_function, further_arguments, BlockVariables, block_variables, Origin, AsInput, AsOutput, AsVariable, AsExternal, AsResult, AsReadImage, AsWrittenImage, Variable, named_forms, own_variable, function_named, program_named, variable_named}
+use Rattle.il_rules.specs.declared.names.StandardFunction.{StandardFunction}
+use Rattle.il_rules.specs.declared.names.StandardFunction.TheVariants.{Absolute, Minimum, Maximum, Limited, Selected, Converted}
+use Rattle.il_rules.specs.declared.names.Origin.{Origin}
+use Rattle.il_rules.specs.declared.names.Origin.TheVariants.{Input as AsInput, Output as AsOutput, Local as AsVariable, External as AsExternal, FunctionResult as AsResult, ReadImage as AsReadImage, WrittenImage as AsWrittenImage}
+use Rattle.il_rules.specs.Names.{Spelling, or_else, is_one_of, entry_of, standard_function, further_arguments, BlockVariables, block_variables, Variable, named_forms, own_variable, function_named, program_named, variable_named}
 use Rattle.il_spec.specs.ElementaryTypes.{is_same_type, is_whole}
 use Rattle.il_rules.specs.Declarations.{has_value, unless}
 

@@ -17,10 +17,9 @@ use Rattle.il_rules.specs.Names.{Spelling, or_else, entry_of, is_one_of, named_f
 use Rattle.il_rules.specs.Names as rule
 use Rattle.il_scope.specs.declared.entry.VariableType.{VariableType}
 use Rattle.il_scope.specs.declared.entry.Variable.{Variable}
-use Rattle.il_scope.specs.declared.entry.Origin.{Origin}
-use Rattle.il_scope.specs.declared.entry.Role.{Role}
+use Rattle.il_rules.specs.declared.names.Origin.{Origin}
+use Rattle.il_rules.specs.declared.names.Role.{Role}
 use Rattle.il_scope.specs.declared.tables.Scope.{Scope}
-use Rattle.il_scope.specs.Entries.{role_entry}
 use Rattle.il_scope.specs.Views.{place_of, type_of}
 use Rattle.il_scope.specs.declared.image.ImageRow.{ImageRow}
 use Rattle.il_spec.specs.declared.tree.UnitKind.{UnitKind}
@@ -284,19 +283,15 @@ role-last config q [] line = or_else_none (role_from config q line)
 role-last config q (l ∷ lines) line = ap (or_else (role_from config q l)) (role-last config q lines line) ∙ sym (or_else_assoc (role_from config q l) (program_role config q lines) (role_from config q line))
 
 -- the role that one line gives
-role-one : (config : Config) (line : ProgramLine) (mid : NameMap Role) (q : Spelling) → get (with_role config.cars.value line mid) q ≡ or_else (get mid q) (option_map role_entry (role_from config q line))
+role-one : (config : Config) (line : ProgramLine) (mid : NameMap Role) (q : Spelling) → get (with_role config.cars.value line mid) q ≡ or_else (get mid q) (role_from config q line)
 role-one config line mid q = by_role (task_role config.cars.value line.task.name)
   where
-    by_name : (b : Bool) (r : rule.Role) → (if b then Some (role_entry r) else None) ≡ option_map role_entry (if b then Some r else None)
-    by_name true r = refl
-    by_name false r = refl
-
-    no_name : (b : Bool) → get mid q ≡ or_else (get mid q) (option_map role_entry (if b then None else None))
+    no_name : (b : Bool) → get mid q ≡ or_else (get mid q) (if b then None else None)
     no_name true = sym (or_else_none (get mid q))
     no_name false = sym (or_else_none (get mid q))
 
-    by_role : (r : Option rule.Role) → get (with_role_of (option_map role_entry r) line.program.name mid) q ≡ or_else (get mid q) (option_map role_entry (if bytes_eq line.program.name q then r else None))
-    by_role (Some r) = get-with_new mid line.program.name (role_entry r) q ∙ ap (or_else (get mid q)) (by_name (bytes_eq line.program.name q) r)
+    by_role : (r : Option Role) → get (with_role_of r line.program.name mid) q ≡ or_else (get mid q) (if bytes_eq line.program.name q then r else None)
+    by_role (Some r) = get-with_new mid line.program.name r q
     by_role None = no_name (bytes_eq line.program.name q)
 
 -- no line
@@ -307,9 +302,8 @@ roles_none config lines roles is q = ap (λ m. get m q) is ∙ get-empty q
 pub roles_next : (config : Config) (cars : ℤ) (lines : List ProgramLine) (i : ℕ) (line : ProgramLine) (mid new : NameMap Role) → cars ≡ config.cars.value → i < length lines → line ≡ get_or lines i line → new ≡ with_role cars line mid → HasRoles config (take i lines) mid → HasRoles config (take (i + 1) lines) new
 roles_next config cars lines i line mid new same low there is before q =
     ap (λ m. get m q) (is ∙ ap (λ z. with_role z line mid) same) ∙ role-one config line mid q
-    ∙ ap (λ o. or_else o (option_map role_entry (role_from config q line))) (before q)
-    ∙ sym (map-or_else role_entry (program_role config q (take i lines)) (role_from config q line))
-    ∙ ap (option_map role_entry) (sym (role-last config q (take i lines) line) ∙ ap (program_role config q) (sym (take_next lines i line low there)))
+    ∙ ap (λ o. or_else o (role_from config q line)) (before q)
+    ∙ sym (role-last config q (take i lines) line) ∙ ap (program_role config q) (sym (take_next lines i line low there))
 
 -- SCOPES
 

@@ -7,11 +7,10 @@ use Rattle.il_spec.specs.declared.tree.Elementary.{Elementary}
 use Rattle.il_spec.specs.declared.tree.Form.{Form}
 use Rattle.il_rules.specs.Names as rule
 use Rattle.il_rules.specs.Names.{Spelling, or_else, entry_of, standard_functions, standard_function, standard_blocks, standard_block, standard_inputs, standard_outputs, image_of, image_name}
-use Rattle.il_scope.specs.declared.entry.StandardBlock.{StandardBlock}
-use Rattle.il_scope.specs.declared.entry.StandardBlock.TheVariants.{Sr, Rs, RTrig, FTrig, Ctu, Ctd, Ctud, Tp, Ton, Tof}
+use Rattle.il_rules.specs.declared.names.StandardBlock.{StandardBlock}
+use Rattle.il_rules.specs.declared.names.StandardBlock.TheVariants.{Sr, Rs, RTrig, FTrig, Ctu, Ctd, Ctud, Tp, Ton, Tof}
 use Rattle.il_scope.specs.Words.{is_name, entry_among}
-use Rattle.il_scope.specs.Entries.{function_entry, block_entry, shown_block, word_form}
-use Rattle.il_scope.specs.Standard.{uniform_functions, from_sint, from_int, from_dint, from_usint, from_uint, from_udint, block_words, input_words, output_words, sr_inputs, rs_inputs, trigger_inputs, ctu_inputs, ctd_inputs, ctud_inputs, timer_inputs, flip_flop_outputs, trigger_outputs, counter_outputs, ctud_outputs, timer_outputs}
+use Rattle.il_scope.specs.Standard.{word_form, uniform_functions, from_sint, from_int, from_dint, from_usint, from_uint, from_udint, block_words, input_words, output_words, sr_inputs, rs_inputs, trigger_inputs, ctu_inputs, ctd_inputs, ctud_inputs, timer_inputs, flip_flop_outputs, trigger_outputs, counter_outputs, ctud_outputs, timer_outputs}
 use Rattle.il_scope.specs.Images.{image_in, named, row_among, image_entries}
 use Rattle.il_scope.specs.declared.image.ImageRow.{ImageRow}
 use Rattle.il_scope.specs.Views.{image_entry}
@@ -25,22 +24,22 @@ among-append {A = A} (x ∷ xs) ys name = go (is_name x.0 name) (among-append xs
     go true rest = refl
     go false rest = rest
 
--- a table whose entries are changed
-abbrev pub changed : {A B : Type 0} → (A → B) → List (Spelling × A) → List (Spelling × B)
-changed f table = map (λ e. (e.0, f e.1)) table
-
--- what is found in it
-pub among-changed : {A B : Type 0} (f : A → B) (table : List (Spelling × A)) (name : Spelling) → entry_among (changed f table) name ≡ option_map f (entry_of table name)
+-- what is found in a table
+among-is : {A : Type 0} (table : List (Spelling × A)) (name : Spelling) → entry_among table name ≡ entry_of table name
 unfolding is_name
-among-changed f [] name = refl
-among-changed {A = A} {B = B} f (e ∷ es) name = go (bytes_eq e.0 name) (among-changed f es name)
+among-is [] name = refl
+among-is {A = A} (e ∷ es) name = go (bytes_eq e.0 name) (among-is es name)
   where
-    go : (b : Bool) → entry_among (changed f es) name ≡ option_map f (entry_of es name) → (if b then Some (f e.1) else entry_among (changed f es) name) ≡ option_map f (option_map (λ (x : Spelling × A). x.1) (if b then Some e else find (λ x. bytes_eq x.0 name) es))
+    go : (b : Bool) → entry_among es name ≡ entry_of es name → (if b then Some e.1 else entry_among es name) ≡ option_map (λ (x : Spelling × A). x.1) (if b then Some e else find (λ x. bytes_eq x.0 name) es)
     go true rest = refl
     go false rest = rest
 
+-- a table whose entries are changed
+abbrev changed : {A B : Type 0} → (A → B) → List (Spelling × A) → List (Spelling × B)
+changed f table = map (λ e. (e.0, f e.1)) table
+
 -- the standard functions
-function_table : changed function_entry standard_functions ≡ uniform_functions ++ ((from_sint ++ (from_int ++ from_dint)) ++ (from_usint ++ (from_uint ++ from_udint)))
+function_table : standard_functions ≡ uniform_functions ++ ((from_sint ++ (from_int ++ from_dint)) ++ (from_usint ++ (from_uint ++ from_udint)))
 unfolding uniform_functions from_sint from_int from_dint from_usint from_uint from_udint
 function_table = refl
 
@@ -48,26 +47,26 @@ function_table = refl
 three : {A : Type 0} (xs ys zs : List (Spelling × A)) (name : Spelling) → entry_among (xs ++ (ys ++ zs)) name ≡ or_else (entry_among xs name) (or_else (entry_among ys name) (entry_among zs name))
 three xs ys zs name = among-append xs (ys ++ zs) name ∙ ap (or_else (entry_among xs name)) (among-append ys zs name)
 
-pub function_is : (name : Spelling) → option_map function_entry (standard_function name) ≡ or_else (entry_among uniform_functions name) (or_else (or_else (entry_among from_sint name) (or_else (entry_among from_int name) (entry_among from_dint name))) (or_else (entry_among from_usint name) (or_else (entry_among from_uint name) (entry_among from_udint name))))
+pub function_is : (name : Spelling) → standard_function name ≡ or_else (entry_among uniform_functions name) (or_else (or_else (entry_among from_sint name) (or_else (entry_among from_int name) (entry_among from_dint name))) (or_else (entry_among from_usint name) (or_else (entry_among from_uint name) (entry_among from_udint name))))
 unfolding standard_function
 function_is name =
-    sym (among-changed function_entry standard_functions name)
+    sym (among-is standard_functions name)
     ∙ ap (λ t. entry_among t name) function_table
     ∙ three uniform_functions (from_sint ++ (from_int ++ from_dint)) (from_usint ++ (from_uint ++ from_udint)) name
     ∙ ap (λ o. or_else (entry_among uniform_functions name) (or_else o (entry_among (from_usint ++ (from_uint ++ from_udint)) name))) (three from_sint from_int from_dint name)
     ∙ ap (λ o. or_else (entry_among uniform_functions name) (or_else (or_else (entry_among from_sint name) (or_else (entry_among from_int name) (entry_among from_dint name))) o)) (three from_usint from_uint from_udint name)
 
 -- the standard blocks
-block_table : changed block_entry standard_blocks ≡ block_words
+block_table : standard_blocks ≡ block_words
 unfolding block_words
 block_table = refl
 
-pub block_is : (name : Spelling) → option_map block_entry (standard_block name) ≡ entry_among block_words name
+pub block_is : (name : Spelling) → standard_block name ≡ entry_among block_words name
 unfolding standard_block
-block_is name = sym (among-changed block_entry standard_blocks name) ∙ ap (λ t. entry_among t name) block_table
+block_is name = sym (among-is standard_blocks name) ∙ ap (λ t. entry_among t name) block_table
 
 -- the inputs of a standard block
-input_table : (block : StandardBlock) → changed word_form (input_words block) ≡ standard_inputs (shown_block block)
+input_table : (block : StandardBlock) → changed word_form (input_words block) ≡ standard_inputs block
 unfolding sr_inputs rs_inputs trigger_inputs ctu_inputs ctd_inputs ctud_inputs timer_inputs
 input_table Sr = refl
 input_table Rs = refl
@@ -81,7 +80,7 @@ input_table Ton = refl
 input_table Tof = refl
 
 -- its outputs
-output_table : (block : StandardBlock) → changed word_form (output_words block) ≡ standard_outputs (shown_block block)
+output_table : (block : StandardBlock) → changed word_form (output_words block) ≡ standard_outputs block
 unfolding flip_flop_outputs trigger_outputs counter_outputs ctud_outputs timer_outputs
 output_table Sr = refl
 output_table Rs = refl
@@ -104,10 +103,10 @@ among-words (e ∷ es) name = go (bytes_eq e.0 name) (among-words es name)
     go true rest = refl
     go false rest = rest
 
-pub input_is : (block : StandardBlock) (word : Spelling) → option_map word_form (entry_among (input_words block) word) ≡ entry_of (standard_inputs (shown_block block)) word
+pub input_is : (block : StandardBlock) (word : Spelling) → option_map word_form (entry_among (input_words block) word) ≡ entry_of (standard_inputs block) word
 input_is block word = among-words (input_words block) word ∙ ap (λ t. entry_of t word) (input_table block)
 
-pub output_is : (block : StandardBlock) (word : Spelling) → option_map word_form (entry_among (output_words block) word) ≡ entry_of (standard_outputs (shown_block block)) word
+pub output_is : (block : StandardBlock) (word : Spelling) → option_map word_form (entry_among (output_words block) word) ≡ entry_of (standard_outputs block) word
 output_is block word = among-words (output_words block) word ∙ ap (λ t. entry_of t word) (output_table block)
 
 -- the image names as a table

@@ -3,10 +3,10 @@ use Rattle.std.proofs.Common.{◌≡◌, ℕ, Bool, true, false, refl, sym, ap, 
 use Rattle.std.specs.Prelude.{find}
 use Rattle.il_spec.specs.declared.tree.Config.{Config}
 use Rattle.il_spec.specs.declared.tree.Unit.{Unit as ProgramUnit}
+use Rattle.il_rules.specs.declared.names.StandardBlock.{StandardBlock}
 use Rattle.il_rules.specs.Names as rule
 use Rattle.il_rules.specs.Names.{Spelling, or_else, BlockVariables, is_predeclared, unit_named, is_function, is_function_block, is_program, function_named, function_block_named, program_named, standard_block, standard_variables, own_block_variables, block_variables}
 use Rattle.il_rules.specs.Declarations.{names_of_units}
-use Rattle.il_scope.specs.Entries.{block_entry, shown_block}
 use Rattle.il_scope.specs.Views.{place_of, unit_number, passes, number_where, function_number, function_block_number, program_number, block_type, variables_of_block}
 use Rattle.il_scope.specs.declared.entry.BlockType.TheVariants.{Standard as StandardType, Own}
 use Rattle.il_scope.proofs.Seen.{unit_found}
@@ -78,19 +78,6 @@ pub program_there : (config : Config) (name : Spelling) → is_some (program_num
 unfolding program_number
 program_there config name = number_in is_program config name ∙ ap is_some (kind_found is_program config name)
 
--- the code has each standard block
-shown_entry : (b : rule.StandardBlock) → shown_block (block_entry b) ≡ b
-shown_entry rule.Sr = refl
-shown_entry rule.Rs = refl
-shown_entry rule.RTrig = refl
-shown_entry rule.FTrig = refl
-shown_entry rule.Ctu = refl
-shown_entry rule.Ctd = refl
-shown_entry rule.Ctud = refl
-shown_entry rule.Tp = refl
-shown_entry rule.Ton = refl
-shown_entry rule.Tof = refl
-
 -- blocks
 pub block_found : (config : Config) (name : Spelling) → option_and_then (variables_of_block config) (block_type config name) ≡ block_variables config name
 unfolding block_type block_variables
@@ -100,8 +87,8 @@ block_found config name = by_standard (standard_block name)
     by_number None = refl
     by_number (Some k) = refl
 
-    by_standard : (o : Option rule.StandardBlock) → option_and_then (variables_of_block config) (or_else (option_map (λ b. StandardType (block_entry b)) o) (option_map Own (function_block_number config name))) ≡ or_else (option_map standard_variables o) (option_map own_block_variables (function_block_named config name))
-    by_standard (Some b) = ap (λ x. Some (standard_variables x)) (shown_entry b)
+    by_standard : (o : Option StandardBlock) → option_and_then (variables_of_block config) (or_else (option_map StandardType o) (option_map Own (function_block_number config name))) ≡ or_else (option_map standard_variables o) (option_map own_block_variables (function_block_named config name))
+    by_standard (Some b) = refl
     by_standard None = by_number (function_block_number config name) ∙ ap (option_map own_block_variables) (function_block_found config name)
 
 pub block_there : (config : Config) (name : Spelling) → is_some (block_type config name) ≡ is_some (block_variables config name)
@@ -112,6 +99,6 @@ block_there config name = by_standard (standard_block name)
     mapped f (Some x) = refl
     mapped f None = refl
 
-    by_standard : (o : Option rule.StandardBlock) → is_some (or_else (option_map (λ b. StandardType (block_entry b)) o) (option_map Own (number_where is_function_block config name))) ≡ is_some (or_else (option_map standard_variables o) (option_map own_block_variables (function_block_named config name)))
+    by_standard : (o : Option StandardBlock) → is_some (or_else (option_map StandardType o) (option_map Own (number_where is_function_block config name))) ≡ is_some (or_else (option_map standard_variables o) (option_map own_block_variables (function_block_named config name)))
     by_standard (Some b) = refl
     by_standard None = mapped Own (number_where is_function_block config name) ∙ number_in is_function_block config name ∙ ap is_some (kind_found is_function_block config name) ∙ sym (mapped own_block_variables (function_block_named config name))

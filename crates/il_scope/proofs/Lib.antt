@@ -3,3 +3,4 @@ pub mod Digits
 pub mod Filled
 pub mod Seen
 pub mod Laws
+pub mod Owned

@@ -12,25 +12,26 @@ use Rattle.il_spec.specs.declared.tree.Place.{Place}
 use Rattle.il_spec.specs.declared.tree.Form.{Form}
 use Rattle.il_spec.specs.declared.tree.Form.TheVariants.{Scalar as OfScalar}
 use Rattle.il_table.specs.NameMap.{NameMap, get, with_new, empty, get-empty}
+use Rattle.il_rules.specs.declared.names.Audience.TheVariants.{Everybody, CarPrograms, GroupPrograms}
+use Rattle.il_rules.specs.declared.names.Role.TheVariants.{Car as CarRole, Group as GroupRole}
 use Rattle.il_rules.specs.Names as rule
-use Rattle.il_rules.specs.Names.{Spelling, or_else, entry_of, is_one_of, BlockVariables, own_block_variables, named_forms, with_origin, result_of, variables_of, own_variable, is_predeclared, is_program_kind, is_seen_by, Everybody, CarPrograms, GroupPrograms, CarRole, GroupRole, sees, image_meaning, unit_named, global_meaning, outer_meaning, image_name, program_role, meaning, MeansVariable, MeansUnit, MeansStandard, AsInput, AsOutput, AsVariable, AsExternal}
+use Rattle.il_rules.specs.Names.{Spelling, or_else, entry_of, is_one_of, BlockVariables, own_block_variables, named_forms, with_origin, result_of, variables_of, own_variable, is_predeclared, is_program_kind, is_seen_by, sees, image_meaning, unit_named, global_meaning, outer_meaning, image_name, program_role, meaning, MeansVariable, MeansUnit, MeansStandard}
 use Rattle.il_rules.specs.Declarations.{names_of_units}
 use Rattle.il_scope.specs.declared.entry.VariableType.{VariableType}
 use Rattle.il_scope.specs.declared.entry.VariableType.TheVariants.{Scalar as OfScalarType}
-use Rattle.il_scope.specs.declared.entry.Origin.{Origin}
-use Rattle.il_scope.specs.declared.entry.Origin.TheVariants.{Input, Output, Local, External, FunctionResult}
+use Rattle.il_rules.specs.declared.names.Origin.{Origin}
+use Rattle.il_rules.specs.declared.names.Origin.TheVariants.{Input, Output, Local, External, FunctionResult}
 use Rattle.il_scope.specs.declared.entry.Variable.{Variable}
-use Rattle.il_scope.specs.declared.entry.Role.{Role}
+use Rattle.il_rules.specs.declared.names.Role.{Role}
 use Rattle.il_scope.specs.declared.entry.ImageName.{ImageName}
 use Rattle.il_scope.specs.declared.entry.Binding.{Binding}
 use Rattle.il_scope.specs.declared.entry.Binding.TheVariants as means
 use Rattle.il_scope.specs.declared.tables.Scope.{Scope}
-use Rattle.il_scope.specs.Entries.{origin_entry, audience_entry, role_entry}
 use Rattle.il_scope.specs.Views.{place_of, unit_number, type_of, variable_of, image_entry, binding_of}
 use Rattle.il_scope.specs.declared.image.ImageRow.{ImageRow}
 use Rattle.il_scope.specs.Images.{image_in, named, row_among, image_entries}
 use Rattle.il_scope.specs.Tables.{seen_variable, HasVariables, HasList, HasImages, role_of, own_seen, HasOwn, IsScope, AreScopes}
-use Rattle.il_scope.specs.Meanings.{listed_as, own_result, seen_by, image_seen, variable_binding, global_binding}
+use Rattle.il_scope.specs.Meanings.{listed_as, own_result, image_seen, variable_binding, global_binding}
 use Rattle.il_scope.proofs.Filled.{or_else_assoc, map-or_else, get-with_new}
 use Rattle.il_scope.proofs.Known.{image_is}
 
@@ -46,13 +47,13 @@ find-both {A = A} p (x ∷ xs) ys = go (p x) (find-both p xs ys)
     go false rest = rest
 
 -- a variable of one list
-one_list : (config : Config) (origin : rule.Origin) (vs : List (Spelling × Form)) (q : Spelling)
-    → option_map (seen_variable config) (find (λ v. bytes_eq v.name q) (map (λ (v : Spelling × Form). record { name = v.0; form = v.1; origin = origin }) vs)) ≡ option_map (listed_as (origin_entry origin)) (option_map (type_of config) (entry_of vs q))
+one_list : (config : Config) (origin : Origin) (vs : List (Spelling × Form)) (q : Spelling)
+    → option_map (seen_variable config) (find (λ v. bytes_eq v.name q) (map (λ (v : Spelling × Form). record { name = v.0; form = v.1; origin = origin }) vs)) ≡ option_map (listed_as origin) (option_map (type_of config) (entry_of vs q))
 one_list config origin [] q = refl
 one_list config origin (v ∷ vs) q = go (bytes_eq v.0 q) (one_list config origin vs q)
   where
-    go : (b : Bool) → option_map (seen_variable config) (find (λ v. bytes_eq v.name q) (map (λ (v : Spelling × Form). record { name = v.0; form = v.1; origin = origin }) vs)) ≡ option_map (listed_as (origin_entry origin)) (option_map (type_of config) (entry_of vs q))
-        → option_map (seen_variable config) (if b then Some (record { name = v.0; form = v.1; origin = origin }) else find (λ v. bytes_eq v.name q) (map (λ (v : Spelling × Form). record { name = v.0; form = v.1; origin = origin }) vs)) ≡ option_map (listed_as (origin_entry origin)) (option_map (type_of config) (option_map (λ (e : Spelling × Form). e.1) (if b then Some v else find (λ e. bytes_eq e.0 q) vs)))
+    go : (b : Bool) → option_map (seen_variable config) (find (λ v. bytes_eq v.name q) (map (λ (v : Spelling × Form). record { name = v.0; form = v.1; origin = origin }) vs)) ≡ option_map (listed_as origin) (option_map (type_of config) (entry_of vs q))
+        → option_map (seen_variable config) (if b then Some (record { name = v.0; form = v.1; origin = origin }) else find (λ v. bytes_eq v.name q) (map (λ (v : Spelling × Form). record { name = v.0; form = v.1; origin = origin }) vs)) ≡ option_map (listed_as origin) (option_map (type_of config) (option_map (λ (e : Spelling × Form). e.1) (if b then Some v else find (λ e. bytes_eq e.0 q) vs)))
     go true rest = refl
     go false rest = rest
 
@@ -61,7 +62,7 @@ by_result : (config : Config) (kind : UnitKind) (own q : Spelling) → option_ma
 by_result config (Function scalar place) own q = go (bytes_eq own q)
   where
     v : rule.Variable
-    v = record { name = own; form = OfScalar scalar; origin = rule.AsResult }
+    v = record { name = own; form = OfScalar scalar; origin = FunctionResult }
 
     go : (b : Bool) → option_map (seen_variable config) (if b then Some v else None) ≡ (if b then Some (seen_variable config v) else None)
     go true = refl
@@ -90,11 +91,11 @@ own_filled config unit none result inputs outputs variables own start first seco
     ∙ or_else_assoc (or_else made (list Input unit.inputs)) (list Output unit.outputs) (or_else (list Local unit.variables) (list External unit.externals))
     ∙ or_else_assoc made (list Input unit.inputs) (or_else (list Output unit.outputs) (or_else (list Local unit.variables) (list External unit.externals)))
     ∙ sym (
-    ap (option_map (seen_variable config)) (find-five p (result_of unit.kind unit.name.name) (with_origin AsInput unit.inputs) (with_origin AsOutput unit.outputs) (with_origin AsVariable unit.variables) (with_origin AsExternal unit.externals))
+    ap (option_map (seen_variable config)) (find-five p (result_of unit.kind unit.name.name) (with_origin Input unit.inputs) (with_origin Output unit.outputs) (with_origin Local unit.variables) (with_origin External unit.externals))
     ∙ either_of (seen_variable config) (find p (result_of unit.kind unit.name.name)) _ _ _ (by_result config unit.kind unit.name.name q)
-    (either_of (seen_variable config) (find p (with_origin AsInput unit.inputs)) _ _ _ (one_list config AsInput (named_forms unit.inputs) q)
-    (either_of (seen_variable config) (find p (with_origin AsOutput unit.outputs)) _ _ _ (one_list config AsOutput (named_forms unit.outputs) q)
-    (either_of (seen_variable config) (find p (with_origin AsVariable unit.variables)) _ _ _ (one_list config AsVariable (named_forms unit.variables) q) (one_list config AsExternal (named_forms unit.externals) q)))))
+    (either_of (seen_variable config) (find p (with_origin Input unit.inputs)) _ _ _ (one_list config Input (named_forms unit.inputs) q)
+    (either_of (seen_variable config) (find p (with_origin Output unit.outputs)) _ _ _ (one_list config Output (named_forms unit.outputs) q)
+    (either_of (seen_variable config) (find p (with_origin Local unit.variables)) _ _ _ (one_list config Local (named_forms unit.variables) q) (one_list config External (named_forms unit.externals) q)))))
   where
     p : rule.Variable → Bool
     p v = bytes_eq v.name q
@@ -119,20 +120,9 @@ result_put kind own scalar place old new key is named added q =
 
 -- IMAGE NAMES
 
--- whether programs of a role see what is meant for an audience
-pub seen_is : (role : Option rule.Role) (audience : rule.Audience) → seen_by (option_map role_entry role) (audience_entry audience) ≡ is_seen_by role audience
-seen_is role Everybody = refl
-seen_is None CarPrograms = refl
-seen_is None GroupPrograms = refl
-seen_is (Some CarRole) CarPrograms = refl
-seen_is (Some CarRole) GroupPrograms = refl
-seen_is (Some GroupRole) CarPrograms = refl
-seen_is (Some GroupRole) GroupPrograms = refl
-
 image_is_meant : (config : Config) (unit : ProgramUnit) (i : rule.ImageName) → variable_binding (image_seen unit.kind (role_of config unit) (image_entry config i)) ≡ option_map (binding_of config) (image_meaning config unit i)
 image_is_meant config unit i =
-    ap (λ b. variable_binding (if is_program_kind unit.kind && b then Some (variable_of config i.variable) else None)) (seen_is (program_role config unit.name.name config.programs) i.audience)
-    ∙ go (is_program_kind unit.kind && is_seen_by (program_role config unit.name.name config.programs) i.audience)
+    go (is_program_kind unit.kind && is_seen_by (program_role config unit.name.name config.programs) i.audience)
   where
     go : (b : Bool) → variable_binding (if b then Some (variable_of config i.variable) else None) ≡ option_map (binding_of config) (if b then Some (MeansVariable i.variable) else None)
     go true = refl

@@ -1,8 +1,8 @@
 pub mod Words
-pub mod Entries
 pub mod Standard
 pub mod Images
 pub mod Views
+pub mod Units
 pub mod Cars
 pub mod Tables
 pub mod Meanings

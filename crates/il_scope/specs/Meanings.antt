@@ -3,16 +3,13 @@ use Rattle.std.specs.Prelude.{Bool, true, false, ◌&&◌, if◌then◌else◌, 
 use Rattle.il_spec.specs.declared.tree.Config.{Config}
 use Rattle.il_spec.specs.declared.tree.UnitKind.{UnitKind}
 use Rattle.il_spec.specs.declared.tree.UnitKind.TheVariants.{Function, FunctionBlock, Program}
-use Rattle.il_rules.specs.Names.{Spelling, is_predeclared, is_program_kind}
+use Rattle.il_rules.specs.Names.{Spelling, is_predeclared, is_program_kind, is_seen_by}
 use Rattle.il_scope.specs.declared.entry.VariableType.{VariableType}
 use Rattle.il_scope.specs.declared.entry.VariableType.TheVariants.{Scalar}
-use Rattle.il_scope.specs.declared.entry.Origin.{Origin}
-use Rattle.il_scope.specs.declared.entry.Origin.TheVariants.{FunctionResult}
+use Rattle.il_rules.specs.declared.names.Origin.{Origin}
+use Rattle.il_rules.specs.declared.names.Origin.TheVariants.{FunctionResult}
 use Rattle.il_scope.specs.declared.entry.Variable.{Variable}
-use Rattle.il_scope.specs.declared.entry.Audience.{Audience}
-use Rattle.il_scope.specs.declared.entry.Audience.TheVariants.{Everybody, CarPrograms, GroupPrograms}
-use Rattle.il_scope.specs.declared.entry.Role.{Role}
-use Rattle.il_scope.specs.declared.entry.Role.TheVariants.{Car, Group}
+use Rattle.il_rules.specs.declared.names.Role.{Role}
 use Rattle.il_scope.specs.declared.entry.ImageName.{ImageName}
 use Rattle.il_scope.specs.declared.entry.Binding.{Binding}
 use Rattle.il_scope.specs.declared.entry.Binding.TheVariants as means
@@ -28,19 +25,9 @@ own_result (Function scalar place) own name = if bytes_eq own name then Some (li
 own_result FunctionBlock own name = None
 own_result Program own name = None
 
--- whether programs of a role see what is meant for an audience; without a role they see all
-abbrev pub seen_by : Option Role → Audience → Bool
-seen_by role Everybody = true
-seen_by None CarPrograms = true
-seen_by None GroupPrograms = true
-seen_by (Some Car) CarPrograms = true
-seen_by (Some Car) GroupPrograms = false
-seen_by (Some Group) CarPrograms = false
-seen_by (Some Group) GroupPrograms = true
-
 -- what a unit of a kind and role sees of an image name
 abbrev pub image_seen : UnitKind → Option Role → ImageName → Option Variable
-image_seen kind role image = if is_program_kind kind && seen_by role image.audience then Some image.variable else None
+image_seen kind role image = if is_program_kind kind && is_seen_by role image.audience then Some image.variable else None
 
 -- a variable, if it is seen
 abbrev pub variable_binding : Option Variable → Option Binding

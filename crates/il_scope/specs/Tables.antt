@@ -11,15 +11,15 @@ use Rattle.il_rules.specs.Names as rule
 use Rattle.il_rules.specs.Declarations.{names_of_units}
 use Rattle.il_scope.specs.declared.entry.VariableType.{VariableType}
 use Rattle.il_scope.specs.declared.entry.Variable.{Variable}
-use Rattle.il_scope.specs.declared.entry.Origin.{Origin}
-use Rattle.il_scope.specs.declared.entry.Role.{Role}
+use Rattle.il_rules.specs.declared.names.Origin.{Origin}
+use Rattle.il_rules.specs.declared.names.Role.{Role}
 use Rattle.il_scope.specs.declared.tables.Scope.{Scope}
 use Rattle.il_scope.specs.declared.tables.Tables.{Tables}
 use Rattle.il_spec.specs.declared.tree.UnitKind.{UnitKind}
 use Rattle.il_scope.specs.declared.image.ImageRow.{ImageRow}
-use Rattle.il_scope.specs.Entries.{role_entry}
 use Rattle.il_scope.specs.Images.{image_in, row_among}
 use Rattle.il_scope.specs.Views.{place_of, type_of, variable_of, image_entry}
+use Rattle.il_scope.specs.Units.{input_scalars}
 use Rattle.il_scope.specs.Meanings.{listed_as, image_seen}
 
 -- the number of the first unit of each name
@@ -52,7 +52,7 @@ HasImages config kind role rows old new = (name : Spelling) → get new name ≡
 
 -- the role of a unit's programs
 abbrev pub role_of : Config → ProgramUnit → Option Role
-role_of config unit = option_map role_entry (program_role config unit.name.name config.programs)
+role_of config unit = (program_role config unit.name.name config.programs)
 
 -- what a unit's own names and the image names are to it
 abbrev pub own_seen : Config → ProgramUnit → Spelling → Option (Option Variable)
@@ -68,16 +68,17 @@ with_role_of None name roles = roles
 with_role_of (Some role) name roles = with_new roles name role
 
 abbrev pub with_role : ℤ → ProgramLine → NameMap Role → NameMap Role
-with_role cars line roles = with_role_of (option_map role_entry (task_role cars line.task.name)) line.program.name roles
+with_role cars line roles = with_role_of (task_role cars line.task.name) line.program.name roles
 
 -- the roles that PROGRAM lines give
 abbrev pub HasRoles : Config → List ProgramLine → NameMap Role → Type 0
-HasRoles config lines roles = (name : Spelling) → get roles name ≡ option_map role_entry (program_role config name lines)
+HasRoles config lines roles = (name : Spelling) → get roles name ≡ program_role config name lines
 
 -- the variables of a unit
 pub record IsScope (config : Config) (unit : ProgramUnit) (scope : Scope) : Type 0 where
   pub inputs : HasForms config unit.inputs scope.inputs
   pub outputs : HasForms config unit.outputs scope.outputs
+  pub scalars : scope.scalars ≡ input_scalars unit
   pub own : HasOwn config unit scope.own
 
 -- the scope of each unit

@@ -15,7 +15,6 @@ use Rattle.il_scope.specs.declared.entry.Variable.{Variable}
 use Rattle.il_scope.specs.declared.entry.ImageName.{ImageName}
 use Rattle.il_scope.specs.declared.entry.Binding.{Binding}
 use Rattle.il_scope.specs.declared.entry.Binding.TheVariants as means
-use Rattle.il_scope.specs.Entries.{block_entry, shown_block, origin_entry, audience_entry}
 
 -- the number of the first of some names that is this one, counted from 0
 abbrev pub place_of : List Spelling → Spelling → Option ℕ
@@ -49,7 +48,7 @@ program_number config name = number_where is_program config name
 
 -- the block of a name, standard or own (2.5.2)
 unfoldable pub block_type : Config → Spelling → Option BlockType
-block_type config name = or_else (option_map (λ b. StandardType (block_entry b)) (standard_block name)) (option_map Own (function_block_number config name))
+block_type config name = or_else (option_map StandardType (standard_block name)) (option_map Own (function_block_number config name))
 
 -- a written type
 abbrev pub type_of : Config → Form → VariableType
@@ -59,16 +58,16 @@ type_of config (OfBlock name) = Instance (block_type config name)
 
 -- the variables of a block
 abbrev pub variables_of_block : Config → BlockType → Option BlockVariables
-variables_of_block config (StandardType block) = Some (standard_variables (shown_block block))
+variables_of_block config (StandardType block) = Some (standard_variables block)
 variables_of_block config (Own k) = option_map own_block_variables (slice_get config.units k)
 
 -- a variable
 abbrev pub variable_of : Config → rule.Variable → Variable
-variable_of config v = record { declared = type_of config v.form; origin = origin_entry v.origin }
+variable_of config v = record { declared = type_of config v.form; origin = v.origin }
 
 -- an image name
 abbrev pub image_entry : Config → rule.ImageName → ImageName
-image_entry config i = record { variable = variable_of config i.variable; audience = audience_entry i.audience }
+image_entry config i = record { variable = variable_of config i.variable; audience = i.audience }
 
 -- what a name means
 abbrev pub binding_of : Config → rule.Meaning → Binding

@@ -2,17 +2,17 @@
 
 ghost use Rattle.std.specs.Prelude.{◌≡◌, option_map};
 ghost use Rattle.il_rules.specs.Names.{entry_of, standard_block, standard_inputs, standard_outputs};
-ghost use Rattle.il_scope.specs.Entries.{block_entry, shown_block, word_form};
+ghost use Rattle.il_scope.specs.Standard.{word_form};
 ghost use Rattle.il_scope.specs.Words.{entry_among};
 ghost use Rattle.il_scope.specs.Standard.{block_words, input_words, output_words, sr_inputs, rs_inputs, trigger_inputs, ctu_inputs, ctd_inputs, ctud_inputs, timer_inputs, flip_flop_outputs, trigger_outputs, counter_outputs, ctud_outputs, timer_outputs};
 
-use crate::entry::StandardBlock;
 use crate::words::is_name;
+use il_rules::names::StandardBlock;
 use il_spec::tree::Elementary;
 
 /// The standard block of a name (2.5.2.3).
 pub fn standard_block(name: &str) -> Option<StandardBlock>
-    ensures { result ≡ option_map block_entry (standard_block name.now) }
+    ensures { result ≡ standard_block name.now }
 {
     block_of_word(name)
 }
@@ -49,14 +49,14 @@ fn block_of_word(name: &str) -> Option<StandardBlock>
 
 /// The type of a standard block's input by its word (2.5.2.3).
 pub fn standard_input(block: StandardBlock, word: &str) -> Option<Elementary>
-    ensures { option_map word_form result ≡ entry_of (standard_inputs (shown_block block)) word.now }
+    ensures { option_map word_form result ≡ entry_of (standard_inputs block) word.now }
 {
     input_of_word(block, word)
 }
 
 /// The type of a standard block's output by its word (2.5.2.3).
 pub fn standard_output(block: StandardBlock, word: &str) -> Option<Elementary>
-    ensures { option_map word_form result ≡ entry_of (standard_outputs (shown_block block)) word.now }
+    ensures { option_map word_form result ≡ entry_of (standard_outputs block) word.now }
 {
     output_of_word(block, word)
 }

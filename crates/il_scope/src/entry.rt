@@ -1,33 +1,7 @@
 // What names mean.
 
-use il_spec::tree::{Elementary, Scalar, Subrange};
-
-/// The standard functions of the profile (IEC 61131-3:2003, 2.5.1.5).
-#[derive(Clone, Copy)]
-pub enum StandardFunction {
-    Absolute,
-    Minimum,
-    Maximum,
-    Limited,
-    Selected,
-    /// X_TO_Y, between two whole types.
-    Converted(Elementary, Elementary),
-}
-
-/// The standard function blocks of the profile (2.5.2.3).
-#[derive(Clone, Copy)]
-pub enum StandardBlock {
-    Sr,
-    Rs,
-    RTrig,
-    FTrig,
-    Ctu,
-    Ctd,
-    Ctud,
-    Tp,
-    Ton,
-    Tof,
-}
+use il_rules::names::{Audience, Origin, StandardBlock};
+use il_spec::tree::{Scalar, Subrange};
 
 /// A function block (2.5.2).
 #[derive(Clone, Copy)]
@@ -46,18 +20,6 @@ pub enum VariableType {
     Instance(Option<BlockType>),
 }
 
-/// Where a variable stands: in a list of its unit, as a function's result, or in the image (2.4.3).
-#[derive(Clone, Copy)]
-pub enum Origin {
-    Input,
-    Output,
-    Local,
-    External,
-    FunctionResult,
-    ReadImage,
-    WrittenImage,
-}
-
 /// A variable that a name means.
 #[derive(Clone, Copy)]
 pub struct Variable {
@@ -65,26 +27,11 @@ pub struct Variable {
     pub origin: Origin,
 }
 
-/// Which programs see an image name (own rule).
-#[derive(Clone, Copy)]
-pub enum Audience {
-    Everybody,
-    CarPrograms,
-    GroupPrograms,
-}
-
 /// An image name (own rule).
 #[derive(Clone, Copy)]
 pub struct ImageName {
     pub variable: Variable,
     pub audience: Audience,
-}
-
-/// The tasks of a group: one for each car, and GROUP (own rule).
-#[derive(Clone, Copy)]
-pub enum Role {
-    Car,
-    Group,
 }
 
 /// What a name can mean in a unit.

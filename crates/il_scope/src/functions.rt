@@ -2,17 +2,16 @@
 
 ghost use Rattle.std.specs.Prelude.{◌≡◌, option_map};
 ghost use Rattle.il_rules.specs.Names.{or_else, standard_function};
-ghost use Rattle.il_scope.specs.Entries.{function_entry};
 ghost use Rattle.il_scope.specs.Words.{entry_among};
 ghost use Rattle.il_scope.specs.Standard.{uniform_functions, from_sint, from_int, from_dint, from_usint, from_uint, from_udint};
 
-use crate::entry::StandardFunction;
 use crate::words::is_name;
+use il_rules::names::StandardFunction;
 use il_spec::tree::Elementary;
 
 /// The standard function of a name (2.5.1.5).
 pub fn standard_function(name: &str) -> Option<StandardFunction>
-    ensures { result ≡ option_map function_entry (standard_function name.now) }
+    ensures { result ≡ standard_function name.now }
 {
     uniform_function(name).or(signed_conversion(name).or(unsigned_conversion(name)))
 }

@@ -7,8 +7,9 @@ ghost use Rattle.il_rules.specs.Names.{image_name, within};
 ghost use Rattle.il_scope.specs.Views.{image_entry};
 ghost use Rattle.il_scope.specs.Images.{limit_in, scalar_in, type_in, image_in, named, row_among, image_entries};
 
-use crate::entry::{Audience, ImageName, Origin, Variable, VariableType};
+use crate::entry::{ImageName, Variable, VariableType};
 use crate::words::is_name;
+use il_rules::names::{Audience, Origin};
 use il_spec::tree::{Config, Elementary, Scalar, Subrange};
 
 /// A limit in the type of an image name: a number, or one that the configuration gives.

@@ -1,18 +1,20 @@
 // Units and blocks by names.
 
-ghost use Rattle.std.specs.Prelude.{◌≡◌, option_map, option_and_then};
+ghost use Rattle.std.specs.Prelude.{◌≡◌, None, IfSome, option_map, option_and_then, slice_get};
 ghost use Rattle.il_spec.specs.declared.tree.Config.{Config};
 ghost use Rattle.il_rules.specs.Names.{entry_of, is_one_of, standard_inputs, standard_outputs};
 ghost use Rattle.il_rules.specs.Declarations.{names_of_units};
 ghost use Rattle.il_scope.specs.declared.entry.BlockType.TheVariants.{Own};
-ghost use Rattle.il_scope.specs.Entries.{shown_block};
 ghost use Rattle.il_scope.specs.Views.{type_of, variables_of_block};
 ghost use Rattle.il_scope.specs.Tables.{AreUnits, AreTables};
+ghost use Rattle.il_scope.specs.Units.{AreInputsOf};
 
 use crate::blocks::{standard_input, standard_output};
-use crate::entry::{BlockType, StandardBlock, VariableType};
+use crate::entry::{BlockType, VariableType};
 use crate::image::plain;
 use crate::tables::Tables;
+use il_rules::names::StandardBlock;
+use il_spec::tree::Scalar;
 use il_table::Table;
 
 /// Whether a unit has a name, predeclared or not.
@@ -34,7 +36,7 @@ pub fn block_input(tables: &Tables, block: BlockType, word: &str) -> Option<Vari
 
 // The type of a standard block's input by its word (2.5.2.3).
 fn standard_input_type(block: StandardBlock, word: &str) -> Option<VariableType>
-    ensures { (config : Config) → result ≡ option_map (type_of config) (entry_of (standard_inputs (shown_block block)) word.now) }
+    ensures { (config : Config) → result ≡ option_map (type_of config) (entry_of (standard_inputs block) word.now) }
 {
     match standard_input(block, word) {
         Some(elementary) => Some(VariableType::Scalar(plain(elementary))),
@@ -64,7 +66,7 @@ pub fn block_output(tables: &Tables, block: BlockType, word: &str) -> Option<Var
 
 // The type of a standard block's output by its word (2.5.2.3).
 fn standard_output_type(block: StandardBlock, word: &str) -> Option<VariableType>
-    ensures { (config : Config) → result ≡ option_map (type_of config) (entry_of (standard_outputs (shown_block block)) word.now) }
+    ensures { (config : Config) → result ≡ option_map (type_of config) (entry_of (standard_outputs block) word.now) }
 {
     match standard_output(block, word) {
         Some(elementary) => Some(VariableType::Scalar(plain(elementary))),
@@ -78,6 +80,17 @@ fn own_output(tables: &Tables, number: usize, word: &str) -> Option<VariableType
 {
     match tables.scopes.as_slice().get(number) {
         Some(scope) => scope.outputs.get(word),
+        None => None,
+    }
+}
+
+/// The scalar types of the inputs of the unit of a number, in their order.
+pub fn input_scalars(tables: &Tables, number: usize) -> Option<&[Option<Scalar>]>
+    ensures none { result ≡ None → (config : Config) → AreTables config tables.now → slice_get config.units number ≡ None }
+    ensures some { IfSome result (λ inputs. (config : Config) → AreTables config tables.now → AreInputsOf (slice_get config.units number) inputs.now) }
+{
+    match tables.scopes.as_slice().get(number) {
+        Some(scope) => Some(scope.scalars.as_slice()),
         None => None,
     }
 }

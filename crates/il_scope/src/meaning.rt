@@ -3,15 +3,16 @@
 ghost use Rattle.std.specs.Prelude.{◌≡◌, Some, option_map, slice_get};
 ghost use Rattle.il_spec.specs.declared.tree.Config.{Config as Configuration};
 ghost use Rattle.il_spec.specs.declared.tree.Unit.{Unit as ProgramUnit};
-ghost use Rattle.il_rules.specs.Names.{meaning};
+ghost use Rattle.il_rules.specs.Names.{is_seen_by, meaning};
 ghost use Rattle.il_scope.specs.Views.{binding_of};
 ghost use Rattle.il_scope.specs.Tables.{IsScope, AreTables};
-ghost use Rattle.il_scope.specs.Meanings.{seen_by, image_seen, variable_binding, global_binding};
+ghost use Rattle.il_scope.specs.Meanings.{image_seen, variable_binding, global_binding};
 
-use crate::entry::{Audience, Binding, ImageName, Role, Variable};
+use crate::entry::{Binding, ImageName, Variable};
 use crate::numbers::{is_program, unit_number};
 use crate::tables::{Scope, Tables};
 use crate::words::is_predeclared;
+use il_rules::names::{Audience, Role};
 use il_spec::tree::{Config, UnitKind};
 
 /// What a name means in the unit of a number; none where it is unknown there.
@@ -59,7 +60,7 @@ pub fn image_seen(kind: UnitKind, role: Option<Role>, image: ImageName) -> Optio
 
 /// Whether programs of a role see what is meant for an audience; without a role they see all (own rule).
 pub fn is_seen_by(role: Option<Role>, audience: Audience) -> bool
-    ensures { result ≡ seen_by role audience }
+    ensures { result ≡ is_seen_by role audience }
 {
     match (audience, role) {
         (Audience::Everybody, _) => true,

@@ -2,14 +2,13 @@
 
 ghost use Rattle.std.specs.Prelude.{◌≡◌, pos, bytes_eq, codes, option_map};
 ghost use Rattle.il_rules.specs.Names.{car_digits, task_role};
-ghost use Rattle.il_scope.specs.Entries.{role_entry};
 ghost use Rattle.il_scope.specs.Cars.{up_to, car_of};
 
-use crate::entry::Role;
+use il_rules::names::Role;
 
 /// The role of a task name in a group of so many cars; none where it names no task of the group.
 pub fn task_role(cars: i64, name: &str) -> Option<Role>
-    ensures { result ≡ option_map role_entry (task_role cars name.now) }
+    ensures { result ≡ task_role cars name.now }
 {
     if is_group(name) {
         Some(Role::Group)

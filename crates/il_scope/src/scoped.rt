@@ -1,22 +1,23 @@
 // Configurations with what their names mean.
 
-ghost use Rattle.std.specs.Prelude.{◌≡◌, IfOk, Some, option_map, option_and_then, slice_get};
+ghost use Rattle.std.specs.Prelude.{◌≡◌, IfOk, Some, None, IfSome, option_map, option_and_then, slice_get};
 ghost use Rattle.il_spec.specs.declared.tree.Unit.{Unit as ProgramUnit};
 ghost use Rattle.il_rules.specs.Names.{entry_of, is_one_of, is_predeclared, meaning, program_role};
 ghost use Rattle.il_rules.specs.Declarations.{global_form, names_of_units};
-ghost use Rattle.il_scope.specs.Entries.{role_entry};
 ghost use Rattle.il_scope.specs.Images.{image_in};
+ghost use Rattle.il_scope.specs.Units.{AreInputsOf};
 ghost use Rattle.il_scope.specs.Views.{block_type, function_number, program_number, type_of, binding_of, variables_of_block};
 
-use crate::entry::{Binding, BlockType, ImageName, Role, VariableType};
+use crate::entry::{Binding, BlockType, ImageName, VariableType};
 use crate::image::{ImageRow, image_in};
-use crate::lookup::{block_input, block_output, is_unit};
+use crate::lookup::{block_input, block_output, input_scalars, is_unit};
 use crate::meaning::meaning;
 use crate::numbers::{block_type, function_number, program_number};
 use crate::tables::{Tables, tables_of, type_of};
 use crate::words::is_predeclared;
 use il_rules::Written;
-use il_spec::tree::{Config, Form};
+use il_rules::names::Role;
+use il_spec::tree::{Config, Form, Scalar};
 use std::alloc::{AllocError, Global};
 use std::marker::Model;
 
@@ -107,7 +108,7 @@ impl Scoped {
 
     /// The role of the program of a name: that of the first PROGRAM line that gives it one (own rule).
     pub fn role(&self, name: &str) -> Option<Role>
-        ensures { result ≡ option_map role_entry (program_role self.now name.now self.now.programs) }
+        ensures { result ≡ program_role self.now name.now self.now.programs }
     {
         self.tables.roles.get(name)
     }
@@ -138,6 +139,14 @@ impl Scoped {
         ensures { result ≡ image_in self.now row.now }
     {
         image_in(self.written.tree(), row)
+    }
+
+    /// The scalar types of the inputs of the unit of a number, in their order (2.4.3).
+    pub fn inputs(&self, number: usize) -> Option<&[Option<Scalar>]>
+        ensures none { result ≡ None → slice_get self.now.units number ≡ None }
+        ensures some { IfSome result (λ inputs. AreInputsOf (slice_get self.now.units number) inputs.now) }
+    {
+        input_scalars(&self.tables, number)
     }
 
     /// The type of a block's input by its word (2.5.2).

@@ -7,13 +7,15 @@ ghost use Rattle.il_scope.specs.Views.{place_of, type_of};
 ghost use Rattle.il_scope.specs.Meanings.{own_result};
 ghost use Rattle.il_scope.specs.Tables.{with_role, AreUnits, HasForms, HasNames, HasRoles, HasList, HasVariables, HasImages, HasOwn, IsScope, AreScopes, AreTables};
 
-use crate::entry::{Origin, Role, Variable, VariableType};
+use crate::entry::{Variable, VariableType};
 use crate::image::{ImageRow, image_in, image_rows};
+use crate::inputs::input_scalars;
 use crate::meaning::image_seen;
 use crate::numbers::block_type;
 use crate::roles::task_role;
+use il_rules::names::{Origin, Role};
 use il_spec::list::Items;
-use il_spec::tree::{Config, Declaration, Form, Named, ProgramLine, Unit, UnitKind};
+use il_spec::tree::{Config, Declaration, Form, Named, ProgramLine, Scalar, Unit, UnitKind};
 use il_table::Table;
 use std::alloc::{AllocError, Global};
 
@@ -24,6 +26,8 @@ pub struct Scope {
     pub inputs: Table<VariableType>,
     /// The types of its outputs.
     pub outputs: Table<VariableType>,
+    /// The scalar types of its inputs, in their order.
+    pub scalars: Items<Option<Scalar>>,
     /// What its body names: a function's result, the variables of all lists, then the image names; the first of a name counts.
     /// None where the unit doesn't see an image name.
     pub own: Table<Option<Variable>>,
@@ -134,6 +138,7 @@ fn scope_of(
     Ok(Scope {
         inputs: form_table(alloc, config, units, unit.inputs.as_slice())?,
         outputs: form_table(alloc, config, units, unit.outputs.as_slice())?,
+        scalars: input_scalars(alloc, unit)?,
         own: own_table(alloc, config, units, roles, unit)?,
     })
 }

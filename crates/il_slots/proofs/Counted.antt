@@ -6,13 +6,14 @@ use Rattle.il_spec.specs.declared.tree.Form.{Form}
 use Rattle.il_spec.specs.declared.tree.Form.TheVariants.{Scalar as ScalarForm, Array as ArrayForm, Block as BlockForm}
 use Rattle.il_spec.specs.declared.tree.Unit.{Unit as ProgramUnit}
 use Rattle.il_spec.specs.declared.tree.Config.{Config}
+use Rattle.il_rules.specs.declared.names.StandardBlock.{StandardBlock}
+use Rattle.il_rules.specs.declared.names.StandardBlock.TheVariants.{Sr, Rs, RTrig, FTrig, Ctu, Ctd, Ctud, Tp, Ton, Tof}
 use Rattle.il_rules.specs.Names as rule
 use Rattle.il_rules.specs.Names.{or_else, standard_block, standard_variables, function_block_named, is_function_block}
 use Rattle.il_table.specs.NameMap.{NameMap, Text, get, get-empty}
 use Rattle.il_run.specs.Meaning.{Entity, own_entities, standard_entities, block_entities}
 use Rattle.il_scope.specs.declared.entry.BlockType.{BlockType}
 use Rattle.il_scope.specs.declared.entry.BlockType.TheVariants.{Standard, Own}
-use Rattle.il_scope.specs.Entries.{block_entry}
 use Rattle.il_scope.specs.Views.{type_of, passes, unit_number, block_type, function_block_number}
 use Rattle.il_scope.proofs.Filled.{get-with_new}
 use Rattle.il_scope.proofs.Laws.{function_block_found}
@@ -90,7 +91,7 @@ own_block c name k is =
 
 -- what block a name is that of
 pub data IsBlock (c : Config) (name : Text) : Option BlockType → Type 0 where
-  of_standard : (s : rule.StandardBlock) (b : Option BlockType) → standard_block name ≡ Some s → b ≡ Some (Standard (block_entry s)) → IsBlock c name b
+  of_standard : (s : StandardBlock) (b : Option BlockType) → standard_block name ≡ Some s → b ≡ Some (Standard s) → IsBlock c name b
   of_own : (k : ℕ) (b : Option BlockType) → IsOwnBlock c name k → b ≡ Some (Own k) → IsBlock c name b
   of_none : (b : Option BlockType) → block_entities c name ≡ [] → b ≡ None → IsBlock c name b
 
@@ -98,39 +99,39 @@ pub which_block : (c : Config) (name : Text) → IsBlock c name (block_type c na
 unfolding block_type
 which_block c name = by_standard (standard_block name) refl
   where
-    by_number : standard_block name ≡ None → (o : Option ℕ) → function_block_number c name ≡ o → IsBlock c name (or_else (option_map (λ b. Standard (block_entry b)) (standard_block name)) (option_map Own (function_block_number c name)))
+    by_number : standard_block name ≡ None → (o : Option ℕ) → function_block_number c name ≡ o → IsBlock c name (or_else (option_map (λ b. Standard b) (standard_block name)) (option_map Own (function_block_number c name)))
     by_number nothing (Some k) at = of_own k _ (own_block c name k at) (rw nothing (rw at refl))
     by_number nothing None at =
         let no_function : function_block_named c name ≡ None = sym (function_block_found c name) ∙ ap (option_and_then (slice_get c.units)) at in
         of_none _ (rw no_function (rw nothing refl)) (rw nothing (rw at refl))
 
-    by_standard : (o : Option rule.StandardBlock) → standard_block name ≡ o → IsBlock c name (or_else (option_map (λ b. Standard (block_entry b)) (standard_block name)) (option_map Own (function_block_number c name)))
+    by_standard : (o : Option StandardBlock) → standard_block name ≡ o → IsBlock c name (or_else (option_map (λ b. Standard b) (standard_block name)) (option_map Own (function_block_number c name)))
     by_standard (Some s) is = of_standard s _ is (rw is refl)
     by_standard None is = by_number is (function_block_number c name) refl
 
-pub standard_is : (c : Config) (s : rule.StandardBlock) → map (shown c) (standard_entities (standard_variables s)) ≡ standard_list (block_entry s)
-standard_is c rule.Sr = refl
-standard_is c rule.Rs = refl
-standard_is c rule.RTrig = refl
-standard_is c rule.FTrig = refl
-standard_is c rule.Ctu = refl
-standard_is c rule.Ctd = refl
-standard_is c rule.Ctud = refl
-standard_is c rule.Tp = refl
-standard_is c rule.Ton = refl
-standard_is c rule.Tof = refl
+pub standard_is : (c : Config) (s : StandardBlock) → map (shown c) (standard_entities (standard_variables s)) ≡ standard_list s
+standard_is c Sr = refl
+standard_is c Rs = refl
+standard_is c RTrig = refl
+standard_is c FTrig = refl
+standard_is c Ctu = refl
+standard_is c Ctd = refl
+standard_is c Ctud = refl
+standard_is c Tp = refl
+standard_is c Ton = refl
+standard_is c Tof = refl
 
-pub standard_at : (s : rule.StandardBlock) → slice_get standard_lists (standard_number (block_entry s)) ≡ Some (standard_list (block_entry s))
-standard_at rule.Sr = refl
-standard_at rule.Rs = refl
-standard_at rule.RTrig = refl
-standard_at rule.FTrig = refl
-standard_at rule.Ctu = refl
-standard_at rule.Ctd = refl
-standard_at rule.Ctud = refl
-standard_at rule.Tp = refl
-standard_at rule.Ton = refl
-standard_at rule.Tof = refl
+pub standard_at : (s : StandardBlock) → slice_get standard_lists (standard_number s) ≡ Some (standard_list s)
+standard_at Sr = refl
+standard_at Rs = refl
+standard_at RTrig = refl
+standard_at FTrig = refl
+standard_at Ctu = refl
+standard_at Ctd = refl
+standard_at Ctud = refl
+standard_at Tp = refl
+standard_at Ton = refl
+standard_at Tof = refl
 
 -- the list of a block's variables stands at its number
 pub block_list : (c : Config) (name : Text) (b : BlockType) → block_type c name ≡ Some b → slice_get (block_lists c) (block_place (length c.units) b) ≡ Some (map (shown c) (block_entities c name))
@@ -138,8 +139,8 @@ block_list c name b is = by_case (block_type c name) (which_block c name) is
   where
     by_case : (o : Option BlockType) → IsBlock c name o → o ≡ Some b → slice_get (block_lists c) (block_place (length c.units) b) ≡ Some (map (shown c) (block_entities c name))
     by_case _ (of_standard s o at e) h =
-        ap (λ d. slice_get (block_lists c) (block_place (length c.units) d)) (same_Some b (Standard (block_entry s)) (sym h ∙ e))
-        ∙ at_standard c (λ u. map (shown c) (own_entities u)) standard_lists (standard_number (block_entry s)) ∙ standard_at s ∙ ap Some (sym (ap (map (shown c)) (block_is_standard c name s at) ∙ standard_is c s))
+        ap (λ d. slice_get (block_lists c) (block_place (length c.units) d)) (same_Some b (Standard s) (sym h ∙ e))
+        ∙ at_standard c (λ u. map (shown c) (own_entities u)) standard_lists (standard_number s) ∙ standard_at s ∙ ap Some (sym (ap (map (shown c)) (block_is_standard c name s at) ∙ standard_is c s))
     by_case _ (of_own k o v e) h =
         ap (λ d. slice_get (block_lists c) (block_place (length c.units) d)) (same_Some b (Own k) (sym h ∙ e))
         ∙ at_own c (λ u. map (shown c) (own_entities u)) standard_lists k v.unit v.there ∙ ap (λ es. Some (map (shown c) es)) (sym (block_is_own c name v.unit v.is))

@@ -11,7 +11,11 @@ use Rattle.il_spec.specs.declared.tree.Unit.{Unit as ProgramUnit}
 use Rattle.il_spec.specs.declared.tree.UnitKind.{UnitKind}
 use Rattle.il_spec.specs.declared.tree.UnitKind.TheVariants.{Function, FunctionBlock, Program}
 use Rattle.il_spec.specs.declared.tree.Config.{Config}
-use Rattle.il_rules.specs.Names.{Variable, Origin, AsInput, AsOutput, AsVariable, AsExternal, AsResult, StandardBlock, StandardFunction, BlockVariables, standard_block, standard_variables, standard_function, own_block_variables, entry_of, or_else, named_forms, with_origin, result_of, own_variable, ImageName, image_of, image_name, sees, is_function_kind, is_function_block, is_function_block_kind, is_program, is_program_kind, is_seen_by, program_role, is_predeclared, MeansVariable, MeansUnit, MeansStandard, outer_meaning, meaning, meant_variable, form_named, unit_named, function_block_named, block_variables}
+use Rattle.il_rules.specs.declared.names.StandardFunction.{StandardFunction}
+use Rattle.il_rules.specs.declared.names.StandardBlock.{StandardBlock}
+use Rattle.il_rules.specs.declared.names.Origin.{Origin}
+use Rattle.il_rules.specs.declared.names.Origin.TheVariants.{Input as AsInput, Output as AsOutput, Local as AsVariable, External as AsExternal, FunctionResult as AsResult}
+use Rattle.il_rules.specs.Names.{Variable, BlockVariables, standard_block, standard_variables, standard_function, own_block_variables, entry_of, or_else, named_forms, with_origin, result_of, own_variable, ImageName, image_of, image_name, sees, is_function_kind, is_function_block, is_function_block_kind, is_program, is_program_kind, is_seen_by, program_role, is_predeclared, MeansVariable, MeansUnit, MeansStandard, outer_meaning, meaning, meant_variable, form_named, unit_named, function_block_named, block_variables}
 use Rattle.il_table.specs.NameMap.{Text}
 use Rattle.il_run.specs.Meaning.{Entity, entities, result_entities, uninitialized, own_entities, standard_entities, block_entities, inputs_of, outputs_of}
 use Rattle.il_slots.specs.Cells.{form_in, HasNone, AreNamed}

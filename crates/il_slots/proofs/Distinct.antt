@@ -16,7 +16,9 @@ use Rattle.il_spec.specs.declared.tree.Form.{Form}
 use Rattle.il_spec.specs.declared.tree.Form.TheVariants.{Scalar as ScalarForm, Array as ArrayForm, Block as BlockForm}
 use Rattle.il_spec.specs.declared.tree.UnitKind.{UnitKind}
 use Rattle.il_spec.specs.declared.tree.UnitKind.TheVariants.{Function, FunctionBlock, Program}
-use Rattle.il_rules.specs.Names.{is_program, is_program_kind, ImageName, image_of, image_name, is_predeclared, standard_function, standard_block, standard_variables, StandardBlock, Sr, Rs, RTrig, FTrig, Ctu, Ctd, Ctud, Tp, Ton, Tof, sees}
+use Rattle.il_rules.specs.declared.names.StandardBlock.{StandardBlock}
+use Rattle.il_rules.specs.declared.names.StandardBlock.TheVariants.{Sr, Rs, RTrig, FTrig, Ctu, Ctd, Ctud, Tp, Ton, Tof}
+use Rattle.il_rules.specs.Names.{is_program, is_program_kind, ImageName, image_of, image_name, is_predeclared, standard_function, standard_block, standard_variables, sees}
 use Rattle.il_rules.specs.Declarations.{Admitted, ScalarsAlone, ScalarsAndArrays, admitted_variables, admits_arrays, types_in, unit_types, written_types, unit_declarations, unit_names, names_in, type_numbers, bounds_numbers, subrange_numbers, unless, has_value, is_within, sizes_of, predeclared_unit, predeclared_variable, second_variable, second_global, size_outside}
 use Rattle.il_rules.specs.Faults.{duplicate, initial_outside, HasNoFault, Broken, Declaring}
 use Rattle.il_rules.specs.Written.{IsWord, IsWritten}

@@ -11,7 +11,9 @@ use Rattle.il_spec.specs.declared.tree.Form.{Form}
 use Rattle.il_spec.specs.declared.tree.Form.TheVariants.{Scalar as ScalarForm, Array as ArrayForm, Block as BlockForm}
 use Rattle.il_spec.specs.declared.tree.Unit.{Unit as ProgramUnit}
 use Rattle.il_spec.specs.declared.tree.Config.{Config}
-use Rattle.il_rules.specs.Names.{or_else, entry_of, block_variables, form_named, StandardBlock, Sr, Rs, RTrig, FTrig, Ctu, Ctd, Ctud, Tp, Ton, Tof, standard_variables}
+use Rattle.il_rules.specs.declared.names.StandardBlock.{StandardBlock}
+use Rattle.il_rules.specs.declared.names.StandardBlock.TheVariants.{Sr, Rs, RTrig, FTrig, Ctu, Ctd, Ctud, Tp, Ton, Tof}
+use Rattle.il_rules.specs.Names.{or_else, entry_of, block_variables, form_named, standard_variables}
 use Rattle.il_rules.specs.Declarations.{is_within}
 use Rattle.il_table.specs.NameMap.{Text}
 use Rattle.il_run.specs.Meaning.{Entity, standard_entities, under, member_path, element_path, width, block_entities, inputs_of, outputs_of, denotation, inside, width_of, direct, element_of, indexed_by, member_of}

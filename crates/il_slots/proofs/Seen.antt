@@ -13,11 +13,12 @@ use Rattle.il_slots.specs.declared.variables.Part.TheVariants.{Common, OfRole}
 use Rattle.std.specs.Prelude.{option_map, if◌then◌else◌, ◌&&◌, filter, not, flat_map}
 use Rattle.il_spec.specs.declared.tree.Unit.{Unit as ProgramUnit}
 use Rattle.il_spec.specs.declared.tree.Config.{Config}
-use Rattle.il_rules.specs.Names.{ImageName, Audience, Everybody, CarPrograms, GroupPrograms, Role, image_of, is_program, is_seen_by, program_role}
+use Rattle.il_rules.specs.declared.names.Audience.{Audience}
+use Rattle.il_rules.specs.declared.names.Audience.TheVariants.{Everybody, CarPrograms, GroupPrograms}
+use Rattle.il_rules.specs.declared.names.Role.{Role}
+use Rattle.il_rules.specs.Names.{ImageName, image_of, is_program, is_seen_by, program_role}
 use Rattle.il_rules.specs.Names as rule
 use Rattle.il_run.specs.Meaning.{Entity, entities, own_entities, result_entities}
-use Rattle.il_scope.specs.Entries.{audience_entry, role_entry}
-use Rattle.il_scope.specs.declared.entry.Role.{Role as ScopeRole}
 use Rattle.il_scope.specs.declared.image.ImageRow.{ImageRow}
 use Rattle.il_scope.specs.Images.{named, image_entries}
 use Rattle.il_scope.proofs.Seen.{seen_is}
@@ -87,19 +88,19 @@ function_added c u xs ys p q =
 -- THE IMAGE
 
 -- the two parts of the image
-common_is : (v : rule.Variable) (a : Audience) → is_in_part Common (audience_entry a) ≡ is_common (record { variable = v; audience = a })
+common_is : (v : rule.Variable) (a : Audience) → is_in_part Common a ≡ is_common (record { variable = v; audience = a })
 common_is v Everybody = refl
 common_is v CarPrograms = refl
 common_is v GroupPrograms = refl
 
-rest_is : (v : rule.Variable) (a : Audience) → is_in_part OfRole (audience_entry a) ≡ not (is_common (record { variable = v; audience = a }))
+rest_is : (v : rule.Variable) (a : Audience) → is_in_part OfRole a ≡ not (is_common (record { variable = v; audience = a }))
 rest_is v Everybody = refl
 rest_is v CarPrograms = refl
 rest_is v GroupPrograms = refl
 
 -- what programs of a role see of one part of the image
-part_is : (c : Config) (r : Option Role) (part : Part) (p : ImageName → Bool) → ((i : ImageName) → is_in_part part (audience_entry i.audience) ≡ p i) → (is : List ImageName)
-    → map (shown c) (shown_to true r (filter p is)) ≡ flat_map (seen_entry (option_map role_entry r) part) (map (λ i. (i.variable.name, image_entry c i)) is)
+part_is : (c : Config) (r : Option Role) (part : Part) (p : ImageName → Bool) → ((i : ImageName) → is_in_part part i.audience ≡ p i) → (is : List ImageName)
+    → map (shown c) (shown_to true r (filter p is)) ≡ flat_map (seen_entry r part) (map (λ i. (i.variable.name, image_entry c i)) is)
 part_is c r part p parts [] = refl
 part_is c r part p parts (i ∷ is) =
     by (p i) (is_seen_by r i.audience) refl (part_is c r part p parts is)
@@ -109,7 +110,7 @@ part_is c r part p parts (i ∷ is) =
     one = variable i.variable.name (type_of c i.variable.form) None ∷ []
 
     rest : List Variable
-    rest = flat_map (seen_entry (option_map role_entry r) part) (map (λ (j : ImageName). (j.variable.name, image_entry c j)) is)
+    rest = flat_map (seen_entry r part) (map (λ (j : ImageName). (j.variable.name, image_entry c j)) is)
 
     by : (b d : Bool) → is_seen_by r i.audience ≡ d → map (shown c) (shown_to true r (filter p is)) ≡ rest → map (shown c) (shown_to true r (if b then i ∷ filter p is else filter p is)) ≡ (if b && d then one else []) ++ rest
     by true true e same = ap (λ x. map (shown c) (if x then record { name = i.variable.name; form = i.variable.form; initial = None } ∷ shown_to true r (filter p is) else shown_to true r (filter p is))) e ∙ ap (λ vs. one ++ vs) same
@@ -117,7 +118,7 @@ part_is c r part p parts (i ∷ is) =
     by false d e same = same
 
 pub image_added : (c : Config) (list : List Variable) (u : ProgramUnit) → is_program u ≡ true
-    → added list (map (shown c) (seen_image c u)) ≡ with_image list c (option_map role_entry (program_role c u.name.name c.programs))
+    → added list (map (shown c) (seen_image c u)) ≡ with_image list c (program_role c u.name.name c.programs)
 image_added c list u is =
     added_both c list (seen_among c u (filter is_common all)) (seen_among c u (filter (λ i. not (is_common i)) all))
     ∙ ap₂ (λ xs ys. added (added list xs) ys) (seen Common is_common (λ i. common_is i.variable i.audience)) (seen OfRole (λ i. not (is_common i)) (λ i. rest_is i.variable i.audience))
@@ -128,11 +129,11 @@ image_added c list u is =
     r : Option Role
     r = program_role c u.name.name c.programs
 
-    seen : (part : Part) (p : ImageName → Bool) → ((i : ImageName) → is_in_part part (audience_entry i.audience) ≡ p i) → map (shown c) (seen_among c u (filter p all)) ≡ flat_map (seen_entry (option_map role_entry r) part) (image_entries c)
+    seen : (part : Part) (p : ImageName → Bool) → ((i : ImageName) → is_in_part part i.audience ≡ p i) → map (shown c) (seen_among c u (filter p all)) ≡ flat_map (seen_entry r part) (image_entries c)
     seen part p parts = ap (map (shown c)) (shown_is c u (filter p all) ∙ ap (λ b. shown_to b r (filter p all)) is) ∙ part_is c r part p parts all
 
 -- both parts, by the rows of the table
-pub parts_added : (c : Config) (role : Option ScopeRole) (rows : List ImageRow) (list mid last : List Variable) → map (named c) rows ≡ image_entries c → mid ≡ added list (flat_map (seen_entry role Common) (map (named c) rows)) → last ≡ added mid (flat_map (seen_entry role OfRole) (map (named c) rows))
+pub parts_added : (c : Config) (role : Option Role) (rows : List ImageRow) (list mid last : List Variable) → map (named c) rows ≡ image_entries c → mid ≡ added list (flat_map (seen_entry role Common) (map (named c) rows)) → last ≡ added mid (flat_map (seen_entry role OfRole) (map (named c) rows))
     → last ≡ with_image list c role
 parts_added c role rows list mid last are first second =
     second ∙ ap (λ l. added l (flat_map (seen_entry role OfRole) (map (named c) rows))) first

@@ -8,7 +8,8 @@ use Rattle.il_spec.specs.declared.tree.Form.{Form}
 use Rattle.il_spec.specs.declared.tree.Form.TheVariants.{Scalar as ScalarForm, Array as ArrayForm, Block as BlockForm}
 use Rattle.il_spec.specs.declared.tree.Unit.{Unit as ProgramUnit}
 use Rattle.il_spec.specs.declared.tree.Config.{Config}
-use Rattle.il_rules.specs.Names.{or_else, ImageName, image_of, image_name, sees, is_predeclared, StandardBlock, standard_block, standard_variables, unit_named, function_block_named}
+use Rattle.il_rules.specs.declared.names.StandardBlock.{StandardBlock}
+use Rattle.il_rules.specs.Names.{or_else, ImageName, image_of, image_name, sees, is_predeclared, standard_block, standard_variables, unit_named, function_block_named}
 use Rattle.il_table.specs.NameMap.{Text}
 use Rattle.il_run.specs.Meaning.{Entity, width, own_entities, standard_entities, block_entities}
 use Rattle.il_slots.specs.declared.flat.Cell.{Cell}

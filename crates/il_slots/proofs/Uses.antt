@@ -7,7 +7,9 @@ use Rattle.il_spec.specs.declared.tree.Form.{Form}
 use Rattle.il_spec.specs.declared.tree.Form.TheVariants.{Scalar as ScalarForm, Array as ArrayForm, Block as BlockForm}
 use Rattle.il_spec.specs.declared.tree.Unit.{Unit as ProgramUnit}
 use Rattle.il_spec.specs.declared.tree.Config.{Config}
-use Rattle.il_rules.specs.Names.{StandardBlock, Sr, Rs, RTrig, FTrig, Ctu, Ctd, Ctud, Tp, Ton, Tof, standard_block, standard_variables, is_predeclared, unit_named, function_block_named}
+use Rattle.il_rules.specs.declared.names.StandardBlock.{StandardBlock}
+use Rattle.il_rules.specs.declared.names.StandardBlock.TheVariants.{Sr, Rs, RTrig, FTrig, Ctu, Ctd, Ctud, Tp, Ton, Tof}
+use Rattle.il_rules.specs.Names.{standard_block, standard_variables, is_predeclared, unit_named, function_block_named}
 use Rattle.il_rules.specs.Declarations.{predeclared_unit}
 use Rattle.il_rules.specs.Faults.{duplicate, HasNoFault, Broken, Declaring}
 use Rattle.il_table.specs.NameMap.{Text}

@@ -4,7 +4,9 @@ use Rattle.il_spec.specs.declared.tree.Form.{Form}
 use Rattle.il_spec.specs.declared.tree.Form.TheVariants.{Scalar as ScalarForm, Array as ArrayForm, Block as BlockForm}
 use Rattle.il_spec.specs.declared.tree.Unit.{Unit as ProgramUnit}
 use Rattle.il_spec.specs.declared.tree.Config.{Config}
-use Rattle.il_rules.specs.Names.{ImageName, Audience, Everybody, CarPrograms, GroupPrograms, image_of, image_name, sees, unit_named}
+use Rattle.il_rules.specs.declared.names.Audience.{Audience}
+use Rattle.il_rules.specs.declared.names.Audience.TheVariants.{Everybody, CarPrograms, GroupPrograms}
+use Rattle.il_rules.specs.Names.{ImageName, image_of, image_name, sees, unit_named}
 use Rattle.il_table.specs.NameMap.{Text}
 use Rattle.il_run.specs.Meaning.{Entity, width, entities, own_entities, result_entities, block_entities}
 use Rattle.il_run.specs.Scan.{used_names, found_units}

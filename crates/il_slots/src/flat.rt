@@ -1,7 +1,7 @@
 // Flat code.
 
 use il_run::value::Content;
-use il_scope::entry::{StandardBlock, StandardFunction};
+use il_rules::names::{StandardBlock, StandardFunction};
 use il_spec::list::Items;
 use il_spec::name::Name;
 use il_spec::tree::{Condition, Elementary, Operator, Scalar, Store, Subrange};

@@ -4,7 +4,7 @@ ghost use Rattle.std.specs.Prelude.{◌≡◌, ◌++◌, ◌∷◌, [], OnOk};
 ghost use Rattle.il_slots.specs.Making.{added, flag, ctu_list, ctd_list, ctud_list, timer_list, tp_list, standard_list, standard_number, standard_lists};
 
 use crate::variables::{Variable, add_scalars, plain};
-use il_scope::entry::StandardBlock;
+use il_rules::names::StandardBlock;
 use il_spec::list::Items;
 use il_spec::tree::Elementary;
 use std::alloc::{AllocError, Global};

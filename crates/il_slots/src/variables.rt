@@ -4,7 +4,6 @@ ghost use Rattle.std.specs.Prelude.{◌≡◌, ◌++◌, ◌∷◌, [], map, fla
 ghost use Rattle.il_spec.specs.ElementaryTypes.{plain};
 ghost use Rattle.il_rules.specs.Names.{is_program_kind, program_role};
 ghost use Rattle.il_run.specs.Meaning.{entities, initial_value, own_entities, result_entities};
-ghost use Rattle.il_scope.specs.Entries.{role_entry};
 ghost use Rattle.il_scope.specs.Views.{type_of};
 ghost use Rattle.il_scope.specs.Images.{named};
 ghost use Rattle.il_slots.specs.Making.{variable, shown, added, one, is_in_part, seen_entry, with_image};
@@ -12,7 +11,8 @@ ghost use Rattle.il_slots.specs.Flattened.{function_entities};
 ghost use Rattle.il_slots.specs.Places.{seen_image, unit_entities};
 
 use il_run::value::Value;
-use il_scope::entry::{Audience, Role, VariableType};
+use il_rules::names::{Audience, Role};
+use il_scope::entry::VariableType;
 use il_scope::{ImageRow, Scoped, image_rows, is_program, is_seen_by};
 use il_spec::list::Items;
 use il_spec::name::Name;

@@ -14,13 +14,14 @@ use Rattle.il_spec.specs.declared.tree.UnitKind.TheVariants.{Function, FunctionB
 use Rattle.il_spec.specs.declared.tree.Place.{Place}
 use Rattle.il_spec.specs.declared.tree.ProgramLine.{ProgramLine}
 use Rattle.il_table.specs.NameMap.{NameMap, get, insert, empty, get-empty}
+use Rattle.il_rules.specs.declared.names.Origin.{Origin}
+use Rattle.il_rules.specs.declared.names.Origin.TheVariants.{Input as AsInput, Output as AsOutput, Local as AsVariable, External as AsExternal, FunctionResult as AsResult, ReadImage as AsReadImage, WrittenImage as AsWrittenImage}
 use Rattle.il_rules.specs.Names as rule
-use Rattle.il_rules.specs.Names.{Spelling, ImageName, image_of, image_name, own_variable, variables_of, result_of, with_origin, named_forms, program_named, or_else, Meaning, MeansVariable, MeansUnit, MeansStandard, meaning, sees, outer_meaning, unit_named, is_predeclared, global_meaning, AsInput, AsOutput, AsVariable, AsExternal, AsResult, AsReadImage, AsWrittenImage}
+use Rattle.il_rules.specs.Names.{Spelling, ImageName, image_of, image_name, own_variable, variables_of, result_of, with_origin, named_forms, program_named, or_else, Meaning, MeansVariable, MeansUnit, MeansStandard, meaning, sees, outer_meaning, unit_named, is_predeclared, global_meaning}
 use Rattle.il_rules.specs.Types.{IsExternalOf, TaskWrites, stored_names}
 use Rattle.il_found.specs.Least.{NumberedFault, IsLeast}
 use Rattle.il_found.proofs.Least.{least_same}
 use Rattle.il_results.specs.Faults.{HasStoreOfTwo}
-use Rattle.il_scope.specs.Entries.{origin_entry}
 use Rattle.il_scope.specs.Views.{binding_of}
 use Rattle.il_scope.proofs.Filled.{get-inserted}
 use Rattle.il_declare.proofs.Members.{in_flat, from_flat}
@@ -30,7 +31,7 @@ use Rattle.il_typed.specs.Writers.{is_external, is_external_of, is_external_orig
 
 -- EXTERNALS
 
-same_origin : (o : rule.Origin) → is_external_origin (origin_entry o) ≡ is_external_of o
+same_origin : (o : Origin) → is_external_origin o ≡ is_external_of o
 same_origin AsInput = refl
 same_origin AsOutput = refl
 same_origin AsVariable = refl
@@ -84,7 +85,7 @@ external_is : (unit : ProgramUnit) (name : Spelling) → is_external unit name �
 unfolding is_external
 external_is unit name e = by_own (own_variable unit name) e
   where
-    by_origin : (o : rule.Origin) → is_external_of o ≡ true → Some o ≡ Some AsExternal
+    by_origin : (o : Origin) → is_external_of o ≡ true → Some o ≡ Some AsExternal
     by_origin AsInput e = let bad : false ≡ true = e in cc
     by_origin AsOutput e = let bad : false ≡ true = e in cc
     by_origin AsVariable e = let bad : false ≡ true = e in cc
@@ -101,12 +102,12 @@ is_external_there : (unit : ProgramUnit) (name : Spelling) → IsExternalOf unit
 unfolding is_external
 is_external_there unit name e = by_own (own_variable unit name) e
   where
-    same : (a b : rule.Origin) → Some a ≡ Some b → a ≡ b
+    same : (a b : Origin) → Some a ≡ Some b → a ≡ b
     same a b e = cc
 
     by_own : (o : Option rule.Variable) → option_map (λ v. v.origin) o ≡ Some AsExternal → is_external_variable o ≡ true
     by_own (Some v) e = ap is_external_of (same v.origin AsExternal e)
-    by_own None e = let bad : ◌≡◌ {A = Option rule.Origin} None (Some AsExternal) = e in cc
+    by_own None e = let bad : ◌≡◌ {A = Option Origin} None (Some AsExternal) = e in cc
 
 -- a unit without externals has no external of any name
 module _ (test : rule.Variable → Bool) where
@@ -118,7 +119,7 @@ module _ (test : rule.Variable → Bool) where
       by_first true is further = is
       by_first false is further = further is
 
-  no_external_of_origin : (o : rule.Origin) (vs : List (Spelling × Form)) → is_external_of o ≡ false → is_external_variable (find test (map (λ v. record { name = v.0; form = v.1; origin = o }) vs)) ≡ false
+  no_external_of_origin : (o : Origin) (vs : List (Spelling × Form)) → is_external_of o ≡ false → is_external_variable (find test (map (λ v. record { name = v.0; form = v.1; origin = o }) vs)) ≡ false
   no_external_of_origin o [] none = refl
   no_external_of_origin o (v ∷ vs) none = by_first (test (record { name = v.0; form = v.1; origin = o })) (no_external_of_origin o vs none)
     where

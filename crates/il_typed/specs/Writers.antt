@@ -7,13 +7,15 @@ use Rattle.il_spec.specs.declared.tree.ProgramLine.{ProgramLine}
 use Rattle.il_spec.specs.declared.tree.Step.{Step}
 use Rattle.il_spec.specs.declared.tree.Place.{Place}
 use Rattle.il_table.specs.NameMap.{NameMap, get, insert}
-use Rattle.il_rules.specs.Names.{Spelling, Variable, Origin, AsInput, AsOutput, AsVariable, AsExternal, AsResult, AsReadImage, AsWrittenImage, own_variable, program_named}
+use Rattle.il_rules.specs.declared.names.Origin.{Origin}
+use Rattle.il_rules.specs.declared.names.Origin.TheVariants.{Input as AsInput, Output as AsOutput, Local as AsVariable, External as AsExternal, FunctionResult as AsResult, ReadImage as AsReadImage, WrittenImage as AsWrittenImage}
+use Rattle.il_rules.specs.Names.{Spelling, Variable, own_variable, program_named}
 use Rattle.il_rules.specs.Types.{stored_names}
 use Rattle.il_found.specs.Least.{When, Below}
 use Rattle.il_scope.specs.declared.entry.Binding.{Binding}
 use Rattle.il_scope.specs.declared.entry.Binding.TheVariants as means
-use Rattle.il_scope.specs.declared.entry.Origin.{Origin as WrittenOrigin}
-use Rattle.il_scope.specs.declared.entry.Origin.TheVariants as written
+use Rattle.il_rules.specs.declared.names.Origin.{Origin as WrittenOrigin}
+use Rattle.il_rules.specs.declared.names.Origin.TheVariants as written
 use Rattle.il_typed.specs.declared.writers.Writer.{Writer}
 use Rattle.il_typed.specs.declared.writers.Writer.TheVariants.{Task, Several}
 

@@ -3,9 +3,9 @@
 ghost use Rattle.std.specs.Prelude.{◌≡◌, Some, is_some, map, option_and_then, option_map, slice_get};
 ghost use Rattle.il_spec.specs.declared.tree.Config.{Config as Configuration};
 ghost use Rattle.il_spec.specs.declared.tree.Form.{Form};
-ghost use Rattle.il_rules.specs.Names.{Origin as Origins, entry_of, variable_named};
+ghost use Rattle.il_rules.specs.declared.names.Origin.{Origin as Origins};
+ghost use Rattle.il_rules.specs.Names.{entry_of, variable_named};
 ghost use Rattle.il_rules.specs.Types as rules;
-ghost use Rattle.il_scope.specs.Entries.{origin_entry};
 ghost use Rattle.il_scope.specs.Views.{type_of, variable_of, variables_of_block};
 ghost use Rattle.il_typed.specs.Units.{input_types};
 ghost use Rattle.il_typed.specs.Writers.{is_external, is_meant_external};
@@ -14,7 +14,8 @@ use crate::fault::{LowestFault, TypeFault, unless};
 use crate::scope::{Scope, Target};
 use crate::unit_inputs::InputTypes;
 use il_scope::Scoped;
-use il_scope::entry::{Binding, BlockType, Origin, StandardFunction, Variable, VariableType};
+use il_rules::names::{Origin, StandardFunction};
+use il_scope::entry::{Binding, BlockType, Variable, VariableType};
 use il_scope::functions::standard_function;
 use il_spec::tree::{Elementary, Operand, Unit, UnitKind};
 use std::marker::Model;
@@ -76,7 +77,7 @@ fn block_of(declared: VariableType) -> Option<BlockType>
 
 // Whether a body may write a variable.
 fn is_written(origin: Origin) -> bool
-    ensures { (o : Origins) → origin ≡ origin_entry o → result ≡ rules.origin_is_written o }
+    ensures { (o : Origins) → origin ≡ o → result ≡ rules.origin_is_written o }
 {
     !matches!(origin, Origin::Input | Origin::ReadImage)
 }

@@ -10,7 +10,9 @@ use Rattle.il_spec.specs.declared.tree.Scalar.{Scalar}
 use Rattle.il_spec.specs.declared.tree.Subrange.{Subrange}
 use Rattle.il_spec.specs.declared.tree.ProgramLine.{ProgramLine}
 use Rattle.il_spec.specs.declared.tree.Unit.{Unit as ProgramUnit}
-use Rattle.il_rules.specs.Names.{ImageName, Role, CarRole, GroupRole, is_seen_by, image_of, program_named, program_role, task_role}
+use Rattle.il_rules.specs.declared.names.Role.{Role}
+use Rattle.il_rules.specs.declared.names.Role.TheVariants.{Car as CarRole, Group as GroupRole}
+use Rattle.il_rules.specs.Names.{ImageName, is_seen_by, image_of, program_named, program_role, task_role}
 use Rattle.il_rules.specs.Declarations.{is_within, sizes_of as sizes_with_limits, size_outside, other_role}
 use Rattle.il_rules.specs.Faults.{HasNoFault, Broken, Declaring, initial_outside, bad_task}
 use Rattle.il_table.specs.NameMap.{Text}

@@ -13,7 +13,9 @@ use Rattle.il_spec.specs.declared.tree.Form.{Form}
 use Rattle.il_spec.specs.declared.tree.Unit.{Unit as ProgramUnit}
 use Rattle.il_interval.specs.declared.Interval.{Interval}
 use Rattle.il_interval.specs.Interval.{IsWithin}
-use Rattle.il_rules.specs.Names.{Role, CarRole, Variable, ImageName, is_seen_by, image_of, is_predeclared, is_program, program_named, task_role, program_role, image_name, standard_function, standard_block, meaning, MeansVariable, MeansUnit, MeansStandard, meant_variable, outer_meaning, unit_named, or_else}
+use Rattle.il_rules.specs.declared.names.Role.{Role}
+use Rattle.il_rules.specs.declared.names.Role.TheVariants.{Car as CarRole}
+use Rattle.il_rules.specs.Names.{Variable, ImageName, is_seen_by, image_of, is_predeclared, is_program, program_named, task_role, program_role, image_name, standard_function, standard_block, meaning, MeansVariable, MeansUnit, MeansStandard, meant_variable, outer_meaning, unit_named, or_else}
 use Rattle.il_rules.specs.Declarations.{IsAgain, IsTypeBroken, IsInitialBroken, IsNameBroken, IsExternal, IsDuplicate, predeclared_unit, second_unit, predeclared_variable, variable_as_unit, second_variable, second_label, predeclared_global, global_as_unit, second_global, second_task, second_program_line, IsUnknown, unknown_type, unknown_global, unknown_name, IsInitialOutside, initial_outside as outside, size_outside, IsBadTask, foreign_task, unknown_task, second_line, unknown_program, other_role, missing_task, missing_line, unused_program, HasOtherType, type_misplaced, initial_of_other_type, external_differs, name_of_other_type, unit_names, labels_of, names_of_tasks, is_within}
 use Rattle.il_rules.specs.Faults.{duplicate, unknown, empty_range, initial_outside, bad_task, other_type, Declaring, Typing, of_instruction, unknown_label as of_unknown_label, backward_jump, two_writers as of_two_writers, unreached as of_unreached, recursive as of_recursive, long_chain as of_long_chain, too_many_slots as of_slots, HasNoFault, Broken}
 use Rattle.il_rules.specs.Order.{Uses, calls, declares, IsChain, UsesThrough, recursive, long_chain}

@@ -3,7 +3,11 @@ use Rattle.std.specs.Prelude.{◌≡◌, ℕ, zero, suc, ◌≤◌, Bool, true, 
 use Rattle.il_spec.specs.declared.tree.Config.{Config}
 use Rattle.il_spec.specs.declared.tree.Scalar.{Scalar}
 use Rattle.il_spec.specs.declared.tree.Unit.{Unit as ProgramUnit}
-use Rattle.il_rules.specs.Names.{ImageName, Origin, AsWrittenImage, Role, GroupRole, CarRole, is_seen_by, image_of}
+use Rattle.il_rules.specs.declared.names.Origin.{Origin}
+use Rattle.il_rules.specs.declared.names.Origin.TheVariants.{WrittenImage as AsWrittenImage}
+use Rattle.il_rules.specs.declared.names.Role.{Role}
+use Rattle.il_rules.specs.declared.names.Role.TheVariants.{Car as CarRole, Group as GroupRole}
+use Rattle.il_rules.specs.Names.{ImageName, is_seen_by, image_of}
 use Rattle.il_table.specs.NameMap.{Text}
 use Rattle.il_run.specs.Ranges.{entity_scalars}
 use Rattle.il_run.specs.Paths.{longest}

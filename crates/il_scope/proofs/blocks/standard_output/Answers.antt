@@ -1,5 +1,5 @@
 use Rattle.std.proofs.Common.{ap, ◌∙◌, option_map}
-use Rattle.il_scope.specs.Entries.{word_form}
+use Rattle.il_scope.specs.Standard.{word_form}
 use Rattle.il_scope.proofs.Known.{output_is}
 use Rattle.il_scope.proofs.blocks.standard_output.Goals as goal
 

@@ -1,5 +1,5 @@
 use Rattle.std.proofs.Common.{subst}
-use Rattle.il_scope.specs.declared.entry.Origin.TheVariants.{Input, Output, Local, External}
+use Rattle.il_rules.specs.declared.names.Origin.TheVariants.{Input, Output, Local, External}
 use Rattle.il_scope.specs.Tables.{HasList}
 use Rattle.il_scope.proofs.Seen.{own_filled}
 use Rattle.il_scope.proofs.tables.variable_table.Goals as goal
