@@ -17,9 +17,9 @@ use Rattle.il_spec.specs.declared.tree.Instruction.TheVariants as instruction
 use Rattle.il_spec.specs.declared.tree.Step.{Step}
 use Rattle.il_spec.specs.declared.tree.Body.{Body}
 use Rattle.il_spec.specs.Grammar.{Front, At, skip_line_ends, Repeats, TheWord, SpellsOperator, SpellsShortly, SpellsAmpersand, SpellsInstruction, SpellsLabelled, SpellsStep, SpellsLabelLine, may_stand, closes, leaves, is_load, depth_after, needs_load, is_nested, greatest_depth}
-use Rattle.il_grammar.proofs.Leads.{at_holds, reserved}
-use Rattle.il_grammar.proofs.Instructions.{sort_at, none}
-use Rattle.il_grammar.proofs.Bodies.{step_one, step_no_end}
+use Rattle.il_grammar_laws.proofs.Leads.{at_holds, reserved}
+use Rattle.il_grammar_laws.proofs.Instructions.{sort_at, none}
+use Rattle.il_grammar_laws.proofs.Bodies.{step_one, step_no_end}
 use Rattle.il_read.specs.Lead.{lead_at}
 use Rattle.il_read.specs.Reads.{IsFault, Reads, Refuses, HasRoom, IsPlaceOf, SpellsRoomy}
 use Rattle.il_read.specs.declared.lead.Lead.{Lead}

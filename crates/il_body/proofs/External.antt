@@ -6,8 +6,8 @@ use Rattle.il_spec.specs.declared.tree.Named.{Named}
 use Rattle.il_spec.specs.declared.tree.WrittenType.{WrittenType}
 use Rattle.il_spec.specs.declared.tree.Initial.{Initial}
 use Rattle.il_spec.specs.Grammar.{loose, ◌⋯◌, Listed, TheSign, TheName, SpellsType, SpellsInitial, SpellsExternal}
-use Rattle.il_grammar.proofs.Leads.{sign_sure, the_name_one}
-use Rattle.il_grammar.proofs.Types.{type_one}
+use Rattle.il_grammar_laws.proofs.Leads.{sign_sure, the_name_one}
+use Rattle.il_grammar_laws.proofs.Types.{type_one}
 use Rattle.il_read.specs.Reads.{Reads, Refuses, Stands, Misses}
 use Rattle.il_read.specs.declared.stop.Stop.{Stop}
 use Rattle.il_read.proofs.Chain.{first, later, behind, first_missing, last_missing}

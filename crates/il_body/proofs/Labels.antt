@@ -6,9 +6,9 @@ use Rattle.il_spec.specs.declared.tree.Place.{Place}
 use Rattle.il_spec.specs.declared.tree.Named.{Named}
 use Rattle.il_spec.specs.declared.tree.Instruction.{Instruction}
 use Rattle.il_spec.specs.Grammar.{Front, One, At, skip_line_ends, Repeats, TheWord, TheLineEnd, AName, SpellsInstruction, SpellsLabel, SpellsLabelled, SpellsLabelLine}
-use Rattle.il_grammar.proofs.Leads.{at_holds, line_end_sure}
-use Rattle.il_grammar.proofs.Instructions.{instruction_no_label}
-use Rattle.il_grammar.proofs.Bodies.{skip_one, label_one}
+use Rattle.il_grammar_laws.proofs.Leads.{at_holds, line_end_sure}
+use Rattle.il_grammar_laws.proofs.Instructions.{instruction_no_label}
+use Rattle.il_grammar_laws.proofs.Bodies.{skip_one, label_one}
 use Rattle.il_read.proofs.Leaves.{word_lead}
 use Rattle.il_read.proofs.Settings.{label_lead}
 use Rattle.il_read.proofs.Chain.{regroup}

@@ -5,9 +5,9 @@ use Rattle.il_spec.specs.declared.keyword.Keyword.{Keyword}
 use Rattle.il_spec.specs.declared.keyword.Keyword.TheVariants as word
 use Rattle.il_spec.specs.declared.tree.Declaration.{Declaration}
 use Rattle.il_spec.specs.Grammar.{Front, ◌⋯◌, skip_line_ends, Repeats, TheWord, SpellsDeclaration, SpellsList, SpellsFilledList, SpellsOptionalList}
-use Rattle.il_grammar.proofs.Leads.{word_sure, word_lead}
-use Rattle.il_grammar.specs.One.{IsDeterministic}
-use Rattle.il_grammar.proofs.Types.{declaration_lead, declarations_one}
+use Rattle.il_grammar_laws.proofs.Leads.{word_sure, word_lead}
+use Rattle.il_grammar_laws.specs.One.{IsDeterministic}
+use Rattle.il_grammar_laws.proofs.Types.{declaration_lead, declarations_one}
 use Rattle.il_read.specs.Reads.{IsFault, Reads, Refuses, Stands}
 use Rattle.il_read.specs.Settings.{StandsThere}
 use Rattle.il_read.specs.declared.stop.Stop.{Stop}

@@ -13,9 +13,9 @@ use Rattle.il_spec.specs.declared.tree.UnitKind.{UnitKind}
 use Rattle.il_spec.specs.declared.tree.UnitKind.TheVariants as unit
 use Rattle.il_spec.specs.declared.tree.Unit.{Unit as ProgramUnit}
 use Rattle.il_spec.specs.Grammar.{TheWord, SpellsFilledList, SpellsBody, unit_word}
-use Rattle.il_grammar.specs.One.{IsDeterministic}
-use Rattle.il_grammar.proofs.Leads.{word_lead, at_holds}
-use Rattle.il_grammar.proofs.Units.{unit_lead, unit_one}
+use Rattle.il_grammar_laws.specs.One.{IsDeterministic}
+use Rattle.il_grammar_laws.proofs.Leads.{word_lead, at_holds}
+use Rattle.il_grammar_laws.proofs.Units.{unit_lead, unit_one}
 use Rattle.il_read.specs.Reads.{Reads, Refuses}
 use Rattle.il_read.specs.declared.stop.Stop.{Stop}
 use Rattle.il_body.specs.Bodies.{SpellsSmallBody}

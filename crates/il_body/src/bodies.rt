@@ -8,9 +8,9 @@ ghost use Rattle.il_body.specs.Bodies.{closes_lead, leaves_lead, loads_lead, may
 
 use il_read::{Flaw, Lead, Source, Stop, Tokens};
 use il_spec::keyword::Keyword;
-use il_spec::list::Items;
 use il_spec::token::{Kind, Sign};
 use il_spec::tree::{Body, Instruction, Named, Place, Step};
+use lists::Items;
 
 /// What comes next in a body: an instruction with its labels, or the end with those that name it.
 #[derive(Drop)]

@@ -7,9 +7,9 @@ ghost use Rattle.il_body.specs.Headings.{PlacedScalar, SpellsResultAt, SpellsPro
 use crate::insides::{block_inside, function_inside, program_inside};
 use il_read::{Source, Stop, Tokens};
 use il_spec::keyword::Keyword;
-use il_spec::list::Items;
 use il_spec::token::Sign;
 use il_spec::tree::{Body, Declaration, Named, Place, Scalar};
+use lists::Items;
 
 // A scalar type with its place.
 fn placed_scalar(source: &Source, tokens: &mut Tokens) -> Result<(Place, Scalar), Stop>

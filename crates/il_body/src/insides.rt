@@ -8,8 +8,8 @@ use crate::bodies::body;
 use crate::lists::{externals, filled_list, full_list, no_list, optional_list};
 use il_read::{Source, Stop, Tokens};
 use il_spec::keyword::Keyword;
-use il_spec::list::Items;
 use il_spec::tree::{Body, Declaration};
+use lists::Items;
 
 /// The variables and the externals of a program, and its body.
 pub fn program_inside(

@@ -9,9 +9,9 @@ ghost use Rattle.il_body.specs.Lists.{SpellsFull, SpellsExternalsInside};
 
 use il_read::{Source, Stop, Tokens};
 use il_spec::keyword::Keyword;
-use il_spec::list::Items;
 use il_spec::token::Sign;
 use il_spec::tree::Declaration;
+use lists::Items;
 
 /// Whether the word comes next, behind any line ends.
 pub fn comes(source: &Source, tokens: &Tokens, keyword: Keyword) -> bool

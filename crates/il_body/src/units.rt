@@ -8,8 +8,8 @@ ghost use Rattle.il_body.specs.Units.{SpellsSmallUnit, SpellsUnitOf};
 use crate::headings::{block, function, program};
 use il_read::{Source, Stop, Tokens};
 use il_spec::keyword::Keyword;
-use il_spec::list::Items;
 use il_spec::tree::{Unit, UnitKind};
+use lists::Items;
 
 // A program.
 fn program_unit(source: &Source, tokens: &mut Tokens) -> Result<Unit, Stop>

@@ -15,8 +15,8 @@ use Rattle.il_scope.specs.Views.{program_number}
 use Rattle.il_scope.proofs.Laws.{program_found}
 use Rattle.il_found.specs.Least.{NumberedFault, fault_of, IsLeast, When}
 use Rattle.il_found.proofs.Least.{least_same, least_if}
-use Rattle.il_costs.specs.Forward.{HasLongest}
-use Rattle.il_costs.proofs.Accepted.{forward, same, has_longest}
+use Rattle.il_cost_laws.specs.Forward.{HasLongest}
+use Rattle.il_cost_laws.proofs.Accepted.{forward, same, has_longest}
 use Rattle.il_budget.specs.Tables.{capped, number_or, number_at, rests_above}
 use Rattle.il_budget.specs.Rounds.{unit_ways, rounds, line_at, followed}
 use Rattle.il_budget.specs.Units.{AreOver, AreExact, kept_path, cost_at, task_cost}

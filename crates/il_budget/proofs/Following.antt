@@ -12,8 +12,8 @@ use Rattle.il_spec.specs.declared.tree.Instruction.TheVariants.{Load, Store, Not
 use Rattle.il_rules.specs.Types.{label_place}
 use Rattle.il_run.specs.Paths as path
 use Rattle.il_run.specs.Paths.{rest_at, place_rest, cost_of, callee, table_of}
-use Rattle.il_costs.specs.Forward.{IsForward}
-use Rattle.il_costs.proofs.Table.{at_place, at_end, behind, place_within}
+use Rattle.il_cost_laws.specs.Forward.{IsForward}
+use Rattle.il_cost_laws.proofs.Table.{at_place, at_end, behind, place_within}
 use Rattle.il_budget.specs.Tables.{rest_up, rests_above}
 use Rattle.il_budget.specs.Rounds.{unit_ways, followed}
 use Rattle.il_budget.proofs.Agreeing.{AreCosts, Stacks, rests_agree}

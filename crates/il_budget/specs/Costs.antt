@@ -7,7 +7,7 @@ use Rattle.il_spec.specs.declared.tree.ProgramLine.{ProgramLine}
 use Rattle.il_spec.specs.declared.tree.Place.{Place}
 use Rattle.il_rules.specs.Names.{program_named}
 use Rattle.il_run.specs.Paths.{IsLongest, longest, longest_path}
-use Rattle.il_costs.specs.Forward.{IsPathAt}
+use Rattle.il_cost_laws.specs.Forward.{IsPathAt}
 use Rattle.il_budget.specs.declared.fault.BudgetFault.{BudgetFault}
 use Rattle.il_budget.specs.declared.fault.BudgetFault.TheVariants.{TooLong}
 use Rattle.il_budget.specs.declared.answer.Budget.{Budget}

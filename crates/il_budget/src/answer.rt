@@ -1,6 +1,6 @@
 // What the units and tasks of a configuration cost at most, and paths of that cost.
 
-use il_spec::list::Items;
+use lists::Items;
 
 /// The greatest cost of each unit, in the order of the text, and of the program of each PROGRAM line, in their order (own rule).
 pub struct Budget {

@@ -6,7 +6,7 @@ ghost use Rattle.il_budget.specs.Rounds.{unit_ways, unit_cost, costs_by, rounds}
 use crate::table::{Rest, rest_up, rests};
 use crate::ways::{Way, ways};
 use il_scope::Scoped;
-use il_spec::list::Items;
+use lists::Items;
 use std::alloc::{AllocError, Global};
 
 /// How deep units may use one another (own rule).

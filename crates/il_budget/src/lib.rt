@@ -26,8 +26,8 @@ pub use fault::BudgetFault;
 use il_found::refusal;
 use il_scope::Scoped;
 use il_spec::fault::Refusal;
-use il_spec::list::Items;
 use il_verify::Checked;
+use lists::Items;
 use std::alloc::{AllocError, Global};
 
 /// What each unit and each task costs at most, and a control path of that cost of each unit: 50 at the heading of the first unit

@@ -4,8 +4,8 @@ ghost use Rattle.std.specs.Prelude.{◌≡◌, IfOk, map, length, Some};
 ghost use Rattle.il_budget.specs.Rounds.{line_at, followed};
 
 use crate::table::{Rest, rest_up};
-use il_spec::list::Items;
 use il_spec::tree::Body;
+use lists::Items;
 use std::alloc::{AllocError, Global};
 
 /// The lines of the path that begins at the first place.

@@ -5,8 +5,8 @@ ghost use Rattle.il_budget.specs.declared.ways.Way.{Way};
 ghost use Rattle.il_budget.specs.Tables.{capped, number_at, callee_cost, rest_up, dearer, passing, jumping, way_rest, rests_above};
 
 use crate::ways::Way;
-use il_spec::list::Items;
 use il_spec::tree::Condition;
+use lists::Items;
 use std::alloc::{AllocError, Global};
 
 /// The most that a unit may cost (own rule). No cost that is kept is greater than one more.

@@ -5,8 +5,8 @@ ghost use Rattle.il_budget.specs.Units.{task_cost};
 
 use crate::table::number_at;
 use il_scope::Scoped;
-use il_spec::list::Items;
 use il_spec::tree::ProgramLine;
+use lists::Items;
 use std::alloc::{AllocError, Global};
 
 /// The greatest cost of the program of each PROGRAM line.

@@ -12,8 +12,8 @@ use crate::table::{MOST, number_at, rests};
 use crate::ways::Way;
 use il_found::{Found, earlier, fault_if};
 use il_scope::Scoped;
-use il_spec::list::Items;
 use il_spec::tree::Body;
+use lists::Items;
 use std::alloc::{AllocError, Global};
 
 /// The first unit that costs too much.

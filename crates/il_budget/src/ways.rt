@@ -10,9 +10,9 @@ ghost use Rattle.il_budget.specs.Ways.{way_of, callee_of};
 use il_labels::label_table;
 use il_scope::Scoped;
 use il_scope::entry::{Binding, BlockType, VariableType};
-use il_spec::list::Items;
 use il_spec::tree::{Condition, Instruction, Unit};
 use il_table::Table;
+use lists::Items;
 use std::alloc::{AllocError, Global};
 
 /// How a control path goes on behind an instruction.

@@ -12,8 +12,8 @@ use Rattle.il_table.specs.NameMap.{Text}
 use Rattle.il_run.specs.declared.value.Value.{Value}
 use Rattle.il_run.specs.Meaning.{Entity, entities, own_entities, result_entities, block_entities, under, values_at, entity_values, instance_values, fresh_values}
 use Rattle.il_run.specs.Scan.{function_values}
-use Rattle.il_sound.specs.Accepted.{IsAccepted}
-use Rattle.il_sound.proofs.Lists.{at_head, in_tail}
+use Rattle.il_scan_laws.specs.Accepted.{IsAccepted}
+use Rattle.il_scan_laws.proofs.Lists.{at_head, in_tail}
 use Rattle.il_order.proofs.Distinct.{distinct}
 use Rattle.il_slots.specs.declared.flat.Cell.{Cell}
 use Rattle.il_code.specs.declared.framing.Frames.{Frames}

@@ -14,9 +14,9 @@ use Rattle.il_run.specs.Scan.{program_of}
 use Rattle.il_scope.specs.Views.{program_number}
 use Rattle.il_scope.proofs.Filled.{take_next, take_all}
 use Rattle.il_scope.proofs.Laws.{program_found}
-use Rattle.il_sound.specs.Accepted.{IsAccepted}
-use Rattle.il_sound.proofs.Lists.{found_in}
-use Rattle.il_sound.proofs.Meant.{program_is}
+use Rattle.il_scan_laws.specs.Accepted.{IsAccepted}
+use Rattle.il_scan_laws.proofs.Lists.{found_in}
+use Rattle.il_scan_laws.proofs.Meant.{program_is}
 use Rattle.il_code.specs.Laying.{used_by, all_paths, program_task}
 use Rattle.il_slots.specs.Program.{program_names}
 use Rattle.il_slots.specs.Layout.{AreOnce}

@@ -25,7 +25,7 @@ use Rattle.il_scope.proofs.Seen.{unit_found}
 use Rattle.il_order.specs.Related.{tabulate, holds, holds_in, is_entry}
 use Rattle.il_order.proofs.Distinct.{distinct}
 use Rattle.il_order.proofs.Tabled.{tabulated, length-tabulate}
-use Rattle.il_sound.proofs.Fresh.{entity}
+use Rattle.il_scan_laws.proofs.Fresh.{entity}
 use Rattle.il_code.specs.Laying.{is_there, noted, with_instance, with_instances, with_named, with_call, with_calls, used_by, leads, path_row, paths_to, all_paths}
 use Rattle.il_slots.specs.Program.{is_used}
 use Rattle.il_slots.proofs.Counted.{mapped_at}

@@ -8,7 +8,7 @@ use Rattle.il_rules.specs.Faults.{Broken, Declaring, HasNoFault}
 use Rattle.il_rules.specs.Written.{IsWritten}
 use Rattle.il_table.specs.NameMap.{Text}
 use Rattle.il_run.specs.Meaning.{Entity, entities, block_entities}
-use Rattle.il_sound.proofs.Lists.{at_head, in_tail}
+use Rattle.il_scan_laws.proofs.Lists.{at_head, in_tail}
 use Rattle.il_slots.specs.Cells.{HasShort}
 use Rattle.il_code.specs.Laying.{cell_of, openings_to, laid_task}
 use Rattle.il_code.specs.Tasks.{TaskLayout, AreGlobals}

@@ -9,7 +9,7 @@ ghost use Rattle.il_slots.specs.Making.{shown};
 
 use crate::laying::{Blocks, Opening, add_variables};
 use il_slots::variables::{Variable, function_variables, own_variables};
-use il_spec::list::Items;
+use lists::Items;
 use il_spec::tree::{Unit, UnitKind};
 use std::alloc::{AllocError, Global};
 

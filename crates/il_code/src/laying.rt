@@ -12,7 +12,7 @@ use il_scope::Scoped;
 use il_scope::entry::{BlockType, VariableType};
 use il_slots::sizes::{array_size, block_place};
 use il_slots::variables::{Variable, initial_value};
-use il_spec::list::Items;
+use lists::Items;
 use il_spec::name::Name;
 use il_spec::tree::Scalar;
 use std::alloc::{AllocError, Global};

@@ -4,7 +4,7 @@ ghost use Rattle.std.specs.Prelude.{◌≡◌, ◌++◌, ◌<◌, ◌^◌, [], t
 ghost use Rattle.il_spec.specs.declared.tree.Unit.{Unit as ProgramUnit};
 ghost use Rattle.il_rules.specs.Names.{is_program, program_named};
 ghost use Rattle.il_run.specs.Meaning.{entities};
-ghost use Rattle.il_sound.specs.Accepted.{IsAccepted};
+ghost use Rattle.il_scan_laws.specs.Accepted.{IsAccepted};
 ghost use Rattle.il_code.specs.Laying.{openings_to, laid_task, task_by, program_task, all_paths};
 ghost use Rattle.il_slots.specs.Places.{seen_image};
 ghost use Rattle.il_code.specs.Tasks.{IsTaskOf, AreTasksOf};
@@ -16,7 +16,7 @@ use crate::task::TaskCode;
 use il_scope::{Scoped, is_program};
 use il_slots::sizes::block_lists;
 use il_slots::variables::{global_variables, other_variables};
-use il_spec::list::Items;
+use lists::Items;
 use il_spec::tree::{ProgramLine, Unit};
 use std::alloc::{AllocError, Global};
 

@@ -8,7 +8,7 @@ ghost use Rattle.il_order.specs.Related.{is_set, holds, tabulate};
 ghost use Rattle.il_code.specs.Laying.{is_there, noted, with_instance, with_instances, with_named, with_call, with_calls, used_by, leads, path_row, paths_to, all_paths};
 
 use il_scope::Scoped;
-use il_spec::list::Items;
+use lists::Items;
 use il_spec::tree::{Declaration, Form, Instruction, Named, Step, Unit};
 use il_table::Table;
 use std::alloc::{AllocError, Global};

@@ -6,7 +6,7 @@ ghost use Rattle.il_code.specs.Tasks.{AreIndexed};
 
 use crate::laying::Opening;
 use il_slots::flat::Cell;
-use il_spec::list::Items;
+use lists::Items;
 use il_spec::name::Name;
 use il_table::Table;
 use std::alloc::{AllocError, Global};

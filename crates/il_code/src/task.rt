@@ -11,7 +11,7 @@ use crate::laying::Opening;
 use crate::rows::FirstRows;
 use crate::slots::{cells_of, index_of};
 use il_slots::flat::Cell;
-use il_spec::list::Items;
+use lists::Items;
 use il_table::Table;
 use std::alloc::{AllocError, Global};
 use std::marker::Model;

@@ -12,35 +12,9 @@ use Rattle.il_rules.specs.Faults.{IsNoLater, same_place}
 use Rattle.il_rules.proofs.Passes.{only_one}
 use Rattle.il_found.specs.Least.{NumberedFault, fault_at, fault_of, earlier_of, IsLeast, Below}
 use Rattle.il_found.proofs.Least.{least_none, least_same}
-use Rattle.il_declare.specs.Places.{lower_of, lowest, lowest_at, At, Among}
-
-by_test : (a b : ℕ) (t : Bool) → nat_lt b a ≡ t → (P : Option ℕ → Type 0) → (b < a → P (Some b)) → (a ≤ b → P (Some a)) → P (if t then Some b else Some a)
-by_test a b true e P low high = low (grind (arith, nat_tests))
-by_test a b false e P low high = high (grind (arith, nat_tests))
-
--- by which of two is lower
-by_lower : (a b : ℕ) (P : Option ℕ → Type 0) → (b < a → P (Some b)) → (a ≤ b → P (Some a)) → P (lower_of (Some a) (Some b))
-by_lower a b P low high = by_test a b (nat_lt b a) refl P low high
-
-first_is : (a b : ℕ) → a ≤ b → lower_of (Some a) (Some b) ≡ Some a
-first_is a b le = by_lower a b (λ o. o ≡ Some a) (λ less. absurd (omega arith)) (λ h. refl)
-
-second_is : (a b : ℕ) → b < a → lower_of (Some a) (Some b) ≡ Some b
-second_is a b less = by_lower a b (λ o. o ≡ Some b) (λ h. refl) (λ le. absurd (omega arith))
-
-lower_assoc : (a b c : Option ℕ) → lower_of a (lower_of b c) ≡ lower_of (lower_of a b) c
-lower_assoc None b c = refl
-lower_assoc (Some a) None c = refl
-lower_assoc (Some a) (Some b) None = by_lower a b (λ o. o ≡ lower_of o None) (λ h. refl) (λ h. refl)
-lower_assoc (Some a) (Some b) (Some c) =
-    by_lower b c (λ o. lower_of (Some a) o ≡ lower_of (lower_of (Some a) (Some b)) (Some c))
-    (λ c_low. by_lower a b (λ o. lower_of (Some a) (Some c) ≡ lower_of o (Some c)) (λ b_low. second_is a c (omega arith) ∙ sym (second_is b c c_low)) (λ a_low. refl))
-    (λ b_least. by_lower a b (λ o. o ≡ lower_of o (Some c)) (λ b_low. sym (first_is b c b_least)) (λ a_low. sym (first_is a c (omega arith))))
-
--- two lists, one behind the other
-lowest_append : (xs ys : List ℕ) → lowest (xs ++ ys) ≡ lower_of (lowest xs) (lowest ys)
-lowest_append [] ys = refl
-lowest_append (x ∷ xs) ys = ap (lower_of (Some x)) (lowest_append xs ys) ∙ lower_assoc (Some x) (lowest xs) (lowest ys)
+use Rattle.il_found.specs.Lowest.{lower_of, lowest}
+use Rattle.il_found.proofs.Lowest.{lowest_append, IsLowest, is_lowest}
+use Rattle.il_declare.specs.Places.{lowest_at, At, Among}
 
 -- at one place the lower number is earlier
 lower_earlier : (a b : Option ℕ) (p : Place) → option_map (λ n. fault_at n p) (lower_of a b) ≡ earlier_of (option_map (λ n. fault_at n p) a) (option_map (λ n. fault_at n p) b)
@@ -64,39 +38,6 @@ at_two xs ys p a b r first second is = is ∙ ap (λ o. earlier_of o b) first �
 pub at_unless : (b : Bool) (n : ℕ) (p : Place) → fault_of (not b) n p ≡ lowest_at (unless b n) p
 at_unless true n p = refl
 at_unless false n p = refl
-
--- what the lowest number is
-record IsLowest (lowest : Option ℕ) (numbers : List ℕ) : Type 0 where
-  pub none : lowest ≡ None → (number : ℕ) → Contains numbers number → ⊥
-  pub holds : (n : ℕ) → lowest ≡ Some n → Contains numbers n
-  pub first : (n : ℕ) → lowest ≡ Some n → (number : ℕ) → Contains numbers number → n ≤ number
-
-none_in : (n : ℕ) → Contains [] n → ⊥
-none_in n (k, low, e) = omega arith
-
-stands : (k : ℕ) (ns : List ℕ) → Contains ns k → ((n : ℕ) → Contains ns n → k ≤ n) → IsLowest (Some k) ns
-stands k ns here all = record {
-  none = λ e n c. let bad : Some k ≡ None = e in cc;
-  holds = λ n e. let same : k ≡ n = cc in subst (λ m. Contains ns m) same here;
-  first = λ n e m c. let same : k ≡ n = cc in subst (λ x. x ≤ m) same (all m c);
-}
-
-is_lowest : (ns : List ℕ) → IsLowest (lowest ns) ns
-is_lowest [] = record {
-  none = λ e n c. none_in n c;
-  holds = λ n e. let bad : None ≡ Some n = e in cc;
-  first = λ n e. let bad : None ≡ Some n = e in cc;
-}
-is_lowest (x ∷ ns) = by_rest (lowest ns) (is_lowest ns)
-  where
-    here : Contains (x ∷ ns) x
-    here = Contains-append_left (x ∷ []) ns x (0, omega arith, refl)
-
-    by_rest : (r : Option ℕ) → IsLowest r ns → IsLowest (lower_of (Some x) r) (x ∷ ns)
-    by_rest None l = stands x (x ∷ ns) here (λ n c. elim (Contains-append_cases (x ∷ []) ns n c) [ inl a ↦ (let same = only_one x n a in omega arith) | inr b ↦ absurd (l.none refl n b) ])
-    by_rest (Some y) l = by_lower x y (λ o. IsLowest o (x ∷ ns))
-        (λ less. stands y (x ∷ ns) (Contains-append_right (x ∷ []) ns y (l.holds y refl)) (λ n c. elim (Contains-append_cases (x ∷ []) ns n c) [ inl a ↦ (let same = only_one x n a in omega arith) | inr b ↦ l.first y refl n b ]))
-        (λ le. stands x (x ∷ ns) here (λ n c. elim (Contains-append_cases (x ∷ []) ns n c) [ inl a ↦ (let same = only_one x n a in omega arith) | inr b ↦ (let low = l.first y refl n b in omega arith) ]))
 
 -- the lowest number at one place as a fault
 pub least_at : (ns : List ℕ) (place : Place) (r : Option NumberedFault) → r ≡ lowest_at ns place → IsLeast r (At ns place)

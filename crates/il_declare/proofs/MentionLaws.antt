@@ -73,20 +73,12 @@ member_is config access word None = refl
 pub function_unknown : (config : Config) (name : Spelling) (place : Place) (s : Option StandardFunction) (o : Option ℕ) (standard known : Bool) (r : Option NumberedFault) → s ≡ standard_function name → standard ≡ is_some s → standard ≡ false → o ≡ function_number config name → known ≡ is_some o → r ≡ fault_of (not known) 21 place
     → r ≡ lowest_at (if is_some (standard_function name) then [] else unless (is_some (function_named config name)) 21) place
 function_unknown config name place s o standard known r word test other number there is =
-    is ∙ at_unless known 21 place ∙ ap (λ b. lowest_at (unless b 21) place) (there ∙ ap is_some number ∙ function_there config name) ∙ ap (λ b. lowest_at (if b then [] else unless (is_some (function_named config name)) 21) place) (sym (sym (mapped (standard_function name)) ∙ sym (ap is_some word) ∙ sym test ∙ other))
-  where
-    mapped : (x : Option StandardFunction) → is_some x ≡ is_some x
-    mapped (Some y) = refl
-    mapped None = refl
+    is ∙ at_unless known 21 place ∙ ap (λ b. lowest_at (unless b 21) place) (there ∙ ap is_some number ∙ function_there config name) ∙ ap (λ b. lowest_at (if b then [] else unless (is_some (function_named config name)) 21) place) (sym (sym (ap is_some word) ∙ sym test ∙ other))
 
 pub function_standard : (config : Config) (name : Spelling) (place : Place) (s : Option StandardFunction) (standard : Bool) → s ≡ standard_function name → standard ≡ is_some s → standard ≡ true
     → None ≡ lowest_at (if is_some (standard_function name) then [] else unless (is_some (function_named config name)) 21) place
 function_standard config name place s standard word test there =
-    ap (λ b. lowest_at (if b then [] else unless (is_some (function_named config name)) 21) place) (sym (sym (mapped (standard_function name)) ∙ sym (ap is_some word) ∙ sym test ∙ there))
-  where
-    mapped : (x : Option StandardFunction) → is_some x ≡ is_some x
-    mapped (Some y) = refl
-    mapped None = refl
+    ap (λ b. lowest_at (if b then [] else unless (is_some (function_named config name)) 21) place) (sym (sym (ap is_some word) ∙ sym test ∙ there))
 
 -- whether what is changed is there
 pub there_changed : {A B : Type 0} (f : A → B) (o : Option A) (r : Option B) (b : Bool) → b ≡ is_some r → r ≡ option_map f o → b ≡ is_some o

@@ -26,15 +26,11 @@ is_none_of o e = ap (λ x. not (is_some x)) e
 -- a task of no role
 pub no_role : (config seen : Config) (cars : ℤ) (name key : Spelling) (r : Option Role) (none : Bool) → seen ≡ config → cars ≡ seen.cars.value → key ≡ name → r ≡ task_role cars key → is_some r ≡ not none → none ≡ not (is_some (task_role config.cars.value name))
 no_role config seen cars name key r none same value named found there =
-    back none ∙ ap not (sym there ∙ ap is_some found ∙ mapped (task_role cars key) ∙ ap (λ z. is_some (task_role z key)) (value ∙ ap (λ k. k.cars.value) same) ∙ ap (λ k. is_some (task_role config.cars.value k)) named)
+    back none ∙ ap not (sym there ∙ ap is_some found ∙ ap (λ z. is_some (task_role z key)) (value ∙ ap (λ k. k.cars.value) same) ∙ ap (λ k. is_some (task_role config.cars.value k)) named)
   where
     back : (b : Bool) → b ≡ not (not b)
     back true = refl
     back false = refl
-
-    mapped : (o : Option Role) → is_some o ≡ is_some o
-    mapped (Some x) = refl
-    mapped None = refl
 
 -- a name that a set doesn't have
 pub set_not_in : {X : Type 0} (names : List Spelling) (set : NameMap X) (q key : Spelling) (h : Bool) → h ≡ is_some (get set key) → key ≡ q → IsSet names set → not h ≡ true → ¬ Contains names q
@@ -44,7 +40,7 @@ pub set_in_none : {X : Type 0} (names : List Spelling) (set : NameMap X) (q key 
 set_in_none names set q key h is same all never = ap not (is ∙ ap (λ k. is_some (get set k)) same ∙ all q) ∙ in_none names q never
 
 -- another role
-role_differs : (a b : Option Role) → other_role a (b) ≡ true → (role : Role) × (a ≡ Some role) × (b ≡ Some role → ⊥)
+role_differs : (a b : Option Role) → other_role a b ≡ true → (role : Role) × (a ≡ Some role) × (b ≡ Some role → ⊥)
 role_differs None b e = let bad : false ≡ true = e in cc
 role_differs (Some CarRole) None e = (CarRole, refl, λ h. let bad : None ≡ Some CarRole = h in cc)
 role_differs (Some CarRole) (Some CarRole) e = let bad : false ≡ true = e in cc
@@ -53,7 +49,7 @@ role_differs (Some GroupRole) None e = (GroupRole, refl, λ h. let bad : None �
 role_differs (Some GroupRole) (Some CarRole) e = (GroupRole, refl, λ h. let bad : Some CarRole ≡ Some GroupRole = h in cc)
 role_differs (Some GroupRole) (Some GroupRole) e = let bad : false ≡ true = e in cc
 
-differs_role : (a b : Option Role) (role : Role) → a ≡ Some role → (b ≡ Some role → ⊥) → other_role a (b) ≡ true
+differs_role : (a b : Option Role) (role : Role) → a ≡ Some role → (b ≡ Some role → ⊥) → other_role a b ≡ true
 differs_role None b role e other = let bad : None ≡ Some role = e in cc
 differs_role (Some CarRole) None role e other = refl
 differs_role (Some CarRole) (Some CarRole) role e other = absurd (other e)

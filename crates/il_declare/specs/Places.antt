@@ -1,18 +1,8 @@
 -- The faults of one place, and of the items of a list.
-use Rattle.std.specs.Prelude.{◌≡◌, ℕ, if◌then◌else◌, nat_lt, List, [], ◌∷◌, Option, Some, None, option_map, Contains}
+use Rattle.std.specs.Prelude.{◌≡◌, ℕ, List, Option, option_map, Contains}
 use Rattle.il_spec.specs.declared.tree.Place.{Place}
 use Rattle.il_found.specs.Least.{NumberedFault, fault_at}
-
--- the lower of two numbers that may be there
-abbrev pub lower_of : Option ℕ → Option ℕ → Option ℕ
-lower_of (Some a) (Some b) = if nat_lt b a then Some b else Some a
-lower_of (Some a) None = Some a
-lower_of None second = second
-
--- the lowest number of a list, and none of an empty one
-abbrev pub lowest : List ℕ → Option ℕ
-lowest [] = None
-lowest (n ∷ ns) = lower_of (Some n) (lowest ns)
+use Rattle.il_found.specs.Lowest.{lowest}
 
 -- the lowest of the numbers that are broken at one place, as a fault
 abbrev pub lowest_at : List ℕ → Place → Option NumberedFault

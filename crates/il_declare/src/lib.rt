@@ -6,7 +6,6 @@ mod cars;
 mod declared;
 mod externals;
 mod fault;
-mod here;
 mod mentions;
 mod sets;
 mod sizes;

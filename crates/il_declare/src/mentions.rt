@@ -9,11 +9,10 @@ ghost use Rattle.il_declare.specs.Places.{lowest_at, At, Among};
 ghost use Rattle.il_declare.specs.Mentions.{shown_access, scalar_type_numbers, scalar_of, array_type_numbers, array_of, called_type_numbers, called_of, member_type_numbers, member_of};
 
 use crate::fault::DeclareFault;
-use crate::here::Here;
 use il_found::{Found, earlier, fault_if};
-use il_scope::Scoped;
 use il_scope::entry::{Binding, BlockType, VariableType};
 use il_scope::functions::standard_function;
+use il_scope::{Scoped, UnitScope};
 use il_spec::tree::{Argument, Index, Instruction, Named, Operand, Place, Reference, Step};
 
 /// Whether an operand is read or stored into.
@@ -24,8 +23,8 @@ pub enum Access {
 }
 
 /// The first instruction with a name that its place doesn't take.
-pub fn steps_fault(here: &Here, steps: &[Step]) -> Option<Found<DeclareFault>>
-    ensures { IsLeast result (Among (λ s. At (name_numbers here.now.names.now here.now.unit.now s.instruction) s.place) steps.now) }
+pub fn steps_fault(here: &UnitScope, steps: &[Step]) -> Option<Found<DeclareFault>>
+    ensures { IsLeast result (Among (λ s. At (name_numbers here.now.config here.now.unit s.instruction) s.place) steps.now) }
 {
     let mut found = None;
     for step in steps {
@@ -40,11 +39,11 @@ pub fn steps_fault(here: &Here, steps: &[Step]) -> Option<Found<DeclareFault>>
 // What the names of an instruction break; labels are no such names.
 #[tactic(auto, unfolding(il_rules::specs::Declarations::name_numbers))]
 fn instruction_fault(
-    here: &Here,
+    here: &UnitScope,
     instruction: &Instruction,
     place: Place,
 ) -> Option<Found<DeclareFault>>
-    ensures { result ≡ lowest_at (name_numbers here.now.names.now here.now.unit.now instruction.now) place }
+    ensures { result ≡ lowest_at (name_numbers here.now.config here.now.unit instruction.now) place }
 {
     match instruction {
         Instruction::Load { operand, .. } => operand_fault(here, Access::Reads, operand, place),
@@ -65,11 +64,11 @@ fn instruction_fault(
 
 // What the operand of a short form breaks, if there is one.
 fn short_form_fault(
-    here: &Here,
+    here: &UnitScope,
     first: &Option<Operand>,
     place: Place,
 ) -> Option<Found<DeclareFault>>
-    ensures { result ≡ lowest_at (short_form_name_numbers here.now.names.now here.now.unit.now first.now) place }
+    ensures { result ≡ lowest_at (short_form_name_numbers here.now.config here.now.unit first.now) place }
 {
     match first {
         Some(operand) => operand_fault(here, Access::Reads, operand, place),
@@ -79,12 +78,12 @@ fn short_form_fault(
 
 // What the names of a call of an instance break.
 fn call_fault(
-    here: &Here,
+    here: &UnitScope,
     instance: &Named,
     arguments: &[Argument],
     place: Place,
 ) -> Option<Found<DeclareFault>>
-    ensures { result ≡ lowest_at (called_numbers (meaning here.now.names.now here.now.unit.now instance.now.name) ++ flat_map (argument_name_numbers here.now.names.now here.now.unit.now) arguments.now) place }
+    ensures { result ≡ lowest_at (called_numbers (meaning here.now.config here.now.unit instance.now.name) ++ flat_map (argument_name_numbers here.now.config here.now.unit) arguments.now) place }
 {
     let called = called_name_fault(here, instance.name.as_str(), place);
     earlier(called, arguments_fault(here, arguments, place))
@@ -92,14 +91,14 @@ fn call_fault(
 
 // What the names of a function's call break.
 fn invoke_fault(
-    here: &Here,
+    here: &UnitScope,
     function: &Named,
     operands: &[Operand],
     place: Place,
 ) -> Option<Found<DeclareFault>>
-    ensures { result ≡ lowest_at ((if is_some (standard_function function.now.name) then [] else unless (is_some (function_named here.now.names.now function.now.name)) 21) ++ flat_map (λ o. reference_numbers here.now.names.now here.now.unit.now Reads o.reference) operands.now) place }
+    ensures { result ≡ lowest_at ((if is_some (standard_function function.now.name) then [] else unless (is_some (function_named here.now.config function.now.name)) 21) ++ flat_map (λ o. reference_numbers here.now.config here.now.unit Reads o.reference) operands.now) place }
 {
-    let unknown = function_fault(here.names, function.name.as_str(), place);
+    let unknown = function_fault(here.names(), function.name.as_str(), place);
     earlier(unknown, operands_fault(here, operands, place))
 }
 
@@ -115,8 +114,12 @@ fn function_fault(names: &Scoped, name: &str, place: Place) -> Option<Found<Decl
 }
 
 // What the names of arguments break.
-fn arguments_fault(here: &Here, arguments: &[Argument], place: Place) -> Option<Found<DeclareFault>>
-    ensures { result ≡ lowest_at (flat_map (argument_name_numbers here.now.names.now here.now.unit.now) arguments.now) place }
+fn arguments_fault(
+    here: &UnitScope,
+    arguments: &[Argument],
+    place: Place,
+) -> Option<Found<DeclareFault>>
+    ensures { result ≡ lowest_at (flat_map (argument_name_numbers here.now.config here.now.unit) arguments.now) place }
 {
     let mut found = None;
     for argument in arguments {
@@ -126,8 +129,12 @@ fn arguments_fault(here: &Here, arguments: &[Argument], place: Place) -> Option<
 }
 
 // What the names of operands break.
-fn operands_fault(here: &Here, operands: &[Operand], place: Place) -> Option<Found<DeclareFault>>
-    ensures { result ≡ lowest_at (flat_map (λ o. reference_numbers here.now.names.now here.now.unit.now Reads o.reference) operands.now) place }
+fn operands_fault(
+    here: &UnitScope,
+    operands: &[Operand],
+    place: Place,
+) -> Option<Found<DeclareFault>>
+    ensures { result ≡ lowest_at (flat_map (λ o. reference_numbers here.now.config here.now.unit Reads o.reference) operands.now) place }
 {
     let mut found = None;
     for operand in operands {
@@ -137,8 +144,12 @@ fn operands_fault(here: &Here, operands: &[Operand], place: Place) -> Option<Fou
 }
 
 // What the names of an argument break: an output's target is a scalar variable.
-fn argument_fault(here: &Here, argument: &Argument, place: Place) -> Option<Found<DeclareFault>>
-    ensures { result ≡ lowest_at (argument_name_numbers here.now.names.now here.now.unit.now argument.now) place }
+fn argument_fault(
+    here: &UnitScope,
+    argument: &Argument,
+    place: Place,
+) -> Option<Found<DeclareFault>>
+    ensures { result ≡ lowest_at (argument_name_numbers here.now.config here.now.unit argument.now) place }
 {
     match argument {
         Argument::Input { operand, .. } => operand_fault(here, Access::Reads, operand, place),
@@ -148,12 +159,12 @@ fn argument_fault(here: &Here, argument: &Argument, place: Place) -> Option<Foun
 
 // What the names of an operand break.
 fn operand_fault(
-    here: &Here,
+    here: &UnitScope,
     access: Access,
     operand: &Operand,
     place: Place,
 ) -> Option<Found<DeclareFault>>
-    ensures { result ≡ lowest_at (reference_numbers here.now.names.now here.now.unit.now (shown_access access) operand.now.reference) place }
+    ensures { result ≡ lowest_at (reference_numbers here.now.config here.now.unit (shown_access access) operand.now.reference) place }
 {
     match &operand.reference {
         Reference::Literal(_) => None,
@@ -167,20 +178,20 @@ fn operand_fault(
 
 // What the names of an element break.
 fn element_fault(
-    here: &Here,
+    here: &UnitScope,
     name: &str,
     index: &Index,
     place: Place,
 ) -> Option<Found<DeclareFault>>
-    ensures { result ≡ lowest_at (array_numbers (meaning here.now.names.now here.now.unit.now name.now) ++ index_name_numbers here.now.names.now here.now.unit.now index.now) place }
+    ensures { result ≡ lowest_at (array_numbers (meaning here.now.config here.now.unit name.now) ++ index_name_numbers here.now.config here.now.unit index.now) place }
 {
     let array = array_name_fault(here, name, place);
     earlier(array, index_fault(here, index, place))
 }
 
 // What the name of an index breaks: it is a scalar variable's.
-fn index_fault(here: &Here, index: &Index, place: Place) -> Option<Found<DeclareFault>>
-    ensures { result ≡ lowest_at (index_name_numbers here.now.names.now here.now.unit.now index.now) place }
+fn index_fault(here: &UnitScope, index: &Index, place: Place) -> Option<Found<DeclareFault>>
+    ensures { result ≡ lowest_at (index_name_numbers here.now.config here.now.unit index.now) place }
 {
     match index {
         Index::Number(_) => None,
@@ -189,8 +200,8 @@ fn index_fault(here: &Here, index: &Index, place: Place) -> Option<Found<Declare
 }
 
 // What a name where a scalar variable stands breaks.
-fn scalar_name_fault(here: &Here, name: &str, place: Place) -> Option<Found<DeclareFault>>
-    ensures { result ≡ lowest_at (scalar_numbers (meaning here.now.names.now here.now.unit.now name.now)) place }
+fn scalar_name_fault(here: &UnitScope, name: &str, place: Place) -> Option<Found<DeclareFault>>
+    ensures { result ≡ lowest_at (scalar_numbers (meaning here.now.config here.now.unit name.now)) place }
 {
     scalar_fault(here.meaning(name), place)
 }
@@ -217,8 +228,8 @@ fn scalar_type_fault(declared: VariableType, place: Place) -> Option<Found<Decla
 }
 
 // What a name before an index breaks.
-fn array_name_fault(here: &Here, name: &str, place: Place) -> Option<Found<DeclareFault>>
-    ensures { result ≡ lowest_at (array_numbers (meaning here.now.names.now here.now.unit.now name.now)) place }
+fn array_name_fault(here: &UnitScope, name: &str, place: Place) -> Option<Found<DeclareFault>>
+    ensures { result ≡ lowest_at (array_numbers (meaning here.now.config here.now.unit name.now)) place }
 {
     array_fault(here.meaning(name), place)
 }
@@ -245,8 +256,8 @@ fn array_type_fault(declared: VariableType, place: Place) -> Option<Found<Declar
 }
 
 // What a name behind CAL breaks.
-fn called_name_fault(here: &Here, name: &str, place: Place) -> Option<Found<DeclareFault>>
-    ensures { result ≡ lowest_at (called_numbers (meaning here.now.names.now here.now.unit.now name.now)) place }
+fn called_name_fault(here: &UnitScope, name: &str, place: Place) -> Option<Found<DeclareFault>>
+    ensures { result ≡ lowest_at (called_numbers (meaning here.now.config here.now.unit name.now)) place }
 {
     called_fault(here.meaning(name), place)
 }
@@ -274,15 +285,15 @@ fn called_type_fault(declared: VariableType, place: Place) -> Option<Found<Decla
 
 // What a name before a dot breaks.
 fn member_name_fault(
-    here: &Here,
+    here: &UnitScope,
     access: Access,
     name: &str,
     word: &str,
     place: Place,
 ) -> Option<Found<DeclareFault>>
-    ensures { result ≡ lowest_at (member_numbers here.now.names.now (shown_access access) word.now (meaning here.now.names.now here.now.unit.now name.now)) place }
+    ensures { result ≡ lowest_at (member_numbers here.now.config (shown_access access) word.now (meaning here.now.config here.now.unit name.now)) place }
 {
-    member_fault(here.names, access, word, here.meaning(name), place)
+    member_fault(here.names(), access, word, here.meaning(name), place)
 }
 
 // The same, by what the name means: an instance with such a word.

@@ -10,12 +10,11 @@ ghost use Rattle.il_declare.specs.Units.{BreaksResult, BreaksLists, BreaksChecke
 use crate::again::{second_label, second_variable};
 use crate::externals::externals_fault;
 use crate::fault::DeclareFault;
-use crate::here::Here;
 use crate::mentions::steps_fault;
 use crate::taken::taken_in_unit;
 use crate::types::{Admitted, declarations_fault, subrange_fault};
 use il_found::{Found, earlier};
-use il_scope::Scoped;
+use il_scope::{Scoped, UnitScope};
 use il_spec::tree::{Unit, UnitKind};
 use std::alloc::{AllocError, Global};
 
@@ -27,17 +26,17 @@ pub fn units_fault(alloc: Global, names: &Scoped) -> Result<Option<Found<Declare
     let mut found = None;
     for at in 0..units.len() {
         let unit = &units[at];
-        let here = Here { names, at, unit };
+        let here = UnitScope::of(names, at, unit);
         found = earlier(found, unit_fault(alloc, &here)?);
     }
     Ok(found)
 }
 
 // The first fault of a unit.
-fn unit_fault(alloc: Global, here: &Here) -> Result<Option<Found<DeclareFault>>, AllocError>
-    ensures { IfOk result (λ found. IsLeast found (UnitBreaks here.now.names.now here.now.unit.now)) }
+fn unit_fault(alloc: Global, here: &UnitScope) -> Result<Option<Found<DeclareFault>>, AllocError>
+    ensures { IfOk result (λ found. IsLeast found (UnitBreaks here.now.config here.now.unit)) }
 {
-    let again = again_fault(alloc, here.unit)?;
+    let again = again_fault(alloc, here.tree())?;
     Ok(earlier(checked_fault(here), again))
 }
 
@@ -51,13 +50,15 @@ fn again_fault(alloc: Global, unit: &Unit) -> Result<Option<Found<DeclareFault>>
 }
 
 // The first fault of a unit's types, externals, taken names, and names in instructions.
-fn checked_fault(here: &Here) -> Option<Found<DeclareFault>>
-    ensures { IsLeast result (BreaksChecked here.now.names.now here.now.unit.now) }
+fn checked_fault(here: &UnitScope) -> Option<Found<DeclareFault>>
+    ensures { IsLeast result (BreaksChecked here.now.config here.now.unit) }
 {
-    let typed = types_fault(here.names, here.unit);
-    let external = externals_fault(here.names, here.unit.externals.as_slice());
-    let taken = taken_in_unit(here.names, here.unit);
-    let named = steps_fault(here, here.unit.body.steps.as_slice());
+    let config = here.names();
+    let unit = here.tree();
+    let typed = types_fault(config, unit);
+    let external = externals_fault(config, unit.externals.as_slice());
+    let taken = taken_in_unit(config, unit);
+    let named = steps_fault(here, unit.body.steps.as_slice());
     earlier(typed, earlier(external, earlier(taken, named)))
 }
 

@@ -7,8 +7,8 @@ use crate::quick::Quick;
 use arrayvec::ArrayVec;
 use il_run::value::{Content, Value};
 use il_slots::flat::UnitCode;
-use il_spec::list::Items;
 use il_spec::tree::{Elementary, Logic, Operator};
+use lists::Items;
 use std::marker::Model;
 
 /// What a task runs: the flat code of the units, the base of the frame of each, and the slot of NOW.

@@ -1,5 +1,5 @@
 -- What calls of a function need is what its tree gives.
-use Rattle.std.proofs.Common.{◌≡◌, ℕ, zero, suc, ◌+◌, ◌-◌, ◌<◌, ◌≤◌, List, [], ◌∷◌, ◌++◌, map, drop, length, get_or, reverse, slice_get, refl, sym, ap, ap₂, ◌∙◌, Some, None, arith}
+use Rattle.std.proofs.Common.{◌≡◌, ℕ, zero, suc, ◌+◌, ◌-◌, ◌<◌, ◌≤◌, List, [], ◌∷◌, ◌++◌, map, drop, length, get_or, reverse, refl, sym, ap, ap₂, ◌∙◌, Some, None, arith}
 use Rattle.std.specs.Prelude.{Contains, option_map, option_and_then, if◌then◌else◌}
 use Rattle.std.proofs.lemmas.List.{drop_more, reverse-append}
 use Rattle.il_spec.specs.declared.tree.Place.{Place}
@@ -11,21 +11,22 @@ use Rattle.il_spec.specs.declared.tree.Unit.{Unit as ProgramUnit}
 use Rattle.il_spec.specs.declared.tree.Config.{Config}
 use Rattle.il_table.specs.NameMap.{Text}
 use Rattle.il_run.specs.Meaning.{Entity, entities, under, values_at, instance_values, entity_values}
-use Rattle.il_rules.specs.Names.{function_named, named_forms, is_function, is_function_kind}
+use Rattle.il_rules.specs.Names.{unit_named, function_named, named_forms, is_function, is_function_kind}
 use Rattle.il_scope.specs.Views.{type_of}
-use Rattle.il_sound.proofs.Named.{result_form}
-use Rattle.il_sound.proofs.Lists.{at_head, in_tail}
+use Rattle.il_scan_laws.proofs.Meant.{inputs_seen}
+use Rattle.il_scan_laws.proofs.Named.{result_form}
+use Rattle.il_scan_laws.proofs.Lists.{at_head, in_tail}
 use Rattle.il_slots.specs.declared.flat.Assignment.{Assignment}
 use Rattle.il_slots.specs.declared.variables.Variable.{Variable}
 use Rattle.il_slots.specs.Cells.{cells_at, entity_cells, instance_cells, offset_in}
 use Rattle.il_slots.specs.Places.{form_width, block_width, declared_in}
 use Rattle.il_slots.specs.Program.{program_names}
-use Rattle.il_slots.proofs.Tasks.{at_contains, scalar_forms}
-use Rattle.il_slots.proofs.Uses.{unit_found}
-use Rattle.il_flatten.proofs.Invoking.{pair_of, pairs_are, each_pair, input_offset, slot_is_form}
+use Rattle.il_slots.proofs.Tasks.{scalar_forms}
+use Rattle.il_scan_laws.proofs.Named.{found_unit}
+use Rattle.il_flatten.proofs.Invoking.{pair_of, pairs_are, each_pair, slot_is_form}
 use Rattle.il_slots.specs.Flattened.{Names, slot_of, fresh_from, fresh_of, function_entities, first_slot}
 use Rattle.il_slots.specs.Making.{shown, IsChecked}
-use Rattle.il_flatten.specs.Resolving.{known, known_by, slot_known, fresh_by, fresh_list, first_of, inputs_if, unit_inputs, function_code_of}
+use Rattle.il_flatten.specs.Resolving.{known, slot_known, fresh_by, fresh_list, first_of, function_code_of}
 
 -- what scalars begin with
 fresh_is : (c : Config) (path : Text) (k : ℕ) (es : List Entity) → ((e : Entity) → Contains es e → (s : Scalar) × (e.form ≡ ScalarForm s)) → fresh_list k (map (shown c) es) ≡ fresh_from k (entity_cells (instance_cells zero c) path es) (entity_values (instance_values zero c) path es)
@@ -72,21 +73,18 @@ fresh_last vs passed xs low high is = is ∙ ap (λ i. reverse (fresh_list i (dr
 
 -- WHAT CALLS NEED
 
-module _ (c : Config) (checked : IsChecked c) (at : ℕ) (u : ProgramUnit) (there : slice_get c.units at ≡ Some u) where
+module _ (c : Config) (checked : IsChecked c) (u : ProgramUnit) (itself : unit_named c u.name.name ≡ Some u) where
   abbrev n : Names
   n = program_names c u.name.name
 
-  abbrev in_units : Contains c.units u
-  in_units = at_contains c.units at u there
-
   module _ (s : Scalar) (place : Place) (kind : u.kind ≡ Function s place) where
     named_so : function_named c u.name.name ≡ Some u
-    named_so = ap (option_and_then (λ w. if is_function w then Some w else None)) (unit_found c checked.declared u in_units) ∙ ap (λ k. if is_function_kind k then Some u else None) kind
+    named_so = ap (option_and_then (λ w. if is_function w then Some w else None)) itself ∙ ap (λ k. if is_function_kind k then Some u else None) kind
 
-    first_is : (es : List Entity) → ((e : Entity) → Contains es e → Contains (named_forms u.inputs) (e.name, e.form)) → first_of c at (map (shown c) es) ≡ first_slot n.offset (map pair_of es)
+    first_is : (es : List Entity) → ((e : Entity) → Contains es e → Contains (named_forms u.inputs) (e.name, e.form)) → first_of c u (map (shown c) es) ≡ first_slot n.offset (map pair_of es)
     first_is [] each = refl
     first_is (e ∷ es) each =
-        ap (slot_known 0) (ap (known_by (Some (type_of c e.form))) (input_offset c checked at u there u.name.name at (record { unit = u; there = there; is = named_so }) e.name e.form (each e (at_head e es))))
+        ap (λ o. slot_known 0 (option_map (λ f. record { declared = type_of c f; offset = n.offset e.name }) o)) (inputs_seen c checked.declared u u.name.name (e.name, e.form) named_so (each e (at_head e es)))
         ∙ slot_is_form c e.form (offset_in (form_width (block_width 17 c)) (declared_in c u.name.name) e.name)
 
     result_is : slot_known 0 (known c u u.name.name) ≡ slot_of s (n.offset u.name.name)
@@ -95,11 +93,11 @@ module _ (c : Config) (checked : IsChecked c) (at : ℕ) (u : ProgramUnit) (ther
         ∙ slot_is_form c (ScalarForm s) (offset_in (form_width (block_width 17 c)) (declared_in c u.name.name) u.name.name)
 
     scalars : (e : Entity) → Contains (function_entities u) e → (t : Scalar) × (e.form ≡ ScalarForm t)
-    scalars e has = scalar_forms c checked.declared u in_units (ap is_function_kind kind) e has
+    scalars e has = scalar_forms c checked.declared u (found_unit c u.name.name u itself) (ap is_function_kind kind) e has
 
-    pub function_is : function_code_of c u at (unit_inputs c at) (map (shown c) (function_entities u))
+    pub function_is : function_code_of c u (map (shown c) (entities u.inputs)) (map (shown c) (function_entities u))
         ≡ record { first = first_slot n.offset (named_forms u.inputs); result = slot_of s (n.offset u.name.name); fresh = reverse (fresh_of c u) }
     function_is =
         ap₂ (λ f r. record { first = f; result = r; fresh = reverse (fresh_list 0 (map (shown c) (function_entities u))) })
-        (ap (λ o. first_of c at (inputs_if c o)) there ∙ first_is (entities u.inputs) (λ e has. each_pair u.inputs e has) ∙ ap (first_slot n.offset) (pairs_are u.inputs)) result_is
+        (first_is (entities u.inputs) (λ e has. each_pair u.inputs e has) ∙ ap (first_slot n.offset) (pairs_are u.inputs)) result_is
         ∙ ap (λ xs. record { first = first_slot n.offset (named_forms u.inputs); result = slot_of s (n.offset u.name.name); fresh = reverse xs }) (fresh_is c u.name.name 0 (function_entities u) scalars)

@@ -10,15 +10,14 @@ use Rattle.il_spec.specs.declared.tree.Form.{Form}
 use Rattle.il_spec.specs.declared.tree.Form.TheVariants.{Scalar as ScalarForm, Array as ArrayForm, Block as BlockForm}
 use Rattle.il_rules.specs.declared.names.StandardFunction.{StandardFunction}
 use Rattle.il_rules.specs.declared.names.StandardFunction.TheVariants.{Absolute, Minimum, Maximum, Limited, Selected, Converted}
-use Rattle.il_rules.specs.Names as rule
-use Rattle.il_rules.specs.Names.{named_forms, standard_function, function_named, is_function}
+use Rattle.il_rules.specs.Names.{named_forms, standard_function, unit_named, function_named, is_function}
 use Rattle.il_table.specs.NameMap.{Text, get}
 use Rattle.il_run.specs.Meaning.{Entity, entities, denotation}
 use Rattle.il_run.specs.Step.{rest_of}
-use Rattle.il_sound.proofs.Fresh.{entity}
-use Rattle.il_sound.proofs.Lists.{at_head, in_tail, in_map}
-use Rattle.il_sound.proofs.Meant.{inputs_seen}
-use Rattle.il_sound.proofs.Named.{function_is_unit}
+use Rattle.il_scan_laws.proofs.Fresh.{entity}
+use Rattle.il_scan_laws.proofs.Lists.{at_head, in_tail, in_map}
+use Rattle.il_scan_laws.proofs.Meant.{inputs_seen}
+use Rattle.il_scan_laws.proofs.Named.{function_is_unit}
 use Rattle.il_scope.specs.Views.{type_of, function_number}
 use Rattle.il_scope.proofs.Laws.{function_found, function_there}
 use Rattle.il_slots.specs.declared.flat.Flat.TheVariants.{Apply, Invoke as FlatInvoke}
@@ -29,6 +28,7 @@ use Rattle.il_slots.specs.Making.{shown, all_offsets, IsChecked}
 use Rattle.il_slots.specs.Whole.{number_in}
 use Rattle.il_slots.specs.Program.{program_names}
 use Rattle.il_slots.proofs.Tasks.{at_contains}
+use Rattle.il_slots.proofs.Uses.{unit_found}
 use Rattle.il_slots.proofs.Counted.{offsets_are}
 use Rattle.il_flatten.proofs.Resolve.{seen, table_there, resolved_is}
 use Rattle.il_flatten.proofs.Calling.{number_is}
@@ -125,7 +125,7 @@ slot_is_form c (ScalarForm s) a = ap (slot_of s) (let e : capped (0 + capped a) 
 slot_is_form c (ArrayForm bounds element) a = refl
 slot_is_form c (BlockForm block) a = refl
 
-module _ (c : Config) (checked : IsChecked c) (at : ℕ) (u : ProgramUnit) (there : slice_get c.units at ≡ Some u) where
+module _ (c : Config) (checked : IsChecked c) (u : ProgramUnit) (itself : unit_named c u.name.name ≡ Some u) where
   abbrev n : Names
   n = program_names c u.name.name
 
@@ -143,7 +143,7 @@ module _ (c : Config) (checked : IsChecked c) (at : ℕ) (u : ProgramUnit) (ther
       → map (λ o. by_resolved (literal_beside f) (resolve c u o.reference)) os ≡ map (λ o. operand_of n (argument_literal f) (denotation c u o.reference)) os
   operands_are f [] = refl
   operands_are f (o ∷ os) =
-      ap₂ (λ x xs. x ∷ xs) (ap (λ g. by_resolved g (resolve c u o.reference)) (literals_are f) ∙ resolved_is c checked at u there (argument_literal f) o.reference) (operands_are f os)
+      ap₂ (λ x xs. x ∷ xs) (ap (λ g. by_resolved g (resolve c u o.reference)) (literals_are f) ∙ resolved_is c checked u itself (argument_literal f) o.reference) (operands_are f os)
 
   -- OWN ONES
 
@@ -154,13 +154,16 @@ module _ (c : Config) (checked : IsChecked c) (at : ℕ) (u : ProgramUnit) (ther
     v_among : Contains c.units v
     v_among = at_contains c.units k v own.there
 
+    v_itself : unit_named c v.name.name ≡ Some v
+    v_itself = unit_found c checked.declared v v_among
+
     declared_by_name : declared_in c name ≡ unit_entities c v
     declared_by_name = ap (entities_if c) (function_is_unit c name v own.is).0
 
     -- an input has its offset
     pub input_offset : (word : Text) (f : Form) → Contains (named_forms v.inputs) (word, f) → option_and_then (λ t. get t word) (slice_get (all_offsets c) k) ≡ Some (n.input name word)
     input_offset word f has =
-        let found : form_in (unit_entities c v) word ≡ Some f = seen c checked k v own.there word f (inputs_seen c checked.declared v name (word, f) own.is has) in
+        let found : form_in (unit_entities c v) word ≡ Some f = seen c checked v v_itself word f (inputs_seen c checked.declared v name (word, f) own.is has) in
         ap (option_and_then (λ t. get t word)) (table_there c v k (all_offsets c) refl own.there) ∙ offsets_are c (unit_entities c v) word
         ∙ ap (option_map (λ g. capped (offset_in (form_width (block_width 17 c)) (unit_entities c v) word))) found
         ∙ ap (λ es. Some (capped (offset_in (form_width (block_width 17 c)) es word))) (sym declared_by_name)
@@ -183,7 +186,7 @@ module _ (c : Config) (checked : IsChecked c) (at : ℕ) (u : ProgramUnit) (ther
         let known_as : function_known c k (shown c e) ≡ Some (record { declared = type_of c e.form; offset = n.input name e.name }) = ap (known_by (Some (type_of c e.form))) (input_offset e.name e.form (each e (at_head e es))) in
         ap₂ (λ to as_. record { to = to; from = as_ } ∷ arguments_at c u k (map (shown c) es) os)
         (ap (slot_known 0) known_as ∙ slot_is e.form (offset_in (form_width (block_width 17 c)) (declared_in c name) e.name))
-        (ap (λ w. by_resolved (literal_known w) (resolve c u o.reference)) known_as ∙ ap (λ g. by_resolved g (resolve c u o.reference)) (literal_is e.form (n.input name e.name)) ∙ resolved_is c checked at u there (literal_for (Some e.form)) o.reference)
+        (ap (λ w. by_resolved (literal_known w) (resolve c u o.reference)) known_as ∙ ap (λ g. by_resolved g (resolve c u o.reference)) (literal_is e.form (n.input name e.name)) ∙ resolved_is c checked u itself (literal_for (Some e.form)) o.reference)
         ∙ ap (λ xs. record { to = slot_of_form (Some e.form) (n.input name e.name); from = operand_of n (literal_for (Some e.form)) (denotation c u o.reference) } ∷ xs) (arguments_are es os (λ d has. each d (in_tail e es d has)))
 
     each_input : (e : Entity) → Contains (entities v.inputs) e → Contains (named_forms v.inputs) (e.name, e.form)

@@ -2,3 +2,4 @@ pub mod Resolve
 pub mod Calling
 pub mod Invoking
 pub mod Functions
+pub mod Tables

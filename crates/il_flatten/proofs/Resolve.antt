@@ -1,7 +1,8 @@
 -- Names resolve to what they denote.
-use Rattle.std.proofs.Common.{◌≡◌, ℕ, ◌+◌, ◌<◌, ◌≤◌, ◌^◌, Bool, true, false, List, [], ◌∷◌, ◌++◌, append_assoc, map, length, slice_get, refl, sym, ap, ap₂, ◌∙◌, subst, Option, Some, None, ℤ, pos, neg_ℤ, ◌+ℤ◌, ◌≤ℤ◌, arith}
+use Rattle.std.proofs.Common.{◌≡◌, ℕ, ◌+◌, ◌<◌, ◌≤◌, ◌^◌, Bool, true, false, List, [], ◌∷◌, ◌++◌, append_assoc, map, length, drop, get_or, slice_get, refl, sym, ap, ap₂, ◌∙◌, subst, Option, Some, None, ℤ, pos, neg_ℤ, ◌+ℤ◌, ◌≤ℤ◌, arith}
 use Rattle.std.specs.Prelude.{option_map, option_and_then, Contains, bytes_eq, if◌then◌else◌}
 use Rattle.std.proofs.lemmas.Int.{ints}
+use Rattle.std.proofs.lemmas.List.{drop_more}
 use Rattle.std.proofs.lemmas.Option.{same_Some}
 use Rattle.il_spec.specs.declared.tree.Subrange.{Subrange}
 use Rattle.il_spec.specs.declared.tree.Form.{Form}
@@ -9,6 +10,7 @@ use Rattle.il_spec.specs.declared.tree.Form.TheVariants.{Scalar as ScalarForm, A
 use Rattle.il_spec.specs.declared.tree.Argument.{Argument}
 use Rattle.il_spec.specs.declared.tree.Argument.TheVariants.{Input, Output}
 use Rattle.il_slots.specs.declared.flat.Assignment.{Assignment}
+use Rattle.il_slots.specs.declared.flat.Copied.{Copied}
 use Rattle.il_spec.specs.declared.tree.Scalar.{Scalar}
 use Rattle.il_spec.specs.declared.tree.Literal.{Literal}
 use Rattle.il_spec.specs.declared.tree.Index.TheVariants.{Number, Variable as ByVariable}
@@ -17,17 +19,16 @@ use Rattle.il_spec.specs.declared.tree.Reference.TheVariants.{Literal as Literal
 use Rattle.il_spec.specs.declared.tree.Unit.{Unit as ProgramUnit}
 use Rattle.il_spec.specs.declared.tree.Config.{Config}
 use Rattle.il_rules.specs.declared.names.StandardBlock.{StandardBlock}
-use Rattle.il_rules.specs.Names as rule
-use Rattle.il_rules.specs.Names.{or_else, entry_of, BlockVariables, block_variables, Meaning, MeansVariable, MeansUnit, MeansStandard, meaning, meant_variable, form_named}
+use Rattle.il_rules.specs.Names.{or_else, entry_of, BlockVariables, block_variables, unit_named, form_named}
 use Rattle.il_rules.specs.Declarations.{is_within}
 use Rattle.il_table.specs.NameMap.{NameMap, Text, get}
 use Rattle.il_run.specs.Meaning.{Entity, width, block_entities, inputs_of, outputs_of, direct, element_of, indexed_by, inside, member_of, denotation}
-use Rattle.il_scope.specs.declared.entry.Binding.{Binding}
 use Rattle.il_scope.specs.declared.entry.VariableType.{VariableType}
 use Rattle.il_scope.specs.declared.entry.VariableType.TheVariants.{Array, Instance}
 use Rattle.il_scope.specs.declared.entry.BlockType.{BlockType}
 use Rattle.il_scope.specs.declared.entry.BlockType.TheVariants.{Standard, Own}
-use Rattle.il_scope.specs.Views.{type_of, binding_of, block_type, variables_of_block}
+use Rattle.il_scope.specs.Views.{type_of, block_type, variables_of_block}
+use Rattle.il_scan_laws.proofs.Named.{found_unit}
 use Rattle.il_scope.proofs.Laws.{block_found}
 use Rattle.il_slots.specs.declared.flat.Operand.{Operand}
 use Rattle.il_slots.specs.declared.flat.Operand.TheVariants.{At, Outside}
@@ -37,23 +38,13 @@ use Rattle.il_slots.specs.Flattened.{Names, slot_of, index_in, operand_of, block
 use Rattle.il_slots.specs.Places.{capped, form_width, block_width, unit_entities, declared_in}
 use Rattle.il_slots.specs.Making.{shown, standard_list, standard_number, standard_lists, sizes_of, offsets_of, unit_offsets, all_offsets, IsChecked}
 use Rattle.il_slots.specs.Program.{program_names}
-use Rattle.il_flatten.specs.Resolving.{declared_by, known, known_by, word_offset, input_known, output_known, direct_operand, numbered_operand, indexed_operand, inside_by, member_by, member_operand, resolve, by_resolved, assigned_at, with_input, inputs_at, IsSmall, IsShortType}
+use Rattle.il_flatten.specs.Resolving.{known, known_by, word_offset, input_known, output_known, direct_operand, numbered_operand, indexed_operand, inside_by, member_by, member_operand, resolve, by_resolved, assigned_at, copied_at, with_input, with_output, inputs_at, outputs_at, IsSmall, IsShortType}
 use Rattle.il_slots.proofs.Declared.{own as is_own, declared_is as unit_declared, unit_form, words, block_is_standard, block_alone, block_is_no_function}
 use Rattle.il_slots.proofs.Tested.{image_is}
 use Rattle.il_slots.proofs.IsPlaced.{index_below, within_limits}
-use Rattle.il_slots.proofs.Uses.{unit_found}
 use Rattle.il_slots.proofs.Distinct.{blocks_named, unit_entities_named}
 use Rattle.il_slots.proofs.Counted.{mapped_at, at_own, at_standard, IsBlock, of_standard, of_own, of_none, which_block, standard_is, standard_at, offset_found, offsets_are}
 use Rattle.il_slots.proofs.Tasks.{at_contains}
-
-by_meaning : (c : Config) (m : Option Meaning) → declared_by (option_map (binding_of c) m) ≡ option_map (type_of c) (option_map (λ v. v.form) (meant_variable m))
-by_meaning c None = refl
-by_meaning c (Some (MeansVariable v)) = refl
-by_meaning c (Some (MeansUnit u)) = refl
-by_meaning c (Some MeansStandard) = refl
-
-pub declared_is : (c : Config) (u : ProgramUnit) (name : Text) (b : Option Binding) → b ≡ option_map (binding_of c) (meaning c u name) → declared_by b ≡ option_map (type_of c) (form_named c u name)
-declared_is c u name b is = ap declared_by is ∙ by_meaning c (meaning c u name)
 
 -- the table of a unit stands at its number
 pub table_there : (c : Config) (u : ProgramUnit) (at : ℕ) (tables : List (NameMap ℕ)) → tables ≡ all_offsets c → slice_get c.units at ≡ Some u → slice_get tables at ≡ Some (unit_offsets c u)
@@ -68,9 +59,9 @@ short_form (e ∷ es) name f named is = by_test (bytes_eq e.name name) is (short
     by_test true is more = subst HasShort (same_Some e.form f is) named.3
     by_test false is more = more is
 
-module _ (c : Config) (checked : IsChecked c) (at : ℕ) (u : ProgramUnit) (there : slice_get c.units at ≡ Some u) where
+module _ (c : Config) (checked : IsChecked c) (u : ProgramUnit) (itself : unit_named c u.name.name ≡ Some u) where
   among : Contains c.units u
-  among = at_contains c.units at u there
+  among = found_unit c u.name.name u itself
 
   named : AreNamed (unit_entities c u)
   named = unit_entities_named c checked.declared u checked.written among
@@ -81,14 +72,14 @@ module _ (c : Config) (checked : IsChecked c) (at : ℕ) (u : ProgramUnit) (ther
   offset_is : (name : Text) (f : Form) → form_named c u name ≡ Some f → get (unit_offsets c u) name ≡ Some ((program_names c u.name.name).offset name)
   offset_is name f is =
       offsets_are c (unit_entities c u) name ∙ ap (option_map (λ g. capped (offset_in (form_width (block_width 17 c)) (unit_entities c u) name))) (seen name f is)
-      ∙ ap (λ es. Some (capped (offset_in (form_width (block_width 17 c)) es name))) (sym (unit_declared c u (unit_found c checked.declared u among)))
+      ∙ ap (λ es. Some (capped (offset_in (form_width (block_width 17 c)) es name))) (sym (unit_declared c u itself))
 
   by_form : (name : Text) (o : Option Form) → form_named c u name ≡ o → known_by (option_map (type_of c) o) (get (unit_offsets c u) name) ≡ option_map (λ f. record { declared = type_of c f; offset = (program_names c u.name.name).offset name }) o
   by_form name None is = refl
   by_form name (Some f) is = ap (known_by (Some (type_of c f))) (offset_is name f is)
 
-  pub known_is : (name : Text) (t : Option VariableType) (k : Option ℕ) → t ≡ option_map (type_of c) (form_named c u name) → k ≡ get (unit_offsets c u) name → known_by t k ≡ known c u name
-  known_is name t k typed placed = ap₂ known_by typed placed ∙ by_form name (form_named c u name) refl
+  pub known_is : (own : NameMap ℕ) → own ≡ unit_offsets c u → (name : Text) (t : Option VariableType) (k : Option ℕ) → t ≡ option_map (type_of c) (form_named c u name) → k ≡ get own name → known_by t k ≡ known c u name
+  known_is own are name t k typed placed = ap₂ known_by typed (placed ∙ ap (λ m. get m name) are) ∙ by_form name (form_named c u name) refl
 
   small_form : (name : Text) (o : Option Form) → form_named c u name ≡ o → IsSmall (option_map (λ f. record { declared = type_of c f; offset = (program_names c u.name.name).offset name }) o)
   small_form name None is = tt
@@ -148,7 +139,7 @@ block_of_name c checked name b is = record { variables = ap (option_and_then (va
 
 -- OPERANDS
 
-module _ (c : Config) (checked : IsChecked c) (at : ℕ) (u : ProgramUnit) (there : slice_get c.units at ≡ Some u) where
+module _ (c : Config) (checked : IsChecked c) (u : ProgramUnit) (itself : unit_named c u.name.name ≡ Some u) where
   abbrev n : Names
   n = program_names c u.name.name
 
@@ -160,7 +151,7 @@ module _ (c : Config) (checked : IsChecked c) (at : ℕ) (u : ProgramUnit) (ther
 
   -- an instance's name leads to its block
   declared_form : (instance : Text) (f : Form) → form_named c u instance ≡ Some f → form_in (declared_in c u.name.name) instance ≡ Some f
-  declared_form instance f is = ap (λ es. form_in es instance) (unit_declared c u (unit_found c checked.declared u (among c checked at u there))) ∙ seen c checked at u there instance f is
+  declared_form instance f is = ap (λ es. form_in es instance) (unit_declared c u itself) ∙ seen c checked u itself instance f is
 
   -- a word of a block has a type and an offset
   word_known : (name : Text) (b : BlockType) → block_type c name ≡ Some b → (word : Text) (o : Option Form) → ((f : Form) → o ≡ Some f → form_in (block_entities c name) word ≡ Some f)
@@ -268,8 +259,25 @@ module _ (c : Config) (checked : IsChecked c) (at : ℕ) (u : ProgramUnit) (ther
     resolved_is (Element name (ByVariable v)) = sym (indexed_is name v (form_named c u name))
     resolved_is (Member instance word) = sym (member_is instance word (form_named c u instance) refl)
 
--- INPUTS
+-- ARGUMENTS
 
-pub next_input : (c : Config) (u : ProgramUnit) (b : BlockType) (base : ℕ) (inputs : List Assignment) (a : Argument) (more : List Argument) → with_input c u b base inputs a ++ inputs_at c u b base more ≡ inputs ++ inputs_at c u b base (a ∷ more)
-next_input c u b base inputs (Input word operand) more = append_assoc inputs (assigned_at c u b base word operand ∷ []) (inputs_at c u b base more)
-next_input c u b base inputs (Output word to) more = refl
+with_next_input : (c : Config) (u : ProgramUnit) (b : BlockType) (base : ℕ) (inputs : List Assignment) (a : Argument) (more : List Argument) → with_input c u b base inputs a ++ inputs_at c u b base more ≡ inputs ++ inputs_at c u b base (a ∷ more)
+with_next_input c u b base inputs (Input word operand) more = append_assoc inputs (assigned_at c u b base word operand ∷ []) (inputs_at c u b base more)
+with_next_input c u b base inputs (Output word to) more = refl
+
+with_next_output : (c : Config) (u : ProgramUnit) (b : BlockType) (base : ℕ) (outputs : List Copied) (a : Argument) (more : List Argument) → with_output c u b base outputs a ++ outputs_at c u b base more ≡ outputs ++ outputs_at c u b base (a ∷ more)
+with_next_output c u b base outputs (Output word to) more = append_assoc outputs (copied_at c u b base word to ∷ []) (outputs_at c u b base more)
+with_next_output c u b base outputs (Input word operand) more = refl
+
+-- one argument more
+pub next_input : (c : Config) (u : ProgramUnit) (b : BlockType) (base : ℕ) (arguments : List Argument) (i : ℕ) (a : Argument) (inputs after all : List Assignment) → i < length arguments → a ≡ get_or arguments i a → after ≡ with_input c u b base inputs a
+    → inputs ++ inputs_at c u b base (drop i arguments) ≡ all → after ++ inputs_at c u b base (drop (i + 1) arguments) ≡ all
+next_input c u b base arguments i a inputs after all low is grown rest =
+    ap (λ x. x ++ inputs_at c u b base (drop (i + 1) arguments)) grown ∙ with_next_input c u b base inputs a (drop (i + 1) arguments)
+    ∙ ap (λ x. inputs ++ inputs_at c u b base x) (sym (drop_more arguments i a low ∙ ap (λ x. x ∷ drop (i + 1) arguments) (sym is))) ∙ rest
+
+pub next_output : (c : Config) (u : ProgramUnit) (b : BlockType) (base : ℕ) (arguments : List Argument) (i : ℕ) (a : Argument) (outputs after all : List Copied) → i < length arguments → a ≡ get_or arguments i a → after ≡ with_output c u b base outputs a
+    → outputs ++ outputs_at c u b base (drop i arguments) ≡ all → after ++ outputs_at c u b base (drop (i + 1) arguments) ≡ all
+next_output c u b base arguments i a outputs after all low is grown rest =
+    ap (λ x. x ++ outputs_at c u b base (drop (i + 1) arguments)) grown ∙ with_next_output c u b base outputs a (drop (i + 1) arguments)
+    ∙ ap (λ x. outputs ++ outputs_at c u b base x) (sym (drop_more arguments i a low ∙ ap (λ x. x ∷ drop (i + 1) arguments) (sym is))) ∙ rest

@@ -20,8 +20,6 @@ use Rattle.il_slots.specs.Cells.{IsShort}
 use Rattle.il_scope.specs.declared.entry.BlockType.{BlockType}
 use Rattle.il_scope.specs.declared.entry.VariableType.{VariableType}
 use Rattle.il_scope.specs.declared.entry.VariableType.TheVariants.{Scalar, Array, Instance}
-use Rattle.il_scope.specs.declared.entry.Binding.{Binding}
-use Rattle.il_scope.specs.declared.entry.Binding.TheVariants as means
 use Rattle.il_scope.specs.Views.{type_of, variables_of_block}
 use Rattle.il_slots.specs.declared.flat.Operand.{Operand}
 use Rattle.il_slots.specs.declared.flat.Operand.TheVariants.{Constant as Fixed, At, Element as IndexedBy, Outside}
@@ -49,11 +47,6 @@ use Rattle.il_slots.specs.Program.{program_names}
 abbrev pub known_by : Option VariableType → Option ℕ → Option Known
 known_by (Some t) (Some k) = Some (record { declared = t; offset = k })
 known_by _ _ = None
-
--- the type of the variable that a name means
-abbrev pub declared_by : Option Binding → Option VariableType
-declared_by (Some (means.Variable v)) = Some v.declared
-declared_by _ = None
 
 -- the variable that a name means in a unit
 abbrev pub known : Config → ProgramUnit → Text → Option Known
@@ -166,6 +159,11 @@ abbrev pub with_input : Config → ProgramUnit → BlockType → ℕ → List As
 with_input c u b base inputs (Input word operand) = inputs ++ assigned_at c u b base word operand ∷ []
 with_input c u b base inputs (Output word to) = inputs
 
+-- and if it is an output
+abbrev pub with_output : Config → ProgramUnit → BlockType → ℕ → List Copied → Argument → List Copied
+with_output c u b base outputs (Output word to) = outputs ++ copied_at c u b base word to ∷ []
+with_output c u b base outputs (Input word operand) = outputs
+
 -- all of them
 abbrev pub inputs_at : Config → ProgramUnit → BlockType → ℕ → List Argument → List Assignment
 inputs_at c u b base [] = []
@@ -241,9 +239,9 @@ fresh_list k [] = []
 fresh_list k (v ∷ vs) = fresh_by v.declared v.initial k ∷ fresh_list (suc k) vs
 
 -- the slot of a first input
-abbrev pub first_of : Config → ℕ → List Variable → Slot
-first_of c k [] = Flag 0
-first_of c k (v ∷ vs) = slot_known 0 (function_known c k v)
+abbrev pub first_of : Config → ProgramUnit → List Variable → Slot
+first_of c u [] = Flag 0
+first_of c u (v ∷ vs) = slot_known 0 (known c u v.name)
 
-abbrev pub function_code_of : Config → ProgramUnit → ℕ → List Variable → List Variable → FunctionCode
-function_code_of c u k inputs all = record { first = first_of c k inputs; result = slot_known 0 (known c u u.name.name); fresh = reverse (fresh_list 0 all) }
+abbrev pub function_code_of : Config → ProgramUnit → List Variable → List Variable → FunctionCode
+function_code_of c u inputs all = record { first = first_of c u inputs; result = slot_known 0 (known c u u.name.name); fresh = reverse (fresh_list 0 all) }

@@ -4,14 +4,14 @@ ghost use Rattle.std.specs.Prelude.{◌≡◌, IfOk, OnOk};
 ghost use Rattle.il_rules.specs.Names.{form_named};
 ghost use Rattle.il_slots.specs.Flattened.{slot_in, calls_form};
 ghost use Rattle.il_slots.specs.Program.{program_names};
-ghost use Rattle.il_flatten.specs.Resolving.{assigned_at, copied_at, with_input, inputs_at, outputs_at, block_call, call_of};
+ghost use Rattle.il_flatten.specs.Resolving.{assigned_at, copied_at, with_input, with_output, inputs_at, outputs_at, block_call, call_of};
 
 use crate::here::Here;
 use crate::operands::{Known, name_operand, operand_for, resolve, slot_known};
 use il_scope::entry::{BlockType, VariableType};
 use il_slots::flat::{Assignment, Copied, Flat, Operand, Slot};
-use il_spec::list::Items;
 use il_spec::tree::{Argument, Condition, Named, Operand as Written};
+use lists::Items;
 use std::alloc::{AllocError, Global};
 
 // The slot of an operand that names a variable.
@@ -32,7 +32,7 @@ fn assignment(
     word: &Named,
     from: &Written,
 ) -> Assignment
-    ensures { result ≡ assigned_at here.now.names.now here.now.unit.now block base word.now from.now }
+    ensures { result ≡ assigned_at here.now.scope.config here.now.scope.unit block base word.now from.now }
 {
     let input = here.input(block, word.name.as_str());
     Assignment {
@@ -43,7 +43,7 @@ fn assignment(
 
 // An output of a call, and where it is copied to.
 fn copied(here: &Here, block: BlockType, base: usize, word: &Named, to: &Named) -> Copied
-    ensures { result ≡ copied_at here.now.names.now here.now.unit.now block base word.now to.now }
+    ensures { result ≡ copied_at here.now.scope.config here.now.scope.unit block base word.now to.now }
 {
     let output = here.output(block, word.name.as_str());
     Copied {
@@ -60,7 +60,7 @@ fn add_input(
     inputs: &mut Items<Assignment>,
     argument: &Argument,
 ) -> Result<(), AllocError>
-    ensures { OnOk result (inputs.new ≡ with_input here.now.names.now here.now.unit.now block base inputs.old argument.now) }
+    ensures { OnOk result (inputs.new ≡ with_input here.now.scope.config here.now.scope.unit block base inputs.old argument.now) }
 {
     match argument {
         Argument::Input { word, operand } => {
@@ -70,8 +70,25 @@ fn add_input(
     }
 }
 
+// Adds an argument, if it is an output.
+fn add_output(
+    here: &Here,
+    block: BlockType,
+    base: usize,
+    outputs: &mut Items<Copied>,
+    argument: &Argument,
+) -> Result<(), AllocError>
+    ensures { OnOk result (outputs.new ≡ with_output here.now.scope.config here.now.scope.unit block base outputs.old argument.now) }
+{
+    match argument {
+        Argument::Output { word, target } => {
+            outputs.push(copied(here, block, base, word, target))
+        }
+        Argument::Input { .. } => Ok(()),
+    }
+}
+
 // The inputs of a call, in the written order.
-#[tactic(auto, using(crate::proofs::Resolve::next_input))]
 fn inputs_at(
     alloc: Global,
     here: &Here,
@@ -79,7 +96,7 @@ fn inputs_at(
     base: usize,
     arguments: &[Argument],
 ) -> Result<Items<Assignment>, AllocError>
-    ensures { IfOk result (λ is. is ≡ inputs_at here.now.names.now here.now.unit.now block base arguments.now) }
+    ensures { IfOk result (λ is. is ≡ inputs_at here.now.scope.config here.now.scope.unit block base arguments.now) }
 {
     let mut inputs = Items::new(alloc);
     for argument in arguments {
@@ -96,13 +113,11 @@ fn outputs_at(
     base: usize,
     arguments: &[Argument],
 ) -> Result<Items<Copied>, AllocError>
-    ensures { IfOk result (λ os. os ≡ outputs_at here.now.names.now here.now.unit.now block base arguments.now) }
+    ensures { IfOk result (λ os. os ≡ outputs_at here.now.scope.config here.now.scope.unit block base arguments.now) }
 {
     let mut outputs = Items::new(alloc);
     for argument in arguments {
-        if let Argument::Output { word, target } = argument {
-            outputs.push(copied(here, block, base, word, target))?;
-        }
+        add_output(here, block, base, &mut outputs, argument)?;
     }
     Ok(outputs)
 }
@@ -116,7 +131,7 @@ fn block_call(
     arguments: &[Argument],
     block: BlockType,
 ) -> Result<Flat, AllocError>
-    ensures { IfOk result (λ f. f ≡ block_call here.now.names.now here.now.unit.now condition base arguments.now block) }
+    ensures { IfOk result (λ f. f ≡ block_call here.now.scope.config here.now.scope.unit condition base arguments.now block) }
 {
     let inputs = inputs_at(alloc, here, block, base, arguments)?;
     let outputs = outputs_at(alloc, here, block, base, arguments)?;
@@ -146,7 +161,7 @@ fn call_of(
     arguments: &[Argument],
     known: Option<Known>,
 ) -> Result<Flat, AllocError>
-    ensures { IfOk result (λ f. f ≡ call_of here.now.names.now here.now.unit.now condition arguments.now known) }
+    ensures { IfOk result (λ f. f ≡ call_of here.now.scope.config here.now.scope.unit condition arguments.now known) }
 {
     let Some(known) = known else {
         return Ok(Flat::Not);
@@ -167,7 +182,7 @@ pub fn call(
     instance: &Named,
     arguments: &[Argument],
 ) -> Result<Flat, AllocError>
-    ensures { IfOk result (λ f. f ≡ calls_form (program_names here.now.names.now here.now.unit.now.name.name) here.now.names.now here.now.unit.now condition instance.now.name arguments.now (form_named here.now.names.now here.now.unit.now instance.now.name)) }
+    ensures { IfOk result (λ f. f ≡ calls_form (program_names here.now.scope.config here.now.scope.unit.name.name) here.now.scope.config here.now.scope.unit condition instance.now.name arguments.now (form_named here.now.scope.config here.now.scope.unit instance.now.name)) }
 {
     let known = here.known(instance.name.as_str());
     call_of(alloc, here, condition, arguments, known)

@@ -12,8 +12,8 @@ use il_rules::names::StandardFunction;
 use il_scope::functions::standard_function;
 use il_slots::flat::{Assignment, Flat, Operand};
 use il_slots::variables::Variable;
-use il_spec::list::Items;
 use il_spec::tree::{Literal, Named, Operand as Written};
+use lists::Items;
 use std::alloc::{AllocError, Global};
 
 // A literal among the further arguments of a standard function: those of SEL have types of their own.
@@ -43,7 +43,7 @@ fn operands(
     function: StandardFunction,
     from: &[Written],
 ) -> Result<Items<Operand>, AllocError>
-    ensures { IfOk result (λ os. os ≡ map (λ o. by_resolved (literal_beside function) (resolve here.now.names.now here.now.unit.now o.reference)) from.now) }
+    ensures { IfOk result (λ os. os ≡ map (λ o. by_resolved (literal_beside function) (resolve here.now.scope.config here.now.scope.unit o.reference)) from.now) }
 {
     let mut operands = Items::new(alloc);
     for written in from {
@@ -54,7 +54,7 @@ fn operands(
 
 // An input of an own function, and what it is given.
 fn argument(here: &Here, unit: usize, input: &Variable, from: &Written) -> Assignment
-    ensures { result ≡ argument_at here.now.names.now here.now.unit.now unit input.now from.now }
+    ensures { result ≡ argument_at here.now.scope.config here.now.scope.unit unit input.now from.now }
 {
     let known = here.function_variable(unit, input);
     Assignment {
@@ -71,7 +71,7 @@ fn arguments(
     inputs: &[Variable],
     from: &[Written],
 ) -> Result<Items<Assignment>, AllocError>
-    ensures { IfOk result (λ xs. xs ≡ arguments_at here.now.names.now here.now.unit.now unit inputs.now from.now) }
+    ensures { IfOk result (λ xs. xs ≡ arguments_at here.now.scope.config here.now.scope.unit unit inputs.now from.now) }
 {
     let mut all = Items::new(alloc);
     let count = inputs.len().min(from.len());
@@ -98,7 +98,7 @@ fn own_call(
     unit: usize,
     from: &[Written],
 ) -> Result<Items<Assignment>, AllocError>
-    ensures { IfOk result (λ xs. xs ≡ arguments_at here.now.names.now here.now.unit.now unit (drop 1 (unit_inputs here.now.names.now unit)) from.now) }
+    ensures { IfOk result (λ xs. xs ≡ arguments_at here.now.scope.config here.now.scope.unit unit (drop 1 (unit_inputs here.now.scope.config unit)) from.now) }
 {
     let inputs = here.inputs_of(alloc, unit)?;
     arguments(alloc, here, unit, further(inputs.as_slice()), from)
@@ -112,7 +112,7 @@ fn invoke_of(
     standard: Option<StandardFunction>,
     own: Option<usize>,
 ) -> Result<Flat, AllocError>
-    ensures { IfOk result (λ f. f ≡ invoke_of here.now.names.now here.now.unit.now from.now standard own) }
+    ensures { IfOk result (λ f. f ≡ invoke_of here.now.scope.config here.now.scope.unit from.now standard own) }
 {
     match (standard, own) {
         (Some(function), _) => Ok(Flat::Apply {
@@ -134,7 +134,7 @@ pub fn invoke(
     function: &Named,
     from: &[Written],
 ) -> Result<Flat, AllocError>
-    ensures { IfOk result (λ f. f ≡ invokes (program_names here.now.names.now here.now.unit.now.name.name) here.now.names.now here.now.unit.now function.now.name from.now (standard_function function.now.name) (function_named here.now.names.now function.now.name)) }
+    ensures { IfOk result (λ f. f ≡ invokes (program_names here.now.scope.config here.now.scope.unit.name.name) here.now.scope.config here.now.scope.unit function.now.name from.now (standard_function function.now.name) (function_named here.now.scope.config function.now.name)) }
 {
     let name = function.name.as_str();
     invoke_of(
@@ -142,6 +142,6 @@ pub fn invoke(
         here,
         from,
         standard_function(name),
-        here.names.function(name),
+        here.scope.names().function(name),
     )
 }

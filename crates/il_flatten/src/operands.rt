@@ -10,7 +10,7 @@ ghost use Rattle.il_slots.specs.Flattened.{slot_of, index_in, numbered, typed, u
 ghost use Rattle.il_flatten.specs.Resolving.{scalar_operand, direct_operand, numbered_by, numbered_operand, index_by, indexed_operand, inside_by, member_by, member_operand, element_operand, resolve, known, by_resolved, literal_known, slot_known, IsSmall};
 
 use crate::here::Here;
-use il_rules::elementary::{declared_limits, has_value};
+use il_rules::elementary::{declared_limits, has_value, is_within};
 use il_run::value::{Content, Value};
 use il_scope::entry::VariableType;
 use il_slots::flat::{Operand, Slot};
@@ -97,13 +97,6 @@ fn direct_operand(known: Option<Known>) -> Operand
     }
 }
 
-// Whether a number lies within bounds.
-fn is_within(bounds: Subrange, number: i64) -> bool
-    ensures { result ≡ is_within bounds number }
-{
-    bounds.lower <= number && number <= bounds.upper
-}
-
 // How far an element stands from the first.
 fn index_in(bounds: Subrange, number: i64) -> usize
     ensures { result ≡ index_in bounds number }
@@ -174,7 +167,7 @@ fn inside_by(offset: usize, word: Option<Known>) -> Operand
 
 // A word of an instance.
 fn member_operand(here: &Here, instance: Option<Known>, word: &str) -> Operand
-    ensures { result ≡ member_operand here.now.names.now instance word.now }
+    ensures { result ≡ member_operand here.now.scope.config instance word.now }
 {
     let Some(instance) = instance else {
         return Operand::Outside;
@@ -190,7 +183,7 @@ fn member_operand(here: &Here, instance: Option<Known>, word: &str) -> Operand
 
 // An element by its index.
 fn element_operand(here: &Here, name: &str, index: &Index) -> Operand
-    ensures { result ≡ element_operand (known here.now.names.now here.now.unit.now) name.now index.now }
+    ensures { result ≡ element_operand (known here.now.scope.config here.now.scope.unit) name.now index.now }
 {
     match index {
         Index::Number(number) => numbered_operand(here.known(name), *number),
@@ -202,7 +195,7 @@ fn element_operand(here: &Here, name: &str, index: &Index) -> Operand
 
 /// What an operand resolves to.
 pub fn resolve(here: &Here, from: &Reference) -> Resolved
-    ensures { result ≡ resolve here.now.names.now here.now.unit.now from.now }
+    ensures { result ≡ resolve here.now.scope.config here.now.scope.unit from.now }
 {
     match from {
         Reference::Literal(literal) => Resolved::Literal(*literal),
@@ -218,7 +211,7 @@ pub fn resolve(here: &Here, from: &Reference) -> Resolved
 
 /// A variable as an operand.
 pub fn name_operand(here: &Here, name: &str) -> Operand
-    ensures { result ≡ direct_operand (known here.now.names.now here.now.unit.now name.now) }
+    ensures { result ≡ direct_operand (known here.now.scope.config here.now.scope.unit name.now) }
 {
     direct_operand(here.known(name))
 }
@@ -268,14 +261,14 @@ pub fn operand_for(known: Option<Known>, resolved: Resolved) -> Operand
 
 /// The operand of LD, and of a short form.
 pub fn loaded(here: &Here, from: &Reference) -> Operand
-    ensures { result ≡ operand_of (program_names here.now.names.now here.now.unit.now.name.name) (λ l. typed (natural (Constant l)) l) (denotation here.now.names.now here.now.unit.now from.now) }
+    ensures { result ≡ operand_of (program_names here.now.scope.config here.now.scope.unit.name.name) (λ l. typed (natural (Constant l)) l) (denotation here.now.scope.config here.now.scope.unit from.now) }
 {
     loaded_by(resolve(here, from))
 }
 
 /// An operand beside a current result.
 pub fn beside(here: &Here, from: &Reference) -> Operand
-    ensures { result ≡ operand_of (program_names here.now.names.now here.now.unit.now.name.name) untyped (denotation here.now.names.now here.now.unit.now from.now) }
+    ensures { result ≡ operand_of (program_names here.now.scope.config here.now.scope.unit.name.name) untyped (denotation here.now.scope.config here.now.scope.unit from.now) }
 {
     untyped_by(resolve(here, from))
 }

@@ -2,25 +2,26 @@
 
 ghost use Rattle.std.specs.Prelude.{◌≡◌, ◌<◌, ◌^◌, reverse, length, map, slice_get, Some, IfOk, option_map};
 ghost use Rattle.il_spec.specs.declared.tree.Unit.{Unit as ProgramUnit};
+ghost use Rattle.il_run.specs.Meaning.{entities};
 ghost use Rattle.il_slots.specs.Flattened.{function_by, function_entities};
 ghost use Rattle.il_slots.specs.Making.{IsChecked, all_offsets, shown};
 ghost use Rattle.il_slots.specs.Program.{program_names};
-ghost use Rattle.il_flatten.specs.Resolving.{fresh_by, fresh_list, first_of, function_code_of, unit_inputs};
+ghost use Rattle.il_flatten.specs.Resolving.{fresh_by, fresh_list, first_of, function_code_of};
 ghost use Rattle.il_slots.specs.Whole.{unit_code};
 
 use crate::bodies::flat_code;
 use crate::here::Here;
 use crate::operands::{slot_known, slot_of};
 use il_run::value::Content;
-use il_scope::Scoped;
 use il_scope::entry::VariableType;
+use il_scope::{Scoped, UnitScope};
 use il_slots::flat::{Assignment, FunctionCode, Operand, Slot, UnitCode};
 use il_slots::tables::all_offsets;
-use il_slots::variables::{Variable, function_variables, initial_value};
-use il_spec::list::Items;
+use il_slots::variables::{Variable, function_variables, initial_value, input_variables};
 use il_spec::name::Name;
 use il_spec::tree::{Literal, UnitKind};
 use il_table::Table;
+use lists::Items;
 use std::alloc::{AllocError, Global};
 
 // What a variable begins with, if it is a scalar.
@@ -56,33 +57,35 @@ fn fresh(alloc: Global, list: &[Variable]) -> Result<Items<Assignment>, AllocErr
 }
 
 // The slot of the first input.
-fn first_of(here: &Here, unit: usize, inputs: &[Variable]) -> Slot
-    ensures { result ≡ first_of here.now.names.now unit inputs.now }
+fn first_of(here: &Here, inputs: &[Variable]) -> Slot
+    ensures { result ≡ first_of here.now.scope.config here.now.scope.unit inputs.now }
 {
     match inputs {
-        [first, ..] => slot_known(0, here.function_variable(unit, first)),
+        [first, ..] => slot_known(0, here.known(first.name.as_str())),
         [] => Slot::Flag(0),
     }
 }
 
 // What calls of a function need.
 fn function_code(alloc: Global, here: &Here) -> Result<FunctionCode, AllocError>
-    ensures { IfOk result (λ f. f ≡ function_code_of here.now.names.now here.now.unit.now here.now.at (unit_inputs here.now.names.now here.now.at) (map (shown here.now.names.now) (function_entities here.now.unit.now))) }
+    ensures { IfOk result (λ f. f ≡ function_code_of here.now.scope.config here.now.scope.unit (map (shown here.now.scope.config) (entities here.now.scope.unit.inputs)) (map (shown here.now.scope.config) (function_entities here.now.scope.unit))) }
 {
-    let inputs = here.inputs_of(alloc, here.at)?;
-    let all = function_variables(alloc, here.names, here.unit)?;
+    let names = here.scope.names();
+    let unit = here.scope.tree();
+    let inputs = input_variables(alloc, names, unit)?;
+    let all = function_variables(alloc, names, unit)?;
     Ok(FunctionCode {
-        first: first_of(here, here.at, inputs.as_slice()),
-        result: slot_known(0, here.known(here.unit.name.name.as_str())),
+        first: first_of(here, inputs.as_slice()),
+        result: slot_known(0, here.known(unit.name.name.as_str())),
         fresh: fresh(alloc, all.as_slice())?,
     })
 }
 
 // What calls of a unit need, if it is a function.
 fn function_by(alloc: Global, here: &Here) -> Result<Option<FunctionCode>, AllocError>
-    ensures { IfOk result (λ f. f ≡ function_by (program_names here.now.names.now here.now.unit.now.name.name) here.now.names.now here.now.unit.now here.now.unit.now.kind) }
+    ensures { IfOk result (λ f. f ≡ function_by (program_names here.now.scope.config here.now.scope.unit.name.name) here.now.scope.config here.now.scope.unit here.now.scope.unit.kind) }
 {
-    match here.unit.kind {
+    match here.scope.tree().kind {
         UnitKind::Function(..) => Ok(Some(function_code(alloc, here)?)),
         _ => Ok(None),
     }
@@ -90,10 +93,10 @@ fn function_by(alloc: Global, here: &Here) -> Result<Option<FunctionCode>, Alloc
 
 // The flat code of a unit.
 fn unit_code(alloc: Global, here: &Here) -> Result<UnitCode, AllocError>
-    ensures { IfOk result (λ code. code ≡ unit_code (program_names here.now.names.now) here.now.names.now here.now.unit.now) }
+    ensures { IfOk result (λ code. code ≡ unit_code (program_names here.now.scope.config) here.now.scope.config here.now.scope.unit) }
 {
     Ok(UnitCode {
-        name: Name::of(alloc, here.unit.name.name.as_str())?,
+        name: Name::of(alloc, here.scope.tree().name.name.as_str())?,
         code: flat_code(alloc, here)?,
         function: function_by(alloc, here)?,
     })
@@ -113,10 +116,9 @@ fn code_at(
 {
     let unit = &names.config().units.as_slice()[at];
     let here = Here {
-        names,
+        scope: UnitScope::of(names, at, unit),
+        own: &tables[at],
         tables,
-        at,
-        unit,
     };
     unit_code(alloc, &here)
 }

@@ -3,9 +3,9 @@ use Rattle.std.proofs.Common.{◌≡◌, ◌≢◌, Option, Some, None, option_m
 use Rattle.std.specs.Prelude.{slice_set}
 use Rattle.il_interval.specs.declared.Interval.{Interval}
 use Rattle.il_interval.specs.Interval.{interval_join}
-use Rattle.il_least.specs.Facts.{row_join, one_join, cons_if, deferred_join}
+use Rattle.il_range_laws.specs.Facts.{row_join, one_join, cons_if, deferred_join}
 use Rattle.il_run.specs.declared.known.KnownDeferred.{KnownDeferred}
-use Rattle.il_least.proofs.Rows.{set_length}
+use Rattle.il_range_laws.proofs.Rows.{set_length}
 
 pub joined_to : ℕ → List Interval → List Interval → List Interval
 joined_to zero xs ys = xs

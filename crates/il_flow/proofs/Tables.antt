@@ -4,8 +4,8 @@ use Rattle.std.specs.Prelude.{if◌then◌else◌, slice_set, is_some, option_an
 use Rattle.std.proofs.lemmas.Option.{slice_get-get_or}
 use Rattle.std.proofs.lemmas.Bool.{ne_eqb}
 use Rattle.std.proofs.lemmas.Bool.Decides.{eqb_tells}
-use Rattle.il_least.proofs.Rows.{set_again, set_here, set_there, set_length}
-use Rattle.il_least.specs.Pass.{Moves, Arrived, at_entry, with_known, merged, arrive, go_on, jump_on, spread, moves_at, advance, passed}
+use Rattle.il_range_laws.proofs.Rows.{set_again, set_here, set_there, set_length}
+use Rattle.il_range_laws.specs.Pass.{Moves, Arrived, at_entry, with_known, merged, arrive, go_on, jump_on, spread, moves_at, advance, passed}
 use Rattle.il_flow.specs.Tables.{IsFresh, IsAt, IsFineBelow, IsAheadBelow, PassesOver, target_next, IsRefusedAt, IsStepped, IsPassed, IsInTable, flat, held, Merges, IsAheadOf, StandsFor, Goes, GoesOver, StopsHere, Comes}
 
 pub merges_of : {K : Type 0} (join : K → K → Option K) (old : List (Option K)) (to : ℕ) (k : K) (item x joined : Option K) (found : Bool) → to < length old → item ≡ get_or old to item → joined ≡ merged join item k → found ≡ is_some joined

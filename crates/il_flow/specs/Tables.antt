@@ -1,6 +1,6 @@
 -- The table of what waits at places ahead, and what the pass answers (own rules).
 use Rattle.std.specs.Prelude.{◌≡◌, ℕ, ◌<◌, ◌≤◌, ◌+◌, Bool, true, List, Option, Some, None, length, slice_get, slice_set, is_some}
-use Rattle.il_least.specs.Pass.{Moves, Arrived, at_entry, passed, advance, merged}
+use Rattle.il_range_laws.specs.Pass.{Moves, Arrived, at_entry, passed, advance, merged}
 use Rattle.il_flow.specs.declared.pass.Handed.{Handed}
 
 abbrev pub flat : {K : Type 0} → Option (Option K) → Option K

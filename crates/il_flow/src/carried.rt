@@ -2,7 +2,7 @@
 
 ghost use Rattle.std.specs.Prelude.{◌≡◌, IfOk};
 
-use il_least::facts::Facts;
+use il_range_laws::facts::Facts;
 use std::alloc::{AllocError, Global};
 use std::marker::Model;
 
@@ -13,7 +13,7 @@ pub struct Carried {
 }
 
 impl Model for Carried {
-    ghost use Rattle.il_least.specs.declared.facts.Facts.{Facts};
+    ghost use Rattle.il_range_laws.specs.declared.facts.Facts.{Facts};
 
     ghost Value = { Facts };
 

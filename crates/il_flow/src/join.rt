@@ -2,15 +2,15 @@
 
 ghost use Rattle.std.specs.Prelude.{◌≡◌, length, Option, Some, None, if◌then◌else◌};
 ghost use Rattle.il_interval.specs.Interval.{interval_join};
-ghost use Rattle.il_least.specs.Facts.{known_join, result_join, is_same_operator, one_join, deferred_join, row_join, facts_join};
+ghost use Rattle.il_range_laws.specs.Facts.{known_join, result_join, is_same_operator, one_join, deferred_join, row_join, facts_join};
 ghost use Rattle.il_run.specs.declared.known.KnownDeferred.{KnownDeferred};
 
 use crate::carried::Carried;
 use il_interval::Interval;
-use il_least::facts::Facts;
-use il_row::Row;
+use il_range_laws::facts::Facts;
 use il_rules::elementary::is_same_type;
 use il_run::known::{Known, KnownDeferred};
+use lists::Items;
 
 /// The hull of two ranges.
 pub fn hull(first: Interval, second: Interval) -> Interval
@@ -66,7 +66,7 @@ fn one_join(first: KnownDeferred, second: KnownDeferred) -> Option<KnownDeferred
 }
 
 // All that was set aside on two paths, if it is the same.
-fn join_deferred(deferred: &mut Row<KnownDeferred>, other: &Row<KnownDeferred>) -> bool
+fn join_deferred(deferred: &mut Items<KnownDeferred>, other: &Items<KnownDeferred>) -> bool
     ensures { deferred_join deferred.old other.now ≡ (if result then Some deferred.new else None) }
 {
     if deferred.as_slice().len() != other.as_slice().len() {
@@ -82,7 +82,7 @@ fn join_deferred(deferred: &mut Row<KnownDeferred>, other: &Row<KnownDeferred>) 
 }
 
 /// Each range with that of the same number.
-pub fn join_rows(row: &mut Row<Interval>, other: &Row<Interval>)
+pub fn join_rows(row: &mut Items<Interval>, other: &Items<Interval>)
     requires { length row.old ≡ length other.now }
     ensures { row.new ≡ row_join row.old other.now }
 {

@@ -1,7 +1,7 @@
 // One forward pass over places, with joins where paths meet, over whatever is kept of a place.
 
 ghost use Rattle.std.specs.Prelude.{◌≡◌, ℕ, ◌<◌, ◌+◌, ◌^◌, Option, Some, None, option_map, IfOk, length, slice_set, true, false, Bool};
-ghost use Rattle.il_least.specs.Pass.{Moves, Arrived, passed, advance, merged};
+ghost use Rattle.il_range_laws.specs.Pass.{Moves, Arrived, passed, advance, merged};
 ghost use Rattle.il_flow.specs.Tables.{held, moved, IsAheadOf, IsInTable, target_next, Merges, Comes, IsStepped, IsFresh, IsPassed, IsAheadBelow, IsFineBelow};
 
 use std::alloc::{AllocError, Global};

@@ -4,7 +4,7 @@ ghost use Rattle.std.specs.Prelude.{◌≡◌, ◌≤◌, replicate};
 ghost use Rattle.lift_spec.specs.Image.{opening_car, opening_outputs, opening_image};
 
 use lift_spec::image::{CarFields, CarOutputs, Fields, Image, Motor, Sizes};
-use lift_spec::row::Row;
+use lists::Bounded;
 
 /// How a car stands in the opening world: at floor 1, locked (own rule).
 const OPENING: CarFields = CarFields {
@@ -39,11 +39,11 @@ pub fn opening_image(sizes: Sizes) -> Image
 }
 
 // How the cars stand.
-fn opening_cars(count: u8) -> Row<CarFields, 8>
+fn opening_cars(count: u8) -> Bounded<CarFields, 8>
     requires { count ≤ 8 }
     ensures { result ≡ replicate count opening_car }
 {
-    let mut cars = Row::new();
+    let mut cars = Bounded::new();
     for _ in 0..count {
         cars.push(OPENING);
     }
@@ -51,11 +51,11 @@ fn opening_cars(count: u8) -> Row<CarFields, 8>
 }
 
 // What the cars are told.
-fn opening_outputs(count: u8) -> Row<CarOutputs, 8>
+fn opening_outputs(count: u8) -> Bounded<CarOutputs, 8>
     requires { count ≤ 8 }
     ensures { result ≡ replicate count opening_outputs }
 {
-    let mut outputs = Row::new();
+    let mut outputs = Bounded::new();
     for _ in 0..count {
         outputs.push(QUIET);
     }

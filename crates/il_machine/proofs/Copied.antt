@@ -12,7 +12,7 @@ use Rattle.il_run.specs.declared.value.Value.{Value}
 use Rattle.il_table.specs.NameMap.{Text, order, get, with_entries, get-insert, same_map}
 use Rattle.il_run.specs.State.{Values}
 use Rattle.il_run.specs.Scan.{entries_at}
-use Rattle.il_sound.proofs.Lists.{at_head, in_tail}
+use Rattle.il_scan_laws.proofs.Lists.{at_head, in_tail}
 use Rattle.il_table.proofs.Texts.{same_text}
 use Rattle.il_slots.specs.declared.flat.Cell.{Cell}
 use Rattle.il_slots.specs.Flattened.{place_or_zero}

@@ -24,12 +24,12 @@ use Rattle.il_run.specs.Meaning.{Entity, under, element_path, width, entities}
 use Rattle.il_run.specs.Ranges.{HaveValues, element_scalars, scalars_at, entity_scalars, instance_scalars, external_scalars, global_scalars}
 use Rattle.il_run.specs.Scan.{entries_at, external_paths}
 use Rattle.il_run.specs.State.{Values}
-use Rattle.il_sound.specs.Accepted.{IsAccepted}
-use Rattle.il_sound.specs.Listed.{image_entity}
-use Rattle.il_sound.proofs.Lists.{at_head, in_tail}
-use Rattle.il_sound.proofs.Externals.{shares_globals}
-use Rattle.il_sound.proofs.Meant.{program_is, no_instance, external_typed}
-use Rattle.il_sound.proofs.Paths.{Agree, agree_append, value_of, values_of}
+use Rattle.il_scan_laws.specs.Accepted.{IsAccepted}
+use Rattle.il_scan_laws.specs.Listed.{image_entity}
+use Rattle.il_scan_laws.proofs.Lists.{at_head, in_tail}
+use Rattle.il_scan_laws.proofs.Externals.{shares_globals}
+use Rattle.il_scan_laws.proofs.Meant.{program_is, no_instance, external_typed}
+use Rattle.il_scan_laws.proofs.Paths.{Agree, agree_append, value_of, values_of}
 use Rattle.il_slots.specs.declared.flat.Cell.{Cell}
 use Rattle.il_slots.specs.Cells.{element_cells, cells_at, entity_cells, instance_cells}
 use Rattle.il_slots.specs.Layout.{cell, value_by, number_part, flag_part}
@@ -40,13 +40,13 @@ use Rattle.il_slots.proofs.Tasks.{cells-append, program_among}
 use Rattle.lift_spec.specs.Image.{sizes_of}
 use Rattle.lift_spec.specs.Snapshot.{image_entries, given_entries}
 use Rattle.lift_spec.specs.World.{Group, snapshot_of, InRanges}
-use Rattle.lift_sound.specs.Accepted.{IsSound}
-use Rattle.lift_sound.specs.Tasks.{IsSized, IsTaskOf, role_of}
-use Rattle.lift_sound.specs.Seeing.{image_scalars}
-use Rattle.lift_sound.proofs.Given.{external_are}
-use Rattle.lift_sound.proofs.Kept.{as_many}
-use Rattle.lift_sound.proofs.Seen.{given_scalars, image_agrees, firsts, fields, outputs, places, motors, assigns, waiting, from_row, to_row, car_row}
-use Rattle.lift_sound.proofs.Tasks.{is_sized, task_accepted, same_image}
+use Rattle.lift_run_laws.specs.Accepted.{IsSound}
+use Rattle.lift_run_laws.specs.Tasks.{IsSized, IsTaskOf, role_of}
+use Rattle.lift_run_laws.specs.Seeing.{image_scalars}
+use Rattle.lift_run_laws.proofs.Given.{external_are}
+use Rattle.lift_run_laws.proofs.Kept.{as_many}
+use Rattle.lift_run_laws.proofs.Seen.{given_scalars, image_agrees, firsts, fields, outputs, places, motors, assigns, waiting, from_row, to_row, car_row}
+use Rattle.lift_run_laws.proofs.Tasks.{is_sized, task_accepted, same_image}
 
 -- CELLS OF SCALARS
 

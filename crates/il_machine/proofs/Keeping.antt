@@ -5,12 +5,12 @@ use Rattle.il_spec.specs.declared.tree.Unit.{Unit as ProgramUnit}
 use Rattle.il_run.specs.Scan.{restricted}
 use Rattle.il_run.specs.Ranges.{HoldsTask}
 use Rattle.il_table.specs.ByText.{HaveSameNames}
-use Rattle.il_sound.specs.Agreement.{Holds}
+use Rattle.il_scan_laws.specs.Agreement.{Holds}
 use Rattle.il_slots.specs.Layout.{Rows, rows, Fits}
 use Rattle.il_slots.specs.Program.{own_cells, seen_cells, program_cells}
 use Rattle.il_exec.specs.Going.{Stored}
 use Rattle.lift_spec.specs.Snapshot.{program_of}
-use Rattle.lift_sound.specs.Tasks.{IsTaskOf}
+use Rattle.lift_run_laws.specs.Tasks.{IsTaskOf}
 use Rattle.il_machine.specs.Scanning.{IsRunnable, front, own_view, own_count, kept_by, kept_of, state_of, variables_in, FitsOwn, IsScanOf, OwnsDeclared}
 use Rattle.il_machine.proofs.Over.{front_fits, restricted_is}
 use Rattle.il_machine.proofs.Owned.{own_names, own_held}

@@ -11,13 +11,13 @@ use Rattle.il_rules.specs.Names.{is_predeclared, is_program, program_named}
 use Rattle.il_rules.specs.Declarations.{unknown_program}
 use Rattle.il_rules.specs.Faults.{Declaring, Broken, HasNoFault, bad_task}
 use Rattle.il_budget.specs.Costs.{cost_of, path_of}
-use Rattle.il_costs.proofs.Accepted.{has_longest}
+use Rattle.il_cost_laws.proofs.Accepted.{has_longest}
 use Rattle.il_table.specs.NameMap.{Text}
 use Rattle.il_run.specs.Scan.{program_of as program_by}
 use Rattle.il_run.specs.Paths.{IsLongest, longest}
-use Rattle.il_sound.proofs.Lists.{found_in}
-use Rattle.il_sound.proofs.Meant.{program_is}
-use Rattle.il_sound.proofs.Named.{found_unit, name_of}
+use Rattle.il_scan_laws.proofs.Lists.{found_in}
+use Rattle.il_scan_laws.proofs.Meant.{program_is}
+use Rattle.il_scan_laws.proofs.Named.{found_unit, name_of}
 use Rattle.il_scope.specs.Views.{program_number}
 use Rattle.il_slots.specs.Whole.{number_in}
 use Rattle.il_flatten.proofs.Calling.{number_is}

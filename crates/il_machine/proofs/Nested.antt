@@ -47,7 +47,7 @@ use Rattle.il_run.specs.State.{Values, Frame, State}
 use Rattle.il_run.specs.Meaning.{under, element_path, member_path, natural, fresh_values, Denotation, Constant, Direct, Numbered, Indexed, Inside, Unknown, denotation}
 use Rattle.il_run.specs.Step.{Trap, Outcome, Next, Trapped, Stuck, with_result, with_value, with_boolean, with_integer, with_unit, with_scalar, with_place, provided, WrongKind, OutsideArray, OutsideSubrange, Location, at as at_path, with_location, with_literal, with_kept, with_operand, stored, with_compared, with_number, truth, divides, arithmetic, ZeroDivisor, operated, with_numbers, applied, instruction_or_return, instruction_at, with_acting, Scene, meant, loaded, stored_by, put_aside, evaluated, kept_result, jumped, assigned, copied, begun, called_block, called, called_if, with_standard_arguments, with_arguments, passed, rest_of, invoked, with_function_value, resumed, caller_scene, returned_to, returned_if, executed, step_of, step}
 use Rattle.il_run.specs.Annotation.{Knowledge, Passes}
-use Rattle.il_sound.specs.Agreement.{Agrees, FramesAgree, AreKnown, FrameAgrees}
+use Rattle.il_scan_laws.specs.Agreement.{Agrees, FramesAgree, AreKnown, FrameAgrees}
 use Rattle.il_exec.specs.Framing.{HasRoom}
 use Rattle.il_spec.specs.declared.tree.Named.{Named}
 use Rattle.il_rules.specs.Written.{IsNested}

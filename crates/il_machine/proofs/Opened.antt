@@ -8,8 +8,8 @@ use Rattle.il_spec.specs.declared.tree.Config.{Config}
 use Rattle.il_spec.specs.declared.tree.Unit.{Unit as ProgramUnit}
 use Rattle.il_run.specs.Ranges.{HoldsTask}
 use Rattle.il_run.specs.Scan.{opening_variables}
-use Rattle.il_sound.specs.Accepted.{IsAccepted}
-use Rattle.il_sound.proofs.Opening.{variables_open}
+use Rattle.il_scan_laws.specs.Accepted.{IsAccepted}
+use Rattle.il_scan_laws.proofs.Opening.{variables_open}
 use Rattle.il_slots.specs.Layout.{Rows, Fits, view}
 use Rattle.il_slots.specs.Program.{own_cells, own_values}
 use Rattle.il_slots.specs.Whole.{first_rows}
@@ -22,7 +22,7 @@ use Rattle.lift_spec.specs.declared.calls.Slot.TheVariants.{Free}
 use Rattle.lift_spec.specs.Image.{sizes_of, IsFloor, FieldsInRange, opening_car, opening_outputs, opening_image}
 use Rattle.lift_spec.specs.Calls.{SlotInRange}
 use Rattle.lift_spec.specs.Snapshot.{program_of}
-use Rattle.lift_sound.specs.Tasks.{IsTaskOf}
+use Rattle.lift_run_laws.specs.Tasks.{IsTaskOf}
 use Rattle.il_machine.specs.Scanning.{IsRunnable, HasTask, FitsOwn, OwnsDeclared, own_view, variables_in}
 use Rattle.il_machine.proofs.Owned.{fits_of, own_of}
 use Rattle.il_machine.proofs.Scans.{accepted}

@@ -14,12 +14,12 @@ use Rattle.il_run.specs.Values.{IsOf}
 use Rattle.il_run.specs.State.{State, Values}
 use Rattle.il_run.specs.Meaning.{element_path, width}
 use Rattle.il_run.specs.Ranges.{HasValue, HaveValues, element_scalars, external_scalars, task_scalars}
-use Rattle.il_sound.specs.Accepted.{IsAccepted}
-use Rattle.il_sound.specs.Agreement.{Holds}
-use Rattle.il_sound.specs.Listed.{seen_scalars, given_scalars as scan_scalars}
-use Rattle.il_sound.proofs.Lists.{at_head, in_tail}
-use Rattle.il_sound.proofs.Paths.{value_of, have_first, have_second}
-use Rattle.il_sound.proofs.Starting.{values_are}
+use Rattle.il_scan_laws.specs.Accepted.{IsAccepted}
+use Rattle.il_scan_laws.specs.Agreement.{Holds}
+use Rattle.il_scan_laws.specs.Listed.{seen_scalars, given_scalars as scan_scalars}
+use Rattle.il_scan_laws.proofs.Lists.{at_head, in_tail}
+use Rattle.il_scan_laws.proofs.Paths.{value_of, have_first, have_second}
+use Rattle.il_scan_laws.proofs.Starting.{values_are}
 use Rattle.il_slots.specs.declared.flat.Cell.{Cell}
 use Rattle.il_slots.specs.Layout.{cell, Rows, Fits, view}
 use Rattle.il_slots.specs.Paths.{slot_at}
@@ -30,11 +30,11 @@ use Rattle.il_exec.specs.Going.{Stored}
 use Rattle.il_exec.specs.Framing.{state_by}
 use Rattle.lift_spec.specs.Image.{sizes_of}
 use Rattle.lift_spec.specs.Snapshot.{whole_of, assigned, assigned_from}
-use Rattle.lift_sound.specs.Tasks.{IsTaskOf, output_scalars}
-use Rattle.lift_sound.proofs.Given.{outputs_have}
-use Rattle.lift_sound.proofs.Kept.{as_many}
-use Rattle.lift_sound.proofs.Seen.{firsts, calls, places, motors, assigns}
-use Rattle.lift_sound.proofs.Tasks.{same_image}
+use Rattle.lift_run_laws.specs.Tasks.{IsTaskOf, output_scalars}
+use Rattle.lift_run_laws.proofs.Given.{outputs_have}
+use Rattle.lift_run_laws.proofs.Kept.{as_many}
+use Rattle.lift_run_laws.proofs.Seen.{firsts, calls, places, motors, assigns}
+use Rattle.lift_run_laws.proofs.Tasks.{same_image}
 use Rattle.il_machine.specs.Scanning.{IsRunnable, value_at, kept_of, state_of, IsScanOf}
 use Rattle.il_machine.proofs.Given.{cells_of, seen_cells_are}
 use Rattle.il_machine.proofs.Reading.{reads_slot}

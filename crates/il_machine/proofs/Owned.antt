@@ -14,12 +14,12 @@ use Rattle.il_run.specs.State.{Values}
 use Rattle.il_run.specs.Scan.{function_values, opening_variables}
 use Rattle.il_run.specs.Meaning.{own_entities, depth, block_entities, instance_values, entity_values, fresh_values}
 use Rattle.il_run.specs.Ranges.{HaveValues, HoldsTask, task_scalars}
-use Rattle.il_sound.specs.Accepted.{IsAccepted}
-use Rattle.il_sound.specs.Agreement.{Holds}
-use Rattle.il_sound.specs.Listed.{given_scalars}
-use Rattle.il_sound.proofs.Lists.{in_nothing, at_head, in_tail}
-use Rattle.il_sound.proofs.Opening.{variables_open}
-use Rattle.il_sound.proofs.Starting.{values_are}
+use Rattle.il_scan_laws.specs.Accepted.{IsAccepted}
+use Rattle.il_scan_laws.specs.Agreement.{Holds}
+use Rattle.il_scan_laws.specs.Listed.{given_scalars}
+use Rattle.il_scan_laws.proofs.Lists.{in_nothing, at_head, in_tail}
+use Rattle.il_scan_laws.proofs.Opening.{variables_open}
+use Rattle.il_scan_laws.proofs.Starting.{values_are}
 use Rattle.il_table.specs.ByText.{HaveSameNames}
 use Rattle.il_slots.specs.declared.flat.Cell.{Cell}
 use Rattle.il_slots.specs.Cells.{entity_cells, instance_cells}

@@ -21,7 +21,7 @@ use Rattle.lift_spec.specs.Image.{sizes_of, FieldsInRange}
 use Rattle.lift_spec.specs.Calls.{SlotInRange}
 use Rattle.lift_spec.specs.Snapshot.{scan_begins, given_entries, image_entries}
 use Rattle.lift_spec.specs.World.{Group, snapshot_of, InRanges}
-use Rattle.lift_sound.specs.Tasks.{IsTaskOf}
+use Rattle.lift_run_laws.specs.Tasks.{IsTaskOf}
 use Rattle.il_image.specs.Image.{filled, image_values}
 use Rattle.il_machine.specs.Scanning.{IsRunnable, OwnsDeclared, FitsOwn, IsScanOf, own_view, variables_in, kept_of, state_of}
 use Rattle.il_machine.specs.Starting.{joined, start_of, FitsTask, AreListed}

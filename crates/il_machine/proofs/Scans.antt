@@ -4,11 +4,11 @@ use Rattle.il_spec.specs.declared.tree.Config.{Config}
 use Rattle.il_spec.specs.declared.tree.Unit.{Unit as ProgramUnit}
 use Rattle.il_run.specs.State.{State}
 use Rattle.il_run.specs.Step.{Outcome, Next, Trapped, Stuck, step}
-use Rattle.il_sound.specs.Agreement.{Agrees, left}
-use Rattle.il_sound.specs.Accepted.{IsAccepted}
-use Rattle.il_sound.specs.Soundness.{StepsWell}
-use Rattle.il_sound.proofs.Scanning.{step_sound}
-use Rattle.il_sound.proofs.Premises.{in_order}
+use Rattle.il_scan_laws.specs.Agreement.{Agrees, left}
+use Rattle.il_scan_laws.specs.Accepted.{IsAccepted}
+use Rattle.il_scan_laws.specs.Soundness.{StepsWell}
+use Rattle.il_scan_laws.proofs.Scanning.{step_sound}
+use Rattle.il_scan_laws.proofs.Premises.{in_order}
 use Rattle.il_slots.specs.declared.flat.UnitCode.{UnitCode}
 use Rattle.il_slots.specs.Layout.{Rows, Fits, view}
 use Rattle.il_slots.specs.Coded.{Code}
@@ -19,9 +19,9 @@ use Rattle.il_exec.specs.declared.frames.Suspended.{Suspended}
 use Rattle.il_exec.specs.Going.{Stored, Runs, runs_in}
 use Rattle.il_exec.specs.Framing.{framed, all_frames, state_by, IsFramedScan, Goes}
 use Rattle.lift_spec.specs.Snapshot.{program_of}
-use Rattle.lift_sound.specs.Tasks.{IsTaskOf}
-use Rattle.lift_sound.specs.Accepted.{IsSound}
-use Rattle.lift_sound.proofs.Tasks.{task_accepted}
+use Rattle.lift_run_laws.specs.Tasks.{IsTaskOf}
+use Rattle.lift_run_laws.specs.Accepted.{IsSound}
+use Rattle.lift_run_laws.proofs.Tasks.{task_accepted}
 use Rattle.il_machine.specs.Scanning.{IsRunnable, over, front, behind, own_view, seen_view, frames_by, kept_by, kept_of, state_of, IsScanState, IsScanOf}
 use Rattle.il_machine.proofs.Nested.{step_nested, has_room}
 use Rattle.il_machine.proofs.Over.{parts_are}

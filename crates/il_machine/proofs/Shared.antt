@@ -24,13 +24,13 @@ use Rattle.il_run.specs.State.{Values}
 use Rattle.il_run.specs.Meaning.{Entity, under, element_path, width, entities, own_entities}
 use Rattle.il_run.specs.Ranges.{HasValue, HaveValues, HoldGlobals, element_scalars, scalars_at, entity_scalars, instance_scalars, external_scalars, global_scalars}
 use Rattle.il_run.specs.Scan.{entries_at, written_paths, paths_of, opening_globals}
-use Rattle.il_sound.specs.Accepted.{IsAccepted}
-use Rattle.il_sound.specs.Listed.{HaveOneType, SharesGlobals}
-use Rattle.il_sound.proofs.Externals.{shares_globals}
-use Rattle.il_sound.proofs.Lists.{in_nothing, at_head, in_tail}
-use Rattle.il_sound.proofs.Opening.{globals_open}
-use Rattle.il_sound.proofs.Paths.{value_of, values_of}
-use Rattle.il_sound.proofs.Texts.{element_is}
+use Rattle.il_scan_laws.specs.Accepted.{IsAccepted}
+use Rattle.il_scan_laws.specs.Listed.{HaveOneType, SharesGlobals}
+use Rattle.il_scan_laws.proofs.Externals.{shares_globals}
+use Rattle.il_scan_laws.proofs.Lists.{in_nothing, at_head, in_tail}
+use Rattle.il_scan_laws.proofs.Opening.{globals_open}
+use Rattle.il_scan_laws.proofs.Paths.{value_of, values_of}
+use Rattle.il_scan_laws.proofs.Texts.{element_is}
 use Rattle.il_table.proofs.Texts.{same_text}
 use Rattle.il_slots.specs.declared.flat.Cell.{Cell}
 use Rattle.il_slots.specs.Cells.{element_cells, cells_at, entity_cells, instance_cells, IsPlain, AreNamed}
@@ -44,11 +44,11 @@ use Rattle.il_slots.proofs.Tasks.{program_among}
 use Rattle.il_exec.specs.Going.{Stored}
 use Rattle.lift_spec.specs.Image.{sizes_of}
 use Rattle.lift_spec.specs.Snapshot.{program_of, written_globals}
-use Rattle.lift_sound.specs.Tasks.{IsSized, IsTaskOf}
-use Rattle.lift_sound.proofs.Given.{external_are}
-use Rattle.lift_sound.proofs.Kept.{as_many}
-use Rattle.lift_sound.proofs.Seen.{given_scalars, row, firsts, calls, waiting, from_row, to_row, car_row, fields, outputs, places, motors, assigns}
-use Rattle.lift_sound.proofs.Tasks.{is_sized}
+use Rattle.lift_run_laws.specs.Tasks.{IsSized, IsTaskOf}
+use Rattle.lift_run_laws.proofs.Given.{external_are}
+use Rattle.lift_run_laws.proofs.Kept.{as_many}
+use Rattle.lift_run_laws.proofs.Seen.{given_scalars, row, firsts, calls, waiting, from_row, to_row, car_row, fields, outputs, places, motors, assigns}
+use Rattle.lift_run_laws.proofs.Tasks.{is_sized}
 use Rattle.il_machine.specs.declared.sharing.Transfer.{Transfer}
 use Rattle.il_machine.specs.Scanning.{IsRunnable, IsScanOf, kept_of, state_of}
 use Rattle.il_machine.specs.Sharing.{globals_in, FitsGlobals, external_cells, image_count, between, slot_in, base_name, is_stored, stores_cell, transfer, transfers, taken}

@@ -8,9 +8,9 @@ use Rattle.il_spec.specs.declared.tree.Size.{Size}
 use Rattle.il_spec.specs.declared.tree.Subrange.{Subrange}
 use Rattle.il_rules.specs.Declarations.{is_within, sizes_of as sizes_with_limits, size_outside}
 use Rattle.il_rules.specs.Faults.{HasNoFault, Broken, Declaring, initial_outside}
-use Rattle.il_sound.proofs.Fresh.{within_is}
+use Rattle.il_scan_laws.proofs.Fresh.{within_is}
 use Rattle.lift_spec.specs.Image.{sizes_of}
-use Rattle.lift_sound.specs.Tasks.{IsTaskOf}
+use Rattle.lift_run_laws.specs.Tasks.{IsTaskOf}
 use Rattle.il_spec.specs.declared.tree.Unit.{Unit as ProgramUnit}
 
 module _ (c : Config) (unbroken : HasNoFault (Broken Declaring c)) where

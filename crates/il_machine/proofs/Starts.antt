@@ -10,15 +10,15 @@ use Rattle.il_run.specs.declared.value.Value.{Value}
 use Rattle.il_table.specs.NameMap.{Text, from_entries}
 use Rattle.il_run.specs.Ranges.{HaveValues, HoldsTask, task_scalars, external_scalars}
 use Rattle.il_run.specs.Scan.{begins}
-use Rattle.il_sound.specs.Accepted.{IsAccepted}
-use Rattle.il_sound.specs.Agreement.{Agrees, Holds, left}
-use Rattle.il_sound.specs.Listed.{HaveOneType, seen_scalars, given_scalars}
-use Rattle.il_sound.specs.Soundness.{IsInOrder, StartsWell}
-use Rattle.il_sound.proofs.Externals.{shares_globals}
-use Rattle.il_sound.proofs.Listing.{keeps_listed}
-use Rattle.il_sound.proofs.Premises.{in_order}
-use Rattle.il_sound.proofs.Scanning.{starts}
-use Rattle.il_sound.proofs.Starting.{starts_in_sets}
+use Rattle.il_scan_laws.specs.Accepted.{IsAccepted}
+use Rattle.il_scan_laws.specs.Agreement.{Agrees, Holds, left}
+use Rattle.il_scan_laws.specs.Listed.{HaveOneType, seen_scalars, given_scalars}
+use Rattle.il_scan_laws.specs.Soundness.{IsInOrder, StartsWell}
+use Rattle.il_scan_laws.proofs.Externals.{shares_globals}
+use Rattle.il_scan_laws.proofs.Listing.{keeps_listed}
+use Rattle.il_scan_laws.proofs.Premises.{in_order}
+use Rattle.il_scan_laws.proofs.Scanning.{starts}
+use Rattle.il_scan_laws.proofs.Starting.{starts_in_sets}
 use Rattle.il_slots.specs.Layout.{Rows, rows, Fits, view}
 use Rattle.il_slots.specs.Coded.{IsUnit, IsNumbered, IsCode}
 use Rattle.il_slots.specs.Flattened.{IsPlaced}
@@ -30,10 +30,10 @@ use Rattle.il_exec.specs.Framing.{name_of_code, framed, all_frames, state_by, Is
 use Rattle.il_exec.specs.Going.{Stored}
 use Rattle.lift_spec.specs.Snapshot.{scan_begins, begins_by, given_entries}
 use Rattle.lift_spec.specs.World.{Group, snapshot_of, InRanges}
-use Rattle.lift_sound.specs.Seeing.{image_scalars}
-use Rattle.lift_sound.specs.Tasks.{IsTaskOf}
-use Rattle.lift_sound.proofs.Given.{given_have}
-use Rattle.lift_sound.proofs.Tasks.{is_sized, same_image}
+use Rattle.lift_run_laws.specs.Seeing.{image_scalars}
+use Rattle.lift_run_laws.specs.Tasks.{IsTaskOf}
+use Rattle.lift_run_laws.proofs.Given.{given_have}
+use Rattle.lift_run_laws.proofs.Tasks.{is_sized, same_image}
 use Rattle.il_machine.specs.Scanning.{IsRunnable, over, front, behind, own_view, variables_in, kept_of, state_of, IsScanOf}
 use Rattle.il_machine.specs.Starting.{first_frame, joined, start_of}
 use Rattle.il_machine.proofs.Given.{given_are}

@@ -20,7 +20,7 @@ use Rattle.il_exec.specs.Effect.{with_some}
 use Rattle.il_exec.specs.Going.{Stored}
 use Rattle.il_exec.specs.Framing.{state_by}
 use Rattle.lift_spec.specs.Snapshot.{Beginning, program_of, begins_by, scan_begins}
-use Rattle.lift_sound.specs.Tasks.{IsTaskOf}
+use Rattle.lift_run_laws.specs.Tasks.{IsTaskOf}
 use Rattle.il_machine.specs.Scanning.{IsRunnable, IsScanOf, IsScanState, kept_of, state_of, value_at}
 use Rattle.il_machine.specs.Scanned.{Begins, Finished, IsScan, Began, HaveSameValues, stands}
 use Rattle.il_machine.proofs.Scans.{state_is, scan_is}

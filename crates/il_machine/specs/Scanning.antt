@@ -13,7 +13,7 @@ use Rattle.il_run.specs.State.{Values, Frame, State}
 use Rattle.il_run.specs.Annotation.{Annotated}
 use Rattle.il_run.specs.Paths.{longest}
 use Rattle.il_run.specs.Ranges.{HoldsTask}
-use Rattle.il_sound.specs.Agreement.{Agrees, left}
+use Rattle.il_scan_laws.specs.Agreement.{Agrees, left}
 use Rattle.il_rules.specs.Declarations.{declared_limits}
 use Rattle.il_run.specs.declared.value.Value.{Value}
 use Rattle.il_slots.specs.declared.flat.Cell.{Cell}
@@ -23,7 +23,7 @@ use Rattle.il_slots.specs.Program.{own_cells, seen_cells, program_code}
 use Rattle.il_exec.specs.Going.{Stored}
 use Rattle.il_exec.specs.Framing.{framed, all_frames, state_by, IsFramedScan}
 use Rattle.lift_spec.specs.Snapshot.{program_of}
-use Rattle.lift_sound.specs.Tasks.{IsTaskOf}
+use Rattle.lift_run_laws.specs.Tasks.{IsTaskOf}
 use Rattle.il_machine.specs.Nesting.{AreNested}
 
 -- A verified configuration as contracts see it: the tree, and what each unit costs.

@@ -17,7 +17,7 @@ use Rattle.il_slots.specs.Paths.{slot_at}
 use Rattle.il_slots.specs.Program.{program_cells, global_cells}
 use Rattle.il_slots.specs.Whole.{number_in}
 use Rattle.lift_spec.specs.declared.image.Sizes.{Sizes}
-use Rattle.lift_sound.specs.Tasks.{IsTaskOf}
+use Rattle.lift_run_laws.specs.Tasks.{IsTaskOf}
 use Rattle.il_machine.specs.declared.sharing.Transfer.{Transfer}
 use Rattle.il_machine.specs.declared.seats.Seat.{Seat}
 use Rattle.il_image.specs.Image.{with_slot}

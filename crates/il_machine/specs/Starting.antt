@@ -13,7 +13,7 @@ use Rattle.il_slots.specs.Program.{base_of, program_cells}
 use Rattle.il_exec.specs.declared.frames.Frame.{Frame}
 use Rattle.il_exec.specs.Going.{Stored, going}
 use Rattle.lift_spec.specs.Snapshot.{number}
-use Rattle.lift_sound.specs.Tasks.{IsTaskOf}
+use Rattle.lift_run_laws.specs.Tasks.{IsTaskOf}
 use Rattle.il_machine.specs.declared.globals.Listed.{Listed}
 use Rattle.il_machine.specs.Scanning.{value_at}
 

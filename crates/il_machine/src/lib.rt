@@ -10,6 +10,7 @@ mod sharing;
 pub mod store;
 pub mod verified;
 
+pub use il_code::FirstRows;
 pub use il_exec::rows::Rows;
 pub use il_image::opening_image;
 pub use il_run::value::Value;

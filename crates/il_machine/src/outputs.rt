@@ -13,7 +13,7 @@ use il_exec::rows::Rows;
 use il_run::value::Value;
 use il_slots::flat::Cell;
 use lift_spec::image::{Motor, Wishes};
-use lift_spec::row::Row;
+use lists::Bounded;
 
 // A whole number; 0 for what is none.
 fn whole_of(value: Option<Value>) -> i64
@@ -103,7 +103,7 @@ impl Store {
     }
 
     /// ASSIGN, as GROUP's scan left it: a car for each call slot, 0 for none.
-    pub fn assigned(&self, verified: &Verified) -> Row<u8, 64>
+    pub fn assigned(&self, verified: &Verified) -> Bounded<u8, 64>
         requires scan { IsScanOf verified.now.config 0 self.now }
         ensures { result ≡ assigned (sizes_of verified.now.config).slots (state_of (kept_of verified.now.config 0 self.now)).values }
     {
@@ -111,7 +111,7 @@ impl Store {
         let count = verified.sizes().slots as usize;
         let cells = verified.task_code(0).cells();
         let first = cells.len() - count;
-        let mut cars = Row::new();
+        let mut cars = Bounded::new();
         'slots: for slot in 0..count {
             cars.push(named_at(self.rows(), cells, first + slot));
         }

@@ -3,9 +3,10 @@
 ghost use Rattle.std.specs.Prelude.{◌≡◌, ◌+◌, ◌<◌, ◌≤◌, ◌++◌, IfOk, length, take, drop};
 ghost use Rattle.il_table.specs.NameMap.{get};
 ghost use Rattle.il_slots.specs.Layout.{rows};
-ghost use Rattle.il_machine.specs.Scanning.{front, value_at, variables_in, FitsOwn};
+ghost use Rattle.il_machine.specs.Scanning.{value_at, variables_in, FitsOwn};
 
 use crate::verified::Verified;
+use il_code::FirstRows;
 use il_exec::rows::Rows;
 use il_rules::elementary::declared_limits;
 use il_run::value::Value;
@@ -21,15 +22,11 @@ fn copy_to_front<T: Copy>(row: &mut [T], first: &[T])
     front.copy_from_slice(first);
 }
 
-/// The first slots.
-pub fn front(alloc: Global, all: &Rows, count: usize) -> Result<Rows, AllocError>
-    requires numbers { count ≤ length all.now.numbers }
-    requires flags { count ≤ length all.now.flags }
-    ensures { IfOk result (λ r. r ≡ front count all.now) }
+/// Rows of their own with these values.
+pub(crate) fn copied(alloc: Global, first: &FirstRows) -> Result<Rows, AllocError>
+    ensures { IfOk result (λ r. r ≡ first.now) }
 {
-    let (numbers, _) = all.numbers.split_at(count);
-    let (flags, _) = all.flags.split_at(count);
-    Rows::of(alloc, numbers, flags)
+    Rows::of(alloc, first.numbers(), first.flags())
 }
 
 /// Gives the first slots the values of others.

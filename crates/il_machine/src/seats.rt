@@ -14,9 +14,9 @@ use crate::sharing::{Transfer, between, image_count, slots_in, transfers};
 use crate::verified::line_number;
 use il_code::Code;
 use il_slots::flat::Cell;
-use il_spec::list::Items;
 use il_spec::tree::Config;
 use lift_spec::image::Sizes;
+use lists::Items;
 use std::alloc::{AllocError, Global};
 
 /// A task as it runs: the number of its PROGRAM line, the number of its program among the units, the slots of the globals that

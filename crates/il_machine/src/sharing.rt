@@ -7,10 +7,10 @@ ghost use Rattle.il_machine.specs.Sharing.{image_count, between, slot_in, base_n
 
 use il_code::TaskCode;
 use il_slots::flat::Cell;
-use il_spec::list::Items;
 use il_spec::name::Name;
 use il_spec::tree::{Argument, Instruction, Reference, Step};
 use lift_spec::image::Sizes;
+use lists::Items;
 use std::alloc::{AllocError, Global};
 
 /// Where the value of a global comes from at the end of a scan: a task's slot, and the slot among the globals.

@@ -14,8 +14,8 @@ use crate::uses::uses;
 use crate::variables::{all_listed, units_listed};
 use il_found::{Found, earlier, fault_if};
 use il_scope::Scoped;
-use il_spec::list::Items;
 use il_spec::tree::Place;
+use lists::Items;
 use std::alloc::{AllocError, Global};
 
 /// The first fault of order and of slots.

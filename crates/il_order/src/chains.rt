@@ -7,7 +7,7 @@ ghost use Rattle.il_order.specs.Chained.{goes_on, leads_on, others, has_longer, 
 use crate::relation::{Relation, holds};
 use crate::uses::is_among;
 use arrayvec::ArrayVec;
-use il_spec::list::Items;
+use lists::Items;
 use std::alloc::{AllocError, Global};
 
 /// The most units of a chain of uses (own rule).

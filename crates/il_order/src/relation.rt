@@ -3,7 +3,7 @@
 ghost use Rattle.std.specs.Prelude.{◌≡◌, IfOk};
 ghost use Rattle.il_order.specs.Related.{is_set, holds, is_joined, joined_row, joined, closed};
 
-use il_spec::list::Items;
+use lists::Items;
 use std::alloc::{AllocError, Global};
 
 /// Which units are related to which: a row for each unit, counted from 0, with an entry for each unit.

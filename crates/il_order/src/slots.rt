@@ -7,11 +7,11 @@ ghost use Rattle.il_order.specs.Counted.{capped, standard_slots, number_at, bloc
 
 use crate::relation::{Relation, holds};
 use crate::variables::Variables;
-use il_scope::Scoped;
 use il_rules::names::StandardBlock;
+use il_scope::Scoped;
 use il_scope::entry::{BlockType, VariableType};
-use il_spec::list::Items;
 use il_spec::tree::{ProgramLine, Subrange, UnitKind};
+use lists::Items;
 use std::alloc::{AllocError, Global};
 
 /// The most slots of a task, and of the globals (own rule).

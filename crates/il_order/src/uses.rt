@@ -7,8 +7,8 @@ ghost use Rattle.il_order.specs.Used.{numbers, own_number, called, called_by, de
 use crate::relation::Relation;
 use il_scope::Scoped;
 use il_scope::entry::BlockType;
-use il_spec::list::Items;
 use il_spec::tree::{Declaration, Form, Instruction, Step, Unit};
+use lists::Items;
 use std::alloc::{AllocError, Global};
 
 /// Which units use which: they call that function, or declare an instance of that block (IEC 61131-3:2003, 2.5.1, 2.5.2).

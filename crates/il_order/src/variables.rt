@@ -5,8 +5,8 @@ ghost use Rattle.il_order.specs.Counted.{listed, all_listed, unit_listed, units_
 
 use il_scope::Scoped;
 use il_scope::entry::VariableType;
-use il_spec::list::Items;
 use il_spec::tree::{Declaration, Unit};
+use lists::Items;
 use std::alloc::{AllocError, Global};
 
 /// The variables of one declaration: how many, and of which type.

@@ -15,11 +15,11 @@ use Rattle.il_spec.specs.declared.tree.Task.{Task}
 use Rattle.il_spec.specs.declared.tree.ProgramLine.{ProgramLine}
 use Rattle.il_spec.specs.declared.tree.Config.{Config}
 use Rattle.il_spec.specs.Grammar.{Front, tight, loose, skip_line_ends, ◌⨾◌, ◌⋯◌, At, No, Repeats, TheEnd, TheWord, SomeName, SpellsDeclaration, SpellsUnit, SpellsGlobals, SpellsTask, SpellsProgramLine, SpellsSizes, SpellsResource, SpellsConfig, unit_word, greatest_depth}
-use Rattle.il_grammar.specs.One.{IsDeterministic, AreApart}
-use Rattle.il_grammar.proofs.Combinators.{chain, behind, through, no_one, place_of, repeats_until}
-use Rattle.il_grammar.proofs.Leads.{reserved, lead, word_lead, at_holds, word_sure}
-use Rattle.il_grammar.proofs.Units.{unit_lead}
-use Rattle.il_grammar.proofs.Configurations.{some_name_sure, task_one, program_line_one, program_line_lead, end_lead}
+use Rattle.il_grammar_laws.specs.One.{IsDeterministic, AreApart}
+use Rattle.il_grammar_laws.proofs.Combinators.{chain, behind, through, no_one, place_of, repeats_until}
+use Rattle.il_grammar_laws.proofs.Leads.{reserved, lead, word_lead, at_holds, word_sure}
+use Rattle.il_grammar_laws.proofs.Units.{unit_lead}
+use Rattle.il_grammar_laws.proofs.Configurations.{some_name_sure, task_one, program_line_one, program_line_lead, end_lead}
 use Rattle.il_read.specs.Reads.{IsFault, Reads, Refuses}
 use Rattle.il_read.specs.Settings.{PlacedWord}
 use Rattle.il_read.specs.declared.stop.Stop.{Stop}

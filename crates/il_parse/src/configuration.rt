@@ -9,8 +9,8 @@ use crate::units::units;
 use il_body::comes;
 use il_read::{Source, Stop, Tokens};
 use il_spec::keyword::Keyword;
-use il_spec::list::Items;
 use il_spec::tree::{Config, Declaration, Place, ProgramLine, Size, Task, Unit};
+use lists::Items;
 
 /// Globals, and the place of their list if there is one.
 type Globals = (Option<Place>, Items<Declaration>);

@@ -7,8 +7,8 @@ ghost use Rattle.il_parse.specs.Parts.{SpellsFewUnits};
 use il_body::unit;
 use il_read::{Flaw, Lead, Source, Stop, Tokens};
 use il_spec::keyword::Keyword;
-use il_spec::list::Items;
 use il_spec::tree::Unit;
+use lists::Items;
 
 // Whether a text has as many units as it may have.
 fn is_full(units: &Items<Unit>) -> bool

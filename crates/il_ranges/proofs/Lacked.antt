@@ -24,7 +24,7 @@ use Rattle.il_run.specs.declared.known.Known.{Known}
 use Rattle.il_run.specs.declared.known.Known.TheVariants.{Flag, Ranged}
 use Rattle.il_run.specs.declared.known.KnownDeferred.{KnownDeferred}
 use Rattle.il_run.specs.Annotation.{Knowledge, Annotation, IsKnownWithin, IsResultWithin, IsDeferredWithin, IsVariableWithin, IsPart, IsAnnotatedBelow, IsAnnotated, IsFirstWithout, interval, range, WithInterval, WithKnownResult, WithFlow, WithOperated}
-use Rattle.il_least.proofs.Least.{same_some}
+use Rattle.il_range_laws.proofs.Least.{same_some}
 use Rattle.il_ranges.specs.Lacking.{MayLeaveArray, operands_of, MayMissIndex, WithValue, type_behind, WithSides, DividesByZero, EvaluatesByZero, MayDivideByZero, MayLeaveType, IsRangeNumber, zero_divisor, out_of_type, out_of_array, otherwise, IsLeastAt, LacksRanges}
 
 -- WHAT IS KNOWN

@@ -29,18 +29,18 @@ use Rattle.il_run.specs.declared.known.Known.{Known}
 use Rattle.il_run.specs.declared.known.Known.TheVariants.{Flag, Ranged}
 use Rattle.il_run.specs.declared.known.KnownDeferred.{KnownDeferred}
 use Rattle.il_run.specs.Annotation.{Knowledge, interval, only, numbers_of, range, declared_known, WithInterval, WithKnownResult, WithFlow, WithLiteral, WithOperated}
-use Rattle.il_least.specs.declared.facts.Facts.{Facts}
-use Rattle.il_least.specs.Facts.{Names, variables_of, shown, IsRowOf, IsFineKnown, IsFineResult, IsFine}
-use Rattle.il_least.specs.Found.{provided, is_part, fits, fitting, found_literal, found_flow, found_operated}
-use Rattle.il_least.specs.Numbers.{is_inside, unless_outside, divisor_fault, operand_inside, evaluate_fault, operands_fault, arguments_fault, invoke_fault}
-use Rattle.il_least.specs.Steps.{context}
-use Rattle.il_least.specs.Prepared.{IsFineDenotation}
-use Rattle.il_least.proofs.Tests.{part_is, is_part_of, fit_is, is_fit, there_is, is_there, fits_operand}
-use Rattle.il_least.proofs.Least.{same_some, mapped}
-use Rattle.il_least.proofs.Agree.{Tests, provided_is}
-use Rattle.il_least.proofs.Joins.{known_itself}
-use Rattle.il_least.proofs.Rows.{row_is, row_operand}
-use Rattle.il_least.proofs.Operations.{Knows, operated_agrees}
+use Rattle.il_range_laws.specs.declared.facts.Facts.{Facts}
+use Rattle.il_range_laws.specs.Facts.{Names, variables_of, shown, IsRowOf, IsFineKnown, IsFineResult, IsFine}
+use Rattle.il_range_laws.specs.Found.{provided, is_part, fits, fitting, found_literal, found_flow, found_operated}
+use Rattle.il_range_laws.specs.Numbers.{is_inside, unless_outside, divisor_fault, operand_inside, evaluate_fault, operands_fault, arguments_fault, invoke_fault}
+use Rattle.il_range_laws.specs.Steps.{context}
+use Rattle.il_range_laws.specs.Prepared.{IsFineDenotation}
+use Rattle.il_range_laws.proofs.Tests.{part_is, is_part_of, fit_is, is_fit, there_is, is_there, fits_operand}
+use Rattle.il_range_laws.proofs.Least.{same_some, mapped}
+use Rattle.il_range_laws.proofs.Agree.{Tests, provided_is}
+use Rattle.il_range_laws.proofs.Joins.{known_itself}
+use Rattle.il_range_laws.proofs.Rows.{row_is, row_operand}
+use Rattle.il_range_laws.proofs.Operations.{Knows, operated_agrees}
 use Rattle.il_ranges.specs.Lacking.{MayLeaveArray, input_operand, operands_of, WithValue, type_behind, WithSides, DividesByZero, EvaluatesByZero, MayDivideByZero, MayLeaveType, function_number, other_number, IsRangeNumber, zero_divisor, out_of_type, out_of_array, otherwise}
 use Rattle.il_ranges.specs.Reasons.{operated_fault, operate_fault, fault_of}
 

@@ -10,9 +10,9 @@ use Rattle.il_table.specs.NameMap.{get}
 use Rattle.il_run.specs.Meaning.{Denotation, denotation}
 use Rattle.il_run.specs.declared.known.Known.{Known}
 use Rattle.il_run.specs.Annotation.{Knowledge}
-use Rattle.il_least.specs.Found.{found_operated}
-use Rattle.il_least.specs.Numbers.{Lookup, unless_outside, divisor_fault, operand_inside, defer_fault, evaluate_fault, arguments_fault, invoke_fault}
-use Rattle.il_least.specs.Steps.{context}
+use Rattle.il_range_laws.specs.Found.{found_operated}
+use Rattle.il_range_laws.specs.Numbers.{Lookup, unless_outside, divisor_fault, operand_inside, defer_fault, evaluate_fault, arguments_fault, invoke_fault}
+use Rattle.il_range_laws.specs.Steps.{context}
 
 -- of an operation: its divisor or its result; where nothing is wrong with them, the given number
 abbrev pub operated_fault : Operator → Known → Option Known → ℕ → ℕ

@@ -21,13 +21,13 @@ use Rattle.il_spec.specs.declared.tree.Instruction.TheVariants as instruction
 use Rattle.il_spec.specs.Words.{keyword_of}
 use Rattle.il_spec.specs.Text.{name_of}
 use Rattle.il_spec.specs.Grammar.{Front, One, loose, ◌⨾◌, ◌⋯◌, skip_line_ends, TheSign, TheWord, TheName, TheLineEnd, TheLetterN, SpellsOperator, SpellsArgument, SpellsArguments, SpellsOperands, SpellsInstruction}
-use Rattle.il_grammar.specs.One.{IsDeterministic}
-use Rattle.il_grammar.proofs.Combinators.{listed}
-use Rattle.il_grammar.proofs.Leads.{reserved, name, number, typed, sign, line_end, nothing, lead, lead_of as kind_lead, the_name_one, sign_sure}
-use Rattle.il_grammar.proofs.Leads.{Lead as Beginning}
-use Rattle.il_grammar.proofs.Operands.{operator_one}
-use Rattle.il_grammar.proofs.Arguments.{argument_one}
-use Rattle.il_grammar.proofs.Instructions.{sort_of, operator_sort, instruction_sort, none, loads, stores, negates, evaluates, jumps, leaves, calls, sort_at}
+use Rattle.il_grammar_laws.specs.One.{IsDeterministic}
+use Rattle.il_grammar_laws.proofs.Combinators.{listed}
+use Rattle.il_grammar_laws.proofs.Leads.{reserved, name, number, typed, sign, line_end, nothing, lead, lead_of as kind_lead, the_name_one, sign_sure}
+use Rattle.il_grammar_laws.proofs.Leads.{Lead as Beginning}
+use Rattle.il_grammar_laws.proofs.Operands.{operator_one}
+use Rattle.il_grammar_laws.proofs.Arguments.{argument_one}
+use Rattle.il_grammar_laws.proofs.Instructions.{sort_of, operator_sort, instruction_sort, none, loads, stores, negates, evaluates, jumps, leaves, calls, sort_at}
 use Rattle.il_read.specs.Lead.{lead_of, lead_at}
 use Rattle.il_read.specs.Reads.{IsFault, Reads, Refuses, Stands, Misses, Eats, SpellsLine, SpellsWork, SpellsRoomy, SpellsTargetLine, SpellsNameLine, SpellsCalled, SpellsInside, SpellsOpened, SpellsListed}
 use Rattle.il_read.specs.declared.lead.Lead.{Lead}

@@ -5,7 +5,7 @@ use Rattle.il_spec.specs.declared.token.Sign.TheVariants.{Colon}
 use Rattle.il_spec.specs.declared.tree.Named.{Named}
 use Rattle.il_spec.specs.Text.{name_of}
 use Rattle.il_spec.specs.Grammar.{At, TheSign, AName, SpellsLabel}
-use Rattle.il_grammar.proofs.Leads.{at_holds}
+use Rattle.il_grammar_laws.proofs.Leads.{at_holds}
 use Rattle.il_read.specs.Lead.{lead_at}
 use Rattle.il_read.specs.declared.lead.Lead.TheVariants as lead
 use Rattle.il_read.proofs.Leaves.{name_there, the_name_lead}

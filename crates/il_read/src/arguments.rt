@@ -8,9 +8,9 @@ use crate::lead::Lead;
 use crate::source::Source;
 use crate::stop::Stop;
 use crate::tokens::{Gap, Tokens};
-use il_spec::list::Items;
 use il_spec::token::Sign;
 use il_spec::tree::{Argument, Named, Operand};
+use lists::Items;
 
 impl<'t> Source<'t> {
     /// Operands with commas between them, and the end of the line.

@@ -23,10 +23,10 @@ use Rattle.il_spec.specs.declared.tree.Logic.TheVariants.{Conjunction}
 use Rattle.il_spec.specs.declared.tree.Operand.{Operand}
 use Rattle.il_spec.specs.declared.tree.Arithmetic.TheVariants.{Add}
 use Rattle.il_spec.specs.declared.tree.Operator.TheVariants.{Logic as LogicOperator, Arithmetic as ArithmeticOperator, Comparison as ComparisonOperator}
-use Rattle.il_spec.specs.declared.tree.Store.TheVariants.{Plain}
-use Rattle.il_spec.specs.declared.tree.Condition.TheVariants.{Always, WhenTrue}
+use Rattle.il_spec.specs.declared.tree.Store.TheVariants.{Plain, Set}
+use Rattle.il_spec.specs.declared.tree.Condition.TheVariants.{Always, WhenTrue, WhenFalse}
 use Rattle.il_spec.specs.declared.tree.Instruction.{Instruction}
-use Rattle.il_spec.specs.declared.tree.Instruction.TheVariants.{Load, Store as StoreInto, Not, Operate, Evaluate, Jump, Call, Invoke}
+use Rattle.il_spec.specs.declared.tree.Instruction.TheVariants.{Load, Store as StoreInto, Not, Operate, Evaluate, Jump, Return, Call, Invoke}
 use Rattle.il_spec.specs.ElementaryTypes.{plain}
 use Rattle.il_rules.specs.Names.{Spelling, within, image_name, standard_function, standard_block, block_variables, meaning}
 use Rattle.std.proofs.Common.{arith, ap, sym, subst, ◌∙◌}
@@ -335,6 +335,11 @@ the name = operand 0 (OfVariable name)
 store-row : (breaks (StoreInto Plain (operand 0 (OfElement (codes "A") (NumberIndex (negsuc 1))))) (Some Int) ≡ 31 ∷ []) × (breaks (StoreInto Plain (operand 0 (OfElement (codes "A") (NumberIndex (negsuc 1))))) (Some Sint) ≡ [])
 unfolding typing_numbers reference_type meaning image_name
 store-row = (refl, refl)
+
+-- JMPC, RETCN and S leave a BOOL whatever was before, ST what was
+left-row : (leaves (Jump WhenTrue (named 0 (codes "L"))) None ≡ Some Boolean) × (leaves (Return WhenFalse) (Some Int) ≡ Some Boolean) × (leaves (StoreInto Set (the (codes "V"))) (Some Int) ≡ Some Boolean) × (leaves (StoreInto Plain (the (codes "V"))) (Some Int) ≡ Some Int)
+unfolding type_after
+left-row = (refl, refl, refl, refl)
 
 -- ADD TRUE, AND 5, ADD V, each with and without a result
 operate-row : (breaks (Operate (ArithmeticOperator Add) (operand 0 (OfLiteral (Truth true)))) None ≡ 32 ∷ []) × (breaks (Operate (ArithmeticOperator Add) (operand 0 (OfLiteral (Truth true)))) (Some Int) ≡ 30 ∷ []) × (breaks (Operate (LogicOperator Conjunction false) (number (pos 5))) None ≡ 32 ∷ 30 ∷ []) × (breaks (Operate (ArithmeticOperator Add) (the (codes "V"))) (Some Int) ≡ [])

@@ -437,11 +437,18 @@ abbrev pub short_form_type : Config → ProgramUnit → Option Operand → Optio
 short_form_type config unit None = None
 short_form_type config unit (Some operand) = loaded_type config unit operand.reference
 
--- what a jump or return leaves: none where it always acts (own rule)
-abbrev pub kept_type : Condition → Option Elementary → Option Elementary
-kept_type Always before = None
-kept_type WhenTrue before = before
-kept_type WhenFalse before = before
+-- what a jump or return leaves: none where it always acts (own rule), otherwise the BOOL that it tests (3.2.2)
+abbrev pub kept_type : Condition → Option Elementary
+kept_type Always = None
+kept_type WhenTrue = Some Boolean
+kept_type WhenFalse = Some Boolean
+
+-- what a store leaves: ST the result as it was, STN, S and R the BOOL that they store or test (3.2.2)
+abbrev pub stored_type : Store → Option Elementary → Option Elementary
+stored_type Plain before = before
+stored_type Negated before = Some Boolean
+stored_type Set before = Some Boolean
+stored_type Reset before = Some Boolean
 
 -- what a `)` leaves: the type that its operator leaves on operands of the inner result's type (3.2.2)
 abbrev pub evaluated_type : Option Operator → Option Elementary → Option Elementary
@@ -456,13 +463,13 @@ load_type config unit true reference = Some Boolean
 -- the type of the current result after an instruction; at a `)` with the operator that waits for it (3.2.2, 3.2.3)
 unfoldable pub type_after : Config → ProgramUnit → Option Operator → Instruction → Option Elementary → Option Elementary
 type_after config unit deferred (Load negated operand) before = load_type config unit negated operand.reference
-type_after config unit deferred (StoreInto store target) before = before
+type_after config unit deferred (StoreInto store target) before = stored_type store before
 type_after config unit deferred Not before = Some Boolean
 type_after config unit deferred (Operate operator operand) before = left_type operator before
 type_after config unit deferred (Defer operator first) before = short_form_type config unit first
 type_after config unit deferred Evaluate before = evaluated_type deferred before
-type_after config unit deferred (Jump condition label) before = kept_type condition before
-type_after config unit deferred (Return condition) before = kept_type condition before
+type_after config unit deferred (Jump condition label) before = kept_type condition
+type_after config unit deferred (Return condition) before = kept_type condition
 type_after config unit deferred (Call condition instance arguments) before = None
 type_after config unit deferred (Invoke function operands) before =
     function_type config unit (standard_function function.name) (function_named config function.name) operands before

@@ -3,8 +3,8 @@
 ghost use Rattle.std.specs.Prelude.{◌≡◌, ◌++◌, Some, IfOk, map};
 ghost use Rattle.il_scope.specs.Units.{scalar_of, input_scalars, declared_scalars};
 
-use il_spec::list::Items;
 use il_spec::tree::{Declaration, Form, Named, Scalar, Unit};
+use lists::Items;
 use std::alloc::{AllocError, Global};
 
 /// The scalar types of a unit's inputs, one for each name.

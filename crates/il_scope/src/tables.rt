@@ -14,9 +14,9 @@ use crate::meaning::image_seen;
 use crate::numbers::block_type;
 use crate::roles::task_role;
 use il_rules::names::{Origin, Role};
-use il_spec::list::Items;
 use il_spec::tree::{Config, Declaration, Form, Named, ProgramLine, Scalar, Unit, UnitKind};
 use il_table::Table;
+use lists::Items;
 use std::alloc::{AllocError, Global};
 
 /// The variables of a unit by their names.

@@ -23,10 +23,10 @@ use Rattle.il_run.specs.declared.value.Value.{Value}
 use Rattle.il_run.specs.declared.value.Value.TheVariants.{Boolean, Integer}
 use Rattle.il_run.specs.Values.{IsOf, IsValueIn}
 use Rattle.il_run.specs.Meaning.{Entity, entities, own_entities, result_entities, block_entities, standard_entities, initial_value}
-use Rattle.il_sound.proofs.Lists.{at_head, in_tail, in_flat_map}
-use Rattle.il_sound.proofs.Declared.{from_inputs, from_outputs, from_variables}
-use Rattle.il_sound.proofs.Fresh.{of_entities, IsGood, range_ok, good_type, begins_ok, default_ok}
-use Rattle.il_sound.proofs.Meant.{no_22, no_25, input_typed, output_typed, variable_typed, result_typed}
+use Rattle.il_scan_laws.proofs.Lists.{at_head, in_tail, in_flat_map}
+use Rattle.il_scan_laws.proofs.Declared.{from_inputs, from_outputs, from_variables}
+use Rattle.il_scan_laws.proofs.Fresh.{of_entities, IsGood, range_ok, good_type, begins_ok, default_ok}
+use Rattle.il_scan_laws.proofs.Meant.{no_22, no_25, input_typed, output_typed, variable_typed, result_typed}
 use Rattle.il_slots.specs.Layout.{value_by, number_part, flag_part, HasKind}
 use Rattle.il_slots.specs.Flattened.{function_entities}
 use Rattle.il_slots.specs.Whole.{IsInitial, AreInitial}

@@ -8,7 +8,6 @@ use Rattle.il_spec.specs.declared.tree.Unit.{Unit as ProgramUnit}
 use Rattle.il_spec.specs.declared.tree.Config.{Config}
 use Rattle.il_rules.specs.declared.names.StandardBlock.{StandardBlock}
 use Rattle.il_rules.specs.declared.names.StandardBlock.TheVariants.{Sr, Rs, RTrig, FTrig, Ctu, Ctd, Ctud, Tp, Ton, Tof}
-use Rattle.il_rules.specs.Names as rule
 use Rattle.il_rules.specs.Names.{or_else, standard_block, standard_variables, function_block_named, is_function_block}
 use Rattle.il_table.specs.NameMap.{NameMap, Text, get, get-empty}
 use Rattle.il_run.specs.Meaning.{Entity, own_entities, standard_entities, block_entities}

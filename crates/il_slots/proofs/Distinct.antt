@@ -24,14 +24,14 @@ use Rattle.il_rules.specs.Faults.{duplicate, initial_outside, HasNoFault, Broken
 use Rattle.il_rules.specs.Written.{IsWord, IsWritten}
 use Rattle.il_table.specs.NameMap.{Text}
 use Rattle.il_run.specs.Meaning.{Entity, entities, own_entities, result_entities, block_entities, standard_entities, width, width_of}
-use Rattle.il_sound.proofs.Lists.{in_nothing, at_head, in_tail, in_map, in_flat_map, AreDistinct, distinct_names}
-use Rattle.il_sound.proofs.Fresh.{entity, of_entities}
-use Rattle.il_sound.proofs.Meant.{no_22, input_typed, output_typed, variable_typed, external_typed}
-use Rattle.il_sound.proofs.Words.{all_of, first_of_two, second_of_two, contains_all, is_word, word_by, are_apart_by}
+use Rattle.il_scan_laws.proofs.Lists.{in_nothing, at_head, in_tail, in_map, in_flat_map, AreDistinct, distinct_names}
+use Rattle.il_scan_laws.proofs.Fresh.{entity, of_entities}
+use Rattle.il_scan_laws.proofs.Meant.{no_22, input_typed, output_typed, variable_typed, external_typed}
+use Rattle.il_scan_laws.proofs.Words.{all_of, first_of_two, second_of_two, contains_all, is_word, word_by, are_apart_by}
 use Rattle.il_slots.specs.Cells.{IsPlain, HasNone, HasShort, IsShort, AreNamed}
 use Rattle.il_slots.specs.Places.{seen_among, seen_image, is_common, unit_entities}
 use Rattle.il_slots.specs.Whole.{are_named}
-use Rattle.il_sound.proofs.Declared.{IsListed, no_unit}
+use Rattle.il_scan_laws.proofs.Declared.{IsListed, no_unit}
 use Rattle.il_slots.proofs.Declared.{named_front, no_others}
 use Rattle.il_slots.proofs.Tested.{EachOf, named_is, of_blocks}
 

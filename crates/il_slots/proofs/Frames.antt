@@ -8,8 +8,8 @@ use Rattle.il_rules.specs.Names.{is_function, is_one_of}
 use Rattle.il_table.specs.NameMap.{Text}
 use Rattle.il_run.specs.Meaning.{under, depth, block_entities}
 use Rattle.il_run.specs.Scan.{used_units, used_names, found_units}
-use Rattle.il_sound.specs.Agreement.{HasUse, IsStack}
-use Rattle.il_sound.proofs.Lists.{in_nothing, at_head, in_tail, in_map, of_map, in_flat_map, of_flat_map}
+use Rattle.il_scan_laws.specs.Agreement.{HasUse, IsStack}
+use Rattle.il_scan_laws.proofs.Lists.{in_nothing, at_head, in_tail, in_map, of_map, in_flat_map, of_flat_map}
 use Rattle.il_slots.specs.declared.flat.Cell.{Cell}
 use Rattle.il_slots.specs.Layout.{AreOnce}
 use Rattle.il_slots.specs.Cells.{entity_cells, instance_cells, Stands, IsPlain, AreNamed}

@@ -13,11 +13,11 @@ use Rattle.il_table.specs.NameMap.{Text, order, get, from_entries, get-empty, ge
 use Rattle.il_run.specs.declared.value.Value.{Value}
 use Rattle.il_run.specs.Scan.{used_units, function_values, opening_variables}
 use Rattle.il_run.specs.Meaning.{own_entities, depth, block_entities, instance_values, entity_values, fresh_values}
-use Rattle.il_sound.specs.Accepted.{IsAccepted}
-use Rattle.il_sound.proofs.Lists.{in_nothing, at_head, in_tail}
-use Rattle.il_sound.proofs.Listing.{used_stack}
-use Rattle.il_sound.proofs.Used.{used_among}
-use Rattle.il_sound.proofs.Declared.{one_unit}
+use Rattle.il_scan_laws.specs.Accepted.{IsAccepted}
+use Rattle.il_scan_laws.proofs.Lists.{in_nothing, at_head, in_tail}
+use Rattle.il_scan_laws.proofs.Listing.{used_stack}
+use Rattle.il_scan_laws.proofs.Used.{used_among}
+use Rattle.il_scan_laws.proofs.Declared.{one_unit}
 use Rattle.il_table.proofs.Texts.{same_text}
 use Rattle.il_slots.specs.declared.flat.Cell.{Cell}
 use Rattle.il_slots.specs.Layout.{AreOnce, view}

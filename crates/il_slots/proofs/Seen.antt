@@ -6,7 +6,7 @@ use Rattle.il_scope.specs.declared.entry.VariableType.{VariableType}
 use Rattle.il_spec.specs.declared.tree.Declaration.{Declaration}
 use Rattle.il_spec.specs.declared.tree.Named.{Named}
 use Rattle.il_scope.specs.Views.{type_of, image_entry}
-use Rattle.il_sound.proofs.Fresh.{entity}
+use Rattle.il_scan_laws.proofs.Fresh.{entity}
 use Rattle.il_slots.specs.declared.variables.Variable.{Variable}
 use Rattle.il_slots.specs.declared.variables.Part.{Part}
 use Rattle.il_slots.specs.declared.variables.Part.TheVariants.{Common, OfRole}
@@ -21,7 +21,6 @@ use Rattle.il_rules.specs.Names as rule
 use Rattle.il_run.specs.Meaning.{Entity, entities, own_entities, result_entities}
 use Rattle.il_scope.specs.declared.image.ImageRow.{ImageRow}
 use Rattle.il_scope.specs.Images.{named, image_entries}
-use Rattle.il_scope.proofs.Seen.{seen_is}
 use Rattle.il_slots.specs.Making.{variable, shown, added, is_in_part, seen_entry, with_image}
 use Rattle.il_slots.specs.Flattened.{function_entities}
 use Rattle.il_slots.specs.Places.{seen_among, seen_image, unit_entities, is_common}
@@ -104,7 +103,7 @@ part_is : (c : Config) (r : Option Role) (part : Part) (p : ImageName → Bool) 
 part_is c r part p parts [] = refl
 part_is c r part p parts (i ∷ is) =
     by (p i) (is_seen_by r i.audience) refl (part_is c r part p parts is)
-    ∙ sym (ap₂ (λ b d. (if b && d then one else []) ++ rest) (parts i) (seen_is r i.audience))
+    ∙ sym (ap (λ b. (if b && is_seen_by r i.audience then one else []) ++ rest) (parts i))
   where
     one : List Variable
     one = variable i.variable.name (type_of c i.variable.form) None ∷ []

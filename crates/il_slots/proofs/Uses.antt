@@ -15,14 +15,14 @@ use Rattle.il_rules.specs.Faults.{duplicate, HasNoFault, Broken, Declaring}
 use Rattle.il_table.specs.NameMap.{Text}
 use Rattle.il_run.specs.Meaning.{Entity, own_entities, standard_entities, block_entities}
 use Rattle.il_run.specs.Scan.{block_names, invoked_names, used_names, found_units}
-use Rattle.il_sound.specs.Accepted.{IsOrdered}
-use Rattle.il_sound.specs.Agreement.{HasUse, IsStack}
-use Rattle.il_sound.proofs.Lists.{in_nothing, at_head, in_tail, finds_some, found_in}
-use Rattle.il_sound.proofs.Declared.{one_unit}
-use Rattle.il_sound.proofs.Running.{block_is_unit}
-use Rattle.il_sound.proofs.Stacks.{is_shallow, top_among}
-use Rattle.il_sound.proofs.Used.{in_found}
-use Rattle.il_sound.proofs.Meant.{block_among}
+use Rattle.il_scan_laws.specs.Accepted.{IsOrdered}
+use Rattle.il_scan_laws.specs.Agreement.{HasUse, IsStack}
+use Rattle.il_scan_laws.proofs.Lists.{in_nothing, at_head, in_tail, finds_some, found_in}
+use Rattle.il_scan_laws.proofs.Declared.{one_unit}
+use Rattle.il_scan_laws.proofs.Running.{block_is_unit}
+use Rattle.il_scan_laws.proofs.Stacks.{is_shallow, top_among}
+use Rattle.il_scan_laws.proofs.Used.{in_found}
+use Rattle.il_scan_laws.proofs.Meant.{block_among}
 use Rattle.il_slots.specs.Places.{form_height, highest, height_to, any_block, IsHeight, AreBelow, used_if, tallest, use_height}
 use Rattle.il_slots.proofs.Declared.{block_is_own, block_is_standard}
 use Rattle.il_slots.proofs.Heights.{is_height, forms_below}

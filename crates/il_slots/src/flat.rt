@@ -1,10 +1,10 @@
 // Flat code.
 
-use il_run::value::Content;
 use il_rules::names::{StandardBlock, StandardFunction};
-use il_spec::list::Items;
+use il_run::value::Content;
 use il_spec::name::Name;
 use il_spec::tree::{Condition, Elementary, Operator, Scalar, Store, Subrange};
+use lists::Items;
 
 /// What a slot keeps: the variable of a path, of a scalar type.
 #[derive(Drop)]

@@ -3,7 +3,7 @@
 ghost use Rattle.std.specs.Prelude.{◌<◌, ◌^◌, length};
 ghost use Rattle.il_spec.specs.declared.tree.Config.{Config};
 ghost use Rattle.il_spec.specs.declared.tree.Unit.{Unit as ProgramUnit};
-ghost use Rattle.il_sound.specs.Accepted.{IsAccepted};
+ghost use Rattle.il_scan_laws.specs.Accepted.{IsAccepted};
 ghost use Rattle.il_slots.specs.Paths.{ArePaired};
 ghost use Rattle.il_slots.specs.Program.{program_cells};
 ghost use Rattle.il_slots.specs.Meant.{MeansTree};

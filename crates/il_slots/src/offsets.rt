@@ -5,8 +5,8 @@ ghost use Rattle.il_slots.specs.Making.{no_offsets, with_offset, with_offsets, o
 
 use crate::sizes::{sum, variable_size};
 use crate::variables::Variable;
-use il_spec::list::Items;
 use il_table::Table;
+use lists::Items;
 use std::alloc::{AllocError, Global};
 
 /// Offsets by names, and how many slots all take.

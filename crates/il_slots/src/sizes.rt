@@ -9,8 +9,8 @@ use crate::standard::{add_lists, standard_number};
 use crate::variables::{Variable, own_variables};
 use il_scope::Scoped;
 use il_scope::entry::{BlockType, VariableType};
-use il_spec::list::Items;
 use il_spec::tree::{Subrange, Unit};
+use lists::Items;
 use std::alloc::{AllocError, Global};
 
 // The own variables of each unit.

@@ -5,8 +5,8 @@ ghost use Rattle.il_slots.specs.Making.{added, flag, ctu_list, ctd_list, ctud_li
 
 use crate::variables::{Variable, add_scalars, plain};
 use il_rules::names::StandardBlock;
-use il_spec::list::Items;
 use il_spec::tree::Elementary;
+use lists::Items;
 use std::alloc::{AllocError, Global};
 
 // Adds three words of BOOL.

@@ -10,9 +10,9 @@ use crate::sizes::{block_lists, block_sizes};
 use crate::standard::add_lists;
 use crate::variables::{Variable, other_variables};
 use il_scope::Scoped;
-use il_spec::list::Items;
 use il_spec::tree::Unit;
 use il_table::Table;
+use lists::Items;
 use std::alloc::{AllocError, Global};
 
 // The offsets of a unit's names.

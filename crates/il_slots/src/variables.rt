@@ -10,13 +10,13 @@ ghost use Rattle.il_slots.specs.Making.{variable, shown, added, one, is_in_part,
 ghost use Rattle.il_slots.specs.Flattened.{function_entities};
 ghost use Rattle.il_slots.specs.Places.{seen_image, unit_entities};
 
-use il_run::value::Value;
 use il_rules::names::{Audience, Role};
+use il_run::value::Value;
 use il_scope::entry::VariableType;
 use il_scope::{ImageRow, Scoped, image_rows, is_program, is_seen_by};
-use il_spec::list::Items;
 use il_spec::name::Name;
 use il_spec::tree::{Declaration, Elementary, Initial, Literal, Named, Scalar, Unit, UnitKind};
+use lists::Items;
 use std::alloc::{AllocError, Global};
 
 /// A variable of a unit: its type with its block found, and its initial value if it has one.

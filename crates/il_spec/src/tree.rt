@@ -1,7 +1,7 @@
 // The tree that a text spells. Its parts carry their places.
 
-use crate::list::Items;
 use crate::name::Name;
+use lists::Items;
 
 /// Where a part begins: how many bytes stand before it, and its line, counted from 1.
 #[derive(Clone, Copy)]

@@ -29,12 +29,12 @@ use Rattle.il_run.specs.Step.{instruction_at, instruction_or_return}
 use Rattle.il_run.specs.Tests.{Test, if_value, literal_number, operand_number, counted_variable, loaded_variable, comparison_of, jump_on, if_unlabelled, unlabelled, compared_at, test_at}
 use Rattle.il_run.proofs.Testing.{jumps_on}
 use Rattle.il_run.specs.Annotation.{acts_at, range, declared_range}
-use Rattle.il_least.specs.declared.facts.Facts.{Facts}
-use Rattle.il_least.specs.Facts.{Names, range_by, row_at, row_put, put_by, facts, IsFine}
-use Rattle.il_least.specs.Found.{provided}
-use Rattle.il_least.specs.Pass.{Moves}
-use Rattle.il_least.specs.Steps.{has_condition, is_bare, narrowed_row_by, narrowed_row, sided, landing, testing_to, moves_of_test, moves_of, moves_by, moves}
-use Rattle.il_least.proofs.Rows.{row_operand}
+use Rattle.il_range_laws.specs.declared.facts.Facts.{Facts}
+use Rattle.il_range_laws.specs.Facts.{Names, range_by, row_at, row_put, put_by, facts, IsFine}
+use Rattle.il_range_laws.specs.Found.{provided}
+use Rattle.il_range_laws.specs.Pass.{Moves}
+use Rattle.il_range_laws.specs.Steps.{has_condition, is_bare, narrowed_row_by, narrowed_row, sided, landing, testing_to, moves_of_test, moves_of, moves_by, moves}
+use Rattle.il_range_laws.proofs.Rows.{row_operand}
 use Rattle.il_transfer.specs.declared.testing.VariableTest.{VariableTest}
 use Rattle.il_transfer.specs.Meant.{resolved, range_in}
 use Rattle.il_transfer.specs.Scopes.{denoted}

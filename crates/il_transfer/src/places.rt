@@ -3,9 +3,9 @@
 ghost use Rattle.std.specs.Prelude.{◌≡◌, ◌<◌, length, option_map, IfOk};
 ghost use Rattle.il_rules.specs.Types.{label_place};
 ghost use Rattle.il_run.specs.Annotation.{acts_at};
-ghost use Rattle.il_least.specs.Found.{provided};
-ghost use Rattle.il_least.specs.Facts.{IsFine};
-ghost use Rattle.il_least.specs.Steps.{has_condition, is_bare, moves};
+ghost use Rattle.il_range_laws.specs.Found.{provided};
+ghost use Rattle.il_range_laws.specs.Facts.{IsFine};
+ghost use Rattle.il_range_laws.specs.Steps.{has_condition, is_bare, moves};
 ghost use Rattle.il_flow.specs.Tables.{moved};
 ghost use Rattle.il_transfer.specs.Testing.{testing_in, test_jump_in, IsFineTest};
 

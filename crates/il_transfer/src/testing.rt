@@ -5,9 +5,9 @@ ghost use Rattle.il_interval.specs.Interval.{IsEnd};
 ghost use Rattle.il_rules.specs.Types.{label_place};
 ghost use Rattle.il_run.specs.Tests.{literal_number, operand_number, test_at};
 ghost use Rattle.il_run.specs.Annotation.{acts_at};
-ghost use Rattle.il_least.specs.Found.{provided};
-ghost use Rattle.il_least.specs.Facts.{facts as facts_of, AreOperands};
-ghost use Rattle.il_least.specs.Steps.{has_condition, is_bare};
+ghost use Rattle.il_range_laws.specs.Found.{provided};
+ghost use Rattle.il_range_laws.specs.Facts.{facts as facts_of, AreOperands};
+ghost use Rattle.il_range_laws.specs.Steps.{has_condition, is_bare};
 ghost use Rattle.il_flow.specs.Tables.{moved};
 ghost use Rattle.il_transfer.specs.Testing.{counted_in, loaded_in, comparison_in, is_free, is_conditional_jump, test_in, AreForms, narrowed_in, sided_in, landing_in, testing_in, IsFineTest};
 
@@ -17,11 +17,11 @@ use crate::scope::Scope;
 use il_flow::carried::Carried;
 use il_flow::pass::Handed;
 use il_interval::Interval;
-use il_row::Row;
 use il_rules::elementary::{has_value, is_counted, is_same_type, is_whole};
 use il_spec::tree::{
     Comparison, Condition, Elementary, Instruction, Literal, Operator, Reference, Scalar, Step,
 };
+use lists::Items;
 use std::alloc::{AllocError, Global};
 
 /// A scalar variable, with its number if it has one, is compared with a literal's number.
@@ -168,7 +168,7 @@ pub fn test_at<S: Scope>(scope: &S, steps: &[Step], place: usize) -> Option<Vari
 }
 
 // Keeps what an outcome leaves of the range of the variable; false where it leaves nothing.
-fn narrow(row: &mut Row<Interval>, test: VariableTest, holds: bool) -> bool
+fn narrow(row: &mut Items<Interval>, test: VariableTest, holds: bool) -> bool
     requires operands { IsFineTest row.old test }
     ensures { narrowed_in test holds row.old ≡ (if result then Some row.new else None) }
 {

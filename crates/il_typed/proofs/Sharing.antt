@@ -17,28 +17,20 @@ use Rattle.il_table.specs.NameMap.{NameMap, get, insert, empty, get-empty}
 use Rattle.il_rules.specs.declared.names.Origin.{Origin}
 use Rattle.il_rules.specs.declared.names.Origin.TheVariants.{Input as AsInput, Output as AsOutput, Local as AsVariable, External as AsExternal, FunctionResult as AsResult, ReadImage as AsReadImage, WrittenImage as AsWrittenImage}
 use Rattle.il_rules.specs.Names as rule
-use Rattle.il_rules.specs.Names.{Spelling, ImageName, image_of, image_name, own_variable, variables_of, result_of, with_origin, named_forms, program_named, or_else, Meaning, MeansVariable, MeansUnit, MeansStandard, meaning, sees, outer_meaning, unit_named, is_predeclared, global_meaning}
+use Rattle.il_rules.specs.Names.{Spelling, ImageName, image_of, image_name, own_variable, variables_of, result_of, with_origin, named_forms, program_named, or_else, Meaning, MeansVariable, MeansUnit, MeansStandard, meaning, meant_variable, variable_named, sees, outer_meaning, unit_named, is_predeclared}
 use Rattle.il_rules.specs.Types.{IsExternalOf, TaskWrites, stored_names}
 use Rattle.il_found.specs.Least.{NumberedFault, IsLeast}
 use Rattle.il_found.proofs.Least.{least_same}
-use Rattle.il_results.specs.Faults.{HasStoreOfTwo}
-use Rattle.il_scope.specs.Views.{binding_of}
+use Rattle.il_typing_laws.specs.Faults.{HasStoreOfTwo}
+use Rattle.il_scope.specs.declared.entry.Variable.{Variable}
+use Rattle.il_scope.specs.Views.{variable_of}
 use Rattle.il_scope.proofs.Filled.{get-inserted}
 use Rattle.il_declare.proofs.Members.{in_flat, from_flat}
 use Rattle.il_typed.specs.declared.writers.Writer.{Writer}
 use Rattle.il_typed.specs.declared.writers.Writer.TheVariants.{Task, Several}
-use Rattle.il_typed.specs.Writers.{is_external, is_external_of, is_external_origin, is_external_variable, is_meant_external, is_same_task, is_task_of, writer_after, note, noted, names_stored, noted_line, WritesBelow, AreTwoTasks, IsWriter, AreWriters, is_several, is_shared, HasSharedStores}
+use Rattle.il_typed.specs.Writers.{is_external, is_external_origin, is_external_variable, is_same_task, is_task_of, writer_after, note, noted, names_stored, noted_line, WritesBelow, AreTwoTasks, IsWriter, AreWriters, is_several, is_shared, HasSharedStores}
 
 -- EXTERNALS
-
-same_origin : (o : Origin) → is_external_origin o ≡ is_external_of o
-same_origin AsInput = refl
-same_origin AsOutput = refl
-same_origin AsVariable = refl
-same_origin AsExternal = refl
-same_origin AsResult = refl
-same_origin AsReadImage = refl
-same_origin AsWrittenImage = refl
 
 found_is_none : (test : ImageName → Bool) (p : ImageName → Bool) (xs : List ImageName) (x : ImageName) → list_any test xs ≡ false → find p xs ≡ Some x → test x ≡ false
 found_is_none test p [] x none e = let bad : None ≡ Some x = e in cc
@@ -52,40 +44,52 @@ found_is_none test p (y ∷ xs) x none e = by_first (p y) (test y) refl none e (
     by_first true false is none e rest = ap test (sym (same y x e)) ∙ is
     by_first false false is none e rest = rest none e
 
-image_is_none : (config : Config) (name : Spelling) (i : ImageName) → image_name config name ≡ Some i → is_external_of i.variable.origin ≡ false
+image_is_none : (config : Config) (name : Spelling) (i : ImageName) → image_name config name ≡ Some i → is_external_origin i.variable.origin ≡ false
 unfolding image_name
-image_is_none config name i e = found_is_none (λ i. is_external_of i.variable.origin) (λ i. bytes_eq i.variable.name name) (image_of config.cars.value config.floors.value config.slots.value) i refl e
+image_is_none config name i e = found_is_none (λ i. is_external_origin i.variable.origin) (λ i. bytes_eq i.variable.name name) (image_of config.cars.value config.floors.value config.slots.value) i refl e
 
--- what a name means is an external where it is one of the unit
-pub external_meant : (config : Config) (unit : ProgramUnit) (name : Spelling) → is_meant_external (option_map (binding_of config) (meaning config unit name)) ≡ is_external unit name
+-- a variable that a name means is an external where it is one of the unit
+pub external_meant : (config : Config) (unit : ProgramUnit) (name : Spelling) → is_external_variable (variable_named config unit name) ≡ is_external unit name
 unfolding meaning is_external
 external_meant config unit name = by_own (own_variable unit name)
   where
-    by_standard : (b : Bool) → is_meant_external (option_map (binding_of config) (if b then Some MeansStandard else None)) ≡ false
+    by_standard : (b : Bool) → is_external_variable (meant_variable (if b then Some MeansStandard else None)) ≡ false
     by_standard true = refl
     by_standard false = refl
 
-    by_global : (u : Option ProgramUnit) → is_meant_external (option_map (binding_of config) (or_else (option_map MeansUnit u) (if is_predeclared config name then Some MeansStandard else None))) ≡ false
+    by_global : (u : Option ProgramUnit) → is_external_variable (meant_variable (or_else (option_map MeansUnit u) (if is_predeclared config name then Some MeansStandard else None))) ≡ false
     by_global (Some u) = refl
     by_global None = by_standard (is_predeclared config name)
 
-    by_seen : (i : ImageName) (b : Bool) → is_external_of i.variable.origin ≡ false → is_meant_external (option_map (binding_of config) (if b then Some (MeansVariable i.variable) else None)) ≡ false
-    by_seen i true e = same_origin i.variable.origin ∙ e
+    by_seen : (i : ImageName) (b : Bool) → is_external_origin i.variable.origin ≡ false → is_external_variable (meant_variable (if b then Some (MeansVariable i.variable) else None)) ≡ false
+    by_seen i true e = e
     by_seen i false e = refl
 
-    by_image : (o : Option ImageName) → image_name config name ≡ o → is_meant_external (option_map (binding_of config) (outer_meaning config unit name o)) ≡ false
+    by_image : (o : Option ImageName) → image_name config name ≡ o → is_external_variable (meant_variable (outer_meaning config unit name o)) ≡ false
     by_image (Some i) e = by_seen i (sees config unit i) (image_is_none config name i e)
     by_image None e = by_global (unit_named config name)
 
-    by_own : (o : Option rule.Variable) → is_meant_external (option_map (binding_of config) (or_else (option_map MeansVariable o) (outer_meaning config unit name (image_name config name)))) ≡ is_external_variable o
-    by_own (Some v) = same_origin v.origin
+    by_own : (o : Option rule.Variable) → is_external_variable (meant_variable (or_else (option_map MeansVariable o) (outer_meaning config unit name (image_name config name)))) ≡ is_external_variable o
+    by_own (Some v) = refl
     by_own None = by_image (image_name config name) refl
+
+-- the same of a variable that is found
+pub external_found : (config : Config) (o : Option rule.Variable) (found : Variable) (r : Bool) → Some found ≡ option_map (variable_of config) o → r ≡ is_external_origin found.origin → r ≡ is_external_variable o
+external_found config None found r there is = absurd (let bad : Some found ≡ None = there in cc)
+external_found config (Some v) found r there is = is ∙ ap (λ (x : Variable). is_external_origin x.origin) (same found (variable_of config v) there)
+  where
+    same : (a b : Variable) → Some a ≡ Some b → a ≡ b
+    same a b e = cc
+
+pub external_none : (config : Config) (o : Option rule.Variable) → None ≡ option_map (variable_of config) o → false ≡ is_external_variable o
+external_none config None none = refl
+external_none config (Some v) none = absurd (let bad : None ≡ Some (variable_of config v) = none in cc)
 
 external_is : (unit : ProgramUnit) (name : Spelling) → is_external unit name ≡ true → IsExternalOf unit name
 unfolding is_external
 external_is unit name e = by_own (own_variable unit name) e
   where
-    by_origin : (o : Origin) → is_external_of o ≡ true → Some o ≡ Some AsExternal
+    by_origin : (o : Origin) → is_external_origin o ≡ true → Some o ≡ Some AsExternal
     by_origin AsInput e = let bad : false ≡ true = e in cc
     by_origin AsOutput e = let bad : false ≡ true = e in cc
     by_origin AsVariable e = let bad : false ≡ true = e in cc
@@ -106,7 +110,7 @@ is_external_there unit name e = by_own (own_variable unit name) e
     same a b e = cc
 
     by_own : (o : Option rule.Variable) → option_map (λ v. v.origin) o ≡ Some AsExternal → is_external_variable o ≡ true
-    by_own (Some v) e = ap is_external_of (same v.origin AsExternal e)
+    by_own (Some v) e = ap is_external_origin (same v.origin AsExternal e)
     by_own None e = let bad : ◌≡◌ {A = Option Origin} None (Some AsExternal) = e in cc
 
 -- a unit without externals has no external of any name
@@ -119,7 +123,7 @@ module _ (test : rule.Variable → Bool) where
       by_first true is further = is
       by_first false is further = further is
 
-  no_external_of_origin : (o : Origin) (vs : List (Spelling × Form)) → is_external_of o ≡ false → is_external_variable (find test (map (λ v. record { name = v.0; form = v.1; origin = o }) vs)) ≡ false
+  no_external_of_origin : (o : Origin) (vs : List (Spelling × Form)) → is_external_origin o ≡ false → is_external_variable (find test (map (λ v. record { name = v.0; form = v.1; origin = o }) vs)) ≡ false
   no_external_of_origin o [] none = refl
   no_external_of_origin o (v ∷ vs) none = by_first (test (record { name = v.0; form = v.1; origin = o })) (no_external_of_origin o vs none)
     where

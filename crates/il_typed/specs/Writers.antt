@@ -12,43 +12,24 @@ use Rattle.il_rules.specs.declared.names.Origin.TheVariants.{Input as AsInput, O
 use Rattle.il_rules.specs.Names.{Spelling, Variable, own_variable, program_named}
 use Rattle.il_rules.specs.Types.{stored_names}
 use Rattle.il_found.specs.Least.{When, Below}
-use Rattle.il_scope.specs.declared.entry.Binding.{Binding}
-use Rattle.il_scope.specs.declared.entry.Binding.TheVariants as means
-use Rattle.il_rules.specs.declared.names.Origin.{Origin as WrittenOrigin}
-use Rattle.il_rules.specs.declared.names.Origin.TheVariants as written
 use Rattle.il_typed.specs.declared.writers.Writer.{Writer}
 use Rattle.il_typed.specs.declared.writers.Writer.TheVariants.{Task, Several}
 
 -- EXTERNALS
 
-abbrev pub is_external_origin : WrittenOrigin → Bool
-is_external_origin written.Input = false
-is_external_origin written.Output = false
-is_external_origin written.Local = false
-is_external_origin written.External = true
-is_external_origin written.FunctionResult = false
-is_external_origin written.ReadImage = false
-is_external_origin written.WrittenImage = false
-
--- whether what a name means is an external of its unit
-abbrev pub is_meant_external : Option Binding → Bool
-is_meant_external (Some (means.Variable v)) = is_external_origin v.origin
-is_meant_external (Some means.Unit) = false
-is_meant_external (Some means.Standard) = false
-is_meant_external None = false
-
-abbrev pub is_external_of : Origin → Bool
-is_external_of AsInput = false
-is_external_of AsOutput = false
-is_external_of AsVariable = false
-is_external_of AsExternal = true
-is_external_of AsResult = false
-is_external_of AsReadImage = false
-is_external_of AsWrittenImage = false
+-- whether a variable is an external of its unit
+abbrev pub is_external_origin : Origin → Bool
+is_external_origin AsInput = false
+is_external_origin AsOutput = false
+is_external_origin AsVariable = false
+is_external_origin AsExternal = true
+is_external_origin AsResult = false
+is_external_origin AsReadImage = false
+is_external_origin AsWrittenImage = false
 
 abbrev pub is_external_variable : Option Variable → Bool
 is_external_variable None = false
-is_external_variable (Some v) = is_external_of v.origin
+is_external_variable (Some v) = is_external_origin v.origin
 
 -- whether a name is an external of a unit (2.4.3)
 unfoldable pub is_external : ProgramUnit → Spelling → Bool

@@ -2,7 +2,7 @@
 
 ghost use Rattle.std.specs.Prelude.{◌≡◌, Some, None};
 ghost use Rattle.il_rules.specs.Declarations as rules;
-ghost use Rattle.il_results.specs.Lowest.{lowest, lower_of, fault_at};
+ghost use Rattle.il_found.specs.Lowest.{lowest, lower_of, numbered_at};
 ghost use Rattle.il_typed.specs.TypeFaults.{type_fault_number};
 
 use il_found::{Found, PhaseFault};
@@ -95,7 +95,7 @@ impl LowestFault {
 
     /// As a fault at a place.
     pub fn at(self, place: Place) -> Option<Found<TypeFault>>
-        ensures { result ≡ fault_at self place }
+        ensures { result ≡ numbered_at self place }
     {
         match self.fault {
             Some(fault) => Some(Found::of(fault, place)),

@@ -1,55 +1,31 @@
 // What names mean in a unit, by the tables of its configuration.
 
-ghost use Rattle.std.specs.Prelude.{◌≡◌, Some, is_some, map, option_and_then, option_map, slice_get};
+ghost use Rattle.std.specs.Prelude.{◌≡◌, Option, option_map};
 ghost use Rattle.il_spec.specs.declared.tree.Config.{Config as Configuration};
 ghost use Rattle.il_spec.specs.declared.tree.Form.{Form};
 ghost use Rattle.il_rules.specs.declared.names.Origin.{Origin as Origins};
-ghost use Rattle.il_rules.specs.Names.{entry_of, variable_named};
+ghost use Rattle.il_rules.specs.Names as rule;
 ghost use Rattle.il_rules.specs.Types as rules;
-ghost use Rattle.il_scope.specs.Views.{type_of, variable_of, variables_of_block};
-ghost use Rattle.il_typed.specs.Units.{input_types};
-ghost use Rattle.il_typed.specs.Writers.{is_external, is_meant_external};
+ghost use Rattle.il_found.specs.Lowest.{lowest};
+ghost use Rattle.il_scope.specs.Views.{type_of, variable_of};
+ghost use Rattle.il_typed.specs.Types.{elementary_of};
 
 use crate::fault::{LowestFault, TypeFault, unless};
 use crate::scope::{Scope, Target};
-use crate::unit_inputs::InputTypes;
-use il_scope::Scoped;
 use il_rules::names::{Origin, StandardFunction};
-use il_scope::entry::{Binding, BlockType, Variable, VariableType};
+use il_scope::UnitScope;
+use il_scope::entry::{Variable, VariableType};
 use il_scope::functions::standard_function;
-use il_spec::tree::{Elementary, Operand, Unit, UnitKind};
-use std::marker::Model;
+use il_spec::tree::{Elementary, Operand, Scalar};
 
-/// A unit of a configuration, with what its names mean.
-#[derive(Drop)]
-pub struct UnitNames<'n> {
-    names: &'n Scoped,
-    unit: &'n Unit,
-    at: usize,
-    inputs: &'n InputTypes,
-}
-
-impl<'n> Model for UnitNames<'n> {
-    ghost use Rattle.std.specs.Prelude.{◌≡◌, Some, map, slice_get};
-    ghost use Rattle.il_typed.specs.Units.{InUnit, in_unit_code, input_types};
-
-    ghost Value = { InUnit };
-
-    ghost coded = { in_unit_code };
-
-    ghost view = { λ n. record { config = n.names.now; unit = n.unit.now } };
-
-    ghost invariant = { λ n. (slice_get n.names.now.units n.at ≡ Some n.unit.now) × (n.inputs.now ≡ map input_types n.names.now.units) };
-}
-
-// The type of a scalar variable.
+/// The type of a scalar, if there is one.
 #[inline(always)]
-fn scalar_type(declared: VariableType) -> Option<Elementary>
-    ensures { (config : Configuration) (form : Form) → declared ≡ type_of config form → result ≡ rules.scalar_type form }
+pub fn elementary(scalar: Option<Scalar>) -> Option<Elementary>
+    ensures { result ≡ elementary_of scalar }
 {
-    match declared {
-        VariableType::Scalar(scalar) => Some(scalar.elementary),
-        _ => None,
+    match scalar {
+        Some(scalar) => Some(scalar.elementary),
+        None => None,
     }
 }
 
@@ -63,18 +39,6 @@ fn element_type(declared: VariableType) -> Option<Elementary>
     }
 }
 
-// The block of an instance.
-#[tactic(auto, using(il_scope::proofs::Laws::block_found, il_scope::proofs::Laws::block_there))]
-fn block_of(declared: VariableType) -> Option<BlockType>
-    ensures there { (config : Configuration) (form : Form) → declared ≡ type_of config form → is_some result ≡ is_some (rules.block_of config form) }
-    ensures is { (config : Configuration) (form : Form) → declared ≡ type_of config form → option_and_then (variables_of_block config) result ≡ rules.block_of config form }
-{
-    match declared {
-        VariableType::Instance(block) => block,
-        _ => None,
-    }
-}
-
 // Whether a body may write a variable.
 fn is_written(origin: Origin) -> bool
     ensures { (o : Origins) → origin ≡ o → result ≡ rules.origin_is_written o }
@@ -82,92 +46,23 @@ fn is_written(origin: Origin) -> bool
     !matches!(origin, Origin::Input | Origin::ReadImage)
 }
 
-// Whether what a name means is an external of its unit.
-fn is_meant_external(meant: Option<Binding>) -> bool
-    ensures { result ≡ is_meant_external meant }
+// 33 where a variable may not be written.
+fn written_fault(variable: Option<Variable>) -> LowestFault
+    ensures { (config : Configuration) (v : Option rule.Variable) → variable ≡ option_map (variable_of config) v → result ≡ lowest (rules.written_variable_numbers v) }
 {
-    match meant {
-        Some(Binding::Variable(variable)) => matches!(variable.origin, Origin::External),
-        _ => false,
+    match variable {
+        Some(variable) => unless(is_written(variable.origin), TypeFault::NotWritable),
+        None => LowestFault::none(),
     }
 }
 
-impl<'n> UnitNames<'n> {
-    /// A unit of a configuration.
-    pub fn of(names: &'n Scoped, inputs: &'n InputTypes, at: usize, unit: &'n Unit) -> UnitNames<'n>
-        requires unit { slice_get names.now.units at ≡ Some unit.now }
-        requires inputs { inputs.now ≡ map input_types names.now.units }
-        ensures config { result.config ≡ names.now }
-        ensures unit { result.unit ≡ unit.now }
-    {
-        UnitNames {
-            names,
-            unit,
-            at,
-            inputs,
-        }
-    }
-
-    /// Whether a name is an external of the unit (2.4.3).
-    pub fn is_external(&self, name: &str) -> bool
-        ensures { result ≡ is_external self.now.unit name.now }
-    {
-        is_meant_external(self.names.meaning(self.at, name))
-    }
-
-    // The variable of a name.
-    #[inline(always)]
-    fn variable(&self, name: &str) -> Option<Variable>
-        ensures { result ≡ option_map (variable_of self.now.config) (variable_named self.now.config self.now.unit name.now) }
-    {
-        match self.names.meaning(self.at, name) {
-            Some(Binding::Variable(variable)) => Some(variable),
-            _ => None,
-        }
-    }
-
-    // The type of an input of the instance of a name.
-    fn input(&self, name: &str, word: &str) -> Option<VariableType>
-        ensures { result ≡ option_map (type_of self.now.config) (option_and_then (λ b. entry_of b.inputs word.now) (rules.instance_block self.now.config self.now.unit name.now)) }
-    {
-        match self.block(name) {
-            Some(block) => self.names.block_input(block, word),
-            None => None,
-        }
-    }
-
-    // The type of an output of the instance of a name.
-    fn output(&self, name: &str, word: &str) -> Option<VariableType>
-        ensures { result ≡ option_map (type_of self.now.config) (option_and_then (λ b. entry_of b.outputs word.now) (rules.instance_block self.now.config self.now.unit name.now)) }
-    {
-        match self.block(name) {
-            Some(block) => self.names.block_output(block, word),
-            None => None,
-        }
-    }
-
-    // The block of the instance of a name.
-    fn block(&self, name: &str) -> Option<BlockType>
-        ensures there { is_some result ≡ is_some (rules.instance_block self.now.config self.now.unit name.now) }
-        ensures is { option_and_then (variables_of_block self.now.config) result ≡ rules.instance_block self.now.config self.now.unit name.now }
-    {
-        match self.variable(name) {
-            Some(variable) => block_of(variable.declared),
-            None => None,
-        }
-    }
-}
-
-impl<'n> Scope for UnitNames<'n> {
+impl<'n> Scope for UnitScope<'n> {
     ghost config = { λ n. n.config };
 
     ghost unit = { λ n. n.unit };
 
     fn name_type(&self, name: &str) -> Option<Elementary> {
-        match self.variable(name) {
-            Some(variable) => scalar_type(variable.declared),
-            None => None,
-        }
+        elementary(self.scalar(name))
     }
 
     fn element_type(&self, name: &str) -> Option<Elementary> {
@@ -178,15 +73,9 @@ impl<'n> Scope for UnitNames<'n> {
     }
 
     fn name_target(&self, name: &str) -> Target {
-        match self.variable(name) {
-            Some(variable) => Target {
-                declared: scalar_type(variable.declared),
-                written: unless(is_written(variable.origin), TypeFault::NotWritable),
-            },
-            None => Target {
-                declared: None,
-                written: LowestFault::none(),
-            },
+        Target {
+            declared: self.name_type(name),
+            written: written_fault(self.variable(name)),
         }
     }
 
@@ -198,10 +87,7 @@ impl<'n> Scope for UnitNames<'n> {
     }
 
     fn member_type(&self, name: &str, word: &str) -> Option<Elementary> {
-        match self.output(name, word).or(self.input(name, word)) {
-            Some(declared) => scalar_type(declared),
-            None => None,
-        }
+        elementary(self.member_scalar(name, word))
     }
 
     fn is_instance(&self, name: &str) -> bool {
@@ -210,14 +96,14 @@ impl<'n> Scope for UnitNames<'n> {
 
     fn input_type(&self, name: &str, word: &str) -> Option<Option<Elementary>> {
         match self.input(name, word) {
-            Some(declared) => Some(scalar_type(declared)),
+            Some(_) => Some(elementary(self.input_scalar(name, word))),
             None => None,
         }
     }
 
     fn output_type(&self, name: &str, word: &str) -> Option<Option<Elementary>> {
         match self.output(name, word) {
-            Some(declared) => Some(scalar_type(declared)),
+            Some(_) => Some(elementary(self.output_scalar(name, word))),
             None => None,
         }
     }
@@ -226,10 +112,8 @@ impl<'n> Scope for UnitNames<'n> {
         standard_function(name)
     }
 
-    fn own_inputs(&self, name: &str) -> Option<&[Option<Elementary>]> {
-        let number = self.names.function(name)?;
-        let inputs = self.inputs.as_slice().get(number)?;
-        Some(inputs.as_slice())
+    fn own_inputs(&self, name: &str) -> Option<&[Option<Scalar>]> {
+        self.own_inputs(name)
     }
 
     fn own_type(
@@ -238,11 +122,6 @@ impl<'n> Scope for UnitNames<'n> {
         _operands: &[Operand],
         _before: Option<Elementary>,
     ) -> Option<Elementary> {
-        let number = self.names.function(name)?;
-        let unit = self.names.config().units.as_slice().get(number)?;
-        match unit.kind {
-            UnitKind::Function(scalar, _) => Some(scalar.elementary),
-            _ => None,
-        }
+        elementary(self.own_result(name))
     }
 }

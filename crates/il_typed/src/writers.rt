@@ -1,19 +1,17 @@
 // Globals that two tasks write (own rule).
 
-ghost use Rattle.std.specs.Prelude.{◌≡◌, [], IfOk, IsFalse, Some, map, flat_map, slice_get, length};
+ghost use Rattle.std.specs.Prelude.{◌≡◌, [], IfOk, IsFalse, flat_map, length};
 ghost use Rattle.std.specs.List.{list_any};
 ghost use Rattle.il_rules.specs.Names.{program_named};
 ghost use Rattle.il_rules.specs.Types.{argument_targets, named_variable, stored_names};
 ghost use Rattle.il_found.specs.Least.{IsLeast};
-ghost use Rattle.il_results.specs.Faults.{HasStoreOfTwo};
-ghost use Rattle.il_typed.specs.Units.{input_types};
-ghost use Rattle.il_typed.specs.Writers.{is_same_task, writer_after, note, noted, noted_line, names_stored, is_several, is_shared, stores_shared, HasSharedStore, HasSharedStores, AreWriters};
+ghost use Rattle.il_typing_laws.specs.Faults.{HasStoreOfTwo};
+ghost use Rattle.il_typed.specs.Writers.{is_external_origin, is_external, is_same_task, writer_after, note, noted, noted_line, names_stored, is_several, is_shared, stores_shared, HasSharedStore, HasSharedStores, AreWriters};
 
 use crate::fault::TypeFault;
-use crate::names::UnitNames;
-use crate::unit_inputs::InputTypes;
 use il_found::{Found, earlier, fault_if};
-use il_scope::Scoped;
+use il_rules::names::Origin;
+use il_scope::{Scoped, UnitScope};
 use il_spec::tree::{Argument, Instruction, ProgramLine, Reference, Step, Unit};
 use il_table::Table;
 use std::alloc::{AllocError, Global};
@@ -26,31 +24,38 @@ pub enum Writer {
 }
 
 /// The first store into a global that two tasks write (38).
-pub fn writers_fault(
-    alloc: Global,
-    names: &Scoped,
-    inputs: &InputTypes,
-) -> Result<Option<Found<TypeFault>>, AllocError>
-    requires { inputs.now ≡ map input_types names.now.units }
+pub fn writers_fault(alloc: Global, names: &Scoped) -> Result<Option<Found<TypeFault>>, AllocError>
     ensures { IfOk result (λ found. IsLeast found (HasStoreOfTwo names.now)) }
 {
-    let writers = writers_of(alloc, names, inputs)?;
-    Ok(shared_fault(names, inputs, &writers))
+    let writers = writers_of(alloc, names)?;
+    Ok(shared_fault(names, &writers))
+}
+
+// Whether a variable is an external of its unit.
+fn is_external_origin(origin: Origin) -> bool
+    ensures { result ≡ is_external_origin origin }
+{
+    matches!(origin, Origin::External)
+}
+
+// Whether a name is an external of a unit (2.4.3).
+fn is_external(scope: &UnitScope, name: &str) -> bool
+    ensures { result ≡ is_external scope.now.unit name.now }
+{
+    match scope.variable(name) {
+        Some(variable) => is_external_origin(variable.origin),
+        None => false,
+    }
 }
 
 // Who writes each global.
-fn writers_of(
-    alloc: Global,
-    names: &Scoped,
-    inputs: &InputTypes,
-) -> Result<Table<Writer>, AllocError>
-    requires { inputs.now ≡ map input_types names.now.units }
+fn writers_of(alloc: Global, names: &Scoped) -> Result<Table<Writer>, AllocError>
     ensures { IfOk result (λ t. AreWriters names.now (length names.now.programs) t) }
 {
     let lines = names.config().programs.as_slice();
     let mut writers = Table::new(alloc);
     for line in 0..lines.len() {
-        note_line(alloc, names, inputs, line, &lines[line], &mut writers)?;
+        note_line(alloc, names, line, &lines[line], &mut writers)?;
     }
     Ok(writers)
 }
@@ -66,12 +71,10 @@ fn has_externals(unit: &Unit) -> bool
 fn note_line(
     alloc: Global,
     names: &Scoped,
-    inputs: &InputTypes,
     number: usize,
     line: &ProgramLine,
     writers: &mut Table<Writer>,
 ) -> Result<(), AllocError>
-    requires { inputs.now ≡ map input_types names.now.units }
     ensures { IfOk result (λ _. writers.new ≡ noted_line names.now.programs number (program_named names.now line.now.program.name) writers.old) }
 {
     let Some(at) = names.program(line.program.name.as_str()) else {
@@ -83,7 +86,7 @@ fn note_line(
     if !has_externals(unit) {
         return Ok(());
     }
-    let scope = UnitNames::of(names, inputs, at, unit);
+    let scope = UnitScope::of(names, at, unit);
     let lines = names.config().programs.as_slice();
     note_steps(
         alloc,
@@ -101,7 +104,7 @@ fn note_steps(
     alloc: Global,
     lines: &[ProgramLine],
     line: usize,
-    scope: &UnitNames,
+    scope: &UnitScope,
     steps: &[Step],
     writers: &mut Table<Writer>,
 ) -> Result<(), AllocError>
@@ -118,7 +121,7 @@ fn note_stores(
     alloc: Global,
     lines: &[ProgramLine],
     line: usize,
-    scope: &UnitNames,
+    scope: &UnitScope,
     instruction: &Instruction,
     writers: &mut Table<Writer>,
 ) -> Result<(), AllocError>
@@ -140,7 +143,7 @@ fn note_target(
     alloc: Global,
     lines: &[ProgramLine],
     line: usize,
-    scope: &UnitNames,
+    scope: &UnitScope,
     target: &Reference,
     writers: &mut Table<Writer>,
 ) -> Result<(), AllocError>
@@ -158,7 +161,7 @@ fn note_outputs(
     alloc: Global,
     lines: &[ProgramLine],
     line: usize,
-    scope: &UnitNames,
+    scope: &UnitScope,
     arguments: &[Argument],
     writers: &mut Table<Writer>,
 ) -> Result<(), AllocError>
@@ -175,7 +178,7 @@ fn note_output(
     alloc: Global,
     lines: &[ProgramLine],
     line: usize,
-    scope: &UnitNames,
+    scope: &UnitScope,
     argument: &Argument,
     writers: &mut Table<Writer>,
 ) -> Result<(), AllocError>
@@ -194,13 +197,13 @@ fn note(
     alloc: Global,
     lines: &[ProgramLine],
     line: usize,
-    scope: &UnitNames,
+    scope: &UnitScope,
     name: &str,
     writers: &mut Table<Writer>,
 ) -> Result<(), AllocError>
     ensures { IfOk result (λ _. writers.new ≡ note lines.now line scope.now.unit writers.old name.now) }
 {
-    if !scope.is_external(name) {
+    if !is_external(scope, name) {
         return Ok(());
     }
     let writer = writer_after(lines, line, writers.get(name));
@@ -235,19 +238,14 @@ fn is_same_task(lines: &[ProgramLine], one: usize, other: usize) -> bool
 }
 
 // The first store into a global of several writers.
-fn shared_fault(
-    names: &Scoped,
-    inputs: &InputTypes,
-    writers: &Table<Writer>,
-) -> Option<Found<TypeFault>>
-    requires { inputs.now ≡ map input_types names.now.units }
+fn shared_fault(names: &Scoped, writers: &Table<Writer>) -> Option<Found<TypeFault>>
     ensures { IsLeast result (HasSharedStores writers.now names.now.units) }
 {
     let units = names.config().units.as_slice();
     let mut found = None;
     for at in 0..units.len() {
         let unit = &units[at];
-        let scope = UnitNames::of(names, inputs, at, unit);
+        let scope = UnitScope::of(names, at, unit);
         found = earlier(found, unit_shared_fault(&scope, unit, writers));
     }
     found
@@ -255,7 +253,7 @@ fn shared_fault(
 
 // The same in a unit.
 fn unit_shared_fault(
-    scope: &UnitNames,
+    scope: &UnitScope,
     unit: &Unit,
     writers: &Table<Writer>,
 ) -> Option<Found<TypeFault>>
@@ -271,7 +269,7 @@ fn unit_shared_fault(
 }
 
 // Whether an instruction stores into a global of several writers.
-fn stores_shared(scope: &UnitNames, writers: &Table<Writer>, instruction: &Instruction) -> bool
+fn stores_shared(scope: &UnitScope, writers: &Table<Writer>, instruction: &Instruction) -> bool
     ensures { result ≡ list_any (is_shared scope.now.unit writers.now) (stored_names instruction.now) }
 {
     match instruction {
@@ -284,7 +282,7 @@ fn stores_shared(scope: &UnitNames, writers: &Table<Writer>, instruction: &Instr
 }
 
 // Whether the target of a store is such a global.
-fn is_target_shared(scope: &UnitNames, writers: &Table<Writer>, target: &Reference) -> bool
+fn is_target_shared(scope: &UnitScope, writers: &Table<Writer>, target: &Reference) -> bool
     ensures { result ≡ list_any (is_shared scope.now.unit writers.now) (named_variable target.now) }
 {
     match target {
@@ -295,7 +293,7 @@ fn is_target_shared(scope: &UnitNames, writers: &Table<Writer>, target: &Referen
 }
 
 // Whether the target of one of the outputs is such a global.
-fn is_output_shared(scope: &UnitNames, writers: &Table<Writer>, arguments: &[Argument]) -> bool
+fn is_output_shared(scope: &UnitScope, writers: &Table<Writer>, arguments: &[Argument]) -> bool
     ensures { result ≡ list_any (is_shared scope.now.unit writers.now) (flat_map argument_targets arguments.now) }
 {
     let mut shared = false;
@@ -307,7 +305,7 @@ fn is_output_shared(scope: &UnitNames, writers: &Table<Writer>, arguments: &[Arg
 }
 
 // The same of one argument.
-fn is_argument_shared(scope: &UnitNames, writers: &Table<Writer>, argument: &Argument) -> bool
+fn is_argument_shared(scope: &UnitScope, writers: &Table<Writer>, argument: &Argument) -> bool
     ensures { result ≡ list_any (is_shared scope.now.unit writers.now) (argument_targets argument.now) }
 {
     match argument {
@@ -317,8 +315,8 @@ fn is_argument_shared(scope: &UnitNames, writers: &Table<Writer>, argument: &Arg
 }
 
 // Whether a name is a global of several writers.
-fn is_shared(scope: &UnitNames, writers: &Table<Writer>, name: &str) -> bool
+fn is_shared(scope: &UnitScope, writers: &Table<Writer>, name: &str) -> bool
     ensures { result ≡ is_shared scope.now.unit writers.now name.now }
 {
-    matches!(writers.get(name), Some(Writer::Several)) && scope.is_external(name)
+    matches!(writers.get(name), Some(Writer::Several)) && is_external(scope, name)
 }

@@ -22,9 +22,9 @@ use Rattle.lift_spec.specs.Calls.{IsCall, ticket_of, enter_all}
 use Rattle.lift_spec.specs.Replies.{Reply, Started, Committed, Refreshed}
 use Rattle.lift_spec.specs.Snapshot.{scan_begins}
 use Rattle.lift_spec.specs.World.{World, Group, TaskState, flat, task_at, scan_at, happens, beginning_of, commits, commits_scan, commits_ended, committed_group, refreshed_group, tickets_or_none}
-use Rattle.lift_sound.specs.Runs.{IsReached}
-use Rattle.lift_sound.proofs.Lists.{same_or_other, get_other}
-use Rattle.lift_sound.proofs.Seats.{flat_same}
+use Rattle.lift_run_laws.specs.Runs.{IsReached}
+use Rattle.lift_run_laws.proofs.Lists.{same_or_other, get_other}
+use Rattle.lift_run_laws.proofs.Seats.{flat_same}
 use Rattle.lift_world.specs.declared.controller.Controller.{Controller}
 use Rattle.lift_world.specs.declared.shared.Core.{Core}
 use Rattle.lift_world.specs.declared.shared.Seat.{Seat}

@@ -17,7 +17,7 @@ ghost use Rattle.lift_book.specs.Ledgers.{page_of, start_fault, full_fault, refr
 
 use crate::ledger::Ledger;
 use il_machine::{OpenScan, Scanned, Store, Value, Verified};
-use lift_image::{Fields, Image, Row};
+use lift_image::{Bounded, Fields, Image};
 use lift_journal::fault::StationFault;
 use lift_spec::calls::Slot;
 use lift_spec::hand::Hand;
@@ -185,7 +185,7 @@ impl Book {
         let _fits = image.outputs.len();
         Image {
             fields: image.fields.copied(),
-            outputs: Row::from_slice(image.outputs.as_slice()),
+            outputs: Bounded::from_slice(image.outputs.as_slice()),
         }
     }
 

@@ -5,7 +5,7 @@ use Rattle.il_spec.specs.declared.fault.Refusal.TheVariants.{Fault}
 use Rattle.il_spec.specs.declared.tree.Config.{Config}
 use Rattle.il_parse.specs.Refused.{IsFault}
 use Rattle.il_machine.specs.Scanning.{Program}
-use Rattle.lift_sound.specs.Runs.{RunsWell}
+use Rattle.lift_run_laws.specs.Runs.{RunsWell}
 use Rattle.il_budget.specs.Costs.{cost_of}
 use Rattle.lift_load.specs.Loading.{IsSpelled, IsSpelledWith, IsAccepted, IsRefusedFor, IsExplained}
 

@@ -6,7 +6,7 @@ ghost use Rattle.lift_host.specs.Presses.{IsPressOf, IsPress, AreOfWords, ArePre
 ghost use Rattle.lift_host.specs.declared.press.Press.{Press};
 
 use crate::request::{Words, number_to};
-use il_spec::list::Items;
+use lists::Items;
 use std::alloc::{AllocError, Global};
 
 /// The most presses of a command.

@@ -5,7 +5,7 @@ ghost use Rattle.lift_spec.specs.Settle.{may_run_on, able_from, below, denies_ru
 
 use crate::motor::{granted, is_at_end, is_fire_up, runs};
 use crate::settled::{AllSettled, Settled, listed, open_denial};
-use lift_image::{CarFields, CarOutputs, Fields, Row};
+use lift_image::{Bounded, CarFields, CarOutputs, Fields};
 use lift_spec::report::{Denial, Rule};
 
 /// The order in which rules deny a running motor.
@@ -22,12 +22,12 @@ fn may_run_on(fire: bool, fields: CarFields, outputs: CarOutputs) -> bool
 }
 
 // The cars that do, rising.
-fn able_cars(fire: bool, fields: &[CarFields], outputs: &[CarOutputs]) -> Row<u8, 8>
+fn able_cars(fire: bool, fields: &[CarFields], outputs: &[CarOutputs]) -> Bounded<u8, 8>
     requires as_many { length outputs.now ≡ length fields.now }
     requires room { length fields.now ≤ 8 }
     ensures { result ≡ able_from fire 1 fields.now outputs.now }
 {
-    let mut able = Row::new();
+    let mut able = Bounded::new();
     for index in 0..fields.len() {
         if may_run_on(fire, fields[index], outputs[index]) {
             able.push(index as u8 + 1);
@@ -105,7 +105,7 @@ fn settle_running(
 }
 
 // Adds the denials of a car.
-fn add_denials(denials: &mut Row<Denial, 16>, car: u8, rules: &[Rule])
+fn add_denials(denials: &mut Bounded<Denial, 16>, car: u8, rules: &[Rule])
     requires { length denials.old + length rules.now ≤ 16 }
     ensures { denials.new ≡ denials.old ++ denials_of car rules.now }
 {
@@ -118,7 +118,7 @@ fn add_denials(denials: &mut Row<Denial, 16>, car: u8, rules: &[Rule])
 /// rule). Running cars that fail rule 2, 3 or 6 stop, by the first that they fail; of the rest the RUNLIMIT
 /// lowest-numbered run on, and the others stop by 5. Open commands stay exactly at a level, otherwise they end by 4.
 #[tactic(auto, unfolding(lift_spec::specs::Settle::settled_all))]
-pub fn settle_all(outputs: &Row<CarOutputs, 8>, fields: &Fields) -> AllSettled
+pub fn settle_all(outputs: &Bounded<CarOutputs, 8>, fields: &Fields) -> AllSettled
     requires { length outputs.now ≡ length fields.now.cars }
     ensures { result ≡ settled_all outputs.now fields.now }
 {
@@ -126,8 +126,8 @@ pub fn settle_all(outputs: &Row<CarOutputs, 8>, fields: &Fields) -> AllSettled
     let cars = fields.cars.as_slice();
     let before = outputs.as_slice();
     let able = able_cars(fields.fire, cars, before);
-    let mut after = Row::new();
-    let mut denials = Row::new();
+    let mut after = Bounded::new();
+    let mut denials = Bounded::new();
     for index in 0..count {
         let car = index as u8 + 1;
         let settled = settle_running(fields, able.as_slice(), car, cars[index], before[index]);

@@ -3,7 +3,7 @@
 ghost use Rattle.std.specs.Prelude.{◌≡◌, ◌++◌};
 ghost use Rattle.lift_spec.specs.Settle.{listed, open_denial};
 
-use lift_image::{CarOutputs, Row};
+use lift_image::{Bounded, CarOutputs};
 use lift_spec::report::{Denial, Rule};
 use std::marker::Model;
 
@@ -11,7 +11,7 @@ use std::marker::Model;
 #[derive(Drop)]
 pub struct Settled {
     pub outputs: CarOutputs,
-    pub denials: Row<Rule, 2>,
+    pub denials: Bounded<Rule, 2>,
 }
 
 impl Model for Settled {
@@ -28,8 +28,8 @@ impl Model for Settled {
 /// The outputs of all cars, car 1 first, and the denials by rising car, those of a car with rule 4 first.
 #[derive(Drop)]
 pub struct AllSettled {
-    pub outputs: Row<CarOutputs, 8>,
-    pub denials: Row<Denial, 16>,
+    pub outputs: Bounded<CarOutputs, 8>,
+    pub denials: Bounded<Denial, 16>,
 }
 
 impl Model for AllSettled {
@@ -55,10 +55,10 @@ pub fn open_denial(wish: bool, kept: bool) -> Option<Rule>
 }
 
 /// The rules that deny a car, that of its open command before that of its motor.
-pub fn listed(of_open: Option<Rule>, of_motor: Option<Rule>) -> Row<Rule, 2>
+pub fn listed(of_open: Option<Rule>, of_motor: Option<Rule>) -> Bounded<Rule, 2>
     ensures { result ≡ listed of_open ++ listed of_motor }
 {
-    let mut rules = Row::new();
+    let mut rules = Bounded::new();
     if let Some(rule) = of_open {
         rules.push(rule);
     }

@@ -17,7 +17,7 @@ use Rattle.lift_spec.specs.Calls.{Calls, IsCall, Entered, enter_all, entered_at,
 use Rattle.lift_spec.specs.Hands.{floors_of, IsInOrder}
 use Rattle.lift_spec.specs.Replies.{Reply, Started, Committed, Refreshed}
 use Rattle.lift_spec.specs.World.{World, Group, TaskState, task_at, scan_at, happens, run, and_then, refreshes, refreshed_group, entered_from}
-use Rattle.lift_sound.specs.Tasks.{budget_of}
+use Rattle.lift_run_laws.specs.Tasks.{budget_of}
 use Rattle.lift_spec.specs.declared.journal.Entry.{Entry}
 use Rattle.lift_spec.specs.declared.journal.Entry.TheVariants as entry
 use Rattle.lift_journal.specs.Journal.{Enters, IsAccepted, AreAccepted, AllCalls}

@@ -19,12 +19,12 @@ use Rattle.lift_spec.specs.Hands.{has_call, has_from}
 use Rattle.lift_spec.specs.Plant.{PlantState, fields_of_plant}
 use Rattle.lift_spec.specs.Replies.{Reply, Started, More, End, Committed, Refreshed, Refused}
 use Rattle.lift_spec.specs.World.{World, Group, Halt, TaskState, Next, task_at, scan_at, opening, happens, run, and_then, starts, starts_from, instructs, instructs_in, instructs_scan, stepped, commits, commits_scan, commits_ended, refreshes, refreshed_group, presses, presses_floors, presses_new, gathers, gathers_from, counted, answered}
-use Rattle.lift_sound.specs.Accepted.{IsSound}
-use Rattle.lift_sound.specs.Runs.{IsReached, WorldWell}
-use Rattle.lift_sound.specs.Tasks.{budget_of}
-use Rattle.lift_sound.proofs.Accepted.{accepted_runs_well}
-use Rattle.lift_sound.proofs.Following.{appends, follow, before, goes_on}
-use Rattle.lift_sound.proofs.Histories.{event_is_run}
+use Rattle.lift_run_laws.specs.Accepted.{IsSound}
+use Rattle.lift_run_laws.specs.Runs.{IsReached, WorldWell}
+use Rattle.lift_run_laws.specs.Tasks.{budget_of}
+use Rattle.lift_run_laws.proofs.Accepted.{accepted_runs_well}
+use Rattle.lift_run_laws.proofs.Following.{appends, follow, before, goes_on}
+use Rattle.lift_run_laws.proofs.Histories.{event_is_run}
 use Rattle.lift_spec.specs.declared.journal.Entry.{Entry}
 use Rattle.lift_spec.specs.declared.journal.Entry.TheVariants as entry
 use Rattle.lift_journal.specs.Journal.{Enters, IsAccepted, AreAccepted, AllCalls, Runs, IsJournalOf, calls_entering}

@@ -23,13 +23,13 @@ use Rattle.lift_spec.specs.Hands.{has_call, has_from, IsInOrder}
 use Rattle.lift_spec.specs.Replies.{Reply, Started, More, End, Committed, Refreshed, Refused}
 use Rattle.lift_spec.specs.Snapshot.{Beginning, scan_begins, begins_by, program_of, has_task}
 use Rattle.lift_spec.specs.World.{World, Halt, TaskState, Next, flat, task_at, scan_at, beginning_of, happens, run, and_then, starts, starts_from, instructs, instructs_in, instructs_scan, stepped, reply_to, commits, commits_scan, commits_ended, refreshes, presses, presses_floors, presses_new, gathers, gathers_from}
-use Rattle.lift_sound.specs.Accepted.{IsSound}
-use Rattle.lift_sound.specs.Runs.{IsReached}
-use Rattle.lift_sound.specs.Tasks.{IsTaskOf}
-use Rattle.lift_sound.proofs.Accepted.{accepted_runs_well}
-use Rattle.lift_sound.proofs.Following.{appends, follow, before, same_end}
-use Rattle.lift_sound.proofs.Lists.{same_or_other}
-use Rattle.lift_sound.proofs.Seats.{flat_same}
+use Rattle.lift_run_laws.specs.Accepted.{IsSound}
+use Rattle.lift_run_laws.specs.Runs.{IsReached}
+use Rattle.lift_run_laws.specs.Tasks.{IsTaskOf}
+use Rattle.lift_run_laws.proofs.Accepted.{accepted_runs_well}
+use Rattle.lift_run_laws.proofs.Following.{appends, follow, before, same_end}
+use Rattle.lift_run_laws.proofs.Lists.{same_or_other}
+use Rattle.lift_run_laws.proofs.Seats.{flat_same}
 use Rattle.lift_journal.specs.Journal.{IsAccepted, AreAccepted, AllCalls}
 use Rattle.lift_journal.specs.Rounds.{Happen, ending, Finishes, FinishesAndCommits, Scans, ScanEach, desk_events, cleared, entered_calls_of}
 use Rattle.lift_journal.proofs.Handing.{accepted_append, floor_so, both_so}

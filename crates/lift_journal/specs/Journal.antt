@@ -10,7 +10,7 @@ use Rattle.lift_spec.specs.Calls.{Calls, IsCall, enter_all}
 use Rattle.lift_spec.specs.Hands.{floors_of}
 use Rattle.lift_spec.specs.Replies.{Reply, Refused}
 use Rattle.lift_spec.specs.World.{World, run, opening, scan_at}
-use Rattle.lift_sound.specs.Tasks.{budget_of}
+use Rattle.lift_run_laws.specs.Tasks.{budget_of}
 use Rattle.lift_spec.specs.declared.journal.Entry.{Entry}
 use Rattle.lift_spec.specs.declared.journal.Entry.TheVariants as entry
 

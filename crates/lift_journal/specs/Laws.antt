@@ -12,8 +12,8 @@ use Rattle.lift_spec.specs.Hands.{IsInOrder}
 use Rattle.lift_spec.specs.Image.{sizes_of, fields_in_range, Obeys}
 use Rattle.lift_spec.specs.Replies.{Reply, Committed, Refreshed}
 use Rattle.lift_spec.specs.World.{World, InRanges, scan_at, happens, refreshed_group}
-use Rattle.lift_sound.specs.Accepted.{IsSound}
-use Rattle.lift_sound.specs.Runs.{IsReached}
+use Rattle.lift_run_laws.specs.Accepted.{IsSound}
+use Rattle.lift_run_laws.specs.Runs.{IsReached}
 use Rattle.lift_spec.specs.declared.journal.Entry.{Entry}
 use Rattle.lift_spec.specs.declared.journal.Entry.TheVariants as entry
 use Rattle.lift_journal.specs.Journal.{Enters, AllCalls, calls_entering, IsJournalOf, Alternate, IsOpenWhereOdd, refresher}

@@ -10,10 +10,10 @@ use Rattle.il_spec.specs.declared.tree.Step.{Step}
 use Rattle.il_spec.specs.declared.tree.Unit.{Unit as Organized}
 use Rattle.il_spec.specs.Grammar.{Spells}
 use Rattle.il_rules.specs.Faults.{Declaring, Typing, Ordering, Broken, BreaksDeclarations, HasNoFault, IsRefusedBy}
-use Rattle.il_grammar.specs.Places.{places, unit_places, inner_places, result_places, declaration_places, step_places, instruction_places, name_places, BreaksAtPlaces}
-use Rattle.il_grammar.proofs.Members.{first_in, later_in, left_in, right_in, given_in, standing_in}
-use Rattle.il_grammar.proofs.FaultPlaces.{broken_place}
-use Rattle.il_grammar.proofs.FirstLines.{first_at_one_line}
+use Rattle.il_grammar_laws.specs.Places.{places, unit_places, inner_places, result_places, declaration_places, step_places, instruction_places, name_places, BreaksAtPlaces}
+use Rattle.il_grammar_laws.proofs.Members.{first_in, later_in, left_in, right_in, given_in, standing_in}
+use Rattle.il_grammar_laws.proofs.FaultPlaces.{broken_place}
+use Rattle.il_grammar_laws.proofs.FirstLines.{first_at_one_line}
 use Rattle.il_run.specs.Annotation.{Annotated}
 use Rattle.il_ranges.specs.Lacking.{BreaksRanges, lacks_ranges}
 use Rattle.il_budget.specs.Costs.{IsTooLong, too_long}

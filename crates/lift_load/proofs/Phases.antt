@@ -14,11 +14,11 @@ use Rattle.il_ranges.specs.Lacking.{BreaksRanges}
 use Rattle.il_budget.specs.Costs.{IsTooLong}
 use Rattle.il_run.specs.Annotation.{Annotated}
 use Rattle.il_machine.specs.Scanning.{Program, IsRunnable}
-use Rattle.lift_sound.specs.Runs.{RunsWell}
+use Rattle.lift_run_laws.specs.Runs.{RunsWell}
 use Rattle.lift_load.specs.Loading.{IsSpelled, SpellsOnly, IsAccepted, IsRefusedFor, by_declarations, by_types, by_order, IsUnbroken, by_ranges, by_budgets, IsExplained}
 use Rattle.lift_load.proofs.Explaining.{explained_by_tree}
 use Rattle.lift_load.proofs.Accepting.{same_spelled, names_broken, accepted_is}
-use Rattle.lift_sound.proofs.Accepted.{accepted_runs_well}
+use Rattle.lift_run_laws.proofs.Accepted.{accepted_runs_well}
 use Rattle.il_machine.proofs.Scans.{sound_of}
 
 -- what the parser gives is all that a text spells

@@ -8,7 +8,7 @@ ghost use Rattle.il_rules.specs.Written.{IsWritten, IsNested};
 ghost use Rattle.il_run.specs.Annotation.{Annotated};
 ghost use Rattle.il_parse.specs.Refused.{IsFault};
 ghost use Rattle.il_budget.specs.Costs.{IsTooLong, cost_of};
-ghost use Rattle.lift_sound.specs.Runs.{RunsWell};
+ghost use Rattle.lift_run_laws.specs.Runs.{RunsWell};
 ghost use Rattle.lift_load.specs.Loading.{IsSpelled, SpellsOnly, SpellsNone, IsUnbroken, IsAccepted, IsRefusedFor, IsSpelledWith, IsExplained};
 
 use il_budget::budget;

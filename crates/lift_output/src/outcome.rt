@@ -11,7 +11,6 @@ ghost use Rattle.lift_output.specs.Parts.{fault_of_trace, IsTraceUnread, IsWorld
 use crate::check::check_text;
 use crate::image::image_text;
 use il_machine::Verified;
-use il_spec::list::Items;
 use lift_host::files::TextFiles;
 use lift_host::press::{Press, fire_round, presses};
 use lift_host::request::{Request, Rounds};
@@ -25,6 +24,7 @@ use lift_trace::read::{GREATEST_TRACE, read_trace};
 use lift_workers::gate::Open;
 use lift_workers::run::{Plan, run};
 use lift_world::World;
+use lists::Items;
 use std::alloc::Global;
 use std::sync::Wait;
 use std::thread::Threads;

@@ -8,7 +8,7 @@ ghost use Rattle.lift_plant.specs.Cars.{placed, IsPlaced};
 ghost use Rattle.lift_plant.specs.Safe.{IsSafeStep};
 
 use crate::car::{Car, car_fields, moved_car};
-use lift_image::{CarFields, CarOutputs, Fields, Row};
+use lift_image::{Bounded, CarFields, CarOutputs, Fields};
 use std::marker::Model;
 
 /// The latest NOW in milliseconds, the largest TIME.
@@ -21,7 +21,7 @@ pub struct Plant {
     time: u32,
     run_limit: u8,
     fire: bool,
-    cars: Row<Car, 8>,
+    cars: Bounded<Car, 8>,
 }
 
 impl Model for Plant {
@@ -48,7 +48,7 @@ impl Plant {
         ensures plant { result ≡ opening_plant cars floors }
         ensures sized { (slots : ℕ) → IsPlantOf (record { cars = cars; floors = floors; slots = slots }) result }
     {
-        let mut placed = Row::new();
+        let mut placed = Bounded::new();
         for _ in 0..cars {
             placed.push(Car { place: 0, door: 0 });
         }
@@ -78,7 +78,7 @@ impl Plant {
 }
 
 /// The cars after one step, each under its outputs.
-fn moved_cars(floors: u8, cars: &[Car], outputs: &[CarOutputs]) -> Row<Car, 8>
+fn moved_cars(floors: u8, cars: &[Car], outputs: &[CarOutputs]) -> Bounded<Car, 8>
     requires floors { floors ≤ 16 }
     requires cars { All (IsPlaced floors) cars.now }
     requires room { length cars.now ≤ 8 }
@@ -87,7 +87,7 @@ fn moved_cars(floors: u8, cars: &[Car], outputs: &[CarOutputs]) -> Row<Car, 8>
     ensures stays { All (IsPlaced floors) result }
     ensures length { length result ≡ length cars.now }
 {
-    let mut moved = Row::new();
+    let mut moved = Bounded::new();
     for i in 0..cars.len() {
         moved.push(moved_car(floors, cars[i], outputs[i]));
     }
@@ -95,13 +95,13 @@ fn moved_cars(floors: u8, cars: &[Car], outputs: &[CarOutputs]) -> Row<Car, 8>
 }
 
 /// What the plant reports of its cars.
-fn all_fields(floors: u8, cars: &[Car]) -> Row<CarFields, 8>
+fn all_fields(floors: u8, cars: &[Car]) -> Bounded<CarFields, 8>
     requires floors { (2 ≤ floors) × (floors ≤ 16) }
     requires cars { All (IsPlaced floors) cars.now }
     requires room { length cars.now ≤ 8 }
     ensures { result ≡ fields_of_cars floors (map placed cars.now) }
 {
-    let mut fields = Row::new();
+    let mut fields = Bounded::new();
     for i in 0..cars.len() {
         fields.push(car_fields(floors, cars[i]));
     }
@@ -109,7 +109,7 @@ fn all_fields(floors: u8, cars: &[Car]) -> Row<CarFields, 8>
 }
 
 /// The plant 100 ms later, under the outputs of all its cars, and what it then reports.
-pub fn plant_step(plant: Plant, outputs: &Row<CarOutputs, 8>) -> (Plant, Fields)
+pub fn plant_step(plant: Plant, outputs: &Bounded<CarOutputs, 8>) -> (Plant, Fields)
     requires { length outputs.now ≡ length plant.cars }
     ensures plant { result.0 ≡ plant_after plant outputs.now }
     ensures fields { result.1 ≡ fields_of_plant result.0 }

@@ -17,7 +17,7 @@ use Rattle.lift_spec.specs.declared.report.Report.{Report}
 use Rattle.lift_spec.specs.declared.trace.TraceEvent.{TraceEvent}
 use Rattle.lift_spec.specs.Replies.{Reply, Started, More, Refreshed, Refused, reply_with}
 use Rattle.lift_spec.specs.World.{World, happens, run, scan_at}
-use Rattle.lift_sound.specs.Runs.{IsReached}
+use Rattle.lift_run_laws.specs.Runs.{IsReached}
 use Rattle.lift_journal.specs.Journal.{IsAccepted}
 use Rattle.lift_journal.specs.Entered.{AllHaveWords}
 use Rattle.lift_journal.specs.Rounds.{ending, entered_calls_of, FinishesAndCommits, Scans, Takes, TakesAll, Refuses, IsRefusedAt}

@@ -3,7 +3,7 @@
 ghost use Rattle.std.specs.Prelude.{◌≡◌, [], ◌∷◌, Ok, OnOk, IfErr, true, false, is_some};
 ghost use Rattle.lift_journal.specs.Rounds.{Happen, FinishesAndCommits, Scans};
 ghost use Rattle.lift_journal.proofs.Taking.{IsClosed};
-ghost use Rattle.lift_sound.specs.Tasks.{IsTaskOf};
+ghost use Rattle.lift_run_laws.specs.Tasks.{IsTaskOf};
 ghost use Rattle.il_machine.specs.Scanning.{HasTask};
 ghost use Rattle.lift_spec.specs.declared.event.Event.TheVariants.{Instruction};
 ghost use Rattle.lift_spec.specs.Replies.{Refused};

@@ -8,5 +8,4 @@ pub mod hand;
 pub mod image;
 pub mod journal;
 pub mod report;
-pub mod row;
 pub mod trace;

@@ -14,7 +14,7 @@ use Rattle.lift_spec.specs.declared.report.Report.{Report}
 use Rattle.lift_spec.specs.Calls.{told_car}
 use Rattle.lift_spec.specs.Replies.{Committed, Refreshed}
 use Rattle.lift_spec.specs.World.{scan_at}
-use Rattle.lift_sound.specs.Accepted.{IsSound}
+use Rattle.lift_run_laws.specs.Accepted.{IsSound}
 use Rattle.lift_journal.specs.declared.fault.StationFault.{StationFault}
 use Rattle.lift_journal.specs.declared.fault.StationFault.TheVariants.{AlreadyOpen, JournalFull}
 use Rattle.lift_spec.specs.declared.journal.Entry.TheVariants as entry

@@ -22,7 +22,7 @@ use Rattle.lift_spec.specs.Calls.{ticket_of, enter_all}
 use Rattle.lift_spec.specs.Image.{sizes_of, is_floor, fields_in_range}
 use Rattle.lift_spec.specs.Snapshot.{scan_begins}
 use Rattle.lift_spec.specs.World.{flat, happens, run, reply_to, beginning_of, committed_group, refreshed_group}
-use Rattle.lift_sound.specs.Runs.{IsReached}
+use Rattle.lift_run_laws.specs.Runs.{IsReached}
 use Rattle.lift_world.specs.declared.shared.Core.{Core}
 use Rattle.lift_world.specs.declared.shared.Seat.{Seat}
 use Rattle.lift_world.specs.declared.controller.Controller.{Controller}

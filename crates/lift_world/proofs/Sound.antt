@@ -13,27 +13,27 @@ use Rattle.lift_spec.specs.World.{World, TaskState, InRanges, run, opening, happ
 use Rattle.il_spec.specs.declared.tree.ProgramLine.{ProgramLine}
 use Rattle.il_run.specs.Scan.{program_of as line_program}
 use Rattle.lift_spec.specs.Snapshot.{task_name, program_of}
-use Rattle.lift_sound.specs.Holding.{WorldHolds, SeatHolds}
-use Rattle.lift_sound.specs.Tasks.{budget_of, budget_by}
-use Rattle.lift_sound.specs.Runs.{WorldWell, IsReached}
+use Rattle.lift_run_laws.specs.Holding.{WorldHolds, SeatHolds}
+use Rattle.lift_run_laws.specs.Tasks.{budget_of, budget_by}
+use Rattle.lift_run_laws.specs.Runs.{WorldWell, IsReached}
 use Rattle.lift_spec.specs.Image.{sizes_of, Obeys}
 use Rattle.lift_world.specs.declared.controller.Controller.{Controller}
 use Rattle.lift_world.specs.declared.shared.Seat.{Seat}
 use Rattle.lift_world.specs.Running.{seat_at, task_in, seated, scanned, world_of, group_in, IsWorldOf}
-use Rattle.lift_sound.specs.Histories.{CallGoesWell}
-use Rattle.lift_sound.proofs.Accepted.{accepted_runs_well, opens_well, scans_well}
-use Rattle.lift_sound.proofs.Running.{reached_world_holds}
-use Rattle.lift_sound.proofs.Histories.{accepted_calls_go_well, event_is_run}
-use Rattle.lift_sound.proofs.Following.{goes_on}
+use Rattle.lift_run_laws.specs.Histories.{CallGoesWell}
+use Rattle.lift_run_laws.proofs.Accepted.{accepted_runs_well, opens_well, scans_well}
+use Rattle.lift_run_laws.proofs.Running.{reached_world_holds}
+use Rattle.lift_run_laws.proofs.Histories.{accepted_calls_go_well, event_is_run}
+use Rattle.lift_run_laws.proofs.Following.{goes_on}
 use Rattle.il_exec.specs.Going.{Stored}
 use Rattle.il_machine.specs.Scanning.{Program, IsRunnable, kept_of, state_of}
 use Rattle.il_budget.specs.Costs.{cost_of}
 use Rattle.il_machine.specs.Listing.{TaskLine, task_line}
 use Rattle.il_machine.proofs.Lines.{prints_budgets}
 use Rattle.il_machine.proofs.Scans.{sound_of}
-use Rattle.il_costs.proofs.Accepted.{has_longest}
-use Rattle.il_sound.proofs.Named.{found_unit}
-use Rattle.il_sound.proofs.Meant.{program_is}
+use Rattle.il_cost_laws.proofs.Accepted.{has_longest}
+use Rattle.il_scan_laws.proofs.Named.{found_unit}
+use Rattle.il_scan_laws.proofs.Meant.{program_is}
 use Rattle.lift_world.proofs.Views.{task_here, scan_here}
 
 -- RUNS OF A WORLD

@@ -22,7 +22,7 @@ use Rattle.lift_spec.specs.declared.event.Reply.{Reply as Answer}
 use Rattle.lift_spec.specs.declared.event.Reply.TheVariants as answer
 use Rattle.lift_spec.specs.declared.event.Event.{Event}
 use Rattle.lift_spec.specs.declared.event.Event.TheVariants.{Instruction, Commit, Refresh}
-use Rattle.lift_sound.specs.Runs.{IsReached}
+use Rattle.lift_run_laws.specs.Runs.{IsReached}
 use Rattle.lift_world.specs.declared.controller.Controller.{Controller}
 use Rattle.lift_world.specs.declared.shared.Core.{Core}
 use Rattle.lift_world.specs.declared.shared.Seat.{Seat}

@@ -6,17 +6,17 @@ ghost use Rattle.lift_spec.specs.Settle.{denials_of};
 ghost use Rattle.lift_spec.specs.World.{serve_wish, tell_with, tell_all};
 
 use lift_calls::book::CallBook;
-use lift_image::Row;
+use lift_image::Bounded;
 use lift_spec::calls::{Answer, Entering, Slot};
 use lift_spec::hand::Hand;
 use lift_spec::report::{Denial, EnteredCall, Rule};
 
 /// Takes all items out of a row.
-pub fn clear<T: Drop + Default, const N: usize>(row: &mut Row<T, N>)
+pub fn clear<T: Drop + Default, const N: usize>(row: &mut Bounded<T, N>)
     ensures { row.new ≡ [] }
 {
     if row.len() > 0 {
-        *row = Row::new();
+        *row = Bounded::new();
     }
 }
 
@@ -32,11 +32,11 @@ fn ticket_of(slot: Slot) -> Option<u64>
 }
 
 /// The tickets of the slots.
-pub fn tickets_of(slots: &[Slot]) -> Row<Option<u64>, 64>
+pub fn tickets_of(slots: &[Slot]) -> Bounded<Option<u64>, 64>
     requires { length slots.now ≤ 64 }
     ensures { result ≡ map ticket_of slots.now }
 {
-    let mut tickets = Row::new();
+    let mut tickets = Bounded::new();
     'slots: for slot in slots {
         tickets.push(ticket_of(*slot));
     }
@@ -44,11 +44,11 @@ pub fn tickets_of(slots: &[Slot]) -> Row<Option<u64>, 64>
 }
 
 /// The denials of a car.
-pub fn denials_of(car: u8, rules: &[Rule]) -> Row<Denial, 16>
+pub fn denials_of(car: u8, rules: &[Rule]) -> Bounded<Denial, 16>
     requires { length rules.now ≤ 16 }
     ensures { result ≡ denials_of car rules.now }
 {
-    let mut denials = Row::new();
+    let mut denials = Bounded::new();
     'rules: for rule in rules {
         denials.push(Denial { car, rule: *rule });
     }
@@ -61,7 +61,7 @@ pub fn serve(
     car: u8,
     tickets: &[Option<u64>],
     slot: u8,
-    answers: &mut Row<Answer, 64>,
+    answers: &mut Bounded<Answer, 64>,
 )
     ensures { serve_wish calls.old car tickets.now slot ≡ (calls.new, answers.new) }
 {
@@ -86,7 +86,13 @@ fn told(calls: &mut CallBook, slot: u8, ticket: Option<u64>, car: u8) -> Answer
 }
 
 // Tells the call of a slot to the car that was assigned to it, under the ticket that the scan saw; car 0 is none.
-fn tell(calls: &mut CallBook, slot: u8, ticket: Option<u64>, car: u8, answers: &mut Row<Answer, 64>)
+fn tell(
+    calls: &mut CallBook,
+    slot: u8,
+    ticket: Option<u64>,
+    car: u8,
+    answers: &mut Bounded<Answer, 64>,
+)
     requires { length answers.old < 64 }
     ensures told { (tickets : List (Option ℕ)) (cars : List ℕ) → tell_all calls.old answers.old slot (ticket ∷ tickets) (car ∷ cars) ≡ tell_all calls.new answers.new (slot + 1) tickets cars }
     ensures room { length answers.new ≤ length answers.old + 1 }
@@ -103,7 +109,7 @@ pub fn tell_all(
     calls: &mut CallBook,
     tickets: &[Option<u64>],
     cars: &[u8],
-    answers: &mut Row<Answer, 64>,
+    answers: &mut Bounded<Answer, 64>,
 )
     requires few { length tickets.now ≤ 64 }
     requires each { length cars.now ≡ length tickets.now }
@@ -116,7 +122,7 @@ pub fn tell_all(
 }
 
 /// The calls of the hand enter in its order; from the first without a slot on they stay.
-pub fn enter_all(calls: &mut CallBook, hand: &mut Hand, done: &mut Row<EnteredCall, 64>)
+pub fn enter_all(calls: &mut CallBook, hand: &mut Hand, done: &mut Bounded<EnteredCall, 64>)
     ensures { enter_all calls.old [] hand.old ≡ record { calls = calls.new; hand = hand.new; done = done.new } }
 {
     let _slots = calls.slots();

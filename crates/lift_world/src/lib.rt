@@ -9,7 +9,7 @@ mod world;
 
 pub use il_machine::Verified;
 pub use il_spec::fault::Refusal;
-pub use lift_image::{CarFields, CarOutputs, Fields, Image, Motor, Row, Sizes};
+pub use lift_image::{Bounded, CarFields, CarOutputs, Fields, Image, Motor, Sizes};
 pub use lift_spec::calls::{Answer, Call, Slot};
 pub use lift_spec::event::{Event, EventFault, Reply};
 pub use lift_spec::report::{Denial, Report, Rule};

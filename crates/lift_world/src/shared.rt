@@ -17,9 +17,9 @@ ghost use Rattle.lift_world.specs.Running.{seat_at, task_in, seated, tasks_in, g
 ghost use Rattle.il_machine.specs.Sharing.{globals_in, FitsGlobals};
 
 use crate::calling::{clear, denials_of, enter_all, serve, tell_all, tickets_of};
-use il_machine::{Rows, Store, Value, Verified, opening_image, variable};
+use il_machine::{FirstRows, Rows, Store, Value, Verified, opening_image, variable};
 use lift_calls::book::CallBook;
-use lift_image::{Fields, Image, Motor, Row};
+use lift_image::{Bounded, Fields, Image, Motor};
 use lift_interlock::{settle_all, settle_car};
 use lift_spec::calls::Slot;
 use lift_spec::hand::Hand;
@@ -30,7 +30,7 @@ use std::alloc::{AllocError, Global};
 #[derive(Drop)]
 pub struct Seat {
     variables: Rows,
-    tickets: Option<Row<Option<u64>, 64>>,
+    tickets: Option<Bounded<Option<u64>, 64>>,
 }
 
 /// What the tasks of a group share, and the tasks: GROUP first, then CAR1 and so on; none where the group has no such task.
@@ -53,6 +53,13 @@ impl Drop for Core {
     }
 }
 
+// Rows of their own with these values.
+fn copied(alloc: Global, first: &FirstRows) -> Result<Rows, AllocError>
+    ensures { IfOk result (λ r. r ≡ first.now) }
+{
+    Rows::of(alloc, first.numbers(), first.flags())
+}
+
 // A task as it opens, if the group has it.
 fn opening_seat(alloc: Global, verified: &Verified, task: u8) -> Result<Option<Seat>, AllocError>
     requires { task ≤ (sizes_of verified.now.config).cars }
@@ -63,7 +70,7 @@ fn opening_seat(alloc: Global, verified: &Verified, task: u8) -> Result<Option<S
     if !verified.has_task(task) {
         return Ok(None);
     }
-    let variables = verified.opening_variables(alloc, task)?;
+    let variables = copied(alloc, verified.opening_variables(task))?;
     Ok(Some(Seat {
         variables,
         tickets: None,
@@ -156,7 +163,7 @@ fn settle(image: &mut Image, car: u8, motor: Motor, opens: bool, report: &mut Re
     let _room = image.outputs.len();
     let settled = settle_car(image, car, motor, opens);
     image.outputs.set(usize::from(car - 1), settled.outputs);
-    report.outputs = Row::from_slice(image.outputs.as_slice());
+    report.outputs = Bounded::from_slice(image.outputs.as_slice());
     report.denials = denials_of(car, settled.denials.as_slice());
     clear(&mut report.entered);
 }
@@ -169,7 +176,7 @@ impl Core {
     {
         let _config = verified.config();
         let sizes = verified.sizes();
-        let globals = verified.opening_globals(alloc)?;
+        let globals = copied(alloc, verified.opening_globals())?;
         let seats = opening_seats(alloc, verified, sizes.cars)?;
         Ok(Core {
             image: opening_image(sizes),
@@ -307,7 +314,7 @@ impl Core {
             &mut report.answers,
         );
         self.close(verified, 0, store);
-        report.outputs = Row::from_slice(self.image.outputs.as_slice());
+        report.outputs = Bounded::from_slice(self.image.outputs.as_slice());
         clear(&mut report.denials);
         clear(&mut report.entered);
     }
@@ -338,7 +345,7 @@ impl Core {
         enter_all(&mut self.calls, hand, &mut report.entered);
         self.image = Image {
             fields: fields.copied(),
-            outputs: Row::from_slice(settled.outputs.as_slice()),
+            outputs: Bounded::from_slice(settled.outputs.as_slice()),
         };
         report.outputs = settled.outputs;
         report.denials = settled.denials;

@@ -10,9 +10,9 @@ ghost use Rattle.lift_spec.specs.Replies.{reply_with, Refused};
 ghost use Rattle.lift_spec.specs.declared.event.Event.TheVariants.{Instruction};
 ghost use Rattle.lift_spec.specs.Snapshot.{program_of};
 ghost use Rattle.lift_spec.specs.World as model;
-ghost use Rattle.lift_sound.specs.Tasks.{budget_of};
-ghost use Rattle.lift_sound.specs.Runs.{IsReached};
-ghost use Rattle.lift_sound.specs.Histories.{CallGoesWell};
+ghost use Rattle.lift_run_laws.specs.Tasks.{budget_of};
+ghost use Rattle.lift_run_laws.specs.Runs.{IsReached};
+ghost use Rattle.lift_run_laws.specs.Histories.{CallGoesWell};
 ghost use Rattle.lift_world.specs.Running.{world_of, reporting, instructions, up_to_end};
 
 use crate::controller::Controller;

@@ -1,9 +1,9 @@
 // Fields in range and outside.
 
-use lift_image::{CarFields, Fields, Row, Sizes, in_range};
+use lift_image::{Bounded, CarFields, Fields, Sizes, in_range};
 
 fn fields(pos: u8, run_limit: u8, time: u32) -> Fields {
-    let mut cars = Row::new();
+    let mut cars = Bounded::new();
     cars.push(CarFields {
         pos,
         level: true,

@@ -1,7 +1,7 @@
 // Groups made from texts, and what events leave of them.
 
 use il_spec::fault::Refusal;
-use lift_image::{CarFields, Fields, Row};
+use lift_image::{Bounded, CarFields, Fields};
 use lift_load::load;
 use lift_spec::calls::{Call, Slot};
 use lift_spec::event::{Event, Reply};
@@ -80,9 +80,9 @@ fn fields(run_limit: u8, cars: u8, pos: u8) -> Fields {
         run_limit,
         fire: false,
         cars: if cars == 1 {
-            Row::from_slice(&both[..1])
+            Bounded::from_slice(&both[..1])
         } else {
-            Row::from_slice(&both)
+            Bounded::from_slice(&both)
         },
     }
 }

@@ -2,7 +2,7 @@
 
 ghost use Rattle.std.specs.Prelude.{◌≡◌, length};
 
-use lift_image::{CarFields, CarOutputs, Fields, Image, Motor, Row};
+use lift_image::{Bounded, CarFields, CarOutputs, Fields, Image, Motor};
 use lift_interlock::{commit_keeps_obeying, refresh_gives_obeying, settle_all, settle_car};
 use lift_spec::report::{Denial, Rule};
 
@@ -31,9 +31,9 @@ fn one_car(motor: Motor, locked: bool) -> Image
     ensures cars { length result.fields.cars ≡ 1 }
     ensures outputs { length result.outputs ≡ 1 }
 {
-    let mut cars = Row::new();
+    let mut cars = Bounded::new();
     cars.push(car(locked));
-    let mut outputs = Row::new();
+    let mut outputs = Bounded::new();
     outputs.push(running(motor));
     Image {
         fields: Fields {
@@ -51,10 +51,10 @@ fn two_cars(first: Motor, second: Motor, run_limit: u8) -> Image
     ensures cars { length result.fields.cars ≡ 2 }
     ensures outputs { length result.outputs ≡ 2 }
 {
-    let mut cars = Row::new();
+    let mut cars = Bounded::new();
     cars.push(car(true));
     cars.push(car(true));
-    let mut outputs = Row::new();
+    let mut outputs = Bounded::new();
     outputs.push(running(first));
     outputs.push(running(second));
     Image {
@@ -110,7 +110,7 @@ fn two_under_fire(first: Motor, second: Motor, top: bool) -> Image
     ensures cars { length result.fields.cars ≡ 2 }
     ensures outputs { length result.outputs ≡ 2 }
 {
-    let mut cars = Row::new();
+    let mut cars = Bounded::new();
     cars.push(CarFields { top, ..car(true) });
     cars.push(car(true));
     let Image { outputs, .. } = two_cars(first, second, 1);

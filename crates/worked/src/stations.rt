@@ -7,7 +7,7 @@ ghost use Rattle.lift_spec.specs.Image.{sizes_of};
 use il_machine::{Scanned, Value, Verified, scan};
 use il_spec::fault::Refusal;
 use lift_desk::{Desk, DeskClosed, HandPass, PanelPass, Pressed};
-use lift_image::{CarFields, Fields, Motor, Outputs, Row, Sizes};
+use lift_image::{Bounded, CarFields, Fields, Motor, Outputs, Sizes};
 use lift_load::load;
 use lift_spec::calls::Slot;
 use lift_spec::journal::Entry;
@@ -157,7 +157,7 @@ fn fields(cars: u8, time: u32, run_limit: u8, level: bool) -> Fields
         time,
         run_limit,
         fire: false,
-        cars: Row::from_slice(&all[..usize::from(cars)]),
+        cars: Bounded::from_slice(&all[..usize::from(cars)]),
     }
 }
 

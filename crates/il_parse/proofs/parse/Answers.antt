@@ -1,6 +1,6 @@
 use Rattle.std.proofs.Common.{[], sym, ◌∙◌}
-use Rattle.il_grammar.proofs.Configurations.{config_one}
-use Rattle.il_grammar.proofs.Spelled.{spelled_written}
+use Rattle.il_grammar_laws.proofs.Configurations.{config_one}
+use Rattle.il_grammar_laws.proofs.Spelled.{spelled_written}
 use Rattle.il_parse.proofs.parse.Goals as goal
 
 pub returns-in-Ok-clause-found : goal.returns-in-Ok-clause-found

@@ -1,5 +1,5 @@
 use Rattle.il_spec.specs.Grammar.{loose}
-use Rattle.il_grammar.proofs.Leads.{line_end_sure}
+use Rattle.il_grammar_laws.proofs.Leads.{line_end_sure}
 use Rattle.il_read.proofs.Chain.{up, behind}
 use Rattle.il_body.specs.Bodies.{SpellsSteps}
 use Rattle.il_body.proofs.bodies.body.Goals as goal

@@ -1,8 +1,8 @@
 use Rattle.il_spec.specs.declared.keyword.Keyword.TheVariants as word
 use Rattle.il_spec.specs.Grammar.{tight, loose, ◌⨾◌, TheName}
-use Rattle.il_grammar.proofs.Combinators.{place_of}
-use Rattle.il_grammar.proofs.Leads.{word_sure, the_name_one}
-use Rattle.il_grammar.proofs.Units.{result_one}
+use Rattle.il_grammar_laws.proofs.Combinators.{place_of}
+use Rattle.il_grammar_laws.proofs.Leads.{word_sure, the_name_one}
+use Rattle.il_grammar_laws.proofs.Units.{result_one}
 use Rattle.il_body.specs.Insides.{SpellsFunctionInside}
 use Rattle.il_body.specs.Headings.{SpellsResultAt}
 use Rattle.il_read.proofs.Chain.{up, first, later, part}

@@ -2,7 +2,7 @@ use Rattle.std.proofs.Common.{List, subst}
 use Rattle.il_spec.specs.declared.token.Token.{Token}
 use Rattle.il_spec.specs.declared.token.Sign.TheVariants.{Colon}
 use Rattle.il_spec.specs.Grammar.{skip_line_ends}
-use Rattle.il_grammar.proofs.Leads.{sign_sure}
+use Rattle.il_grammar_laws.proofs.Leads.{sign_sure}
 use Rattle.il_read.proofs.Chain.{up}
 use Rattle.il_body.specs.Headings.{PlacedScalar}
 use Rattle.il_body.proofs.headings.function_result.Goals as goal

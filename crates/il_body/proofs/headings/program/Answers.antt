@@ -1,7 +1,7 @@
 use Rattle.il_spec.specs.declared.keyword.Keyword.TheVariants as word
 use Rattle.il_spec.specs.Grammar.{tight, loose, ◌⨾◌, TheName}
-use Rattle.il_grammar.proofs.Combinators.{place_of}
-use Rattle.il_grammar.proofs.Leads.{word_sure, the_name_one}
+use Rattle.il_grammar_laws.proofs.Combinators.{place_of}
+use Rattle.il_grammar_laws.proofs.Leads.{word_sure, the_name_one}
 use Rattle.il_body.specs.Insides.{SpellsProgramInside}
 use Rattle.il_read.proofs.Chain.{up, first, later, part}
 use Rattle.il_body.proofs.headings.program.Goals as goal

@@ -1,7 +1,7 @@
 use Rattle.il_spec.specs.declared.keyword.Keyword.TheVariants as word
 use Rattle.il_spec.specs.Grammar.{tight, ◌⨾◌}
-use Rattle.il_grammar.proofs.Combinators.{no_one}
-use Rattle.il_grammar.proofs.Types.{declarations_one, optional_list_one}
+use Rattle.il_grammar_laws.proofs.Combinators.{no_one}
+use Rattle.il_grammar_laws.proofs.Types.{declarations_one, optional_list_one}
 use Rattle.il_body.specs.Bodies.{SpellsSmallBody}
 use Rattle.il_body.specs.Insides.{LacksList, SpellsVariables}
 use Rattle.il_body.proofs.Missing.{full_one}

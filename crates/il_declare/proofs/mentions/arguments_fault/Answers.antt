@@ -8,7 +8,7 @@ use Rattle.il_declare.proofs.mentions.arguments_fault.Goals as goal
 
 pub loop-argument-preserved : goal.loop-argument-preserved
 loop-argument-preserved c =
-    at_next (argument_name_numbers c.args.here.now.names.now c.args.here.now.unit.now) c.args.arguments.now c.loop-argument.argument-index c.argument-item.result c.args.place c.loop-argument.found c.argument_fault.result c.earlier-found.result (omega arith) c.argument-item.is c.argument_fault.ensures c.earlier-found.ensures c.loop-argument.invariant
+    at_next (argument_name_numbers c.args.here.now.config c.args.here.now.unit) c.args.arguments.now c.loop-argument.argument-index c.argument-item.result c.args.place c.loop-argument.found c.argument_fault.result c.earlier-found.result (omega arith) c.argument-item.is c.argument_fault.ensures c.earlier-found.ensures c.loop-argument.invariant
 
 pub returns : goal.returns
-returns c = c.loop-argument.invariant ∙ ap (λ l. lowest_at (flat_map (argument_name_numbers c.args.here.now.names.now c.args.here.now.unit.now) l) c.args.place) (take_all c.args.arguments.now c.loop-argument.argument-index (omega arith))
+returns c = c.loop-argument.invariant ∙ ap (λ l. lowest_at (flat_map (argument_name_numbers c.args.here.now.config c.args.here.now.unit) l) c.args.place) (take_all c.args.arguments.now c.loop-argument.argument-index (omega arith))

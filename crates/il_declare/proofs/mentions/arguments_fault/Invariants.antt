@@ -5,4 +5,4 @@ use Rattle.il_declare.specs.Places.{lowest_at}
 use Rattle.il_declare.proofs.mentions.arguments_fault.Given as goal
 
 abbrev pub invariant-loop-argument : goal.invariant-loop-argument
-invariant-loop-argument l = l.found ≡ lowest_at (flat_map (argument_name_numbers l.here.names.now l.here.unit.now) (take l.argument-index l.arguments)) l.place
+invariant-loop-argument l = l.found ≡ lowest_at (flat_map (argument_name_numbers l.here.config l.here.unit) (take l.argument-index l.arguments)) l.place

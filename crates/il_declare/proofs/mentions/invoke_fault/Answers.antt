@@ -9,5 +9,5 @@ use Rattle.il_declare.proofs.mentions.invoke_fault.Goals as goal
 
 pub returns : goal.returns
 returns c =
-    at_two (if is_some (standard_function c.args.function.now.name) then [] else unless (is_some (function_named c.args.here.now.names.now c.args.function.now.name)) 21) (flat_map (λ (o : Operand). reference_numbers c.args.here.now.names.now c.args.here.now.unit.now Reads o.reference) c.args.operands.now) c.args.place c.function_fault-unknown.result c.operands_fault.result c.earlier.result
-    (c.function_fault-unknown.ensures ∙ ap (λ n. lowest_at (if is_some (standard_function n) then [] else unless (is_some (function_named c.args.here.now.names.now n)) 21) c.args.place) c.as_str.ensures) c.operands_fault.ensures c.earlier.ensures
+    at_two (if is_some (standard_function c.args.function.now.name) then [] else unless (is_some (function_named c.args.here.now.config c.args.function.now.name)) 21) (flat_map (λ (o : Operand). reference_numbers c.args.here.now.config c.args.here.now.unit Reads o.reference) c.args.operands.now) c.args.place c.function_fault-unknown.result c.operands_fault.result c.earlier.result
+    (c.function_fault-unknown.ensures ∙ ap (λ d. lowest_at (if is_some (standard_function c.as_str.result.now) then [] else unless (is_some (function_named d c.as_str.result.now)) 21) c.args.place) c.names.ensures ∙ ap (λ n. lowest_at (if is_some (standard_function n) then [] else unless (is_some (function_named c.args.here.now.config n)) 21) c.args.place) c.as_str.ensures) c.operands_fault.ensures c.earlier.ensures

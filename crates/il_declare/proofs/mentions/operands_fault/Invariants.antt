@@ -6,4 +6,4 @@ use Rattle.il_declare.specs.Places.{lowest_at}
 use Rattle.il_declare.proofs.mentions.operands_fault.Given as goal
 
 abbrev pub invariant-loop-operand : goal.invariant-loop-operand
-invariant-loop-operand l = l.found ≡ lowest_at (flat_map (λ (o : Operand). reference_numbers l.here.names.now l.here.unit.now Reads o.reference) (take l.operand-index l.operands)) l.place
+invariant-loop-operand l = l.found ≡ lowest_at (flat_map (λ (o : Operand). reference_numbers l.here.config l.here.unit Reads o.reference) (take l.operand-index l.operands)) l.place

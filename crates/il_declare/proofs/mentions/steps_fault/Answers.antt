@@ -10,8 +10,8 @@ use Rattle.il_declare.proofs.mentions.steps_fault.Goals as goal
 pub loop-step-preserved : goal.loop-step-preserved
 loop-step-preserved c =
     let low : c.loop-step.step-index < length c.args.steps.now = omega arith in
-    least_next (λ at. λ (s : Step). At (name_numbers c.args.here.now.names.now c.args.here.now.unit.now s.instruction) s.place) c.args.steps.now c.loop-step.step-index c.step-item.result c.loop-step.found c.instruction_fault.result c.earlier-found.result (slice_get_read _ _ _ _ refl low c.step-item.is) c.earlier-found.ensures c.loop-step.invariant
-    (least_at (name_numbers c.args.here.now.names.now c.args.here.now.unit.now c.step-item.result.instruction) c.step-item.result.place c.instruction_fault.result c.instruction_fault.ensures)
+    least_next (λ at. λ (s : Step). At (name_numbers c.args.here.now.config c.args.here.now.unit s.instruction) s.place) c.args.steps.now c.loop-step.step-index c.step-item.result c.loop-step.found c.instruction_fault.result c.earlier-found.result (slice_get_read _ _ _ _ refl low c.step-item.is) c.earlier-found.ensures c.loop-step.invariant
+    (least_at (name_numbers c.args.here.now.config c.args.here.now.unit c.step-item.result.instruction) c.step-item.result.place c.instruction_fault.result c.instruction_fault.ensures)
 
 pub returns : goal.returns
-returns c = least_among (λ (s : Step). At (name_numbers c.args.here.now.names.now c.args.here.now.unit.now s.instruction) s.place) c.args.steps.now c.loop-step.step-index c.loop-step.found (omega arith) c.loop-step.invariant
+returns c = least_among (λ (s : Step). At (name_numbers c.args.here.now.config c.args.here.now.unit s.instruction) s.place) c.args.steps.now c.loop-step.step-index c.loop-step.found (omega arith) c.loop-step.invariant

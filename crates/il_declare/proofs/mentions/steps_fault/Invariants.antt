@@ -5,4 +5,4 @@ use Rattle.il_declare.specs.Places.{At}
 use Rattle.il_declare.proofs.mentions.steps_fault.Given as goal
 
 abbrev pub invariant-loop-step : goal.invariant-loop-step
-invariant-loop-step l = IsLeast l.found (Below (λ at. λ (s : Step). At (name_numbers l.here.names.now l.here.unit.now s.instruction) s.place) l.steps l.step-index)
+invariant-loop-step l = IsLeast l.found (Below (λ at. λ (s : Step). At (name_numbers l.here.config l.here.unit s.instruction) s.place) l.steps l.step-index)

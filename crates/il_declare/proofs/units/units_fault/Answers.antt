@@ -12,7 +12,7 @@ loop-at-preserved c =
     let units = c.as_slice-units.result.now in
     let low : c.loop-at.at < length units = omega arith in
     least_next (λ at. UnitBreaks c.args.names.now) units c.loop-at.at c.index-units-at.result c.loop-at.found c.in_ok-unit_fault.field-0 c.earlier-found.result (slice_get_read _ _ _ _ refl low c.index-units-at.is) c.earlier-found.ensures c.loop-at.invariant
-    c.in_ok-unit_fault.ensures
+    (subst (λ d. IsLeast c.in_ok-unit_fault.field-0 (UnitBreaks d c.index-units-at.result)) c.of-here.ensures.config (subst (λ u. IsLeast c.in_ok-unit_fault.field-0 (UnitBreaks c.of-here.result.config u)) c.of-here.ensures.unit c.in_ok-unit_fault.ensures))
 
 pub returns : goal.returns
 returns c =

@@ -6,5 +6,5 @@ use Rattle.il_flatten.proofs.bodies.steps_code.Given as goal
 -- the code so far, with that of what is left, is that of the body
 abbrev pub invariant-loop-step : goal.invariant-loop-step
 invariant-loop-step l =
-    l.code ++ flat_code (program_names l.here.names.now l.here.unit.now.name.name) l.here.names.now l.here.unit.now (drop l.step-index l.here.unit.now.body.steps)
-    ≡ flat_code (program_names l.here.names.now l.here.unit.now.name.name) l.here.names.now l.here.unit.now l.here.unit.now.body.steps
+    l.code ++ flat_code (program_names l.here.scope.config l.here.scope.unit.name.name) l.here.scope.config l.here.scope.unit (drop l.step-index l.here.scope.unit.body.steps)
+    ≡ flat_code (program_names l.here.scope.config l.here.scope.unit.name.name) l.here.scope.config l.here.scope.unit l.here.scope.unit.body.steps

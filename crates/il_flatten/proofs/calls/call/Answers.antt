@@ -8,5 +8,5 @@ pub returns : goal.returns
 returns c =
     let h = c.args.here.now in
     subst (λ f. IfOk c.call_of.result (λ g. g ≡ f))
-    (ap (call_of h.names.now h.unit.now c.args.condition c.args.arguments.now) (c.known-known.ensures.is ∙ ap (known h.names.now h.unit.now) c.as_str.ensures) ∙ call_is h.names.now h.checked h.at h.unit.now h.there c.args.condition c.args.instance.now.name c.args.arguments.now)
+    (ap (call_of h.scope.config h.scope.unit c.args.condition c.args.arguments.now) (c.known-known.ensures.is ∙ ap (known h.scope.config h.scope.unit) c.as_str.ensures) ∙ call_is h.scope.config h.checked h.scope.unit h.there c.args.condition c.args.instance.now.name c.args.arguments.now)
     c.call_of.ensures

@@ -8,4 +8,4 @@ pub returns : goal.returns
 returns c =
     let h = c.args.here.now in
     let count : c.min-count.result ≡ min (length c.args.inputs.now) (length c.args.from.now) = c.min-count.ensures in
-    arguments_end h.names.now h.unit.now c.args.unit c.args.inputs.now c.args.from.now c.loop-at.all (arguments_at h.names.now h.unit.now c.args.unit c.args.inputs.now c.args.from.now) c.loop-at.at (omega (arith, count, c.loop-at-test.false)) c.loop-at.invariant
+    arguments_end h.scope.config h.scope.unit c.args.unit c.args.inputs.now c.args.from.now c.loop-at.all (arguments_at h.scope.config h.scope.unit c.args.unit c.args.inputs.now c.args.from.now) c.loop-at.at (omega (arith, count, c.loop-at-test.false)) c.loop-at.invariant

@@ -5,4 +5,4 @@ use Rattle.il_flatten.proofs.invokes.arguments.Given as goal
 -- the arguments so far, with those that are left, are all
 abbrev pub invariant-loop-at : goal.invariant-loop-at
 invariant-loop-at l =
-    l.all ++ arguments_at l.here.names.now l.here.unit.now l.unit (drop l.at l.inputs) (drop l.at l.from) ≡ arguments_at l.here.names.now l.here.unit.now l.unit l.inputs l.from
+    l.all ++ arguments_at l.here.scope.config l.here.scope.unit l.unit (drop l.at l.inputs) (drop l.at l.from) ≡ arguments_at l.here.scope.config l.here.scope.unit l.unit l.inputs l.from

@@ -1,5 +1,5 @@
 use Rattle.std.proofs.Common.{◌≡◌, ◌∙◌, ap, ap₂, subst}
-use Rattle.std.specs.Prelude.{IfOk, option_map}
+use Rattle.std.specs.Prelude.{IfOk}
 use Rattle.il_rules.specs.Names.{standard_function}
 use Rattle.il_scope.specs.Views.{function_number}
 use Rattle.il_flatten.specs.Resolving.{invoke_of}
@@ -10,6 +10,6 @@ pub returns : goal.returns
 returns c =
     let h = c.args.here.now in
     subst (λ f. IfOk c.invoke_of.result (λ g. g ≡ f))
-    (ap₂ (λ s k. invoke_of h.names.now h.unit.now c.args.from.now s k) (c.standard_function.ensures ∙ ap (λ t. (standard_function t)) c.as_str-name.ensures) (c.function.ensures ∙ ap (function_number h.names.now) c.as_str-name.ensures)
-    ∙ invoke_is h.names.now h.checked h.at h.unit.now h.there c.args.function.now.name c.args.from.now)
+    (ap₂ (λ s k. invoke_of h.scope.config h.scope.unit c.args.from.now s k) (c.standard_function.ensures ∙ ap (λ t. (standard_function t)) c.as_str-name.ensures) (c.function.ensures ∙ ap₂ function_number c.names.ensures c.as_str-name.ensures)
+    ∙ invoke_is h.scope.config h.checked h.scope.unit h.there c.args.function.now.name c.args.from.now)
     c.invoke_of.ensures

@@ -8,4 +8,4 @@ use Rattle.il_flatten.proofs.operands.loaded.Goals as goal
 pub returns : goal.returns
 returns c =
     let h = c.args.here.now in
-    c.loaded_by.ensures ∙ ap (by_resolved (λ l. typed (natural (Constant l)) l)) c.resolve.ensures ∙ resolved_is h.names.now h.checked h.at h.unit.now h.there (λ l. typed (natural (Constant l)) l) c.args.from.now
+    c.loaded_by.ensures ∙ ap (by_resolved (λ l. typed (natural (Constant l)) l)) c.resolve.ensures ∙ resolved_is h.scope.config h.checked h.scope.unit h.there (λ l. typed (natural (Constant l)) l) c.args.from.now

@@ -1,5 +1,5 @@
 use Rattle.std.proofs.Common.{ap, sym, ◌∙◌}
-use Rattle.il_least.specs.Pass.{merged}
+use Rattle.il_range_laws.specs.Pass.{merged}
 use Rattle.il_flow.proofs.Tables.{merges_of}
 use Rattle.il_flow.proofs.pass.arrive.Goals as goal
 use Rattle.il_flow.proofs.pass.arrive.Goals.{in-Some, in-None}

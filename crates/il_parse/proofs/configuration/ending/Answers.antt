@@ -1,6 +1,6 @@
 use Rattle.il_spec.specs.declared.keyword.Keyword.TheVariants as word
 use Rattle.il_spec.specs.Grammar.{loose, ◌⋯◌, TheWord, TheEnd}
-use Rattle.il_grammar.proofs.Leads.{word_sure}
+use Rattle.il_grammar_laws.proofs.Leads.{word_sure}
 use Rattle.il_parse.proofs.Parts.{resource_of_one}
 use Rattle.il_read.proofs.Chain.{up, behind, first, first_missing, last_missing, later}
 use Rattle.il_parse.proofs.configuration.ending.Goals as goal

@@ -1,7 +1,7 @@
 use Rattle.il_spec.specs.declared.keyword.Keyword.TheVariants as word
 use Rattle.il_spec.specs.Grammar.{loose, Repeats, TheWord, SpellsDeclaration}
-use Rattle.il_grammar.proofs.Combinators.{place_of}
-use Rattle.il_grammar.proofs.Leads.{word_sure}
+use Rattle.il_grammar_laws.proofs.Combinators.{place_of}
+use Rattle.il_grammar_laws.proofs.Leads.{word_sure}
 use Rattle.il_read.proofs.Chain.{up, first, later, part}
 use Rattle.il_parse.proofs.Repeated.{after_refused}
 use Rattle.il_parse.proofs.configuration.global_list.Goals as goal

@@ -1,5 +1,5 @@
 use Rattle.il_spec.specs.Grammar.{tight, loose, ◌⨾◌, ◌⋯◌}
-use Rattle.il_grammar.proofs.Configurations.{some_name_sure, globals_one, three_sizes_one}
+use Rattle.il_grammar_laws.proofs.Configurations.{some_name_sure, globals_one, three_sizes_one}
 use Rattle.il_parse.specs.Parts.{SpellsSomeGlobals, SpellsEnding}
 use Rattle.il_read.specs.Settings.{SpellsThree}
 use Rattle.il_read.proofs.Chain.{up, behind, first, first_missing, later, part}

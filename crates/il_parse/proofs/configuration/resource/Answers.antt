@@ -1,7 +1,7 @@
 use Rattle.il_spec.specs.declared.keyword.Keyword.TheVariants as word
 use Rattle.il_spec.specs.Grammar.{loose, ◌⋯◌, TheWord, SomeName}
-use Rattle.il_grammar.proofs.Leads.{word_sure}
-use Rattle.il_grammar.proofs.Configurations.{some_name_sure}
+use Rattle.il_grammar_laws.proofs.Leads.{word_sure}
+use Rattle.il_grammar_laws.proofs.Configurations.{some_name_sure}
 use Rattle.il_parse.specs.Parts.{SpellsLines}
 use Rattle.il_read.proofs.Chain.{up, behind, first_missing, part}
 use Rattle.il_parse.proofs.configuration.resource.Goals as goal

@@ -1,4 +1,4 @@
-use Rattle.std.proofs.Common.{refl, ap, ◌∙◌}
+use Rattle.std.proofs.Common.{ap, ◌∙◌}
 use Rattle.il_scope.proofs.Seen.{read_at}
 use Rattle.il_typed.specs.Writers.{noted, names_stored}
 use Rattle.il_typed.proofs.Programs.{nothing, nothing_past, nothing_stored, body_noted}
@@ -10,8 +10,8 @@ returns-in_default c = nothing c.args.names.now c.as_str.result.now c.args.line.
 pub returns-in_default-get : goal.returns-in_default-get
 returns-in_default-get c = nothing_past c.args.names.now c.as_str.result.now c.args.line.now.program.name c.as_str.ensures c.args.number c.in-Some.at c.args.writers.now c.as_slice.result.now c.in-Some.ensures (c.as_slice.ensures ∙ ap (λ k. k.units) c.config.ensures) c.in_default-get.ensures.lookup.3
 
-pub of-scope-requires-clause-unit : goal.of-scope-requires-clause-unit
-of-scope-requires-clause-unit c = read_at c.as_slice.result.now c.args.names.now.units c.in-Some.at c.in-Some-get.unit.now (c.as_slice.ensures ∙ ap (λ k. k.units) c.config.ensures) c.in-Some-get.ensures.lookup.3.0 c.in-Some-get.ensures.lookup.1
+pub of-scope-requires : goal.of-scope-requires
+of-scope-requires c = read_at c.as_slice.result.now c.args.names.now.units c.in-Some.at c.in-Some-get.unit.now (c.as_slice.ensures ∙ ap (λ k. k.units) c.config.ensures) c.in-Some-get.ensures.lookup.3.0 c.in-Some-get.ensures.lookup.1
 
 pub returns : goal.returns
 returns c =

@@ -8,8 +8,8 @@ use Rattle.il_typed.proofs.writers.shared_fault.Goals as goal
 pub loop-at-init : goal.loop-at-init
 loop-at-init c = least_none _ _ refl (λ n p h. omega (arith, h.2))
 
-pub of-scope-requires-clause-unit : goal.of-scope-requires-clause-unit
-of-scope-requires-clause-unit c = read_at c.as_slice-units.result.now c.args.names.now.units c.loop-at.at c.index-units-at.result (c.as_slice-units.ensures ∙ ap (λ k. k.units) c.config.ensures) (omega arith) c.index-units-at.is
+pub of-scope-requires : goal.of-scope-requires
+of-scope-requires c = read_at c.as_slice-units.result.now c.args.names.now.units c.loop-at.at c.index-units-at.result (c.as_slice-units.ensures ∙ ap (λ k. k.units) c.config.ensures) (omega arith) c.index-units-at.is
 
 pub loop-at-preserved : goal.loop-at-preserved
 loop-at-preserved c =

@@ -1,6 +1,6 @@
 use Rattle.std.proofs.Common.{sym, ◌∙◌}
 use Rattle.il_spec.specs.declared.tree.Config.{Config}
-use Rattle.il_grammar.proofs.Spelled.{spelled_written}
+use Rattle.il_grammar_laws.proofs.Spelled.{spelled_written}
 use Rattle.lift_load.specs.Loading.{IsExplained}
 use Rattle.lift_load.proofs.Explaining.{handed_as, explained_by_tokens, explained_by_parser}
 use Rattle.lift_load.proofs.Accepting.{handed_on, none_spelled}

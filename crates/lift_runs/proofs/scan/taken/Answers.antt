@@ -1,5 +1,5 @@
 use Rattle.std.proofs.Common.{ap, ◌∙◌, Ok}
-use Rattle.lift_sound.proofs.Coming.{refused_unchanged}
+use Rattle.lift_run_laws.proofs.Coming.{refused_unchanged}
 use Rattle.lift_spec.specs.Replies.{Refused, reply_with}
 use Rattle.lift_world.specs.Running.{world_of}
 use Rattle.lift_journal.proofs.Taking.{happen_one}

@@ -1,4 +1,5 @@
-use Rattle.std.proofs.Common.{◌∙◌, sym, arith}
+use Rattle.std.proofs.Common.{◌∙◌, sym, ap, arith}
+use Rattle.il_machine.specs.Scanning.{variables_in}
 use Rattle.il_machine.proofs.Sizes.{few_cars}
 use Rattle.lift_world.proofs.Opening.{seat_opens, task_there}
 use Rattle.lift_world.proofs.shared.opening_seat.Goals as goal
@@ -12,4 +13,6 @@ pub opening_variables-requires : goal.opening_variables-requires
 opening_variables-requires c = record { there = task_there _ _ c.requires (sym c.has_task.ensures ∙ c.if-not-has_task.false) }
 
 pub returns-clause-task : goal.returns-clause-task
-returns-clause-task c = seat_opens _ _ _ (sym c.has_task.ensures ∙ c.if-not-has_task.false) c.in_ok-variables.ensures.variables
+returns-clause-task c =
+    seat_opens _ _ _ (sym c.has_task.ensures ∙ c.if-not-has_task.false)
+    (λ u is. ap (variables_in c.args.verified.now.config c.args.task) c.in_ok-variables.ensures ∙ c.opening_variables.ensures.variables u is)

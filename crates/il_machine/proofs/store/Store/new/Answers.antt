@@ -1,6 +1,7 @@
-use Rattle.std.proofs.Common.{◌∙◌, sym, subst}
+use Rattle.std.proofs.Common.{◌∙◌, sym, ap, subst}
 use Rattle.il_run.specs.Ranges.{HoldGlobals}
-use Rattle.il_sound.proofs.Opening.{globals_open}
+use Rattle.il_scan_laws.proofs.Opening.{globals_open}
+use Rattle.il_machine.specs.Sharing.{globals_in}
 use Rattle.il_machine.proofs.store.Store.new.Goals as goal
 
 pub opened-requires-clause-rows : goal.opened-requires-clause-rows
@@ -11,8 +12,9 @@ opened-requires-clause-rows c =
 
 pub opened-requires-clause-shared : goal.opened-requires-clause-shared
 opened-requires-clause-shared c =
+    let config = c.args.verified.now.config in
     let runs = c.config-config.ensures.runnable in
-    subst (HoldGlobals c.args.verified.now.config) (sym c.in_ok-globals.ensures.opening) (globals_open c.args.verified.now.config runs.written runs.declared)
+    subst (HoldGlobals config) (sym (ap (globals_in config) c.in_ok-globals.ensures ∙ c.opening_globals.ensures.opening)) (globals_open config runs.written runs.declared)
 
 pub opened-requires-clause-first : goal.opened-requires-clause-first
 opened-requires-clause-first c =

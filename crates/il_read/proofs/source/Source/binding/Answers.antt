@@ -1,7 +1,7 @@
 use Rattle.std.proofs.Common.{arith}
 use Rattle.il_spec.specs.declared.keyword.Keyword.TheVariants as word
 use Rattle.il_spec.specs.Grammar.{loose}
-use Rattle.il_grammar.proofs.Leads.{word_sure}
+use Rattle.il_grammar_laws.proofs.Leads.{word_sure}
 use Rattle.il_read.specs.Settings.{SpellsBound}
 use Rattle.il_read.proofs.Chain.{up, first_missing, behind}
 use Rattle.il_read.proofs.Through.{ok_through, err_through}

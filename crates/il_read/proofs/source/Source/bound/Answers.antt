@@ -1,6 +1,6 @@
 use Rattle.il_spec.specs.declared.token.Sign.TheVariants.{Colon}
 use Rattle.il_spec.specs.Grammar.{loose, ◌⋯◌, TheSign}
-use Rattle.il_grammar.proofs.Leads.{sign_sure, the_name_one}
+use Rattle.il_grammar_laws.proofs.Leads.{sign_sure, the_name_one}
 use Rattle.il_read.specs.Settings.{SpellsProgramName}
 use Rattle.il_read.proofs.Chain.{up, first, later, first_missing, behind, part}
 use Rattle.il_read.proofs.source.Source.bound.Goals as goal

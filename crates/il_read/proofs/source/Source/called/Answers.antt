@@ -1,5 +1,5 @@
 use Rattle.il_spec.specs.Grammar.{tight, SpellsArguments}
-use Rattle.il_grammar.proofs.Leads.{the_name_one}
+use Rattle.il_grammar_laws.proofs.Leads.{the_name_one}
 use Rattle.il_read.proofs.Chain.{up, first, later, part}
 use Rattle.il_read.proofs.source.Source.called.Goals as goal
 

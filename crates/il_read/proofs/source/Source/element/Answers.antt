@@ -1,7 +1,7 @@
 use Rattle.std.proofs.Common.{arith}
 use Rattle.il_spec.specs.declared.token.Sign.TheVariants.{CloseBracket}
 use Rattle.il_spec.specs.Grammar.{TheSign}
-use Rattle.il_grammar.proofs.Operands.{index_one}
+use Rattle.il_grammar_laws.proofs.Operands.{index_one}
 use Rattle.il_read.specs.Reads.{gap_of}
 use Rattle.il_read.proofs.Chain.{up, first, later, last_missing}
 use Rattle.il_read.proofs.Through.{ok_both, ok_through, err_through}

@@ -1,7 +1,7 @@
 use Rattle.std.proofs.Common.{arith, codes}
 use Rattle.il_spec.specs.declared.keyword.Keyword.TheVariants as word
 use Rattle.il_spec.specs.Grammar.{loose, ◌⋯◌, TheWord, SpellsSize}
-use Rattle.il_grammar.proofs.Configurations.{size_one}
+use Rattle.il_grammar_laws.proofs.Configurations.{size_one}
 use Rattle.il_read.proofs.Chain.{up, first, last_missing, later}
 use Rattle.il_read.proofs.source.Source.floors.Goals as goal
 

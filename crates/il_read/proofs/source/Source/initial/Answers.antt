@@ -1,6 +1,6 @@
 use Rattle.il_spec.specs.declared.token.Sign.TheVariants.{Assign, Semicolon}
 use Rattle.il_spec.specs.Grammar.{loose, TheSign, SpellsInitial}
-use Rattle.il_grammar.proofs.Leads.{sign_sure}
+use Rattle.il_grammar_laws.proofs.Leads.{sign_sure}
 use Rattle.il_read.specs.Reads.{SpellsValue}
 use Rattle.il_read.proofs.Chain.{up, first_missing, behind, part, some_refused, was_missing}
 use Rattle.il_read.proofs.source.Source.initial.Goals as goal

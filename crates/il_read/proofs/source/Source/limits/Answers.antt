@@ -1,7 +1,7 @@
 use Rattle.std.proofs.Common.{arith}
 use Rattle.il_spec.specs.declared.token.Sign.TheVariants.{Range, OpenParenthesis, CloseParenthesis}
 use Rattle.il_spec.specs.Grammar.{loose, ◌⋯◌, TheSign, ANumber}
-use Rattle.il_grammar.proofs.Leads.{sign_sure}
+use Rattle.il_grammar_laws.proofs.Leads.{sign_sure}
 use Rattle.il_read.proofs.Chain.{up, first, later, first_missing, last_missing, behind}
 use Rattle.il_read.proofs.Alternatives.{range_one, range_refused}
 use Rattle.il_read.proofs.Through.{ok_both, ok_through, err_through}

@@ -1,6 +1,6 @@
 use Rattle.std.proofs.Common.{arith}
 use Rattle.il_spec.specs.Grammar.{tight, TheLineEnd}
-use Rattle.il_grammar.proofs.Leads.{the_name_one}
+use Rattle.il_grammar_laws.proofs.Leads.{the_name_one}
 use Rattle.il_read.proofs.Chain.{up, first, later, last_missing}
 use Rattle.il_read.proofs.Through.{ok_both, ok_through, err_through}
 use Rattle.il_read.proofs.source.Source.name_line.Goals as goal

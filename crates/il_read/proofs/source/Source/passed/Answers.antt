@@ -1,7 +1,7 @@
 use Rattle.std.proofs.Common.{arith}
 use Rattle.il_spec.specs.declared.token.Sign.TheVariants.{Assign, Arrow}
 use Rattle.il_spec.specs.Grammar.{loose, TheSign, TheName}
-use Rattle.il_grammar.proofs.Leads.{sign_sure}
+use Rattle.il_grammar_laws.proofs.Leads.{sign_sure}
 use Rattle.il_read.proofs.Chain.{up, was_there, was_missing, first_missing, behind}
 use Rattle.il_read.proofs.Alternatives.{input_refused, output_refused}
 use Rattle.il_read.proofs.source.Source.passed.Goals as goal

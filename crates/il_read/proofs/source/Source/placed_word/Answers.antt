@@ -1,6 +1,6 @@
 use Rattle.il_spec.specs.Grammar.{TheWord}
 use Rattle.il_read.proofs.Chain.{up}
-use Rattle.il_grammar.proofs.Leads.{at_holds}
+use Rattle.il_grammar_laws.proofs.Leads.{at_holds}
 use Rattle.il_read.proofs.source.Source.placed_word.Goals as goal
 
 pub returns-in_err-word-clause-refused : goal.returns-in_err-word-clause-refused

@@ -1,8 +1,8 @@
 use Rattle.il_spec.specs.declared.token.Sign.TheVariants.{Assign, Semicolon, CloseParenthesis}
 use Rattle.il_spec.specs.declared.keyword.Keyword.TheVariants as word
 use Rattle.il_spec.specs.Grammar.{loose, ◌⋯◌, TheSign, ADecimal}
-use Rattle.il_grammar.proofs.Leads.{word_sure, sign_sure}
-use Rattle.il_grammar.proofs.Configurations.{decimal_one}
+use Rattle.il_grammar_laws.proofs.Leads.{word_sure, sign_sure}
+use Rattle.il_grammar_laws.proofs.Configurations.{decimal_one}
 use Rattle.il_read.proofs.Chain.{up, first, later, first_missing, last_missing, behind}
 use Rattle.il_read.proofs.source.Source.priority.Goals as goal
 

@@ -1,7 +1,7 @@
 use Rattle.std.proofs.Common.{arith}
 use Rattle.il_spec.specs.declared.token.Sign.TheVariants.{Semicolon}
 use Rattle.il_spec.specs.Grammar.{loose, TheSign}
-use Rattle.il_grammar.proofs.Leads.{the_name_one}
+use Rattle.il_grammar_laws.proofs.Leads.{the_name_one}
 use Rattle.il_read.proofs.Chain.{up, first, later, last_missing}
 use Rattle.il_read.proofs.Through.{ok_both, ok_through, err_through}
 use Rattle.il_read.proofs.source.Source.program_name.Goals as goal

@@ -1,7 +1,7 @@
 use Rattle.std.proofs.Common.{arith}
 use Rattle.il_spec.specs.declared.token.Sign.TheVariants.{Range}
 use Rattle.il_spec.specs.Grammar.{loose, ◌⋯◌, TheSign, ANumber}
-use Rattle.il_grammar.proofs.Leads.{number_one, sign_sure}
+use Rattle.il_grammar_laws.proofs.Leads.{number_one, sign_sure}
 use Rattle.il_read.proofs.Chain.{up, first, later, first_missing, behind, part}
 use Rattle.il_read.proofs.source.Source.range.Goals as goal
 

@@ -1,8 +1,8 @@
 use Rattle.std.proofs.Common.{arith}
 use Rattle.il_spec.specs.declared.token.Sign.TheVariants.{Comma}
 use Rattle.il_spec.specs.Grammar.{loose, ◌⋯◌, TheSign}
-use Rattle.il_grammar.proofs.Leads.{sign_sure}
-use Rattle.il_grammar.proofs.Configurations.{interval_one}
+use Rattle.il_grammar_laws.proofs.Leads.{sign_sure}
+use Rattle.il_grammar_laws.proofs.Configurations.{interval_one}
 use Rattle.il_read.specs.Settings.{SpellsPriority}
 use Rattle.il_read.proofs.Chain.{up, first, later, first_missing, behind, part}
 use Rattle.il_read.proofs.source.Source.schedule.Goals as goal

@@ -1,8 +1,8 @@
 use Rattle.std.proofs.Common.{arith}
 use Rattle.il_spec.specs.declared.token.Sign.TheVariants.{Colon}
 use Rattle.il_spec.specs.Grammar.{loose, ◌⋯◌, TheSign}
-use Rattle.il_grammar.proofs.Leads.{sign_sure}
-use Rattle.il_grammar.proofs.Configurations.{text_sure}
+use Rattle.il_grammar_laws.proofs.Leads.{sign_sure}
+use Rattle.il_grammar_laws.proofs.Configurations.{text_sure}
 use Rattle.il_read.specs.Settings.{SpellsSized}
 use Rattle.il_read.proofs.Chain.{up, first_missing, behind}
 use Rattle.il_read.proofs.Through.{ok_through, err_through}

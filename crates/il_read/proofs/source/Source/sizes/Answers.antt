@@ -1,8 +1,8 @@
 use Rattle.std.proofs.Common.{arith, codes}
 use Rattle.il_spec.specs.declared.keyword.Keyword.TheVariants as word
 use Rattle.il_spec.specs.Grammar.{loose, ◌⋯◌, TheWord, SpellsSize}
-use Rattle.il_grammar.proofs.Leads.{word_sure}
-use Rattle.il_grammar.proofs.Configurations.{size_one}
+use Rattle.il_grammar_laws.proofs.Leads.{word_sure}
+use Rattle.il_grammar_laws.proofs.Configurations.{size_one}
 use Rattle.il_read.specs.Settings.{SpellsFloors}
 use Rattle.il_read.proofs.Chain.{up, behind, first, later, part}
 use Rattle.il_read.proofs.source.Source.sizes.Goals as goal

@@ -2,8 +2,8 @@ use Rattle.std.proofs.Common.{List, [], ◌∷◌, arith}
 use Rattle.il_spec.specs.declared.token.Token.{Token}
 use Rattle.il_spec.specs.declared.token.Sign.TheVariants.{Comma, CloseParenthesis}
 use Rattle.il_spec.specs.Grammar.{TheSign}
-use Rattle.il_grammar.proofs.Leads.{sign_sure}
-use Rattle.il_grammar.proofs.Arguments.{argument_one}
+use Rattle.il_grammar_laws.proofs.Leads.{sign_sure}
+use Rattle.il_grammar_laws.proofs.Arguments.{argument_one}
 use Rattle.il_read.proofs.Chain.{up, list_starts, list_goes_on, list_item_refused, list_end_refused, list_ended, was_there, was_missing}
 use Rattle.il_read.proofs.Through.{ok_both, ok_through, err_through}
 use Rattle.il_read.proofs.source.Source.some_arguments.Goals as goal

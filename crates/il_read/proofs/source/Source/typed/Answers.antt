@@ -1,5 +1,5 @@
 use Rattle.il_spec.specs.Grammar.{loose, SpellsInitial}
-use Rattle.il_grammar.proofs.Types.{type_one}
+use Rattle.il_grammar_laws.proofs.Types.{type_one}
 use Rattle.il_read.proofs.Chain.{up, first, later, part}
 use Rattle.il_read.proofs.source.Source.typed.Goals as goal
 

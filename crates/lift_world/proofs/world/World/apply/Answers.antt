@@ -1,7 +1,7 @@
 use Rattle.std.proofs.Common.{subst, [], ◌∷◌}
 use Rattle.lift_world.specs.declared.controller.Controller.{Controller}
 use Rattle.lift_world.specs.Running.{world_of}
-use Rattle.lift_sound.specs.Histories.{CallGoesWell}
+use Rattle.lift_run_laws.specs.Histories.{CallGoesWell}
 use Rattle.lift_world.proofs.Sound.{call_goes_well}
 use Rattle.lift_world.proofs.world.World.apply.Goals as goal
 

@@ -1,5 +1,5 @@
 use Rattle.std.proofs.Common.{subst}
-use Rattle.lift_sound.specs.Histories.{CallGoesWell}
+use Rattle.lift_run_laws.specs.Histories.{CallGoesWell}
 use Rattle.lift_world.specs.declared.controller.Controller.{Controller}
 use Rattle.lift_world.specs.Running.{world_of, instructions}
 use Rattle.lift_world.proofs.Sound.{call_goes_well}

@@ -2,9 +2,9 @@ use Rattle.std.proofs.Common.{◌≡◌, ℕ, Some, subst}
 use Rattle.il_spec.specs.declared.tree.Unit.{Unit as Organized}
 use Rattle.il_machine.specs.Listing.{TaskLine, task_line}
 use Rattle.lift_spec.specs.Snapshot.{program_of}
-use Rattle.lift_sound.specs.Tasks.{budget_of}
-use Rattle.lift_sound.specs.Runs.{IsReached}
-use Rattle.lift_sound.specs.Histories.{CallGoesWell}
+use Rattle.lift_run_laws.specs.Tasks.{budget_of}
+use Rattle.lift_run_laws.specs.Runs.{IsReached}
+use Rattle.lift_run_laws.specs.Histories.{CallGoesWell}
 use Rattle.lift_world.specs.declared.controller.Controller.{Controller}
 use Rattle.lift_world.specs.Running.{world_of}
 use Rattle.lift_world.proofs.Sound.{call_goes_well, printed_is}

@@ -1,0 +1,5 @@
+pub mod Joins
+pub mod Deferred
+pub mod Numbers
+pub mod Units
+pub mod Steps

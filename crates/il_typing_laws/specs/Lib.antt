@@ -1,0 +1,3 @@
+pub mod Arrivals
+pub mod Faults
+pub mod Steps

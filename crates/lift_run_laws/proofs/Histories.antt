@@ -1,0 +1,54 @@
+-- Runs that go on after a history.
+use Rattle.std.proofs.Common.{◌≡◌, List, [], ◌∷◌, ◌++◌, refl, sym, ap, ◌∙◌, Ok, Err}
+use Rattle.std.specs.Prelude.{IsOk, flat_map}
+use Rattle.il_spec.specs.declared.tree.Config.{Config}
+use Rattle.lift_spec.specs.declared.event.Event.{Event}
+use Rattle.lift_spec.specs.Replies.{Reply}
+use Rattle.lift_spec.specs.World.{World, Next, run, and_then, opening}
+use Rattle.lift_run_laws.specs.Histories.{IsHistory, RunsGoOn, CallGoesWell, CallsGoWell, EventIsRun, run_calls, CallsAreOneRun, IsCut, RunsAreCut}
+use Rattle.lift_run_laws.specs.Accepted.{IsSound}
+use Rattle.lift_run_laws.proofs.Following.{Runs, appends, before, follow, ended, same_end}
+use Rattle.lift_run_laws.proofs.Accepted.{accepted_runs_well}
+
+-- ONE CALL
+
+steady_end : (r : Runs) → IsOk r → (n : World × List Reply) × (r ≡ Ok n)
+steady_end (Err halt) h = cc
+steady_end (Ok n) h = (n, refl)
+
+pub run_goes_on : RunsGoOn
+run_goes_on c runs past events answers w is =
+    let whole : run c (opening c) [] (past ++ events) ≡ run c w answers events = appends c (opening c) [] past events ∙ ap (λ r. and_then r (λ n. run c n.0 n.1 events)) is in
+    let last = steady_end (run c (opening c) [] (past ++ events)) (runs.steady (past ++ events)) in
+    let rest : (replies : List Reply) × (run c w [] events ≡ Ok (last.0.0, replies)) = ended c w last.0.0 answers last.0.1 (run c w [] events) (sym (follow c w answers events) ∙ sym whole ∙ last.1) in
+    let history : IsHistory c (past ++ events) (answers ++ rest.0) last.0.0 = whole ∙ follow c w answers events ∙ ap (before answers) rest.1 in
+    record { after = last.0.0; replies = rest.0; is = rest.1; history = history; well = runs.well (past ++ events) last.0.0 (answers ++ rest.0) history }
+
+pub calls_go_well : CallsGoWell
+calls_go_well c runs w events past first rest answers history is = run_goes_on c runs past first answers w history
+
+pub accepted_calls_go_well : (c : Config) → IsSound c → (w : World) (events : List Event) → CallGoesWell c w events
+accepted_calls_go_well c sound = calls_go_well c (accepted_runs_well c sound)
+
+-- SEVERAL CALLS
+
+pub event_is_run : EventIsRun
+event_is_run c w v e reply earlier is = ap (λ (n : Next). and_then n (λ m. run c m.0 (earlier ++ m.1 ∷ []) [])) is
+
+pub calls_are_one_run : CallsAreOneRun
+calls_are_one_run c w replies [] = refl
+calls_are_one_run c w replies (events ∷ calls) = by (run c w replies events) (λ v rs. calls_are_one_run c v rs calls) ∙ sym (appends c w replies events (flat_map (λ events. events) calls))
+  where
+    by : (r : Runs) → ((v : World) (rs : List Reply) → run_calls c v rs calls ≡ run c v rs (flat_map (λ events. events) calls)) → and_then r (λ n. run_calls c n.0 n.1 calls) ≡ and_then r (λ n. run c n.0 n.1 (flat_map (λ events. events) calls))
+    by (Err halt) rest = refl
+    by (Ok n) rest = rest n.0 n.1
+
+pub runs_are_cut : RunsAreCut
+runs_are_cut c w v replies first rest is = by (run c w [] first) refl (sym (appends c w [] first rest) ∙ is)
+  where
+    by : (r : Runs) → run c w [] first ≡ r → and_then r (λ n. run c n.0 n.1 rest) ≡ Ok (v, replies) → IsCut c w v replies first rest
+    by (Err halt) begun e = cc
+    by (Ok n) begun e =
+        let after = ended c n.0 v n.1 replies (run c n.0 [] rest) (sym (follow c n.0 n.1 rest) ∙ e) in
+        let whole : ◌≡◌ {A = Runs} (Ok (v, n.1 ++ after.0)) (Ok (v, replies)) = ap (before n.1) (sym after.1) ∙ sym (follow c n.0 n.1 rest) ∙ e in
+        record { between = n.0; sooner = n.1; later = after.0; begun = begun; ended = after.1; both = sym (ap (λ p. p.1) (same_end v v (n.1 ++ after.0) replies whole)) }

@@ -1,0 +1,129 @@
+-- The tasks of an accepted configuration: their programs are accepted, and see the image of their role.
+use Rattle.std.proofs.Common.{◌≡◌, ◌≢◌, ◌≤◌, ℕ, zero, suc, ℤ, pos, Bool, true, false, List, [], map, filter, refl, sym, ap, ◌∙◌, Some, None, Option, Contains, arith}
+use Rattle.std.proofs.lemmas.Int.{ints}
+use Rattle.std.proofs.lemmas.Slice.Eq.{bytes_eq-Decides}
+use Rattle.std.specs.Fmt.{digits}
+use Rattle.std.specs.Prelude.{find, bytes_eq, int_le, ◌≤ℤ◌, ◌&&◌, if◌then◌else◌}
+use Rattle.il_spec.specs.declared.tree.Config.{Config}
+use Rattle.il_spec.specs.declared.tree.Size.{Size}
+use Rattle.il_spec.specs.declared.tree.Scalar.{Scalar}
+use Rattle.il_spec.specs.declared.tree.Subrange.{Subrange}
+use Rattle.il_spec.specs.declared.tree.ProgramLine.{ProgramLine}
+use Rattle.il_spec.specs.declared.tree.Unit.{Unit as ProgramUnit}
+use Rattle.il_rules.specs.declared.names.Role.{Role}
+use Rattle.il_rules.specs.declared.names.Role.TheVariants.{Car as CarRole, Group as GroupRole}
+use Rattle.il_rules.specs.Names.{ImageName, is_seen_by, image_of, program_named, program_role, task_role}
+use Rattle.il_rules.specs.Declarations.{is_within, sizes_of as sizes_with_limits, size_outside, other_role}
+use Rattle.il_rules.specs.Faults.{HasNoFault, Broken, Declaring, initial_outside, bad_task}
+use Rattle.il_table.specs.NameMap.{Text}
+use Rattle.il_run.specs.Scan.{program_of as line_program}
+use Rattle.il_scan_laws.specs.Accepted.{IsAccepted}
+use Rattle.il_scan_laws.specs.Listed.{seen_scalars, image_entity}
+use Rattle.il_run.specs.Ranges.{entity_scalars}
+use Rattle.il_scan_laws.proofs.Lists.{found_in}
+use Rattle.il_scan_laws.proofs.Named.{name_of}
+use Rattle.il_scan_laws.proofs.Meant.{program_is}
+use Rattle.il_scan_laws.proofs.Fresh.{within_is}
+use Rattle.lift_spec.specs.Image.{sizes_of}
+use Rattle.lift_spec.specs.Snapshot.{task_name}
+use Rattle.lift_run_laws.specs.Tasks.{IsTaskOf, IsSized, role_of}
+use Rattle.lift_run_laws.specs.Seeing.{image_scalars}
+use Rattle.lift_run_laws.specs.Accepted.{IsSound}
+
+-- SIZES
+
+module _ (c : Config) (unbroken : HasNoFault (Broken Declaring c)) where
+  -- a size lies within its limits (23)
+  size_within : (s : Size) (limits : Subrange) → Contains (sizes_with_limits c) (s, limits) → (limits.lower ≤ℤ s.value) × (s.value ≤ℤ limits.upper)
+  size_within s limits among = by_test (is_within limits s.value) refl
+    where
+      by_test : (b : Bool) → is_within limits s.value ≡ b → (limits.lower ≤ℤ s.value) × (s.value ≤ℤ limits.upper)
+      by_test true is = within_is limits s.value is
+      by_test false is = absurd (unbroken 23 s.place (initial_outside refl (size_outside (s, limits) among is refl)))
+
+  cars_within : (pos 1 ≤ℤ c.cars.value) × (c.cars.value ≤ℤ pos 8)
+  cars_within = size_within c.cars (record { lower = pos 1; upper = pos 8 }) (0, omega arith, refl)
+
+  floors_within : (pos 2 ≤ℤ c.floors.value) × (c.floors.value ≤ℤ pos 16)
+  floors_within = size_within c.floors (record { lower = pos 2; upper = pos 16 }) (1, omega arith, refl)
+
+  slots_within : (pos 1 ≤ℤ c.slots.value) × (c.slots.value ≤ℤ pos 64)
+  slots_within = size_within c.slots (record { lower = pos 1; upper = pos 64 }) (2, omega arith, refl)
+
+  pub is_sized : IsSized c
+  is_sized = record { floors = let h = floors_within.0 in omega (arith, ints); slots = slots_within.0; cars = cars_within.0 }
+
+  -- ROLES
+
+  -- the number of a car is not greater than that of the cars
+  car_is : (k : ℕ) → k ≤ (sizes_of c).cars → int_le (pos k) c.cars.value ≡ true
+  car_is k within = by_cars c.cars.value refl
+    where
+      by_cars : (z : ℤ) → c.cars.value ≡ z → int_le (pos k) z ≡ true
+      by_cars z is = by_test (int_le (pos k) z) refl
+        where
+          by_test : (b : Bool) → int_le (pos k) z ≡ b → b ≡ true
+          by_test true e = refl
+          by_test false e = let low = cars_within.0 in absurd (grind (arith, ints))
+
+  -- a task's name has its role
+  name_role : (t : ℕ) → t ≤ (sizes_of c).cars → task_role c.cars.value (task_name t) ≡ Some (role_of t)
+  unfolding digits
+  name_role zero within = refl
+  name_role (suc zero) within = ap (λ b. if b then Some CarRole else None) (car_is 1 within)
+  name_role (suc (suc zero)) within = ap (λ b. if b then Some CarRole else None) (car_is 2 within)
+  name_role (suc (suc (suc zero))) within = ap (λ b. if b then Some CarRole else None) (car_is 3 within)
+  name_role (suc (suc (suc (suc zero)))) within = ap (λ b. if b then Some CarRole else None) (car_is 4 within)
+  name_role (suc (suc (suc (suc (suc zero))))) within = ap (λ b. if b then Some CarRole else None) (car_is 5 within)
+  name_role (suc (suc (suc (suc (suc (suc zero)))))) within = ap (λ b. if b then Some CarRole else None) (car_is 6 within)
+  name_role (suc (suc (suc (suc (suc (suc (suc zero))))))) within = ap (λ b. if b then Some CarRole else None) (car_is 7 within)
+  name_role (suc (suc (suc (suc (suc (suc (suc (suc zero)))))))) within = ap (λ b. if b then Some CarRole else None) (car_is 8 within)
+  name_role (suc (suc (suc (suc (suc (suc (suc (suc (suc k))))))))) within = let high = cars_within.1 in let low = cars_within.0 in absurd (omega (arith, ints))
+
+  same_role : (o : Option Role) (r : Role) → ((o ≢ Some r) → ⊥) → o ≡ Some r
+  same_role None r never = absurd (never (λ same. cc))
+  same_role (Some CarRole) CarRole never = refl
+  same_role (Some GroupRole) GroupRole never = refl
+  same_role (Some CarRole) GroupRole never = absurd (never (λ same. cc))
+  same_role (Some GroupRole) CarRole never = absurd (never (λ same. cc))
+
+  -- a task's program has the role of the task (24)
+  line_role : (line : ProgramLine) (t : ℕ) → Contains c.programs line → line.task.name ≡ task_name t → t ≤ (sizes_of c).cars → program_role c line.program.name c.programs ≡ Some (role_of t)
+  line_role line t among named within =
+      same_role (program_role c line.program.name c.programs) (role_of t) (λ other.
+      unbroken 24 line.place (bad_task refl (other_role line (role_of t) among (ap (task_role c.cars.value) named ∙ name_role t within) other refl)))
+
+-- PROGRAMS
+
+-- the PROGRAM line of a task's program
+pub record HasLine (c : Config) (t : ℕ) (u : ProgramUnit) : Type 0 where
+  pub line : ProgramLine
+  pub among : Contains c.programs line
+  pub of_task : line.task.name ≡ task_name t
+  pub program : program_named c line.program.name ≡ Some u
+
+has_line : (c : Config) (t : ℕ) (u : ProgramUnit) → IsTaskOf c t u → HasLine c t u
+has_line c t u is = by_line (find (λ l. bytes_eq (task_name t) l.task.name) c.programs) refl is.program
+  where
+    by_line : (o : Option ProgramLine) → find (λ l. bytes_eq (task_name t) l.task.name) c.programs ≡ o → line_program c o ≡ Some u → HasLine c t u
+    by_line None at e = cc
+    by_line (Some l) at e =
+        let r = found_in (λ (l : ProgramLine). bytes_eq (task_name t) l.task.name) c.programs l at in
+        record { line = l; among = r.0; of_task = sym ((bytes_eq-Decides (task_name t) l.task.name).0 r.1); program = e }
+
+pub task_accepted : (c : Config) → IsSound c → (t : ℕ) (u : ProgramUnit) → IsTaskOf c t u → IsAccepted c u
+task_accepted c sound t u is =
+    let l = has_line c t u is in
+    let named = name_of c l.line.program.name u (program_is c l.line.program.name u l.program).0 in
+    record { written = sound.written; declared = sound.declared; typed = sound.typed; ordered = sound.ordered; program = ap (program_named c) named ∙ l.program }
+
+-- a task's program sees the image of the task's role
+pub same_image : (c : Config) → IsSound c → (t : ℕ) (u : ProgramUnit) → IsTaskOf c t u → seen_scalars c u ≡ image_scalars c t
+same_image c sound t u is =
+    let l = has_line c t u is in
+    let p = program_is c l.line.program.name u l.program in
+    let role : program_role c u.name.name c.programs ≡ Some (role_of t) = ap (λ n. program_role c n c.programs) (name_of c l.line.program.name u p.0) ∙ line_role c sound.declared l.line t l.among l.of_task is.within in
+    ap (scalars_by (program_role c u.name.name c.programs)) p.1 ∙ ap (λ r. scalars_by r true) role
+  where
+    scalars_by : Option Role → Bool → List (Text × Scalar)
+    scalars_by r b = entity_scalars (λ _ _. []) [] (map image_entity (filter (λ (i : ImageName). b && is_seen_by r i.audience) (image_of c.cars.value c.floors.value c.slots.value)))
