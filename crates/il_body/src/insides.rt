@@ -5,7 +5,7 @@ ghost use Rattle.il_read.specs.Reads.{Reads, Refuses};
 ghost use Rattle.il_body.specs.Insides.{SpellsProgramInside, SpellsBlockInside, SpellsFunctionInside};
 
 use crate::bodies::body;
-use crate::lists::{externals, filled_list, full_list, no_list, optional_list};
+use crate::variables::{externals, filled_list, full_list, no_list, optional_list};
 use il_read::{Source, Stop, Tokens};
 use il_spec::keyword::Keyword;
 use il_spec::tree::{Body, Declaration};

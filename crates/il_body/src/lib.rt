@@ -4,11 +4,11 @@
 mod bodies;
 mod headings;
 mod insides;
-mod lists;
 mod units;
+mod variables;
 
 pub use bodies::{Entry, body};
 pub use headings::{block, function, program};
 pub use insides::{block_inside, function_inside, program_inside};
-pub use lists::{comes, externals, filled_list, full_list, no_list, optional_list};
 pub use units::unit;
+pub use variables::{comes, externals, filled_list, full_list, no_list, optional_list};

@@ -1,11 +1,8 @@
 -- Tables of places lead to the first place of each name.
 use Rattle.std.proofs.Common.{◌≡◌, ℕ, zero, suc, ◌+◌, ◌<◌, Bool, true, false, List, [], ◌∷◌, ◌++◌, map, take, length, get_or, refl, sym, ap, ◌∙◌, Option, Some, None, option_map, bytes_eq, if◌then◌else◌, arith}
 use Rattle.std.proofs.lemmas.List.{map-append}
-use Rattle.il_spec.specs.declared.tree.Config.{Config}
-use Rattle.il_spec.specs.declared.tree.Unit.{Unit as ProgramUnit}
 use Rattle.il_rules.specs.Names.{or_else}
 use Rattle.il_table.specs.NameMap.{NameMap, Text, get, with_new}
-use Rattle.il_scope.specs.Tables.{AreUnits}
 use Rattle.il_scope.specs.Views.{place_of}
 use Rattle.il_scope.proofs.Filled.{get-with_new, take_next, take_all}
 use Rattle.il_slots.specs.declared.flat.Cell.{Cell}
@@ -59,7 +56,3 @@ slot_is (x ∷ xs) q = ap (λ o. if bytes_eq x.path q then Some 0 else option_ma
 
 pub indexed : (xs : List Cell) (i : ℕ) (t : NameMap ℕ) → length xs < i + 1 → ((q : Text) → get t q ≡ place_of (map (λ x. x.path) (take i xs)) q) → AreIndexed t xs
 indexed xs i t all is q = place_all (λ (x : Cell). x.path) xs i t all is q ∙ slot_is xs q
-
--- the numbers of units
-pub units_tabled : (c : Config) (us : List ProgramUnit) (i : ℕ) (t : NameMap ℕ) → length us < i + 1 → us ≡ c.units → ((q : Text) → get t q ≡ place_of (map (λ u. u.name.name) (take i us)) q) → AreUnits c t
-units_tabled c us i t all same is q = place_all (λ (u : ProgramUnit). u.name.name) us i t all is q ∙ ap (λ xs. place_of (map (λ u. u.name.name) xs) q) same

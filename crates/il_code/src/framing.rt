@@ -9,8 +9,8 @@ ghost use Rattle.il_slots.specs.Making.{shown};
 
 use crate::laying::{Blocks, Opening, add_variables};
 use il_slots::variables::{Variable, function_variables, own_variables};
-use lists::Items;
 use il_spec::tree::{Unit, UnitKind};
+use lists::Items;
 use std::alloc::{AllocError, Global};
 
 /// How deep instances stand in one another at most.

@@ -12,9 +12,9 @@ use il_scope::Scoped;
 use il_scope::entry::{BlockType, VariableType};
 use il_slots::sizes::{array_size, block_place};
 use il_slots::variables::{Variable, initial_value};
-use lists::Items;
 use il_spec::name::Name;
 use il_spec::tree::Scalar;
+use lists::Items;
 use std::alloc::{AllocError, Global};
 
 /// A slot: its path and type, and the value with which it begins.

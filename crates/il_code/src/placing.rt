@@ -16,8 +16,8 @@ use crate::task::TaskCode;
 use il_scope::{Scoped, is_program};
 use il_slots::sizes::block_lists;
 use il_slots::variables::{global_variables, other_variables};
-use lists::Items;
 use il_spec::tree::{ProgramLine, Unit};
+use lists::Items;
 use std::alloc::{AllocError, Global};
 
 // The slots of what a program sees beside its own variables: its externals, and the image.

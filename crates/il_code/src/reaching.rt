@@ -1,41 +1,14 @@
 // Which units use which, directly and through others (IEC 61131-3:2003, 2.5).
 
 ghost use Rattle.std.specs.Prelude.{◌≡◌, length, map, IfOk, OnOk};
-ghost use Rattle.il_scope.specs.Tables.{AreUnits};
-ghost use Rattle.il_scope.specs.Views.{unit_number};
 ghost use Rattle.il_run.specs.Meaning.{entities, own_entities};
 ghost use Rattle.il_order.specs.Related.{is_set, holds, tabulate};
 ghost use Rattle.il_code.specs.Laying.{is_there, noted, with_instance, with_instances, with_named, with_call, with_calls, used_by, leads, path_row, paths_to, all_paths};
 
 use il_scope::Scoped;
-use lists::Items;
 use il_spec::tree::{Declaration, Form, Instruction, Named, Step, Unit};
-use il_table::Table;
+use lists::Items;
 use std::alloc::{AllocError, Global};
-
-// The number of the first unit of each name.
-fn unit_table(alloc: Global, names: &Scoped) -> Result<Table<usize>, AllocError>
-    ensures { IfOk result (λ t. AreUnits names.now t) }
-{
-    let units = names.config().units.as_slice();
-    let mut table = Table::new(alloc);
-    for at in 0..units.len() {
-        table.put_new(alloc, units[at].name.name.as_str(), at)?;
-    }
-    Ok(table)
-}
-
-// The number of the unit of a name.
-#[tactic(auto, unfolding(il_scope::specs::Views::unit_number))]
-fn number_of(names: &Scoped, table: &Table<usize>, name: &str) -> Option<usize>
-    requires { AreUnits names.now table.now }
-    ensures { result ≡ unit_number names.now name.now }
-{
-    if names.is_predeclared(name) {
-        return None;
-    }
-    table.get(name)
-}
 
 // Whether a number is there.
 fn is_there(numbers: &[usize], number: usize) -> bool
@@ -63,17 +36,11 @@ fn note(used: &mut Items<usize>, number: Option<usize>) -> Result<(), AllocError
 }
 
 // Notes the unit of which an instance is declared.
-fn note_instance(
-    names: &Scoped,
-    table: &Table<usize>,
-    used: &mut Items<usize>,
-    form: &Form,
-) -> Result<(), AllocError>
-    requires { AreUnits names.now table.now }
+fn note_instance(names: &Scoped, used: &mut Items<usize>, form: &Form) -> Result<(), AllocError>
     ensures { OnOk result (used.new ≡ with_instance names.now used.old form.now) }
 {
     match form {
-        Form::Block(block) => note(used, number_of(names, table, block.as_str())),
+        Form::Block(block) => note(used, names.unit(block.as_str())),
         _ => Ok(()),
     }
 }
@@ -81,16 +48,14 @@ fn note_instance(
 // Notes the unit of which instances of these names are declared.
 fn note_names(
     names: &Scoped,
-    table: &Table<usize>,
     used: &mut Items<usize>,
     form: &Form,
     list: &[Named],
 ) -> Result<(), AllocError>
-    requires { AreUnits names.now table.now }
     ensures { OnOk result (used.new ≡ with_named names.now used.old form.now list.now) }
 {
     'names: for _name in list {
-        note_instance(names, table, used, form)?;
+        note_instance(names, used, form)?;
     }
     Ok(())
 }
@@ -98,16 +63,14 @@ fn note_names(
 // Notes the units of which instances are declared.
 fn note_declarations(
     names: &Scoped,
-    table: &Table<usize>,
     used: &mut Items<usize>,
     declarations: &[Declaration],
 ) -> Result<(), AllocError>
-    requires { AreUnits names.now table.now }
     ensures { OnOk result (used.new ≡ with_instances names.now used.old (entities declarations.now)) }
 {
     'lists: for declaration in declarations {
         let form = &declaration.declared.form;
-        note_names(names, table, used, form, declaration.names.as_slice())?;
+        note_names(names, used, form, declaration.names.as_slice())?;
     }
     Ok(())
 }
@@ -115,81 +78,54 @@ fn note_declarations(
 // Notes the unit that an instruction calls.
 fn note_call(
     names: &Scoped,
-    table: &Table<usize>,
     used: &mut Items<usize>,
     instruction: &Instruction,
 ) -> Result<(), AllocError>
-    requires { AreUnits names.now table.now }
     ensures { OnOk result (used.new ≡ with_call names.now used.old instruction.now) }
 {
     match instruction {
-        Instruction::Invoke { function, .. } => {
-            note(used, number_of(names, table, function.name.as_str()))
-        }
+        Instruction::Invoke { function, .. } => { note(used, names.unit(function.name.as_str())) }
         _ => Ok(()),
     }
 }
 
 // Notes the units that instructions call.
-fn note_calls(
-    names: &Scoped,
-    table: &Table<usize>,
-    used: &mut Items<usize>,
-    steps: &[Step],
-) -> Result<(), AllocError>
-    requires { AreUnits names.now table.now }
+fn note_calls(names: &Scoped, used: &mut Items<usize>, steps: &[Step]) -> Result<(), AllocError>
     ensures { OnOk result (used.new ≡ with_calls names.now used.old steps.now) }
 {
     'steps: for step in steps {
-        note_call(names, table, used, &step.instruction)?;
+        note_call(names, used, &step.instruction)?;
     }
     Ok(())
 }
 
 // Notes the units of which a unit declares instances.
 #[tactic(auto, using(crate::proofs::Reached::own_noted))]
-fn note_own(
-    names: &Scoped,
-    table: &Table<usize>,
-    used: &mut Items<usize>,
-    unit: &Unit,
-) -> Result<(), AllocError>
-    requires { AreUnits names.now table.now }
+fn note_own(names: &Scoped, used: &mut Items<usize>, unit: &Unit) -> Result<(), AllocError>
     ensures { OnOk result (used.new ≡ with_instances names.now used.old (own_entities unit.now)) }
 {
-    note_declarations(names, table, used, unit.inputs.as_slice())?;
-    note_declarations(names, table, used, unit.outputs.as_slice())?;
-    note_declarations(names, table, used, unit.variables.as_slice())
+    note_declarations(names, used, unit.inputs.as_slice())?;
+    note_declarations(names, used, unit.outputs.as_slice())?;
+    note_declarations(names, used, unit.variables.as_slice())
 }
 
 // The units that a unit uses, by their numbers.
-fn used_by(
-    alloc: Global,
-    names: &Scoped,
-    table: &Table<usize>,
-    unit: &Unit,
-) -> Result<Items<usize>, AllocError>
-    requires { AreUnits names.now table.now }
+fn used_by(alloc: Global, names: &Scoped, unit: &Unit) -> Result<Items<usize>, AllocError>
     ensures { IfOk result (λ ns. ns ≡ used_by names.now unit.now) }
 {
     let mut used = Items::new(alloc);
-    note_own(names, table, &mut used, unit)?;
-    note_calls(names, table, &mut used, unit.body.steps.as_slice())?;
+    note_own(names, &mut used, unit)?;
+    note_calls(names, &mut used, unit.body.steps.as_slice())?;
     Ok(used)
 }
 
 // Those that each unit uses.
-fn uses(
-    alloc: Global,
-    names: &Scoped,
-    table: &Table<usize>,
-) -> Result<Items<Items<usize>>, AllocError>
-    requires { AreUnits names.now table.now }
+fn uses(alloc: Global, names: &Scoped) -> Result<Items<Items<usize>>, AllocError>
     ensures { IfOk result (λ us. us ≡ map (used_by names.now) names.now.units) }
 {
     let mut all = Items::new(alloc);
     for unit in names.config().units.as_slice() {
-        all.push(used_by(alloc, names, table, unit)?)?;
+        all.push(used_by(alloc, names, unit)?)?;
     }
     Ok(all)
 }
@@ -277,8 +213,7 @@ fn paths_to(
 pub fn all_paths(alloc: Global, names: &Scoped) -> Result<Items<Items<bool>>, AllocError>
     ensures { IfOk result (λ ps. ps ≡ all_paths names.now) }
 {
-    let table = unit_table(alloc, names)?;
-    let uses = uses(alloc, names, &table)?;
+    let uses = uses(alloc, names)?;
     let units = names.config().units.as_slice();
     let count = units.len();
     let paths = paths_to(alloc, count, uses.as_slice())?;

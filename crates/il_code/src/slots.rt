@@ -6,9 +6,9 @@ ghost use Rattle.il_code.specs.Tasks.{AreIndexed};
 
 use crate::laying::Opening;
 use il_slots::flat::Cell;
-use lists::Items;
 use il_spec::name::Name;
 use il_table::Table;
+use lists::Items;
 use std::alloc::{AllocError, Global};
 
 /// The slot of each path.

@@ -11,8 +11,8 @@ use crate::laying::Opening;
 use crate::rows::FirstRows;
 use crate::slots::{cells_of, index_of};
 use il_slots::flat::Cell;
-use lists::Items;
 use il_table::Table;
+use lists::Items;
 use std::alloc::{AllocError, Global};
 use std::marker::Model;
 

@@ -13,7 +13,6 @@ use Rattle.il_spec.specs.declared.tree.Form.TheVariants.{Scalar as OfScalar, Arr
 use Rattle.il_spec.specs.declared.tree.Instruction.{Instruction}
 use Rattle.il_spec.specs.declared.tree.Instruction.TheVariants.{Load, Store, Not, Operate, Defer, Evaluate, Jump, Return, Call, Invoke}
 use Rattle.il_rules.specs.declared.names.StandardBlock.{StandardBlock}
-use Rattle.il_rules.specs.Names as rule
 use Rattle.il_rules.specs.Names.{Spelling, or_else, is_function_block, image_name, standard_function, standard_block, function_named, function_block_named}
 use Rattle.il_rules.specs.Order.{Uses, calls, declares}
 use Rattle.il_scope.specs.declared.entry.BlockType.{BlockType}

@@ -6,13 +6,13 @@ ghost use Rattle.il_rules.specs.Names.{entry_of, is_one_of, is_predeclared, mean
 ghost use Rattle.il_rules.specs.Declarations.{global_form, names_of_units};
 ghost use Rattle.il_scope.specs.Images.{image_in};
 ghost use Rattle.il_scope.specs.Units.{AreInputsOf};
-ghost use Rattle.il_scope.specs.Views.{block_type, function_number, program_number, type_of, binding_of, variables_of_block};
+ghost use Rattle.il_scope.specs.Views.{block_type, function_number, program_number, unit_number, type_of, binding_of, variables_of_block};
 
 use crate::entry::{Binding, BlockType, ImageName, VariableType};
 use crate::image::{ImageRow, image_in};
 use crate::lookup::{block_input, block_output, input_scalars, is_unit};
 use crate::meaning::meaning;
-use crate::numbers::{block_type, function_number, program_number};
+use crate::numbers::{block_type, function_number, program_number, unit_number};
 use crate::tables::{Tables, tables_of, type_of};
 use crate::words::is_predeclared;
 use il_rules::Written;
@@ -85,7 +85,14 @@ impl Scoped {
         is_unit(&self.tables.units, name)
     }
 
-    /// The number of the own function of a name (IEC 61131-3:2003, 2.5.1).
+    /// The number of the unit of a name (IEC 61131-3:2003, 2.5); a unit with a predeclared name is none.
+    pub fn unit(&self, name: &str) -> Option<usize>
+        ensures { result ≡ unit_number self.now name.now }
+    {
+        unit_number(self.written.tree(), &self.tables.units, name)
+    }
+
+    /// The number of the own function of a name (2.5.1).
     pub fn function(&self, name: &str) -> Option<usize>
         ensures { result ≡ function_number self.now name.now }
     {

@@ -1,20 +1,18 @@
 // What names mean in a unit, by the tables of its configuration.
 
-ghost use Rattle.std.specs.Prelude.{◌≡◌, Option, option_map};
+ghost use Rattle.std.specs.Prelude.{◌≡◌};
 ghost use Rattle.il_spec.specs.declared.tree.Config.{Config as Configuration};
 ghost use Rattle.il_spec.specs.declared.tree.Form.{Form};
 ghost use Rattle.il_rules.specs.declared.names.Origin.{Origin as Origins};
-ghost use Rattle.il_rules.specs.Names as rule;
 ghost use Rattle.il_rules.specs.Types as rules;
-ghost use Rattle.il_found.specs.Lowest.{lowest};
-ghost use Rattle.il_scope.specs.Views.{type_of, variable_of};
+ghost use Rattle.il_scope.specs.Views.{type_of};
 ghost use Rattle.il_typed.specs.Types.{elementary_of};
 
 use crate::fault::{LowestFault, TypeFault, unless};
 use crate::scope::{Scope, Target};
 use il_rules::names::{Origin, StandardFunction};
 use il_scope::UnitScope;
-use il_scope::entry::{Variable, VariableType};
+use il_scope::entry::VariableType;
 use il_scope::functions::standard_function;
 use il_spec::tree::{Elementary, Operand, Scalar};
 
@@ -26,6 +24,17 @@ pub fn elementary(scalar: Option<Scalar>) -> Option<Elementary>
     match scalar {
         Some(scalar) => Some(scalar.elementary),
         None => None,
+    }
+}
+
+// The type of a scalar variable.
+#[inline(always)]
+fn scalar_type(declared: VariableType) -> Option<Elementary>
+    ensures { (config : Configuration) (form : Form) → declared ≡ type_of config form → result ≡ rules.scalar_type form }
+{
+    match declared {
+        VariableType::Scalar(scalar) => Some(scalar.elementary),
+        _ => None,
     }
 }
 
@@ -46,16 +55,6 @@ fn is_written(origin: Origin) -> bool
     !matches!(origin, Origin::Input | Origin::ReadImage)
 }
 
-// 33 where a variable may not be written.
-fn written_fault(variable: Option<Variable>) -> LowestFault
-    ensures { (config : Configuration) (v : Option rule.Variable) → variable ≡ option_map (variable_of config) v → result ≡ lowest (rules.written_variable_numbers v) }
-{
-    match variable {
-        Some(variable) => unless(is_written(variable.origin), TypeFault::NotWritable),
-        None => LowestFault::none(),
-    }
-}
-
 impl<'n> Scope for UnitScope<'n> {
     ghost config = { λ n. n.config };
 
@@ -73,9 +72,15 @@ impl<'n> Scope for UnitScope<'n> {
     }
 
     fn name_target(&self, name: &str) -> Target {
-        Target {
-            declared: self.name_type(name),
-            written: written_fault(self.variable(name)),
+        match self.variable(name) {
+            Some(variable) => Target {
+                declared: scalar_type(variable.declared),
+                written: unless(is_written(variable.origin), TypeFault::NotWritable),
+            },
+            None => Target {
+                declared: None,
+                written: LowestFault::none(),
+            },
         }
     }
 
@@ -96,14 +101,14 @@ impl<'n> Scope for UnitScope<'n> {
 
     fn input_type(&self, name: &str, word: &str) -> Option<Option<Elementary>> {
         match self.input(name, word) {
-            Some(_) => Some(elementary(self.input_scalar(name, word))),
+            Some(declared) => Some(scalar_type(declared)),
             None => None,
         }
     }
 
     fn output_type(&self, name: &str, word: &str) -> Option<Option<Elementary>> {
         match self.output(name, word) {
-            Some(_) => Some(elementary(self.output_scalar(name, word))),
+            Some(declared) => Some(scalar_type(declared)),
             None => None,
         }
     }

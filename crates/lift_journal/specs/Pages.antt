@@ -32,10 +32,6 @@ pub record Adds (b : Page) (e : Entry) (answer : Reply) (c : Page) : Type 0 wher
   pub journal : c.journal ≡ b.journal ++ e ∷ []
   pub step : Enters b.config b.world e c.world answer
 
--- there is no room for another entry
-abbrev pub IsFull : Page → Type 0
-IsFull b = length b.journal ≡ b.capacity
-
 -- WHAT AN ANSWER SHOWS
 
 -- the scan begins with the variables and the snapshot at the end of a run that holds so many entries of the task

@@ -2,7 +2,7 @@ use Rattle.il_spec.specs.declared.keyword.Keyword.TheVariants as word
 use Rattle.il_spec.specs.Grammar.{TheWord}
 use Rattle.il_read.proofs.Chain.{up, it_comes}
 use Rattle.il_body.proofs.Missing.{optional_refused}
-use Rattle.il_body.proofs.lists.externals.Goals as goal
+use Rattle.il_body.proofs.variables.externals.Goals as goal
 
 pub returns-in_err-external_list-clause-refused : goal.returns-in_err-external_list-clause-refused
 returns-in_err-external_list-clause-refused c =

@@ -1,5 +1,5 @@
 use Rattle.std.proofs.Common.{rules}
-use Rattle.il_body.proofs.lists.comes.Goals as goal
+use Rattle.il_body.proofs.variables.comes.Goals as goal
 
 pub returns : goal.returns
 returns c = search rules

@@ -2,7 +2,7 @@ use Rattle.il_spec.specs.declared.keyword.Keyword.TheVariants as word
 use Rattle.il_spec.specs.Grammar.{TheWord}
 use Rattle.il_grammar_laws.proofs.Types.{external_one}
 use Rattle.il_read.proofs.Chain.{up, goes_on, item_refused, ended, was_there, was_missing}
-use Rattle.il_body.proofs.lists.externals_inside.Goals as goal
+use Rattle.il_body.proofs.variables.externals_inside.Goals as goal
 
 pub returns-in_err-external-clause-refused : goal.returns-in_err-external-clause-refused
 returns-in_err-external-clause-refused c =

@@ -2,7 +2,7 @@ use Rattle.std.proofs.Common.{List, [], ◌∷◌, ◌++◌, ◌∙◌, ap}
 use Rattle.il_spec.specs.declared.tree.Named.{Named}
 use Rattle.il_read.proofs.Chain.{up}
 use Rattle.il_body.proofs.External.{name_refused, colon_refused, type_refused, semicolon_refused, external_read}
-use Rattle.il_body.proofs.lists.external.Goals as goal
+use Rattle.il_body.proofs.variables.external.Goals as goal
 
 pub returns-in_err-name-clause-refused : goal.returns-in_err-name-clause-refused
 returns-in_err-name-clause-refused c = up _ c.from_residual.ensures.1 (name_refused c.args.source.now _ _ c.in_err-name.ensures.refused)

@@ -1,6 +1,6 @@
 use Rattle.il_read.proofs.Chain.{up}
 use Rattle.il_body.proofs.Missing.{list_refused}
-use Rattle.il_body.proofs.lists.list.Goals as goal
+use Rattle.il_body.proofs.variables.list.Goals as goal
 
 pub returns-in_err-declarations-clause-refused : goal.returns-in_err-declarations-clause-refused
 returns-in_err-declarations-clause-refused c =

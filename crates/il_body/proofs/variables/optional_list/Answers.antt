@@ -1,7 +1,7 @@
 use Rattle.il_spec.specs.Grammar.{TheWord}
 use Rattle.il_read.proofs.Chain.{up, it_comes}
 use Rattle.il_body.proofs.Missing.{optional_refused}
-use Rattle.il_body.proofs.lists.optional_list.Goals as goal
+use Rattle.il_body.proofs.variables.optional_list.Goals as goal
 
 pub returns-in_err-list-clause-refused : goal.returns-in_err-list-clause-refused
 returns-in_err-list-clause-refused c =

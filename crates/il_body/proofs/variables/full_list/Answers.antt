@@ -2,7 +2,7 @@ use Rattle.il_spec.specs.declared.keyword.Keyword.TheVariants as word
 use Rattle.il_spec.specs.Grammar.{TheWord}
 use Rattle.il_read.proofs.Chain.{up}
 use Rattle.il_body.proofs.Missing.{empty_refused, full_refused, it_stands}
-use Rattle.il_body.proofs.lists.full_list.Goals as goal
+use Rattle.il_body.proofs.variables.full_list.Goals as goal
 
 pub returns-then-word_stands-clause-refused : goal.returns-then-word_stands-clause-refused
 returns-then-word_stands-clause-refused c =

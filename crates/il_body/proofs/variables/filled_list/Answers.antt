@@ -1,7 +1,7 @@
 use Rattle.il_spec.specs.Grammar.{TheWord}
 use Rattle.il_read.proofs.Chain.{up, it_comes}
 use Rattle.il_body.proofs.Missing.{filled_refused, filled_read}
-use Rattle.il_body.proofs.lists.filled_list.Goals as goal
+use Rattle.il_body.proofs.variables.filled_list.Goals as goal
 
 pub returns-in_err-full_list-clause-refused : goal.returns-in_err-full_list-clause-refused
 returns-in_err-full_list-clause-refused c =

@@ -2,7 +2,7 @@ use Rattle.il_spec.specs.declared.keyword.Keyword.TheVariants as word
 use Rattle.il_read.proofs.Chain.{up}
 use Rattle.il_body.specs.Lists.{SpellsExternalsInside}
 use Rattle.il_body.proofs.Missing.{inside_refused}
-use Rattle.il_body.proofs.lists.external_list.Goals as goal
+use Rattle.il_body.proofs.variables.external_list.Goals as goal
 
 pub returns-in_err-externals_inside-clause-refused : goal.returns-in_err-externals_inside-clause-refused
 returns-in_err-externals_inside-clause-refused c =
