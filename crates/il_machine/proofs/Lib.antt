@@ -17,3 +17,4 @@ pub mod Copied
 pub mod Bases
 pub mod Shared
 pub mod Seated
+pub mod Standing

@@ -1,5 +1,5 @@
 -- The variables of a task as the group opens.
-use Rattle.std.proofs.Common.{◌≡◌, sym, ap, ◌∙◌, Some, subst, ℕ, List, All, length, replicate, arith}
+use Rattle.std.proofs.Common.{◌≡◌, refl, sym, ap, ◌∙◌, Some, subst, ℕ, List, All, length, replicate, arith}
 use Rattle.std.proofs.lemmas.Int.{ints}
 use Rattle.std.proofs.lemmas.List.{length-replicate}
 use Rattle.std.proofs.lemmas.List.Elements.{All-replicate}
@@ -7,7 +7,8 @@ use Rattle.std.proofs.lemmas.Option.{same_Some}
 use Rattle.il_spec.specs.declared.tree.Config.{Config}
 use Rattle.il_spec.specs.declared.tree.Unit.{Unit as ProgramUnit}
 use Rattle.il_run.specs.Ranges.{HoldsTask}
-use Rattle.il_run.specs.Scan.{opening_variables}
+use Rattle.il_run.specs.State.{Values}
+use Rattle.il_run.specs.Scan.{opening_variables, opening_globals}
 use Rattle.il_scan_laws.specs.Accepted.{IsAccepted}
 use Rattle.il_scan_laws.proofs.Opening.{variables_open}
 use Rattle.il_slots.specs.Layout.{Rows, Fits, view}
@@ -21,9 +22,10 @@ use Rattle.lift_spec.specs.declared.calls.Slot.{Slot}
 use Rattle.lift_spec.specs.declared.calls.Slot.TheVariants.{Free}
 use Rattle.lift_spec.specs.Image.{sizes_of, IsFloor, FieldsInRange, opening_car, opening_outputs, opening_image}
 use Rattle.lift_spec.specs.Calls.{SlotInRange}
-use Rattle.lift_spec.specs.Snapshot.{program_of}
+use Rattle.lift_spec.specs.Snapshot.{Beginning, program_of}
 use Rattle.lift_run_laws.specs.Tasks.{IsTaskOf}
 use Rattle.il_machine.specs.Scanning.{IsRunnable, HasTask, FitsOwn, OwnsDeclared, own_view, variables_in}
+use Rattle.il_machine.specs.Standing.{opening_beginning}
 use Rattle.il_machine.proofs.Owned.{fits_of, own_of}
 use Rattle.il_machine.proofs.Scans.{accepted}
 use Rattle.il_machine.proofs.Sizes.{floors_within}
@@ -69,3 +71,8 @@ opening_in c runs image z sizes is =
 pub free_in : (c : Config) (slots : List Slot) → slots ≡ replicate (sizes_of c).slots Free → (length slots ≡ (sizes_of c).slots) × ((last : ℕ) × All (SlotInRange (sizes_of c) last) slots)
 free_in c slots is =
     (ap length is ∙ length-replicate (sizes_of c).slots Free, (0, subst (All (SlotInRange (sizes_of c) 0)) (sym is) (All-replicate (SlotInRange (sizes_of c) 0) (sizes_of c).slots Free tt)))
+
+-- what a task's first scan begins with
+pub opens_in_group : (c : Config) (task : ℕ) (u : ProgramUnit) → program_of c task ≡ Some u → (v g : Values) (slots : List Slot) → v ≡ opening_variables c u → g ≡ opening_globals c → slots ≡ replicate (sizes_of c).slots Free
+    → ◌≡◌ {A = Beginning} (record { variables = v; snapshot = record { image = opening_image (sizes_of c); slots = slots; globals = g } }) (opening_beginning c task)
+opens_in_group c task u is v g slots v_is g_is slots_is = rw (v_is, g_is, slots_is, is) refl

@@ -22,7 +22,8 @@ use Rattle.il_exec.specs.Framing.{state_by}
 use Rattle.lift_spec.specs.Snapshot.{Beginning, program_of, begins_by, scan_begins}
 use Rattle.lift_run_laws.specs.Tasks.{IsTaskOf}
 use Rattle.il_machine.specs.Scanning.{IsRunnable, IsScanOf, IsScanState, kept_of, state_of, value_at}
-use Rattle.il_machine.specs.Scanned.{Begins, Finished, IsScan, Began, HaveSameValues, stands}
+use Rattle.il_machine.specs.Standing.{BeganAs}
+use Rattle.il_machine.specs.Ran.{Begins, Ran, IsRan, HaveSameValues, stands, standing, finished}
 use Rattle.il_machine.proofs.Scans.{state_is, scan_is}
 
 -- ROWS
@@ -151,20 +152,13 @@ written_long old new v first second count many wrote same numbers flags =
 
 -- THE TEST
 
-module _ (f : Finished) (scan : IsScan f) (c : Config) (task : ℕ) (s : Stored) (begins : Begins c task s) where
-  -- another task's scan, or another program's, did not begin so
-  pub other_task : (f.task ≡ task → ⊥) → Began f c task s → ⊥
-  other_task other began = other began.same_task
-
-  pub other_program : (f.program.config ≡ c → ⊥) → Began f c task s → ⊥
-  other_program other began = other began.same_program
-
+module _ (f : Ran) (scan : IsRan f) (c : Config) (task : ℕ) (s : Stored) (begins : Begins c task s) where
   -- one of this task and program began so exactly where it began with the same values
-  pub began_by : f.program.config ≡ c → f.task ≡ task → (u : ProgramUnit) → program_of c task ≡ Some u → (cells : List Cell) → cells ≡ program_cells c u → (first : Rows) → first ≡ f.first.rows → (b : Bool) → (b ≡ true) ↔ HaveSameValues cells first s.rows → (b ≡ true) ↔ Began f c task s
+  pub began_by : f.config ≡ c → f.task ≡ task → (u : ProgramUnit) → program_of c task ≡ Some u → (cells : List Cell) → cells ≡ program_cells c u → (first : Rows) → first ≡ f.first.rows → (b : Bool) → (b ≡ true) ↔ HaveSameValues cells first s.rows → (b ≡ true) ↔ BeganAs (finished f) (standing c task s)
   began_by program same u is cells cells_are first first_is b test =
       let here : Begins c task f.first = subst (λ n. Begins c n f.first) same (subst (λ k. Begins k f.task f.first) program scan.begins) in
       let runs : IsRunnable c = subst IsRunnable program scan.runnable in
-      let stands_here : stands f.program.config f.task f.first ≡ stands c task f.first = ap₂ (λ k n. stands k n f.first) program same in (
+      let stands_here : stands f.config f.task f.first ≡ stands c task f.first = ap₂ (λ k n. stands k n f.first) program same in (
         λ yes. record {
           same_program = program;
           same_task = same;

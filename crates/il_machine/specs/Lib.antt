@@ -2,5 +2,6 @@ pub mod Nesting
 pub mod Scanning
 pub mod Listing
 pub mod Starting
-pub mod Scanned
+pub mod Standing
+pub mod Ran
 pub mod Sharing

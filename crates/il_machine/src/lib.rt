@@ -1,6 +1,7 @@
 //! The machine: it runs the tasks' programs, as flat code on rows of slots.
 #![tactic(auto)]
 
+mod bench;
 mod globals;
 mod outputs;
 pub mod rows;
@@ -17,5 +18,5 @@ pub use il_run::value::Value;
 pub use il_slots::flat::Cell;
 pub use rows::variable;
 pub use scanned::{OpenScan, Scanned, scan};
-pub use store::{Stepped, Store, finish, step};
+pub use store::{Begin, Stepped, Store, finish, step};
 pub use verified::{TaskInfo, UnitInfo, Verified};

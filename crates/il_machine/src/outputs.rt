@@ -7,7 +7,7 @@ ghost use Rattle.lift_spec.specs.Snapshot.{whole_of, truth_of, motor_of, wishes_
 ghost use Rattle.il_machine.specs.Scanning.{state_of, kept_of, value_at, IsScanOf};
 
 use crate::rows::value;
-use crate::store::Store;
+use crate::bench::Bench;
 use crate::verified::Verified;
 use il_exec::rows::Rows;
 use il_run::value::Value;
@@ -66,7 +66,7 @@ fn named_at(rows: &Rows, cells: &[Cell], slot: usize) -> u8
     one_of(whole_of(value(rows, cells, slot)))
 }
 
-impl Store {
+impl Bench {
     // A variable of the scan, by its path.
     fn kept_value(&self, verified: &Verified, task: u8, path: &str) -> Option<Value>
         requires scan { IsScanOf verified.now.config task self.now }

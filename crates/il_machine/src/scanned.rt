@@ -1,8 +1,8 @@
 // Scans that are handed from a start to a commit.
 
 ghost use Rattle.std.specs.Prelude.{◌≡◌, ◌↔◌, ◌<◌, ℕ, true, length};
-ghost use Rattle.il_machine.specs.Scanning.{IsScanOf};
-ghost use Rattle.il_machine.specs.Scanned.{Begins, IsScan, Began, HaveSameValues};
+ghost use Rattle.il_machine.specs.Ran.{HaveSameValues};
+ghost use Rattle.il_machine.specs.Standing.{IsAtStart, IsScan, BeganAs};
 
 use crate::rows::{copy_front, value};
 use crate::store::Store;
@@ -15,25 +15,22 @@ use il_slots::flat::Cell;
 use std::marker::Model;
 use std::snapshot::Snapshot;
 
-/// A scan that has begun: its task, and a store at the scan's start.
+/// A scan that has begun: a store at a scan's start.
 #[derive(Drop)]
 pub struct OpenScan {
-    task: u8,
-    scan: Scan,
-    first: Rows,
+    store: Store,
 }
 
 impl Model for OpenScan {
-    ghost use Rattle.il_machine.specs.Scanned.{Opened, opened_code};
-    ghost use Rattle.std.specs.Prelude.{◌≡◌};
+    ghost use Rattle.il_machine.specs.Standing.{Standing, standing_code, IsAtStart};
 
-    ghost Value = { Opened };
+    ghost Value = { Standing };
 
-    ghost coded = { opened_code };
+    ghost coded = { standing_code };
 
-    ghost view = { λ o. record { task = o.task; store = o.scan } };
+    ghost view = { λ o. o.store };
 
-    ghost invariant = { λ o. o.first ≡ o.scan.rows };
+    ghost invariant = { λ o. IsAtStart o.store };
 }
 
 /// A scan that was run to its end. There is no other way to make one than `scan`, so it is the definitions' scan of its task, its
@@ -48,42 +45,47 @@ pub struct Scanned<'v> {
 }
 
 impl<'v> Model for Scanned<'v> {
-    ghost use Rattle.il_machine.specs.Scanned.{Finished, finished_code, IsScan};
+    ghost use Rattle.il_machine.specs.Standing.{Finished, finished_code};
+    ghost use Rattle.il_machine.specs.Ran.{IsRan, finished};
     ghost use Rattle.std.specs.Prelude.{◌≡◌};
 
     ghost Value = { Finished };
 
     ghost coded = { finished_code };
 
-    ghost view = { λ s. record { program = s.verified.now; task = s.task; first = s.began.value; last = s.scan } };
+    ghost view = { λ s. finished record { config = s.verified.now.config; task = s.task; first = s.began.value; last = s.scan } };
 
-    ghost invariant = { λ s. (s.first ≡ s.began.value.rows) × IsScan record { program = s.verified.now; task = s.task; first = s.began.value; last = s.scan } };
+    ghost invariant = { λ s. (s.first ≡ s.began.value.rows) × IsRan record { config = s.verified.now.config; task = s.task; first = s.began.value; last = s.scan } };
 }
 
 impl OpenScan {
-    /// A store of a task, at a scan's start. No allocation.
-    pub fn of(task: u8, store: Store) -> OpenScan
-        ensures { result ≡ record { task = task; store = store } }
+    /// A scan that begins as this store stands. No allocation.
+    pub fn of(store: Store) -> OpenScan
+        requires { IsAtStart store }
+        ensures { result ≡ store }
     {
-        let (scan, mut first) = store.into_parts();
-        copy_front(&mut first, &scan.rows);
-        OpenScan { task, scan, first }
+        OpenScan { store }
+    }
+
+    /// It stands at a scan's start.
+    pub fn begins(&self)
+        ensures { IsAtStart self.now }
+    {
+        let _task = self.store.task();
     }
 }
 
 /// Runs a scan from its start to its end (IEC 61131-3:2003, 3.2). No allocation.
 pub fn scan<'v>(verified: &'v Verified, begun: OpenScan) -> Scanned<'v>
-    requires { Begins verified.now.config begun.task begun.store }
-    ensures program { result.program ≡ verified.now }
+    requires { begun.config ≡ verified.now.config }
+    ensures program { result.config ≡ begun.config }
     ensures task { result.task ≡ begun.task }
-    ensures first { result.first ≡ begun.store }
+    ensures first { result.first ≡ begun.state }
 {
     let _config = verified.config();
-    let OpenScan {
-        task,
-        mut scan,
-        first,
-    } = begun;
+    let OpenScan { store } = begun;
+    let (task, mut scan, mut first) = store.into_parts();
+    copy_front(&mut first, &scan.rows);
     let began = Snapshot::of(&scan);
     let budget = verified.budget(task);
     scan.run(verified.running(task), budget);
@@ -138,29 +140,35 @@ impl<'v> Scanned<'v> {
 
     /// Whether it is a scan of this program, by value: the two configurations are compared part by part.
     pub fn is_of(&self, verified: &Verified) -> bool
-        ensures { (result ≡ true) ↔ (self.now.program.config ≡ verified.now.config) }
+        ensures { (result ≡ true) ↔ (self.now.config ≡ verified.now.config) }
     {
         self.verified.config().same(verified.config())
     }
 
-    /// Whether task, variables and snapshot of a scan of this program are these, by value: it began as this store stands, in which a
-    /// scan of the task begins.
-    pub fn began(&self, verified: &Verified, task: u8, store: &Store) -> bool
-        requires begins { Begins verified.now.config task store.now }
-        requires program { self.now.program.config ≡ verified.now.config }
-        ensures { (result ≡ true) ↔ Began self.now verified.now.config task store.now }
+    /// Whether task, variables and snapshot of a scan of this program are those of a store at a scan's start, by value.
+    pub fn began_as(&self, verified: &Verified, store: &Store) -> bool
+        requires program { self.now.config ≡ verified.now.config }
+        requires of { store.now.config ≡ verified.now.config }
+        requires begins { IsAtStart store.now }
+        ensures { (result ≡ true) ↔ BeganAs self.now store.now }
     {
-        if self.task != task {
+        if self.task != store.task() {
             return false;
         }
-        same_values(&self.first, store.rows(), verified.task_code(task).cells())
+        same_values(&self.first, store.rows(verified), verified.task_code(self.task).cells())
     }
 
     /// The store of the scan, at its end. No allocation.
     pub fn into_store(self) -> Store
-        ensures { result ≡ self.entry.last }
+        ensures { result ≡ record { config = self.entry.config; task = self.entry.task; state = self.entry.last } }
     {
-        let Scanned { scan, first, .. } = self;
-        Store { scan, first }
+        let Scanned {
+            verified,
+            task,
+            scan,
+            first,
+            ..
+        } = self;
+        Store::of_parts(verified, task, scan, first)
     }
 }

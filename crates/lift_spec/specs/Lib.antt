@@ -9,3 +9,4 @@ pub mod World
 pub mod Plant
 pub mod Codes
 pub mod EventFaults
+pub mod WorldCodes

@@ -1,37 +1,22 @@
-use Rattle.std.proofs.Common.{◌≡◌, ap, ◌∙◌, length}
-use Rattle.il_exec.specs.Going.{Stored}
-use Rattle.il_machine.proofs.Values.{same_length}
-use Rattle.il_machine.proofs.Ending.{end_there, run_out}
-use Rattle.il_machine.proofs.Keeping.{variables_declared}
+use Rattle.std.proofs.Common.{◌∙◌, ap}
+use Rattle.il_run.specs.State.{State}
+use Rattle.il_machine.proofs.Standing.{scan_here, scan_back, stands_here, still_of, reaches_so, goes_so}
 use Rattle.il_machine.proofs.store.finish.Goals as goal
 
-pub run-requires-clause-ends : goal.run-requires-clause-ends
-run-requires-clause-ends c =
-    end_there c.args.verified.now.config c.config-config.ensures.runnable c.args.task c.args.store.now _ c.store.view_is c.requires.scan c.requires.going _ c.running.ensures.runs _ c.budget-budget.ensures
+pub finish-requires-clause-scan : goal.finish-requires-clause-scan
+finish-requires-clause-scan c = scan_here c.store.inside.program.value.config c.store.inside.task c.store.inside.bench c.args.store.now c.store.view_is c.args.verified.now.config c.args.task c.requires.of c.store.inside.bench c.store.invariant.1
 
-pub returns-clause-scan : goal.returns-clause-scan
-returns-clause-scan c =
-    (run_out c.args.verified.now.config c.config-config.ensures.runnable c.args.task c.args.store.now _ c.run.new.self c.run.result c.store.view_is c.requires.scan c.requires.going _ c.running.ensures.runs _ c.budget-budget.ensures c.run.ensures).scan
-
-pub returns-clause-ended : goal.returns-clause-ended
-returns-clause-ended c =
-    (run_out c.args.verified.now.config c.config-config.ensures.runnable c.args.task c.args.store.now _ c.run.new.self c.run.result c.store.view_is c.requires.scan c.requires.going _ c.running.ensures.runs _ c.budget-budget.ensures c.run.ensures).over
+pub finish-requires-clause-going : goal.finish-requires-clause-going
+finish-requires-clause-going c = goes_so c.store.inside.program.value.config c.store.inside.task c.store.inside.bench c.args.store.now c.store.view_is c.args.verified.now.config c.args.task c.requires.of c.requires.going
 
 pub returns-clause-steps : goal.returns-clause-steps
-returns-clause-steps c =
-    (run_out c.args.verified.now.config c.config-config.ensures.runnable c.args.task c.args.store.now _ c.run.new.self c.run.result c.store.view_is c.requires.scan c.requires.going _ c.running.ensures.runs _ c.budget-budget.ensures c.run.ensures).reaches
+returns-clause-steps c = reaches_so c.store.inside.program.value.config c.store.inside.task c.store.inside.bench c.args.store.now c.store.view_is c.args.verified.now.config c.args.task c.requires.of c.finish.new.store c.finish.result c.finish.ensures.steps
 
-pub returns-clause-some : goal.returns-clause-some
-returns-clause-some c =
-    (run_out c.args.verified.now.config c.config-config.ensures.runnable c.args.task c.args.store.now _ c.run.new.self c.run.result c.store.view_is c.requires.scan c.requires.going _ c.running.ensures.runs _ c.budget-budget.ensures c.run.ensures).some
+pub returns-clause-ended : goal.returns-clause-ended
+returns-clause-ended c = ap (λ (x : State). x.frames) (stands_here c.store.inside.program.value.config c.store.inside.task c.store.inside.bench c.args.store.now c.store.view_is c.args.verified.now.config c.args.task c.requires.of c.finish.new.store) ∙ c.finish.ensures.ended
 
-pub returns-clause-own : goal.returns-clause-own
-returns-clause-own c =
-    variables_declared c.args.verified.now.config c.config-config.ensures.runnable c.args.task c.run.new.self
-    (run_out c.args.verified.now.config c.config-config.ensures.runnable c.args.task c.args.store.now _ c.run.new.self c.run.result c.store.view_is c.requires.scan c.requires.going _ c.running.ensures.runs _ c.budget-budget.ensures c.run.ensures).scan
+pub returns-clause-of : goal.returns-clause-of
+returns-clause-of c = still_of c.store.inside.program.value.config c.store.inside.task c.store.inside.bench c.args.store.now c.store.view_is c.args.verified.now.config c.args.task c.requires.of c.finish.new.store
 
 pub invariant_of-store : goal.invariant_of-store
-invariant_of-store c =
-    let after = (run_out c.args.verified.now.config c.config-config.ensures.runnable c.args.task c.args.store.now _ c.run.new.self c.run.result c.store.view_is c.requires.scan c.requires.going _ c.running.ensures.runs _ c.budget-budget.ensures c.run.ensures).scan in
-    let long = same_length c.args.verified.now.config c.args.task c.args.store.now c.run.new.self c.requires.scan after in
-    (c.store.invariant.0 ∙ ap (λ (s : Stored). length s.rows.numbers) c.store.view_is ∙ long.0, c.store.invariant.1 ∙ ap (λ (s : Stored). length s.rows.flags) c.store.view_is ∙ long.1)
+invariant_of-store c = (c.store.invariant.0, scan_back c.store.inside.program.value.config c.store.inside.task c.store.inside.bench c.args.store.now c.store.view_is c.args.verified.now.config c.args.task c.requires.of c.finish.new.store c.finish.ensures.scan)

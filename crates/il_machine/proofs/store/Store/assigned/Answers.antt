@@ -1,40 +1,19 @@
-use Rattle.std.proofs.Common.{◌<◌, ◌≤◌, ◌∙◌, [], ◌∷◌, refl, ap, length, arith}
-use Rattle.std.proofs.lemmas.List.{length-append}
-use Rattle.lift_spec.specs.declared.image.Sizes.{Sizes}
-use Rattle.il_machine.proofs.Outgoing.{assign_room, few_slots, assign_low, assign_next, assign_all}
+use Rattle.std.proofs.Common.{◌≡◌, ◌∙◌, ap, sym, subst, true, ◌↔◌, [], ◌≤◌}
+use Rattle.il_machine.specs.Standing.{Standing}
+use Rattle.il_machine.proofs.Standing.{now_is, own_task, scan_here}
+use Rattle.std.proofs.Common.{ℕ}
+use Rattle.lift_spec.specs.Image.{sizes_of}
+use Rattle.lift_spec.specs.Snapshot.{assigned}
+use Rattle.il_machine.specs.Scanning.{IsScanOf}
+use Rattle.il_machine.specs.Ran.{standing}
 use Rattle.il_machine.proofs.store.Store.assigned.Goals as goal
 
-pub overflow_sub-first : goal.overflow_sub-first
-overflow_sub-first c =
-    assign_room c.args.verified.now.config c.config-config.ensures.runnable c.args.self.now c.requires.scan c.cells-cells.result.now c.args.self.now.rows c.sizes-count.result.slots (c.cells-cells.ensures ∙ (c.task_code.ensures c.requires.scan.0 c.requires.scan.1.program).cells) refl
-    (ap (λ (z : Sizes). z.slots) c.sizes-count.ensures)
-
-pub named_at-requires-clause-least : goal.named_at-requires-clause-least
-named_at-requires-clause-least c =
-    (assign_low c.args.verified.now.config c.config-config.ensures.runnable c.args.self.now c.requires.scan c.cells-cells.result.now c.rows.result.now c.sizes-count.result.slots (c.cells-cells.ensures ∙ (c.task_code.ensures c.requires.scan.0 c.requires.scan.1.program).cells) c.rows.ensures
-    (ap (λ (z : Sizes). z.slots) c.sizes-count.ensures) c.slots.slot (omega arith)).0
-
-pub named_at-requires-clause-most : goal.named_at-requires-clause-most
-named_at-requires-clause-most c =
-    (assign_low c.args.verified.now.config c.config-config.ensures.runnable c.args.self.now c.requires.scan c.cells-cells.result.now c.rows.result.now c.sizes-count.result.slots (c.cells-cells.ensures ∙ (c.task_code.ensures c.requires.scan.0 c.requires.scan.1.program).cells) c.rows.ensures
-    (ap (λ (z : Sizes). z.slots) c.sizes-count.ensures) c.slots.slot (omega arith)).1
-
-pub push-requires : goal.push-requires
-push-requires c =
-    let few : c.sizes-count.result.slots ≤ 64 =
-    few_slots c.args.verified.now.config c.config-config.ensures.runnable c.args.self.now c.requires.scan c.cells-cells.result.now c.rows.result.now c.sizes-count.result.slots (c.cells-cells.ensures ∙ (c.task_code.ensures c.requires.scan.0 c.requires.scan.1.program).cells) c.rows.ensures
-    (ap (λ (z : Sizes). z.slots) c.sizes-count.ensures) in
-    let below : c.slots.slot < c.sizes-count.result.slots = omega arith in
-    (omega arith, omega (arith, few, below, c.slots.invariant.count))
-
-pub slots-preserved : goal.slots-preserved
-slots-preserved c = record {
-  count = let e = ap length c.push.ensures in let n = length-append c.slots.cars (c.named_at.result ∷ []) in let same = c.slots.invariant.count in omega (arith, e, n, same);
-  rest = assign_next c.args.verified.now.config c.config-config.ensures.runnable c.args.self.now c.requires.scan c.cells-cells.result.now c.rows.result.now c.sizes-count.result.slots (c.cells-cells.ensures ∙ (c.task_code.ensures c.requires.scan.0 c.requires.scan.1.program).cells) c.rows.ensures
-      (ap (λ (z : Sizes). z.slots) c.sizes-count.ensures) c.slots.slot (omega arith) c.slots.cars c.push.new.self c.named_at.result c.named_at.ensures c.push.ensures c.slots.invariant.rest;
-}
+pub assigned-requires : goal.assigned-requires
+assigned-requires c =
+    subst (λ (n : ℕ). IsScanOf c.args.verified.now.config n c.self.inside.bench) (ap (λ (s : Standing). s.task) c.self.view_is ∙ c.requires.group)
+    (scan_here c.self.inside.program.value.config c.self.inside.task c.self.inside.bench c.args.self.now c.self.view_is c.args.verified.now.config c.self.inside.task (own_task c.self.inside.program.value.config c.self.inside.task c.self.inside.bench c.args.self.now c.self.view_is c.args.verified.now.config c.requires.program) c.self.inside.bench c.self.invariant.1)
 
 pub returns : goal.returns
 returns c =
-    assign_all c.args.verified.now.config c.config-config.ensures.runnable c.args.self.now c.requires.scan c.cells-cells.result.now c.args.self.now.rows c.sizes-count.result.slots (c.cells-cells.ensures ∙ (c.task_code.ensures c.requires.scan.0 c.requires.scan.1.program).cells) refl
-    (ap (λ (z : Sizes). z.slots) c.sizes-count.ensures) c.slots.slot (omega arith) (omega arith) c.slots.cars c.slots.invariant.rest
+    subst (λ (s : Standing). c.assigned.result ≡ assigned (sizes_of s.config).slots s.state.values)
+    (ap (λ (n : ℕ). standing c.args.verified.now.config n c.self.inside.bench) (sym (ap (λ (s : Standing). s.task) c.self.view_is ∙ c.requires.group)) ∙ now_is c.self.inside.program.value.config c.self.inside.task c.self.inside.bench c.args.self.now c.self.view_is c.args.verified.now.config c.self.inside.task (own_task c.self.inside.program.value.config c.self.inside.task c.self.inside.bench c.args.self.now c.self.view_is c.args.verified.now.config c.requires.program)) c.assigned.ensures

@@ -1,18 +1,22 @@
-use Rattle.std.proofs.Common.{◌≡◌, rules, subst, sym, take, length}
-use Rattle.il_slots.specs.Layout.{rows}
-use Rattle.il_machine.specs.Scanning.{OwnsDeclared}
-use Rattle.il_machine.proofs.Keeping.{variables_declared, left_so, takes_variables}
+use Rattle.std.proofs.Common.{◌≡◌, ◌∙◌, ap, sym, subst, true, ◌↔◌, [], ◌≤◌}
+use Rattle.il_machine.specs.Standing.{Standing}
+use Rattle.il_machine.proofs.Standing.{now_is, own_task, scan_here}
+use Rattle.il_run.specs.Scan.{restricted}
+use Rattle.il_machine.specs.Scanning.{FitsOwn, OwnsDeclared, variables_in}
 use Rattle.il_machine.proofs.store.Store.copy_variables.Goals as goal
+
+pub copy_variables-requires-clause-scan : goal.copy_variables-requires-clause-scan
+copy_variables-requires-clause-scan c = scan_here c.self.inside.program.value.config c.self.inside.task c.self.inside.bench c.args.self.now c.self.view_is c.args.verified.now.config c.self.inside.task (own_task c.self.inside.program.value.config c.self.inside.task c.self.inside.bench c.args.self.now c.self.view_is c.args.verified.now.config c.requires.program) c.self.inside.bench c.self.invariant.1
+
+pub copy_variables-requires-clause-fits : goal.copy_variables-requires-clause-fits
+copy_variables-requires-clause-fits c = subst (λ (s : Standing). FitsOwn s.config s.task c.args.variables.now) (sym (now_is c.self.inside.program.value.config c.self.inside.task c.self.inside.bench c.args.self.now c.self.view_is c.args.verified.now.config c.self.inside.task (own_task c.self.inside.program.value.config c.self.inside.task c.self.inside.bench c.args.self.now c.self.view_is c.args.verified.now.config c.requires.program))) c.requires.fits
 
 pub returns-clause-variables : goal.returns-clause-variables
 returns-clause-variables c =
-    let wrote : c.copy_front.new.first ≡ rows (take (length c.args.variables.now.numbers) c.args.self.now.rows.numbers) (take (length c.args.variables.now.flags) c.args.self.now.rows.flags) = search rules in
-    takes_variables c.args.verified.now.config c.config-config.ensures.runnable c.args.task c.args.self.now c.requires.scan c.args.variables.now c.copy_front.new.first c.requires.fits wrote
-
-pub returns-clause-restricted : goal.returns-clause-restricted
-returns-clause-restricted c =
-    left_so c.args.verified.now.config c.config-config.ensures.runnable c.args.task c.args.self.now c.requires.scan c.args.variables.now c.copy_front.new.first c.requires.fits (returns-clause-variables c)
+    subst (λ (s : Standing). variables_in s.config s.task c.copy_variables.new.variables ≡ restricted (variables_in s.config s.task c.args.variables.now) s.state.values) (now_is c.self.inside.program.value.config c.self.inside.task c.self.inside.bench c.args.self.now c.self.view_is c.args.verified.now.config c.self.inside.task (own_task c.self.inside.program.value.config c.self.inside.task c.self.inside.bench c.args.self.now c.self.view_is c.args.verified.now.config c.requires.program)) c.copy_variables.ensures.restricted
 
 pub returns-clause-own : goal.returns-clause-own
-returns-clause-own c =
-    subst (OwnsDeclared c.args.verified.now.config c.args.task) (sym (returns-clause-variables c)) (variables_declared c.args.verified.now.config c.config-config.ensures.runnable c.args.task c.args.self.now c.requires.scan)
+returns-clause-own c = subst (λ (s : Standing). OwnsDeclared s.config s.task (variables_in s.config s.task c.copy_variables.new.variables)) (now_is c.self.inside.program.value.config c.self.inside.task c.self.inside.bench c.args.self.now c.self.view_is c.args.verified.now.config c.self.inside.task (own_task c.self.inside.program.value.config c.self.inside.task c.self.inside.bench c.args.self.now c.self.view_is c.args.verified.now.config c.requires.program)) c.copy_variables.ensures.own
+
+pub returns-clause-fits : goal.returns-clause-fits
+returns-clause-fits c = subst (λ (s : Standing). FitsOwn s.config s.task c.copy_variables.new.variables) (now_is c.self.inside.program.value.config c.self.inside.task c.self.inside.bench c.args.self.now c.self.view_is c.args.verified.now.config c.self.inside.task (own_task c.self.inside.program.value.config c.self.inside.task c.self.inside.bench c.args.self.now c.self.view_is c.args.verified.now.config c.requires.program)) c.copy_variables.ensures.fits

@@ -1,14 +1,15 @@
-use Rattle.il_machine.specs.Sharing.{globals_in}
+use Rattle.il_machine.proofs.Standing.{scan_here, scan_back, stands_here, still_of}
+use Rattle.std.proofs.Common.{◌∙◌}
 use Rattle.il_machine.proofs.store.Store.restart.Goals as goal
 
-pub listed-listed-requires-clause-there : goal.listed-listed-requires-clause-there
-listed-listed-requires-clause-there c = (c.requires.scan.0, c.requires.scan.1)
-
-pub begin-requires-clause-rows : goal.begin-requires-clause-rows
-begin-requires-clause-rows c = (c.requires.scan.0, c.requires.scan.1, c.requires.scan.2.framed.fits)
-
-pub begin-requires-clause-listed : goal.begin-requires-clause-listed
-begin-requires-clause-listed c = (globals_in c.args.verified.now.config c.args.globals.now, c.listed-listed.ensures)
+pub restart-requires-clause-scan : goal.restart-requires-clause-scan
+restart-requires-clause-scan c = scan_here c.self.inside.program.value.config c.self.inside.task c.self.inside.bench c.args.self.now c.self.view_is c.args.verified.now.config c.args.task c.requires.of c.self.inside.bench c.self.invariant.1
 
 pub returns-clause-begins : goal.returns-clause-begins
-returns-clause-begins c = c.begin.ensures.begins (globals_in c.args.verified.now.config c.args.globals.now) c.listed-listed.ensures
+returns-clause-begins c = stands_here c.self.inside.program.value.config c.self.inside.task c.self.inside.bench c.args.self.now c.self.view_is c.args.verified.now.config c.args.task c.requires.of c.restart.new.self ∙ c.restart.ensures.begins
+
+pub returns-clause-of : goal.returns-clause-of
+returns-clause-of c = still_of c.self.inside.program.value.config c.self.inside.task c.self.inside.bench c.args.self.now c.self.view_is c.args.verified.now.config c.args.task c.requires.of c.restart.new.self
+
+pub invariant_of-self : goal.invariant_of-self
+invariant_of-self c = (c.self.invariant.0, scan_back c.self.inside.program.value.config c.self.inside.task c.self.inside.bench c.args.self.now c.self.view_is c.args.verified.now.config c.args.task c.requires.of c.restart.new.self c.restart.ensures.scan)

@@ -1,7 +1,7 @@
 use Rattle.std.proofs.Common.{◌≡◌, ◌+◌, ◌-◌, ◌++◌, length}
 use Rattle.lift_spec.specs.Snapshot.{assigned_from}
 use Rattle.il_machine.specs.Scanning.{state_of, kept_of}
-use Rattle.il_machine.proofs.store.Store.assigned.Given as goal
+use Rattle.il_machine.proofs.bench.Bench.assigned.Given as goal
 
 -- those so far, with those that are left, are all
 abbrev pub invariant-slots : goal.invariant-slots

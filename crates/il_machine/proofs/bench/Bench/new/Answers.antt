@@ -1,8 +1,13 @@
-use Rattle.std.proofs.Common.{◌∙◌, sym, ap, subst}
+use Rattle.std.proofs.Common.{◌∙◌, sym, ap, subst, replicate}
+use Rattle.lift_spec.specs.declared.calls.Slot.TheVariants.{Free}
+use Rattle.lift_spec.specs.declared.image.Sizes.{Sizes}
+use Rattle.lift_spec.specs.Snapshot.{scan_begins}
+use Rattle.il_machine.specs.Scanning.{variables_in}
+use Rattle.il_machine.proofs.Opened.{opens_in_group}
 use Rattle.il_run.specs.Ranges.{HoldGlobals}
 use Rattle.il_scan_laws.proofs.Opening.{globals_open}
 use Rattle.il_machine.specs.Sharing.{globals_in}
-use Rattle.il_machine.proofs.store.Store.new.Goals as goal
+use Rattle.il_machine.proofs.bench.Bench.new.Goals as goal
 
 pub opened-requires-clause-rows : goal.opened-requires-clause-rows
 opened-requires-clause-rows c =
@@ -21,3 +26,13 @@ opened-requires-clause-first c =
     let u = c.requires.there.0 in
     let is = c.requires.there.1 in
     (u, is, record { numbers = c.in_ok-first.ensures.numbers ∙ c.slot_count-count.ensures.count u is.program; flags = c.in_ok-first.ensures.flags ∙ c.slot_count-count.ensures.count u is.program })
+
+pub returns-clause-opens : goal.returns-clause-opens
+returns-clause-opens c =
+    let config = c.args.verified.now.config in
+    let u = c.requires.there.0 in
+    let is = c.requires.there.1.program in
+    c.opened.ensures.begins
+    ∙ ap (scan_begins config c.args.task)
+    (opens_in_group config c.args.task u is _ _ _ (ap (variables_in config c.args.task) c.in_ok-variables.ensures ∙ c.opening_variables.ensures.variables u is) (ap (globals_in config) c.in_ok-globals.ensures ∙ c.opening_globals.ensures.opening)
+    (c.in_ok-slots.ensures ∙ ap (λ (z : Sizes). replicate z.slots Free) c.sizes.ensures))

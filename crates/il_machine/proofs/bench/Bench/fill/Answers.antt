@@ -2,10 +2,10 @@ use Rattle.std.proofs.Common.{◌≡◌, sym, ap, ◌∙◌, length}
 use Rattle.std.proofs.lemmas.List.{length-map}
 use Rattle.il_exec.specs.Going.{Stored}
 use Rattle.il_image.specs.Image.{image_values}
-use Rattle.il_machine.specs.declared.store.Store.TheInside.{Inside}
+use Rattle.il_machine.specs.declared.bench.Bench.TheInside.{Inside}
 use Rattle.il_machine.specs.Starting.{shared_value, listed_values}
 use Rattle.il_machine.proofs.Values.{written_long}
-use Rattle.il_machine.proofs.store.Store.fill.Goals as goal
+use Rattle.il_machine.proofs.bench.Bench.fill.Goals as goal
 
 pub invariant_of-self : goal.invariant_of-self
 invariant_of-self c =

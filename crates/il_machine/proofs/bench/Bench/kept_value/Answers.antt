@@ -6,7 +6,7 @@ use Rattle.il_slots.specs.Paths.{slot_at}
 use Rattle.il_slots.specs.Program.{program_cells}
 use Rattle.il_machine.specs.Scanning.{value_at}
 use Rattle.il_machine.proofs.Outgoing.{reads_kept}
-use Rattle.il_machine.proofs.store.Store.kept_value.Goals as goal
+use Rattle.il_machine.proofs.bench.Bench.kept_value.Goals as goal
 
 pub returns-in_err-slot : goal.returns-in_err-slot
 returns-in_err-slot c =

@@ -5,7 +5,7 @@ use Rattle.lift_spec.specs.declared.image.Sizes.{Sizes}
 use Rattle.il_image.specs.Image.{image_values}
 use Rattle.il_machine.specs.Starting.{shared_value, listed_values}
 use Rattle.il_machine.proofs.Restarts.{room, given_values, starts_as, starts_scan}
-use Rattle.il_machine.proofs.store.Store.begin.Goals as goal
+use Rattle.il_machine.proofs.bench.Bench.begin.Goals as goal
 
 pub fill-requires-clause-numbers : goal.fill-requires-clause-numbers
 fill-requires-clause-numbers c =

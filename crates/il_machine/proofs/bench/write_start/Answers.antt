@@ -3,7 +3,7 @@ use Rattle.std.proofs.lemmas.List.{length-map}
 use Rattle.il_image.specs.Image.{filled, image_values}
 use Rattle.il_machine.specs.Starting.{shared_value, listed_values}
 use Rattle.il_machine.proofs.Restarts.{start_room, start_written}
-use Rattle.il_machine.proofs.store.write_start.Goals as goal
+use Rattle.il_machine.proofs.bench.write_start.Goals as goal
 
 pub write_image-requires-clause-numbers : goal.write_image-requires-clause-numbers
 write_image-requires-clause-numbers c =

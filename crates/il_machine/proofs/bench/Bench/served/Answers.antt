@@ -2,7 +2,7 @@ use Rattle.std.proofs.lemmas.Int.{to_z-of_z}
 use Rattle.std.proofs.Common.{rules, SFits, w64, ◌∙◌, ap, sym, subst, ℤ, pos, ◌≤ℤ◌}
 use Rattle.lift_spec.specs.Snapshot.{whole_of}
 use Rattle.il_machine.proofs.Outgoing.{car_serves}
-use Rattle.il_machine.proofs.store.Store.served.Goals as goal
+use Rattle.il_machine.proofs.bench.Bench.served.Goals as goal
 
 pub one_of-requires-clause-least : goal.one_of-requires-clause-least
 one_of-requires-clause-least c =
