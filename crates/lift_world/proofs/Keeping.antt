@@ -3,17 +3,18 @@ use Rattle.std.proofs.Common.{◌≡◌, ℕ, inl, inr, List, length, Option, So
 use Rattle.std.specs.Prelude.{slice_get, slice_set, is_some}
 use Rattle.il_spec.specs.declared.tree.Config.{Config}
 use Rattle.il_slots.specs.Layout.{Rows}
-use Rattle.il_exec.specs.Going.{Stored}
-use Rattle.il_machine.specs.Scanning.{IsScanOf, OwnsDeclared, FitsOwn, variables_in}
-use Rattle.lift_spec.specs.World.{flat}
-use Rattle.lift_world.specs.declared.shared.Core.{Core}
+use Rattle.il_machine.specs.Scanning.{OwnsDeclared, FitsOwn, variables_in}
+use Rattle.il_machine.specs.Standing.{Standing, IsOf}
+use Rattle.lift_spec.specs.World.{TaskState, flat}
+use Rattle.lift_world.specs.declared.shared.Shared.{Shared}
 use Rattle.lift_world.specs.declared.shared.Seat.{Seat}
-use Rattle.lift_world.specs.Running.{seat_at, with_seat, SeatsFit, CoreFits, StoresFit}
+use Rattle.lift_world.specs.Running.{seat_at, with_seat, SeatsFit, SharedFits}
+use Rattle.lift_world.specs.Worlds.{StoresFit}
 use Rattle.il_machine.specs.Sharing.{FitsGlobals}
 use Rattle.lift_world.proofs.Views.{length_set, after_set, there_set}
 
 -- the rows fit once a task has others that do
-pub seats_put : (c : Config) (k after : Core) (t : ℕ) (v : Rows) (tickets : Option (List (Option ℕ))) → SeatsFit c k → after.seats.items ≡ with_seat k t v tickets → FitsOwn c t v → OwnsDeclared c t (variables_in c t v) → SeatsFit c after
+pub seats_put : (c : Config) (k after : Shared) (t : ℕ) (v : Rows) (tickets : Option (List (Option ℕ))) → SeatsFit c k → after.seats.items ≡ with_seat k t v tickets → FitsOwn c t v → OwnsDeclared c t (variables_in c t v) → SeatsFit c after
 seats_put c k after t v tickets before put fits own j s there =
     elim (after_set k.seats.items t j (record { variables = v; tickets = tickets }) s (ap (λ l. flat (slice_get l j)) (sym put) ∙ there)) [
       | inl now ↦ subst (λ (x : Seat). FitsOwn c j x.variables × OwnsDeclared c j (variables_in c j x.variables)) now.1 (subst (λ n. FitsOwn c n v × OwnsDeclared c n (variables_in c n v)) (sym now.0) (fits, own))
@@ -21,37 +22,29 @@ seats_put c k after t v tickets before put fits own j s there =
     ]
 
 -- and so do all rows, once the globals have others that do
-pub rows_put : (c : Config) (k after : Core) (t : ℕ) (v : Rows) (tickets : Option (List (Option ℕ))) → CoreFits c k → after.seats.items ≡ with_seat k t v tickets → FitsOwn c t v → OwnsDeclared c t (variables_in c t v) → FitsGlobals c after.globals → CoreFits c after
+pub rows_put : (c : Config) (k after : Shared) (t : ℕ) (v : Rows) (tickets : Option (List (Option ℕ))) → SharedFits c k → after.seats.items ≡ with_seat k t v tickets → FitsOwn c t v → OwnsDeclared c t (variables_in c t v) → FitsGlobals c after.globals → SharedFits c after
 rows_put c k after t v tickets before put fits own globals = record { seats = seats_put c k after t v tickets before.seats put fits own; globals = globals }
 
 -- the same rows fit
-pub seats_same : (c : Config) (k after : Core) → SeatsFit c k → after.seats ≡ k.seats → SeatsFit c after
+pub seats_same : (c : Config) (k after : Shared) → SeatsFit c k → after.seats ≡ k.seats → SeatsFit c after
 seats_same c k after before same j s there = before j s (ap (λ l. flat (slice_get l.items j)) (sym same) ∙ there)
 
 -- one store goes on
-pub stores_step : (c : Config) (k : Core) (stores : List (Option Stored)) (t : ℕ) (st new : Stored) → StoresFit c k stores → IsScanOf c t new → flat (slice_get stores t) ≡ Some st → StoresFit c k (slice_set stores t (Some new))
-stores_step c k stores t st new fit scan kept = record {
+pub stores_step : (c : Config) (tasks : List (Option TaskState)) (stores : List (Option Standing)) (t : ℕ) (s new : Standing) → StoresFit c tasks stores → IsOf c t new → flat (slice_get stores t) ≡ Some s → StoresFit c tasks (slice_set stores t (Some new))
+stores_step c tasks stores t s new fit of kept = record {
   as_many = length_set stores t (Some new) ∙ fit.as_many;
-  there = λ j. there_set stores t j new st kept ∙ fit.there j;
+  there = λ j. there_set stores t j new s kept ∙ fit.there j;
   each = λ j x e.
       elim (after_set stores t j new x e) [
-        | inl now ↦ subst (λ n. IsScanOf c n x) (sym now.0) (subst (IsScanOf c t) now.1 scan)
+        | inl now ↦ subst (λ n. IsOf c n x) (sym now.0) (subst (IsOf c t) now.1 of)
         | inr was ↦ fit.each j x was
       ];
 }
 
 -- one task changes
-pub stores_seat : (c : Config) (k after : Core) (stores : List (Option Stored)) (t : ℕ) (s x : Seat) → StoresFit c k stores → seat_at k t ≡ Some s → after.seats.items ≡ slice_set k.seats.items t (Some x) → StoresFit c after stores
-stores_seat c k after stores t s x fit there put = record {
-  as_many = fit.as_many ∙ sym (length_set k.seats.items t (Some x)) ∙ ap length (sym put);
-  there = λ j. fit.there j ∙ sym (there_set k.seats.items t j x s there) ∙ ap (λ l. is_some (flat (slice_get l j))) (sym put);
-  each = fit.each;
-}
-
--- the tasks stay
-pub stores_same : (c : Config) (k after : Core) (stores : List (Option Stored)) → StoresFit c k stores → after.seats ≡ k.seats → StoresFit c after stores
-stores_same c k after stores fit same = record {
-  as_many = fit.as_many ∙ ap (λ l. length l.items) (sym same);
-  there = λ j. fit.there j ∙ ap (λ l. is_some (flat (slice_get l.items j))) (sym same);
+pub stores_task : (c : Config) (tasks after : List (Option TaskState)) (stores : List (Option Standing)) (t : ℕ) (task x : TaskState) → StoresFit c tasks stores → flat (slice_get tasks t) ≡ Some task → after ≡ slice_set tasks t (Some x) → StoresFit c after stores
+stores_task c tasks after stores t task x fit there put = record {
+  as_many = fit.as_many ∙ sym (length_set tasks t (Some x)) ∙ ap length (sym put);
+  there = λ j. fit.there j ∙ sym (there_set tasks t j x task there) ∙ ap (λ l. is_some (flat (slice_get l j))) (sym put);
   each = fit.each;
 }

@@ -3,11 +3,12 @@ use Rattle.std.proofs.Common.{◌≡◌, ℕ, zero, suc, ◌+◌, ◌<◌, ◌�
 use Rattle.std.specs.Prelude.{slice_get, slice_set, slice_index_or, is_some, option_and_then}
 use Rattle.il_spec.specs.declared.tree.Config.{Config}
 use Rattle.il_table.specs.NameMap.{get}
-use Rattle.il_exec.specs.Going.{Stored}
 use Rattle.il_machine.specs.Scanning.{variables_in}
+use Rattle.il_machine.specs.Standing.{Standing}
 use Rattle.lift_spec.specs.World.{TaskState, flat}
 use Rattle.lift_world.specs.declared.shared.Seat.{Seat}
-use Rattle.lift_world.specs.Running.{task_in, seated, tasks_in, scanned, scans_in}
+use Rattle.lift_world.specs.Running.{task_in, seated, tasks_in}
+use Rattle.lift_world.specs.Worlds.{scan_by, scans_by}
 
 -- OPTIONS IN LISTS
 
@@ -98,28 +99,28 @@ task_set c n (x ∷ seats) (suc k) s =
 
 -- SCANS
 
-pub scan_get : (c : Config) (n : ℕ) (seats : List (Option Seat)) (stores : List (Option Stored)) (k : ℕ) → length stores ≡ length seats → flat (slice_get (scans_in c n seats stores) k) ≡ scanned c (n + k) (flat (slice_get seats k)) (flat (slice_get stores k))
-scan_get c n [] [] zero h = refl
-scan_get c n [] [] (suc k) h = refl
-scan_get c n [] (t ∷ stores) k h = absurd (omega (arith, h))
-scan_get c n (s ∷ seats) [] k h = absurd (omega (arith, h))
-scan_get c n (s ∷ seats) (t ∷ stores) zero h =
-    let e : n ≡ n + 0 = omega arith in
-    flat_of (scanned c n s t) ∙ ap (λ m. scanned c m s t) e ∙ ap₂ (scanned c (n + 0)) (sym (flat_of s)) (sym (flat_of t))
-scan_get c n (s ∷ seats) (t ∷ stores) (suc k) h =
-    let e : (n + 1) + k ≡ n + suc k = omega arith in
-    scan_get c (n + 1) seats stores k (omega (arith, h)) ∙ ap (λ m. scanned c m (flat (slice_get seats k)) (flat (slice_get stores k))) e
+pub scan_here : (tasks : List (Option TaskState)) (stores : List (Option Standing)) (k : ℕ) → length stores ≡ length tasks → flat (slice_get (scans_by tasks stores) k) ≡ scan_by (flat (slice_get tasks k)) (flat (slice_get stores k))
+scan_here [] [] zero h = refl
+scan_here [] [] (suc k) h = refl
+scan_here [] (t ∷ stores) k h = absurd (omega (arith, h))
+scan_here (s ∷ tasks) [] k h = absurd (omega (arith, h))
+scan_here (s ∷ tasks) (t ∷ stores) zero h = flat_of (scan_by s t) ∙ ap₂ scan_by (sym (flat_of s)) (sym (flat_of t))
+scan_here (s ∷ tasks) (t ∷ stores) (suc k) h = scan_here tasks stores k (omega (arith, h))
 
-pub scan_set : (c : Config) (n : ℕ) (seats : List (Option Seat)) (stores : List (Option Stored)) (k : ℕ) (s : Seat) (t : Stored) → length stores ≡ length seats
-    → scans_in c n (slice_set seats k (Some s)) (slice_set stores k (Some t)) ≡ slice_set (scans_in c n seats stores) k (scanned c (n + k) (Some s) (Some t))
-scan_set c n [] [] zero s t h = refl
-scan_set c n [] [] (suc k) s t h = refl
-scan_set c n [] (y ∷ stores) k s t h = absurd (omega (arith, h))
-scan_set c n (x ∷ seats) [] k s t h = absurd (omega (arith, h))
-scan_set c n (x ∷ seats) (y ∷ stores) zero s t h = let e : n ≡ n + 0 = omega arith in ap (λ m. scanned c m (Some s) (Some t) ∷ scans_in c (n + 1) seats stores) e
-scan_set c n (x ∷ seats) (y ∷ stores) (suc k) s t h =
-    let e : (n + 1) + k ≡ n + suc k = omega arith in
-    ap (λ ts. scanned c n x y ∷ ts) (scan_set c (n + 1) seats stores k s t (omega (arith, h)) ∙ ap (λ m. slice_set (scans_in c (n + 1) seats stores) k (scanned c m (Some s) (Some t))) e)
+pub scan_put : (tasks : List (Option TaskState)) (stores : List (Option Standing)) (k : ℕ) (s : TaskState) (t : Standing) → length stores ≡ length tasks
+    → scans_by (slice_set tasks k (Some s)) (slice_set stores k (Some t)) ≡ slice_set (scans_by tasks stores) k (scan_by (Some s) (Some t))
+scan_put [] [] zero s t h = refl
+scan_put [] [] (suc k) s t h = refl
+scan_put [] (y ∷ stores) k s t h = absurd (omega (arith, h))
+scan_put (x ∷ tasks) [] k s t h = absurd (omega (arith, h))
+scan_put (x ∷ tasks) (y ∷ stores) zero s t h = refl
+scan_put (x ∷ tasks) (y ∷ stores) (suc k) s t h = ap (λ ts. scan_by x y ∷ ts) (scan_put tasks stores k s t (omega (arith, h)))
+
+pub scans_length : (tasks : List (Option TaskState)) (stores : List (Option Standing)) → length stores ≡ length tasks → length (scans_by tasks stores) ≡ length tasks
+scans_length [] [] many = refl
+scans_length [] (k ∷ stores) many = absurd (omega (arith, many))
+scans_length (s ∷ tasks) [] many = absurd (omega (arith, many))
+scans_length (s ∷ tasks) (k ∷ stores) many = ap suc (scans_length tasks stores (omega (arith, many)))
 
 -- what stands at an index
 pub stands_at : {X : Type 0} (xs : List (Option X)) (k : ℕ) (d : Option X) (x : X) → slice_index_or xs k d ≡ Some x → k < length xs → flat (slice_get xs k) ≡ Some x
@@ -154,13 +155,6 @@ task_here c seats k = let e : 0 + k ≡ k = omega arith in task_get c 0 seats k 
 
 pub task_put : (c : Config) (seats : List (Option Seat)) (k : ℕ) (s : Seat) → tasks_in c 0 (slice_set seats k (Some s)) ≡ slice_set (tasks_in c 0 seats) k (Some (task_in c k s))
 task_put c seats k s = let e : 0 + k ≡ k = omega arith in task_set c 0 seats k s ∙ ap (λ m. slice_set (tasks_in c 0 seats) k (Some (task_in c m s))) e
-
-pub scan_here : (c : Config) (seats : List (Option Seat)) (stores : List (Option Stored)) (k : ℕ) → length stores ≡ length seats → flat (slice_get (scans_in c 0 seats stores) k) ≡ scanned c k (flat (slice_get seats k)) (flat (slice_get stores k))
-scan_here c seats stores k many = let e : 0 + k ≡ k = omega arith in scan_get c 0 seats stores k many ∙ ap (λ m. scanned c m (flat (slice_get seats k)) (flat (slice_get stores k))) e
-
-pub scan_put : (c : Config) (seats : List (Option Seat)) (stores : List (Option Stored)) (k : ℕ) (s : Seat) (t : Stored) → length stores ≡ length seats
-    → scans_in c 0 (slice_set seats k (Some s)) (slice_set stores k (Some t)) ≡ slice_set (scans_in c 0 seats stores) k (scanned c k (Some s) (Some t))
-scan_put c seats stores k s t many = let e : 0 + k ≡ k = omega arith in scan_set c 0 seats stores k s t many ∙ ap (λ m. slice_set (scans_in c 0 seats stores) k (scanned c m (Some s) (Some t))) e
 
 -- VARIABLES
 

@@ -1,18 +1,13 @@
--- What a world keeps, as rows and as the world of the definitions (own rules).
-use Rattle.std.specs.Prelude.{◌≡◌, ◌≢◌, ℕ, zero, suc, ◌≤◌, ◌+◌, Bool, false, List, [], ◌∷◌, length, map, slice_get, slice_set, if◌then◌else◌, Option, Some, None, is_some}
+-- What the tasks share, as rows and as the group of the definitions, and replies (own rules).
+use Rattle.std.specs.Prelude.{◌≡◌, ℕ, zero, suc, ◌+◌, Bool, false, List, [], ◌∷◌, length, slice_get, slice_set, Option, Some, None, is_some}
 use Rattle.il_spec.specs.declared.tree.Config.{Config}
-use Rattle.il_budget.specs.Costs.{cost_of}
-use Rattle.il_run.specs.State.{Values, State}
-use Rattle.il_run.specs.Scan.{Reaches}
-use Rattle.il_machine.specs.Scanning.{IsRunnable, IsScanOf, OwnsDeclared, FitsOwn, variables_in, kept_of, state_of}
+use Rattle.il_run.specs.State.{Values}
+use Rattle.il_machine.specs.Scanning.{IsRunnable, OwnsDeclared, FitsOwn, variables_in}
 use Rattle.il_machine.specs.Sharing.{globals_in, FitsGlobals}
-use Rattle.il_run.specs.Step.{step, Next}
 use Rattle.il_slots.specs.Layout.{Rows}
-use Rattle.il_exec.specs.Going.{Stored}
-use Rattle.lift_spec.specs.Image.{sizes_of}
-use Rattle.lift_spec.specs.World.{World, Group, TaskState, flat, committed_group}
+use Rattle.lift_spec.specs.Image.{sizes_of, Obeys}
+use Rattle.lift_spec.specs.World.{Group, TaskState, flat, committed_group, InRanges}
 use Rattle.lift_spec.specs.declared.image.Image.{Image}
-use Rattle.lift_spec.specs.declared.calls.Call.{Call}
 use Rattle.lift_spec.specs.declared.calls.Slot.{Slot}
 use Rattle.lift_spec.specs.declared.calls.Slot.TheVariants.{Free, Waiting, Told}
 use Rattle.lift_spec.specs.Calls.{Calls}
@@ -22,9 +17,8 @@ use Rattle.lift_spec.specs.declared.event.Reply.{Reply as Answer}
 use Rattle.lift_spec.specs.declared.event.Reply.TheVariants as answer
 use Rattle.lift_spec.specs.declared.event.Event.{Event}
 use Rattle.lift_spec.specs.declared.event.Event.TheVariants.{Instruction, Commit, Refresh}
-use Rattle.lift_run_laws.specs.Runs.{IsReached}
-use Rattle.lift_world.specs.declared.controller.Controller.{Controller}
-use Rattle.lift_world.specs.declared.shared.Core.{Core}
+use Rattle.lift_run_laws.specs.Holding.{TicketsHold}
+use Rattle.lift_world.specs.declared.shared.Shared.{Shared}
 use Rattle.lift_world.specs.declared.shared.Seat.{Seat}
 
 -- the replies so far, and how many there is room for in all
@@ -97,7 +91,7 @@ reporting (e ∷ events) = may_report e + reporting events
 -- TASKS
 
 -- the task of a number, if it is there
-abbrev pub seat_at : Core → ℕ → Option Seat
+abbrev pub seat_at : Shared → ℕ → Option Seat
 seat_at k t = flat (slice_get k.seats.items t)
 
 -- whether a scan of the task is open
@@ -105,7 +99,7 @@ abbrev pub open_by : Option Seat → Bool
 open_by None = false
 open_by (Some s) = is_some s.tickets
 
-abbrev pub is_open : Core → ℕ → Bool
+abbrev pub is_open : Shared → ℕ → Bool
 is_open k t = open_by (seat_at k t)
 
 -- a task with its variables by name
@@ -125,65 +119,39 @@ tasks_in c t (s ∷ seats) = seated c t s ∷ tasks_in c (t + 1) seats
 abbrev pub group_by : Config → Image → Calls → Values → List (Option Seat) → Group
 group_by c image calls globals seats = record { image = image; calls = calls; globals = globals; tasks = tasks_in c 0 seats }
 
-abbrev pub group_in : Config → Core → Group
+abbrev pub group_in : Config → Shared → Group
 group_in c k = group_by c k.image k.calls (globals_in c k.globals) k.seats.items
-
--- SCANS
-
--- where the scan of a task stands: it is open while the task has the tickets that it saw
-abbrev pub scanned : Config → ℕ → Option Seat → Option Stored → Option State
-scanned c t None o = None
-scanned c t (Some s) None = None
-scanned c t (Some s) (Some k) = if is_some s.tickets then Some (state_of (kept_of c t k)) else None
-
--- the scans, of which the first is that of the task of this number
-abbrev pub scans_in : Config → ℕ → List (Option Seat) → List (Option Stored) → List (Option State)
-scans_in c t [] stores = []
-scans_in c t (s ∷ seats) [] = []
-scans_in c t (s ∷ seats) (k ∷ stores) = scanned c t s k ∷ scans_in c (t + 1) seats stores
-
--- THE WORLD
-
--- the world of the definitions, by its parts
-abbrev pub world_by : Config → Image → Calls → Values → List (Option Seat) → List (Option Stored) → List Call → List Call → World
-world_by c image calls globals seats stores desk hand = record { group = group_by c image calls globals seats; scans = scans_in c 0 seats stores; desk = desk; hand = hand }
-
-abbrev pub world_of : Controller → World
-world_of w = world_by w.verified.config w.core.image w.core.calls (globals_in w.verified.config w.core.globals) w.core.seats.items w.stores.items w.desk w.hand
 
 -- WHAT HOLDS OF IT
 
 -- each task that is there has a row for each of its variables, each with a value of its declared set
-abbrev pub SeatsFit : Config → Core → Type 0
+abbrev pub SeatsFit : Config → Shared → Type 0
 SeatsFit c k = (t : ℕ) (s : Seat) → seat_at k t ≡ Some s → FitsOwn c t s.variables × OwnsDeclared c t (variables_in c t s.variables)
 
 -- the rows of what the tasks share fit: those of each task, and those of the globals
-pub record CoreFits (c : Config) (k : Core) : Type 0 where
+pub record SharedFits (c : Config) (k : Shared) : Type 0 where
   pub seats : SeatsFit c k
   pub globals : FitsGlobals c k.globals
 
--- there is a store for each task, of a scan of it
-pub record StoresFit (c : Config) (k : Core) (stores : List (Option Stored)) : Type 0 where
-  pub as_many : length stores ≡ length k.seats.items
-  pub there : (t : ℕ) → is_some (flat (slice_get stores t)) ≡ is_some (seat_at k t)
-  pub each : (t : ℕ) (s : Stored) → flat (slice_get stores t) ≡ Some s → IsScanOf c t s
-
--- what holds of every world: some history of events has led to it from the opening world, and its rows fit
-pub record IsWorldOf (w : Controller) : Type 0 where
-  pub runnable : IsRunnable w.verified.config
-  pub costs : w.verified.costs ≡ map (cost_of w.verified.config) w.verified.config.units
-  pub rows : CoreFits w.verified.config w.core
-  pub stores : StoresFit w.verified.config w.core w.stores.items
-  pub reached : IsReached w.verified.config (world_of w)
-
 -- the tasks once one has another variables and tickets
-abbrev pub with_seat : Core → ℕ → Rows → Option (List (Option ℕ)) → List (Option Seat)
+abbrev pub with_seat : Shared → ℕ → Rows → Option (List (Option ℕ)) → List (Option Seat)
 with_seat k t v tickets = slice_set k.seats.items t (Some (record { variables = v; tickets = tickets }))
+
+-- what holds of what the tasks share: the rows fit, all lies in its ranges, the image obeys the interlock, and an open scan saw the ticket
+-- of each slot
+pub record HoldsShared (c : Config) (k : Shared) : Type 0 where
+  pub runnable : IsRunnable c
+  pub fits : SharedFits c k
+  pub ranges : InRanges c (group_in c k)
+  pub obeys : Obeys k.image
+  pub tickets : TicketsHold k.calls
+  pub many : length k.seats.items ≡ suc (sizes_of c).cars
+  pub saw : (t : ℕ) (s : Seat) (tickets : List (Option ℕ)) → seat_at k t ≡ Some s → s.tickets ≡ Some tickets → length tickets ≡ (sizes_of c).slots
 
 -- COMMITS
 
 -- a task whose scan is open, with the ticket of each slot
-pub record HasOpenScan (c : Config) (k : Core) (t : ℕ) : Type 0 where
+pub record HasOpenScan (c : Config) (k : Shared) (t : ℕ) : Type 0 where
   pub seat : Seat
   pub there : seat_at k t ≡ Some seat
   pub tickets : List (Option ℕ)
@@ -191,10 +159,10 @@ pub record HasOpenScan (c : Config) (k : Core) (t : ℕ) : Type 0 where
   pub each : length tickets ≡ (sizes_of c).slots
 
 -- what the commit of a task leaves, whose scan left these values: the definitions' group and report; the task is between scans, and the rows fit
-pub record Commits (c : Config) (t : ℕ) (before : Core) (values : Values) (after : Core) (report : Report) : Type 0 where
+pub record Commits (c : Config) (t : ℕ) (before : Shared) (values : Values) (after : Shared) (report : Report) : Type 0 where
   pub group : (s : Seat) (tickets : List (Option ℕ)) → seat_at before t ≡ Some s → s.tickets ≡ Some tickets → committed_group c (group_in c before) t (task_in c t s) tickets values ≡ (group_in c after, report)
   pub closed : (v : Rows) × (after.seats.items ≡ with_seat before t v None)
-  pub fits : CoreFits c after
+  pub fits : SharedFits c after
 
 -- how many slots are free
 abbrev pub free_count : List Slot → ℕ
@@ -215,23 +183,3 @@ abbrev pub up_to_end : ℕ → List Reply
 up_to_end zero = []
 up_to_end (suc zero) = End ∷ []
 up_to_end (suc (suc n)) = More ∷ up_to_end (suc n)
-
--- WHAT A STEP LEAVES OF A STORE
-
--- one step of a task's scan, and its answer
-pub record Steps (c : Config) (t : ℕ) (before : Stored) (after : Option Stored) (reply : Answer) : Type 0 where
-  pub store : Stored
-  pub is : after ≡ Some store
-  pub scan : IsScanOf c t store
-  pub step : step c (state_of (kept_of c t before)) ≡ Next (state_of (kept_of c t store))
-  pub more : (kept_of c t store).frames ≢ [] → reply ≡ answer.More
-  pub end : (kept_of c t store).frames ≡ [] → reply ≡ answer.End
-
--- so many steps to the end of a task's scan
-pub record RunsOut (c : Config) (t : ℕ) (before : Stored) (after : Option Stored) (n : ℕ) : Type 0 where
-  pub store : Stored
-  pub is : after ≡ Some store
-  pub scan : IsScanOf c t store
-  pub some : 1 ≤ n
-  pub steps : Reaches c n (state_of (kept_of c t before)) (state_of (kept_of c t store))
-  pub ended : (kept_of c t store).frames ≡ []

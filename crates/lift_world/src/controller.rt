@@ -1,22 +1,21 @@
-// A lift group, without its history: what the tasks share, and where their scans stand.
+// A lift group: what the tasks share, where their scans stand, and its calls.
 
-ghost use Rattle.std.specs.Prelude.{◌≡◌, ◌≢◌, ℕ, suc, ◌+◌, ◌≤◌, [], length, map, slice_get, is_some, Some, Ok, IfOk, IfErr, IsSome};
-ghost use Rattle.il_exec.specs.Going.{Stored};
-ghost use Rattle.il_machine.specs.Scanning.{IsScanOf, kept_of, state_of};
-ghost use Rattle.lift_spec.specs.Calls.{ticket_of};
+ghost use Rattle.std.specs.Prelude.{◌≡◌, ◌≢◌, ℕ, suc, ◌+◌, ◌≤◌, [], length, slice_get, is_some, Some, Ok, IfOk, IfErr, IsSome};
+ghost use Rattle.il_machine.specs.Standing.{Standing, IsOf};
 ghost use Rattle.lift_spec.specs.Image.{sizes_of};
 ghost use Rattle.lift_spec.specs.declared.event.EventFault.TheVariants.{NoOpenScan};
-ghost use Rattle.lift_world.specs.declared.shared.Seat.{Seat as SeatOf};
-ghost use Rattle.lift_spec.specs.Snapshot.{program_of, scan_begins};
+ghost use Rattle.lift_spec.specs.declared.event.Event.TheVariants as event;
 ghost use Rattle.lift_spec.specs.declared.report.Report.{Report as ReportOf};
 ghost use Rattle.lift_spec.specs.Replies.{reply_with};
 ghost use Rattle.lift_spec.specs.Replies as replies;
+ghost use Rattle.lift_spec.specs.Snapshot.{program_of, scan_begins};
+ghost use Rattle.lift_spec.specs.World.{TaskState, task_at};
 ghost use Rattle.lift_spec.specs.World as model;
-ghost use Rattle.lift_world.specs.Running.{seat_at, task_in, group_in, with_seat, Steps, RunsOut, world_of, IsWorldOf, CoreFits, StoresFit, reports_by, may_report, reporting, instructions, up_to_end};
-ghost use Rattle.lift_spec.specs.declared.event.Event.TheVariants as event;
+ghost use Rattle.lift_world.specs.Running.{reports_by, may_report, reporting, instructions, up_to_end};
+ghost use Rattle.lift_world.specs.Worlds.{world_in, IsController, StoresFit, Steps, RunsOut};
 
+use crate::group::Core;
 use crate::replies::Replies;
-use crate::shared::Core;
 use il_machine::{Stepped, Store, Verified, finish, step};
 use il_spec::pair::both;
 use lift_image::{Fields, in_range, is_floor};
@@ -41,7 +40,7 @@ pub struct Controller {
 fn opening_store(alloc: Global, verified: &Verified, task: u8) -> Result<Option<Store>, AllocError>
     requires { task ≤ (sizes_of verified.now.config).cars }
     ensures there { IfOk result (λ o. is_some o ≡ is_some (program_of verified.now.config task)) }
-    ensures scan { IfOk result (λ o. (s : Stored) → o ≡ Some s → IsScanOf verified.now.config task s) }
+    ensures of { IfOk result (λ o. (s : Standing) → o ≡ Some s → IsOf verified.now.config task s) }
 {
     let _config = verified.config();
     if !verified.has_task(task) {
@@ -60,7 +59,7 @@ fn opening_stores(
     requires all { cars ≡ (sizes_of verified.now.config).cars }
     ensures as_many { IfOk result (λ ss. length ss.items ≡ suc cars) }
     ensures there { IfOk result (λ ss. (t : ℕ) → t ≤ cars → is_some (model.flat (slice_get ss.items t)) ≡ is_some (program_of verified.now.config t)) }
-    ensures each { IfOk result (λ ss. (t : ℕ) (s : Stored) → model.flat (slice_get ss.items t) ≡ Some s → IsScanOf verified.now.config t s) }
+    ensures each { IfOk result (λ ss. (t : ℕ) (s : Standing) → model.flat (slice_get ss.items t) ≡ Some s → IsOf verified.now.config t s) }
 {
     let mut stores = Vec::new(alloc);
     for task in 0..cars + 1 {
@@ -71,14 +70,13 @@ fn opening_stores(
 
 // The task's scan begins.
 fn begin(core: &mut Core, verified: &Verified, task: u8, store: &mut Option<Store>)
-    requires there { IsSome (seat_at core.old task) }
+    requires program { core.old.config ≡ verified.now.config }
+    requires there { IsSome (task_at core.old.group task) }
     requires kept { IsSome store.old }
-    requires fits { CoreFits verified.now.config core.old }
-    requires ranges { model.InRanges verified.now.config (group_in verified.now.config core.old) }
-    requires scan { (st : Stored) → store.old ≡ Some st → IsScanOf verified.now.config task st }
-    ensures shared { (core.new.image ≡ core.old.image) × (core.new.calls ≡ core.old.calls) × (core.new.globals ≡ core.old.globals) }
-    ensures seats { (s : SeatOf) → seat_at core.old task ≡ Some s → core.new.seats.items ≡ with_seat core.old task s.variables (Some (map ticket_of core.old.calls.slots)) }
-    ensures store { (s : SeatOf) → seat_at core.old task ≡ Some s → (st : Stored) × (store.new ≡ Some st) × IsScanOf verified.now.config task st × (state_of (kept_of verified.now.config task st) ≡ scan_begins verified.now.config task (model.beginning_of (group_in verified.now.config core.old) (task_in verified.now.config task s))) }
+    requires of { (s : Standing) → store.old ≡ Some s → IsOf verified.now.config task s }
+    ensures config { core.new.config ≡ core.old.config }
+    ensures group { (x : TaskState) → task_at core.old.group task ≡ Some x → core.new.group ≡ model.started_group core.old.group task x }
+    ensures store { (x : TaskState) → task_at core.old.group task ≡ Some x → (s : Standing) × (store.new ≡ Some s) × IsOf verified.now.config task s × (s.state ≡ scan_begins verified.now.config task (model.beginning_of core.old.group x)) }
 {
     if let Some(store) = store {
         core.start(verified, task, store);
@@ -88,14 +86,14 @@ fn begin(core: &mut Core, verified: &Verified, task: u8, store: &mut Option<Stor
 // One step of a task's scan, if it has not ended.
 fn advance(verified: &Verified, task: u8, store: &mut Option<Store>) -> Reply
     requires kept { IsSome store.old }
-    requires scan { (st : Stored) → store.old ≡ Some st → IsScanOf verified.now.config task st }
-    ensures ended { (st : Stored) → store.old ≡ Some st → (kept_of verified.now.config task st).frames ≡ [] → (result ≡ Reply.Refused NoOpenScan) × (store.new ≡ store.old) }
-    ensures step { (st : Stored) → store.old ≡ Some st → (kept_of verified.now.config task st).frames ≢ [] → Steps verified.now.config task st store.new result }
+    requires of { (s : Standing) → store.old ≡ Some s → IsOf verified.now.config task s }
+    ensures ended { (s : Standing) → store.old ≡ Some s → s.state.frames ≡ [] → (result ≡ Reply.Refused NoOpenScan) × (store.new ≡ store.old) }
+    ensures step { (s : Standing) → store.old ≡ Some s → s.state.frames ≢ [] → Steps verified.now.config task s store.new result }
     ensures plain { reports_by result ≡ 0 }
 {
     match store {
         Some(store) => {
-            if store.has_ended(verified, task) {
+            if store.has_ended(verified) {
                 return Reply::Refused(EventFault::NoOpenScan);
             }
             match step(verified, task, store) {
@@ -110,13 +108,13 @@ fn advance(verified: &Verified, task: u8, store: &mut Option<Store>) -> Reply
 // The rest of a task's scan, if it has not ended.
 fn run_out(verified: &Verified, task: u8, store: &mut Option<Store>) -> Result<u32, EventFault>
     requires kept { IsSome store.old }
-    requires scan { (st : Stored) → store.old ≡ Some st → IsScanOf verified.now.config task st }
-    ensures ended { IfErr result (λ fault. (fault ≡ NoOpenScan) × (store.new ≡ store.old) × ((st : Stored) → store.old ≡ Some st → (kept_of verified.now.config task st).frames ≡ [])) }
-    ensures steps { IfOk result (λ n. (st : Stored) → store.old ≡ Some st → RunsOut verified.now.config task st store.new n) }
+    requires of { (s : Standing) → store.old ≡ Some s → IsOf verified.now.config task s }
+    ensures ended { IfErr result (λ fault. (fault ≡ NoOpenScan) × (store.new ≡ store.old) × ((s : Standing) → store.old ≡ Some s → s.state.frames ≡ [])) }
+    ensures steps { IfOk result (λ n. (s : Standing) → store.old ≡ Some s → RunsOut verified.now.config task s store.new n) }
 {
     match store {
         Some(store) => {
-            if store.has_ended(verified, task) {
+            if store.has_ended(verified) {
                 return Err(EventFault::NoOpenScan);
             }
             Ok(finish(verified, task, store))
@@ -134,10 +132,9 @@ pub struct Opened {
 
 /// What a group of a configuration opens with.
 pub fn opening(alloc: Global, verified: &Verified) -> Result<Opened, AllocError>
-    ensures group { IfOk result (λ o. group_in verified.now.config o.core ≡ model.opening_group verified.now.config) }
-    ensures many { IfOk result (λ o. length o.stores.items ≡ suc (sizes_of verified.now.config).cars) }
-    ensures rows { IfOk result (λ o. CoreFits verified.now.config o.core) }
-    ensures stores { IfOk result (λ o. StoresFit verified.now.config o.core o.stores.items) }
+    ensures config { IfOk result (λ o. o.core.config ≡ verified.now.config) }
+    ensures group { IfOk result (λ o. o.core.group ≡ model.opening_group verified.now.config) }
+    ensures stores { IfOk result (λ o. StoresFit verified.now.config o.core.group.tasks o.stores.items) }
 {
     let _config = verified.config();
     let core = Core::new(alloc, verified)?;
@@ -149,8 +146,8 @@ impl Controller {
     /// The group as it opens: no scan is open, and no call waits.
     pub fn new(alloc: Global, verified: Verified) -> Result<Controller, AllocError>
         ensures same { IfOk result (λ w. w.verified ≡ verified) }
-        ensures opening { IfOk result (λ w. world_of w ≡ model.opening verified.config) }
-        ensures world { IfOk result IsWorldOf }
+        ensures opening { IfOk result (λ w. world_in w ≡ model.opening verified.config) }
+        ensures world { IfOk result IsController }
     {
         let _config = verified.config();
         let opened = opening(alloc, &verified);
@@ -176,14 +173,14 @@ impl Controller {
 
     // Start: the task's scan begins.
     fn start(&mut self, task: u8) -> Reply
-        requires { IsWorldOf self.old }
-        ensures model { (r : ReportOf) → model.happens self.old.verified.config (world_of self.old) (event.Start task) ≡ Ok (world_of self.new, reply_with result r) }
+        requires { IsController self.old }
+        ensures model { (r : ReportOf) → model.happens self.old.verified.config (world_in self.old) (event.Start task) ≡ Ok (world_in self.new, reply_with result r) }
         ensures plain { reports_by result ≡ 0 }
         ensures same { self.new.verified ≡ self.old.verified }
-        ensures rows { CoreFits self.new.verified.config self.new.core }
-        ensures stores { StoresFit self.new.verified.config self.new.core self.new.stores.items }
+        ensures core { self.new.core.config ≡ self.old.core.config }
+        ensures stores { StoresFit self.old.verified.config self.new.core.group.tasks self.new.stores.items }
     {
-        if self.core.seat(task).is_none() {
+        if !self.core.has_task(task) {
             return Reply::Refused(EventFault::NoSuchActor);
         }
         if self.core.is_open(task) {
@@ -200,14 +197,14 @@ impl Controller {
 
     // Instruction: one step of the task's open scan.
     fn instruction(&mut self, task: u8) -> Reply
-        requires { IsWorldOf self.old }
-        ensures model { (r : ReportOf) → model.happens self.old.verified.config (world_of self.old) (event.Instruction task) ≡ Ok (world_of self.new, reply_with result r) }
+        requires { IsController self.old }
+        ensures model { (r : ReportOf) → model.happens self.old.verified.config (world_in self.old) (event.Instruction task) ≡ Ok (world_in self.new, reply_with result r) }
         ensures plain { reports_by result ≡ 0 }
         ensures same { self.new.verified ≡ self.old.verified }
-        ensures rows { CoreFits self.new.verified.config self.new.core }
-        ensures stores { StoresFit self.new.verified.config self.new.core self.new.stores.items }
+        ensures core { self.new.core.config ≡ self.old.core.config }
+        ensures stores { StoresFit self.old.verified.config self.new.core.group.tasks self.new.stores.items }
     {
-        if self.core.seat(task).is_none() {
+        if !self.core.has_task(task) {
             return Reply::Refused(EventFault::NoSuchActor);
         }
         if !self.core.is_open(task) {
@@ -218,14 +215,14 @@ impl Controller {
 
     // Commit: the task's scan, which has ended, hands over what it left.
     fn commit(&mut self, task: u8, report: &mut Report) -> Reply
-        requires { IsWorldOf self.old }
-        ensures model { model.happens self.old.verified.config (world_of self.old) (event.Commit task) ≡ Ok (world_of self.new, reply_with result report.new) }
+        requires { IsController self.old }
+        ensures model { model.happens self.old.verified.config (world_in self.old) (event.Commit task) ≡ Ok (world_in self.new, reply_with result report.new) }
         ensures one { reports_by result ≤ 1 }
         ensures same { self.new.verified ≡ self.old.verified }
-        ensures rows { CoreFits self.new.verified.config self.new.core }
-        ensures stores { StoresFit self.new.verified.config self.new.core self.new.stores.items }
+        ensures core { self.new.core.config ≡ self.old.core.config }
+        ensures stores { StoresFit self.old.verified.config self.new.core.group.tasks self.new.stores.items }
     {
-        if self.core.seat(task).is_none() {
+        if !self.core.has_task(task) {
             return Reply::Refused(EventFault::NoSuchActor);
         }
         if !self.core.is_open(task) {
@@ -234,7 +231,7 @@ impl Controller {
         let Some(store) = &self.stores[usize::from(task)] else {
             unreachable!()
         };
-        if !store.has_ended(&self.verified, task) {
+        if !store.has_ended(&self.verified) {
             return Reply::Refused(EventFault::NotAtEnd);
         }
         self.core.commit(&self.verified, task, store, report);
@@ -243,12 +240,12 @@ impl Controller {
 
     // Refresh: the image takes the plant's fields, and the calls of the hand enter.
     fn refresh(&mut self, fields: &Fields, report: &mut Report) -> Reply
-        requires { IsWorldOf self.old }
-        ensures model { model.happens self.old.verified.config (world_of self.old) (event.Refresh fields.now) ≡ Ok (world_of self.new, reply_with result report.new) }
+        requires { IsController self.old }
+        ensures model { model.happens self.old.verified.config (world_in self.old) (event.Refresh fields.now) ≡ Ok (world_in self.new, reply_with result report.new) }
         ensures one { reports_by result ≤ 1 }
         ensures same { self.new.verified ≡ self.old.verified }
-        ensures rows { CoreFits self.new.verified.config self.new.core }
-        ensures stores { StoresFit self.new.verified.config self.new.core self.new.stores.items }
+        ensures core { self.new.core.config ≡ self.old.core.config }
+        ensures stores { StoresFit self.old.verified.config self.new.core.group.tasks self.new.stores.items }
     {
         if !in_range(fields, self.verified.sizes()) {
             return Reply::Refused(EventFault::FieldOutOfRange);
@@ -259,12 +256,12 @@ impl Controller {
 
     // Press: the call is put on the desk.
     fn press(&mut self, call: Call) -> Reply
-        requires { IsWorldOf self.old }
-        ensures model { (r : ReportOf) → model.happens self.old.verified.config (world_of self.old) (event.Press call) ≡ Ok (world_of self.new, reply_with result r) }
+        requires { IsController self.old }
+        ensures model { (r : ReportOf) → model.happens self.old.verified.config (world_in self.old) (event.Press call) ≡ Ok (world_in self.new, reply_with result r) }
         ensures plain { reports_by result ≡ 0 }
         ensures same { self.new.verified ≡ self.old.verified }
-        ensures rows { CoreFits self.new.verified.config self.new.core }
-        ensures stores { StoresFit self.new.verified.config self.new.core self.new.stores.items }
+        ensures core { self.new.core.config ≡ self.old.core.config }
+        ensures stores { StoresFit self.old.verified.config self.new.core.group.tasks self.new.stores.items }
     {
         let sizes = self.verified.sizes();
         if !is_floor(call.from, sizes) || !is_floor(call.to, sizes) {
@@ -282,12 +279,12 @@ impl Controller {
 
     // Gather: the calls from a floor go from the desk to the hand, where the hand has none from there.
     fn gather(&mut self, floor: u8) -> Reply
-        requires { IsWorldOf self.old }
-        ensures model { (r : ReportOf) → model.happens self.old.verified.config (world_of self.old) (event.Gather floor) ≡ Ok (world_of self.new, reply_with result r) }
+        requires { IsController self.old }
+        ensures model { (r : ReportOf) → model.happens self.old.verified.config (world_in self.old) (event.Gather floor) ≡ Ok (world_in self.new, reply_with result r) }
         ensures plain { reports_by result ≡ 0 }
         ensures same { self.new.verified ≡ self.old.verified }
-        ensures rows { CoreFits self.new.verified.config self.new.core }
-        ensures stores { StoresFit self.new.verified.config self.new.core self.new.stores.items }
+        ensures core { self.new.core.config ≡ self.old.core.config }
+        ensures stores { StoresFit self.old.verified.config self.new.core.group.tasks self.new.stores.items }
     {
         if !is_floor(floor, self.verified.sizes()) {
             return Reply::Refused(EventFault::NoSuchActor);
@@ -300,11 +297,11 @@ impl Controller {
 
     /// One event. The report is written by a commit and by a refresh alone.
     pub fn happen(&mut self, event: &Event, report: &mut Report) -> Reply
-        requires { IsWorldOf self.old }
-        ensures model { model.happens self.old.verified.config (world_of self.old) event.now ≡ Ok (world_of self.new, reply_with result report.new) }
+        requires { IsController self.old }
+        ensures model { model.happens self.old.verified.config (world_in self.old) event.now ≡ Ok (world_in self.new, reply_with result report.new) }
         ensures reports { reports_by result ≤ may_report event.now }
         ensures same { self.new.verified ≡ self.old.verified }
-        ensures world { IsWorldOf self.new }
+        ensures world { IsController self.new }
     {
         match event {
             Event::Start(task) => self.start(*task),
@@ -318,12 +315,12 @@ impl Controller {
 
     /// A run over a list of events, with a reply for each.
     pub fn run(&mut self, events: &[Event], replies: &mut Replies)
-        requires world { IsWorldOf self.old }
+        requires world { IsController self.old }
         requires room { length replies.old.items + length events.now ≤ replies.old.room }
         requires report_room { replies.old.reports + reporting events.now ≤ replies.old.report_room }
-        ensures model { model.run self.old.verified.config (world_of self.old) replies.old.items events.now ≡ Ok (world_of self.new, replies.new.items) }
+        ensures model { model.run self.old.verified.config (world_in self.old) replies.old.items events.now ≡ Ok (world_in self.new, replies.new.items) }
         ensures same { self.new.verified ≡ self.old.verified }
-        ensures world { IsWorldOf self.new }
+        ensures world { IsController self.new }
     {
         let mut report = Report::new();
         'events: for event in events {
@@ -334,13 +331,13 @@ impl Controller {
 
     /// The open scan of a task runs to its end. The answer is how many instructions that took, or why there is nothing to run.
     pub fn finish(&mut self, task: u8) -> Result<u32, EventFault>
-        requires { IsWorldOf self.old }
-        ensures model { IfOk result (λ n. (1 ≤ n) × (model.run self.old.verified.config (world_of self.old) [] (instructions task n) ≡ Ok (world_of self.new, up_to_end n))) }
-        ensures refused { IfErr result (λ fault. (world_of self.new ≡ world_of self.old) × (model.happens self.old.verified.config (world_of self.old) (event.Instruction task) ≡ Ok (world_of self.old, replies.Refused fault))) }
+        requires { IsController self.old }
+        ensures model { IfOk result (λ n. (1 ≤ n) × (model.run self.old.verified.config (world_in self.old) [] (instructions task n) ≡ Ok (world_in self.new, up_to_end n))) }
+        ensures refused { IfErr result (λ fault. (world_in self.new ≡ world_in self.old) × (model.happens self.old.verified.config (world_in self.old) (event.Instruction task) ≡ Ok (world_in self.old, replies.Refused fault))) }
         ensures same { self.new.verified ≡ self.old.verified }
-        ensures world { IsWorldOf self.new }
+        ensures world { IsController self.new }
     {
-        if self.core.seat(task).is_none() {
+        if !self.core.has_task(task) {
             return Err(EventFault::NoSuchActor);
         }
         if !self.core.is_open(task) {

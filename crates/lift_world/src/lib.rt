@@ -2,11 +2,14 @@
 #![tactic(auto)]
 
 mod calling;
-pub mod controller;
+mod controller;
+mod group;
 mod replies;
-pub mod shared;
+mod shared;
 mod world;
 
+pub use controller::{Opened, opening};
+pub use group::Core;
 pub use il_machine::Verified;
 pub use il_spec::fault::Refusal;
 pub use lift_image::{Bounded, CarFields, CarOutputs, Fields, Image, Motor, Sizes};
@@ -14,5 +17,4 @@ pub use lift_spec::calls::{Answer, Call, Slot};
 pub use lift_spec::event::{Event, EventFault, Reply};
 pub use lift_spec::report::{Denial, Report, Rule};
 pub use replies::Replies;
-pub use shared::Core;
 pub use world::World;

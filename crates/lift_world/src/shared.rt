@@ -7,17 +7,18 @@ ghost use Rattle.il_run.specs.Ranges.{HoldGlobals};
 ghost use Rattle.il_run.specs.Scan.{restricted};
 ghost use Rattle.lift_world.specs.declared.shared.Seat.{Seat as SeatOf};
 ghost use Rattle.il_slots.specs.Layout.{Rows as RowsOf};
-ghost use Rattle.il_machine.specs.Scanning.{IsScanOf, FitsOwn, OwnsDeclared, variables_in, kept_of, state_of};
+ghost use Rattle.il_machine.specs.Scanning.{FitsOwn, OwnsDeclared, variables_in};
+ghost use Rattle.il_machine.specs.Standing.{IsOf};
 ghost use Rattle.lift_spec.specs.Image.{sizes_of, FieldsInRange};
 ghost use Rattle.lift_spec.specs.Calls.{ticket_of, enter_all, SlotInRange};
 ghost use Rattle.lift_spec.specs.Settle.{settled_car, with_outputs, denials_of};
 ghost use Rattle.lift_spec.specs.Snapshot.{scan_begins, program_of, written_globals};
 ghost use Rattle.lift_spec.specs.World.{InRanges, flat, opening_task, opening_tasks_from, opening_group, beginning_of, refreshed_group};
-ghost use Rattle.lift_world.specs.Running.{seat_at, task_in, seated, tasks_in, group_in, is_open, CoreFits, with_seat, HasOpenScan, Commits};
+ghost use Rattle.lift_world.specs.Running.{seat_at, task_in, seated, tasks_in, group_in, is_open, SharedFits, with_seat, HasOpenScan, Commits};
 ghost use Rattle.il_machine.specs.Sharing.{globals_in, FitsGlobals};
 
 use crate::calling::{clear, denials_of, enter_all, serve, tell_all, tickets_of};
-use il_machine::{FirstRows, Rows, Store, Value, Verified, opening_image, variable};
+use il_machine::{Begin, FirstRows, Rows, Store, Value, Verified, opening_image, variable};
 use lift_calls::book::CallBook;
 use lift_image::{Bounded, Fields, Image, Motor};
 use lift_interlock::{settle_all, settle_car};
@@ -34,7 +35,7 @@ pub struct Seat {
 }
 
 /// What the tasks of a group share, and the tasks: GROUP first, then CAR1 and so on; none where the group has no such task.
-pub struct Core {
+pub struct Shared {
     image: Image,
     calls: CallBook,
     globals: Rows,
@@ -42,9 +43,9 @@ pub struct Core {
 }
 
 // Written by hand, since who drops a type whose drop is derived proves the drop of each type inside again.
-impl Drop for Core {
+impl Drop for Shared {
     fn drop(self) {
-        let Core {
+        let Shared {
             image: _image,
             calls: _calls,
             globals: _globals,
@@ -114,13 +115,19 @@ fn start_seat(
     requires outputs { length image.now.outputs ≡ (sizes_of verified.now.config).cars }
     requires slots { length slots.now ≡ (sizes_of verified.now.config).slots }
     requires each { (last : ℕ) × All (SlotInRange (sizes_of verified.now.config) last) slots.now }
-    requires scan { IsScanOf verified.now.config task store.old }
+    requires of { IsOf verified.now.config task store.old }
     ensures seat { (s : SeatOf) → seat.old ≡ Some s → seat.new ≡ Some (record { variables = s.variables; tickets = Some (map ticket_of slots.now) }) }
-    ensures begins { (s : SeatOf) → seat.old ≡ Some s → state_of (kept_of verified.now.config task store.new) ≡ scan_begins verified.now.config task (record { variables = variables_in verified.now.config task s.variables; snapshot = record { image = image.now; slots = slots.now; globals = globals_in verified.now.config globals.now } }) }
-    ensures scan { IsScanOf verified.now.config task store.new }
+    ensures begins { (s : SeatOf) → seat.old ≡ Some s → store.new.state ≡ scan_begins verified.now.config task (record { variables = variables_in verified.now.config task s.variables; snapshot = record { image = image.now; slots = slots.now; globals = globals_in verified.now.config globals.now } }) }
+    ensures of { IsOf verified.now.config task store.new }
 {
     if let Some(seat) = seat {
-        store.restart(verified, task, &seat.variables, globals, image, slots);
+        let begin = Begin {
+            variables: &seat.variables,
+            globals,
+            image,
+            slots,
+        };
+        store.restart(verified, task, &begin);
         seat.tickets = Some(tickets_of(slots));
     }
 }
@@ -128,11 +135,11 @@ fn start_seat(
 // A task between scans, with what its scan left of its variables.
 fn close_seat(seat: &mut Option<Seat>, verified: &Verified, task: u8, store: &Store)
     requires variables { (s : SeatOf) → seat.old ≡ Some s → FitsOwn verified.now.config task s.variables }
-    requires scan { IsScanOf verified.now.config task store.now }
-    ensures { (s : SeatOf) → seat.old ≡ Some s → (v : RowsOf) × (seat.new ≡ Some (record { variables = v; tickets = None })) × FitsOwn verified.now.config task v × OwnsDeclared verified.now.config task (variables_in verified.now.config task v) × (variables_in verified.now.config task v ≡ restricted (variables_in verified.now.config task s.variables) (state_of (kept_of verified.now.config task store.now)).values) }
+    requires of { IsOf verified.now.config task store.now }
+    ensures { (s : SeatOf) → seat.old ≡ Some s → (v : RowsOf) × (seat.new ≡ Some (record { variables = v; tickets = None })) × FitsOwn verified.now.config task v × OwnsDeclared verified.now.config task (variables_in verified.now.config task v) × (variables_in verified.now.config task v ≡ restricted (variables_in verified.now.config task s.variables) store.now.state.values) }
 {
     if let Some(seat) = seat {
-        store.copy_variables(verified, task, &mut seat.variables);
+        store.copy_variables(verified, &mut seat.variables);
         seat.tickets = None;
     }
 }
@@ -168,17 +175,17 @@ fn settle(image: &mut Image, car: u8, motor: Motor, opens: bool, report: &mut Re
     clear(&mut report.entered);
 }
 
-impl Core {
+impl Shared {
     /// What the tasks share as the group opens, and the tasks (own rule).
-    pub fn new(alloc: Global, verified: &Verified) -> Result<Core, AllocError>
+    pub fn new(alloc: Global, verified: &Verified) -> Result<Shared, AllocError>
         ensures group { IfOk result (λ k. group_in verified.now.config k ≡ opening_group verified.now.config) }
-        ensures fits { IfOk result (CoreFits verified.now.config) }
+        ensures fits { IfOk result (SharedFits verified.now.config) }
     {
         let _config = verified.config();
         let sizes = verified.sizes();
         let globals = copied(alloc, verified.opening_globals())?;
         let seats = opening_seats(alloc, verified, sizes.cars)?;
-        Ok(Core {
+        Ok(Shared {
             image: opening_image(sizes),
             calls: CallBook::new(sizes),
             globals,
@@ -209,7 +216,7 @@ impl Core {
 
     /// The value of a variable of a task, as its last commit left it.
     pub fn variable(&self, verified: &Verified, task: u8, path: &str) -> Option<Value>
-        requires { CoreFits verified.now.config self.now }
+        requires { SharedFits verified.now.config self.now }
         ensures { result ≡ option_and_then (λ s. values.get (variables_in verified.now.config task s.variables) path.now) (seat_at self.now task) }
     {
         let seat = self.seat(task)?;
@@ -218,7 +225,7 @@ impl Core {
 
     /// The value of a global, as the last commit left it.
     pub fn global(&self, verified: &Verified, path: &str) -> Option<Value>
-        requires { CoreFits verified.now.config self.now }
+        requires { SharedFits verified.now.config self.now }
         ensures { result ≡ values.get (globals_in verified.now.config self.now.globals) path.now }
     {
         verified.global(&self.globals, path)
@@ -237,13 +244,13 @@ impl Core {
     /// A task's scan begins, and the task holds the tickets that it sees. No scan of it is open.
     pub fn start(&mut self, verified: &Verified, task: u8, store: &mut Store)
         requires there { IsSome (seat_at self.old task) }
-        requires fits { CoreFits verified.now.config self.old }
+        requires fits { SharedFits verified.now.config self.old }
         requires ranges { InRanges verified.now.config (group_in verified.now.config self.old) }
-        requires scan { IsScanOf verified.now.config task store.old }
-        ensures begins { (s : SeatOf) → seat_at self.old task ≡ Some s → state_of (kept_of verified.now.config task store.new) ≡ scan_begins verified.now.config task (beginning_of (group_in verified.now.config self.old) (task_in verified.now.config task s)) }
+        requires of { IsOf verified.now.config task store.old }
+        ensures begins { (s : SeatOf) → seat_at self.old task ≡ Some s → store.new.state ≡ scan_begins verified.now.config task (beginning_of (group_in verified.now.config self.old) (task_in verified.now.config task s)) }
         ensures shared { (self.new.image ≡ self.old.image) × (self.new.calls ≡ self.old.calls) × (self.new.globals ≡ self.old.globals) }
         ensures seats { (s : SeatOf) → seat_at self.old task ≡ Some s → self.new.seats.items ≡ with_seat self.old task s.variables (Some (map ticket_of self.old.calls.slots)) }
-        ensures scan { IsScanOf verified.now.config task store.new }
+        ensures of { IsOf verified.now.config task store.new }
     {
         let slots = self.calls.slots();
         start_seat(
@@ -261,10 +268,10 @@ impl Core {
     /// and it may serve a call; GROUP tells each call to the car that it assigned.
     pub fn commit(&mut self, verified: &Verified, task: u8, store: &Store, report: &mut Report)
         requires open { HasOpenScan verified.now.config self.old task }
-        requires fits { CoreFits verified.now.config self.old }
+        requires fits { SharedFits verified.now.config self.old }
         requires ranges { InRanges verified.now.config (group_in verified.now.config self.old) }
-        requires scan { IsScanOf verified.now.config task store.now }
-        ensures { Commits verified.now.config task self.old (state_of (kept_of verified.now.config task store.now)).values self.new report.new }
+        requires of { IsOf verified.now.config task store.now }
+        ensures { Commits verified.now.config task self.old store.now.state.values self.new report.new }
     {
         if task == 0 {
             self.commit_group(verified, store, report);
@@ -277,12 +284,12 @@ impl Core {
     fn commit_car(&mut self, verified: &Verified, car: u8, store: &Store, report: &mut Report)
         requires car { 1 ≤ car }
         requires open { HasOpenScan verified.now.config self.old car }
-        requires fits { CoreFits verified.now.config self.old }
+        requires fits { SharedFits verified.now.config self.old }
         requires ranges { InRanges verified.now.config (group_in verified.now.config self.old) }
-        requires scan { IsScanOf verified.now.config car store.now }
-        ensures { Commits verified.now.config car self.old (state_of (kept_of verified.now.config car store.now)).values self.new report.new }
+        requires of { IsOf verified.now.config car store.now }
+        ensures { Commits verified.now.config car self.old store.now.state.values self.new report.new }
     {
-        let wishes = store.wishes(verified, car);
+        let wishes = store.wishes(verified);
         settle(&mut self.image, car, wishes.motor, wishes.opens, report);
         let tickets = saw(&self.seats[usize::from(car)]);
         serve(
@@ -298,10 +305,10 @@ impl Core {
     // GROUP's commit.
     fn commit_group(&mut self, verified: &Verified, store: &Store, report: &mut Report)
         requires open { HasOpenScan verified.now.config self.old 0 }
-        requires fits { CoreFits verified.now.config self.old }
+        requires fits { SharedFits verified.now.config self.old }
         requires ranges { InRanges verified.now.config (group_in verified.now.config self.old) }
-        requires scan { IsScanOf verified.now.config 0 store.now }
-        ensures { Commits verified.now.config 0 self.old (state_of (kept_of verified.now.config 0 store.now)).values self.new report.new }
+        requires of { IsOf verified.now.config 0 store.now }
+        ensures { Commits verified.now.config 0 self.old store.now.state.values self.new report.new }
     {
         let _config = verified.config();
         let _room = self.image.outputs.len();
@@ -322,14 +329,14 @@ impl Core {
     // A task between scans, with what its scan left of its variables and of the globals that its program writes.
     fn close(&mut self, verified: &Verified, task: u8, store: &Store)
         requires there { IsSome (seat_at self.old task) }
-        requires fits { CoreFits verified.now.config self.old }
-        requires scan { IsScanOf verified.now.config task store.now }
+        requires fits { SharedFits verified.now.config self.old }
+        requires of { IsOf verified.now.config task store.now }
         ensures shared { (self.new.image ≡ self.old.image) × (self.new.calls ≡ self.old.calls) }
-        ensures globals { globals_in verified.now.config self.new.globals ≡ written_globals (program_of verified.now.config task) (globals_in verified.now.config self.old.globals) (state_of (kept_of verified.now.config task store.now)).values }
-        ensures closed { (s : SeatOf) → seat_at self.old task ≡ Some s → (v : RowsOf) × (self.new.seats.items ≡ with_seat self.old task v None) × (variables_in verified.now.config task v ≡ restricted (variables_in verified.now.config task s.variables) (state_of (kept_of verified.now.config task store.now)).values) }
-        ensures fits { CoreFits verified.now.config self.new }
+        ensures globals { globals_in verified.now.config self.new.globals ≡ written_globals (program_of verified.now.config task) (globals_in verified.now.config self.old.globals) store.now.state.values }
+        ensures closed { (s : SeatOf) → seat_at self.old task ≡ Some s → (v : RowsOf) × (self.new.seats.items ≡ with_seat self.old task v None) × (variables_in verified.now.config task v ≡ restricted (variables_in verified.now.config task s.variables) store.now.state.values) }
+        ensures fits { SharedFits verified.now.config self.new }
     {
-        store.copy_globals(verified, task, &mut self.globals);
+        store.copy_globals(verified, &mut self.globals);
         close_seat(&mut self.seats[usize::from(task)], verified, task, store);
     }
 

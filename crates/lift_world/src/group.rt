@@ -1,0 +1,150 @@
+// What the tasks of a group share, as the definitions see it.
+
+ghost use Rattle.std.specs.Prelude.{◌≡◌, List, [], Option, ℕ, All, Some, None, IfOk, IsSome, is_some, option_and_then};
+ghost use Rattle.il_table.specs.NameMap as values;
+ghost use Rattle.il_machine.specs.Standing.{IsOf};
+ghost use Rattle.lift_spec.specs.Calls.{enter_all, IsCall};
+ghost use Rattle.lift_spec.specs.Image.{sizes_of, FieldsInRange, Obeys};
+ghost use Rattle.lift_spec.specs.Snapshot.{scan_begins};
+ghost use Rattle.lift_spec.specs.World.{TaskState, task_at, opening_group, beginning_of, started_group, committed_group, refreshed_group, InRanges};
+ghost use Rattle.lift_world.specs.Worlds.{is_open_in};
+
+use crate::shared::Shared;
+use il_machine::{Store, Value, Verified};
+use lift_image::{Fields, Image};
+use lift_spec::calls::Slot;
+use lift_spec::hand::Hand;
+use lift_spec::report::Report;
+use std::alloc::{AllocError, Global};
+use std::marker::Model;
+use std::snapshot::Snapshot;
+
+/// What the tasks of a program share, and the tasks. Its image lies in its ranges and obeys the interlock, whatever events come.
+pub struct Core {
+    program: Snapshot<Verified>,
+    shared: Shared,
+}
+
+// Written by hand, since who drops a type whose drop is derived proves the drop of each type inside again.
+impl Drop for Core {
+    fn drop(self) {
+        let Core { shared: _shared, .. } = self;
+    }
+}
+
+impl Model for Core {
+    ghost use Rattle.lift_world.specs.Worlds.{GroupOf, group_of_code};
+    ghost use Rattle.lift_world.specs.Running.{group_in, HoldsShared};
+
+    ghost Value = { GroupOf };
+
+    ghost coded = { group_of_code };
+
+    ghost view = { λ k. record { config = k.program.value.config; group = group_in k.program.value.config k.shared } };
+
+    ghost invariant = { λ k. HoldsShared k.program.value.config k.shared };
+}
+
+impl Core {
+    /// The group as it opens (own rule).
+    pub fn new(alloc: Global, verified: &Verified) -> Result<Core, AllocError>
+        ensures config { IfOk result (λ k. k.config ≡ verified.now.config) }
+        ensures group { IfOk result (λ k. k.group ≡ opening_group verified.now.config) }
+    {
+        let _config = verified.config();
+        let shared = Shared::new(alloc, verified)?;
+        Ok(Core {
+            program: Snapshot::of(verified),
+            shared,
+        })
+    }
+
+    /// What holds of every group: image, slots and globals lie in their ranges, and the image obeys the interlock.
+    pub fn holds(&self)
+        ensures ranges { InRanges self.now.config self.now.group }
+        ensures obeys { Obeys self.now.group.image }
+    {
+        let _image = self.shared.image();
+    }
+
+    /// The image.
+    pub fn image(&self) -> &Image
+        ensures { result.now ≡ self.now.group.image }
+    {
+        self.shared.image()
+    }
+
+    /// The call slots, slot 1 first.
+    pub fn slots(&self) -> &[Slot]
+        ensures { result.now ≡ self.now.group.calls.slots }
+    {
+        self.shared.slots()
+    }
+
+    /// Whether the group has the task of a number.
+    pub fn has_task(&self, task: u8) -> bool
+        ensures { result ≡ is_some (task_at self.now.group task) }
+    {
+        self.shared.seat(task).is_some()
+    }
+
+    /// Whether a scan of a task is open.
+    pub fn is_open(&self, task: u8) -> bool
+        ensures { result ≡ is_open_in self.now.group task }
+    {
+        self.shared.is_open(task)
+    }
+
+    /// The value of a variable of a task, as its last commit left it.
+    pub fn variable(&self, verified: &Verified, task: u8, path: &str) -> Option<Value>
+        requires { self.now.config ≡ verified.now.config }
+        ensures { result ≡ option_and_then (λ t. values.get t.variables path.now) (task_at self.now.group task) }
+    {
+        self.shared.variable(verified, task, path)
+    }
+
+    /// The value of a global, as the last commit left it.
+    pub fn global(&self, verified: &Verified, path: &str) -> Option<Value>
+        requires { self.now.config ≡ verified.now.config }
+        ensures { result ≡ values.get self.now.group.globals path.now }
+    {
+        self.shared.global(verified, path)
+    }
+
+    /// A task's scan begins, in this store, and the task holds the tickets that it sees. No allocation.
+    pub fn start(&mut self, verified: &Verified, task: u8, store: &mut Store)
+        requires program { self.old.config ≡ verified.now.config }
+        requires there { IsSome (task_at self.old.group task) }
+        requires of { IsOf verified.now.config task store.old }
+        ensures config { self.new.config ≡ self.old.config }
+        ensures group { (x : TaskState) → task_at self.old.group task ≡ Some x → self.new.group ≡ started_group self.old.group task x }
+        ensures begins { (x : TaskState) → task_at self.old.group task ≡ Some x → store.new.state ≡ scan_begins verified.now.config task (beginning_of self.old.group x) }
+        ensures of { IsOf verified.now.config task store.new }
+    {
+        self.shared.start(verified, task, store);
+    }
+
+    /// A task's scan hands over its variables and the globals that its program writes. A car's outputs are settled, and it may serve a
+    /// call; GROUP tells each call to the car that it assigned. No allocation.
+    pub fn commit(&mut self, verified: &Verified, task: u8, store: &Store, report: &mut Report)
+        requires program { self.old.config ≡ verified.now.config }
+        requires open { (x : TaskState) × (tickets : List (Option ℕ)) × (task_at self.old.group task ≡ Some x) × (x.tickets ≡ Some tickets) }
+        requires of { IsOf verified.now.config task store.now }
+        ensures config { self.new.config ≡ self.old.config }
+        ensures group { (x : TaskState) (tickets : List (Option ℕ)) → task_at self.old.group task ≡ Some x → x.tickets ≡ Some tickets → committed_group verified.now.config self.old.group task x tickets store.now.state.values ≡ (self.new.group, report.new) }
+    {
+        self.shared.commit(verified, task, store, report);
+    }
+
+    /// The image takes fields in their ranges, the outputs are settled under them, and calls of the group enter. No allocation.
+    pub fn refresh(&mut self, fields: &Fields, hand: &mut Hand, report: &mut Report)
+        requires fields { FieldsInRange (sizes_of self.old.config) fields.now }
+        requires calls { All (IsCall (sizes_of self.old.config)) hand.old }
+        ensures config { self.new.config ≡ self.old.config }
+        ensures group { refreshed_group self.old.group fields.now hand.old ≡ (self.new.group, report.new) }
+        ensures hand { hand.new ≡ (enter_all self.old.group.calls [] hand.old).hand }
+    {
+        hand.in_order();
+        self.shared.refresh(fields, hand, report);
+    }
+}
