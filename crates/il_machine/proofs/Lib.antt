@@ -18,3 +18,4 @@ pub mod Bases
 pub mod Shared
 pub mod Seated
 pub mod Standing
+pub mod Shown

@@ -97,7 +97,7 @@ cost_found c (v ∷ vs) name u line first shown = by (λ e f. cost_found c vs na
     by rest false e f = rest e f
 
 -- the unit of a program is the first of its name
-program_is_first : (c : Config) (name : Text) (u : Organized) → program_named c name ≡ Some u → find (λ u. bytes_eq u.name.name name) c.units ≡ Some u
+pub program_is_first : (c : Config) (name : Text) (u : Organized) → program_named c name ≡ Some u → find (λ u. bytes_eq u.name.name name) c.units ≡ Some u
 program_is_first c name u e = by_reserved (is_predeclared c name) e
   where
     by_unit : (o : Option Organized) → option_and_then (λ w. if is_program w then Some w else None) o ≡ Some u → o ≡ Some u

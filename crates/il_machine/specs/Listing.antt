@@ -11,6 +11,7 @@ use Rattle.il_machine.specs.declared.verified.TaskInfo.{TaskInfo}
 use Rattle.il_table.specs.NameMap.{Text}
 use Rattle.il_run.specs.Paths.{IsLongest}
 use Rattle.lift_spec.specs.Snapshot.{task_name, program_of}
+use Rattle.lift_run_laws.specs.Tasks.{IsTaskOf}
 use Rattle.il_machine.specs.Scanning.{Program}
 
 -- UNITS
@@ -113,3 +114,7 @@ task_shown t = record { name = t.name.now; interval = t.interval; priority = t.p
 -- The budget that is printed of a task is the greatest cost of a control path of its program.
 abbrev pub PrintsBudgets : Program → Type 0
 PrintsBudgets p = (task : ℕ) (line : TaskLine) (u : Organized) → task_line p task ≡ Some line → program_of p.config task ≡ Some u → IsLongest p.config u line.budget
+
+-- Each task of the group is among those that are listed.
+abbrev pub ListsTasks : Program → Type 0
+ListsTasks p = (task : ℕ) (u : Organized) → IsTaskOf p.config task u → (line : TaskLine) × (task_line p task ≡ Some line)

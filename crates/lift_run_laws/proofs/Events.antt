@@ -133,13 +133,13 @@ calls_hold : (c : Config) (steps : ℕ → ℕ) (w : World) → WorldHolds c ste
 calls_hold c steps w h = record { slots = h.ranges.slots; each = h.ranges.each_slot; tickets = h.tickets }
 
 -- what a commit leaves of the group
-record CommitsWell (c : Config) (g : Group) (t : ℕ) (task : TaskState) (values : Values) (after : Group) : Type 0 where
+pub record CommitsWell (c : Config) (g : Group) (t : ℕ) (task : TaskState) (values : Values) (after : Group) : Type 0 where
   pub ranges : InRanges c after
   pub tickets : TicketsHold after.calls
   pub obeys : Obeys after.image
   pub tasks : after.tasks ≡ closed_tasks g t task values
 
-commits_well :
+pub commits_well :
     (c : Config) (g : Group) (t n : ℕ) (u : ProgramUnit) (task : TaskState) (tickets : List (Option ℕ)) (s : State) → IsSized c → InRanges c g → CallsHold (sizes_of c) g.calls → Obeys g.image → IsTaskOf c t u
     → ScanHolds c t u n s → length tickets ≡ (sizes_of c).slots → CommitsWell c g t task s.values (committed_group c g t task tickets s.values).0
 unfolding committed_group

@@ -3,7 +3,8 @@ pub mod Sound
 pub mod Views
 pub mod Events
 pub mod Sharing
-pub mod Opening
+pub mod Opens
+pub mod Grouped
 pub mod Committing
 pub mod Keeping
 pub mod Finishing

@@ -1,40 +1,31 @@
 -- What the machine runs is sound, and what every world of a run keeps.
-use Rattle.std.proofs.Common.{◌≡◌, ℕ, List, [], ◌∷◌, length, map, Option, Some, None, sym, ap, ap₂, ◌∙◌, arith, Ok, if◌then◌else◌}
-use Rattle.std.specs.Prelude.{Contains, find, bytes_eq, is_some, slice_get}
-use Rattle.std.proofs.lemmas.List.{length-map}
+use Rattle.std.proofs.Common.{◌≡◌, ℕ, List, [], ◌∷◌, map, Option, Some, None, sym, ap, ◌∙◌, arith, Ok}
+use Rattle.std.specs.Prelude.{Contains, find, bytes_eq}
 use Rattle.il_spec.specs.declared.tree.Config.{Config}
+use Rattle.il_spec.specs.declared.tree.ProgramLine.{ProgramLine}
 use Rattle.il_spec.specs.declared.tree.Unit.{Unit as Organized}
-use Rattle.il_run.specs.State.{State}
 use Rattle.il_run.specs.Paths.{longest, IsLongest}
+use Rattle.il_run.specs.Scan.{program_of as line_program}
 use Rattle.lift_spec.specs.declared.event.Event.{Event as Happening}
 use Rattle.lift_spec.specs.Replies.{Reply}
-use Rattle.lift_spec.specs.Calls.{ticket_of}
-use Rattle.lift_spec.specs.World.{World, TaskState, InRanges, run, opening, happens, flat, task_at, scan_at}
-use Rattle.il_spec.specs.declared.tree.ProgramLine.{ProgramLine}
-use Rattle.il_run.specs.Scan.{program_of as line_program}
 use Rattle.lift_spec.specs.Snapshot.{task_name, program_of}
-use Rattle.lift_run_laws.specs.Holding.{WorldHolds, SeatHolds}
-use Rattle.lift_run_laws.specs.Tasks.{budget_of, budget_by}
+use Rattle.lift_spec.specs.World.{World, run, opening, happens}
+use Rattle.lift_run_laws.specs.Tasks.{IsTaskOf, budget_of, budget_by}
 use Rattle.lift_run_laws.specs.Runs.{WorldWell, IsReached}
-use Rattle.lift_spec.specs.Image.{sizes_of, Obeys}
-use Rattle.lift_world.specs.declared.controller.Controller.{Controller}
-use Rattle.lift_world.specs.declared.shared.Seat.{Seat}
-use Rattle.lift_world.specs.Running.{seat_at, task_in, seated, scanned, world_of, group_in, IsWorldOf}
 use Rattle.lift_run_laws.specs.Histories.{CallGoesWell}
-use Rattle.lift_run_laws.proofs.Accepted.{accepted_runs_well, opens_well, scans_well}
-use Rattle.lift_run_laws.proofs.Running.{reached_world_holds}
+use Rattle.lift_run_laws.proofs.Accepted.{accepted_runs_well}
 use Rattle.lift_run_laws.proofs.Histories.{accepted_calls_go_well, event_is_run}
 use Rattle.lift_run_laws.proofs.Following.{goes_on}
-use Rattle.il_exec.specs.Going.{Stored}
-use Rattle.il_machine.specs.Scanning.{Program, IsRunnable, kept_of, state_of}
+use Rattle.il_machine.specs.Scanning.{Program, IsRunnable}
 use Rattle.il_budget.specs.Costs.{cost_of}
 use Rattle.il_machine.specs.Listing.{TaskLine, task_line}
 use Rattle.il_machine.proofs.Lines.{prints_budgets}
+use Rattle.il_machine.proofs.Shown.{lists_tasks}
 use Rattle.il_machine.proofs.Scans.{sound_of}
 use Rattle.il_cost_laws.proofs.Accepted.{has_longest}
 use Rattle.il_scan_laws.proofs.Named.{found_unit}
 use Rattle.il_scan_laws.proofs.Meant.{program_is}
-use Rattle.lift_world.proofs.Views.{task_here, scan_here}
+use Rattle.lift_world.specs.Worlds.{PrintsEachBudget}
 
 -- RUNS OF A WORLD
 
@@ -58,45 +49,6 @@ many_events c w v events earlier replies reached is = goes_on c w v earlier repl
 pub reached_well : (c : Config) → IsRunnable c → (w : World) (r : IsReached c w) → WorldWell c r.events r.replies w
 reached_well c runs w r = (accepted_runs_well c (sound_of c runs)).well r.events w r.replies r.is
 
--- so its image lies in its ranges and obeys the interlock
-pub world_ranges : (w : Controller) → IsWorldOf w → InRanges w.verified.config (group_in w.verified.config w.core)
-world_ranges w is = (reached_well w.verified.config is.runnable (world_of w) is.reached).ranges
-
-pub world_obeys : (w : Controller) → IsWorldOf w → Obeys w.core.image
-world_obeys w is = (reached_well w.verified.config is.runnable (world_of w) is.reached).obeys
-
--- an open scan saw the ticket of each slot
-pub world_tickets : (w : Controller) → IsWorldOf w → (t : ℕ) (s : Seat) (st : Stored) (tickets : List (Option ℕ)) → seat_at w.core t ≡ Some s → flat (slice_get w.stores.items t) ≡ Some st → s.tickets ≡ Some tickets
-    → length tickets ≡ (sizes_of w.verified.config).slots
-world_tickets w is t s st tickets there kept saw = by (task_at (world_of w).group t) (scan_at (world_of w) t) (holds.1.each t) task scan
-  where
-    c : Config
-    c = w.verified.config
-
-    holds : (steps : ℕ → ℕ) × WorldHolds c steps (world_of w)
-    holds = reached_world_holds c (opens_well c (sound_of c is.runnable)) (scans_well c (sound_of c is.runnable)) (world_of w) is.reached
-
-    task : task_at (world_of w).group t ≡ Some (task_in c t s)
-    task = task_here c w.core.seats.items t ∙ ap (seated c t) there
-
-    scan : scan_at (world_of w) t ≡ Some (state_of (kept_of c t st))
-    scan =
-        scan_here c w.core.seats.items w.stores.items t is.stores.as_many ∙ ap₂ (scanned c t) there kept ∙ ap (λ o. if is_some o then Some (state_of (kept_of c t st)) else None) saw
-
-    by : (o : Option TaskState) (x : Option State) → SeatHolds c t (holds.0 t) o x → o ≡ Some (task_in c t s) → x ≡ Some (state_of (kept_of c t st)) → length tickets ≡ (sizes_of c).slots
-    by None x seat e f = let bad : ◌≡◌ {A = Option TaskState} None (Some (task_in c t s)) = e in cc
-    by (Some a) None seat e f = let bad : ◌≡◌ {A = Option State} None (Some (state_of (kept_of c t st))) = f in cc
-    by (Some a) (Some x) seat e f =
-        let open_so = seat.scanning in
-        let same : a.tickets ≡ Some tickets = ap (λ o. tickets_by o) e ∙ saw in
-        let all : Some tickets ≡ Some (map ticket_of open_so.group.calls.slots) = sym same ∙ open_so.tickets in
-        let each : tickets ≡ map ticket_of open_so.group.calls.slots = cc in
-        ap length each ∙ length-map open_so.group.calls.slots ticket_of ∙ open_so.ranges.slots
-      where
-        tickets_by : Option TaskState → Option (List (Option ℕ))
-        tickets_by None = None
-        tickets_by (Some task) = task.tickets
-
 -- BUDGETS
 
 -- a unit has one greatest cost
@@ -117,3 +69,7 @@ printed_is p runs costs task line u shown program =
     let s = sound_of p.config runs in
     one_longest p.config u line.budget (longest p.config u) (prints_budgets p runs costs task line u shown program) (has_longest p.config s.declared s.typed s.ordered u (program_among p.config task u program)).greatest
     ∙ ap (budget_by p.config) (sym program)
+
+-- and each task's line is there
+pub prints_each : (p : Program) → IsRunnable p.config → p.costs ≡ map (cost_of p.config) p.config.units → PrintsEachBudget p
+prints_each p runs costs task u is = let line = lists_tasks p runs costs task u is in (line.0, line.1, printed_is p runs costs task line.0 u line.1 is.program)

@@ -1,25 +1,24 @@
 -- The opening tasks and stores.
-use Rattle.std.proofs.Common.{◌≡◌, ℕ, zero, suc, ◌+◌, ◌⊎◌, inl, inr, ap₂, ◌≤◌, ◌<◌, ℤ, pos, negsuc, ◌≤ℤ◌, Bool, true, List, [], ◌∷◌, ◌++◌, length, Option, Some, None, refl, sym, ap, ◌∙◌, subst, arith, if◌then◌else◌}
-use Rattle.std.specs.Prelude.{slice_get, slice_set, is_some, nat_abs, replicate}
+use Rattle.std.proofs.Common.{◌≡◌, ℕ, zero, suc, ◌+◌, ◌⊎◌, inl, inr, ap₂, ◌≤◌, ◌<◌, ℤ, pos, negsuc, ◌≤ℤ◌, Bool, true, List, [], ◌∷◌, ◌++◌, length, Option, Some, None, refl, sym, ap, ◌∙◌, subst, arith}
+use Rattle.std.specs.Prelude.{slice_get, is_some, nat_abs, replicate}
 use Rattle.il_spec.specs.declared.tree.Config.{Config}
 use Rattle.il_spec.specs.declared.tree.Unit.{Unit as Organized}
 use Rattle.il_run.specs.State.{Values}
 use Rattle.il_run.specs.Scan.{opening_variables}
 use Rattle.il_slots.specs.Layout.{Rows}
-use Rattle.il_exec.specs.Going.{Stored}
-use Rattle.il_machine.specs.Scanning.{IsRunnable, IsScanOf, HasTask, FitsOwn, OwnsDeclared, variables_in, kept_of, state_of}
+use Rattle.il_machine.specs.Scanning.{IsRunnable, HasTask, variables_in}
+use Rattle.il_machine.specs.Standing.{Standing, IsOf}
 use Rattle.il_machine.proofs.Sizes.{cars_within, floors_within, slots_within}
 use Rattle.lift_spec.specs.Image.{sizes_of}
 use Rattle.lift_spec.specs.Snapshot.{program_of, has_task}
-use Rattle.lift_spec.specs.World.{Group, TaskState, flat, opening, opening_group, opening_task, opening_tasks_from}
+use Rattle.lift_spec.specs.World.{Group, TaskState, flat, task_at, opening, opening_group, opening_task, opening_tasks_from}
 use Rattle.std.proofs.lemmas.List.{length-append}
 use Rattle.std.proofs.lemmas.Bool.{cases_eq, cases_lt}
 use Rattle.std.proofs.lemmas.Int.{ints}
 use Rattle.lift_world.specs.declared.shared.Seat.{Seat}
-use Rattle.lift_world.specs.declared.shared.Core.{Core}
-use Rattle.lift_world.specs.Running.{seat_at, task_in, seated, tasks_in, scanned, scans_in, group_in, world_by, StoresFit}
-use Rattle.il_machine.specs.Sharing.{globals_in}
-use Rattle.lift_world.proofs.Views.{after_set, flat_of, task_here, beyond}
+use Rattle.lift_world.specs.Running.{task_in, seated, tasks_in}
+use Rattle.lift_world.specs.Worlds.{scan_by, scans_by, world_by, StoresFit}
+use Rattle.lift_world.proofs.Views.{flat_of, beyond}
 
 -- a task that is there has a program
 there_is : {X : Type 0} (o : Option X) → is_some o ≡ true → (x : X) × (o ≡ Some x)
@@ -113,41 +112,39 @@ there_more Q xs o n many so_far next t below =
       | inr other ↦ ap is_some (front_is xs o t (omega (arith, below, other, many))) ∙ so_far t (omega (arith, below, other))
     ]
 
--- NO SCAN IS OPEN
+-- THE OPENING WORLD
 
-idle : (c : Config) (t : ℕ) (s : Option Seat) (o : Option Organized) (st : Option Stored) → seated c t s ≡ opening_task c o → scanned c t s st ≡ None
-idle c t None o st e = refl
-idle c t (Some s) o None e = refl
-idle c t (Some s) None (Some st) e = let bad : ◌≡◌ {A = Option TaskState} (Some (task_in c t s)) None = e in cc
-idle c t (Some s) (Some u) (Some st) e =
-    let tickets : s.tickets ≡ None = ap (λ o. tickets_by o) e in
-    ap (λ o. if is_some o then Some (state_of (kept_of c t st)) else None) tickets
+-- no task that opens holds tickets
+opens_idle : (c : Config) (o : Option Organized) (task : TaskState) → opening_task c o ≡ Some task → task.tickets ≡ None
+opens_idle c None task e = let bad : ◌≡◌ {A = Option TaskState} None (Some task) = e in cc
+opens_idle c (Some u) task e = ap (λ o. tickets_by o) (sym e)
   where
     tickets_by : Option TaskState → Option (List (Option ℕ))
     tickets_by None = None
-    tickets_by (Some task) = task.tickets
+    tickets_by (Some t) = t.tickets
 
-all_idle : (c : Config) (n k : ℕ) (seats : List (Option Seat)) (stores : List (Option Stored)) → tasks_in c n seats ≡ opening_tasks_from c n k → length stores ≡ k → scans_in c n seats stores ≡ replicate k None
-all_idle c n zero [] [] e many = refl
-all_idle c n zero [] (x ∷ stores) e many = absurd (omega (arith, many))
-all_idle c n zero (s ∷ seats) stores e many = let bad : ◌≡◌ {A = List (Option TaskState)} (seated c n s ∷ tasks_in c (n + 1) seats) [] = e in cc
-all_idle c n (suc k) [] stores e many = let bad : ◌≡◌ {A = List (Option TaskState)} [] (opening_task c (program_of c n) ∷ opening_tasks_from c (n + 1) k) = e in cc
-all_idle c n (suc k) (s ∷ seats) [] e many = absurd (omega (arith, many))
-all_idle c n (suc k) (s ∷ seats) (st ∷ stores) e many =
-    let same : (seated c n s ∷ tasks_in c (n + 1) seats) ≡ (opening_task c (program_of c n) ∷ opening_tasks_from c (n + 1) k) = e in
-    let first : seated c n s ≡ opening_task c (program_of c n) = cc in
-    let rest : tasks_in c (n + 1) seats ≡ opening_tasks_from c (n + 1) k = cc in
-    ap₂ (λ o os. o ∷ os) (idle c n s (program_of c n) st first) (all_idle c (n + 1) k seats stores rest (omega (arith, many)))
+pub all_idle : (c : Config) (n k t : ℕ) (task : TaskState) → flat (slice_get (opening_tasks_from c n k) t) ≡ Some task → task.tickets ≡ None
+all_idle c n zero zero task e = let bad : ◌≡◌ {A = Option TaskState} None (Some task) = e in cc
+all_idle c n zero (suc t) task e = let bad : ◌≡◌ {A = Option TaskState} None (Some task) = e in cc
+all_idle c n (suc k) zero task e = opens_idle c (program_of c n) task (sym (flat_of (opening_task c (program_of c n))) ∙ e)
+all_idle c n (suc k) (suc t) task e = all_idle c (n + 1) k t task e
+
+no_scan : (c : Config) (o : Option Organized) (s : Option Standing) → scan_by (opening_task c o) s ≡ None
+no_scan c None s = refl
+no_scan c (Some u) None = refl
+no_scan c (Some u) (Some s) = refl
+
+no_scans : (c : Config) (n k : ℕ) (stores : List (Option Standing)) → length stores ≡ k → scans_by (opening_tasks_from c n k) stores ≡ replicate k None
+no_scans c n zero stores many = refl
+no_scans c n (suc k) [] many = absurd (omega (arith, many))
+no_scans c n (suc k) (s ∷ stores) many = ap₂ (λ o os. o ∷ os) (no_scan c (program_of c n) s) (no_scans c (n + 1) k stores (omega (arith, many)))
 
 -- the group as it opens, with a store for each task, is the opening world
-pub world_opens : (c : Config) (k : Core) (stores : List (Option Stored)) → group_in c k ≡ opening_group c → length stores ≡ suc (sizes_of c).cars → world_by c k.image k.calls (globals_in c k.globals) k.seats.items stores [] [] ≡ opening c
+pub world_opens : (c : Config) (g : Group) (stores : List (Option Standing)) → g ≡ opening_group c → length stores ≡ suc (sizes_of c).cars → world_by g stores [] [] ≡ opening c
 unfolding opening
-world_opens c k stores group many =
-    ap₂ (λ (g : Group) ss. record { group = g; scans = ss; desk = []; hand = [] }) group (all_idle c 0 (suc (sizes_of c).cars) k.seats.items stores (ap (λ (g : Group). g.tasks) group) many)
-
-tasks_length : (c : Config) (n : ℕ) (seats : List (Option Seat)) → length (tasks_in c n seats) ≡ length seats
-tasks_length c n [] = refl
-tasks_length c n (s ∷ seats) = ap suc (tasks_length c (n + 1) seats)
+world_opens c g stores group many =
+    ap (λ (x : Group). world_by x stores [] []) group
+    ∙ ap (λ ss. record { group = opening_group c; scans = ss; desk = []; hand = [] }) (no_scans c 0 (suc (sizes_of c).cars) stores many)
 
 opening_length : (c : Config) (n k : ℕ) → length (opening_tasks_from c n k) ≡ k
 opening_length c n zero = refl
@@ -162,30 +159,25 @@ opens_there : (c : Config) (o : Option Organized) → is_some (opening_task c o)
 opens_there c None = refl
 opens_there c (Some u) = refl
 
-seated_there : (c : Config) (t : ℕ) (o : Option Seat) → is_some (seated c t o) ≡ is_some o
-seated_there c t None = refl
-seated_there c t (Some s) = refl
-
 -- as many tasks as the sizes say
-pub seats_many : (c : Config) (k : Core) → group_in c k ≡ opening_group c → length k.seats.items ≡ suc (sizes_of c).cars
-seats_many c k group = sym (tasks_length c 0 k.seats.items) ∙ ap (λ (g : Group). length g.tasks) group ∙ opening_length c 0 (suc (sizes_of c).cars)
+pub tasks_many : (c : Config) (g : Group) → g ≡ opening_group c → length g.tasks ≡ suc (sizes_of c).cars
+tasks_many c g group = ap (λ (x : Group). length x.tasks) group ∙ opening_length c 0 (suc (sizes_of c).cars)
 
 -- a task is there where the group has its program
-seat_opening : (c : Config) (k : Core) (t : ℕ) → group_in c k ≡ opening_group c → t ≤ (sizes_of c).cars → is_some (seat_at k t) ≡ is_some (program_of c t)
-seat_opening c k t group few =
+task_opening : (c : Config) (g : Group) (t : ℕ) → g ≡ opening_group c → t ≤ (sizes_of c).cars → is_some (task_at g t) ≡ is_some (program_of c t)
+task_opening c g t group few =
     let below : t < suc (sizes_of c).cars = omega (arith, few) in
     let here : 0 + t ≡ t = omega arith in
-    sym (seated_there c t (seat_at k t)) ∙ ap is_some (sym (task_here c k.seats.items t)) ∙ ap (λ (g : Group). is_some (flat (slice_get g.tasks t))) group
-    ∙ ap is_some (opening_get c 0 (suc (sizes_of c).cars) t below) ∙ ap (λ m. is_some (opening_task c (program_of c m))) here ∙ opens_there c (program_of c t)
+    ap (λ (x : Group). is_some (task_at x t)) group ∙ ap is_some (opening_get c 0 (suc (sizes_of c).cars) t below) ∙ ap (λ m. is_some (opening_task c (program_of c m))) here ∙ opens_there c (program_of c t)
 
-pub stores_open : (c : Config) (k : Core) (stores : List (Option Stored)) → group_in c k ≡ opening_group c → length stores ≡ suc (sizes_of c).cars
-    → ((t : ℕ) → t ≤ (sizes_of c).cars → is_some (flat (slice_get stores t)) ≡ is_some (program_of c t)) → ((t : ℕ) (s : Stored) → flat (slice_get stores t) ≡ Some s → IsScanOf c t s) → StoresFit c k stores
-stores_open c k stores group many found each = record {
-  as_many = many ∙ sym (seats_many c k group);
+pub stores_open : (c : Config) (g : Group) (stores : List (Option Standing)) → g ≡ opening_group c → length stores ≡ suc (sizes_of c).cars
+    → ((t : ℕ) → t ≤ (sizes_of c).cars → is_some (flat (slice_get stores t)) ≡ is_some (program_of c t)) → ((t : ℕ) (s : Standing) → flat (slice_get stores t) ≡ Some s → IsOf c t s) → StoresFit c g.tasks stores
+stores_open c g stores group many found each = record {
+  as_many = many ∙ sym (tasks_many c g group);
   there = λ t.
       elim (cases_lt (sizes_of c).cars t) [
-        | inr few ↦ found t few ∙ sym (seat_opening c k t group few)
-        | inl past ↦ ap is_some (beyond stores t (omega (arith, past, many))) ∙ ap is_some (sym (beyond k.seats.items t (let n = seats_many c k group in omega (arith, past, n))))
+        | inr few ↦ found t few ∙ sym (task_opening c g t group few)
+        | inl past ↦ ap is_some (beyond stores t (omega (arith, past, many))) ∙ ap is_some (sym (beyond g.tasks t (let n = tasks_many c g group in omega (arith, past, n))))
       ];
   each = each;
 }
