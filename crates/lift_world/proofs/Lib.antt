@@ -10,3 +10,4 @@ pub mod Keeping
 pub mod Finishing
 pub mod Replying
 pub mod Happening
+pub mod Alone

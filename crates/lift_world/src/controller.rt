@@ -1,8 +1,9 @@
 // A lift group: what the tasks share, where their scans stand, and its calls.
 
-ghost use Rattle.std.specs.Prelude.{◌≡◌, ◌≢◌, ℕ, suc, ◌+◌, ◌≤◌, [], length, slice_get, is_some, Some, Ok, IfOk, IfErr, IsSome};
+ghost use Rattle.std.specs.Prelude.{◌≡◌, ◌≢◌, ℕ, suc, ◌+◌, ◌≤◌, [], length, slice_get, is_some, option_and_then, Some, Ok, IfOk, IfErr, IsSome};
 ghost use Rattle.il_machine.specs.Standing.{Standing, IsOf};
-ghost use Rattle.lift_spec.specs.Image.{sizes_of};
+ghost use Rattle.il_table.specs.NameMap as values;
+ghost use Rattle.lift_spec.specs.Image.{sizes_of, FieldsInRange, Obeys};
 ghost use Rattle.lift_spec.specs.declared.event.EventFault.TheVariants.{NoOpenScan};
 ghost use Rattle.lift_spec.specs.declared.event.Event.TheVariants as event;
 ghost use Rattle.lift_spec.specs.declared.report.Report.{Report as ReportOf};
@@ -16,9 +17,9 @@ ghost use Rattle.lift_world.specs.Worlds.{world_in, IsController, StoresFit, Ste
 
 use crate::group::Core;
 use crate::replies::Replies;
-use il_machine::{Stepped, Store, Verified, finish, step};
+use il_machine::{Stepped, Store, Value, Verified, finish, step};
 use il_spec::pair::both;
-use lift_image::{Fields, in_range, is_floor};
+use lift_image::{Fields, Image, in_range, is_floor};
 use lift_spec::calls::Call;
 use lift_spec::event::{Event, EventFault, Reply};
 use lift_spec::hand::Hand;
@@ -171,6 +172,33 @@ impl Controller {
         }
     }
 
+    /// The image. It lies in its ranges and obeys the interlock.
+    pub fn image(&self) -> &Image
+        requires { IsController self.now }
+        ensures image { result.now ≡ self.now.core.group.image }
+        ensures ranges { FieldsInRange (sizes_of self.now.verified.config) self.now.core.group.image.fields }
+        ensures obeys { Obeys self.now.core.group.image }
+    {
+        self.core.holds();
+        self.core.image()
+    }
+
+    /// The value of a global, by its path, as the last commit left it.
+    pub fn global(&self, path: &str) -> Option<Value>
+        requires { IsController self.now }
+        ensures { result ≡ values.get self.now.core.group.globals path.now }
+    {
+        self.core.global(&self.verified, path)
+    }
+
+    /// The value of a variable of a task, as its last commit left it.
+    pub fn variable(&self, task: u8, path: &str) -> Option<Value>
+        requires { IsController self.now }
+        ensures { result ≡ option_and_then (λ t. values.get t.variables path.now) (task_at self.now.core.group task) }
+    {
+        self.core.variable(&self.verified, task, path)
+    }
+
     // Start: the task's scan begins.
     fn start(&mut self, task: u8) -> Reply
         requires { IsController self.old }
@@ -217,6 +245,7 @@ impl Controller {
     fn commit(&mut self, task: u8, report: &mut Report) -> Reply
         requires { IsController self.old }
         ensures model { model.happens self.old.verified.config (world_in self.old) (event.Commit task) ≡ Ok (world_in self.new, reply_with result report.new) }
+        ensures kept { reports_by result ≡ 0 → report.new ≡ report.old }
         ensures one { reports_by result ≤ 1 }
         ensures same { self.new.verified ≡ self.old.verified }
         ensures core { self.new.core.config ≡ self.old.core.config }
@@ -242,6 +271,7 @@ impl Controller {
     fn refresh(&mut self, fields: &Fields, report: &mut Report) -> Reply
         requires { IsController self.old }
         ensures model { model.happens self.old.verified.config (world_in self.old) (event.Refresh fields.now) ≡ Ok (world_in self.new, reply_with result report.new) }
+        ensures kept { reports_by result ≡ 0 → report.new ≡ report.old }
         ensures one { reports_by result ≤ 1 }
         ensures same { self.new.verified ≡ self.old.verified }
         ensures core { self.new.core.config ≡ self.old.core.config }
@@ -299,6 +329,7 @@ impl Controller {
     pub fn happen(&mut self, event: &Event, report: &mut Report) -> Reply
         requires { IsController self.old }
         ensures model { model.happens self.old.verified.config (world_in self.old) event.now ≡ Ok (world_in self.new, reply_with result report.new) }
+        ensures kept { reports_by result ≡ 0 → report.new ≡ report.old }
         ensures reports { reports_by result ≤ may_report event.now }
         ensures same { self.new.verified ≡ self.old.verified }
         ensures world { IsController self.new }

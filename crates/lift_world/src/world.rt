@@ -13,7 +13,8 @@ ghost use Rattle.lift_spec.specs.World as model;
 ghost use Rattle.lift_run_laws.specs.Tasks.{budget_of};
 ghost use Rattle.lift_run_laws.specs.Runs.{IsReached};
 ghost use Rattle.lift_run_laws.specs.Histories.{CallGoesWell};
-ghost use Rattle.lift_world.specs.Running.{world_of, reporting, instructions, up_to_end};
+ghost use Rattle.lift_world.specs.Running.{reports_by, reporting, instructions, up_to_end};
+ghost use Rattle.lift_world.specs.Worlds.{PrintsEachBudget};
 
 use crate::controller::Controller;
 use crate::replies::Replies;
@@ -40,24 +41,22 @@ impl Drop for World {
 }
 
 impl Model for World {
-    ghost use Rattle.lift_world.specs.declared.controller.Controller.{Controller as ControllerOf};
-    ghost use Rattle.lift_world.specs.contracts.controller.Controller as row;
-    ghost use Rattle.lift_world.specs.Running.{IsWorldOf};
+    ghost use Rattle.lift_world.specs.Worlds.{WorldOf, world_of_code, world_in, IsController};
 
-    ghost Value = { ControllerOf };
+    ghost Value = { WorldOf };
 
-    ghost coded = { row.the_row.coded };
+    ghost coded = { world_of_code };
 
-    ghost view = { λ w. w.group };
+    ghost view = { λ w. record { program = w.group.verified; world = world_in w.group } };
 
-    ghost invariant = { λ w. IsWorldOf w.group };
+    ghost invariant = { λ w. IsController w.group };
 }
 
 impl World {
     /// The opening world of a configuration.
     pub fn new(alloc: Global, verified: Verified) -> Result<World, Refusal>
-        ensures same { IfOk result (λ w. w.verified ≡ verified) }
-        ensures opening { IfOk result (λ w. world_of w ≡ model.opening verified.config) }
+        ensures same { IfOk result (λ w. w.program ≡ verified) }
+        ensures opening { IfOk result (λ w. w.world ≡ model.opening verified.config) }
         ensures memory { IfErr result (λ e. e ≡ Memory) }
     {
         let group = Controller::new(alloc, verified)?;
@@ -70,10 +69,14 @@ impl World {
     /// One event. The report is written by a commit and by a refresh that are done, and by nothing else. An event that is refused
     /// changes nothing.
     pub fn apply(&mut self, event: &Event, report: &mut Report) -> Reply
-        ensures model { model.happens self.old.verified.config (world_of self.old) event.now ≡ Ok (world_of self.new, reply_with result report.new) }
-        ensures same { self.new.verified ≡ self.old.verified }
-        ensures well { CallGoesWell self.old.verified.config (world_of self.old) (event.now ∷ []) }
-        ensures reached { IsReached self.old.verified.config (world_of self.old) }
+        ensures model { model.happens self.old.program.config self.old.world event.now ≡ Ok (self.new.world, reply_with result report.new) }
+        ensures kept { reports_by result ≡ 0 → report.new ≡ report.old }
+        ensures same { self.new.program ≡ self.old.program }
+        // an Instruction leaves the group and all other scans as they were
+        ensures scan_only { (task : ℕ) → event.now ≡ Instruction task → model.ChangesScanOnly task self.old.world self.new.world }
+        ensures well { CallGoesWell self.old.program.config self.old.world (event.now ∷ []) }
+        ensures reached { IsReached self.old.program.config self.old.world }
+        ensures printed { PrintsEachBudget self.old.program }
     {
         self.group.happen(event, report)
     }
@@ -83,16 +86,17 @@ impl World {
         requires room { length replies.old.items + length events.now ≤ replies.old.room }
         requires report_room { replies.old.reports + reporting events.now ≤ replies.old.report_room }
         // the run is the definitions'
-        ensures model { model.run self.old.verified.config (world_of self.old) replies.old.items events.now ≡ Ok (world_of self.new, replies.new.items) }
-        ensures same { self.new.verified ≡ self.old.verified }
+        ensures model { model.run self.old.program.config self.old.world replies.old.items events.now ≡ Ok (self.new.world, replies.new.items) }
+        ensures same { self.new.program ≡ self.old.program }
 
         // whatever history has led here, after each event of the run the world is well: no scan traps, sticks or passes its budget,
         // image and variables lie in their ranges, and the image obeys the interlock
-        ensures well { CallGoesWell self.old.verified.config (world_of self.old) events.now }
-        ensures reached { IsReached self.old.verified.config (world_of self.old) }
+        ensures well { CallGoesWell self.old.program.config self.old.world events.now }
+        ensures reached { IsReached self.old.program.config self.old.world }
 
-        // and the budget is the one that is printed
-        ensures printed { (task : ℕ) (line : TaskLine) (u : Organized) → task_line self.old.verified task ≡ Some line → program_of self.old.verified.config task ≡ Some u → line.budget ≡ budget_of self.old.verified.config task }
+        // and the budget is the one that is printed, of each task
+        ensures printed { (task : ℕ) (line : TaskLine) (u : Organized) → task_line self.old.program task ≡ Some line → program_of self.old.program.config task ≡ Some u → line.budget ≡ budget_of self.old.program.config task }
+        ensures each { PrintsEachBudget self.old.program }
     {
         self.group.run(events, replies);
     }
@@ -100,55 +104,58 @@ impl World {
     /// The open scan of a task runs to its end. The answer is the number of its instructions since now, or why there is no scan to run;
     /// then nothing changes.
     pub fn finish(&mut self, task: u8) -> Result<u32, EventFault>
-        ensures model { IfOk result (λ n. (1 ≤ n) × (model.run self.old.verified.config (world_of self.old) [] (instructions task n) ≡ Ok (world_of self.new, up_to_end n))) }
-        ensures refused { IfErr result (λ fault. (world_of self.new ≡ world_of self.old) × (model.happens self.old.verified.config (world_of self.old) (Instruction task) ≡ Ok (world_of self.old, Refused fault))) }
-        ensures same { self.new.verified ≡ self.old.verified }
-        ensures well { (n : ℕ) → CallGoesWell self.old.verified.config (world_of self.old) (instructions task n) }
+        ensures model { IfOk result (λ n. (1 ≤ n) × (model.run self.old.program.config self.old.world [] (instructions task n) ≡ Ok (self.new.world, up_to_end n))) }
+        ensures refused { IfErr result (λ fault. (self.new.world ≡ self.old.world) × (model.happens self.old.program.config self.old.world (Instruction task) ≡ Ok (self.old.world, Refused fault))) }
+        ensures same { self.new.program ≡ self.old.program }
+        ensures scan_only { model.ChangesScanOnly task self.old.world self.new.world }
+        ensures well { (n : ℕ) → CallGoesWell self.old.program.config self.old.world (instructions task n) }
+        ensures reached { IsReached self.old.program.config self.old.world }
+        ensures printed { PrintsEachBudget self.old.program }
     {
         self.group.finish(task)
     }
 
     /// The image. It lies in its ranges and obeys the interlock.
     pub fn image(&self) -> &Image
-        ensures image { result.now ≡ self.now.core.image }
-        ensures ranges { FieldsInRange (sizes_of self.now.verified.config) self.now.core.image.fields }
-        ensures obeys { Obeys self.now.core.image }
+        ensures image { result.now ≡ self.now.world.group.image }
+        ensures ranges { FieldsInRange (sizes_of self.now.program.config) self.now.world.group.image.fields }
+        ensures obeys { Obeys self.now.world.group.image }
     {
-        self.group.core.image()
+        self.group.image()
     }
 
     /// The call slots, slot 1 first.
     pub fn slots(&self) -> &[Slot]
-        ensures { result.now ≡ self.now.core.calls.slots }
+        ensures { result.now ≡ self.now.world.group.calls.slots }
     {
         self.group.core.slots()
     }
 
     /// The program.
     pub fn verified(&self) -> &Verified
-        ensures { result.now ≡ self.now.verified }
+        ensures { result.now ≡ self.now.program }
     {
         &self.group.verified
     }
 
     /// How many cars, floors and slots the group has.
     pub fn sizes(&self) -> Sizes
-        ensures { result ≡ sizes_of self.now.verified.config }
+        ensures { result ≡ sizes_of self.now.program.config }
     {
         self.group.verified.sizes()
     }
 
     /// The value of a global, by its path, as the last commit left it.
     pub fn global(&self, path: &str) -> Option<Value>
-        ensures { result ≡ values.get (world_of self.now).group.globals path.now }
+        ensures { result ≡ values.get self.now.world.group.globals path.now }
     {
-        self.group.core.global(&self.group.verified, path)
+        self.group.global(path)
     }
 
     /// The value of a variable of a task, as its last commit left it.
     pub fn variable(&self, task: u8, path: &str) -> Option<Value>
-        ensures { result ≡ option_and_then (λ t. values.get t.variables path.now) (model.task_at (world_of self.now).group task) }
+        ensures { result ≡ option_and_then (λ t. values.get t.variables path.now) (model.task_at self.now.world.group task) }
     {
-        self.group.core.variable(&self.group.verified, task, path)
+        self.group.variable(task, path)
     }
 }

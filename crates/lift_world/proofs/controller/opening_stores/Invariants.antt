@@ -1,7 +1,6 @@
 use Rattle.std.proofs.Common.{◌≡◌, ℕ, ◌<◌, length, Some}
 use Rattle.std.specs.Prelude.{slice_get, is_some}
-use Rattle.il_exec.specs.Going.{Stored}
-use Rattle.il_machine.specs.Scanning.{IsScanOf}
+use Rattle.il_machine.specs.Standing.{Standing, IsOf}
 use Rattle.lift_spec.specs.Snapshot.{program_of}
 use Rattle.lift_spec.specs.World.{flat}
 use Rattle.lift_world.proofs.controller.opening_stores.Given as goal
@@ -11,5 +10,5 @@ abbrev pub invariant-loop-task : goal.invariant-loop-task
 invariant-loop-task l = record {
   many : length l.stores.items ≡ l.task;
   there : (t : ℕ) → t < l.task → is_some (flat (slice_get l.stores.items t)) ≡ is_some (program_of l.verified.config t);
-  each : (t : ℕ) (s : Stored) → flat (slice_get l.stores.items t) ≡ Some s → IsScanOf l.verified.config t s;
+  each : (t : ℕ) (s : Standing) → flat (slice_get l.stores.items t) ≡ Some s → IsOf l.verified.config t s;
 }

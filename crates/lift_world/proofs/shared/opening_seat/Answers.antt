@@ -1,7 +1,7 @@
 use Rattle.std.proofs.Common.{◌∙◌, sym, ap, arith}
 use Rattle.il_machine.specs.Scanning.{variables_in}
 use Rattle.il_machine.proofs.Sizes.{few_cars}
-use Rattle.lift_world.proofs.Opening.{seat_opens, task_there}
+use Rattle.lift_world.proofs.Opens.{seat_opens, task_there}
 use Rattle.lift_world.proofs.shared.opening_seat.Goals as goal
 
 pub has_task-requires : goal.has_task-requires

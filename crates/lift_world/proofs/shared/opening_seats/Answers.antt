@@ -2,7 +2,7 @@ use Rattle.std.proofs.Common.{◌≡◌, ◌+◌, suc, ◌∙◌, ap, arith}
 use Rattle.lift_spec.specs.World.{opening_tasks_from}
 use Rattle.il_machine.specs.Scanning.{FitsOwn, OwnsDeclared, variables_in}
 use Rattle.lift_world.specs.declared.shared.Seat.{Seat}
-use Rattle.lift_world.proofs.Opening.{seats_more, holds_more, length_more}
+use Rattle.lift_world.proofs.Opens.{seats_more, holds_more, length_more}
 use Rattle.lift_world.proofs.shared.opening_seats.Goals as goal
 
 pub loop-task-preserved : goal.loop-task-preserved

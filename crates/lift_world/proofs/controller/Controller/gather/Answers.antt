@@ -1,5 +1,5 @@
 use Rattle.std.proofs.Common.{◌∙◌, sym}
-use Rattle.lift_world.specs.Running.{world_of}
+use Rattle.lift_world.specs.Worlds.{world_in}
 use Rattle.lift_world.proofs.Events.{gather_nowhere, gather_held, gather_moves}
 use Rattle.lift_world.proofs.Happening.{told, floor_fits}
 use Rattle.lift_world.proofs.controller.Controller.gather.Goals as goal
@@ -7,7 +7,7 @@ use Rattle.lift_world.proofs.controller.Controller.gather.Goals as goal
 pub returns-then-not-is_floor-clause-model : goal.returns-then-not-is_floor-clause-model
 returns-then-not-is_floor-clause-model c = λ _.
     let w = c.args.self.now in
-    gather_nowhere w.verified.config (world_of w) c.args.floor (told _ _ _ _ _ c.sizes.ensures c.is_floor.ensures c.if-not-is_floor.true)
+    gather_nowhere w.verified.config (world_in w) c.args.floor (told _ _ _ _ _ c.sizes.ensures c.is_floor.ensures c.if-not-is_floor.true)
 
 pub has_from-requires : goal.has_from-requires
 has_from-requires c = floor_fits c.args.self.now.verified.config c.requires.runnable c.args.floor (told _ _ _ _ _ c.sizes.ensures c.is_floor.ensures c.if-not-is_floor.false)
@@ -15,7 +15,7 @@ has_from-requires c = floor_fits c.args.self.now.verified.config c.requires.runn
 pub returns-then-has_from-clause-model : goal.returns-then-has_from-clause-model
 returns-then-has_from-clause-model c = λ _.
     let w = c.args.self.now in
-    gather_held w.verified.config (world_of w) c.args.floor (told _ _ _ _ _ c.sizes.ensures c.is_floor.ensures c.if-not-is_floor.false) (sym c.has_from.ensures ∙ c.if-has_from.true)
+    gather_held w.verified.config (world_in w) c.args.floor (told _ _ _ _ _ c.sizes.ensures c.is_floor.ensures c.if-not-is_floor.false) (sym c.has_from.ensures ∙ c.if-has_from.true)
 
 pub move_from-requires : goal.move_from-requires
 move_from-requires c = floor_fits c.args.self.now.verified.config c.requires.runnable c.args.floor (told _ _ _ _ _ c.sizes.ensures c.is_floor.ensures c.if-not-is_floor.false)
@@ -24,4 +24,4 @@ pub returns-clause-model : goal.returns-clause-model
 returns-clause-model c = λ _.
     let w = c.args.self.now in
     rw (c.move_from.ensures.rest, c.move_from.ensures.moved, c.move_from.ensures.mask)
-    (gather_moves w.verified.config (world_of w) c.args.floor (told _ _ _ _ _ c.sizes.ensures c.is_floor.ensures c.if-not-is_floor.false) (sym c.has_from.ensures ∙ c.if-has_from.false))
+    (gather_moves w.verified.config (world_in w) c.args.floor (told _ _ _ _ _ c.sizes.ensures c.is_floor.ensures c.if-not-is_floor.false) (sym c.has_from.ensures ∙ c.if-has_from.false))

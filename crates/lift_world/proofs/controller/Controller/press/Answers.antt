@@ -1,5 +1,5 @@
 use Rattle.std.proofs.Common.{◌∙◌, sym}
-use Rattle.lift_world.specs.Running.{world_of}
+use Rattle.lift_world.specs.Worlds.{world_in}
 use Rattle.lift_world.proofs.Events.{press_nowhere, press_same, press_again, press_new}
 use Rattle.lift_world.proofs.Happening.{told, floor_fits, first_not, second_not, both_so, same_so, other_so}
 use Rattle.lift_world.proofs.controller.Controller.press.Goals.{then-not-is_floor-via-then-not-is_floor, then-not-is_floor-via-else-not-is_floor+then-not-is_floor-2}
@@ -8,7 +8,7 @@ use Rattle.lift_world.proofs.controller.Controller.press.Goals as goal
 pub returns-then-not-is_floor-clause-model : goal.returns-then-not-is_floor-clause-model
 returns-then-not-is_floor-clause-model c = λ _.
     let w = c.args.self.now in
-    press_nowhere w.verified.config (world_of w) c.args.call
+    press_nowhere w.verified.config (world_in w) c.args.call
     (elim c.then-not-is_floor.branch [
       | then-not-is_floor-via-then-not-is_floor b ↦ first_not _ _ (told _ _ _ _ _ c.sizes-sizes.ensures c.is_floor.ensures b.if-not-is_floor.true)
       | then-not-is_floor-via-else-not-is_floor+then-not-is_floor-2 b ↦
@@ -20,7 +20,7 @@ returns-then-call-clause-model c = λ _.
     let w = c.args.self.now in
     let from = told _ _ _ _ _ c.sizes-sizes.ensures c.is_floor.ensures c.if-not-is_floor.false in
     let to = told _ _ _ _ _ c.sizes-sizes.ensures c.is_floor-else-not-is_floor.ensures c.if-not-is_floor-2.false in
-    press_same w.verified.config (world_of w) c.args.call (both_so _ _ from to) (same_so _ _ c.if-call.true)
+    press_same w.verified.config (world_in w) c.args.call (both_so _ _ from to) (same_so _ _ c.if-call.true)
 
 pub has-requires-clause-from : goal.has-requires-clause-from
 has-requires-clause-from c = floor_fits c.args.self.now.verified.config c.requires.runnable c.args.call.from (told _ _ _ _ _ c.sizes-sizes.ensures c.is_floor.ensures c.if-not-is_floor.false)
@@ -33,7 +33,7 @@ returns-then-has-clause-model c = λ _.
     let w = c.args.self.now in
     let from = told _ _ _ _ _ c.sizes-sizes.ensures c.is_floor.ensures c.if-not-is_floor.false in
     let to = told _ _ _ _ _ c.sizes-sizes.ensures c.is_floor-else-not-is_floor.ensures c.if-not-is_floor-2.false in
-    press_again w.verified.config (world_of w) c.args.call (both_so _ _ from to) (other_so _ _ c.if-call.false) (sym c.has.ensures ∙ c.if-has.true)
+    press_again w.verified.config (world_in w) c.args.call (both_so _ _ from to) (other_so _ _ c.if-call.false) (sym c.has.ensures ∙ c.if-has.true)
 
 pub insert-requires-clause-from : goal.insert-requires-clause-from
 insert-requires-clause-from c = floor_fits c.args.self.now.verified.config c.requires.runnable c.args.call.from (told _ _ _ _ _ c.sizes-sizes.ensures c.is_floor.ensures c.if-not-is_floor.false)
@@ -46,4 +46,4 @@ returns-clause-model c = λ _.
     let w = c.args.self.now in
     let from = told _ _ _ _ _ c.sizes-sizes.ensures c.is_floor.ensures c.if-not-is_floor.false in
     let to = told _ _ _ _ _ c.sizes-sizes.ensures c.is_floor-else-not-is_floor.ensures c.if-not-is_floor-2.false in
-    rw c.insert.ensures (press_new w.verified.config (world_of w) c.args.call (both_so _ _ from to) (other_so _ _ c.if-call.false) (sym c.has.ensures ∙ c.if-has.false))
+    rw c.insert.ensures (press_new w.verified.config (world_in w) c.args.call (both_so _ _ from to) (other_so _ _ c.if-call.false) (sym c.has.ensures ∙ c.if-has.false))

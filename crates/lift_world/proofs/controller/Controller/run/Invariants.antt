@@ -1,14 +1,15 @@
 use Rattle.std.proofs.Common.{◌≡◌, ◌≤◌, ◌+◌, ◌-◌, drop, length}
 use Rattle.lift_spec.specs.World.{run}
-use Rattle.lift_world.specs.Running.{world_of, reporting, IsWorldOf}
+use Rattle.lift_world.specs.Running.{reporting}
+use Rattle.lift_world.specs.Worlds.{world_in, IsController}
 use Rattle.lift_world.proofs.controller.Controller.run.Given as goal
 
 -- there is room for what is left, and a run of what is left is the run of all
 abbrev pub invariant-events : goal.invariant-events
 invariant-events l = record {
-  world : IsWorldOf l.self;
+  world : IsController l.self;
   same : l.self.verified ≡ l.fn.self.verified;
   room : length l.replies.items + (length l.events - l.event-index) ≤ l.replies.room;
   reports : l.replies.reports + reporting (drop l.event-index l.events) ≤ l.replies.report_room;
-  rest : run l.fn.self.verified.config (world_of l.fn.self) l.fn.replies.items l.events ≡ run l.fn.self.verified.config (world_of l.self) l.replies.items (drop l.event-index l.events);
+  rest : run l.fn.self.verified.config (world_in l.fn.self) l.fn.replies.items l.events ≡ run l.fn.self.verified.config (world_in l.self) l.replies.items (drop l.event-index l.events);
 }

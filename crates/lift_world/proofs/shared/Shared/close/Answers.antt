@@ -1,7 +1,7 @@
 use Rattle.std.proofs.Common.{◌∙◌, sym, ap₂, slice_set}
 use Rattle.lift_world.proofs.Views.{here, some_of}
 use Rattle.lift_world.proofs.Keeping.{rows_put}
-use Rattle.lift_world.proofs.shared.Core.close.Goals as goal
+use Rattle.lift_world.proofs.shared.Shared.close.Goals as goal
 
 pub close_seat-requires-clause-variables : goal.close_seat-requires-clause-variables
 close_seat-requires-clause-variables c = λ s is. (c.requires.fits.seats c.args.task s (here _ _ _ _ c.from.ensures c.index_mut.ensures.value c.requires.there ∙ is)).0

@@ -1,11 +1,10 @@
 use Rattle.std.proofs.Common.{rules, ◌∙◌, sym, ap, arith, refl}
 use Rattle.std.specs.Prelude.{is_some}
-use Rattle.il_machine.specs.Scanning.{kept_of, state_of}
 use Rattle.lift_spec.specs.World.{serve_wish}
 use Rattle.il_machine.specs.Sharing.{globals_in}
 use Rattle.lift_world.proofs.Views.{here, within}
 use Rattle.lift_world.proofs.Committing.{commit_car}
-use Rattle.lift_world.proofs.shared.Core.commit_car.Goals as goal
+use Rattle.lift_world.proofs.shared.Shared.commit_car.Goals as goal
 
 pub settle-requires-clause-car : goal.settle-requires-clause-car
 settle-requires-clause-car c =
@@ -42,7 +41,7 @@ returns c =
       group = λ s tickets there saw.
           let at = sym (here _ _ _ _ c.from.ensures c.index.ensures (ap is_some open_so.there)) ∙ there in
           let closed = c.close.ensures.closed s there in
-          commit_car config before.image before.calls (globals_in config before.globals) before.seats.items s tickets (state_of (kept_of config c.args.car c.args.store.now)).values closed.0 c.serve.new.calls (globals_in config c.close.new.self.globals) c.serve.new.answers
+          commit_car config before.image before.calls (globals_in config before.globals) before.seats.items s tickets c.args.store.now.state.values closed.0 c.serve.new.calls (globals_in config c.close.new.self.globals) c.serve.new.answers
           c.args.car c.wishes-wishes.result c.requires.car c.wishes-wishes.ensures (ap (λ ts. serve_wish before.calls c.args.car ts c.wishes-wishes.result.serve) (sym (c.saw-tickets.ensures s tickets at saw)) ∙ c.serve.ensures) closed.2 c.close.ensures.globals
           ∙ rw (c.close.ensures.shared.0, c.close.ensures.shared.1, closed.1, c.settle.ensures.image, c.settle.ensures.report) refl;
       closed = (let closed = c.close.ensures.closed open_so.seat open_so.there in (closed.0, closed.1));

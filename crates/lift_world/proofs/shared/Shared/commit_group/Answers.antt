@@ -1,14 +1,13 @@
 use Rattle.std.proofs.Common.{[], length, ◌∙◌, sym, ap, arith, refl}
 use Rattle.std.specs.Prelude.{is_some}
-use Rattle.il_machine.specs.Scanning.{kept_of, state_of}
 use Rattle.lift_spec.specs.Snapshot.{assigned}
 use Rattle.lift_spec.specs.World.{tell_all}
 use Rattle.il_machine.specs.Sharing.{globals_in}
 use Rattle.lift_world.specs.declared.shared.Seat.{Seat}
 use Rattle.lift_world.proofs.Views.{here, within, the_seat}
 use Rattle.lift_world.proofs.Committing.{commit_group, assigned_each}
-use Rattle.lift_world.proofs.Opening.{sizes_fit}
-use Rattle.lift_world.proofs.shared.Core.commit_group.Goals as goal
+use Rattle.lift_world.proofs.Opens.{sizes_fit}
+use Rattle.lift_world.proofs.shared.Shared.commit_group.Goals as goal
 
 pub index-requires : goal.index-requires
 index-requires c =
@@ -46,7 +45,7 @@ returns c =
     let config = c.args.verified.now.config in
     let before = c.args.self.now in
     let open_so = c.requires.open in
-    let values = (state_of (kept_of config 0 c.args.store.now)).values in
+    let values = c.args.store.now.state.values in
     record {
       group = λ s tickets there saw.
           let at = sym (here c.args.self.now.seats.items 0 0 c.index.result.now refl c.index.ensures (ap is_some open_so.there)) ∙ there in

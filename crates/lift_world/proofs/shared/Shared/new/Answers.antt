@@ -1,7 +1,7 @@
 use Rattle.std.proofs.Common.{◌≤◌, sym, subst}
 use Rattle.lift_spec.specs.declared.image.Sizes.{Sizes}
-use Rattle.lift_world.proofs.Opening.{sizes_fit}
-use Rattle.lift_world.proofs.shared.Core.new.Goals as goal
+use Rattle.lift_world.proofs.Opens.{sizes_fit}
+use Rattle.lift_world.proofs.shared.Shared.new.Goals as goal
 
 pub opening_seats-requires-clause-few : goal.opening_seats-requires-clause-few
 opening_seats-requires-clause-few c = subst (λ (s : Sizes). s.cars ≤ 8) (sym c.sizes-sizes.ensures) (sizes_fit _ c.config-config.ensures.runnable).0.1

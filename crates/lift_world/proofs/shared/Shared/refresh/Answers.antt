@@ -2,7 +2,7 @@ use Rattle.std.proofs.Common.{◌∙◌}
 use Rattle.lift_spec.specs.Settle.{AllSettled}
 use Rattle.il_machine.specs.Sharing.{globals_in}
 use Rattle.lift_world.proofs.Committing.{refresh_group}
-use Rattle.lift_world.proofs.shared.Core.refresh.Goals as goal
+use Rattle.lift_world.proofs.shared.Shared.refresh.Goals as goal
 
 pub returns-clause-group : goal.returns-clause-group
 returns-clause-group c = λ config.

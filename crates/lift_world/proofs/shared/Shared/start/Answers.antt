@@ -5,7 +5,7 @@ use Rattle.lift_spec.specs.Calls.{ticket_of}
 use Rattle.il_machine.specs.Sharing.{globals_in}
 use Rattle.lift_world.specs.Running.{with_seat}
 use Rattle.lift_world.proofs.Views.{here}
-use Rattle.lift_world.proofs.shared.Core.start.Goals as goal
+use Rattle.lift_world.proofs.shared.Shared.start.Goals as goal
 
 pub start_seat-requires-clause-variables : goal.start_seat-requires-clause-variables
 start_seat-requires-clause-variables c = λ s is. c.requires.fits.seats c.args.task s (here _ _ _ _ c.from.ensures c.index_mut.ensures.value c.requires.there ∙ is)

@@ -1,11 +1,19 @@
-use Rattle.std.proofs.Common.{subst, [], ◌∷◌}
-use Rattle.lift_world.specs.declared.controller.Controller.{Controller}
-use Rattle.lift_world.specs.Running.{world_of}
+use Rattle.std.proofs.Common.{ℕ, [], ◌∷◌, ◌≡◌, ap, sym, ◌∙◌, subst}
+use Rattle.lift_spec.specs.declared.event.Event.TheVariants.{Instruction}
+use Rattle.il_machine.specs.Scanning.{IsRunnable}
+use Rattle.lift_spec.specs.World.{happens, ChangesScanOnly}
 use Rattle.lift_run_laws.specs.Histories.{CallGoesWell}
-use Rattle.lift_world.proofs.Sound.{call_goes_well}
+use Rattle.lift_run_laws.specs.Runs.{IsReached}
+use Rattle.lift_run_laws.proofs.Coming.{instruction_changes_scan}
+use Rattle.lift_world.specs.Worlds.{WorldOf, world_in, PrintsEachBudget}
+use Rattle.lift_world.proofs.Sound.{call_goes_well, prints_each}
 use Rattle.lift_world.proofs.world.World.apply.Goals as goal
 
 pub returns-clause-well : goal.returns-clause-well
-returns-clause-well c =
-    let group = c.self.inside.group in
-    subst (λ (w : Controller). CallGoesWell w.verified.config (world_of w) (c.args.event.now ∷ [])) c.self.view_is (call_goes_well group.verified.config c.self.invariant.runnable (world_of group) (c.args.event.now ∷ []))
+returns-clause-well c = call_goes_well c.args.self.now.program.config (subst (λ (w : WorldOf). IsRunnable w.program.config) c.self.view_is c.self.invariant.runnable) c.args.self.now.world (c.args.event.now ∷ [])
+
+pub returns-clause-reached : goal.returns-clause-reached
+returns-clause-reached c = subst (λ (w : WorldOf). IsReached w.program.config w.world) c.self.view_is c.self.invariant.reached
+
+pub returns-clause-printed : goal.returns-clause-printed
+returns-clause-printed c = subst (λ (w : WorldOf). PrintsEachBudget w.program) c.self.view_is (prints_each c.self.inside.group.verified c.self.invariant.runnable c.self.invariant.costs)
