@@ -6,7 +6,7 @@ use Rattle.lift_spec.specs.declared.event.Event.TheVariants.{Instruction}
 use Rattle.lift_spec.specs.declared.event.EventFault.{EventFault}
 use Rattle.lift_spec.specs.Replies.{Reply, Refused}
 use Rattle.lift_spec.specs.World.{World, Halt, ChangesScanOnly, happens, run, and_then}
-use Rattle.lift_run_laws.proofs.Coming.{instruction_changes_scan}
+use Rattle.lift_spec.proofs.Laws.{instruction_leaves}
 use Rattle.lift_world.specs.Running.{instructions, up_to_end}
 
 stays_alone : (t : ℕ) (w : World) → ChangesScanOnly t w w
@@ -24,7 +24,7 @@ run_alone c t (suc n) w v earlier replies e = by (happens c w (Instruction t)) r
   where
     by : (r : Result (World × Reply) Halt) → happens c w (Instruction t) ≡ r → and_then r (λ m. run c m.0 (earlier ++ m.1 ∷ []) (instructions t n)) ≡ Ok (v, replies) → ChangesScanOnly t w v
     by (Err halt) is f = let bad : ◌≡◌ {A = Result (World × List Reply) Halt} (Err halt) (Ok (v, replies)) = f in cc
-    by (Ok m) is f = then_alone t w m.0 v (instruction_changes_scan c w m.0 t m.1 is) (run_alone c t n m.0 v (earlier ++ m.1 ∷ []) replies f)
+    by (Ok m) is f = then_alone t w m.0 v (instruction_leaves c w t m.0 m.1 is) (run_alone c t n m.0 v (earlier ++ m.1 ∷ []) replies f)
 
 -- and so does a run of them, or none
 pub finish_alone : (c : Config) (t : ℕ) (w v : World) (r : Result ℕ EventFault) → IfOk r (λ n. (1 ≤ n) × (run c w [] (instructions t n) ≡ Ok (v, up_to_end n)))

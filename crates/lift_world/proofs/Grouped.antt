@@ -30,7 +30,7 @@ use Rattle.lift_run_laws.proofs.Tasks.{is_sized}
 use Rattle.lift_world.specs.declared.shared.Shared.{Shared}
 use Rattle.lift_world.specs.declared.shared.Seat.{Seat}
 use Rattle.lift_world.specs.Running.{seat_at, open_by, task_in, seated, tasks_in, group_in, group_by, with_seat, SharedFits, HasOpenScan, Commits, HoldsShared}
-use Rattle.lift_world.specs.Worlds.{holds_tickets, is_open_in}
+use Rattle.lift_world.specs.Worlds.{GroupOf, holds_tickets, is_open_in}
 use Rattle.lift_world.proofs.Views.{length_set, after_set, task_here, task_put}
 use Rattle.lift_world.proofs.Keeping.{seats_put}
 use Rattle.lift_world.proofs.Opens.{all_idle, tasks_many}
@@ -72,6 +72,14 @@ copied_some (Some b) x e = ap is_some e
 
 pub seat_some : (c : Config) (k : Shared) (t : ℕ) (o : Option (Bor Seat)) → option_copied o ≡ seat_at k t → is_some o ≡ is_some (task_at (group_in c k) t)
 seat_some c k t o e = copied_some o (seat_at k t) e ∙ sym (task_some c k t)
+
+-- a core, by its parts
+module _ (k : Config) (shared : Shared) (g : GroupOf) (view_is : ◌≡◌ {A = GroupOf} (record { config = k; group = group_in k shared }) g) where
+  pub config_here : (c : Config) → g.config ≡ c → k ≡ c
+  config_here c same = ap (λ (x : GroupOf). x.config) view_is ∙ same
+
+  pub group_here : (c : Config) → g.config ≡ c → group_in c shared ≡ g.group
+  group_here c same = ap (λ x. group_in x shared) (sym (config_here c same)) ∙ ap (λ (x : GroupOf). x.group) view_is
 
 -- THE OPENING
 

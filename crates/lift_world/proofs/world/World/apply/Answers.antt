@@ -1,10 +1,10 @@
 use Rattle.std.proofs.Common.{ℕ, [], ◌∷◌, ◌≡◌, ap, sym, ◌∙◌, subst}
 use Rattle.lift_spec.specs.declared.event.Event.TheVariants.{Instruction}
 use Rattle.il_machine.specs.Scanning.{IsRunnable}
-use Rattle.lift_spec.specs.World.{happens, ChangesScanOnly}
+use Rattle.lift_spec.specs.World.{happens}
+use Rattle.lift_spec.proofs.Laws.{instruction_leaves}
 use Rattle.lift_run_laws.specs.Histories.{CallGoesWell}
 use Rattle.lift_run_laws.specs.Runs.{IsReached}
-use Rattle.lift_run_laws.proofs.Coming.{instruction_changes_scan}
 use Rattle.lift_world.specs.Worlds.{WorldOf, world_in, PrintsEachBudget}
 use Rattle.lift_world.proofs.Sound.{call_goes_well, prints_each}
 use Rattle.lift_world.proofs.world.World.apply.Goals as goal
@@ -17,3 +17,7 @@ returns-clause-reached c = subst (λ (w : WorldOf). IsReached w.program.config w
 
 pub returns-clause-printed : goal.returns-clause-printed
 returns-clause-printed c = subst (λ (w : WorldOf). PrintsEachBudget w.program) c.self.view_is (prints_each c.self.inside.group.verified c.self.invariant.runnable c.self.invariant.costs)
+
+pub returns-clause-scan_only : goal.returns-clause-scan_only
+returns-clause-scan_only c = λ task is.
+    instruction_leaves c.args.self.now.program.config c.args.self.now.world task _ _ (ap (λ e. happens c.args.self.now.program.config c.args.self.now.world e) (sym is) ∙ returns-clause-model c)

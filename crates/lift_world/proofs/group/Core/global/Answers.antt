@@ -1,0 +1,16 @@
+use Rattle.std.proofs.Common.{ap, sym, ◌∙◌, subst}
+use Rattle.il_spec.specs.declared.tree.Config.{Config}
+use Rattle.il_table.specs.NameMap.{get}
+use Rattle.il_machine.specs.Sharing.{globals_in}
+use Rattle.lift_world.specs.Running.{SharedFits}
+use Rattle.lift_world.specs.Worlds.{GroupOf}
+use Rattle.lift_world.proofs.Grouped.{config_here}
+use Rattle.lift_world.proofs.group.Core.global.Goals as goal
+
+pub global-requires : goal.global-requires
+global-requires c = subst (λ (k : Config). SharedFits k c.self.inside.shared) (config_here c.self.inside.program.value.config c.self.inside.shared c.args.self.now c.self.view_is _ c.requires) c.self.invariant.fits
+
+pub returns : goal.returns
+returns c =
+    c.global.ensures ∙ ap (λ k. get (globals_in k c.self.inside.shared.globals) c.args.path.now) (sym (config_here c.self.inside.program.value.config c.self.inside.shared c.args.self.now c.self.view_is _ c.requires))
+    ∙ ap (λ (k : GroupOf). get k.group.globals c.args.path.now) c.self.view_is
