@@ -3,4 +3,5 @@ mod WorldRows
 pub mod Interlock
 pub mod Refreshed
 pub mod Laws
+pub mod Running
 pub mod Hands
