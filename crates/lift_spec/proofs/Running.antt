@@ -1,43 +1,27 @@
 -- The set of the running cars, and their number, follow the outputs.
-use Rattle.std.specs.Prelude.{◌≡◌, ℕ, zero, suc, ◌+◌, ◌-◌, ◌*◌, ◌%◌, ◌^◌, ◌<◌, ◌≤◌, Bool, true, false, not, List, [], ◌∷◌, ◌++◌, length, filter, get_or, set, bit_and, ◌==◌, if◌then◌else◌, refl}
-use Rattle.std.proofs.Common.{sym, ◌∙◌, ap, inl, inr, arith, eqb, eq-eqb, ne_eqb, length-append, lit≤}
-use Rattle.std.proofs.Math.ListN.{get_or-append, get_or-eq_default}
+use Rattle.std.specs.Prelude.{◌≡◌, ℕ, zero, suc, ◌+◌, ◌-◌, ◌<◌, ◌≤◌, Bool, true, false, not, List, [], ◌∷◌, ◌++◌, length, filter, get_or, set, ◌==◌, if◌then◌else◌, refl}
+use Rattle.std.proofs.Common.{sym, ◌∙◌, ap, inl, inr, arith, length-append, lit≤}
 use Rattle.std.proofs.Math.Seq.{get_or-append_seam}
 use Rattle.std.proofs.lemmas.List.{set-get_or, get_or-set_same, get_or-set_other, length-set}
-use Rattle.std.proofs.lemmas.Bool.{cases_eq, cond-true, cond-false}
-use Rattle.std.proofs.lemmas.Nat.Bits.{bit_at-zero, bit_at_set_same, bit_at_set_other, bit_at_clear_same, bit_at_clear_other}
-use Rattle.std.specs.Int.{bit_at, bit_not, w8, from_bool}
-use Rattle.std.specs.Int.RustNames.{bit_or}
+use Rattle.std.proofs.lemmas.Bool.{cases_eq}
+use Rattle.std.proofs.lemmas.Nat.Bits.{bit_at-zero}
+use Rattle.std.specs.Int.{bit_at, from_bool}
 use Rattle.lift_spec.specs.declared.image.CarOutputs.{CarOutputs}
 use Rattle.lift_spec.specs.Image.{runs, running_from, running_cars, opening_outputs}
-use Rattle.lift_spec.specs.Running.{flag, IsWithBit, IsRunningSet, KeepsRunning}
+use Rattle.lift_spec.specs.Bits.{flag, IsWithBit}
+use Rattle.lift_spec.specs.Running.{IsRunningSet, KeepsRunning}
 use Rattle.lift_spec.proofs.Interlock.{set_counts}
-
--- BITS
-
-pub bit_set : (word bit : ℕ) → bit < 8 → IsWithBit word bit true (bit_or word (1 * 2 ^ bit % 256))
-bit_set word bit within k below =
-    elim (cases_eq k bit) [
-      | inl same ↦ rw same (bit_at_set_same w8 word bit within ∙ sym (cond-true _ 1 (bit_at word bit) (eq-eqb bit bit refl)))
-      | inr other ↦ bit_at_set_other w8 word bit within k other ∙ sym (cond-false _ 1 (bit_at word k) (ne_eqb k bit other))
-    ]
-
-pub bit_cleared : (word bit : ℕ) → bit < 8 → IsWithBit word bit false (bit_and word (bit_not w8 (1 * 2 ^ bit % 256)))
-bit_cleared word bit within k below =
-    elim (cases_eq k bit) [
-      | inl same ↦ rw same (bit_at_clear_same w8 word bit within ∙ sym (cond-true _ 0 (bit_at word bit) (eq-eqb bit bit refl)))
-      | inr other ↦ bit_at_clear_other w8 word bit within k below other ∙ sym (cond-false _ 0 (bit_at word k) (ne_eqb k bit other))
-    ]
+use Rattle.lift_spec.proofs.Bits.{bit_own, bit_other, flag_tells}
 
 -- a set that follows outputs follows them with another value for one car
 follows :
-    (before after : List CarOutputs) (word new i : ℕ) (o : CarOutputs) → IsRunningSet before word → IsWithBit word i (runs o.motor) new
+    (before after : List CarOutputs) (word new i : ℕ) (o : CarOutputs) → IsRunningSet before word → IsWithBit 8 word i (runs o.motor) new
     → get_or after i opening_outputs ≡ o → ((k : ℕ) → (k ≡ i → ⊥) → get_or after k opening_outputs ≡ get_or before k opening_outputs)
     → IsRunningSet after new
 follows before after word new i o is is_with own others k below =
     elim (cases_eq k i) [
-      | inl same ↦ is_with k below ∙ cond-true _ (flag (runs o.motor)) (bit_at word k) (eq-eqb k i same) ∙ ap (λ (x : CarOutputs). flag (runs x.motor)) (sym (ap (λ n. get_or after n opening_outputs) same ∙ own))
-      | inr other ↦ is_with k below ∙ cond-false _ (flag (runs o.motor)) (bit_at word k) (ne_eqb k i other) ∙ is k below ∙ ap (λ (x : CarOutputs). flag (runs x.motor)) (sym (others k other))
+      | inl same ↦ bit_own 8 word i new k (runs o.motor) is_with below same ∙ ap (λ (x : CarOutputs). flag (runs x.motor)) (sym (ap (λ n. get_or after n opening_outputs) same ∙ own))
+      | inr other ↦ bit_other 8 word i new k (runs o.motor) is_with below other ∙ is k below ∙ ap (λ (x : CarOutputs). flag (runs x.motor)) (sym (others k other))
     ]
 
 -- COUNTS
@@ -106,17 +90,13 @@ set_fits outputs word count less flags holds keeps is =
 
 pub keeps_more :
     (outputs : List CarOutputs) (word count new more : ℕ) (o : CarOutputs) → KeepsRunning outputs word count → length outputs < 8
-    → IsWithBit word (length outputs) (runs o.motor) new → more ≡ count + flag (runs o.motor) → KeepsRunning (outputs ++ o ∷ []) new more
+    → IsWithBit 8 word (length outputs) (runs o.motor) new → more ≡ count + flag (runs o.motor) → KeepsRunning (outputs ++ o ∷ []) new more
 keeps_more outputs word count new more o keeps room is_with is_more =
     record {
       few = omega (arith, length-append outputs (o ∷ []));
       members = follows outputs (outputs ++ o ∷ []) word new (length outputs) o keeps.members is_with (get_or-append_seam outputs o [] opening_outputs) (others_more outputs o);
       number = is_more ∙ ap (λ n. n + flag (runs o.motor)) keeps.number ∙ sym (one_more outputs o 1);
     }
-
-flag_tells : (holds : Bool) → (flag holds == 1) ≡ holds
-flag_tells true = refl
-flag_tells false = refl
 
 -- whether a car runs stands in its bit
 pub bit_tells :
@@ -141,7 +121,7 @@ own_fits outputs word count flags i holds keeps within is holds_is =
 
 pub keeps_set :
     (outputs : List CarOutputs) (word count new others after i : ℕ) (o : CarOutputs) → KeepsRunning outputs word count → i < length outputs
-    → IsWithBit word i (runs o.motor) new → count ≡ others + flag (runs (get_or outputs i opening_outputs).motor) → after ≡ others + flag (runs o.motor)
+    → IsWithBit 8 word i (runs o.motor) new → count ≡ others + flag (runs (get_or outputs i opening_outputs).motor) → after ≡ others + flag (runs o.motor)
     → KeepsRunning (set outputs i o) new after
 keeps_set outputs word count new others after i o keeps within is_with is_others is_after =
     let before = own_counts outputs i within in

@@ -3,7 +3,7 @@
 ghost use Rattle.std.specs.Prelude.{◌≡◌, ◌-◌, ◌<◌, ◌≤◌, ◌++◌, ◌∷◌, ◌==◌, [], length, slice_get, slice_index_or, slice_set};
 ghost use Rattle.std.specs.Int.{bit_at};
 ghost use Rattle.lift_spec.specs.Image.{runs, running_cars, opening_outputs};
-ghost use Rattle.lift_spec.specs.Running.{IsWithBit};
+ghost use Rattle.lift_spec.specs.Bits.{IsWithBit};
 
 use crate::image::CarOutputs;
 use lists::Bounded;
@@ -42,7 +42,7 @@ fn has_bit(set: u8, bit: u8) -> bool
 // The set with a bit set or cleared.
 fn with_bit(set: u8, bit: u8, on: bool) -> u8
     requires { bit < 8 }
-    ensures { IsWithBit set bit on result }
+    ensures { IsWithBit 8 set bit on result }
 {
     if on {
         set | 1 << bit
