@@ -1,59 +1,118 @@
 // The book of a group's calls.
 
-ghost use Rattle.std.specs.Prelude.{◌≡◌, ◌≢◌, ◌≤◌, length, IfSome};
+ghost use Rattle.std.specs.Prelude.{◌≡◌, ◌≢◌, ◌<◌, ◌≤◌, ◌==◌, length, slice_get, nat_lt, ℕ, Some, IfSome, IfNone};
+ghost use Rattle.std.specs.Int.{bit_at};
+ghost use Rattle.lift_spec.specs.Bits.{flag, IsWithBit};
 ghost use Rattle.lift_spec.specs.Calls.{opening_calls, greatest_ticket, lowest_free_from, slot_at, with_slot, enter, tell, serve};
+ghost use Rattle.lift_calls.specs.Sets.{is_free, is_waiting, is_told, kept_of, IsLowest};
 
 use lift_spec::calls::{Answer, Call, Entering, Slot};
 use lift_spec::image::Sizes;
+use lists::Bounded;
 use std::marker::Model;
 
 /// The last ticket that is given (own rule).
 const GREATEST_TICKET: u64 = 9_223_372_036_854_775_807;
 
-/// The call slots of a group, which count from 1, and the last ticket that was given. No call of a
-/// book takes memory.
+/// The call slots of a group, which count from 1, and the last ticket that was given. The free, the
+/// waiting and the told slots are three sets, slot `slot` as bit `slot - 1`, beside the ticket, the
+/// call and the car of each. No call of a book takes memory.
 #[derive(Drop)]
 pub struct CallBook {
-    places: [Slot; 64],
+    free: u64,
+    waiting: u64,
+    told: u64,
+    tickets: [u64; 64],
+    calls: [Call; 64],
+    cars: [u8; 64],
     count: u8,
     given: u64,
 }
 
 impl Model for CallBook {
-    ghost use Rattle.std.specs.Prelude.{◌≤◌, take};
-    ghost use Rattle.lift_spec.specs.Calls.{Calls, greatest_ticket};
+    ghost use Rattle.lift_spec.specs.Calls.{Calls};
     ghost use Rattle.lift_spec.specs.Codes.{calls_code};
 
     ghost Value = { Calls };
 
     ghost coded = { calls_code };
 
-    ghost view = { λ b. record { slots = take b.count b.places; last_ticket = b.given } };
+    ghost use Rattle.lift_calls.specs.Sets.{slots_of, AreSlots};
 
-    ghost invariant = { λ b. (b.count ≤ 64) × (b.given ≤ greatest_ticket) };
+    ghost view = { λ b. record { slots = slots_of b; last_ticket = b.given } };
+
+    ghost invariant = { AreSlots };
 }
 
-// The number of the lowest Free slot.
-fn lowest_free(slots: &[Slot]) -> Option<u8>
-    requires { length slots.now ≤ 64 }
-    ensures number { result ≡ lowest_free_from 1 slots.now }
-    ensures within { IfSome result (λ slot. (1 ≤ slot) × (slot ≤ length slots.now)) }
+// The set of the first slots, so many.
+fn first_slots(count: u8) -> u64
+    requires { (1 ≤ count) × (count ≤ 64) }
+    ensures { (k : ℕ) → bit_at result k ≡ flag (nat_lt k count) }
 {
-    for (index, slot) in slots.iter().enumerate() {
-        if matches!(slot, Slot::Free) {
-            return Some(index as u8 + 1);
-        }
+    u64::MAX >> (64 - count)
+}
+
+// Whether a bit is set.
+fn has_bit(set: u64, bit: u8) -> bool
+    requires { bit < 64 }
+    ensures { result ≡ (bit_at set bit == 1) }
+{
+    (set >> bit) & 1 == 1
+}
+
+// The set with a bit set or cleared.
+fn with_bit(set: u64, bit: u8, on: bool) -> u64
+    requires { bit < 64 }
+    ensures { IsWithBit 64 set bit on result }
+{
+    if on {
+        set | 1 << bit
+    } else {
+        set & !(1 << bit)
     }
-    None
 }
 
-// The slot of a number, which counts from 1.
-fn slot_at(slots: &[Slot], slot: u8) -> Option<Slot>
-    ensures value { result ≡ slot_at slots.now slot }
-    ensures within { IfSome result (λ _. (1 ≤ slot) × (slot ≤ length slots.now)) }
+// The lowest bit of a set.
+fn lowest_bit(set: u64) -> Option<u8>
+    ensures found { IfSome result (λ bit. IsLowest set bit) }
+    ensures none { IfNone result (set ≡ 0) }
 {
-    let index = slot.checked_sub(1)?;
-    slots.get(usize::from(index)).copied()
+    if set == 0 {
+        return None;
+    }
+    Some(set.trailing_zeros() as u8)
+}
+
+// What is kept of a slot beside the sets.
+fn kept_of(place: Slot) -> (u64, Call, u8)
+    ensures { result ≡ kept_of place }
+{
+    match place {
+        Slot::Free => (0, Call { from: 0, to: 0 }, 0),
+        Slot::Waiting { ticket, call } => (ticket, call, 0),
+        Slot::Told { ticket, call, car } => (ticket, call, car),
+    }
+}
+
+// Whether a slot is free.
+fn is_free(place: Slot) -> bool
+    ensures { result ≡ is_free place }
+{
+    matches!(place, Slot::Free)
+}
+
+// Whether a call waits in a slot.
+fn is_waiting(place: Slot) -> bool
+    ensures { result ≡ is_waiting place }
+{
+    matches!(place, Slot::Waiting { .. })
+}
+
+// Whether a slot is told to a car.
+fn is_told(place: Slot) -> bool
+    ensures { result ≡ is_told place }
+{
+    matches!(place, Slot::Told { .. })
 }
 
 impl CallBook {
@@ -65,18 +124,80 @@ impl CallBook {
         ensures { result ≡ opening_calls sizes }
     {
         CallBook {
-            places: [Slot::Free; 64],
+            free: first_slots(sizes.slots),
+            waiting: 0,
+            told: 0,
+            tickets: [0; 64],
+            calls: [Call { from: 0, to: 0 }; 64],
+            cars: [0; 64],
             count: sizes.slots,
             given: 0,
         }
     }
 
-    /// The slots, slot 1 first.
-    pub fn slots(&self) -> &[Slot]
-        ensures value { result.now ≡ self.now.slots }
+    /// A copy.
+    pub fn copied(&self) -> CallBook
+        ensures { result ≡ self.now }
+    {
+        CallBook {
+            free: self.free,
+            waiting: self.waiting,
+            told: self.told,
+            tickets: self.tickets,
+            calls: self.calls,
+            cars: self.cars,
+            count: self.count,
+            given: self.given,
+        }
+    }
+
+    /// How many slots there are.
+    pub fn count(&self) -> u8
+        ensures value { result ≡ length self.now.slots }
         ensures few { length self.now.slots ≤ 64 }
     {
-        &self.places[..usize::from(self.count)]
+        self.count
+    }
+
+    /// The slot at an index, which counts from 0.
+    pub fn slot_of(&self, index: usize) -> Slot
+        requires { index < length self.now.slots }
+        ensures { slice_get self.now.slots index ≡ Some result }
+    {
+        if has_bit(self.free, index as u8) {
+            return Slot::Free;
+        }
+        let ticket = self.tickets[index];
+        let call = self.calls[index];
+        if has_bit(self.waiting, index as u8) {
+            return Slot::Waiting { ticket, call };
+        }
+        let car = self.cars[index];
+        Slot::Told { ticket, call, car }
+    }
+
+    /// The slot of a number, which counts from 1.
+    pub fn slot(&self, number: u8) -> Option<Slot>
+        ensures value { result ≡ slot_at self.now.slots number }
+        ensures within { IfSome result (λ _. (1 ≤ number) × (number ≤ length self.now.slots)) }
+    {
+        let index = number.checked_sub(1)?;
+        if index >= self.count() {
+            return None;
+        }
+        Some(self.slot_of(usize::from(index)))
+    }
+
+    /// The slots, slot 1 first.
+    pub fn slots(&self) -> Bounded<Slot, 64>
+        ensures value { result ≡ self.now.slots }
+        ensures few { length self.now.slots ≤ 64 }
+    {
+        let mut slots = Bounded::new();
+        for index in 0..usize::from(self.count()) {
+            slots.push(self.slot_of(index));
+        }
+        slots
     }
 
     /// The last ticket that was given, 0 before the first.
@@ -87,13 +208,30 @@ impl CallBook {
         self.given
     }
 
+    // The number of the lowest Free slot.
+    fn lowest_free(&self) -> Option<u8>
+        ensures number { result ≡ lowest_free_from 1 self.now.slots }
+        ensures within { IfSome result (λ slot. (1 ≤ slot) × (slot ≤ length self.now.slots)) }
+    {
+        let bit = lowest_bit(self.free)?;
+        Some(bit + 1)
+    }
+
     // Replaces the slot of a number.
     fn set(&mut self, slot: u8, place: Slot)
         requires { (1 ≤ slot) × (slot ≤ length self.old.slots) }
         ensures slots { self.new.slots ≡ with_slot self.old.slots slot place }
         ensures ticket { self.new.last_ticket ≡ self.old.last_ticket }
     {
-        self.places[usize::from(slot - 1)] = place;
+        let bit = slot - 1;
+        self.free = with_bit(self.free, bit, is_free(place));
+        self.waiting = with_bit(self.waiting, bit, is_waiting(place));
+        self.told = with_bit(self.told, bit, is_told(place));
+        let (ticket, call, car) = kept_of(place);
+        let index = usize::from(bit);
+        self.tickets[index] = ticket;
+        self.calls[index] = call;
+        self.cars[index] = car;
     }
 
     /// Enters a call into the lowest Free slot, under the next ticket: 1 first, then always 1 more.
@@ -107,7 +245,7 @@ impl CallBook {
         if self.given == GREATEST_TICKET {
             return Entering::Kept;
         }
-        let Some(slot) = lowest_free(self.slots()) else {
+        let Some(slot) = self.lowest_free() else {
             return Entering::Kept;
         };
         let ticket = self.given + 1;
@@ -123,7 +261,7 @@ impl CallBook {
         ensures value { tell self.old slot ticket car ≡ (self.new, result) }
         ensures only_done { result ≢ Answer.Done → self.new ≡ self.old }
     {
-        let Some(place) = slot_at(self.slots(), slot) else {
+        let Some(place) = self.slot(slot) else {
             return Answer::NoSlot;
         };
         match place {
@@ -146,7 +284,7 @@ impl CallBook {
         ensures value { serve self.old slot ticket car ≡ (self.new, result) }
         ensures only_done { result ≢ Answer.Done → self.new ≡ self.old }
     {
-        let Some(place) = slot_at(self.slots(), slot) else {
+        let Some(place) = self.slot(slot) else {
             return Answer::NoSlot;
         };
         match place {

@@ -1,6 +1,6 @@
 -- Laws of the definitions: the test of fields, the opening image, and what an Instruction leaves.
-use Rattle.std.specs.Prelude.{◌≡◌, ℕ, zero, suc, ◌+◌, ◌≤◌, Bool, true, false, ◌&&◌, List, [], ◌∷◌, ◌++◌, length, All, nat_le, ◌==◌, Ok, Err, Option, Some, None, unwrap_or, replicate, slice_get, slice_set, refl, IsTrue, ◌↔◌}
-use Rattle.std.proofs.Common.{sym, ap, subst, arith, eqb-true, eq-eqb}
+use Rattle.std.specs.Prelude.{◌≡◌, ℕ, zero, suc, ◌+◌, ◌≤◌, Bool, true, false, ◌&&◌, List, [], ◌∷◌, length, All, nat_le, ◌==◌, Ok, Err, Option, Some, None, unwrap_or, replicate, slice_get, slice_set, refl, IsTrue, ◌↔◌}
+use Rattle.std.proofs.Common.{ap, subst, arith, eqb-true, eq-eqb}
 use Rattle.std.proofs.lemmas.Bool.Decides.{leb_tells}
 use Rattle.lift_spec.specs.declared.image.Sizes.{Sizes}
 use Rattle.lift_spec.specs.declared.image.CarFields.{CarFields}

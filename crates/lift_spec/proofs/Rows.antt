@@ -1,19 +1,17 @@
 -- Worked examples of the definitions: each computes.
-use Rattle.std.specs.Prelude.{◌≡◌, ℕ, zero, suc, Bool, true, false, List, [], ◌∷◌, ◌++◌, length, replicate, codes, refl}
+use Rattle.std.specs.Prelude.{◌≡◌, ℕ, zero, suc, Bool, true, false, [], ◌∷◌, replicate, refl}
 use Rattle.std.specs.Fmt.{digits}
 use Rattle.lift_spec.specs.declared.image.Sizes.{Sizes}
 use Rattle.lift_spec.specs.declared.image.Motor.{Motor}
 use Rattle.lift_spec.specs.declared.image.Motor.TheVariants.{Up, Down, Still}
 use Rattle.lift_spec.specs.declared.image.CarFields.{CarFields}
-use Rattle.lift_spec.specs.declared.image.CarOutputs.{CarOutputs}
-use Rattle.lift_spec.specs.declared.image.Fields.{Fields}
 use Rattle.lift_spec.specs.declared.image.Image.{Image}
 use Rattle.lift_spec.specs.declared.calls.Call.{Call}
 use Rattle.lift_spec.specs.declared.calls.Slot.TheVariants.{Waiting, Told}
 use Rattle.lift_spec.specs.declared.calls.Answer.TheVariants.{Stale}
 use Rattle.lift_spec.specs.declared.calls.Entering.TheVariants.{Done as EntersAt, Kept}
-use Rattle.lift_spec.specs.declared.report.Rule.TheVariants.{Reversal, Unlocked, AtEnd, Crowded}
-use Rattle.lift_spec.specs.Image.{opening_outputs, opening_image}
+use Rattle.lift_spec.specs.declared.report.Rule.TheVariants.{Reversal, Unlocked, Crowded}
+use Rattle.lift_spec.specs.Image.{opening_image}
 use Rattle.lift_spec.specs.Settle.{settled_car, settled_all}
 use Rattle.lift_spec.specs.Calls.{Calls, opening_calls, enter, tell, serve, enter_all}
 use Rattle.lift_spec.specs.Plant.{PlantState, opening_plant, plant_after, fields_of_plant}

@@ -21,10 +21,10 @@ use Rattle.il_spec.specs.declared.tree.Index.TheVariants.{Number}
 use Rattle.il_spec.specs.declared.tree.Literal.{Literal as Written}
 use Rattle.il_spec.specs.declared.tree.Literal.TheVariants.{Bare, Truth}
 use Rattle.il_spec.specs.ElementaryTypes.{plain}
-use Rattle.il_rules.specs.Names.{meaning, image_name, standard_function, standard_block, block_variables}
+use Rattle.il_rules.specs.Names.{meaning, image_name, standard_function, standard_block}
 use Rattle.il_rules.specs.Types.{label_place}
 use Rattle.il_run.specs.declared.value.Value.{Value}
-use Rattle.il_run.specs.declared.value.Value.TheVariants.{Boolean, Integer}
+use Rattle.il_run.specs.declared.value.Value.TheVariants.{Boolean}
 use Rattle.il_table.specs.NameMap.{get, insert, empty}
 use Rattle.il_run.specs.Step.{step}
 use Rattle.il_run.specs.Scan.{begins, opening_variables, opening_globals, restricted}
@@ -34,8 +34,6 @@ use Rattle.lift_spec.specs.declared.image.Fields.{Fields}
 use Rattle.lift_spec.specs.declared.image.Sizes.{Sizes}
 use Rattle.lift_spec.specs.declared.calls.Call.{Call}
 use Rattle.lift_spec.specs.declared.calls.Slot.TheVariants.{Waiting, Told}
-use Rattle.lift_spec.specs.declared.calls.Answer.{Answer}
-use Rattle.lift_spec.specs.declared.calls.Answer.TheVariants.{Done, Stale}
 use Rattle.lift_spec.specs.declared.report.Report.{Report}
 use Rattle.lift_spec.specs.declared.report.Rule.TheVariants.{Crowded, NotLevel}
 use Rattle.lift_spec.specs.declared.event.Event.{Event}

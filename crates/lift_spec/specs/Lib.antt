@@ -1,4 +1,6 @@
 pub mod Image
+pub mod Bits
+pub mod Running
 pub mod Settle
 pub mod Hands
 pub mod Words

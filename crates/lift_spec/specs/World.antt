@@ -15,7 +15,6 @@ use Rattle.lift_spec.specs.Replies.{Reply}
 use Rattle.lift_spec.specs.declared.event.EventFault.{EventFault}
 use Rattle.lift_spec.specs.declared.event.EventFault.TheVariants.{FieldOutOfRange, NoOpenScan, AlreadyOpen, NotAtEnd, NoSuchActor, SameFloor}
 use Rattle.lift_spec.specs.Replies.{Started, More, End, Committed, Refreshed, New, Already, Gathered, Held, Refused}
-use Rattle.il_table.specs.NameMap.{empty}
 use Rattle.il_run.specs.State.{Values, State}
 use Rattle.il_run.specs.Step.{Trap, Outcome, Next as Goes, Trapped, Stuck, step as scan_step}
 use Rattle.il_run.specs.Scan.{opening_variables, opening_globals, restricted, has_ended}

@@ -7,5 +7,6 @@ pub mod event;
 pub mod hand;
 pub mod image;
 pub mod journal;
+pub mod outputs;
 pub mod report;
 pub mod trace;

@@ -1,4 +1,4 @@
-use Rattle.std.proofs.Common.{rules, arith, ◌≡◌, ◌≤◌, ap, length}
+use Rattle.std.proofs.Common.{arith, ◌≡◌, ◌≤◌, ap, length}
 use Rattle.lift_spec.specs.Hands.{calls_of_words}
 use Rattle.lift_spec.proofs.Hands.{set_few}
 use Rattle.lift_spec.proofs.hand.Hand.len.Goals as goal

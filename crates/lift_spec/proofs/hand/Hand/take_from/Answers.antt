@@ -1,4 +1,4 @@
-use Rattle.std.proofs.Common.{◌≡◌, ◌+◌, ◌<◌, sym, ◌∙◌, arith}
+use Rattle.std.proofs.Common.{sym, arith}
 use Rattle.lift_spec.specs.Words.{mask_in_words, calls_from_words}
 use Rattle.lift_spec.proofs.Hands.{without_word}
 use Rattle.lift_spec.proofs.hand.Hand.take_from.Goals as goal
