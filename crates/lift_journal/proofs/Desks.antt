@@ -5,14 +5,13 @@ use Rattle.il_run.specs.State.{State}
 use Rattle.il_run.specs.Step.{Outcome, Next as Goes, Trapped, Stuck, step as scan_step}
 use Rattle.il_run.specs.Scan.{has_ended}
 use Rattle.lift_spec.specs.declared.image.Fields.{Fields}
-use Rattle.lift_spec.specs.declared.report.Report.{Report}
 use Rattle.lift_spec.specs.declared.event.Event.TheVariants.{Start, Instruction, Commit, Refresh, Gather}
-use Rattle.lift_spec.specs.Image.{sizes_of, is_floor, fields_in_range}
+use Rattle.lift_spec.specs.Image.{sizes_of, fields_in_range}
 use Rattle.lift_spec.specs.Hands.{has_from}
-use Rattle.lift_spec.specs.Replies.{Reply, Gathered, Held, Refreshed}
+use Rattle.lift_spec.specs.Replies.{Reply, Gathered, Held}
 use Rattle.lift_spec.specs.World.{World, TaskState, Next, task_at, scan_at, happens, run, and_then, starts, starts_from, instructs, instructs_in, instructs_scan, stepped, commits, commits_scan, commits_ended, refreshes, gathers, gathers_from}
 use Rattle.lift_journal.specs.Journal.{IsAccepted}
-use Rattle.lift_journal.specs.Rounds.{Happen, Finishes, FinishesAndCommits, Scans, ScanEach, counting_from, desk_events, floors_rising}
+use Rattle.lift_journal.specs.Rounds.{Happen, Scans, ScanEach, counting_from, desk_events}
 use Rattle.lift_journal.proofs.Handing.{floor_so}
 use Rattle.lift_journal.proofs.Journals.{Led}
 use Rattle.lift_journal.proofs.Taking.{happen_one, happen_none, happen_more}

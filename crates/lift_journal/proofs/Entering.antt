@@ -1,6 +1,6 @@
 -- Steps of a journal: a start, a commit, and a refresh that is lent its hand.
-use Rattle.std.proofs.Common.{◌≡◌, ℕ, zero, suc, ◌+◌, ◌<◌, ◌≤◌, Bool, true, false, List, [], ◌∷◌, ◌++◌, map, length, replicate, Option, Some, None, Ok, refl, sym, ap, ◌∙◌, subst, arith}
-use Rattle.std.specs.Prelude.{slice_get, slice_set}
+use Rattle.std.proofs.Common.{◌≡◌, ℕ, ◌+◌, ◌≤◌, true, List, [], ◌∷◌, ◌++◌, map, replicate, Option, Some, None, Ok, refl, sym, ap, ◌∙◌, subst}
+use Rattle.std.specs.Prelude.{slice_set}
 use Rattle.std.proofs.lemmas.List.{append_assoc}
 use Rattle.il_spec.specs.declared.tree.Config.{Config}
 use Rattle.il_run.specs.State.{State}
@@ -10,21 +10,19 @@ use Rattle.lift_spec.specs.declared.image.Fields.{Fields}
 use Rattle.lift_spec.specs.declared.calls.Call.{Call}
 use Rattle.lift_spec.specs.declared.report.Report.{Report}
 use Rattle.lift_spec.specs.declared.report.EnteredCall.{EnteredCall}
-use Rattle.lift_spec.specs.declared.event.Event.{Event}
 use Rattle.lift_spec.specs.declared.event.Event.TheVariants.{Start, Instruction, Commit, Refresh, Press, Gather}
 use Rattle.lift_spec.specs.Image.{sizes_of, fields_in_range}
 use Rattle.lift_spec.specs.Calls.{Calls, IsCall, Entered, enter_all, entered_at, slot_for_next}
 use Rattle.lift_spec.specs.Hands.{floors_of, IsInOrder}
-use Rattle.lift_spec.specs.Replies.{Reply, Started, Committed, Refreshed}
-use Rattle.lift_spec.specs.World.{World, Group, TaskState, task_at, scan_at, happens, run, and_then, refreshes, refreshed_group, entered_from}
+use Rattle.lift_spec.specs.Replies.{Started, Committed, Refreshed}
+use Rattle.lift_spec.specs.World.{World, Group, TaskState, task_at, scan_at, happens, run, and_then, refreshes, refreshed_group}
 use Rattle.lift_run_laws.specs.Tasks.{budget_of}
-use Rattle.lift_spec.specs.declared.journal.Entry.{Entry}
 use Rattle.lift_spec.specs.declared.journal.Entry.TheVariants as entry
-use Rattle.lift_journal.specs.Journal.{Enters, IsAccepted, AreAccepted, AllCalls}
+use Rattle.lift_journal.specs.Journal.{Enters, AllCalls}
 use Rattle.lift_journal.specs.Laws.{RefreshEnters, CommitEnters}
 use Rattle.lift_journal.proofs.Orders.{Each, each_left, order_left}
 use Rattle.lift_journal.proofs.Handing.{append_nil, accepted_append, all_pressed, all_gathered}
-use Rattle.lift_journal.proofs.Scanning.{within, set_same, standing, all_steps, ends_within, task_of_scan}
+use Rattle.lift_journal.proofs.Scanning.{within, set_same, all_steps, ends_within, task_of_scan}
 
 -- START
 

@@ -1,5 +1,5 @@
 -- Journals: what a further entry adds, and whose scans are open.
-use Rattle.std.proofs.Common.{◌≡◌, ◌≢◌, ℕ, zero, suc, ◌+◌, ◌%◌, ◌<◌, ◌≤◌, ◌⊎◌, inl, inr, Bool, true, false, ◌&&◌, ◌==◌, List, [], ◌∷◌, ◌++◌, map, length, replicate, Option, Some, None, Result, Ok, Err, if◌then◌else◌, refl, sym, ap, ◌∙◌, subst, arith, eqb-true, eq-eqb, length-append}
+use Rattle.std.proofs.Common.{◌≡◌, ◌≢◌, ℕ, zero, suc, ◌+◌, ◌%◌, ◌<◌, ◌⊎◌, inl, inr, Bool, true, false, ◌==◌, List, [], ◌∷◌, ◌++◌, map, length, replicate, Option, Some, None, Result, Ok, Err, if◌then◌else◌, refl, sym, ap, ◌∙◌, subst, arith, eqb-true, length-append}
 use Rattle.std.specs.Prelude.{slice_get, slice_set, is_some}
 use Rattle.il_spec.specs.declared.tree.Config.{Config}
 use Rattle.il_run.specs.State.{State}
@@ -10,17 +10,17 @@ use Rattle.lift_spec.specs.declared.calls.Call.{Call}
 use Rattle.lift_spec.specs.declared.event.Event.{Event}
 use Rattle.lift_spec.specs.declared.event.Event.TheVariants.{Start, Instruction, Commit, Refresh, Press, Gather}
 use Rattle.lift_spec.specs.declared.event.EventFault.{EventFault}
-use Rattle.lift_spec.specs.Image.{sizes_of, is_floor, fields_in_range, Obeys}
+use Rattle.lift_spec.specs.Image.{Obeys}
 use Rattle.lift_spec.specs.Hands.{has_call, has_from, floors_of}
 use Rattle.lift_spec.specs.Replies.{Reply, Refused}
-use Rattle.lift_spec.specs.World.{World, Halt, TaskState, Next, InRanges, flat, task_at, scan_at, opening, happens, run, and_then, starts, starts_from, instructs, instructs_in, instructs_scan, stepped, reply_to, commits, commits_scan, commits_ended, refreshes, presses, presses_floors, presses_new, gathers, gathers_from}
+use Rattle.lift_spec.specs.World.{World, Halt, TaskState, Next, InRanges, flat, task_at, scan_at, opening, happens, run, and_then, starts, starts_from, instructs, instructs_in, instructs_scan, stepped, commits, commits_scan, commits_ended, refreshes, presses, presses_floors, presses_new, gathers, gathers_from}
 use Rattle.lift_run_laws.specs.Accepted.{IsSound}
 use Rattle.lift_run_laws.specs.Holding.{SeatHolds, TaskHolds, WorldHolds}
 use Rattle.lift_run_laws.specs.Runs.{IsReached}
 use Rattle.std.proofs.lemmas.List.{append_assoc}
 use Rattle.lift_run_laws.proofs.Accepted.{accepted_runs_well, opens_well, scans_well}
 use Rattle.lift_run_laws.proofs.Following.{follow, before, ended, same_end, goes_on}
-use Rattle.lift_run_laws.proofs.Lists.{false_true, get_other, same_or_other}
+use Rattle.lift_run_laws.proofs.Lists.{get_other, same_or_other}
 use Rattle.lift_run_laws.proofs.Running.{reached_world_holds}
 use Rattle.lift_run_laws.proofs.Seats.{flat_same}
 use Rattle.lift_run_laws.proofs.Openings.{no_scan_open}
@@ -28,7 +28,6 @@ use Rattle.lift_spec.specs.declared.journal.Entry.{Entry}
 use Rattle.lift_spec.specs.declared.journal.Entry.TheVariants as entry
 use Rattle.lift_journal.specs.Journal.{Enters, events_of, IsAccepted, AreAccepted, Runs, IsJournalOf, entries_by, entered_in, entered_calls, actor_of, open_after, MayFollow, Alternate, IsOpenWhereOdd, refresher}
 use Rattle.lift_journal.specs.Pages.{Page, Kept, Adds}
-use Rattle.lift_journal.proofs.Handing.{append_nil}
 use Rattle.lift_journal.proofs.Scanning.{within}
 
 -- A FURTHER ENTRY

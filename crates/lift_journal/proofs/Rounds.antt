@@ -1,6 +1,5 @@
 -- The entries of rounds are a journal: of the same group, with no call on the desk or in the hand.
-use Rattle.std.proofs.Common.{◌≡◌, ℕ, zero, suc, ◌+◌, ◌≤◌, Bool, true, false, ◌&&◌, ◌==◌, List, [], ◌∷◌, ◌++◌, map, flat_map, length, replicate, Option, Some, None, Result, Ok, Err, refl, sym, ap, ◌∙◌, subst, arith, if◌then◌else◌, All, eq-eqb, length-append}
-use Rattle.std.proofs.lemmas.List.{append_assoc}
+use Rattle.std.proofs.Common.{◌≡◌, ℕ, zero, suc, ◌+◌, ◌≤◌, Bool, true, false, ◌&&◌, ◌==◌, List, [], ◌∷◌, ◌++◌, map, flat_map, length, replicate, Option, Some, None, Result, Ok, Err, refl, sym, ap, ◌∙◌, subst, arith, if◌then◌else◌, All, eq-eqb}
 use Rattle.std.proofs.lemmas.List.Elements.{All-head, All-tail}
 use Rattle.il_spec.specs.declared.tree.Config.{Config}
 use Rattle.il_run.specs.State.{State}
@@ -10,28 +9,27 @@ use Rattle.lift_spec.specs.declared.image.Sizes.{Sizes}
 use Rattle.lift_spec.specs.declared.image.Fields.{Fields}
 use Rattle.lift_spec.specs.declared.calls.Call.{Call}
 use Rattle.lift_spec.specs.declared.report.Report.{Report}
-use Rattle.lift_spec.specs.declared.report.EnteredCall.{EnteredCall}
 use Rattle.lift_spec.specs.declared.event.Event.{Event}
 use Rattle.lift_spec.specs.declared.event.Event.TheVariants.{Start, Instruction, Commit, Refresh, Press, Gather}
 use Rattle.lift_spec.specs.Image.{sizes_of, is_floor, fields_in_range}
 use Rattle.lift_spec.specs.Calls.{IsCall}
 use Rattle.lift_spec.specs.Hands.{has_call, has_from}
 use Rattle.lift_spec.specs.Plant.{PlantState, fields_of_plant}
-use Rattle.lift_spec.specs.Replies.{Reply, Started, More, End, Committed, Refreshed, Refused}
+use Rattle.lift_spec.specs.Replies.{Reply, Started, Committed, Refreshed}
 use Rattle.lift_spec.specs.World.{World, Group, Halt, TaskState, Next, task_at, scan_at, opening, happens, run, and_then, starts, starts_from, instructs, instructs_in, instructs_scan, stepped, commits, commits_scan, commits_ended, refreshes, refreshed_group, presses, presses_floors, presses_new, gathers, gathers_from, counted, answered}
 use Rattle.lift_run_laws.specs.Accepted.{IsSound}
-use Rattle.lift_run_laws.specs.Runs.{IsReached, WorldWell}
+use Rattle.lift_run_laws.specs.Runs.{IsReached}
 use Rattle.lift_run_laws.specs.Tasks.{budget_of}
 use Rattle.lift_run_laws.proofs.Accepted.{accepted_runs_well}
 use Rattle.lift_run_laws.proofs.Following.{appends, follow, before, goes_on}
 use Rattle.lift_run_laws.proofs.Histories.{event_is_run}
 use Rattle.lift_spec.specs.declared.journal.Entry.{Entry}
 use Rattle.lift_spec.specs.declared.journal.Entry.TheVariants as entry
-use Rattle.lift_journal.specs.Journal.{Enters, IsAccepted, AreAccepted, AllCalls, Runs, IsJournalOf, calls_entering}
-use Rattle.lift_journal.specs.Rounds.{Happen, ending, Finishes, FinishesAndCommits, Scans, ScanEach, scan_entries, entered_calls_of, desk_events, floors_rising, tasks_in_order, IsRound, Rounds, cleared}
+use Rattle.lift_journal.specs.Journal.{Enters, AreAccepted, AllCalls, Runs, IsJournalOf, calls_entering}
+use Rattle.lift_journal.specs.Rounds.{Happen, ending, FinishesAndCommits, Scans, ScanEach, scan_entries, entered_calls_of, desk_events, floors_rising, tasks_in_order, IsRound, Rounds, cleared}
 use Rattle.lift_journal.proofs.Entering.{start_enters, refresh_is_step}
-use Rattle.lift_journal.proofs.Handing.{append_nil, accepted_append}
-use Rattle.lift_journal.proofs.Journals.{Led, same_world, opening_reached, Ends, Goes_on, takes_first, ended_run}
+use Rattle.lift_journal.proofs.Handing.{accepted_append}
+use Rattle.lift_journal.proofs.Journals.{Led, same_world, opening_reached, Ends, takes_first, ended_run}
 
 -- RUNS OF RUNS
 

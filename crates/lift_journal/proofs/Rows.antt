@@ -1,18 +1,13 @@
 -- Worked rows: journals of a group of one car, by computation.
-use Rattle.std.specs.Prelude.{◌≡◌, ℕ, true, false, List, [], ◌∷◌, ◌++◌, Option, Some, None, Result, Ok, Err, codes, refl, pos}
-use Rattle.std.proofs.Common.{arith}
+use Rattle.std.specs.Prelude.{◌≡◌, ℕ, List, [], ◌∷◌, ◌++◌, None, Result, Ok, Err, codes, refl, pos}
 use Rattle.il_spec.specs.declared.tree.Place.{Place}
 use Rattle.il_spec.specs.declared.tree.Named.{Named}
 use Rattle.il_spec.specs.declared.tree.Config.{Config}
 use Rattle.il_spec.specs.declared.tree.Size.{Size}
 use Rattle.il_spec.specs.declared.tree.Unit.{Unit as Organized}
 use Rattle.il_spec.specs.declared.tree.UnitKind.TheVariants.{Program}
-use Rattle.il_spec.specs.declared.tree.Step.{Step}
-use Rattle.il_spec.specs.declared.tree.ProgramLine.{ProgramLine}
-use Rattle.il_spec.specs.declared.tree.Declaration.{Declaration}
 use Rattle.lift_spec.specs.declared.calls.Call.{Call}
-use Rattle.lift_spec.specs.declared.event.Event.{Event}
-use Rattle.lift_spec.specs.declared.event.Event.TheVariants.{Start, Instruction, Commit, Refresh, Press, Gather}
+use Rattle.lift_spec.specs.declared.event.Event.TheVariants.{Instruction, Commit, Refresh, Press, Gather}
 use Rattle.lift_spec.specs.declared.event.EventFault.TheVariants.{NoOpenScan}
 use Rattle.lift_spec.specs.declared.report.Report.{Report}
 use Rattle.lift_spec.specs.declared.report.EnteredCall.{EnteredCall}
@@ -30,7 +25,7 @@ use Rattle.il_run.specs.Step.{step}
 use Rattle.lift_spec.specs.World.{World, Halt, opening, happens, run, refreshed_group, committed_group}
 use Rattle.lift_spec.specs.declared.journal.Entry.{Entry}
 use Rattle.lift_spec.specs.declared.journal.Entry.TheVariants as entry
-use Rattle.lift_journal.specs.Journal.{events_of, calls_entering, entries_by, entered_calls, open_after, refresher}
+use Rattle.lift_journal.specs.Journal.{events_of, calls_entering, entries_by, entered_calls, refresher}
 
 -- A CONFIGURATION
 

@@ -1,8 +1,7 @@
 -- Events that can't be refused.
-use Rattle.std.proofs.Common.{◌≡◌, ℕ, zero, suc, ◌+◌, ◌<◌, ◌≤◌, Bool, true, false, ◌&&◌, ◌==◌, List, [], ◌∷◌, ◌++◌, map, length, replicate, Option, Some, None, Result, Ok, Err, refl, sym, ap, ◌∙◌, subst, arith, if◌then◌else◌, All, eq-eqb, inl, inr}
-use Rattle.std.specs.Prelude.{slice_get, slice_set, is_some, nat_le, ◌⊎◌}
+use Rattle.std.proofs.Common.{◌≡◌, ℕ, zero, suc, ◌<◌, ◌≤◌, Bool, true, false, ◌==◌, List, [], ◌∷◌, ◌++◌, length, replicate, Option, Some, None, Ok, Err, refl, sym, ap, ◌∙◌, subst, arith, if◌then◌else◌, All, eq-eqb, inl, inr}
+use Rattle.std.specs.Prelude.{slice_get, is_some, nat_le, ◌⊎◌}
 use Rattle.std.proofs.lemmas.Bool.Decides.{nat_tests}
-use Rattle.std.proofs.lemmas.List.{append_assoc}
 use Rattle.std.proofs.lemmas.List.Elements.{All-head, All-tail}
 use Rattle.il_spec.specs.declared.tree.Config.{Config}
 use Rattle.il_spec.specs.declared.tree.Unit.{Unit as ProgramUnit}
@@ -17,12 +16,12 @@ use Rattle.lift_spec.specs.declared.report.Report.{Report}
 use Rattle.lift_spec.specs.declared.event.Event.{Event}
 use Rattle.lift_spec.specs.declared.event.Event.TheVariants.{Start, Instruction, Commit, Refresh, Press, Gather}
 use Rattle.lift_spec.specs.declared.event.EventFault.{EventFault}
-use Rattle.lift_spec.specs.Image.{sizes_of, is_floor, IsFloor, FieldsInRange, positions_in_range, fields_in_range}
+use Rattle.lift_spec.specs.Image.{sizes_of, IsFloor, FieldsInRange, positions_in_range, fields_in_range}
 use Rattle.lift_spec.specs.Calls.{IsCall}
 use Rattle.lift_spec.specs.Hands.{has_call, has_from, IsInOrder}
 use Rattle.lift_spec.specs.Replies.{Reply, Started, More, End, Committed, Refreshed, Refused}
-use Rattle.lift_spec.specs.Snapshot.{Beginning, scan_begins, begins_by, program_of, has_task}
-use Rattle.lift_spec.specs.World.{World, Halt, TaskState, Next, flat, task_at, scan_at, beginning_of, happens, run, and_then, starts, starts_from, instructs, instructs_in, instructs_scan, stepped, reply_to, commits, commits_scan, commits_ended, refreshes, presses, presses_floors, presses_new, gathers, gathers_from}
+use Rattle.lift_spec.specs.Snapshot.{Beginning, scan_begins, begins_by, program_of}
+use Rattle.lift_spec.specs.World.{World, TaskState, Next, flat, task_at, scan_at, beginning_of, happens, run, and_then, starts, starts_from, instructs, instructs_in, instructs_scan, stepped, reply_to, commits, commits_scan, commits_ended, refreshes, presses, presses_floors, presses_new, gathers, gathers_from}
 use Rattle.lift_run_laws.specs.Accepted.{IsSound}
 use Rattle.lift_run_laws.specs.Runs.{IsReached}
 use Rattle.lift_run_laws.specs.Tasks.{IsTaskOf}
@@ -30,14 +29,14 @@ use Rattle.lift_run_laws.proofs.Accepted.{accepted_runs_well}
 use Rattle.lift_run_laws.proofs.Following.{appends, follow, before, same_end}
 use Rattle.lift_run_laws.proofs.Lists.{same_or_other}
 use Rattle.lift_run_laws.proofs.Seats.{flat_same}
-use Rattle.lift_journal.specs.Journal.{IsAccepted, AreAccepted, AllCalls}
-use Rattle.lift_journal.specs.Rounds.{Happen, ending, Finishes, FinishesAndCommits, Scans, ScanEach, desk_events, cleared, entered_calls_of}
+use Rattle.lift_journal.specs.Journal.{IsAccepted, AllCalls}
+use Rattle.lift_journal.specs.Rounds.{Happen, ending, FinishesAndCommits, Scans, desk_events, entered_calls_of}
 use Rattle.lift_journal.proofs.Handing.{accepted_append, floor_so, both_so}
 use Rattle.lift_journal.proofs.Scanning.{within}
 use Rattle.lift_journal.proofs.Journals.{Led, same_world, Puts, has_place, happens_start, commit_run}
 use Rattle.lift_journal.proofs.Entering.{enters_first}
 use Rattle.lift_journal.proofs.Orders.{order_left}
-use Rattle.lift_journal.proofs.Rounds.{event_reached, scan_reached, desk_leaves, ending_accepted, refresh_of, reports_entered, all_calls}
+use Rattle.lift_journal.proofs.Rounds.{desk_leaves, ending_accepted, refresh_of, reports_entered, all_calls}
 
 -- RUNS
 

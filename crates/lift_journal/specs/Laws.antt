@@ -2,12 +2,11 @@
 use Rattle.std.specs.Prelude.{◌≡◌, ◌≢◌, ℕ, ◌<◌, List, [], length, Ok, Some, false, true, slice_set}
 use Rattle.il_spec.specs.declared.tree.Config.{Config}
 use Rattle.il_run.specs.State.{State}
-use Rattle.il_run.specs.Scan.{Reaches, has_ended}
+use Rattle.il_run.specs.Scan.{Reaches}
 use Rattle.lift_spec.specs.declared.event.Event.TheVariants.{Commit}
 use Rattle.lift_spec.specs.declared.image.Fields.{Fields}
 use Rattle.lift_spec.specs.declared.calls.Call.{Call}
 use Rattle.lift_spec.specs.declared.report.Report.{Report}
-use Rattle.lift_spec.specs.Calls.{IsCall}
 use Rattle.lift_spec.specs.Hands.{IsInOrder}
 use Rattle.lift_spec.specs.Image.{sizes_of, fields_in_range, Obeys}
 use Rattle.lift_spec.specs.Replies.{Reply, Committed, Refreshed}

@@ -16,7 +16,7 @@ use Rattle.lift_spec.specs.Plant.{PlantState, opening_plant, plant_after, fields
 use Rattle.lift_spec.specs.Replies.{Reply, Started, More, End, Committed, Refreshed, Refused}
 use Rattle.lift_spec.specs.Snapshot.{has_task}
 use Rattle.lift_spec.specs.World.{World, happens, run, opening}
-use Rattle.lift_journal.specs.Journal.{AreAccepted, IsAccepted}
+use Rattle.lift_journal.specs.Journal.{AreAccepted}
 
 -- EVENTS THAT ARE TAKEN
 

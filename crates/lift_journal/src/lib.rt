@@ -2,6 +2,7 @@
 #![tactic(auto)]
 
 ghost use Rattle.lift_journal.specs.Laws.{JournalReaches, JournalIsWell, EntryKeeps, EntriesAlternate, RefreshEnters, CommitEnters};
+ghost use Rattle.lift_journal.specs.Safe.{DrivenIsSafe, RoundsKeepCarsSafe};
 
 pub mod entered;
 pub mod fault;
@@ -34,4 +35,16 @@ pub fn refresh_enters()
 /// A law: an open scan that is run to its end and committed is the step of its entry.
 pub fn commit_enters()
     ensures { CommitEnters }
+{}
+
+/// A law: of an accepted configuration, a round goes a safe step, where the image has what the plant reports and each car is in its shaft.
+/// Behind it both are so again.
+pub fn driven_is_safe()
+    ensures { DrivenIsSafe }
+{}
+
+/// A law: of an accepted configuration, so many rounds from the opening keep the cars safe: none changes its place unless its door is
+/// shut, and none leaves its shaft.
+pub fn rounds_keep_cars_safe()
+    ensures { RoundsKeepCarsSafe }
 {}

@@ -1,5 +1,5 @@
 -- A step of the plant under outputs that obey the interlock with what it reports.
-use Rattle.std.proofs.Common.{◌≡◌, ◌≢◌, refl, sym, ap, ◌∙◌, subst, ℕ, zero, suc, ◌+◌, ◌-◌, ◌*◌, ◌≤◌, ◌<◌, min, Bool, true, false, List, [], ◌∷◌, length, replicate, Some, None, Option, ℤ, pos, negsuc, ◌+ℤ◌, ◌≤ℤ◌, ◌<ℤ◌, slice_get, All, arith}
+use Rattle.std.proofs.Common.{◌≡◌, refl, sym, ap, ◌∙◌, subst, ℕ, zero, suc, ◌+◌, ◌-◌, ◌*◌, ◌≤◌, min, Bool, true, false, List, [], ◌∷◌, length, replicate, Some, Option, ℤ, pos, negsuc, ◌+ℤ◌, ◌≤ℤ◌, ◌<ℤ◌, slice_get, All, arith}
 use Rattle.std.specs.Prelude.{int_lt, int_le, int_div, nat_abs, ◌==◌, if◌then◌else◌}
 use Rattle.std.proofs.lemmas.Int.{ints}
 use Rattle.std.proofs.lemmas.List.{length-replicate}
@@ -12,7 +12,8 @@ use Rattle.lift_spec.specs.declared.image.CarFields.{CarFields}
 use Rattle.lift_spec.specs.declared.image.CarOutputs.{CarOutputs}
 use Rattle.lift_spec.specs.declared.image.Motor.{Motor}
 use Rattle.lift_spec.specs.declared.image.Motor.TheVariants.{Up, Down, Still}
-use Rattle.lift_spec.specs.Image.{IsFloor, FieldsInRange, CarObeys, runs}
+use Rattle.lift_spec.specs.declared.image.Fields.{Fields}
+use Rattle.lift_spec.specs.Image.{IsFloor, FieldsInRange, CarObeys, runs, opening_car, opening_fields}
 use Rattle.lift_spec.specs.Snapshot.{motor_number}
 use Rattle.lift_spec.specs.Plant.{PlacedCar, PlantState, kept_within, moved, moved_all, fields_of_car, fields_of_cars, fields_of_plant, opening_plant, plant_after, IsPlantOf, IsInShaft, StaysSafe, ObeysWithOwnFields}
 use Rattle.lift_plant.specs.Safe.{IsSafeStep}
@@ -104,7 +105,7 @@ fields_at floors [] k a h = cc
 fields_at floors (car ∷ cars) zero a h = let is : car ≡ a = cc in ap (λ c. Some (fields_of_car floors c)) is
 fields_at floors (car ∷ cars) (suc k) a h = fields_at floors cars k a h
 
-fields_length : (floors : ℕ) (cars : List PlacedCar) → length (fields_of_cars floors cars) ≡ length cars
+pub fields_length : (floors : ℕ) (cars : List PlacedCar) → length (fields_of_cars floors cars) ≡ length cars
 fields_length floors [] = refl
 fields_length floors (car ∷ cars) = ap suc (fields_length floors cars)
 
@@ -170,6 +171,31 @@ opening_sized cars floors slots = record {
   places = λ k car there. subst (λ (c : PlacedCar). (negsuc 9 ≤ℤ c.place) × (c.place ≤ℤ pos (10 * floors))) (of_replicate cars (record { place = pos 0; door = 0 }) k car there) (omega (arith, ints), omega (arith, ints));
 }
 
+-- THE OPENING
+
+-- each car opens in its shaft
+pub opening_in_shafts : (cars floors k : ℕ) (car : PlacedCar) → slice_get (opening_plant cars floors).cars k ≡ Some car → IsInShaft floors car
+opening_in_shafts cars floors k car there = subst (IsInShaft floors) (of_replicate cars (record { place = pos 0; door = 0 }) k car there) (omega (arith, ints), omega (arith, ints))
+
+-- a car at floor 1 is not at the top, where there are two floors
+not_at_top : (floors : ℕ) (b : Bool) → 2 ≤ floors → int_le (pos (10 * (floors - 1))) (pos 0) ≡ b → b ≡ false
+not_at_top floors false two is = refl
+not_at_top floors true two is = let low : pos (10 * (floors - 1)) ≤ℤ pos 0 = le_z_yes (subst T (sym is) tt) in absurd (omega (arith, ints, low, two))
+
+opening_car_is : (floors : ℕ) → 2 ≤ floors → fields_of_car floors (record { place = pos 0; door = 0 }) ≡ opening_car
+opening_car_is floors two = same _ _ (ap nat_abs (in_between (pos 1) (pos floors) (pos 1) (omega (arith, ints)) (omega (arith, ints, two)))) (not_at_top floors _ two refl)
+  where
+    same : (p : ℕ) (top : Bool) → p ≡ 1 → top ≡ false → ◌≡◌ {A = CarFields} (record { pos = p; level = true; top = top; bottom = true; locked = true; opened = false }) opening_car
+    same p top a b = cc
+
+opening_cars_are : (floors n : ℕ) → 2 ≤ floors → fields_of_cars floors (replicate n (record { place = pos 0; door = 0 })) ≡ replicate n opening_car
+opening_cars_are floors zero two = refl
+opening_cars_are floors (suc n) two = ap (λ f. f ∷ fields_of_cars floors (replicate n (record { place = pos 0; door = 0 }))) (opening_car_is floors two) ∙ ap (λ fs. opening_car ∷ fs) (opening_cars_are floors n two)
+
+-- a plant that opens reports what the image opens with
+pub opening_reports : (cars floors slots : ℕ) → 2 ≤ floors → fields_of_plant (opening_plant cars floors) ≡ opening_fields (record { cars = cars; floors = floors; slots = slots })
+opening_reports cars floors slots two = ap (λ (fs : List CarFields). let fields : Fields = record { time = 0; run_limit = cars; fire = false; cars = fs } in fields) (opening_cars_are floors cars two)
+
 -- A STEP IS SAFE
 
 -- what a plant of a group reports is in range
@@ -181,7 +207,7 @@ fields_fit sizes plant some of_group = record {
   run_limit = of_group.run_limit;
 }
 
-stays_safe : (sizes : Sizes) (plant : PlantState) (outputs : List CarOutputs) → 1 ≤ sizes.floors → IsPlantOf sizes plant → length outputs ≡ length plant.cars → ObeysWithOwnFields plant outputs → StaysSafe sizes plant (plant_after plant outputs)
+pub stays_safe : (sizes : Sizes) (plant : PlantState) (outputs : List CarOutputs) → 1 ≤ sizes.floors → IsPlantOf sizes plant → length outputs ≡ length plant.cars → ObeysWithOwnFields plant outputs → StaysSafe sizes plant (plant_after plant outputs)
 unfolding plant_after
 stays_safe sizes plant outputs some of_group same obeys =
     record {
@@ -200,6 +226,14 @@ stays_safe sizes plant outputs some of_group same obeys =
   where
     same_car : (o : Option PlacedCar) (a b : PlacedCar) → o ≡ Some a → o ≡ Some b → a ≡ b
     same_car o a b p q = let both : Some a ≡ Some b = sym p ∙ q in cc
+
+-- where all cars stand in their shafts they still do behind a safe step
+pub in_shafts_after :
+    (sizes : Sizes) (plant : PlantState) (outputs : List CarOutputs) → length outputs ≡ length plant.cars → StaysSafe sizes plant (plant_after plant outputs)
+    → ((k : ℕ) (a : PlacedCar) → slice_get plant.cars k ≡ Some a → IsInShaft plant.floors a) → (k : ℕ) (b : PlacedCar) → slice_get (plant_after plant outputs).cars k ≡ Some b → IsInShaft (plant_after plant outputs).floors b
+unfolding plant_after
+in_shafts_after sizes plant outputs same safe inside k b after =
+    let m = moved_at plant.floors plant.cars outputs k b same after in safe.shaft k m.before b m.there after (inside k m.before m.there)
 
 pub safe_step : (sizes : Sizes) (plant : PlantState) (outputs : List CarOutputs) → IsSafeStep sizes plant outputs
 safe_step sizes plant outputs some of_group same obeys = (stays_safe sizes plant outputs some of_group same obeys, sized_after sizes plant outputs of_group same)

@@ -1,7 +1,8 @@
 // The plant of a group.
 
 ghost use Rattle.std.specs.Prelude.{◌≡◌, ◌≤◌, ℕ, List, All, map, length};
-ghost use Rattle.lift_spec.specs.Plant.{PlantState, IsPlantOf, opening_plant, plant_after, fields_of_plant, moved_all, fields_of_cars};
+ghost use Rattle.lift_spec.specs.Plant.{PlantState, IsPlantOf, ObeysWithOwnFields, StaysSafe, opening_plant, plant_after, fields_of_plant, moved_all, fields_of_cars};
+ghost use Rattle.lift_spec.specs.Image.{FieldsInRange, opening_fields};
 ghost use Rattle.lift_spec.specs.declared.image.Sizes.{Sizes};
 ghost use Rattle.lift_spec.specs.declared.image.CarOutputs.{CarOutputs};
 ghost use Rattle.lift_plant.specs.Cars.{placed, IsPlaced};
@@ -47,6 +48,7 @@ impl Plant {
         requires floors { (2 ≤ floors) × (floors ≤ 16) }
         ensures plant { result ≡ opening_plant cars floors }
         ensures sized { (slots : ℕ) → IsPlantOf (record { cars = cars; floors = floors; slots = slots }) result }
+        ensures opens { (slots : ℕ) → fields_of_plant result ≡ opening_fields (record { cars = cars; floors = floors; slots = slots }) }
     {
         let mut placed = Bounded::new();
         for _ in 0..cars {
@@ -114,6 +116,8 @@ pub fn plant_step(plant: Plant, outputs: &Bounded<CarOutputs, 8>) -> (Plant, Fie
     ensures plant { result.0 ≡ plant_after plant outputs.now }
     ensures fields { result.1 ≡ fields_of_plant result.0 }
     ensures sized { (sizes : Sizes) → IsPlantOf sizes plant → IsPlantOf sizes result.0 }
+    ensures inside { (sizes : Sizes) → IsPlantOf sizes plant → 1 ≤ sizes.floors → FieldsInRange sizes result.1 }
+    ensures safe { (sizes : Sizes) → IsPlantOf sizes plant → 1 ≤ sizes.floors → ObeysWithOwnFields plant outputs.now → StaysSafe sizes plant result.0 }
 {
     let cars = moved_cars(plant.floors, plant.cars.as_slice(), outputs.as_slice());
     let time = u32::min(LAST_TIME, plant.time + 100);

@@ -8,6 +8,7 @@ pub mod Events
 pub mod Openings
 pub mod Following
 pub mod Coming
+pub mod Fields
 pub mod Seen
 pub mod Given
 pub mod Running

@@ -44,7 +44,7 @@ module _ (c : Config) (unbroken : HasNoFault (Broken Declaring c)) where
   cars_within : (pos 1 ≤ℤ c.cars.value) × (c.cars.value ≤ℤ pos 8)
   cars_within = size_within c.cars (record { lower = pos 1; upper = pos 8 }) (0, omega arith, refl)
 
-  floors_within : (pos 2 ≤ℤ c.floors.value) × (c.floors.value ≤ℤ pos 16)
+  pub floors_within : (pos 2 ≤ℤ c.floors.value) × (c.floors.value ≤ℤ pos 16)
   floors_within = size_within c.floors (record { lower = pos 2; upper = pos 16 }) (1, omega arith, refl)
 
   slots_within : (pos 1 ≤ℤ c.slots.value) × (c.slots.value ≤ℤ pos 64)

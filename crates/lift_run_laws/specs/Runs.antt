@@ -7,10 +7,11 @@ use Rattle.il_run.specs.Step.{step, Next}
 use Rattle.il_run.specs.Scan.{Reaches, has_ended}
 use Rattle.il_run.specs.Ranges.{HoldsTask}
 use Rattle.lift_spec.specs.declared.event.Event.{Event}
-use Rattle.lift_spec.specs.declared.event.Event.TheVariants.{Start, Instruction}
+use Rattle.lift_spec.specs.declared.event.Event.TheVariants.{Start, Instruction, Refresh}
 use Rattle.lift_spec.specs.Replies.{Reply}
 use Rattle.lift_spec.specs.declared.event.EventFault.{EventFault}
-use Rattle.lift_spec.specs.Replies.{Started, Refused}
+use Rattle.lift_spec.specs.Replies.{Started, Refreshed, Refused}
+use Rattle.lift_spec.specs.declared.image.Fields.{Fields}
 use Rattle.lift_spec.specs.Image.{sizes_of, Obeys}
 use Rattle.lift_spec.specs.Snapshot.{scan_begins}
 use Rattle.lift_spec.specs.World.{World, TaskState, happens, run, and_then, opening, answered, beginning_of, task_at, scan_at, InRanges, ChangesScanOnly}
@@ -91,6 +92,27 @@ RefusalChangesNothing = (c : Config) (w v : World) (e : Event) (fault : EventFau
 -- an Instruction of one task leaves the image and every other task as they were (own rule)
 abbrev pub InstructionChangesItsScan : Type 0
 InstructionChangesItsScan = (c : Config) (w v : World) (t : ℕ) (reply : Reply) → happens c w (Instruction t) ≡ Ok (v, reply) → ChangesScanOnly t w v
+
+-- THE FIELDS OF THE IMAGE
+
+-- the fields behind an event: those of a refresh that is taken, and else those before it (own rule)
+abbrev pub fields_behind : Fields → Event → Reply → Fields
+fields_behind before (Refresh fields) (Refreshed report) = fields
+fields_behind before event reply = before
+
+-- only a refresh that is taken changes the fields of the image, and it makes them its own (own rule)
+abbrev pub RefreshChangesFields : Type 0
+RefreshChangesFields = (c : Config) (w v : World) (e : Event) (reply : Reply) → happens c w e ≡ Ok (v, reply) → v.group.image.fields ≡ fields_behind w.group.image.fields e reply
+
+-- none of these events is a refresh (own rule)
+abbrev pub HasNoRefresh : List Event → Type 0
+HasNoRefresh [] = Unit {0}
+HasNoRefresh (Refresh fields ∷ events) = ⊥
+HasNoRefresh (e ∷ events) = HasNoRefresh events
+
+-- a run over events of which none is a refresh leaves the fields as they were (own rule)
+abbrev pub RunsKeepFields : Type 0
+RunsKeepFields = (c : Config) (w v : World) (earlier replies : List Reply) (es : List Event) → HasNoRefresh es → run c w earlier es ≡ Ok (v, replies) → v.group.image.fields ≡ w.group.image.fields
 
 -- RUNS THAT FOLLOW ONE ANOTHER
 

@@ -5,7 +5,7 @@ ghost use Rattle.il_spec.specs.declared.tree.Config.{Config};
 ghost use Rattle.lift_run_laws.specs.Accepted.{IsSound};
 ghost use Rattle.lift_run_laws.specs.Scans.{ScansWell, OpensWell};
 ghost use Rattle.lift_run_laws.specs.Seeing.{ImageIsSeen};
-ghost use Rattle.lift_run_laws.specs.Runs.{RunsWell, SoundRunsWell, OpeningHolds, EventKeeps, RefusalChangesNothing, InstructionChangesItsScan, RunAppends, RepliesFollow, ReachedGoesOn, ReachedHolds};
+ghost use Rattle.lift_run_laws.specs.Runs.{RunsWell, SoundRunsWell, OpeningHolds, EventKeeps, RefusalChangesNothing, InstructionChangesItsScan, RefreshChangesFields, RunsKeepFields, RunAppends, RepliesFollow, ReachedGoesOn, ReachedHolds};
 ghost use Rattle.lift_run_laws.specs.Histories.{CallGoesWell, RunsGoOn, EventIsRun, CallsAreOneRun, RunsAreCut};
 ghost use Rattle.std.specs.Prelude.{List};
 ghost use Rattle.lift_spec.specs.World.{World};
@@ -52,6 +52,16 @@ pub fn refusal_changes_nothing()
 /// A law: an Instruction of one task leaves the image and every other task as they were.
 pub fn instruction_changes_its_scan()
     ensures { InstructionChangesItsScan }
+{}
+
+/// A law: only a refresh that is taken changes the fields of the image, and it makes them its own.
+pub fn refresh_changes_fields()
+    ensures { RefreshChangesFields }
+{}
+
+/// A law: a run over events of which none is a refresh leaves the fields of the image as they were.
+pub fn runs_keep_fields()
+    ensures { RunsKeepFields }
 {}
 
 /// A law: a run over two lists is a run over the first and then one over the second.

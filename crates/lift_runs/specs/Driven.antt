@@ -12,6 +12,7 @@ use Rattle.lift_spec.specs.Plant.{PlantState}
 use Rattle.lift_spec.specs.World.{World}
 use Rattle.lift_journal.specs.Journal.{IsJournalOf}
 use Rattle.lift_journal.specs.Rounds.{Rounds, cleared}
+use Rattle.lift_journal.specs.Safe.{KeepsCarsSafe}
 
 -- the call of a press
 abbrev pub call_of : Press → Call
@@ -36,9 +37,11 @@ abbrev pub is_fire_in : Option ℕ → ℕ → Bool
 is_fire_in None round = false
 is_fire_in (Some first) round = nat_le first round
 
--- The entries are the journal of so many rounds of the group with these presses, under this FIRE: a run from its opening.
+-- The entries are the journal of so many rounds of the group with these presses, under this FIRE: a run from its opening. In each of the
+-- rounds no car changes its place unless its door is shut, and each stays in its shaft.
 pub record IsSimulated (c : Config) (presses : List Press) (fire : Option ℕ) (rounds : ℕ) (entries : List Entry) : Type 0 where
   pub plant : PlantState
   pub world : World
   pub driven : Rounds c (calls_in presses) (is_fire_in fire) rounds plant world entries
   pub journal : IsJournalOf c entries (cleared world)
+  pub safe : KeepsCarsSafe c (calls_in presses) (is_fire_in fire) rounds plant world entries driven

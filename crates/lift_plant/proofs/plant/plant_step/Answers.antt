@@ -1,8 +1,9 @@
-use Rattle.std.proofs.Common.{◌≡◌, ℕ, ◌+◌, List, sym, subst}
+use Rattle.std.proofs.Common.{rules, ◌≡◌, ℕ, ◌+◌, List, sym, subst}
 use Rattle.std.specs.Prelude.{min, Bool}
 use Rattle.lift_spec.specs.declared.image.CarOutputs.{CarOutputs}
-use Rattle.lift_spec.specs.Plant.{PlantState, PlacedCar, IsPlantOf, plant_after, moved_all}
-use Rattle.lift_plant.proofs.Safe.{sized_after}
+use Rattle.lift_spec.specs.Image.{FieldsInRange}
+use Rattle.lift_spec.specs.Plant.{PlantState, PlacedCar, IsPlantOf, StaysSafe, plant_after, moved_all}
+use Rattle.lift_plant.proofs.Safe.{sized_after, stays_safe, fields_fit}
 use Rattle.lift_plant.proofs.plant.plant_step.Goals as goal
 
 step_is : (floors time run_limit t : ℕ) (fire : Bool) (cars made : List PlacedCar) (outputs : List CarOutputs) → t ≡ min 2147483647 (time + 100) → made ≡ moved_all floors cars outputs
@@ -15,3 +16,13 @@ returns-clause-plant c = rw (← c.plant.view_is) (step_is _ _ _ _ _ _ _ _ c.min
 
 pub returns-clause-sized : goal.returns-clause-sized
 returns-clause-sized c = λ sizes of_group. subst (IsPlantOf sizes) (sym (returns-clause-plant c)) (sized_after sizes c.args.plant c.args.outputs.now of_group c.requires)
+
+pub returns-clause-safe : goal.returns-clause-safe
+returns-clause-safe c = λ sizes of_group some obeys.
+    subst (StaysSafe sizes c.args.plant) (sym (returns-clause-plant c)) (stays_safe sizes c.args.plant c.args.outputs.now some of_group c.requires obeys)
+
+pub returns-clause-fields : goal.returns-clause-fields
+returns-clause-fields c = search rules
+
+pub returns-clause-inside : goal.returns-clause-inside
+returns-clause-inside c = λ sizes of_group some. subst (FieldsInRange sizes) (sym (returns-clause-fields c)) (fields_fit sizes _ some (returns-clause-sized c sizes of_group))

@@ -1,7 +1,6 @@
 use Rattle.std.proofs.Common.{◌≡◌, ◌∷◌, ◌++◌, [], List, Bool, flat_map, refl, subst, sym, ap, ap₂, ◌∙◌, Ok, arith}
 use Rattle.std.proofs.lemmas.List.{append_assoc}
 use Rattle.il_machine.specs.Scanning.{Program, IsRunnable}
-use Rattle.lift_plant.proofs.Safe.{fields_fit}
 use Rattle.lift_spec.specs.declared.event.Event.TheVariants.{Refresh}
 use Rattle.lift_spec.specs.declared.image.CarOutputs.{CarOutputs}
 use Rattle.lift_spec.specs.declared.image.Fields.{Fields}
@@ -26,11 +25,10 @@ refresh-requires c =
     let sizes = sizes_of p.config in
     let fit = sizes_fit p.config (subst (λ (x : Program). IsRunnable x.config) c.verified.ensures c.config-config.ensures.runnable) in
     let two = fit.1.0 in
-    let sized = c.plant_step-plant.ensures.sized sizes (c.with_fire-plant.ensures.sized sizes c.requires.plant) in
     record {
       inside =
           subst (λ (x : Program). FieldsInRange (sizes_of x.config) c.plant_step-plant.result.1) (sym c.desk.ensures.same)
-          (subst (λ (f : Fields). FieldsInRange sizes f) (sym c.plant_step-plant.ensures.fields) (fields_fit sizes c.plant_step-plant.result.0 (omega (arith, two)) sized));
+          (c.plant_step-plant.ensures.inside sizes (c.with_fire-plant.ensures.sized sizes c.requires.plant) (omega (arith, two)));
     }
 
 pub scan_all-requires-clause-tasks : goal.scan_all-requires-clause-tasks

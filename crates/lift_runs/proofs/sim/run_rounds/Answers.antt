@@ -9,6 +9,7 @@ use Rattle.lift_spec.specs.Plant.{IsPlantOf, opening_plant}
 use Rattle.lift_spec.specs.World.{World, scan_at}
 use Rattle.lift_journal.specs.Rounds.{Rounds}
 use Rattle.lift_journal.proofs.Rounds.{rounds_are_journal}
+use Rattle.lift_journal.proofs.Safe.{rounds_keep_cars_safe}
 use Rattle.lift_world.proofs.Opening.{sizes_fit}
 use Rattle.lift_world.specs.Running.{world_of}
 use Rattle.lift_runs.specs.Driven.{calls_in, is_fire_in}
@@ -62,4 +63,5 @@ returns-clause-rounds c =
       world = world_of c.rounds.world;
       driven = driven;
       journal = rounds_are_journal config (sound_of config runs) (calls_in c.args.drive.presses.now) (is_fire_in c.args.drive.fire) c.args.rounds c.rounds.plant (world_of c.rounds.world) c.rounds.entries.items driven;
+      safe = rounds_keep_cars_safe config (sound_of config runs) (calls_in c.args.drive.presses.now) (is_fire_in c.args.drive.fire) c.args.rounds c.rounds.plant (world_of c.rounds.world) c.rounds.entries.items driven;
     }

@@ -1,8 +1,8 @@
-use Rattle.std.proofs.Common.{arith, ◌≡◌, ℕ, zero, suc, map, List, pos, replicate, false, refl, sym, subst}
+use Rattle.std.proofs.Common.{arith, ◌≡◌, ℕ, zero, suc, map, List, pos, replicate, false, refl, sym, ap, ◌∙◌, subst}
 use Rattle.lift_plant.specs.declared.car.Car.{Car}
-use Rattle.lift_spec.specs.Plant.{PlantState, IsPlantOf, opening_plant}
+use Rattle.lift_spec.specs.Plant.{PlantState, IsPlantOf, opening_plant, fields_of_plant}
 use Rattle.lift_plant.specs.Cars.{placed}
-use Rattle.lift_plant.proofs.Safe.{opening_sized}
+use Rattle.lift_plant.proofs.Safe.{opening_sized, opening_reports}
 use Rattle.lift_plant.proofs.plant.Plant.new.Goals as goal
 
 placed_alike : (n : ℕ) (car : Car) → map placed (replicate n car) ≡ replicate n (placed car)
@@ -21,3 +21,6 @@ pub returns-clause-sized : goal.returns-clause-sized
 returns-clause-sized c = λ slots.
     let is = opens c.args.cars c.args.floors _ _ c.loop.invariant (omega arith) in
     subst (IsPlantOf (record { cars = c.args.cars; floors = c.args.floors; slots = slots })) (sym is) (opening_sized c.args.cars c.args.floors slots)
+
+pub returns-clause-opens : goal.returns-clause-opens
+returns-clause-opens c = λ slots. ap fields_of_plant (returns-clause-plant c) ∙ opening_reports c.args.cars c.args.floors slots c.requires.floors.0
