@@ -1,5 +1,5 @@
 -- The sizes of a group lie within their limits.
-use Rattle.std.proofs.Common.{◌≡◌, ◌<◌, ◌≤◌, ℕ, ℤ, pos, Bool, true, false, refl, Contains, arith}
+use Rattle.std.proofs.Common.{◌≡◌, ◌<◌, ◌≤◌, ℕ, ℤ, pos, nat_abs, Bool, true, false, refl, Contains, arith}
 use Rattle.std.proofs.lemmas.Int.{ints}
 use Rattle.std.specs.Prelude.{◌≤ℤ◌, negsuc, nat_le}
 use Rattle.std.proofs.lemmas.Bool.{le-leb}
@@ -11,6 +11,7 @@ use Rattle.il_rules.specs.Faults.{HasNoFault, Broken, Declaring, initial_outside
 use Rattle.il_scan_laws.proofs.Fresh.{within_is}
 use Rattle.lift_spec.specs.Image.{sizes_of}
 use Rattle.lift_run_laws.specs.Tasks.{IsTaskOf}
+use Rattle.il_machine.specs.Scanning.{IsRunnable}
 use Rattle.il_spec.specs.declared.tree.Unit.{Unit as ProgramUnit}
 
 module _ (c : Config) (unbroken : HasNoFault (Broken Declaring c)) where
@@ -51,3 +52,13 @@ floors_byte c unbroken = let h = floors_within c unbroken in byte_of c.floors.va
 
 pub slots_byte : (c : Config) → HasNoFault (Broken Declaring c) → (n : ℕ) × (c.slots.value ≡ pos n) × (n < 256)
 slots_byte c unbroken = let h = slots_within c unbroken in byte_of c.slots.value h.0 h.1
+
+-- THE SIZES OF A GROUP
+
+-- a number within limits, as a size
+sized : (lo hi : ℕ) (z : ℤ) → (pos lo ≤ℤ z) × (z ≤ℤ pos hi) → (lo ≤ nat_abs z) × (nat_abs z ≤ hi)
+sized lo hi (pos n) h = (omega (arith, ints, h.0), omega (arith, ints, h.1))
+sized lo hi (negsuc n) h = absurd (omega (arith, ints, h.0))
+
+pub sizes_fit : (c : Config) (runs : IsRunnable c) → ((1 ≤ (sizes_of c).cars) × ((sizes_of c).cars ≤ 8)) × ((2 ≤ (sizes_of c).floors) × ((sizes_of c).floors ≤ 16)) × ((1 ≤ (sizes_of c).slots) × ((sizes_of c).slots ≤ 64))
+sizes_fit c runs = (sized 1 8 c.cars.value (cars_within c runs.declared), sized 2 16 c.floors.value (floors_within c runs.declared), sized 1 64 c.slots.value (slots_within c runs.declared))

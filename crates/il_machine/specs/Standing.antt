@@ -50,7 +50,7 @@ opening_beginning c task = record { variables = opening_variables_by c (program_
 
 -- what is lent to a scan's start
 abbrev pub beginning_in : Config → ℕ → Begin → Beginning
-beginning_in c task b = record { variables = variables_in c task b.variables.now; snapshot = record { image = b.image.now; slots = b.slots.now; globals = globals_in c b.globals.now } }
+beginning_in c task b = record { variables = variables_in c task b.variables.now; snapshot = record { image = b.image.now; slots = b.calls.now.slots; globals = globals_in c b.globals.now } }
 
 -- it fits the task, and lies in its ranges
 pub record IsBeginning (c : Config) (task : ℕ) (b : Begin) : Type 0 where
@@ -60,8 +60,8 @@ pub record IsBeginning (c : Config) (task : ℕ) (b : Begin) : Type 0 where
   pub shared : HoldGlobals c (globals_in c b.globals.now)
   pub fields : FieldsInRange (sizes_of c) b.image.now.fields
   pub outputs : length b.image.now.outputs ≡ (sizes_of c).cars
-  pub slots : length b.slots.now ≡ (sizes_of c).slots
-  pub each : (last : ℕ) × All (SlotInRange (sizes_of c) last) b.slots.now
+  pub slots : length b.calls.now.slots ≡ (sizes_of c).slots
+  pub each : (last : ℕ) × All (SlotInRange (sizes_of c) last) b.calls.now.slots
 
 -- WHOLE SCANS
 

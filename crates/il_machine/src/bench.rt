@@ -28,9 +28,8 @@ use il_exec::frames::{Frame, Frames, Pairs};
 use il_exec::rows::Rows;
 use il_image::image::write_image;
 use il_image::opening_image;
-use lift_spec::calls::Slot;
+use lift_calls::book::CallBook;
 use lift_spec::image::{Image, Sizes};
-use lists::Items;
 use std::alloc::{AllocError, Global};
 use std::marker::Model;
 
@@ -113,20 +112,20 @@ fn write_start(
     variables: &Rows,
     listed: Listed<'_>,
     image: &Image,
-    slots: &[Slot],
+    calls: &CallBook,
 )
     requires fields { task ≤ length image.now.fields.cars }
     requires outputs { task ≤ length image.now.outputs }
     requires same { length variables.now.flags ≡ length variables.now.numbers }
-    requires numbers { length rows.old.numbers ≡ length variables.now.numbers + (length listed.slots.now + length (image_values sizes task image.now slots.now)) }
-    requires flags { length rows.old.flags ≡ length variables.now.numbers + (length listed.slots.now + length (image_values sizes task image.now slots.now)) }
-    ensures { (given : List (Text × Written)) → map (λ e. e.1) given ≡ listed_values listed.entry ++ image_values sizes task image.now slots.now → rows.new ≡ joined variables.now (first_rows given) }
+    requires numbers { length rows.old.numbers ≡ length variables.now.numbers + (length listed.slots.now + length (image_values sizes task image.now calls.now.slots)) }
+    requires flags { length rows.old.flags ≡ length variables.now.numbers + (length listed.slots.now + length (image_values sizes task image.now calls.now.slots)) }
+    ensures { (given : List (Text × Written)) → map (λ e. e.1) given ≡ listed_values listed.entry ++ image_values sizes task image.now calls.now.slots → rows.new ≡ joined variables.now (first_rows given) }
 {
     let _room = rows.numbers.len();
     let own = variables.len();
     take_front(rows, variables);
     write_listed(rows, own, listed);
-    write_image(rows, own + listed.slots.len(), sizes, task, image, slots);
+    write_image(rows, own + listed.slots.len(), sizes, task, image, calls);
 }
 
 // Rows of so many slots.
@@ -138,17 +137,6 @@ fn room(alloc: Global, count: usize) -> Result<Rows, AllocError>
         numbers: vec![in alloc; 0; count]?,
         flags: vec![in alloc; false; count]?,
     })
-}
-
-// The call slots of the opening world: none is taken.
-fn free_slots(alloc: Global, count: u8) -> Result<Items<Slot>, AllocError>
-    ensures { IfOk result (λ slots. slots ≡ replicate count Free) }
-{
-    let mut slots = Items::new(alloc);
-    for _ in 0..count {
-        slots.push(Slot::Free)?;
-    }
-    Ok(slots)
 }
 
 impl Bench {
@@ -170,14 +158,14 @@ impl Bench {
         variables: &Rows,
         listed: Listed<'_>,
         image: &Image,
-        slots: &[Slot],
+        calls: &CallBook,
     )
         requires fields { task ≤ length image.now.fields.cars }
         requires outputs { task ≤ length image.now.outputs }
         requires same { length variables.now.flags ≡ length variables.now.numbers }
-        requires numbers { length self.old.rows.numbers ≡ length variables.now.numbers + (length listed.slots.now + length (image_values sizes task image.now slots.now)) }
-        requires flags { length self.old.rows.flags ≡ length variables.now.numbers + (length listed.slots.now + length (image_values sizes task image.now slots.now)) }
-        ensures { (given : List (Text × Written)) → map (λ e. e.1) given ≡ listed_values listed.entry ++ image_values sizes task image.now slots.now → self.new.rows ≡ joined variables.now (first_rows given) }
+        requires numbers { length self.old.rows.numbers ≡ length variables.now.numbers + (length listed.slots.now + length (image_values sizes task image.now calls.now.slots)) }
+        requires flags { length self.old.rows.flags ≡ length variables.now.numbers + (length listed.slots.now + length (image_values sizes task image.now calls.now.slots)) }
+        ensures { (given : List (Text × Written)) → map (λ e. e.1) given ≡ listed_values listed.entry ++ image_values sizes task image.now calls.now.slots → self.new.rows ≡ joined variables.now (first_rows given) }
     {
         write_start(
             &mut self.scan.rows,
@@ -186,7 +174,7 @@ impl Bench {
             variables,
             listed,
             image,
-            slots,
+            calls,
         );
     }
 
@@ -210,7 +198,7 @@ impl Bench {
         variables: &Rows,
         listed: Listed<'_>,
         image: &Image,
-        slots: &[Slot],
+        calls: &CallBook,
     )
         requires rows { FitsTask verified.now.config task self.old.rows }
         requires variables { FitsOwn verified.now.config task variables.now }
@@ -218,16 +206,16 @@ impl Bench {
         requires listed { (globals : Values) × AreListed verified.now.config task (listed_values listed) globals }
         requires fields { FieldsInRange (sizes_of verified.now.config) image.now.fields }
         requires outputs { length image.now.outputs ≡ (sizes_of verified.now.config).cars }
-        requires slots { length slots.now ≡ (sizes_of verified.now.config).slots }
-        requires each { (last : ℕ) × All (SlotInRange (sizes_of verified.now.config) last) slots.now }
-        ensures begins { (globals : Values) → AreListed verified.now.config task (listed_values listed.entry) globals → state_of (kept_of verified.now.config task self.new) ≡ scan_begins verified.now.config task (record { variables = variables_in verified.now.config task variables.now; snapshot = record { image = image.now; slots = slots.now; globals = globals } }) }
+        requires slots { length calls.now.slots ≡ (sizes_of verified.now.config).slots }
+        requires each { (last : ℕ) × All (SlotInRange (sizes_of verified.now.config) last) calls.now.slots }
+        ensures begins { (globals : Values) → AreListed verified.now.config task (listed_values listed.entry) globals → state_of (kept_of verified.now.config task self.new) ≡ scan_begins verified.now.config task (record { variables = variables_in verified.now.config task variables.now; snapshot = record { image = image.now; slots = calls.now.slots; globals = globals } }) }
         ensures scan { IsScanOf verified.now.config task self.new }
     {
         let _config = verified.config();
         let _count = verified.slot_count(task);
         let frame = verified.first_frame(task);
         let sizes = verified.sizes();
-        self.fill(sizes, task, variables, listed, image, slots);
+        self.fill(sizes, task, variables, listed, image, calls);
         self.enter(frame);
     }
 
@@ -246,7 +234,7 @@ impl Bench {
         first: Rows,
         variables: &Rows,
         globals: &Rows,
-        slots: &[Slot],
+        calls: &CallBook,
     ) -> Bench
         requires rows { FitsTask verified.now.config task rows }
         requires first { FitsTask verified.now.config task first }
@@ -254,9 +242,9 @@ impl Bench {
         requires own { OwnsDeclared verified.now.config task (variables_in verified.now.config task variables.now) }
         requires globals { FitsGlobals verified.now.config globals.now }
         requires shared { HoldGlobals verified.now.config (globals_in verified.now.config globals.now) }
-        requires slots { slots.now ≡ replicate (sizes_of verified.now.config).slots Free }
+        requires slots { calls.now.slots ≡ replicate (sizes_of verified.now.config).slots Free }
         ensures scan { IsScanOf verified.now.config task result }
-        ensures begins { state_of (kept_of verified.now.config task result) ≡ scan_begins verified.now.config task (record { variables = variables_in verified.now.config task variables.now; snapshot = record { image = opens.opening_image (sizes_of verified.now.config); slots = slots.now; globals = globals_in verified.now.config globals.now } }) }
+        ensures begins { state_of (kept_of verified.now.config task result) ≡ scan_begins verified.now.config task (record { variables = variables_in verified.now.config task variables.now; snapshot = record { image = opens.opening_image (sizes_of verified.now.config); slots = calls.now.slots; globals = globals_in verified.now.config globals.now } }) }
     {
         let _config = verified.config();
         let listed = verified.listed(task, globals);
@@ -271,7 +259,7 @@ impl Bench {
             },
             first,
         };
-        store.begin(verified, task, variables, listed, &image, slots);
+        store.begin(verified, task, variables, listed, &image, calls);
         store
     }
 
@@ -284,7 +272,7 @@ impl Bench {
         let _config = verified.config();
         let variables = copied(alloc, verified.opening_variables(task))?;
         let globals = copied(alloc, verified.opening_globals())?;
-        let slots = free_slots(alloc, verified.sizes().slots)?;
+        let calls = CallBook::new(verified.sizes());
         let count = verified.slot_count(task);
         let rows = room(alloc, count)?;
         let first = room(alloc, count)?;
@@ -295,7 +283,7 @@ impl Bench {
             first,
             &variables,
             &globals,
-            slots.as_slice(),
+            &calls,
         ))
     }
 
@@ -307,7 +295,7 @@ impl Bench {
         variables: &Rows,
         globals: &Rows,
         image: &Image,
-        slots: &[Slot],
+        calls: &CallBook,
     )
         requires scan { IsScanOf verified.now.config task self.old }
         requires variables { FitsOwn verified.now.config task variables.now }
@@ -316,14 +304,14 @@ impl Bench {
         requires shared { HoldGlobals verified.now.config (globals_in verified.now.config globals.now) }
         requires fields { FieldsInRange (sizes_of verified.now.config) image.now.fields }
         requires outputs { length image.now.outputs ≡ (sizes_of verified.now.config).cars }
-        requires slots { length slots.now ≡ (sizes_of verified.now.config).slots }
-        requires each { (last : ℕ) × All (SlotInRange (sizes_of verified.now.config) last) slots.now }
-        ensures begins { state_of (kept_of verified.now.config task self.new) ≡ scan_begins verified.now.config task (record { variables = variables_in verified.now.config task variables.now; snapshot = record { image = image.now; slots = slots.now; globals = globals_in verified.now.config globals.now } }) }
+        requires slots { length calls.now.slots ≡ (sizes_of verified.now.config).slots }
+        requires each { (last : ℕ) × All (SlotInRange (sizes_of verified.now.config) last) calls.now.slots }
+        ensures begins { state_of (kept_of verified.now.config task self.new) ≡ scan_begins verified.now.config task (record { variables = variables_in verified.now.config task variables.now; snapshot = record { image = image.now; slots = calls.now.slots; globals = globals_in verified.now.config globals.now } }) }
         ensures scan { IsScanOf verified.now.config task self.new }
     {
         let _config = verified.config();
         let listed = verified.listed(task, globals);
-        self.begin(verified, task, variables, listed, image, slots);
+        self.begin(verified, task, variables, listed, image, calls);
     }
 
     /// Hands over the globals that the task's program writes, as the scan left them. No allocation.

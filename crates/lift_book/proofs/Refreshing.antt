@@ -13,7 +13,7 @@ use Rattle.lift_spec.specs.Image.{sizes_of, fields_in_range}
 use Rattle.lift_spec.specs.Replies.{Refreshed}
 use Rattle.lift_spec.specs.World.{refreshed_group}
 use Rattle.lift_world.specs.Running.{group_in, world_of}
-use Rattle.lift_world.proofs.Opening.{sizes_fit}
+use Rattle.il_machine.proofs.Sizes.{sizes_fit}
 use Rattle.lift_world.proofs.Happening.{cars_many}
 use Rattle.lift_spec.specs.declared.journal.Entry.TheVariants as entry
 use Rattle.lift_journal.specs.Journal.{Enters, AllCalls, calls_entering}

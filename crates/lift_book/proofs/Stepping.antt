@@ -32,7 +32,7 @@ use Rattle.lift_world.specs.Running.{seat_at, task_in, scanned, scans_in, group_
 use Rattle.lift_world.proofs.Views.{set_same, set_again, flat_some, scan_here, scan_put, within}
 use Rattle.lift_world.proofs.Keeping.{seats_same, stores_seat, stores_same}
 use Rattle.lift_world.proofs.Happening.{Standing, standing, started, started_rows, started_stores}
-use Rattle.lift_world.proofs.Opening.{sizes_fit}
+use Rattle.il_machine.proofs.Sizes.{sizes_fit}
 use Rattle.lift_spec.specs.declared.journal.Entry.{Entry}
 use Rattle.lift_spec.specs.declared.journal.Entry.TheVariants as entry
 use Rattle.lift_journal.specs.Journal.{Enters, AllCalls, calls_entering}

@@ -24,7 +24,7 @@ use Rattle.lift_journal.specs.Rounds.{ending, entered_calls_of, FinishesAndCommi
 use Rattle.lift_journal.proofs.Journals.{Led}
 use Rattle.lift_journal.proofs.Taking.{IsClosed, IsBegun, start_begins, begun_taken, finished, scan_closes, refresh_taken, entered_are}
 use Rattle.lift_journal.proofs.Calls.{have_words}
-use Rattle.lift_world.proofs.Opening.{sizes_fit}
+use Rattle.il_machine.proofs.Sizes.{sizes_fit}
 use Rattle.lift_world.specs.Running.{instructions, up_to_end}
 use Rattle.lift_runs.proofs.Driving.{take_next}
 

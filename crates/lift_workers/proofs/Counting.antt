@@ -11,7 +11,7 @@ use Rattle.std.proofs.lemmas.Bool.Decides.{nat_tests}
 use Rattle.il_machine.specs.Scanning.{IsRunnable}
 use Rattle.lift_spec.specs.Image.{sizes_of}
 use Rattle.lift_spec.specs.Snapshot.{has_task}
-use Rattle.lift_world.proofs.Opening.{sizes_fit}
+use Rattle.il_machine.proofs.Sizes.{sizes_fit}
 use Rattle.lift_station.specs.Passes.{TaskCount, is_task, all_tasks}
 
 -- a number stands in a list

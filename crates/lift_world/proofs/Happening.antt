@@ -28,7 +28,7 @@ use Rattle.lift_world.specs.Running.{instructions, up_to_end}
 use Rattle.lift_world.specs.Worlds.{holds_tickets, is_open_in, world_by, world_in, IsController, StoresFit, Steps, RunsOut}
 use Rattle.lift_world.proofs.Views.{set_same, flat_some, some_of, within, here}
 use Rattle.lift_world.proofs.Keeping.{stores_step, stores_task}
-use Rattle.lift_world.proofs.Opens.{sizes_fit}
+use Rattle.il_machine.proofs.Sizes.{sizes_fit}
 use Rattle.lift_world.proofs.Sound.{reached_well, one_event, many_events}
 use Rattle.lift_world.proofs.Events.{start_nowhere, instruction_nowhere, commit_nowhere, start_open, instruction_idle, commit_idle, instruction_ended, commit_going, start_is, instruction_is, commit_is, refresh_is, commit_closes, refresh_keeps, ended_so, going_so}
 use Rattle.lift_world.proofs.Finishing.{finishes}

@@ -1,20 +1,18 @@
 -- The opening tasks and stores.
-use Rattle.std.proofs.Common.{◌≡◌, ℕ, zero, suc, ◌+◌, ◌⊎◌, inl, inr, ap₂, ◌≤◌, ◌<◌, ℤ, pos, negsuc, ◌≤ℤ◌, Bool, true, List, [], ◌∷◌, ◌++◌, length, Option, Some, None, refl, sym, ap, ◌∙◌, subst, arith}
-use Rattle.std.specs.Prelude.{slice_get, is_some, nat_abs, replicate}
+use Rattle.std.proofs.Common.{◌≡◌, ℕ, zero, suc, ◌+◌, ◌⊎◌, inl, inr, ap₂, ◌≤◌, ◌<◌, Bool, true, List, [], ◌∷◌, ◌++◌, length, Option, Some, None, refl, sym, ap, ◌∙◌, subst, arith}
+use Rattle.std.specs.Prelude.{slice_get, is_some, replicate}
 use Rattle.il_spec.specs.declared.tree.Config.{Config}
 use Rattle.il_spec.specs.declared.tree.Unit.{Unit as Organized}
 use Rattle.il_run.specs.State.{Values}
 use Rattle.il_run.specs.Scan.{opening_variables}
 use Rattle.il_slots.specs.Layout.{Rows}
-use Rattle.il_machine.specs.Scanning.{IsRunnable, HasTask, variables_in}
+use Rattle.il_machine.specs.Scanning.{HasTask, variables_in}
 use Rattle.il_machine.specs.Standing.{Standing, IsOf}
-use Rattle.il_machine.proofs.Sizes.{cars_within, floors_within, slots_within}
 use Rattle.lift_spec.specs.Image.{sizes_of}
 use Rattle.lift_spec.specs.Snapshot.{program_of, has_task}
 use Rattle.lift_spec.specs.World.{Group, TaskState, flat, task_at, opening, opening_group, opening_task, opening_tasks_from}
 use Rattle.std.proofs.lemmas.List.{length-append}
 use Rattle.std.proofs.lemmas.Bool.{cases_eq, cases_lt}
-use Rattle.std.proofs.lemmas.Int.{ints}
 use Rattle.lift_world.specs.declared.shared.Seat.{Seat}
 use Rattle.lift_world.specs.Running.{task_in, seated, tasks_in}
 use Rattle.lift_world.specs.Worlds.{scan_by, scans_by, world_by, StoresFit}
@@ -73,16 +71,6 @@ seats_more c seats o t as_many so_far next =
     let here : 0 + t ≡ t = omega arith in
     tasks_more c 0 seats o ∙ ap₂ (λ ts n. ts ++ seated c n o ∷ []) so_far many ∙ ap (λ s. opening_tasks_from c 0 t ++ s ∷ []) next
     ∙ ap (λ m. opening_tasks_from c 0 t ++ opening_task c (program_of c m) ∷ []) (sym here) ∙ sym (opening_more c 0 t) ∙ ap (opening_tasks_from c 0) (sym e)
-
--- THE SIZES OF A GROUP
-
--- a number within limits, as a size
-sized : (lo hi : ℕ) (z : ℤ) → (pos lo ≤ℤ z) × (z ≤ℤ pos hi) → (lo ≤ nat_abs z) × (nat_abs z ≤ hi)
-sized lo hi (pos n) h = (omega (arith, ints, h.0), omega (arith, ints, h.1))
-sized lo hi (negsuc n) h = absurd (omega (arith, ints, h.0))
-
-pub sizes_fit : (c : Config) (runs : IsRunnable c) → ((1 ≤ (sizes_of c).cars) × ((sizes_of c).cars ≤ 8)) × ((2 ≤ (sizes_of c).floors) × ((sizes_of c).floors ≤ 16)) × ((1 ≤ (sizes_of c).slots) × ((sizes_of c).slots ≤ 64))
-sizes_fit c runs = (sized 1 8 c.cars.value (cars_within c runs.declared), sized 2 16 c.floors.value (floors_within c runs.declared), sized 1 64 c.slots.value (slots_within c runs.declared))
 
 -- STORES
 

@@ -32,13 +32,12 @@ fn ticket_of(slot: Slot) -> Option<u64>
 }
 
 /// The tickets of the slots.
-pub fn tickets_of(slots: &[Slot]) -> Bounded<Option<u64>, 64>
-    requires { length slots.now ≤ 64 }
-    ensures { result ≡ map ticket_of slots.now }
+pub fn tickets_of(calls: &CallBook) -> Bounded<Option<u64>, 64>
+    ensures { result ≡ map ticket_of calls.now.slots }
 {
     let mut tickets = Bounded::new();
-    'slots: for slot in slots {
-        tickets.push(ticket_of(*slot));
+    for index in 0..usize::from(calls.count()) {
+        tickets.push(ticket_of(calls.slot_of(index)));
     }
     tickets
 }
@@ -125,7 +124,7 @@ pub fn tell_all(
 pub fn enter_all(calls: &mut CallBook, hand: &mut Hand, done: &mut Bounded<EnteredCall, 64>)
     ensures { enter_all calls.old [] hand.old ≡ record { calls = calls.new; hand = hand.new; done = done.new } }
 {
-    let _slots = calls.slots();
+    let _slots = calls.count();
     clear(done);
     'calls: while let Some(call) = hand.first() {
         let Entering::Done { slot, ticket } = calls.enter(call) else {

@@ -11,7 +11,8 @@ ghost use Rattle.lift_world.specs.Worlds.{is_open_in};
 
 use crate::shared::Shared;
 use il_machine::{Store, Value, Verified};
-use lift_image::{Fields, Image};
+use lift_calls::book::CallBook;
+use lift_image::{Bounded, Fields, Image};
 use lift_spec::calls::Slot;
 use lift_spec::hand::Hand;
 use lift_spec::report::Report;
@@ -75,10 +76,17 @@ impl Core {
     }
 
     /// The call slots, slot 1 first.
-    pub fn slots(&self) -> &[Slot]
-        ensures { result.now ≡ self.now.group.calls.slots }
+    pub fn slots(&self) -> Bounded<Slot, 64>
+        ensures { result ≡ self.now.group.calls.slots }
     {
         self.shared.slots()
+    }
+
+    /// The calls.
+    pub fn calls(&self) -> &CallBook
+        ensures { result.now ≡ self.now.group.calls }
+    {
+        self.shared.calls()
     }
 
     /// Whether the group has the task of a number.

@@ -103,21 +103,20 @@ fn start_seat(
     task: u8,
     globals: &Rows,
     image: &Image,
-    slots: &[Slot],
+    calls: &CallBook,
     store: &mut Store,
 )
     requires there { IsSome seat.old }
-    requires few { length slots.now ≤ 64 }
     requires variables { (s : SeatOf) → seat.old ≡ Some s → FitsOwn verified.now.config task s.variables × OwnsDeclared verified.now.config task (variables_in verified.now.config task s.variables) }
     requires globals { FitsGlobals verified.now.config globals.now }
     requires shared { HoldGlobals verified.now.config (globals_in verified.now.config globals.now) }
     requires fields { FieldsInRange (sizes_of verified.now.config) image.now.fields }
     requires outputs { length image.now.outputs ≡ (sizes_of verified.now.config).cars }
-    requires slots { length slots.now ≡ (sizes_of verified.now.config).slots }
-    requires each { (last : ℕ) × All (SlotInRange (sizes_of verified.now.config) last) slots.now }
+    requires slots { length calls.now.slots ≡ (sizes_of verified.now.config).slots }
+    requires each { (last : ℕ) × All (SlotInRange (sizes_of verified.now.config) last) calls.now.slots }
     requires of { IsOf verified.now.config task store.old }
-    ensures seat { (s : SeatOf) → seat.old ≡ Some s → seat.new ≡ Some (record { variables = s.variables; tickets = Some (map ticket_of slots.now) }) }
-    ensures begins { (s : SeatOf) → seat.old ≡ Some s → store.new.state ≡ scan_begins verified.now.config task (record { variables = variables_in verified.now.config task s.variables; snapshot = record { image = image.now; slots = slots.now; globals = globals_in verified.now.config globals.now } }) }
+    ensures seat { (s : SeatOf) → seat.old ≡ Some s → seat.new ≡ Some (record { variables = s.variables; tickets = Some (map ticket_of calls.now.slots) }) }
+    ensures begins { (s : SeatOf) → seat.old ≡ Some s → store.new.state ≡ scan_begins verified.now.config task (record { variables = variables_in verified.now.config task s.variables; snapshot = record { image = image.now; slots = calls.now.slots; globals = globals_in verified.now.config globals.now } }) }
     ensures of { IsOf verified.now.config task store.new }
 {
     if let Some(seat) = seat {
@@ -125,10 +124,10 @@ fn start_seat(
             variables: &seat.variables,
             globals,
             image,
-            slots,
+            calls,
         };
         store.restart(verified, task, &begin);
-        seat.tickets = Some(tickets_of(slots));
+        seat.tickets = Some(tickets_of(calls));
     }
 }
 
@@ -170,7 +169,7 @@ fn settle(image: &mut Image, car: u8, motor: Motor, opens: bool, report: &mut Re
     let _room = image.outputs.len();
     let settled = settle_car(image, car, motor, opens);
     image.outputs.set(usize::from(car - 1), settled.outputs);
-    report.outputs = Bounded::from_slice(image.outputs.as_slice());
+    report.outputs = image.outputs.copied();
     report.denials = denials_of(car, settled.denials.as_slice());
     clear(&mut report.entered);
 }
@@ -201,10 +200,17 @@ impl Shared {
     }
 
     /// The call slots, slot 1 first.
-    pub fn slots(&self) -> &[Slot]
-        ensures { result.now ≡ self.now.calls.slots }
+    pub fn slots(&self) -> Bounded<Slot, 64>
+        ensures { result ≡ self.now.calls.slots }
     {
         self.calls.slots()
+    }
+
+    /// The calls.
+    pub fn calls(&self) -> &CallBook
+        ensures { result.now ≡ self.now.calls }
+    {
+        &self.calls
     }
 
     /// The task of a number, if the group has it.
@@ -252,14 +258,13 @@ impl Shared {
         ensures seats { (s : SeatOf) → seat_at self.old task ≡ Some s → self.new.seats.items ≡ with_seat self.old task s.variables (Some (map ticket_of self.old.calls.slots)) }
         ensures of { IsOf verified.now.config task store.new }
     {
-        let slots = self.calls.slots();
         start_seat(
             &mut self.seats[usize::from(task)],
             verified,
             task,
             &self.globals,
             &self.image,
-            slots,
+            &self.calls,
             store,
         );
     }
@@ -321,7 +326,7 @@ impl Shared {
             &mut report.answers,
         );
         self.close(verified, 0, store);
-        report.outputs = Bounded::from_slice(self.image.outputs.as_slice());
+        report.outputs = self.image.outputs.copied();
         clear(&mut report.denials);
         clear(&mut report.entered);
     }
@@ -352,7 +357,7 @@ impl Shared {
         enter_all(&mut self.calls, hand, &mut report.entered);
         self.image = Image {
             fields: fields.copied(),
-            outputs: Bounded::from_slice(settled.outputs.as_slice()),
+            outputs: settled.outputs.copied(),
         };
         report.outputs = settled.outputs;
         report.denials = settled.denials;

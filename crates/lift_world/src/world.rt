@@ -20,7 +20,7 @@ use crate::controller::Controller;
 use crate::replies::Replies;
 use il_machine::{Value, Verified};
 use il_spec::fault::Refusal;
-use lift_image::{Image, Sizes};
+use lift_image::{Bounded, Image, Sizes};
 use lift_spec::calls::Slot;
 use lift_spec::event::{Event, EventFault, Reply};
 use lift_spec::report::Report;
@@ -125,8 +125,8 @@ impl World {
     }
 
     /// The call slots, slot 1 first.
-    pub fn slots(&self) -> &[Slot]
-        ensures { result.now ≡ self.now.world.group.calls.slots }
+    pub fn slots(&self) -> Bounded<Slot, 64>
+        ensures { result ≡ self.now.world.group.calls.slots }
     {
         self.group.core.slots()
     }

@@ -1,7 +1,7 @@
 use Rattle.std.proofs.Common.{arith, ◌≡◌, ◌≤◌, ◌+◌, ◌*◌, subst, ap, ◌∙◌, mul-le-mul}
 use Rattle.il_machine.specs.Scanning.{Program, IsRunnable}
 use Rattle.lift_journal.specs.Rounds.{tasks_in_order}
-use Rattle.lift_world.proofs.Opening.{sizes_fit}
+use Rattle.il_machine.proofs.Sizes.{sizes_fit}
 use Rattle.lift_runs.proofs.Driving.{entries_fit}
 use Rattle.lift_runs.proofs.sim.journal_of.Goals as goal
 

@@ -8,7 +8,7 @@ use Rattle.lift_spec.specs.Calls.{IsCall}
 use Rattle.lift_spec.specs.Image.{sizes_of}
 use Rattle.lift_spec.specs.Replies.{reply_with}
 use Rattle.lift_spec.specs.World.{happens}
-use Rattle.lift_world.proofs.Opening.{sizes_fit}
+use Rattle.il_machine.proofs.Sizes.{sizes_fit}
 use Rattle.lift_world.specs.Running.{world_of}
 use Rattle.lift_runs.specs.Driven.{call_of}
 use Rattle.lift_runs.proofs.Driving.{read, is_pressed, press_more, press_skips}

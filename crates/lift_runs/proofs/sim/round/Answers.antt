@@ -13,7 +13,7 @@ use Rattle.lift_spec.specs.World.{happens}
 use Rattle.lift_journal.specs.Rounds.{ScanEach, tasks_in_order, scan_entries, entered_calls_of}
 use Rattle.lift_journal.proofs.Desks.{refresh_keeps, each_keeps}
 use Rattle.lift_journal.proofs.Taking.{desk_closes, refresh_closes}
-use Rattle.lift_world.proofs.Opening.{sizes_fit}
+use Rattle.il_machine.proofs.Sizes.{sizes_fit}
 use Rattle.lift_world.specs.Running.{world_of}
 use Rattle.lift_runs.specs.Driven.{AreTasks, calls_in}
 use Rattle.lift_runs.proofs.Driving.{tasks_are}

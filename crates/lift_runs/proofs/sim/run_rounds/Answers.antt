@@ -10,7 +10,7 @@ use Rattle.lift_spec.specs.World.{World, scan_at}
 use Rattle.lift_journal.specs.Rounds.{Rounds}
 use Rattle.lift_journal.proofs.Rounds.{rounds_are_journal}
 use Rattle.lift_journal.proofs.Safe.{rounds_keep_cars_safe}
-use Rattle.lift_world.proofs.Opening.{sizes_fit}
+use Rattle.il_machine.proofs.Sizes.{sizes_fit}
 use Rattle.lift_world.specs.Running.{world_of}
 use Rattle.lift_runs.specs.Driven.{calls_in, is_fire_in}
 use Rattle.lift_runs.proofs.Driving.{rounds_more, opening_desk}

@@ -1,6 +1,6 @@
 use Rattle.std.proofs.Common.{rules, arith, ◌≡◌, ◌<◌, ◌+◌, subst, sym, ap, ◌∙◌, true, false}
 use Rattle.lift_spec.specs.declared.image.Sizes.{Sizes}
-use Rattle.lift_world.proofs.Opening.{sizes_fit}
+use Rattle.il_machine.proofs.Sizes.{sizes_fit}
 use Rattle.lift_runs.proofs.Driving.{tasks_more}
 use Rattle.lift_runs.proofs.sim.tasks_of.Goals as goal
 use Rattle.lift_runs.proofs.sim.tasks_of.Goals.{then-has_task+in_ok-push, else-has_task}

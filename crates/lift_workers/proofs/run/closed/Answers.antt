@@ -4,7 +4,7 @@ use Rattle.il_machine.specs.Scanning.{Program, IsRunnable}
 use Rattle.lift_spec.specs.declared.journal.Entry.{Entry}
 use Rattle.lift_book.specs.Ledgers.{page_of}
 use Rattle.lift_journal.specs.Journal.{IsJournalOf, entries_by, refresher}
-use Rattle.lift_world.proofs.Opening.{sizes_fit}
+use Rattle.il_machine.proofs.Sizes.{sizes_fit}
 use Rattle.lift_workers.proofs.Counting.{all_counted, low_task}
 use Rattle.lift_workers.proofs.run.closed.Goals as goal
 

@@ -3,7 +3,7 @@ use Rattle.std.specs.Prelude.{All}
 use Rattle.lift_desk.specs.Passes.{IsFloorOf}
 use Rattle.lift_host.specs.declared.press.Press.{Press}
 use Rattle.lift_spec.specs.declared.image.Sizes.{Sizes}
-use Rattle.lift_world.proofs.Opening.{sizes_fit}
+use Rattle.il_machine.proofs.Sizes.{sizes_fit}
 use Rattle.lift_workers.proofs.run.run_in.Goals as goal
 
 pub desk_of-requires : goal.desk_of-requires

@@ -7,7 +7,7 @@ pub calls-init : goal.calls-init
 calls-init c =
     let few = free_few c.args.calls.now.slots in
     record {
-      room = omega (arith, few, c.slots-slots.ensures.few, ap length c.clear.ensures);
+      room = omega (arith, few, c.count-slots.ensures.few, ap length c.clear.ensures);
       rest = ap (λ done. enter_all c.args.calls.now done c.args.hand.now) (sym c.clear.ensures);
     }
 

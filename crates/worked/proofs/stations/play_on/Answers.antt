@@ -1,6 +1,6 @@
 use Rattle.std.proofs.Common.{◌≤◌, sym, subst}
 use Rattle.lift_spec.specs.declared.image.Sizes.{Sizes}
-use Rattle.lift_world.proofs.Opening.{sizes_fit}
+use Rattle.il_machine.proofs.Sizes.{sizes_fit}
 use Rattle.worked.proofs.stations.play_on.Goals as goal
 
 pub desk_of-requires-clause-floors : goal.desk_of-requires-clause-floors

@@ -1,4 +1,5 @@
 use Rattle.std.proofs.Common.{◌∙◌, sym, ap, subst, replicate}
+use Rattle.lift_spec.specs.Calls.{Calls}
 use Rattle.lift_spec.specs.declared.calls.Slot.TheVariants.{Free}
 use Rattle.lift_spec.specs.declared.image.Sizes.{Sizes}
 use Rattle.lift_spec.specs.Snapshot.{scan_begins}
@@ -35,4 +36,4 @@ returns-clause-opens c =
     c.opened.ensures.begins
     ∙ ap (scan_begins config c.args.task)
     (opens_in_group config c.args.task u is _ _ _ (ap (variables_in config c.args.task) c.in_ok-variables.ensures ∙ c.opening_variables.ensures.variables u is) (ap (globals_in config) c.in_ok-globals.ensures ∙ c.opening_globals.ensures.opening)
-    (c.in_ok-slots.ensures ∙ ap (λ (z : Sizes). replicate z.slots Free) c.sizes.ensures))
+    (ap (λ (k : Calls). k.slots) c.new-calls.ensures ∙ ap (λ (z : Sizes). replicate z.slots Free) c.sizes.ensures))

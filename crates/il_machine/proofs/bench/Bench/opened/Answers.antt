@@ -28,5 +28,5 @@ pub returns-clause-begins : goal.returns-clause-begins
 returns-clause-begins c =
     let config = c.args.verified.now.config in
     c.begin.ensures.begins (globals_in config c.args.globals.now) c.listed-listed.ensures
-    ∙ ap (λ (i : Image). scan_begins config c.args.task (record { variables = variables_in config c.args.task c.args.variables.now; snapshot = record { image = i; slots = c.args.slots.now; globals = globals_in config c.args.globals.now } }))
+    ∙ ap (λ (i : Image). scan_begins config c.args.task (record { variables = variables_in config c.args.task c.args.variables.now; snapshot = record { image = i; slots = c.args.calls.now.slots; globals = globals_in config c.args.globals.now } }))
     (c.opening_image-image.ensures ∙ ap opening_image c.sizes.ensures)

@@ -6,7 +6,7 @@ use Rattle.il_machine.specs.Sharing.{globals_in}
 use Rattle.lift_world.specs.declared.shared.Seat.{Seat}
 use Rattle.lift_world.proofs.Views.{here, within, the_seat}
 use Rattle.lift_world.proofs.Committing.{commit_group, assigned_each}
-use Rattle.lift_world.proofs.Opens.{sizes_fit}
+use Rattle.il_machine.proofs.Sizes.{sizes_fit}
 use Rattle.lift_world.proofs.shared.Shared.commit_group.Goals as goal
 
 pub index-requires : goal.index-requires

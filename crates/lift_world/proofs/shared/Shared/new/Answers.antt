@@ -1,6 +1,6 @@
 use Rattle.std.proofs.Common.{◌≤◌, sym, subst}
 use Rattle.lift_spec.specs.declared.image.Sizes.{Sizes}
-use Rattle.lift_world.proofs.Opens.{sizes_fit}
+use Rattle.il_machine.proofs.Sizes.{sizes_fit}
 use Rattle.lift_world.proofs.shared.Shared.new.Goals as goal
 
 pub opening_seats-requires-clause-few : goal.opening_seats-requires-clause-few
