@@ -1,91 +1,68 @@
--- What a start leaves, from what its parts say of the program that was lent.
-use Rattle.std.proofs.Common.{◌≡◌, ℕ, ◌+◌, ◌<◌, ◌≤◌, Bool, true, false, List, [], ◌∷◌, ◌++◌, map, length, Option, Some, None, refl, sym, ap, ◌∙◌, subst}
+-- What a start leaves, from what its parts say.
+use Rattle.std.proofs.Common.{◌≡◌, ℕ, ◌<◌, ◌≤◌, true, false, List, [], ◌∷◌, ◌++◌, length, Option, Some, refl, sym, ap, ◌∙◌, subst}
 use Rattle.std.specs.Prelude.{slice_get, slice_set, is_some, vec_capacity}
-use Rattle.il_exec.specs.Going.{Stored}
-use Rattle.il_machine.specs.Scanning.{Program, HasTask, IsScanOf}
-use Rattle.il_machine.specs.Scanned.{Begins, stands}
-use Rattle.lift_spec.specs.Calls.{ticket_of}
+use Rattle.il_spec.specs.declared.tree.Config.{Config}
+use Rattle.il_machine.specs.Scanning.{HasTask}
+use Rattle.il_machine.specs.Standing.{Standing, IsOf}
 use Rattle.lift_spec.specs.Replies.{Started}
 use Rattle.lift_spec.specs.Snapshot.{scan_begins}
-use Rattle.lift_spec.specs.World.{InRanges, flat, beginning_of, scan_at}
-use Rattle.lift_world.specs.declared.shared.Core.{Core}
-use Rattle.lift_world.specs.declared.shared.Seat.{Seat}
-use Rattle.lift_world.specs.Running.{seat_at, open_by, is_open, task_in, group_in, with_seat, world_of, CoreFits}
-use Rattle.lift_world.proofs.Views.{some_of}
-use Rattle.lift_world.proofs.Sound.{world_ranges}
-use Rattle.lift_world.proofs.Happening.{Standing, standing}
+use Rattle.lift_spec.specs.World.{TaskState, flat, task_at, beginning_of, started_group}
+use Rattle.lift_world.specs.Worlds.{is_open_in}
 use Rattle.lift_spec.specs.declared.journal.Entry.TheVariants as entry
 use Rattle.lift_journal.specs.Pages.{Adds}
 use Rattle.lift_book.specs.declared.ledger.Ledger.{Ledger}
-use Rattle.lift_book.specs.Ledgers.{group_of, page_of, IsLedger, SnappedNow}
-use Rattle.lift_book.proofs.Standing.{open_now, seat_there, task_in_seat}
-use Rattle.lift_book.proofs.Opened.{store_open}
-use Rattle.lift_book.proofs.Stepping.{added, ledger_more, start_step, start_rows, start_stores, start_starts}
+use Rattle.lift_book.specs.Ledgers.{page_of, IsLedger, SnappedNow}
+use Rattle.lift_book.proofs.Standing.{There, task_there, found, store_there, tickets_so}
+use Rattle.lift_book.proofs.Stepping.{added, ledger_more, start_step, start_stores, start_starts}
 
 -- the store that is left, in which a scan of the task begins
-pub record Left (p : Program) (t : ℕ) (k : Core) (s : Seat) (own : Option Stored) : Type 0 where
-  pub store : Stored
+pub record Left (c : Config) (t : ℕ) (l : Ledger) (x : TaskState) (own : Option Standing) : Type 0 where
+  pub store : Standing
   pub is : own ≡ Some store
-  pub scan : IsScanOf p.config t store
-  pub begins : stands p.config t store ≡ scan_begins p.config t (beginning_of (group_in p.config k) (task_in p.config t s))
+  pub of : IsOf c t store
+  pub begins : store.state ≡ scan_begins c t (beginning_of l.core.group x)
 
-module _ (l : Ledger) (is : IsLedger l) (p : Program) (program : p ≡ l.program.value) (t : ℕ) (there : HasTask p.config t) where
-  -- the task has its seat, and its store
-  pub has_seat : is_some (seat_at l.core t) ≡ true
-  has_seat = seat_there (group_of l) is.world t (subst (λ (q : Program). HasTask q.config t) program there)
+module _ (l : Ledger) (is : IsLedger l) (c : Config) (program : c ≡ l.program.value.config) (t : ℕ) (there : HasTask c t) where
+  -- the task is there, with its store
+  pub has_seat : is_some (task_at l.core.group t) ≡ true
+  has_seat = task_there l is t (subst (λ k. HasTask k t) program there)
 
-  pub here_now : Standing (group_of l) t
-  here_now = standing (group_of l) is.world t has_seat
+  pub here_now : There l t
+  here_now = found l is t has_seat
 
   pub has_store : is_some (flat (slice_get l.stores.items t)) ≡ true
-  has_store = store_open l is t has_seat
+  has_store = store_there l is t has_seat
 
-  pub fits_now : CoreFits p.config l.core
-  fits_now = subst (λ (q : Program). CoreFits q.config l.core) (sym program) is.world.rows
+  pub own_of : (o : Option Standing) → flat (slice_get l.stores.items t) ≡ o → (s : Standing) → o ≡ Some s → IsOf c t s
+  own_of o lent s kept = subst (λ k. IsOf k t s) (sym program) (is.stores.each t s (lent ∙ kept))
 
-  pub ranges_now : InRanges p.config (group_in p.config l.core)
-  ranges_now = subst (λ (q : Program). InRanges q.config (group_in q.config l.core)) (sym program) (world_ranges (group_of l) is.world)
+  pub core_config : l.core.config ≡ c
+  core_config = is.same ∙ sym program
 
-  pub own_scan : (o : Option Stored) → flat (slice_get l.stores.items t) ≡ o → (s : Stored) → o ≡ Some s → IsScanOf p.config t s
-  own_scan o lent s kept = subst (λ (q : Program). IsScanOf q.config t s) (sym program) (is.world.stores.each t s (lent ∙ kept))
+  -- a scan of the program begins with what is here
+  pub snapped : (s : Standing) → s.state ≡ scan_begins c t (beginning_of l.core.group here_now.task) → SnappedNow (page_of l) t s.state
+  snapped s begins = (here_now.task, here_now.there, begins ∙ ap (λ k. scan_begins k t (beginning_of l.core.group here_now.task)) program)
 
-  -- a scan of the lent program begins with what is here
-  pub snapped : (s : Stored) → stands p.config t s ≡ scan_begins p.config t (beginning_of (group_in p.config l.core) (task_in p.config t here_now.seat)) → SnappedNow (page_of l) t (stands p.config t s)
-  snapped s begins =
-      let x = here_now in
-      let own : stands p.config t s ≡ scan_begins l.program.value.config t (beginning_of (group_in l.program.value.config l.core) (task_in l.program.value.config t x.seat)) =
-      begins ∙ ap (λ (q : Program). scan_begins q.config t (beginning_of (group_in q.config l.core) (task_in q.config t x.seat))) program
-      in
-      (task_in l.program.value.config t x.seat, task_in_seat (group_of l) is.world t x, own)
-
-  pub begun_here : (s : Stored) → IsScanOf p.config t s → stands p.config t s ≡ scan_begins p.config t (beginning_of (group_in p.config l.core) (task_in p.config t here_now.seat)) → Begins p.config t s
-  begun_here s scan begins = record { scan = scan; beginning = beginning_of (group_in p.config l.core) (task_in p.config t here_now.seat); begins = begins }
-
-  module _ (idle : is_open l.core t ≡ false) (m : Ledger) (same : m.program ≡ l.program) (capacity : m.capacity ≡ l.capacity) (free : length l.journal.items < l.capacity) (reserved : m.capacity ≤ vec_capacity m.journal)
+  module _ (idle : is_open_in l.core.group t ≡ false) (m : Ledger) (same : m.program ≡ l.program) (core : m.core.config ≡ l.core.config) (capacity : m.capacity ≡ l.capacity) (free : length l.journal.items < l.capacity) (reserved : m.capacity ≤ vec_capacity m.journal)
       (journal : m.journal.items ≡ l.journal.items ++ entry.Start t ∷ [])
-      (shared : (m.core.image ≡ l.core.image) × (m.core.calls ≡ l.core.calls) × (m.core.globals ≡ l.core.globals))
-      (seats : (s : Seat) → seat_at l.core t ≡ Some s → m.core.seats.items ≡ with_seat l.core t s.variables (Some (map ticket_of l.core.calls.slots)))
-      (own : Option Stored) (left : (s : Seat) → seat_at l.core t ≡ Some s → Left p t l.core s own) (stores : m.stores.items ≡ slice_set l.stores.items t own) where
-    closed : is_some here_now.seat.tickets ≡ false
-    closed = sym (ap open_by here_now.there) ∙ idle
+      (group : (x : TaskState) → task_at l.core.group t ≡ Some x → m.core.group ≡ started_group l.core.group t x)
+      (own : Option Standing) (left : (x : TaskState) → task_at l.core.group t ≡ Some x → Left c t l x own) (stores : m.stores.items ≡ slice_set l.stores.items t own) where
+    closed : is_some here_now.task.tickets ≡ false
+    closed = tickets_so l is t here_now false idle
 
-    kept : Left l.program.value t l.core here_now.seat own
-    kept = subst (λ (q : Program). Left q t l.core here_now.seat own) program (left here_now.seat here_now.there)
-
-    put : m.core.seats.items ≡ with_seat l.core t here_now.seat.variables (Some (map ticket_of l.core.calls.slots))
-    put = seats here_now.seat here_now.there
+    kept : Left l.program.value.config t l here_now.task own
+    kept = subst (λ k. Left k t l here_now.task own) program (left here_now.task here_now.there)
 
     stored : m.stores.items ≡ slice_set l.stores.items t (Some kept.store)
     stored = stores ∙ ap (slice_set l.stores.items t) kept.is
 
     pub start_adds : Adds (page_of l) (entry.Start t) Started (page_of m)
     start_adds =
-        added l is m same capacity free reserved (entry.Start t) Started journal
-        (start_step l is m same capacity free reserved t here_now closed kept.store put shared.0 shared.1 shared.2 stored kept.scan kept.begins)
+        added l is m same core capacity free reserved (entry.Start t) Started journal
+        (start_step l is m same core capacity free reserved t here_now closed kept.store (group here_now.task here_now.there) stored kept.of kept.begins)
 
     pub start_ledger : IsLedger m
     start_ledger =
-        ledger_more l is m same capacity free reserved (entry.Start t) Started start_adds
-        (start_rows l is m same capacity free reserved t here_now closed kept.store put shared.0 shared.1 shared.2 stored kept.scan kept.begins)
-        (start_stores l is m same capacity free reserved t here_now closed kept.store put shared.0 shared.1 shared.2 stored kept.scan kept.begins)
-        (start_starts l is m same capacity free reserved t here_now closed kept.store put shared.0 shared.1 shared.2 stored kept.scan kept.begins)
+        ledger_more l is m same core capacity free reserved (entry.Start t) Started start_adds
+        (start_stores l is m same core capacity free reserved t here_now closed kept.store (group here_now.task here_now.there) stored kept.of kept.begins)
+        (start_starts l is m same core capacity free reserved t here_now closed kept.store (group here_now.task here_now.there) stored kept.of kept.begins)

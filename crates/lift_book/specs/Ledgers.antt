@@ -2,32 +2,33 @@
 use Rattle.std.specs.Prelude.{◌≡◌, ℕ, ◌≤◌, Bool, true, false, List, [], ◌∷◌, length, Option, Some, None, Result, Ok, Err, is_some, slice_get, ◌==◌, if◌then◌else◌, vec_capacity}
 use Rattle.il_spec.specs.declared.tree.Config.{Config}
 use Rattle.il_run.specs.State.{State}
-use Rattle.il_exec.specs.Going.{Stored}
-use Rattle.il_machine.specs.Scanned.{Finished, Begins, stands}
+use Rattle.il_machine.specs.Scanning.{IsRunnable}
+use Rattle.il_machine.specs.Standing.{Standing, Finished, IsAtStart}
 use Rattle.lift_spec.specs.declared.image.Fields.{Fields}
 use Rattle.lift_spec.specs.Image.{sizes_of, fields_in_range}
 use Rattle.lift_spec.specs.Snapshot.{scan_begins}
 use Rattle.lift_spec.specs.World.{World, TaskState, flat, scan_at, task_at, beginning_of}
-use Rattle.lift_world.specs.declared.controller.Controller.{Controller}
-use Rattle.lift_world.specs.declared.shared.Seat.{Seat}
-use Rattle.lift_world.specs.Running.{seat_at, world_of, IsWorldOf}
+use Rattle.lift_world.specs.Worlds.{world_by, StoresFit}
 use Rattle.lift_journal.specs.declared.fault.StationFault.{StationFault}
 use Rattle.lift_journal.specs.declared.fault.StationFault.TheVariants.{FieldOutOfRange, JournalFull, NotOpen, AlreadyOpen}
 use Rattle.lift_journal.specs.Pages.{Page, Kept}
 use Rattle.lift_book.specs.declared.ledger.Ledger.{Ledger}
 
--- the group of a ledger: its desk and hand are empty
-abbrev pub group_of : Ledger → Controller
-group_of l = record { verified = l.program.value; core = l.core; stores = l.stores; desk = []; hand = [] }
+-- the world of a ledger: no call is on the desk or in the hand
+abbrev pub world_of : Ledger → World
+world_of l = world_by l.core.group l.stores.items [] []
 
 -- the world beside its journal
 abbrev pub page_of : Ledger → Page
-page_of l = record { config = l.program.value.config; capacity = l.capacity; journal = l.journal.items; world = world_of (group_of l) }
+page_of l = record { config = l.program.value.config; capacity = l.capacity; journal = l.journal.items; world = world_of l }
 
--- What holds of every ledger: its rows fit, the open scan of each task stands at its start, and its journal leads to its world.
+-- What holds of every ledger: there is a store for each task, the open scan of each task stands at its start, and its journal leads
+-- to its world.
 pub record IsLedger (l : Ledger) : Type 0 where
-  pub world : IsWorldOf (group_of l)
-  pub starts : (t : ℕ) (scan : State) (s : Stored) → scan_at (world_of (group_of l)) t ≡ Some scan → flat (slice_get l.stores.items t) ≡ Some s → Begins l.program.value.config t s
+  pub runnable : IsRunnable l.program.value.config
+  pub same : l.core.config ≡ l.program.value.config
+  pub stores : StoresFit l.program.value.config l.core.group.tasks l.stores.items
+  pub starts : (t : ℕ) (scan : State) (s : Standing) → scan_at (world_of l) t ≡ Some scan → flat (slice_get l.stores.items t) ≡ Some s → IsAtStart s
   pub kept : Kept (page_of l)
   pub reserved : l.capacity ≤ vec_capacity l.journal
 
@@ -59,9 +60,9 @@ refresh_fault b fields = if fields_in_range (sizes_of b.config) fields then full
 
 -- what is open of this task is this scan, by value: its program, its task, and what it began with
 pub record IsOpenHere (b : Page) (task : ℕ) (f : Finished) : Type 0 where
-  pub same_program : f.program.config ≡ b.config
+  pub same_program : f.config ≡ b.config
   pub same_task : f.task ≡ task
-  pub same_values : scan_at b.world task ≡ Some (stands f.program.config f.task f.first)
+  pub same_values : scan_at b.world task ≡ Some f.first
 
 -- a scan begins with the task's variables and the snapshot as they are now
 abbrev pub SnappedNow : Page → ℕ → State → Type 0

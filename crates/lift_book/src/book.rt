@@ -3,8 +3,8 @@
 ghost use Rattle.std.specs.Prelude.{◌≡◌, ◌++◌, ◌∷◌, [], map, Some, IfOk, IfErr, OnOk, OnErr};
 ghost use Rattle.il_table.specs.NameMap as values;
 ghost use Rattle.lift_spec.specs.Calls.{told_car};
-ghost use Rattle.il_machine.specs.Scanning.{HasTask, IsScanOf};
-ghost use Rattle.il_machine.specs.Scanned.{Begins, stands};
+ghost use Rattle.il_machine.specs.Scanning.{HasTask};
+ghost use Rattle.il_machine.specs.Standing.{IsOf};
 ghost use Rattle.lift_spec.specs.Image.{sizes_of, Obeys};
 ghost use Rattle.lift_spec.specs.Replies.{Started, Committed, Refreshed};
 ghost use Rattle.lift_spec.specs.World.{opening, InRanges};
@@ -13,7 +13,7 @@ ghost use Rattle.lift_journal.specs.Journal.{AllCalls};
 ghost use Rattle.lift_journal.specs.Pages.{Adds, Kept};
 ghost use Rattle.lift_spec.specs.declared.journal.Entry.TheVariants as entry;
 ghost use Rattle.lift_journal.specs.declared.fault.StationFault.TheVariants.{NotOpen};
-ghost use Rattle.lift_book.specs.Ledgers.{page_of, start_fault, full_fault, refresh_fault, fault_of, fault_in, SnappedNow, IsOpenHere};
+ghost use Rattle.lift_book.specs.Ledgers.{start_fault, full_fault, refresh_fault, fault_of, fault_in, SnappedNow, IsOpenHere};
 
 use crate::ledger::Ledger;
 use il_machine::{OpenScan, Scanned, Store, Value, Verified};
@@ -39,15 +39,14 @@ impl Drop for Book {
 }
 
 impl Model for Book {
-    ghost use Rattle.lift_book.specs.declared.ledger.Ledger.{Ledger as LedgerOf};
-    ghost use Rattle.lift_book.specs.contracts.ledger.Ledger as row;
-    ghost use Rattle.lift_book.specs.Ledgers.{IsLedger};
+    ghost use Rattle.lift_journal.specs.Pages.{Page, page_code};
+    ghost use Rattle.lift_book.specs.Ledgers.{page_of, IsLedger};
 
-    ghost Value = { LedgerOf };
+    ghost Value = { Page };
 
-    ghost coded = { row.the_row.coded };
+    ghost coded = { page_code };
 
-    ghost view = { λ b. b.ledger };
+    ghost view = { λ b. page_of b.ledger };
 
     ghost invariant = { λ b. IsLedger b.ledger };
 }
@@ -55,8 +54,7 @@ impl Model for Book {
 impl Book {
     /// The book of a program, in its opening world, with room for so many entries in its journal.
     pub fn new(alloc: Global, verified: &Verified, capacity: usize) -> Result<Book, AllocError>
-        ensures page { IfOk result (λ b. page_of b ≡ record { config = verified.now.config; capacity = capacity; journal = []; world = opening verified.now.config }) }
-        ensures program { IfOk result (λ b. b.program.value ≡ verified.now) }
+        ensures page { IfOk result (λ b. b ≡ record { config = verified.now.config; capacity = capacity; journal = []; world = opening verified.now.config }) }
     {
         let ledger = Ledger::new(alloc, verified, capacity)?;
         Ok(Book { ledger })
@@ -64,9 +62,9 @@ impl Book {
 
     /// What is kept: the journal runs from the opening world to this one, whose image lies in its ranges and obeys the interlock.
     pub fn runs(&self)
-        ensures kept { Kept (page_of self.now) }
-        ensures ranges { InRanges (page_of self.now).config (page_of self.now).world.group }
-        ensures obeys { Obeys (page_of self.now).world.group.image }
+        ensures kept { Kept self.now }
+        ensures ranges { InRanges self.now.config self.now.world.group }
+        ensures obeys { Obeys self.now.world.group.image }
     {
         let _capacity = self.ledger.capacity;
     }
@@ -78,14 +76,13 @@ impl Book {
         task: u8,
         store: Store,
     ) -> Result<OpenScan, (StationFault, Store)>
-        requires program { verified.now ≡ self.old.program.value }
+        requires program { verified.now.config ≡ self.old.config }
         requires there { HasTask verified.now.config task }
-        requires scan { IsScanOf verified.now.config task store }
-        ensures fault { fault_of result ≡ start_fault (page_of self.old) task }
-        ensures done { OnOk result (Adds (page_of self.old) (entry.Start task) Started (page_of self.new)) }
-        ensures begins { IfOk result (λ o. (o.task ≡ task) × Begins verified.now.config task o.store × SnappedNow (page_of self.old) task (stands verified.now.config task o.store)) }
+        requires of { IsOf verified.now.config task store }
+        ensures fault { fault_of result ≡ start_fault self.old task }
+        ensures done { OnOk result (Adds self.old (entry.Start task) Started self.new) }
+        ensures begins { IfOk result (λ o. IsOf verified.now.config task o × SnappedNow self.old task o.state) }
         ensures refused { IfErr result (λ r. (self.new ≡ self.old) × (r.1 ≡ store)) }
-        ensures same { self.new.program ≡ self.old.program }
     {
         self.ledger.start(verified, task, store)
     }
@@ -98,13 +95,12 @@ impl Book {
         scanned: Scanned<'v>,
         report: &mut Report,
     ) -> Result<Store, (StationFault, Scanned<'v>)>
-        requires { verified.now ≡ self.old.program.value }
-        ensures open { IsOpenHere (page_of self.old) task scanned.entry → fault_of result ≡ full_fault (page_of self.old) }
-        ensures other { ¬ (IsOpenHere (page_of self.old) task scanned.entry) → fault_of result ≡ Some NotOpen }
-        ensures mine { OnOk result (IsOpenHere (page_of self.old) task scanned.entry) }
-        ensures done { IfOk result (λ s. Adds (page_of self.old) (entry.Commit task) (Committed report.new) (page_of self.new) × (s ≡ scanned.entry.last)) }
+        requires { verified.now.config ≡ self.old.config }
+        ensures open { IsOpenHere self.old task scanned.entry → fault_of result ≡ full_fault self.old }
+        ensures other { ¬ (IsOpenHere self.old task scanned.entry) → fault_of result ≡ Some NotOpen }
+        ensures mine { OnOk result (IsOpenHere self.old task scanned.entry) }
+        ensures done { IfOk result (λ s. Adds self.old (entry.Commit task) (Committed report.new) self.new × (s ≡ record { config = scanned.entry.config; task = scanned.entry.task; state = scanned.entry.last })) }
         ensures refused { IfErr result (λ r. (self.new ≡ self.old) × (report.new ≡ report.old) × (r.1 ≡ scanned.entry)) }
-        ensures same { self.new.program ≡ self.old.program }
     {
         if !scanned.is_of(verified) {
             return Err((StationFault::NotOpen, scanned));
@@ -120,14 +116,13 @@ impl Book {
         scanned: Scanned<'v>,
         report: &mut Report,
     ) -> Result<Store, (StationFault, Scanned<'v>)>
-        requires program { verified.now ≡ self.old.program.value }
+        requires program { verified.now.config ≡ self.old.config }
         requires own { scanned.program.config ≡ verified.now.config }
-        ensures open { IsOpenHere (page_of self.old) task scanned.entry → fault_of result ≡ full_fault (page_of self.old) }
-        ensures other { ¬ (IsOpenHere (page_of self.old) task scanned.entry) → fault_of result ≡ Some NotOpen }
-        ensures mine { OnOk result (IsOpenHere (page_of self.old) task scanned.entry) }
-        ensures done { IfOk result (λ s. Adds (page_of self.old) (entry.Commit task) (Committed report.new) (page_of self.new) × (s ≡ scanned.entry.last)) }
+        ensures open { IsOpenHere self.old task scanned.entry → fault_of result ≡ full_fault self.old }
+        ensures other { ¬ (IsOpenHere self.old task scanned.entry) → fault_of result ≡ Some NotOpen }
+        ensures mine { OnOk result (IsOpenHere self.old task scanned.entry) }
+        ensures done { IfOk result (λ s. Adds self.old (entry.Commit task) (Committed report.new) self.new × (s ≡ record { config = scanned.entry.config; task = scanned.entry.task; state = scanned.entry.last })) }
         ensures refused { IfErr result (λ r. (self.new ≡ self.old) × (report.new ≡ report.old) × (r.1 ≡ scanned.entry)) }
-        ensures same { self.new.program ≡ self.old.program }
     {
         self.ledger.commit(verified, task, scanned, report)
     }
@@ -140,27 +135,26 @@ impl Book {
         hand: &mut Hand,
         report: &mut Report,
     ) -> Result<(), StationFault>
-        requires program { verified.now ≡ self.old.program.value }
+        requires program { verified.now.config ≡ self.old.config }
         requires calls { AllCalls (sizes_of verified.now.config) hand.old }
-        ensures fault { fault_in result ≡ refresh_fault (page_of self.old) fields }
-        ensures done { OnOk result (Adds (page_of self.old) (entry.Refresh fields (map (λ (d : EnteredOf). d.call) report.new.entered)) (Refreshed report.new) (page_of self.new)) }
+        ensures fault { fault_in result ≡ refresh_fault self.old fields }
+        ensures done { OnOk result (Adds self.old (entry.Refresh fields (map (λ (d : EnteredOf). d.call) report.new.entered)) (Refreshed report.new) self.new) }
         ensures hand { OnOk result (hand.old ≡ map (λ (d : EnteredOf). d.call) report.new.entered ++ hand.new) }
         ensures refused { OnErr result ((self.new ≡ self.old) × (hand.new ≡ hand.old) × (report.new ≡ report.old)) }
-        ensures same { self.new.program ≡ self.old.program }
     {
         self.ledger.refresh(verified, fields, hand, report)
     }
 
     /// The image.
     pub fn image(&self) -> &Image
-        ensures { result.now ≡ (page_of self.now).world.group.image }
+        ensures { result.now ≡ self.now.world.group.image }
     {
         self.ledger.core.image()
     }
 
     /// The journal.
     pub fn journal(&self) -> &[Entry]
-        ensures { result.now ≡ (page_of self.now).journal }
+        ensures { result.now ≡ self.now.journal }
     {
         self.ledger.journal.as_slice()
     }
@@ -170,7 +164,7 @@ impl Book {
 
     /// The journal alone.
     pub fn into_journal(self) -> Vec<Entry>
-        ensures { result.items ≡ (page_of self).journal }
+        ensures { result.items ≡ self.journal }
     {
         let Book { ledger } = self;
         let Ledger { journal, .. } = ledger;
@@ -179,34 +173,33 @@ impl Book {
 
     /// A copy of the image.
     pub fn copied_image(&self) -> Image
-        ensures { result ≡ (page_of self.now).world.group.image }
+        ensures { result ≡ self.now.world.group.image }
     {
         let image = self.ledger.core.image();
-        let _fits = image.outputs.len();
         Image {
             fields: image.fields.copied(),
-            outputs: Bounded::from_slice(image.outputs.as_slice()),
+            outputs: image.outputs.copied(),
         }
     }
 
     /// The call slots, slot 1 first.
-    pub fn slots(&self) -> &[Slot]
-        ensures { result.now ≡ (page_of self.now).world.group.calls.slots }
+    pub fn slots(&self) -> Bounded<Slot, 64>
+        ensures { result ≡ self.now.world.group.calls.slots }
     {
         self.ledger.core.slots()
     }
 
     /// The car to which a slot is told under a ticket, if there is one.
     pub fn told(&self, ticket: u64) -> Option<u8>
-        ensures { result ≡ told_car ticket (page_of self.now).world.group.calls.slots }
+        ensures { result ≡ told_car ticket self.now.world.group.calls.slots }
     {
-        told_car(self.slots(), ticket)
+        told_car(self.slots().as_slice(), ticket)
     }
 
     /// The value of a global, as the last commit left it.
     pub fn global(&self, verified: &Verified, path: &str) -> Option<Value>
-        requires { verified.now ≡ self.now.program.value }
-        ensures { result ≡ values.get (page_of self.now).world.group.globals path.now }
+        requires { verified.now.config ≡ self.now.config }
+        ensures { result ≡ values.get self.now.world.group.globals path.now }
     {
         self.ledger.core.global(verified, path)
     }

@@ -1,20 +1,14 @@
 // What a group has open and in its journal.
 
-ghost use Rattle.std.specs.Prelude.{◌≡◌, ◌≤◌, ◌↔◌, [], ◌++◌, ◌∷◌, map, length, slice_get, Some, None, Ok, Err, IfOk, IfErr, OnOk, OnErr, IsSome, true, vec_len, vec_capacity};
-ghost use Rattle.il_machine.specs.Scanning.{HasTask, IsScanOf};
-ghost use Rattle.il_machine.specs.Scanned.{Begins, IsScan, Began, stands};
-ghost use Rattle.lift_spec.specs.Calls.{enter_all};
+ghost use Rattle.std.specs.Prelude.{◌≡◌, ◌≤◌, ◌↔◌, [], ◌++◌, ◌∷◌, map, length, Some, IfOk, IfErr, OnOk, OnErr, IsSome, true};
+ghost use Rattle.il_machine.specs.Scanning.{HasTask};
+ghost use Rattle.il_machine.specs.Standing.{Standing, IsOf};
 ghost use Rattle.lift_spec.specs.Image.{sizes_of};
-ghost use Rattle.lift_spec.specs.Hands.{HasWord, IsInOrder};
 ghost use Rattle.lift_spec.specs.Replies.{Started, Committed, Refreshed};
-ghost use Rattle.il_exec.specs.Going.{Stored};
-ghost use Rattle.lift_spec.specs.Calls.{ticket_of};
 ghost use Rattle.lift_spec.specs.Snapshot.{scan_begins};
-ghost use Rattle.lift_spec.specs.World.{opening, beginning_of, InRanges};
-ghost use Rattle.lift_world.specs.declared.shared.Seat.{Seat as SeatOf};
-ghost use Rattle.lift_world.specs.Running.{seat_at, task_in, group_in, with_seat, CoreFits};
+ghost use Rattle.lift_spec.specs.World.{TaskState, task_at, opening, beginning_of, started_group};
 ghost use Rattle.lift_spec.specs.declared.report.EnteredCall.{EnteredCall as EnteredOf};
-ghost use Rattle.lift_journal.specs.Journal.{AllCalls, calls_entering};
+ghost use Rattle.lift_journal.specs.Journal.{AllCalls};
 ghost use Rattle.lift_journal.specs.Pages.{Adds, Kept};
 ghost use Rattle.lift_spec.specs.declared.journal.Entry.TheVariants as entry;
 ghost use Rattle.lift_book.specs.Ledgers.{page_of, IsLedger, start_fault, full_fault, refresh_fault, fault_of, fault_in, SnappedNow, IsOpenHere};
@@ -27,8 +21,7 @@ use lift_journal::fault::StationFault;
 use lift_spec::hand::Hand;
 use lift_spec::journal::Entry;
 use lift_spec::report::Report;
-use lift_world::Core;
-use lift_world::controller::opening;
+use lift_world::{Core, opening};
 use std::alloc::{AllocError, Global};
 use std::snapshot::Snapshot;
 
@@ -45,16 +38,16 @@ pub struct Ledger {
 
 // The scan of a task begins, in its own store and in another.
 fn begin(core: &mut Core, verified: &Verified, task: u8, own: &mut Option<Store>, store: &mut Store)
-    requires there { IsSome (seat_at core.old task) }
+    requires program { core.old.config ≡ verified.now.config }
+    requires there { IsSome (task_at core.old.group task) }
     requires own { IsSome own.old }
-    requires fits { CoreFits verified.now.config core.old }
-    requires ranges { InRanges verified.now.config (group_in verified.now.config core.old) }
-    requires own_scan { (s : Stored) → own.old ≡ Some s → IsScanOf verified.now.config task s }
-    requires scan { IsScanOf verified.now.config task store.old }
-    ensures shared { (core.new.image ≡ core.old.image) × (core.new.calls ≡ core.old.calls) × (core.new.globals ≡ core.old.globals) }
-    ensures seats { (s : SeatOf) → seat_at core.old task ≡ Some s → core.new.seats.items ≡ with_seat core.old task s.variables (Some (map ticket_of core.old.calls.slots)) }
-    ensures own { (s : SeatOf) → seat_at core.old task ≡ Some s → (st : Stored) × (own.new ≡ Some st) × IsScanOf verified.now.config task st × (stands verified.now.config task st ≡ scan_begins verified.now.config task (beginning_of (group_in verified.now.config core.old) (task_in verified.now.config task s))) }
-    ensures store { (s : SeatOf) → seat_at core.old task ≡ Some s → IsScanOf verified.now.config task store.new × (stands verified.now.config task store.new ≡ scan_begins verified.now.config task (beginning_of (group_in verified.now.config core.old) (task_in verified.now.config task s))) }
+    requires own_of { (s : Standing) → own.old ≡ Some s → IsOf verified.now.config task s }
+    requires of { IsOf verified.now.config task store.old }
+    ensures config { core.new.config ≡ core.old.config }
+    ensures group { (x : TaskState) → task_at core.old.group task ≡ Some x → core.new.group ≡ started_group core.old.group task x }
+    ensures own { (x : TaskState) → task_at core.old.group task ≡ Some x → (s : Standing) × (own.new ≡ Some s) × IsOf verified.now.config task s × (s.state ≡ scan_begins verified.now.config task (beginning_of core.old.group x)) }
+    ensures store { (x : TaskState) → task_at core.old.group task ≡ Some x → store.new.state ≡ scan_begins verified.now.config task (beginning_of core.old.group x) }
+    ensures of { IsOf verified.now.config task store.new }
 {
     if let Some(own) = own {
         core.start(verified, task, store);
@@ -90,8 +83,8 @@ impl Ledger {
 
     // Whether what is open of this task is this scan.
     fn has_open(&self, verified: &Verified, task: u8, scanned: &Scanned<'_>) -> bool
-        requires program { verified.now ≡ self.now.program.value }
-        requires own { scanned.now.program.config ≡ verified.now.config }
+        requires program { verified.now.config ≡ self.now.program.value.config }
+        requires own { scanned.now.config ≡ verified.now.config }
         requires kept { IsLedger self.now }
         ensures { (result ≡ true) ↔ IsOpenHere (page_of self.now) task scanned.now }
     {
@@ -99,7 +92,7 @@ impl Ledger {
             return false;
         }
         match &self.stores[usize::from(task)] {
-            Some(store) => scanned.began(verified, task, store),
+            Some(store) => scanned.began_as(verified, store),
             None => unreachable!(),
         }
     }
@@ -111,13 +104,13 @@ impl Ledger {
         task: u8,
         store: Store,
     ) -> Result<OpenScan, (StationFault, Store)>
-        requires program { verified.now ≡ self.old.program.value }
+        requires program { verified.now.config ≡ self.old.program.value.config }
         requires there { HasTask verified.now.config task }
-        requires scan { IsScanOf verified.now.config task store }
+        requires of { IsOf verified.now.config task store }
         requires kept { IsLedger self.old }
         ensures fault { fault_of result ≡ start_fault (page_of self.old) task }
         ensures done { OnOk result (Adds (page_of self.old) (entry.Start task) Started (page_of self.new)) }
-        ensures begins { IfOk result (λ o. (o.task ≡ task) × Begins verified.now.config task o.store × SnappedNow (page_of self.old) task (stands verified.now.config task o.store)) }
+        ensures begins { IfOk result (λ o. IsOf verified.now.config task o × SnappedNow (page_of self.old) task o.state) }
         ensures refused { IfErr result (λ r. (self.new ≡ self.old) × (r.1 ≡ store)) }
         ensures kept { IsLedger self.new }
         ensures same { self.new.program ≡ self.old.program }
@@ -137,7 +130,7 @@ impl Ledger {
             &mut store,
         );
         self.journal.push_reserved(Entry::Start(task));
-        Ok(OpenScan::of(task, store))
+        Ok(OpenScan::of(store))
     }
 
     /// Commit: a scan of the program that was run is what is open of this task, and hands over what it left. No allocation.
@@ -148,13 +141,13 @@ impl Ledger {
         scanned: Scanned<'v>,
         report: &mut Report,
     ) -> Result<Store, (StationFault, Scanned<'v>)>
-        requires program { verified.now ≡ self.old.program.value }
-        requires own { scanned.program.config ≡ verified.now.config }
+        requires program { verified.now.config ≡ self.old.program.value.config }
+        requires own { scanned.config ≡ verified.now.config }
         requires kept { IsLedger self.old }
         ensures open { IsOpenHere (page_of self.old) task scanned.entry → fault_of result ≡ full_fault (page_of self.old) }
         ensures other { ¬ (IsOpenHere (page_of self.old) task scanned.entry) → fault_of result ≡ Some NotOpen }
         ensures mine { OnOk result (IsOpenHere (page_of self.old) task scanned.entry) }
-        ensures done { IfOk result (λ s. Adds (page_of self.old) (entry.Commit task) (Committed report.new) (page_of self.new) × (s ≡ scanned.entry.last)) }
+        ensures done { IfOk result (λ s. Adds (page_of self.old) (entry.Commit task) (Committed report.new) (page_of self.new) × (s ≡ record { config = scanned.entry.config; task = scanned.entry.task; state = scanned.entry.last })) }
         ensures refused { IfErr result (λ r. (self.new ≡ self.old) × (report.new ≡ report.old) × (r.1 ≡ scanned.entry)) }
         ensures kept { IsLedger self.new }
         ensures same { self.new.program ≡ self.old.program }
@@ -180,7 +173,7 @@ impl Ledger {
         hand: &mut Hand,
         report: &mut Report,
     ) -> Result<(), StationFault>
-        requires program { verified.now ≡ self.old.program.value }
+        requires program { verified.now.config ≡ self.old.program.value.config }
         requires calls { AllCalls (sizes_of verified.now.config) hand.old }
         requires kept { IsLedger self.old }
         ensures fault { fault_in result ≡ refresh_fault (page_of self.old) fields }

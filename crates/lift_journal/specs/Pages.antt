@@ -1,6 +1,8 @@
 -- A group's world beside its journal (own rules).
-use Rattle.std.specs.Prelude.{◌≡◌, ℕ, ◌≤◌, List, [], ◌∷◌, ◌++◌, length, Some}
+use Rattle.std.specs.Prelude.{◌≡◌, ℕ, ◌≤◌, List, [], ◌∷◌, ◌++◌, length, Some, refl}
+use Rattle.std.specs.Coded.{Coded, code_by, coded×, coded_ℕ, coded_list}
 use Rattle.il_spec.specs.declared.tree.Config.{Config}
+use Rattle.il_spec.specs.contracts.tree.Config as config
 use Rattle.il_run.specs.State.{State}
 use Rattle.lift_spec.specs.declared.image.Fields.{Fields}
 use Rattle.lift_spec.specs.declared.image.CarOutputs.{CarOutputs}
@@ -8,7 +10,9 @@ use Rattle.lift_spec.specs.Calls.{told_car}
 use Rattle.lift_spec.specs.Replies.{Reply}
 use Rattle.lift_spec.specs.Snapshot.{scan_begins}
 use Rattle.lift_spec.specs.World.{World, TaskState, beginning_of, task_at}
+use Rattle.lift_spec.specs.WorldCodes.{world_code}
 use Rattle.lift_spec.specs.declared.journal.Entry.{Entry}
+use Rattle.lift_spec.specs.contracts.journal.Entry as entry
 use Rattle.lift_journal.specs.Journal.{Enters, IsJournalOf, entries_by, refresher}
 
 -- A world beside the journal that led to it, which has room for so many entries.
@@ -17,6 +21,12 @@ pub record Page : Type 0 where
   pub capacity : ℕ
   pub journal : List Entry
   pub world : World
+
+-- its code
+abbrev pub page_code : Coded Page
+page_code =
+    code_by (Config × (ℕ × (List Entry × World))) (coded× config.the_row.coded (coded× coded_ℕ (coded× (coded_list entry.the_row.coded) world_code))) (λ b. (b.config, (b.capacity, (b.journal, b.world))))
+    (λ c. record { config = c.0; capacity = c.1.0; journal = c.1.1.0; world = c.1.1.1 }) (λ _. refl)
 
 -- What is kept: the journal runs from the opening world to this one, and has room; no call is on the desk or in the hand.
 pub record Kept (b : Page) : Type 0 where
