@@ -7,13 +7,11 @@ ghost use Rattle.lift_spec.specs.declared.image.Fields.{Fields};
 ghost use Rattle.lift_spec.specs.Image.{is_floor, positions_in_range, fields_in_range, FieldsInRange};
 
 pub use lift_spec::image::{CarFields, CarOutputs, Fields, Image, Motor, Sizes};
+pub use lift_spec::outputs::Outputs;
 pub use lists::Bounded;
 
 /// The greatest NOW, in milliseconds (own rule).
 const LATEST: u32 = 2_147_483_647;
-
-/// The outputs of all cars, car 1 first.
-pub type Outputs = Bounded<CarOutputs, 8>;
 
 /// Whether a number is that of a floor of the group (own rule).
 pub fn is_floor(floor: u8, sizes: Sizes) -> bool

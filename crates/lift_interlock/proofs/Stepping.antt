@@ -1,60 +1,31 @@
 -- One car further along the cars.
-use Rattle.std.proofs.Common.{◌≡◌, ℕ, suc, ◌+◌, ◌*◌, ◌<◌, ◌≤◌, List, [], ◌∷◌, ◌++◌, length, get_or, drop, refl, sym, ap, ◌∙◌, subst, arith, append_assoc, length-append, eq-eqb, ne_eqb}
+use Rattle.std.proofs.Common.{◌≡◌, ℕ, suc, zero, ◌+◌, ◌-◌, ◌*◌, ◌<◌, ◌≤◌, List, [], ◌∷◌, ◌++◌, length, get_or, drop, refl, sym, ap, ◌∙◌, subst, arith, append_assoc, length-append}
 use Rattle.std.proofs.Math.Seq.{drop-cons}
-use Rattle.std.specs.Prelude.{Bool, true, false, cond, not, ◌==◌, filter, Option, Some, None, if◌then◌else◌}
+use Rattle.std.specs.Prelude.{Bool, not, ◌==◌, filter, Option, Some, None}
 use Rattle.lift_spec.specs.declared.image.CarFields.{CarFields}
 use Rattle.lift_spec.specs.declared.image.CarOutputs.{CarOutputs}
 use Rattle.lift_spec.specs.declared.image.Fields.{Fields}
 use Rattle.lift_spec.specs.declared.report.Rule.{Rule}
 use Rattle.lift_spec.specs.declared.report.Denial.{Denial}
-use Rattle.lift_spec.specs.Image.{runs, running_from, opening_outputs}
+use Rattle.lift_spec.specs.Bits.{flag}
+use Rattle.lift_spec.specs.Image.{runs, running_cars, opening_outputs}
+use Rattle.std.specs.Int.{from_bool}
+use Rattle.lift_spec.proofs.Running.{byte_flag, own_counts}
 use Rattle.lift_spec.specs.Settle.{listed, open_denial, running_denial, settled_running, settled_from, joined, denials_of}
 
 drop_step : {A : Type 0} (xs : List A) (i : ℕ) (none : A) → i < length xs → drop i xs ≡ get_or xs i none ∷ drop (i + 1) xs
 drop_step xs i none h = let e : suc i ≡ i + 1 = omega arith in drop-cons xs i none h ∙ ap (λ n. get_or xs i none ∷ drop n xs) e
 
--- the other running cars from a car on
-abbrev others : ℕ → ℕ → List CarOutputs → List ℕ
-others car from outputs = filter (λ other. not (other == car)) (running_from from outputs)
-
-abbrev others_with : ℕ → ℕ → List CarOutputs → Bool → List ℕ
-others_with car from outputs r = filter (λ other. not (other == car)) (if r then from ∷ running_from (from + 1) outputs else running_from (from + 1) outputs)
-
-others_at : (outputs : List CarOutputs) (i car : ℕ) (none : CarOutputs) (r : Bool) → i < length outputs → runs (get_or outputs i none).motor ≡ r → others car (i + 1) (drop i outputs) ≡ others_with car (i + 1) (drop (i + 1) outputs) r
-others_at outputs i car none r h is = ap (λ xs. others car (i + 1) xs) (drop_step outputs i none h) ∙ ap (λ b. others_with car (i + 1) (drop (i + 1) outputs) b) is
-
--- it counts where it runs and is another
-pub counts_other :
-    (outputs : List CarOutputs) (i car count new all : ℕ) (none : CarOutputs) → i < length outputs → (i + 1 ≡ car → ⊥) → runs (get_or outputs i none).motor ≡ true → new ≡ count + 1
-    → count + length (others car (i + 1) (drop i outputs)) ≡ all → new + length (others car (i + 1 + 1) (drop (i + 1) outputs)) ≡ all
-counts_other outputs i car count new all none h differs is_running is_new is_all =
-    let rest : List ℕ = others car (i + 1 + 1) (drop (i + 1) outputs) in
-    let at : others car (i + 1) (drop i outputs) ≡ (i + 1) ∷ rest = others_at outputs i car none true h is_running ∙ ap (λ t. cond (not t) ((i + 1) ∷ rest) rest) (ne_eqb (i + 1) car differs) in
-    let long : length (others car (i + 1) (drop i outputs)) ≡ length ((i + 1) ∷ rest) = ap length at in
-    let more : length ((i + 1) ∷ rest) ≡ length rest + 1 = omega arith in
-    omega (arith, long, more, is_new, is_all)
-
--- and not where it is the car itself
-pub passes_itself :
-    (outputs : List CarOutputs) (i car count new all : ℕ) → i < length outputs → i + 1 ≡ car → new ≡ count
-    → count + length (others car (i + 1) (drop i outputs)) ≡ all → new + length (others car (i + 1 + 1) (drop (i + 1) outputs)) ≡ all
-passes_itself outputs i car count new all h same is_new is_all =
-    let rest : List ℕ = others car (i + 1 + 1) (drop (i + 1) outputs) in
-    let both : (r : Bool) → others_with car (i + 1) (drop (i + 1) outputs) r ≡ rest =
-    λ r. elim r as (λ b. others_with car (i + 1) (drop (i + 1) outputs) b ≡ rest) [
-      | true ↦ ap (λ t. cond (not t) ((i + 1) ∷ rest) rest) (eq-eqb (i + 1) car same)
-      | false ↦ refl
-    ] in
-    let long : length (others car (i + 1) (drop i outputs)) ≡ length rest = ap length (others_at outputs i car opening_outputs (runs (get_or outputs i opening_outputs).motor) h refl ∙ both (runs (get_or outputs i opening_outputs).motor)) in
-    omega (arith, long, is_new, is_all)
-
--- nor where it is still
-pub passes_still :
-    (outputs : List CarOutputs) (i car count new all : ℕ) (none : CarOutputs) → i < length outputs → runs (get_or outputs i none).motor ≡ false → new ≡ count
-    → count + length (others car (i + 1) (drop i outputs)) ≡ all → new + length (others car (i + 1 + 1) (drop (i + 1) outputs)) ≡ all
-passes_still outputs i car count new all none h is_still is_new is_all =
-    let long : length (others car (i + 1) (drop i outputs)) ≡ length (others car (i + 1 + 1) (drop (i + 1) outputs)) = ap length (others_at outputs i car none false h is_still) in
-    omega (arith, long, is_new, is_all)
+-- the other running cars are those that run, less the car itself where it runs
+pub others_counted :
+    (outputs : List CarOutputs) (car all own : ℕ) (holds : Bool) → 1 ≤ car → car ≤ length outputs → all ≡ length (running_cars outputs)
+    → holds ≡ runs (get_or outputs (car - 1) opening_outputs).motor → own ≡ from_bool holds
+    → all ≡ length (filter (λ other. not (other == car)) (running_cars outputs)) + own
+others_counted outputs zero all own holds one within all_is holds_is own_is = absurd (omega (arith, one))
+others_counted outputs (suc k) all own holds one within all_is holds_is own_is =
+    let k_is : suc k - 1 ≡ k = omega arith in
+    let own_flag : own ≡ flag (runs (get_or outputs k opening_outputs).motor) = own_is ∙ byte_flag holds ∙ ap flag (holds_is ∙ ap (λ n. runs (get_or outputs n opening_outputs).motor) k_is) in
+    omega (arith, own_flag, all_is, own_counts outputs k (omega (arith, within)))
 
 -- the settling of the cars from one on is its own before that of the rest
 settled_at :

@@ -3,7 +3,7 @@
 ghost use Rattle.std.specs.Prelude.{◌≡◌, ◌≤◌, length};
 ghost use Rattle.lift_spec.specs.Settle.{fields_of, outputs_of, other_running, denies_wish, motor_denial, settled_car};
 
-use crate::motor::{granted, is_at_end, is_fire_up, reverses, runs};
+use crate::motor::{granted, is_at_end, is_fire_up, reverses};
 use crate::settled::{Settled, listed, open_denial};
 use lift_image::{CarFields, CarOutputs, Image, Motor};
 use lift_spec::report::Rule;
@@ -33,18 +33,12 @@ fn outputs_of(image: &Image, car: u8) -> CarOutputs
     image.outputs.as_slice()[usize::from(car) - 1]
 }
 
-// How many other cars run.
-fn other_running(image: &Image, car: u8) -> usize
+// How many other cars run. The car counts from 1.
+fn other_running(image: &Image, car: u8) -> u8
+    requires { (1 ≤ car) × (car ≤ length image.now.outputs) }
     ensures { result ≡ length (other_running image.now car) }
 {
-    let outputs = image.outputs.as_slice();
-    let mut count = 0;
-    for index in 0..outputs.len() {
-        if index + 1 != usize::from(car) && runs(outputs[index].motor) {
-            count += 1;
-        }
-    }
-    count
+    image.outputs.running_count() - u8::from(image.outputs.is_running(car))
 }
 
 // Whether a rule denies a car the motor wish up or down, beside its settled open command.
@@ -58,7 +52,7 @@ fn denies_wish(image: &Image, car: u8, wish: Motor, opens: bool, rule: Rule) -> 
         Rule::Unlocked => !fields_of(image, car).locked || opens,
         Rule::AtEnd => is_at_end(fields_of(image, car), wish),
         Rule::NotLevel => false,
-        Rule::Crowded => usize::from(image.fields.run_limit) <= other_running(image, car),
+        Rule::Crowded => image.fields.run_limit <= other_running(image, car),
         Rule::Fire => is_fire_up(image.fields.fire, wish),
     }
 }
@@ -69,7 +63,7 @@ fn motor_denial(image: &Image, car: u8, wish: Motor, opens: bool) -> Option<Rule
     requires outputs { length image.now.outputs ≡ length image.now.fields.cars }
     ensures { result ≡ motor_denial image.now car wish opens }
 {
-    if !runs(wish) {
+    if !wish.runs() {
         return None;
     }
     for rule in WISH_ORDER {

@@ -1,21 +1,10 @@
 // What the rules ask of one motor.
 
 ghost use Rattle.std.specs.Prelude.{◌≡◌};
-ghost use Rattle.lift_spec.specs.Image.{runs};
 ghost use Rattle.lift_spec.specs.Settle.{reverses, is_at_end, is_fire_up, granted};
 
 use lift_image::{CarFields, Motor};
 use lift_spec::report::Rule;
-
-/// Whether a car whose motor is this runs.
-pub fn runs(motor: Motor) -> bool
-    ensures { result ≡ runs motor }
-{
-    match motor {
-        Motor::Up | Motor::Down => true,
-        Motor::Still => false,
-    }
-}
 
 /// From a committed motor to the opposite one.
 pub fn reverses(committed: Motor, wish: Motor) -> bool

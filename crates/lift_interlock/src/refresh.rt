@@ -3,9 +3,9 @@
 ghost use Rattle.std.specs.Prelude.{◌≡◌, ◌≤◌, ◌+◌, ◌++◌, length};
 ghost use Rattle.lift_spec.specs.Settle.{may_run_on, able_from, below, denies_running, running_denial, settled_running, denials_of, settled_all};
 
-use crate::motor::{granted, is_at_end, is_fire_up, runs};
+use crate::motor::{granted, is_at_end, is_fire_up};
 use crate::settled::{AllSettled, Settled, listed, open_denial};
-use lift_image::{Bounded, CarFields, CarOutputs, Fields};
+use lift_image::{Bounded, CarFields, CarOutputs, Fields, Outputs};
 use lift_spec::report::{Denial, Rule};
 
 /// The order in which rules deny a running motor.
@@ -15,7 +15,7 @@ const RUNNING_ORDER: [Rule; 4] = [Rule::Unlocked, Rule::AtEnd, Rule::Fire, Rule:
 fn may_run_on(fire: bool, fields: CarFields, outputs: CarOutputs) -> bool
     ensures { result ≡ may_run_on fire fields outputs }
 {
-    runs(outputs.motor)
+    outputs.motor.runs()
         && (fields.locked
             && (!outputs.opens
                 && (!is_at_end(fields, outputs.motor) && !is_fire_up(fire, outputs.motor))))
@@ -73,7 +73,7 @@ fn running_denial(
 ) -> Option<Rule>
     ensures { result ≡ running_denial all.now able.now car fields outputs }
 {
-    if !runs(outputs.motor) {
+    if !outputs.motor.runs() {
         return None;
     }
     for rule in RUNNING_ORDER {
@@ -118,7 +118,7 @@ fn add_denials(denials: &mut Bounded<Denial, 16>, car: u8, rules: &[Rule])
 /// rule). Running cars that fail rule 2, 3 or 6 stop, by the first that they fail; of the rest the RUNLIMIT
 /// lowest-numbered run on, and the others stop by 5. Open commands stay exactly at a level, otherwise they end by 4.
 #[tactic(auto, unfolding(lift_spec::specs::Settle::settled_all))]
-pub fn settle_all(outputs: &Bounded<CarOutputs, 8>, fields: &Fields) -> AllSettled
+pub fn settle_all(outputs: &Outputs, fields: &Fields) -> AllSettled
     requires { length outputs.now ≡ length fields.now.cars }
     ensures { result ≡ settled_all outputs.now fields.now }
 {
@@ -126,7 +126,7 @@ pub fn settle_all(outputs: &Bounded<CarOutputs, 8>, fields: &Fields) -> AllSettl
     let cars = fields.cars.as_slice();
     let before = outputs.as_slice();
     let able = able_cars(fields.fire, cars, before);
-    let mut after = Bounded::new();
+    let mut after = Outputs::new();
     let mut denials = Bounded::new();
     for index in 0..count {
         let car = index as u8 + 1;

@@ -3,7 +3,7 @@
 ghost use Rattle.std.specs.Prelude.{◌≡◌, ◌++◌};
 ghost use Rattle.lift_spec.specs.Settle.{listed, open_denial};
 
-use lift_image::{Bounded, CarOutputs};
+use lift_image::{Bounded, CarOutputs, Outputs};
 use lift_spec::report::{Denial, Rule};
 use std::marker::Model;
 
@@ -28,7 +28,7 @@ impl Model for Settled {
 /// The outputs of all cars, car 1 first, and the denials by rising car, those of a car with rule 4 first.
 #[derive(Drop)]
 pub struct AllSettled {
-    pub outputs: Bounded<CarOutputs, 8>,
+    pub outputs: Outputs,
     pub denials: Bounded<Denial, 16>,
 }
 

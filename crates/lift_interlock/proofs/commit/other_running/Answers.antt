@@ -1,24 +1,11 @@
-use Rattle.std.proofs.Common.{arith, ◌∙◌, sym}
-use Rattle.lift_interlock.proofs.Stepping.{counts_other, passes_itself, passes_still}
+use Rattle.std.proofs.Common.{arith}
+use Rattle.lift_interlock.proofs.Stepping.{others_counted}
 use Rattle.lift_interlock.proofs.commit.other_running.Goals as goal
-use Rattle.lift_interlock.proofs.commit.other_running.Goals.{then-index-from+then-runs, else-index-from, else-index-from-via-then-index-from+else-runs, else-index-from-via-else-index-from}
 
-pub loop-index-preserved : goal.loop-index-preserved
-loop-index-preserved c =
-    elim c.if-index-from.branch [
-      | then-index-from+then-runs w ↦ record {
-        counted = counts_other _ _ _ _ _ _ _ c.loop-index-test.true (λ e. w.if-index-from.true (e ∙ sym c.from.ensures)) (sym w.runs.ensures ∙ w.if-runs.true) w.count-is c.loop-index.invariant.counted;
-        room = omega arith;
-      }
-      | else-index-from w ↦
-          elim w.else-index-from.branch [
-            | else-index-from-via-then-index-from+else-runs w' ↦ record {
-              counted = passes_still _ _ _ _ _ _ _ c.loop-index-test.true (sym w'.runs.ensures ∙ w'.if-runs.false) w.count-is c.loop-index.invariant.counted;
-              room = omega arith;
-            }
-            | else-index-from-via-else-index-from w' ↦ record {
-              counted = passes_itself _ _ _ _ _ _ c.loop-index-test.true (w'.if-index-from.false ∙ c.from.ensures) w.count-is c.loop-index.invariant.counted;
-              room = omega arith;
-            }
-          ]
-    ]
+pub overflow_sub-result : goal.overflow_sub-result
+overflow_sub-result c =
+    omega (arith, others_counted c.args.image.now.outputs c.args.car c.running_count.result c.from.result c.is_running.result c.requires.0 c.requires.1 c.running_count.ensures c.is_running.ensures c.from.ensures)
+
+pub returns : goal.returns
+returns c =
+    omega (arith, others_counted c.args.image.now.outputs c.args.car c.running_count.result c.from.result c.is_running.result c.requires.0 c.requires.1 c.running_count.ensures c.is_running.ensures c.from.ensures)
