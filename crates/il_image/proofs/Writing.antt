@@ -109,9 +109,9 @@ cars_long image slots =
     omega (arith, a, b, z, first, rest)
 
 -- the columns one after another
-pub calls_written : (r r1 r2 r3 r4 : Rows) (at : ℕ) (slots : List Slot) → r1 ≡ filled r at (map (call_value Waits) slots) → r2 ≡ filled r1 (at + length slots) (map (call_value From) slots) → r3 ≡ filled r2 (at + 2 * length slots) (map (call_value To) slots)
-    → r4 ≡ filled r3 (at + 3 * length slots) (map (call_value Car) slots) → r4 ≡ filled r at (call_values slots)
-calls_written r r1 r2 r3 r4 at slots e1 e2 e3 e4 =
+pub calls_written : (r r1 r2 r3 r4 : Rows) (at n : ℕ) (slots : List Slot) → n ≡ length slots → r1 ≡ filled r at (map (call_value Waits) slots) → r2 ≡ filled r1 (at + n) (map (call_value From) slots) → r3 ≡ filled r2 (at + 2 * n) (map (call_value To) slots)
+    → r4 ≡ filled r3 (at + 3 * n) (map (call_value Car) slots) → r4 ≡ filled r at (call_values slots)
+calls_written r r1 r2 r3 r4 at n slots is e1 e2 e3 e4 =
     let a : List Value = map (call_value Waits) slots in
     let b : List Value = map (call_value From) slots in
     let d : List Value = map (call_value To) slots in
@@ -119,21 +119,22 @@ calls_written r r1 r2 r3 r4 at slots e1 e2 e3 e4 =
     let la = length-map slots (call_value Waits) in
     let lb = length-map slots (call_value From) in
     let ld = length-map slots (call_value To) in
-    let p : at + length slots ≡ at + length a = omega (arith, la) in
-    let q : at + 2 * length slots ≡ at + length a + length b = omega (arith, la, lb) in
-    let t : at + 3 * length slots ≡ at + length a + length b + length d = omega (arith, la, lb, ld) in
-    let two : r2 ≡ filled (filled r at a) (at + length a) b = e2 ∙ ap₂ (λ x n. filled x n b) e1 p in
-    let three : r3 ≡ filled (filled (filled r at a) (at + length a) b) (at + length a + length b) d = e3 ∙ ap₂ (λ x n. filled x n d) two q in
-    e4 ∙ ap₂ (λ x n. filled x n e) three t
+    let p : at + n ≡ at + length a = omega (arith, is, la) in
+    let q : at + 2 * n ≡ at + length a + length b = omega (arith, is, la, lb) in
+    let t : at + 3 * n ≡ at + length a + length b + length d = omega (arith, is, la, lb, ld) in
+    let two : r2 ≡ filled (filled r at a) (at + length a) b = e2 ∙ ap₂ (λ x k. filled x k b) e1 p in
+    let three : r3 ≡ filled (filled (filled r at a) (at + length a) b) (at + length a + length b) d = e3 ∙ ap₂ (λ x k. filled x k d) two q in
+    e4 ∙ ap₂ (λ x k. filled x k e) three t
     ∙ sym (filled_append r at a (b ++ (d ++ e)) ∙ filled_append (filled r at a) (at + length a) b (d ++ e) ∙ filled_append (filled (filled r at a) (at + length a) b) (at + length a + length b) d e)
 
 -- the parts one after another
-pub image_written : (r r1 r2 r3 : Rows) (at : ℕ) (sizes : Sizes) (task : ℕ) (image : Image) (slots : List Slot) → r1 ≡ filled r at (group_values sizes image.fields) → r2 ≡ filled r1 (at + 6) (call_values slots)
-    → r3 ≡ filled r2 (at + (6 + 4 * length slots)) (role_values task image (length slots)) → r3 ≡ filled r at (image_values sizes task image slots)
-image_written r r1 r2 r3 at sizes task image slots e1 e2 e3 =
+pub image_written : (r r1 r2 r3 : Rows) (at : ℕ) (sizes : Sizes) (task : ℕ) (image : Image) (n : ℕ) (slots : List Slot) → n ≡ length slots → r1 ≡ filled r at (group_values sizes image.fields) → r2 ≡ filled r1 (at + 6) (call_values slots)
+    → r3 ≡ filled r2 (at + (6 + 4 * n)) (role_values task image n) → r3 ≡ filled r at (image_values sizes task image slots)
+image_written r r1 r2 r3 at sizes task image n slots is e1 e2 e3 =
     let long = calls_long slots in
     let end : at + (6 + 4 * length slots) ≡ at + 6 + length (call_values slots) = omega (arith, long) in
-    e3 ∙ ap₂ (λ x n. filled x n (role_values task image (length slots))) (e2 ∙ ap (λ x. filled x (at + 6) (call_values slots)) e1) end
+    e3 ∙ ap (λ k. filled r2 (at + (6 + 4 * k)) (role_values task image k)) is
+    ∙ ap₂ (λ x k. filled x k (role_values task image (length slots))) (e2 ∙ ap (λ x. filled x (at + 6) (call_values slots)) e1) end
     ∙ sym (filled_append (filled r at (group_values sizes image.fields)) (at + 6) (call_values slots) (role_values task image (length slots)))
     ∙ sym (filled_append r at (group_values sizes image.fields) (call_values slots ++ role_values task image (length slots))) ∙ ap (filled r at) (sym (image_parts sizes task image slots))
 

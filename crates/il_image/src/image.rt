@@ -8,6 +8,7 @@ ghost use Rattle.il_image.specs.Image.{filled, call_value, call_values, group_va
 use crate::rows::{put, put_all};
 use il_exec::rows::Rows;
 use il_run::value::Value;
+use lift_calls::book::CallBook;
 use lift_spec::calls::Slot;
 use lift_spec::image::{CarFields, CarOutputs, Fields, Image, Motor, Sizes};
 
@@ -48,31 +49,29 @@ fn call_value(column: Column, slot: Slot) -> Value
 }
 
 // Writes a column from a slot on.
-fn write_column(rows: &mut Rows, at: usize, column: Column, slots: &[Slot])
-    requires numbers { at + length slots.now ≤ length rows.old.numbers }
-    requires flags { at + length slots.now ≤ length rows.old.flags }
-    ensures { rows.new ≡ filled rows.old at (map (call_value column) slots.now) }
+fn write_column(rows: &mut Rows, at: usize, column: Column, calls: &CallBook)
+    requires numbers { at + length calls.now.slots ≤ length rows.old.numbers }
+    requires flags { at + length calls.now.slots ≤ length rows.old.flags }
+    ensures { rows.new ≡ filled rows.old at (map (call_value column) calls.now.slots) }
 {
     let _room = rows.numbers.len();
-    let mut place = at;
-    'slots: for slot in slots {
-        put(rows, place, call_value(column, *slot));
-        place += 1;
+    'slots: for index in 0..usize::from(calls.count()) {
+        put(rows, at + index, call_value(column, calls.slot_of(index)));
     }
 }
 
 // Writes all columns from a slot on.
-fn write_calls(rows: &mut Rows, at: usize, slots: &[Slot])
-    requires numbers { at + 4 * length slots.now ≤ length rows.old.numbers }
-    requires flags { at + 4 * length slots.now ≤ length rows.old.flags }
-    ensures { rows.new ≡ filled rows.old at (call_values slots.now) }
+fn write_calls(rows: &mut Rows, at: usize, calls: &CallBook)
+    requires numbers { at + 4 * length calls.now.slots ≤ length rows.old.numbers }
+    requires flags { at + 4 * length calls.now.slots ≤ length rows.old.flags }
+    ensures { rows.new ≡ filled rows.old at (call_values calls.now.slots) }
 {
     let _room = rows.numbers.len();
-    let count = slots.len();
-    write_column(rows, at, Column::Waits, slots);
-    write_column(rows, at + count, Column::From, slots);
-    write_column(rows, at + 2 * count, Column::To, slots);
-    write_column(rows, at + 3 * count, Column::Car, slots);
+    let count = usize::from(calls.count());
+    write_column(rows, at, Column::Waits, calls);
+    write_column(rows, at + count, Column::From, calls);
+    write_column(rows, at + 2 * count, Column::To, calls);
+    write_column(rows, at + 3 * count, Column::Car, calls);
 }
 
 // Writes what each program sees of the group from a slot on.
@@ -209,16 +208,17 @@ pub fn write_image(
     sizes: Sizes,
     task: u8,
     image: &Image,
-    slots: &[Slot],
+    calls: &CallBook,
 )
     requires fields { task ≤ length image.now.fields.cars }
     requires outputs { task ≤ length image.now.outputs }
-    requires numbers { at + length (image_values sizes task image.now slots.now) ≤ length rows.old.numbers }
-    requires flags { at + length (image_values sizes task image.now slots.now) ≤ length rows.old.flags }
-    ensures { rows.new ≡ filled rows.old at (image_values sizes task image.now slots.now) }
+    requires numbers { at + length (image_values sizes task image.now calls.now.slots) ≤ length rows.old.numbers }
+    requires flags { at + length (image_values sizes task image.now calls.now.slots) ≤ length rows.old.flags }
+    ensures { rows.new ≡ filled rows.old at (image_values sizes task image.now calls.now.slots) }
 {
     let _room = rows.numbers.len();
+    let count = usize::from(calls.count());
     write_group(rows, at, sizes, &image.fields);
-    write_calls(rows, at + 6, slots);
-    write_role(rows, at + (6 + 4 * slots.len()), task, image, slots.len());
+    write_calls(rows, at + 6, calls);
+    write_role(rows, at + (6 + 4 * count), task, image, count);
 }

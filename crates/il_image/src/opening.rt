@@ -4,6 +4,7 @@ ghost use Rattle.std.specs.Prelude.{◌≡◌, ◌≤◌, replicate};
 ghost use Rattle.lift_spec.specs.Image.{opening_car, opening_outputs, opening_image};
 
 use lift_spec::image::{CarFields, CarOutputs, Fields, Image, Motor, Sizes};
+use lift_spec::outputs::Outputs;
 use lists::Bounded;
 
 /// How a car stands in the opening world: at floor 1, locked (own rule).
@@ -51,11 +52,11 @@ fn opening_cars(count: u8) -> Bounded<CarFields, 8>
 }
 
 // What the cars are told.
-fn opening_outputs(count: u8) -> Bounded<CarOutputs, 8>
+fn opening_outputs(count: u8) -> Outputs
     requires { count ≤ 8 }
     ensures { result ≡ replicate count opening_outputs }
 {
-    let mut outputs = Bounded::new();
+    let mut outputs = Outputs::new();
     for _ in 0..count {
         outputs.push(QUIET);
     }
