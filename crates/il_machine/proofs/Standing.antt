@@ -25,8 +25,8 @@ use Rattle.lift_run_laws.specs.Tasks.{IsTaskOf}
 use Rattle.lift_run_laws.proofs.Given.{outputs_have, globals_have}
 use Rattle.lift_run_laws.proofs.Tasks.{same_image}
 use Rattle.il_machine.specs.Scanning.{IsRunnable, IsScanOf, kept_of, state_of}
-use Rattle.il_machine.specs.Standing.{Standing, IsOf, IsAtStart}
-use Rattle.il_machine.specs.Ran.{stands, standing, Begins}
+use Rattle.il_machine.specs.Standing.{Standing, IsOf, IsAtStart, IsScan}
+use Rattle.il_machine.specs.Ran.{stands, standing, Begins, Ran, IsRan, finished}
 use Rattle.il_machine.proofs.Scans.{sound_of, accepted, scan_is, state_is, goes}
 
 -- a scan that begins with something stands at a start
@@ -69,6 +69,28 @@ module _ (k : Config) (n : ℕ) (old : Stored) (s : Standing) (view_is : standin
 
   pub reaches_so : (new : Stored) (count : ℕ) → Reaches c count (stands c task old) (stands c task new) → Reaches c count s.state (stands k n new)
   reaches_so new count is = subst (λ x. Reaches c count x (stands k n new)) (sym stood) (subst (λ x. Reaches c count (stands c task old) x) (sym (stands_here new)) is)
+
+-- a store at a start begins a scan
+pub begun_of : (k : Config) (n : ℕ) (s : Stored) (x : Standing) → standing k n s ≡ x → IsScanOf k n s → IsAtStart x → (c : Config) → k ≡ c → Begins c n s
+begun_of k n s x is scan b c same =
+    subst (λ a. Begins a n s) same
+    (record {
+      scan = scan;
+      beginning = b.beginning;
+      begins = ap (λ (y : Standing). y.state) is ∙ b.begins ∙ ap₂ (λ a m. scan_begins a m b.beginning) (sym (ap (λ (y : Standing). y.config) is)) (sym (ap (λ (y : Standing). y.task) is));
+    })
+
+-- what was run is a scan
+pub ran_is_scan : (r : Ran) → IsRan r → IsScan (finished r)
+ran_is_scan r is = record {
+  runnable = is.runnable;
+  there = (is.begins.scan.0, is.begins.scan.1);
+  begins = record { beginning = is.begins.beginning; begins = is.begins.begins };
+  count = is.count;
+  some = is.some;
+  reaches = is.reaches;
+  ended = is.ended;
+}
 
 -- the task that is kept is its own
 pub own_task : (k : Config) (n : ℕ) (old : Stored) (s : Standing) → standing k n old ≡ s → (c : Config) → s.config ≡ c → IsOf c n s

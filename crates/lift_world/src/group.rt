@@ -29,7 +29,10 @@ pub struct Core {
 // Written by hand, since who drops a type whose drop is derived proves the drop of each type inside again.
 impl Drop for Core {
     fn drop(self) {
-        let Core { shared: _shared, .. } = self;
+        let Core {
+            program: _program,
+            shared: _shared,
+        } = self;
     }
 }
 

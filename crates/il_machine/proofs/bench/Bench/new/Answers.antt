@@ -5,6 +5,7 @@ use Rattle.lift_spec.specs.declared.image.Sizes.{Sizes}
 use Rattle.lift_spec.specs.Snapshot.{scan_begins}
 use Rattle.il_machine.specs.Scanning.{variables_in}
 use Rattle.il_machine.proofs.Opened.{opens_in_group}
+use Rattle.il_machine.proofs.Sizes.{sizes_fit}
 use Rattle.il_run.specs.Ranges.{HoldGlobals}
 use Rattle.il_scan_laws.proofs.Opening.{globals_open}
 use Rattle.il_machine.specs.Sharing.{globals_in}
@@ -37,3 +38,12 @@ returns-clause-opens c =
     ∙ ap (scan_begins config c.args.task)
     (opens_in_group config c.args.task u is _ _ _ (ap (variables_in config c.args.task) c.in_ok-variables.ensures ∙ c.opening_variables.ensures.variables u is) (ap (globals_in config) c.in_ok-globals.ensures ∙ c.opening_globals.ensures.opening)
     (ap (λ (k : Calls). k.slots) c.new-calls.ensures ∙ ap (λ (z : Sizes). replicate z.slots Free) c.sizes.ensures))
+
+pub new-calls-requires-clause-cars : goal.new-calls-requires-clause-cars
+new-calls-requires-clause-cars c = rw c.sizes.ensures (sizes_fit c.args.verified.now.config c.config-config.ensures.runnable).0
+
+pub new-calls-requires-clause-floors : goal.new-calls-requires-clause-floors
+new-calls-requires-clause-floors c = rw c.sizes.ensures (sizes_fit c.args.verified.now.config c.config-config.ensures.runnable).1
+
+pub new-calls-requires-clause-slots : goal.new-calls-requires-clause-slots
+new-calls-requires-clause-slots c = rw c.sizes.ensures (sizes_fit c.args.verified.now.config c.config-config.ensures.runnable).2
