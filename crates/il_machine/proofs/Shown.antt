@@ -1,22 +1,18 @@
 -- Each task of the group is listed.
-use Rattle.std.proofs.Common.{◌≡◌, ℕ, Bool, true, false, ◌&&◌, List, [], ◌∷◌, map, Option, Some, None, option_map, option_and_then, refl, sym, ap, ◌∙◌, subst, bytes_eq, if◌then◌else◌}
-use Rattle.std.specs.Prelude.{find, nat_le, Contains}
-use Rattle.std.proofs.lemmas.Slice.Eq.{bytes_eq-Decides}
+use Rattle.std.proofs.Common.{◌≡◌, ℕ, Bool, true, false, ◌&&◌, List, [], ◌∷◌, map, Option, Some, None, option_map, option_and_then, refl, sym, ap, ◌∙◌, bytes_eq, if◌then◌else◌}
+use Rattle.std.specs.Prelude.{find, Contains}
 use Rattle.il_spec.specs.declared.tree.Config.{Config}
 use Rattle.il_spec.specs.declared.tree.Unit.{Unit as Organized}
 use Rattle.il_spec.specs.declared.tree.Task.{Task}
 use Rattle.il_spec.specs.declared.tree.ProgramLine.{ProgramLine}
-use Rattle.il_rules.specs.Names.{program_named}
-use Rattle.il_rules.specs.Declarations.{names_of_tasks, unknown_task}
+use Rattle.il_rules.specs.Declarations.{unknown_task}
 use Rattle.il_rules.specs.Faults.{Declaring, Broken, HasNoFault, bad_task}
 use Rattle.il_budget.specs.Costs.{cost_of}
 use Rattle.il_table.specs.NameMap.{Text}
 use Rattle.il_run.specs.Scan.{program_of as program_by}
 use Rattle.il_scan_laws.proofs.Lists.{found_in, finds_some, of_map}
-use Rattle.lift_spec.specs.Snapshot.{task_name}
-use Rattle.lift_run_laws.specs.Tasks.{IsTaskOf}
 use Rattle.il_machine.specs.Scanning.{Program, IsRunnable}
-use Rattle.il_machine.specs.Listing.{UnitLine, unit_line, unit_lines, TaskLine, task_by, task_of, program_line_of, unit_of, is_task_name, task_among, task_line, ListsTasks}
+use Rattle.il_machine.specs.Listing.{UnitLine, unit_line, unit_lines, TaskLine, task_by, task_of, program_line_of, unit_of, is_task_name, task_among, ListsTasks}
 use Rattle.il_machine.proofs.Lines.{none_some, line_program, program_is_first}
 use Rattle.il_machine.proofs.Sizes.{few_tasks}
 

@@ -1,5 +1,5 @@
 -- A store, as its scan stands.
-use Rattle.std.proofs.Common.{◌≡◌, ◌≢◌, ℕ, ◌≤◌, true, false, List, [], ◌∷◌, Some, refl, sym, arith, ap, ap₂, ◌∙◌, subst}
+use Rattle.std.proofs.Common.{◌≡◌, ◌≢◌, ℕ, true, false, List, [], ◌∷◌, Some, refl, sym, arith, ap, ap₂, ◌∙◌, subst}
 use Rattle.il_spec.specs.declared.tree.Config.{Config}
 use Rattle.il_spec.specs.declared.tree.Unit.{Unit as ProgramUnit}
 use Rattle.il_run.specs.State.{State, Frame}
@@ -12,7 +12,6 @@ use Rattle.il_scan_laws.specs.Listed.{seen_scalars, given_scalars}
 use Rattle.il_scan_laws.proofs.Externals.{shares_globals}
 use Rattle.il_scan_laws.proofs.Paths.{have_first, have_second}
 use Rattle.il_scan_laws.proofs.Starting.{values_are}
-use Rattle.il_slots.specs.Coded.{Code}
 use Rattle.il_slots.specs.Program.{program_code}
 use Rattle.il_exec.specs.Going.{Stored}
 use Rattle.il_exec.specs.Framing.{state_by, Goes}
@@ -24,10 +23,10 @@ use Rattle.lift_run_laws.specs.Seeing.{image_scalars}
 use Rattle.lift_run_laws.specs.Tasks.{IsTaskOf}
 use Rattle.lift_run_laws.proofs.Given.{outputs_have, globals_have}
 use Rattle.lift_run_laws.proofs.Tasks.{same_image}
-use Rattle.il_machine.specs.Scanning.{IsRunnable, IsScanOf, kept_of, state_of}
+use Rattle.il_machine.specs.Scanning.{IsRunnable, IsScanOf, kept_of}
 use Rattle.il_machine.specs.Standing.{Standing, IsOf, IsAtStart, IsScan}
 use Rattle.il_machine.specs.Ran.{stands, standing, Begins, Ran, IsRan, finished}
-use Rattle.il_machine.proofs.Scans.{sound_of, accepted, scan_is, state_is, goes}
+use Rattle.il_machine.proofs.Scans.{sound_of, accepted, state_is, goes}
 
 -- a scan that begins with something stands at a start
 pub at_start : (c : Config) (task : ℕ) (b : Beginning) (s : Standing) → IsOf c task s → s.state ≡ scan_begins c task b → IsAtStart s

@@ -5,23 +5,21 @@ use Rattle.std.proofs.lemmas.List.{length-append, length-map}
 use Rattle.il_spec.specs.declared.tree.Config.{Config}
 use Rattle.il_spec.specs.declared.tree.Unit.{Unit as ProgramUnit}
 use Rattle.il_rules.specs.Declarations.{declared_limits}
-use Rattle.il_run.specs.declared.value.Content.{Content}
 use Rattle.il_run.specs.declared.value.Value.{Value}
-use Rattle.il_table.specs.NameMap.{Text, get, insert, empty}
-use Rattle.il_run.specs.State.{Values, Frame, State}
+use Rattle.il_table.specs.NameMap.{Text, get, insert}
+use Rattle.il_run.specs.State.{Frame, State}
 use Rattle.il_run.specs.Scan.{begins}
 use Rattle.il_slots.specs.declared.flat.Cell.{Cell}
 use Rattle.il_slots.specs.Whole.{first_rows}
 use Rattle.il_machine.specs.Starting.{joined}
 use Rattle.il_slots.specs.Layout.{Rows, Fits, number_part, flag_part, value_by, view_of, view, AreOnce}
-use Rattle.il_slots.specs.Program.{program_cells, program_code}
+use Rattle.il_slots.specs.Program.{program_cells}
 use Rattle.il_slots.proofs.Kept.{has}
 use Rattle.il_exec.specs.Effect.{with_some}
 use Rattle.il_exec.specs.Going.{Stored}
-use Rattle.il_exec.specs.Framing.{state_by}
 use Rattle.lift_spec.specs.Snapshot.{Beginning, program_of, begins_by, scan_begins}
 use Rattle.lift_run_laws.specs.Tasks.{IsTaskOf}
-use Rattle.il_machine.specs.Scanning.{IsRunnable, IsScanOf, IsScanState, kept_of, state_of, value_at}
+use Rattle.il_machine.specs.Scanning.{IsRunnable, IsScanOf, IsScanState, kept_of, value_at}
 use Rattle.il_machine.specs.Standing.{BeganAs}
 use Rattle.il_machine.specs.Ran.{Begins, Ran, IsRan, HaveSameValues, stands, standing, finished}
 use Rattle.il_machine.proofs.Scans.{state_is, scan_is}

@@ -1,9 +1,9 @@
 -- How many operations a scan sets aside: no more than parentheses are open in the text (own rules).
-use Rattle.std.specs.Prelude.{◌≡◌, ℕ, zero, suc, ◌≤◌, List, [], ◌∷◌, length, Some, All}
+use Rattle.std.specs.Prelude.{◌≡◌, ℕ, zero, suc, ◌≤◌, List, [], ◌∷◌, length, Some}
 use Rattle.il_spec.specs.declared.tree.Config.{Config}
 use Rattle.il_spec.specs.declared.tree.Step.{Step as BodyStep}
 use Rattle.il_spec.specs.declared.tree.Unit.{Unit as ProgramUnit}
-use Rattle.il_spec.specs.Grammar.{depth_after, greatest_depth}
+use Rattle.il_spec.specs.Grammar.{depth_after}
 use Rattle.il_rules.specs.Names.{unit_named}
 use Rattle.il_run.specs.State.{Frame}
 

@@ -1,4 +1,4 @@
-use Rattle.std.proofs.Common.{◌≡◌, ap, ◌∙◌, length}
+use Rattle.std.proofs.Common.{ap, ◌∙◌, length}
 use Rattle.il_exec.specs.Going.{Stored}
 use Rattle.il_machine.proofs.Values.{same_length}
 use Rattle.il_machine.proofs.Ending.{end_there, run_out}

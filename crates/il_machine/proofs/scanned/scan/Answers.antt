@@ -1,4 +1,6 @@
-use Rattle.std.proofs.Common.{rules, ◌≡◌, sym, ap, ◌∙◌, subst, refl}
+use Rattle.std.proofs.Common.{◌≡◌, sym, ap, ap₂, ◌∙◌, subst, refl, length, arith}
+use Rattle.std.proofs.lemmas.List.{take_all}
+use Rattle.il_slots.specs.Layout.{Rows, rows}
 use Rattle.il_exec.specs.Going.{Stored}
 use Rattle.il_machine.specs.Standing.{Standing}
 use Rattle.il_machine.specs.Ran.{Begins, IsRan}
@@ -24,7 +26,14 @@ invariant_of-result c =
     let scan = c.into_parts-task.result.1 in
     let begun : Begins config task scan = begun_of store.config task scan store c.into_parts-task.ensures.stands c.into_parts-task.ensures.scan c.begun.invariant config (ap (λ (x : Standing). x.config) c.begun.view_is ∙ c.requires) in
     let out = run_out config c.config-config.ensures.runnable task scan _ c.run.new.self c.run.result refl begun.scan (begins_going config task scan begun) _ c.running.ensures.runs _ c.budget-budget.ensures c.run.ensures in
-    let copied : c.copy_front.new.first ≡ scan.rows = search rules in (
+    let held = ap (λ (s : Stored). s.rows) c.scan.view_is in
+    let n = c.into_parts-task.ensures.numbers in
+    let f = c.into_parts-task.ensures.flags in
+    let m = ap (λ (r : Rows). length r.numbers) held in
+    let g = ap (λ (r : Rows). length r.flags) held in
+    let copied : c.copy_front.new.first ≡ scan.rows =
+    c.copy_front.ensures ∙ ap₂ rows (take_all _ c.scan.inside.rows.numbers (omega (arith, n, m))) (take_all _ c.scan.inside.rows.flags (omega (arith, f, g))) ∙ held
+    in (
       copied ∙ ap (λ (s : Stored). s.rows) (sym c.of-began.ensures),
       subst (λ (s : Stored). IsRan record { config = config; task = task; first = s; last = c.run.new.self }) (sym c.of-began.ensures)
           (record { runnable = c.config-config.ensures.runnable; begins = begun; scan = out.scan; ended = out.over; count = c.run.result; some = out.some; reaches = out.reaches }),

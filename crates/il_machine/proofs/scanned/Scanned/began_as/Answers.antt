@@ -1,8 +1,8 @@
-use Rattle.std.proofs.Common.{rules, ◌≡◌, ◌↔◌, ℕ, true, Some, sym, ap, ◌∙◌, subst, refl}
+use Rattle.std.proofs.Common.{rules, ◌≡◌, ◌↔◌, true, Some, ap, ◌∙◌, subst, refl}
 use Rattle.il_slots.specs.Layout.{Rows}
 use Rattle.lift_spec.specs.Snapshot.{program_of}
 use Rattle.il_machine.specs.Standing.{Standing, Finished, BeganAs}
-use Rattle.il_machine.specs.Ran.{Ran, Begins, HaveSameValues, standing, finished}
+use Rattle.il_machine.specs.Ran.{Ran, Begins, HaveSameValues, standing}
 use Rattle.il_machine.proofs.Standing.{begun_of}
 use Rattle.il_machine.proofs.Values.{began_by}
 use Rattle.il_machine.proofs.scanned.Scanned.began_as.Goals as goal

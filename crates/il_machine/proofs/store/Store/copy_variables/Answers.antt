@@ -1,4 +1,4 @@
-use Rattle.std.proofs.Common.{◌≡◌, ◌∙◌, ap, sym, subst, true, ◌↔◌, [], ◌≤◌}
+use Rattle.std.proofs.Common.{◌≡◌, sym, subst}
 use Rattle.il_machine.specs.Standing.{Standing}
 use Rattle.il_machine.proofs.Standing.{now_is, own_task, scan_here}
 use Rattle.il_run.specs.Scan.{restricted}

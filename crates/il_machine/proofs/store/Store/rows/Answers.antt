@@ -1,5 +1,4 @@
-use Rattle.std.proofs.Common.{◌≡◌, ◌∙◌, ap, sym, subst, true, ◌↔◌, [], ◌≤◌}
-use Rattle.il_machine.specs.Standing.{Standing}
+use Rattle.std.proofs.Common.{◌∙◌, ap, sym, subst}
 use Rattle.il_machine.proofs.Standing.{now_is, own_task, scan_here}
 use Rattle.il_machine.specs.Scanning.{IsScanOf}
 use Rattle.il_machine.specs.Ran.{standing}
