@@ -3,9 +3,8 @@ use Rattle.std.proofs.Common.{◌≡◌, ◌≢◌, ℕ, ◌+◌, ◌%◌, ◌<�
 use Rattle.std.specs.Prelude.{is_some, if◌then◌else◌, IfSome, ◌==◌, length}
 use Rattle.il_spec.specs.declared.tree.Config.{Config}
 use Rattle.il_run.specs.State.{State}
-use Rattle.il_exec.specs.Going.{Stored}
-use Rattle.il_machine.specs.Scanning.{Program, IsRunnable, IsScanOf}
-use Rattle.il_machine.specs.Scanned.{Finished, IsScan, Begins, stands}
+use Rattle.il_machine.specs.Scanning.{Program, IsRunnable}
+use Rattle.il_machine.specs.Standing.{Standing, IsOf, Finished}
 use Rattle.il_machine.proofs.Scans.{sound_of}
 use Rattle.lift_spec.specs.declared.image.Fields.{Fields}
 use Rattle.lift_spec.specs.declared.image.CarOutputs.{CarOutputs}
@@ -21,8 +20,7 @@ use Rattle.lift_spec.specs.declared.journal.Entry.TheVariants as entry
 use Rattle.lift_journal.specs.Journal.{entries_by, entered_calls, refresher, IsJournalOf, IsOpenWhereOdd}
 use Rattle.lift_journal.specs.Pages.{Page, Kept, Adds, IsSnapped, IsShown, IsTold}
 use Rattle.lift_journal.proofs.Journals.{entries_alternate}
-use Rattle.lift_book.specs.declared.ledger.Ledger.{Ledger}
-use Rattle.lift_book.specs.Ledgers.{page_of, SnappedNow, IsOpenHere, start_fault, full_fault}
+use Rattle.lift_book.specs.Ledgers.{SnappedNow, IsOpenHere, start_fault, full_fault}
 use Rattle.lift_station.specs.Counted.{IsNoneOrFull, calls_in, IsCommitted, IsRefreshed}
 
 pub snapped_so : (c : Config) (b : Page) → b.config ≡ c → Kept b → (t count : ℕ) → entries_by t b.journal ≡ count → (scan : State) → SnappedNow b t scan → IsSnapped c t count scan
@@ -71,46 +69,37 @@ full_or_none b = by (length b.journal == b.capacity)
 
 -- What a locked book's answers show, from what its own answers say of the program that was lent, of the book as it lies there and of
 -- the task as it is numbered there.
-module _ (P v : Program) (lent : v ≡ P) (inside before : Ledger) (same : inside ≡ before) (config : (page_of before).config ≡ P.config) (kept : Kept (page_of before)) (n t : ℕ) (number : n ≡ t) (count : ℕ) (counted : count ≡ entries_by t (page_of before).journal) where
-  pub begun_under : (task : ℕ) (store : Stored) → (task ≡ n) × Begins v.config n store × SnappedNow (page_of inside) n (stands v.config n store)
-      → (task ≡ t) × Begins P.config t store × IsSnapped P.config t count (stands P.config t store)
-  begun_under task store facts =
-      let first : (task ≡ n) × Begins P.config n store × SnappedNow (page_of inside) n (stands P.config n store) =
-      subst (λ (q : Program). (task ≡ n) × Begins q.config n store × SnappedNow (page_of inside) n (stands q.config n store)) lent facts
-      in
-      let second : (task ≡ n) × Begins P.config n store × SnappedNow (page_of before) n (stands P.config n store) =
-      subst (λ (l : Ledger). (task ≡ n) × Begins P.config n store × SnappedNow (page_of l) n (stands P.config n store)) same first
-      in
-      let own : (task ≡ t) × Begins P.config t store × SnappedNow (page_of before) t (stands P.config t store) =
-      subst (λ m. (task ≡ m) × Begins P.config m store × SnappedNow (page_of before) m (stands P.config m store)) number second
-      in
-      (own.0, own.1, snapped_so P.config (page_of before) config kept t count (sym counted) (stands P.config t store) own.2)
+module _ (P v : Program) (lent : v ≡ P) (inside before : Page) (same : inside ≡ before) (config : before.config ≡ P.config) (kept : Kept before) (n t : ℕ) (number : n ≡ t) (count : ℕ) (counted : count ≡ entries_by t before.journal) where
+  pub begun_under : (o : Standing) → IsOf v.config n o × SnappedNow inside n o.state → IsOf P.config t o × IsSnapped P.config t count o.state
+  begun_under o facts =
+      let first : IsOf P.config n o × SnappedNow inside n o.state = subst (λ (q : Program). IsOf q.config n o × SnappedNow inside n o.state) lent facts in
+      let second : IsOf P.config n o × SnappedNow before n o.state = subst (λ (l : Page). IsOf P.config n o × SnappedNow l n o.state) same first in
+      let own : IsOf P.config t o × SnappedNow before t o.state = subst (λ m. IsOf P.config m o × SnappedNow before m o.state) number second in
+      (own.0, snapped_so P.config before config kept t count (sym counted) o.state own.1)
 
   -- what is open there
-  pub open_there : (f : Finished) → IsOpenHere (page_of inside) n f → IsOpenHere (page_of before) t f
-  open_there f here = subst (λ m. IsOpenHere (page_of before) m f) number (subst (λ (l : Ledger). IsOpenHere (page_of l) n f) same here)
+  pub open_there : (f : Finished) → IsOpenHere inside n f → IsOpenHere before t f
+  open_there f here = subst (λ m. IsOpenHere before m f) number (subst (λ (l : Page). IsOpenHere l n f) same here)
 
-  pub open_here : (f : Finished) → IsOpenHere (page_of before) t f → IsOpenHere (page_of inside) n f
-  open_here f here = subst (λ (l : Ledger). IsOpenHere (page_of l) n f) (sym same) (subst (λ m. IsOpenHere (page_of before) m f) (sym number) here)
+  pub open_here : (f : Finished) → IsOpenHere before t f → IsOpenHere inside n f
+  open_here f here = subst (λ (l : Page). IsOpenHere l n f) (sym same) (subst (λ m. IsOpenHere before m f) (sym number) here)
 
   -- which fault a start has
-  pub fault_there : (o : Option StationFault) → o ≡ start_fault (page_of inside) n → o ≡ start_fault (page_of before) t
-  fault_there o is = is ∙ ap (λ (l : Ledger). start_fault (page_of l) n) same ∙ ap (start_fault (page_of before)) number
+  pub fault_there : (o : Option StationFault) → o ≡ start_fault inside n → o ≡ start_fault before t
+  fault_there o is = is ∙ ap (λ (l : Page). start_fault l n) same ∙ ap (start_fault before) number
 
   -- the store that a commit hands over is of the task
-  pub scan_left : (f : Finished) → IsScan f → IsOpenHere (page_of inside) n f → (s : Stored) → s ≡ f.last → IsScanOf P.config t s
-  scan_left f scan there s is =
+  pub scan_left : (f : Finished) → IsOpenHere inside n f → (s : Standing) → s ≡ record { config = f.config; task = f.task; state = f.last } → IsOf P.config t s
+  scan_left f there s is =
       let here = open_there f there in
-      subst (IsScanOf P.config t) (sym is)
-      (subst (λ m. IsScanOf P.config m f.last) here.same_task
-      (subst (λ (c : Config). IsScanOf c f.task f.last) (here.same_program ∙ config) scan.scan))
+      (ap (λ (x : Standing). x.config) is ∙ here.same_program ∙ config, ap (λ (x : Standing). x.task) is ∙ here.same_task)
 
-  pub committed_under : (f : Finished) (report : Report) (after : Page) → IsOpenHere (page_of inside) n f → Adds (page_of inside) (entry.Commit n) (Committed report) after → IsCommitted P.config t count f report
+  pub committed_under : (f : Finished) (report : Report) (after : Page) → IsOpenHere inside n f → Adds inside (entry.Commit n) (Committed report) after → IsCommitted P.config t count f report
   committed_under f report after there adds =
-      let own : Adds (page_of before) (entry.Commit t) (Committed report) after =
-      subst (λ m. Adds (page_of before) (entry.Commit m) (Committed report) after) number (subst (λ (l : Ledger). Adds (page_of l) (entry.Commit n) (Committed report) after) same adds)
+      let own : Adds before (entry.Commit t) (Committed report) after =
+      subst (λ m. Adds before (entry.Commit m) (Committed report) after) number (subst (λ (l : Page). Adds l (entry.Commit n) (Committed report) after) same adds)
       in
-      record { before = page_of before; config = config; kept = kept; counted = sym counted; is_open = open_there f there; after = after; adds = own }
+      record { before = before; config = config; kept = kept; counted = sym counted; is_open = open_there f there; after = after; adds = own }
 
   module _ (runs : IsRunnable v.config) (few : n ≤ 8) where
     sound : IsSound P.config
@@ -119,28 +108,28 @@ module _ (P v : Program) (lent : v ≡ P) (inside before : Ledger) (same : insid
     task : t ≢ refresher
     task nine = absurd (omega (arith, nine, number, few))
 
-    pub odd_under : (o : Option StationFault) → o ≡ start_fault (page_of inside) n → count % 2 ≡ 1 → o ≡ Some AlreadyOpen
-    odd_under o is odd = fault_there o is ∙ start_odd P.config sound (page_of before) config kept t task count (sym counted) odd
+    pub odd_under : (o : Option StationFault) → o ≡ start_fault inside n → count % 2 ≡ 1 → o ≡ Some AlreadyOpen
+    odd_under o is odd = fault_there o is ∙ start_odd P.config sound before config kept t task count (sym counted) odd
 
-    pub even_under : (o : Option StationFault) → o ≡ start_fault (page_of inside) n → count % 2 ≡ 0 → IsNoneOrFull o
-    even_under o is even = subst IsNoneOrFull (sym (fault_there o is ∙ start_even P.config sound (page_of before) config kept t task count (sym counted) even)) (full_or_none (page_of before))
+    pub even_under : (o : Option StationFault) → o ≡ start_fault inside n → count % 2 ≡ 0 → IsNoneOrFull o
+    even_under o is even = subst IsNoneOrFull (sym (fault_there o is ∙ start_even P.config sound before config kept t task count (sym counted) even)) (full_or_none before)
 
-    pub none_open_under : count % 2 ≡ 0 → (f : Finished) → IsOpenHere (page_of inside) n f → ⊥
-    none_open_under even f here = none_open_even P.config sound (page_of before) config kept t task count (sym counted) even f (open_there f here)
+    pub none_open_under : count % 2 ≡ 0 → (f : Finished) → IsOpenHere inside n f → ⊥
+    none_open_under even f here = none_open_even P.config sound before config kept t task count (sym counted) even f (open_there f here)
 
 -- REFRESHES, IMAGES AND TICKETS
 
-pub refreshed_under : (P : Program) (inside before : Ledger) → inside ≡ before → (page_of before).config ≡ P.config → Kept (page_of before) → (count entered : ℕ) → count ≡ entries_by refresher (page_of before).journal → entered ≡ entered_calls (page_of before).journal
-    → (fields : Fields) (report : Report) (after : Page) → Adds (page_of inside) (entry.Refresh fields (calls_in report)) (Refreshed report) after → IsRefreshed P.config count entered fields report
+pub refreshed_under : (P : Program) (inside before : Page) → inside ≡ before → before.config ≡ P.config → Kept before → (count entered : ℕ) → count ≡ entries_by refresher before.journal → entered ≡ entered_calls before.journal
+    → (fields : Fields) (report : Report) (after : Page) → Adds inside (entry.Refresh fields (calls_in report)) (Refreshed report) after → IsRefreshed P.config count entered fields report
 refreshed_under P inside before same config kept count entered counted called fields report after adds =
     record {
-      before = page_of before;
+      before = before;
       config = config;
       kept = kept;
       counted = sym counted;
       called = sym called;
       after = after;
-      adds = subst (λ (l : Ledger). Adds (page_of l) (entry.Refresh fields (calls_in report)) (Refreshed report) after) same adds;
+      adds = subst (λ (l : Page). Adds l (entry.Refresh fields (calls_in report)) (Refreshed report) after) same adds;
     }
 
 pub shown_so : (c : Config) (b : Page) → b.config ≡ c → Kept b → (count : ℕ) → count ≡ entries_by refresher b.journal → (image : Image) → image ≡ b.world.group.image → IsShown c count image.fields image.outputs

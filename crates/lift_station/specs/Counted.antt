@@ -1,7 +1,7 @@
 -- What is counted, and what an answer shows (own rules).
 use Rattle.std.specs.Prelude.{◌≡◌, ℕ, ◌+◌, ◌<◌, ◌%◌, List, length, map, slice_index_or, Option, Some, None}
 use Rattle.il_spec.specs.declared.tree.Config.{Config}
-use Rattle.il_machine.specs.Scanned.{Finished}
+use Rattle.il_machine.specs.Standing.{Finished}
 use Rattle.lift_spec.specs.declared.image.Fields.{Fields}
 use Rattle.lift_spec.specs.declared.report.Report.{Report}
 use Rattle.lift_spec.specs.declared.report.EnteredCall.{EnteredCall}

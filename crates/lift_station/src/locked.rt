@@ -1,8 +1,8 @@
 // The book with its ledgers, as it lies under the lock.
 
 ghost use Rattle.std.specs.Prelude.{◌≡◌, ◌↔◌, ◌%◌, ◌+◌, false, [], ◌++◌, length, replicate, Some, Err, IfOk, IfErr, IfSome, OnOk, OnErr};
-ghost use Rattle.il_machine.specs.Scanning.{HasTask, IsScanOf};
-ghost use Rattle.il_machine.specs.Scanned.{Begins, stands};
+ghost use Rattle.il_machine.specs.Scanning.{HasTask};
+ghost use Rattle.il_machine.specs.Standing.{IsOf};
 ghost use Rattle.lift_spec.specs.Image.{sizes_of, fields_in_range, Obeys};
 ghost use Rattle.lift_spec.specs.World.{InRanges};
 ghost use Rattle.lift_spec.specs.Replies.{Started, Committed, Refreshed};
@@ -10,7 +10,7 @@ ghost use Rattle.lift_journal.specs.Journal.{AllCalls, entries_by, entered_calls
 ghost use Rattle.lift_journal.specs.Pages.{Adds, Kept, IsSnapped, IsShown, IsTold};
 ghost use Rattle.lift_spec.specs.declared.journal.Entry.TheVariants as entry;
 ghost use Rattle.lift_journal.specs.declared.fault.StationFault.TheVariants.{FieldOutOfRange, NotOpen, AlreadyOpen};
-ghost use Rattle.lift_book.specs.Ledgers.{page_of, fault_of, fault_in, full_fault, start_fault, refresh_fault, IsOpenHere};
+ghost use Rattle.lift_book.specs.Ledgers.{fault_of, fault_in, full_fault, start_fault, refresh_fault, IsOpenHere};
 ghost use Rattle.lift_station.specs.Passes.{task_of, count_of, CountsOne};
 ghost use Rattle.lift_station.specs.Counted.{IsNoneOrFull, calls_in, IsCommitted, IsRefreshed};
 
@@ -24,7 +24,7 @@ use lift_spec::hand::Hand;
 use lift_spec::report::Report;
 use std::marker::Model;
 
-/// What lies under the lock. Contracts see it as the book's ledger.
+/// What lies under the lock. Contracts see it as the book.
 pub struct Locked<G: Naming> {
     book: Book,
     counts: Counts<G>,
@@ -32,25 +32,23 @@ pub struct Locked<G: Naming> {
 
 impl<G: Naming> Model for Locked<G> {
     ghost use Rattle.std.specs.Prelude.{◌≡◌};
-    ghost use Rattle.lift_book.specs.declared.ledger.Ledger.{Ledger as LedgerOf};
-    ghost use Rattle.lift_book.specs.contracts.ledger.Ledger as row;
-    ghost use Rattle.lift_book.specs.Ledgers.{page_of};
+    ghost use Rattle.lift_journal.specs.Pages.{Page, page_code};
     ghost use Rattle.lift_station.specs.Counted.{Counted};
 
-    ghost Value = { LedgerOf };
+    ghost Value = { Page };
 
-    ghost coded = { row.the_row.coded };
+    ghost coded = { page_code };
 
     ghost view = { λ l. l.book };
 
-    ghost invariant = { λ l. (l.book.program.value ≡ G.program) × Counted l.counts (page_of l.book).journal };
+    ghost invariant = { λ l. (l.book.config ≡ G.program.config) × Counted l.counts l.book.journal };
 }
 
 impl<G: Naming> Locked<G> {
     /// The book with the totals, as it is at the start.
     pub(crate) fn of(book: Book, counts: Counts<G>) -> Locked<G>
-        requires program { book.program.value ≡ G.program }
-        requires empty { (page_of book).journal ≡ [] }
+        requires program { book.config ≡ G.program.config }
+        requires empty { book.journal ≡ [] }
         requires counts { counts ≡ replicate 11 0 }
         ensures { result ≡ book }
     {
@@ -60,11 +58,11 @@ impl<G: Naming> Locked<G> {
     /// What holds whenever the lock is got, and of a task's share.
     pub fn audit(&mut self, share: &mut TaskShare<G>)
         ensures same { (self.new ≡ self.old) × (share.new ≡ share.old) }
-        ensures program { (page_of self.old).config ≡ G.program.config }
-        ensures kept { Kept (page_of self.old) }
-        ensures ranges { InRanges G.program.config (page_of self.old).world.group }
-        ensures obeys { Obeys (page_of self.old).world.group.image }
-        ensures count { count_of share.old ≡ entries_by (task_of share.old) (page_of self.old).journal }
+        ensures program { self.old.config ≡ G.program.config }
+        ensures kept { Kept self.old }
+        ensures ranges { InRanges G.program.config self.old.world.group }
+        ensures obeys { Obeys self.old.world.group.image }
+        ensures count { count_of share.old ≡ entries_by (task_of share.old) self.old.journal }
     {
         self.counts.audit(share);
         self.book.runs();
@@ -79,12 +77,12 @@ impl<G: Naming> Locked<G> {
     ) -> Result<OpenScan, (StationFault, Store)>
         requires program { verified.now ≡ G.program }
         requires there { HasTask G.program.config (task_of share.old) }
-        requires scan { IsScanOf G.program.config (task_of share.old) store }
-        ensures fault { fault_of result ≡ start_fault (page_of self.old) (task_of share.old) }
+        requires of { IsOf G.program.config (task_of share.old) store }
+        ensures fault { fault_of result ≡ start_fault self.old (task_of share.old) }
         ensures odd { count_of share.old % 2 ≡ 1 → fault_of result ≡ Some AlreadyOpen }
         ensures even { count_of share.old % 2 ≡ 0 → IsNoneOrFull (fault_of result) }
-        ensures done { OnOk result (Adds (page_of self.old) (entry.Start (task_of share.old)) Started (page_of self.new) × CountsOne share.old share.new) }
-        ensures begins { IfOk result (λ o. (o.task ≡ task_of share.old) × Begins G.program.config (task_of share.old) o.store × IsSnapped G.program.config (task_of share.old) (count_of share.old) (stands G.program.config (task_of share.old) o.store)) }
+        ensures done { OnOk result (Adds self.old (entry.Start (task_of share.old)) Started self.new × CountsOne share.old share.new) }
+        ensures begins { IfOk result (λ o. IsOf G.program.config (task_of share.old) o × IsSnapped G.program.config (task_of share.old) (count_of share.old) o.state) }
         ensures refused { IfErr result (λ r. (self.new ≡ self.old) × (share.new ≡ share.old) × (r.1 ≡ store)) }
     {
         self.audit(share);
@@ -107,14 +105,14 @@ impl<G: Naming> Locked<G> {
         report: &mut Report,
     ) -> Result<Store, (StationFault, Scanned<'v>)>
         requires program { verified.now ≡ G.program }
-        requires own { scanned.program.config ≡ G.program.config }
+        requires own { scanned.config ≡ G.program.config }
         requires there { HasTask G.program.config (task_of share.old) }
-        ensures open { IsOpenHere (page_of self.old) (task_of share.old) scanned.entry → fault_of result ≡ full_fault (page_of self.old) }
-        ensures other { ¬ (IsOpenHere (page_of self.old) (task_of share.old) scanned.entry) → fault_of result ≡ Some NotOpen }
+        ensures open { IsOpenHere self.old (task_of share.old) scanned.entry → fault_of result ≡ full_fault self.old }
+        ensures other { ¬ (IsOpenHere self.old (task_of share.old) scanned.entry) → fault_of result ≡ Some NotOpen }
         ensures even { count_of share.old % 2 ≡ 0 → fault_of result ≡ Some NotOpen }
-        ensures done { OnOk result (Adds (page_of self.old) (entry.Commit (task_of share.old)) (Committed report.new) (page_of self.new) × CountsOne share.old share.new) }
+        ensures done { OnOk result (Adds self.old (entry.Commit (task_of share.old)) (Committed report.new) self.new × CountsOne share.old share.new) }
         ensures report { OnOk result (IsCommitted G.program.config (task_of share.old) (count_of share.old) scanned.entry report.new) }
-        ensures store { IfOk result (λ s. (s ≡ scanned.entry.last) × IsScanOf G.program.config (task_of share.old) s) }
+        ensures store { IfOk result (IsOf G.program.config (task_of share.old)) }
         ensures refused { IfErr result (λ r. (self.new ≡ self.old) × (share.new ≡ share.old) × (report.new ≡ report.old) × (r.1 ≡ scanned.entry)) }
     {
         self.audit(share);
@@ -135,12 +133,12 @@ impl<G: Naming> Locked<G> {
     /// What holds whenever the lock is got, and of the refresher's pass.
     pub fn audit_refreshes(&mut self, pass: &mut RefreshPass<G>)
         ensures same { (self.new ≡ self.old) × (pass.new ≡ pass.old) }
-        ensures program { (page_of self.old).config ≡ G.program.config }
-        ensures kept { Kept (page_of self.old) }
-        ensures ranges { InRanges G.program.config (page_of self.old).world.group }
-        ensures obeys { Obeys (page_of self.old).world.group.image }
-        ensures refreshes { pass.old.refreshes ≡ entries_by refresher (page_of self.old).journal }
-        ensures entered { pass.old.entered ≡ entered_calls (page_of self.old).journal }
+        ensures program { self.old.config ≡ G.program.config }
+        ensures kept { Kept self.old }
+        ensures ranges { InRanges G.program.config self.old.world.group }
+        ensures obeys { Obeys self.old.world.group.image }
+        ensures refreshes { pass.old.refreshes ≡ entries_by refresher self.old.journal }
+        ensures entered { pass.old.entered ≡ entered_calls self.old.journal }
     {
         self.counts.audit_refreshes(pass);
         self.book.runs();
@@ -157,9 +155,9 @@ impl<G: Naming> Locked<G> {
     ) -> Result<(), StationFault>
         requires program { verified.now ≡ G.program }
         requires calls { AllCalls (sizes_of G.program.config) hand.old }
-        ensures fault { fault_in result ≡ refresh_fault (page_of self.old) fields }
+        ensures fault { fault_in result ≡ refresh_fault self.old fields }
         ensures out_of_range { (fields_in_range (sizes_of G.program.config) fields ≡ false) ↔ (result ≡ Err FieldOutOfRange) }
-        ensures done { OnOk result (Adds (page_of self.old) (entry.Refresh fields (calls_in report.new)) (Refreshed report.new) (page_of self.new)) }
+        ensures done { OnOk result (Adds self.old (entry.Refresh fields (calls_in report.new)) (Refreshed report.new) self.new) }
         ensures pass { OnOk result (pass.new ≡ record { refreshes = pass.old.refreshes + 1; entered = pass.old.entered + length report.new.entered }) }
         ensures report { OnOk result (IsRefreshed G.program.config pass.old.refreshes pass.old.entered fields report.new) }
         ensures hand { OnOk result (hand.old ≡ calls_in report.new ++ hand.new) }
@@ -194,7 +192,7 @@ impl<G: Naming> Locked<G> {
     /// Takes a task's pass back: the journal holds as many entries of the task as it counts.
     pub(crate) fn take_in(&mut self, pass: TaskPass<G>)
         ensures same { self.new ≡ self.old }
-        ensures count { pass.count ≡ entries_by pass.task (page_of self.old).journal }
+        ensures count { pass.count ≡ entries_by pass.task self.old.journal }
     {
         let TaskPass { mut share, .. } = pass;
         self.audit(&mut share);
@@ -203,8 +201,8 @@ impl<G: Naming> Locked<G> {
     /// The book, once the station is closed.
     pub(crate) fn into_book(self) -> Book
         ensures book { result ≡ self }
-        ensures kept { Kept (page_of result) }
-        ensures program { result.program.value ≡ G.program }
+        ensures kept { Kept result }
+        ensures program { result.config ≡ G.program.config }
     {
         let Locked {
             book,

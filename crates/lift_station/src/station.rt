@@ -3,12 +3,12 @@
 ghost use Rattle.std.specs.Prelude.{◌≡◌, ◌≤◌, ◌↔◌, ◌%◌, ◌+◌, ◌∷◌, [], false, All, length, map, filter, slice_index_or, Some, Ok, Err, IfOk, IfErr, IfSome, OnOk, OnErr, ◌++◌, ℕ};
 ghost use Rattle.il_spec.specs.declared.fault.Refusal.TheVariants.{Memory};
 ghost use Rattle.il_machine.specs.Scanning.{HasTask};
-ghost use Rattle.il_machine.specs.Scanned.{Begins, stands};
+ghost use Rattle.il_machine.specs.Standing.{IsOf};
 ghost use Rattle.lift_spec.specs.Image.{sizes_of, fields_in_range, Obeys};
 ghost use Rattle.lift_journal.specs.Journal.{entries_by, entered_calls, refresher};
 ghost use Rattle.lift_journal.specs.Pages.{Kept, IsSnapped, IsShown, IsTold};
 ghost use Rattle.lift_journal.specs.declared.fault.StationFault.TheVariants.{FieldOutOfRange, JournalFull, NotOpen, AlreadyOpen};
-ghost use Rattle.lift_book.specs.Ledgers.{page_of, fault_of, fault_in};
+ghost use Rattle.lift_book.specs.Ledgers.{fault_of, fault_in};
 ghost use Rattle.lift_station.specs.Passes.{task_of, count_of, counts_one, is_task, all_tasks};
 ghost use Rattle.lift_station.specs.Counted.{IsNoneOrFull, calls_in, IsCommitted, IsRefreshed};
 
@@ -204,7 +204,7 @@ impl<G: Naming> Station<G> {
         ensures odd { pass.count % 2 ≡ 1 → result.1 ≡ Err AlreadyOpen }
         ensures even { pass.count % 2 ≡ 0 → IsNoneOrFull (fault_in result.1) }
         ensures done { OnOk result.1 (result.0 ≡ counts_one pass) }
-        ensures begins { IfOk result.1 (λ o. (o.task ≡ pass.task) × Begins G.program.config pass.task o.store × IsSnapped G.program.config pass.task pass.count (stands G.program.config pass.task o.store)) }
+        ensures begins { IfOk result.1 (λ o. IsOf G.program.config pass.task o × IsSnapped G.program.config pass.task pass.count o.state) }
         ensures refused { OnErr result.1 (result.0 ≡ pass) }
     {
         pass.task();
@@ -326,11 +326,11 @@ impl<G: Naming> Station<G> {
     /// passes count.
     pub fn close(self, tasks: Vec<TaskPass<G>>, pass: RefreshPass<G>) -> Closed
         ensures verified { result.verified ≡ G.program }
-        ensures program { result.book.program.value ≡ G.program }
-        ensures kept { Kept (page_of result.book) }
-        ensures tasks { All (λ p. p.count ≡ entries_by p.task (page_of result.book).journal) tasks.items }
-        ensures refreshes { pass.refreshes ≡ entries_by refresher (page_of result.book).journal }
-        ensures entered { pass.entered ≡ entered_calls (page_of result.book).journal }
+        ensures program { result.book.config ≡ G.program.config }
+        ensures kept { Kept result.book }
+        ensures tasks { All (λ p. p.count ≡ entries_by p.task result.book.journal) tasks.items }
+        ensures refreshes { pass.refreshes ≡ entries_by refresher result.book.journal }
+        ensures entered { pass.entered ≡ entered_calls result.book.journal }
     {
         let Station { program, book } = self;
         let mut locked = book.into_inner();

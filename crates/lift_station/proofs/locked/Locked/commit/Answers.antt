@@ -1,7 +1,5 @@
 use Rattle.std.proofs.Common.{◌≡◌, ◌<◌, refl, sym, ap, ◌∙◌, subst, arith, ℕ}
 use Rattle.il_machine.specs.Scanning.{Program}
-use Rattle.lift_book.specs.declared.ledger.Ledger.{Ledger}
-use Rattle.lift_book.specs.Ledgers.{page_of}
 use Rattle.lift_spec.specs.declared.journal.Entry.TheVariants as entry
 use Rattle.lift_station.specs.Passes.{task_of, count_of}
 use Rattle.lift_station.proofs.Totals.{counted_more}
@@ -24,19 +22,17 @@ pub returns-in-Ok-clause-report : goal.returns-in-Ok-clause-report
 returns-in-Ok-clause-report g c =
     let a = c.audit.ensures in
     committed_under g.G.Naming.program c.args.verified.now c.requires.program c.self.inside.book c.args.self.now (c.self.view_is ∙ a.same.0) a.program a.kept c.task.result (task_of c.args.share.now) (c.task.ensures.0 ∙ ap (λ s. task_of s) a.same.1) (count_of c.args.share.now) a.count
-    c.args.scanned c.commit_own.new.report (page_of c.commit_own.new.self) c.in-Ok.ensures.mine c.in-Ok.ensures.done.0
+    c.args.scanned c.commit_own.new.report c.commit_own.new.self c.in-Ok.ensures.mine c.in-Ok.ensures.done.0
 
 pub returns-in-Ok-clause-store : goal.returns-in-Ok-clause-store
 returns-in-Ok-clause-store g c =
-    let a = c.audit.ensures in (
-      c.in-Ok.ensures.done.1,
-      scan_left g.G.Naming.program c.args.verified.now c.requires.program c.self.inside.book c.args.self.now (c.self.view_is ∙ a.same.0) a.program a.kept c.task.result (task_of c.args.share.now) (c.task.ensures.0 ∙ ap (λ s. task_of s) a.same.1) (count_of c.args.share.now) a.count
-          c.args.scanned c.is_scan.ensures c.in-Ok.ensures.mine c.in-Ok.store c.in-Ok.ensures.done.1,
-    )
+    let a = c.audit.ensures in
+    scan_left g.G.Naming.program c.args.verified.now c.requires.program c.self.inside.book c.args.self.now (c.self.view_is ∙ a.same.0) a.program a.kept c.task.result (task_of c.args.share.now) (c.task.ensures.0 ∙ ap (λ s. task_of s) a.same.1) (count_of c.args.share.now) a.count
+    c.args.scanned c.in-Ok.ensures.mine c.in-Ok.store c.in-Ok.ensures.done.1
 
 pub invariant_of-self : goal.invariant_of-self
 invariant_of-self g c =
     let adds = c.in-Ok.ensures.done.0 in
     let low : task_of c.audit.new.share < 10 = omega (arith, c.task.ensures.0, c.task.ensures.1) in
-    let all = counted_more c.self.inside.counts c.self.inside.book.journal.items c.commit_own.new.self.journal.items (entry.Commit c.task.result) (task_of c.audit.new.share) c.self.invariant.1 adds.journal c.task.ensures.0 low refl in
-    (ap (λ p. p.value) c.in-Ok.ensures.same ∙ c.self.invariant.0, rw c.count.ensures.total all)
+    let all = counted_more c.self.inside.counts c.self.inside.book.journal c.commit_own.new.self.journal (entry.Commit c.task.result) (task_of c.audit.new.share) c.self.invariant.1 adds.journal c.task.ensures.0 low refl in
+    (adds.config ∙ c.self.invariant.0, rw c.count.ensures.total all)
