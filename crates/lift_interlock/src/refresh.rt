@@ -1,7 +1,8 @@
 // A refresh.
 
 ghost use Rattle.std.specs.Prelude.{◌≡◌, ◌≤◌, ◌+◌, ◌++◌, length};
-ghost use Rattle.lift_spec.specs.Settle.{may_run_on, able_from, below, denies_running, running_denial, settled_running, denials_of, settled_all};
+ghost use Rattle.lift_spec.specs.Settle.{denies_running, running_denial, denials_of, settled_all};
+ghost use Rattle.lift_interlock.specs.Beside.{first_cars, settled_beside};
 
 use crate::motor::{granted, is_at_end, is_fire_up};
 use crate::settled::{AllSettled, Settled, listed, open_denial};
@@ -11,90 +12,45 @@ use lift_spec::report::{Denial, Rule};
 /// The order in which rules deny a running motor.
 const RUNNING_ORDER: [Rule; 4] = [Rule::Unlocked, Rule::AtEnd, Rule::Fire, Rule::Crowded];
 
-// Whether a car runs and meets the rules 2, 3 and 6.
-fn may_run_on(fire: bool, fields: CarFields, outputs: CarOutputs) -> bool
-    ensures { result ≡ may_run_on fire fields outputs }
-{
-    outputs.motor.runs()
-        && (fields.locked
-            && (!outputs.opens
-                && (!is_at_end(fields, outputs.motor) && !is_fire_up(fire, outputs.motor))))
-}
-
-// The cars that do, rising.
-fn able_cars(fire: bool, fields: &[CarFields], outputs: &[CarOutputs]) -> Bounded<u8, 8>
-    requires as_many { length outputs.now ≡ length fields.now }
-    requires room { length fields.now ≤ 8 }
-    ensures { result ≡ able_from fire 1 fields.now outputs.now }
-{
-    let mut able = Bounded::new();
-    for index in 0..fields.len() {
-        if may_run_on(fire, fields[index], outputs[index]) {
-            able.push(index as u8 + 1);
-        }
-    }
-    able
-}
-
-// How many cars of a set are below a car.
-fn below(car: u8, set: &[u8]) -> usize
-    ensures { result ≡ length (below car set.now) }
-{
-    set.iter().filter(|member| **member < car).count()
-}
-
-// Whether a rule denies a running car to run on under the new fields of all cars, beside the cars that meet the rules 2, 3 and 6.
+// Whether a rule denies a running car to run on under the new fields of all cars, beside so many cars that do.
 fn denies_running(
     all: &Fields,
-    able: &[u8],
-    car: u8,
+    running: u8,
     fields: CarFields,
     outputs: CarOutputs,
     rule: Rule,
 ) -> bool
-    ensures { result ≡ denies_running all.now able.now car fields outputs rule }
+    ensures { result ≡ denies_running all.now (first_cars running) (running + 1) fields outputs rule }
 {
     match rule {
         Rule::Reversal | Rule::NotLevel => false,
         Rule::Unlocked => !fields.locked || outputs.opens,
         Rule::AtEnd => is_at_end(fields, outputs.motor),
-        Rule::Crowded => usize::from(all.run_limit) <= below(car, able),
+        Rule::Crowded => all.run_limit <= running,
         Rule::Fire => is_fire_up(all.fire, outputs.motor),
     }
 }
 
 // The rule that denies a running car to run on, if one does.
-fn running_denial(
-    all: &Fields,
-    able: &[u8],
-    car: u8,
-    fields: CarFields,
-    outputs: CarOutputs,
-) -> Option<Rule>
-    ensures { result ≡ running_denial all.now able.now car fields outputs }
+fn running_denial(all: &Fields, running: u8, fields: CarFields, outputs: CarOutputs) -> Option<Rule>
+    ensures { result ≡ running_denial all.now (first_cars running) (running + 1) fields outputs }
 {
     if !outputs.motor.runs() {
         return None;
     }
     for rule in RUNNING_ORDER {
-        if denies_running(all, able, car, fields, outputs, rule) {
+        if denies_running(all, running, fields, outputs, rule) {
             return Some(rule);
         }
     }
     None
 }
 
-// One car at a refresh.
-fn settle_running(
-    all: &Fields,
-    able: &[u8],
-    car: u8,
-    fields: CarFields,
-    outputs: CarOutputs,
-) -> Settled
-    ensures { result ≡ settled_running all.now able.now car fields outputs }
+// One car at a refresh, beside so many cars before it that run on.
+fn settle_running(all: &Fields, running: u8, fields: CarFields, outputs: CarOutputs) -> Settled
+    ensures { result ≡ settled_beside all.now running fields outputs }
 {
-    let denial = running_denial(all, able, car, fields, outputs);
+    let denial = running_denial(all, running, fields, outputs);
     Settled {
         outputs: CarOutputs {
             motor: granted(outputs.motor, denial),
@@ -125,12 +81,11 @@ pub fn settle_all(outputs: &Outputs, fields: &Fields) -> AllSettled
     let count = fields.cars.len();
     let cars = fields.cars.as_slice();
     let before = outputs.as_slice();
-    let able = able_cars(fields.fire, cars, before);
     let mut after = Outputs::new();
     let mut denials = Bounded::new();
     for index in 0..count {
         let car = index as u8 + 1;
-        let settled = settle_running(fields, able.as_slice(), car, cars[index], before[index]);
+        let settled = settle_running(fields, after.running_count(), cars[index], before[index]);
         after.push(settled.outputs);
         add_denials(&mut denials, car, settled.denials.as_slice());
     }

@@ -63,6 +63,9 @@ fits_from (x ∷ xs) a =
       | false ↦ omega (arith, rest)
     ]
 
+pub running_more : (outputs : List CarOutputs) (o : CarOutputs) → length (running_cars (outputs ++ o ∷ [])) ≡ length (running_cars outputs) + flag (runs o.motor)
+running_more outputs o = one_more outputs o 1
+
 -- no more cars run than there are
 pub running_fit : (outputs : List CarOutputs) → length (running_cars outputs) ≤ length outputs
 running_fit outputs = fits_from outputs 1
@@ -95,7 +98,7 @@ keeps_more outputs word count new more o keeps room is_with is_more =
     record {
       few = omega (arith, length-append outputs (o ∷ []));
       members = follows outputs (outputs ++ o ∷ []) word new (length outputs) o keeps.members is_with (get_or-append_seam outputs o [] opening_outputs) (others_more outputs o);
-      number = is_more ∙ ap (λ n. n + flag (runs o.motor)) keeps.number ∙ sym (one_more outputs o 1);
+      number = is_more ∙ ap (λ n. n + flag (runs o.motor)) keeps.number ∙ sym (running_more outputs o);
     }
 
 -- whether a car runs stands in its bit

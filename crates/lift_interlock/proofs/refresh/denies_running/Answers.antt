@@ -1,4 +1,6 @@
-use Rattle.std.proofs.Common.{rules}
+use Rattle.std.proofs.Common.{rules, sym, ap}
+use Rattle.std.specs.Prelude.{nat_le}
+use Rattle.lift_interlock.proofs.RunningOn.{first_below}
 use Rattle.lift_interlock.proofs.refresh.denies_running.Goals as goal
 
 pub returns-in-Reversal : goal.returns-in-Reversal
@@ -14,4 +16,4 @@ pub returns-in-AtEnd : goal.returns-in-AtEnd
 returns-in-AtEnd c = search rules
 
 pub returns-in-Crowded : goal.returns-in-Crowded
-returns-in-Crowded c = search rules
+returns-in-Crowded c = rw c.in-Crowded.is (sym (ap (nat_le c.args.all.now.run_limit) (first_below c.args.running)))
