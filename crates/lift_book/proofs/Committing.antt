@@ -9,7 +9,7 @@ use Rattle.il_machine.proofs.Scans.{sound_of}
 use Rattle.lift_spec.specs.declared.report.Report.{Report}
 use Rattle.lift_spec.specs.Replies.{Committed}
 use Rattle.lift_spec.specs.World.{TaskState, task_at, scan_at, committed_group}
-use Rattle.lift_world.specs.Worlds.{is_open_in}
+use Rattle.lift_world.specs.Groups.{is_open_in}
 use Rattle.lift_world.proofs.Events.{ended_so}
 use Rattle.lift_world.proofs.Views.{some_of}
 use Rattle.lift_spec.specs.declared.journal.Entry.TheVariants as entry

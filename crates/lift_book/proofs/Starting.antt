@@ -7,7 +7,7 @@ use Rattle.il_machine.specs.Standing.{Standing, IsOf}
 use Rattle.lift_spec.specs.Replies.{Started}
 use Rattle.lift_spec.specs.Snapshot.{scan_begins}
 use Rattle.lift_spec.specs.World.{TaskState, flat, task_at, beginning_of, started_group}
-use Rattle.lift_world.specs.Worlds.{is_open_in}
+use Rattle.lift_world.specs.Groups.{is_open_in}
 use Rattle.lift_spec.specs.declared.journal.Entry.TheVariants as entry
 use Rattle.lift_journal.specs.Pages.{Adds}
 use Rattle.lift_book.specs.declared.ledger.Ledger.{Ledger}

@@ -19,7 +19,7 @@ use Rattle.lift_spec.specs.Snapshot.{scan_begins}
 use Rattle.lift_spec.specs.World.{World, Group, TaskState, flat, task_at, scan_at, happens, beginning_of, started_group, commits, commits_scan, commits_ended, committed_group, closed_tasks, refreshed_group, tickets_or_none}
 use Rattle.lift_run_laws.proofs.Lists.{same_or_other, get_other}
 use Rattle.lift_run_laws.proofs.Seats.{flat_same}
-use Rattle.lift_world.specs.Worlds.{scan_by, scans_by, world_by, StoresFit}
+use Rattle.lift_world.specs.Groups.{scan_by, scans_by, world_by, StoresFit}
 use Rattle.lift_world.proofs.Views.{set_same, set_again, flat_some, scan_here, scan_put, scans_length, within}
 use Rattle.lift_world.proofs.Keeping.{stores_step, stores_task}
 use Rattle.lift_world.proofs.Events.{start_is, commit_closes, refresh_keeps}

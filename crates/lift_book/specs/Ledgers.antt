@@ -8,7 +8,7 @@ use Rattle.lift_spec.specs.declared.image.Fields.{Fields}
 use Rattle.lift_spec.specs.Image.{sizes_of, fields_in_range}
 use Rattle.lift_spec.specs.Snapshot.{scan_begins}
 use Rattle.lift_spec.specs.World.{World, TaskState, flat, scan_at, task_at, beginning_of}
-use Rattle.lift_world.specs.Worlds.{world_by, StoresFit}
+use Rattle.lift_world.specs.Groups.{world_by, StoresFit}
 use Rattle.lift_journal.specs.declared.fault.StationFault.{StationFault}
 use Rattle.lift_journal.specs.declared.fault.StationFault.TheVariants.{FieldOutOfRange, JournalFull, NotOpen, AlreadyOpen}
 use Rattle.lift_journal.specs.Pages.{Page, Kept}

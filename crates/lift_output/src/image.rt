@@ -7,7 +7,6 @@ ghost use Rattle.il_slots.specs.Program.{global_cells};
 ghost use Rattle.lift_spec.specs.Snapshot.{motor_number};
 ghost use Rattle.lift_trace.specs.Text.{flag, flags};
 ghost use Rattle.lift_output.specs.ImageText.{truth_text, fields_text, car_text, cars_text, slot_text, slots_text, global_text, globals_text, image_text};
-ghost use Rattle.lift_world.specs.Running.{world_of};
 
 use il_machine::Value;
 use lift_image::{CarFields, CarOutputs, Fields, Motor};
@@ -18,7 +17,7 @@ use std::alloc::{AllocError, Global};
 /// The output of `replay`: NOW in milliseconds, RUNLIMIT and FIRE, each car with its fields and
 /// outputs, the call slots, and the globals in the order of the text.
 pub fn image_text(alloc: Global, world: &World) -> Result<String, AllocError>
-    ensures { IfOk result (λ text. string_bytes text ≡ image_text world.now.verified.config (world_of world.now)) }
+    ensures { IfOk result (λ text. string_bytes text ≡ image_text world.now.program.config world.now.world) }
 {
     let image = world.image();
     let mut text = String::new(alloc);
@@ -28,7 +27,8 @@ pub fn image_text(alloc: Global, world: &World) -> Result<String, AllocError>
         image.fields.cars.as_slice(),
         image.outputs.as_slice(),
     )?;
-    put_slots(&mut text, world.slots())?;
+    let slots = world.slots();
+    put_slots(&mut text, slots.as_slice())?;
     put_globals(&mut text, world)?;
     Ok(text)
 }
@@ -144,7 +144,7 @@ fn put_global(text: &mut String, path: &str, value: Option<Value>) -> Result<(),
 }
 
 fn put_globals(text: &mut String, world: &World) -> Result<(), AllocError>
-    ensures { OnOk result (string_bytes text.new ≡ string_bytes text.old ++ globals_text (world_of world.now).group.globals (global_cells world.now.verified.config)) }
+    ensures { OnOk result (string_bytes text.new ≡ string_bytes text.old ++ globals_text world.now.world.group.globals (global_cells world.now.program.config)) }
 {
     let cells = world.verified().globals();
     'globals: for cell in cells {

@@ -4,7 +4,6 @@ ghost use Rattle.std.specs.Prelude.{◌≡◌, ◌≢◌, ◌≤◌, ℕ, Option
 ghost use Rattle.lift_spec.specs.Image.{sizes_of};
 ghost use Rattle.lift_spec.specs.World.{opening};
 ghost use Rattle.lift_trace.specs.Reading.{Reads, greatest_trace};
-ghost use Rattle.lift_world.specs.Running.{world_of};
 ghost use Rattle.lift_output.specs.Outcomes.{IsCheckOutcome, IsFire, AreDriven, IsUndriven, IsSimOutcome, IsRunOutcome, IsReplayed, IsReplayOutcome, IsProgramOutcome};
 ghost use Rattle.lift_output.specs.Parts.{fault_of_trace, IsTraceUnread, IsWorldReplayed};
 
@@ -164,9 +163,9 @@ fn events_of(alloc: Global, text: &[u8], cars: u8) -> Result<Vec<TraceEvent>, Fa
 
 /// The image of a world that opens, behind events.
 fn image_after(alloc: Global, world: &mut World, events: &[TraceEvent]) -> Result<Output, Fault>
-    requires opening { world_of world.old ≡ opening world.old.verified.config }
+    requires opening { world.old.world ≡ opening world.old.program.config }
     requires few { length events.now ≤ greatest_trace }
-    ensures { IsWorldReplayed world.old.verified.config events.now result }
+    ensures { IsWorldReplayed world.old.program.config events.now result }
 {
     match replay(world, events) {
         Ok(()) => Ok(Output::Text(image_text(alloc, world)?)),

@@ -9,7 +9,7 @@ ghost use Rattle.lift_plant.specs.Cars.{placed, IsPlaced};
 ghost use Rattle.lift_plant.specs.Safe.{IsSafeStep};
 
 use crate::car::{Car, car_fields, moved_car};
-use lift_image::{Bounded, CarFields, CarOutputs, Fields};
+use lift_image::{Bounded, CarFields, CarOutputs, Fields, Outputs};
 use std::marker::Model;
 
 /// The latest NOW in milliseconds, the largest TIME.
@@ -111,7 +111,7 @@ fn all_fields(floors: u8, cars: &[Car]) -> Bounded<CarFields, 8>
 }
 
 /// The plant 100 ms later, under the outputs of all its cars, and what it then reports.
-pub fn plant_step(plant: Plant, outputs: &Bounded<CarOutputs, 8>) -> (Plant, Fields)
+pub fn plant_step(plant: Plant, outputs: &Outputs) -> (Plant, Fields)
     requires { length outputs.now ≡ length plant.cars }
     ensures plant { result.0 ≡ plant_after plant outputs.now }
     ensures fields { result.1 ≡ fields_of_plant result.0 }

@@ -2,7 +2,6 @@
 
 ghost use Rattle.std.specs.Prelude.{◌≡◌, OnOk, IfErr};
 ghost use Rattle.lift_journal.specs.Rounds.{Takes, TakesAll, Refuses, IsRefusedAt};
-ghost use Rattle.lift_world.specs.Running.{world_of};
 
 use crate::scan::{finish_and_commit, taken};
 use lift_spec::event::{Event, EventFault};
@@ -19,9 +18,9 @@ pub struct Refused {
 
 /// One event of a trace, unless it is refused. A commit comes behind the rest of its task's scan.
 fn take(world: &mut World, event: &TraceEvent, report: &mut Report) -> Result<(), EventFault>
-    ensures taken { OnOk result (Takes world.old.verified.config (world_of world.old) event.now (world_of world.new)) }
-    ensures refused { IfErr result (Refuses world.old.verified.config (world_of world.old) event.now) }
-    ensures same { world.new.verified ≡ world.old.verified }
+    ensures taken { OnOk result (Takes world.old.program.config world.old.world event.now world.new.world) }
+    ensures refused { IfErr result (Refuses world.old.program.config world.old.world event.now) }
+    ensures same { world.new.program ≡ world.old.program }
 {
     match event {
         TraceEvent::Start(task) => taken(world, &Event::Start(*task), report),
@@ -34,9 +33,9 @@ fn take(world: &mut World, event: &TraceEvent, report: &mut Report) -> Result<()
 
 /// The events of a trace, one behind the other, up to the first that is refused. No allocation.
 pub fn replay(world: &mut World, events: &[TraceEvent]) -> Result<(), Refused>
-    ensures taken { OnOk result (TakesAll world.old.verified.config (world_of world.old) events.now (world_of world.new)) }
-    ensures refused { IfErr result (λ r. IsRefusedAt world.old.verified.config (world_of world.old) events.now r.index r.fault) }
-    ensures same { world.new.verified ≡ world.old.verified }
+    ensures taken { OnOk result (TakesAll world.old.program.config world.old.world events.now world.new.world) }
+    ensures refused { IfErr result (λ r. IsRefusedAt world.old.program.config world.old.world events.now r.index r.fault) }
+    ensures same { world.new.program ≡ world.old.program }
 {
     let mut report = Report::new();
     'events: for (index, event) in events.iter().enumerate() {

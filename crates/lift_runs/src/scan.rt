@@ -8,7 +8,6 @@ ghost use Rattle.il_machine.specs.Scanning.{HasTask};
 ghost use Rattle.lift_spec.specs.declared.event.Event.TheVariants.{Instruction};
 ghost use Rattle.lift_spec.specs.Replies.{Refused};
 ghost use Rattle.lift_spec.specs.World.{happens};
-ghost use Rattle.lift_world.specs.Running.{world_of};
 
 use lift_spec::event::{Event, EventFault, Reply};
 use lift_spec::report::Report;
@@ -16,9 +15,9 @@ use lift_world::World;
 
 /// One event, unless it is refused.
 pub fn taken(world: &mut World, event: &Event, report: &mut Report) -> Result<(), EventFault>
-    ensures taken { OnOk result (Happen world.old.verified.config (world_of world.old) (event.now ∷ []) (world_of world.new)) }
-    ensures refused { IfErr result (λ fault. (world_of world.new ≡ world_of world.old) × (happens world.old.verified.config (world_of world.old) event.now ≡ Ok (world_of world.old, Refused fault))) }
-    ensures same { world.new.verified ≡ world.old.verified }
+    ensures taken { OnOk result (Happen world.old.program.config world.old.world (event.now ∷ []) world.new.world) }
+    ensures refused { IfErr result (λ fault. (world.new.world ≡ world.old.world) × (happens world.old.program.config world.old.world event.now ≡ Ok (world.old.world, Refused fault))) }
+    ensures same { world.new.program ≡ world.old.program }
 {
     match world.apply(event, report) {
         Reply::Refused(fault) => Err(fault),
@@ -28,9 +27,9 @@ pub fn taken(world: &mut World, event: &Event, report: &mut Report) -> Result<()
 
 /// The rest of a task's open scan, and its commit; refused where there is no instruction to run.
 pub fn finish_and_commit(world: &mut World, task: u8, report: &mut Report) -> Result<(), EventFault>
-    ensures taken { OnOk result (FinishesAndCommits world.old.verified.config task (world_of world.old) (world_of world.new)) }
-    ensures refused { IfErr result (λ fault. (world_of world.new ≡ world_of world.old) × (happens world.old.verified.config (world_of world.old) (Instruction task) ≡ Ok (world_of world.old, Refused fault))) }
-    ensures same { world.new.verified ≡ world.old.verified }
+    ensures taken { OnOk result (FinishesAndCommits world.old.program.config task world.old.world world.new.world) }
+    ensures refused { IfErr result (λ fault. (world.new.world ≡ world.old.world) × (happens world.old.program.config world.old.world (Instruction task) ≡ Ok (world.old.world, Refused fault))) }
+    ensures same { world.new.program ≡ world.old.program }
 {
     if let Err(fault) = world.finish(task) {
         return Err(fault);
@@ -41,11 +40,11 @@ pub fn finish_and_commit(world: &mut World, task: u8, report: &mut Report) -> Re
 
 /// A whole scan of a task of the group, of which none is open.
 pub fn scan(world: &mut World, task: u8, report: &mut Report)
-    requires task { HasTask world.old.verified.config task }
-    requires closed { IsClosed (world_of world.old) }
-    ensures scan { Scans world.old.verified.config task (world_of world.old) (world_of world.new) }
-    ensures closed { IsClosed (world_of world.new) }
-    ensures same { world.new.verified ≡ world.old.verified }
+    requires task { HasTask world.old.program.config task }
+    requires closed { IsClosed world.old.world }
+    ensures scan { Scans world.old.program.config task world.old.world world.new.world }
+    ensures closed { IsClosed world.new.world }
+    ensures same { world.new.program ≡ world.old.program }
 {
     let _config = world.verified().config();
     world.apply(&Event::Start(task), report);

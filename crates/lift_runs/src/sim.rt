@@ -15,7 +15,6 @@ ghost use Rattle.lift_spec.specs.declared.journal.Entry.TheVariants as entry;
 ghost use Rattle.lift_journal.specs.Rounds.{Happen, ScanEach, IsRound, Rounds, desk_events, floors_rising, tasks_in_order, scan_entries, entered_calls_of};
 ghost use Rattle.lift_journal.proofs.Taking.{IsClosed};
 ghost use Rattle.lift_runs.specs.Driven.{call_of, calls_in, ArePressed, is_fire_in, IsSimulated, AreTasks};
-ghost use Rattle.lift_world.specs.Running.{world_of};
 
 use crate::scan::scan;
 use il_machine::Verified;
@@ -52,9 +51,9 @@ fn call_of(press: &Press) -> Call
 
 /// The presses of a round, in their order.
 fn press_all(world: &mut World, presses: &[Press], round: u16, report: &mut Report)
-    requires calls { ArePressed (sizes_of world.old.verified.config) presses.now }
-    ensures taken { Happen world.old.verified.config (world_of world.old) (map PressOf (calls_in presses.now round)) (world_of world.new) }
-    ensures same { world.new.verified ≡ world.old.verified }
+    requires calls { ArePressed (sizes_of world.old.program.config) presses.now }
+    ensures taken { Happen world.old.program.config world.old.world (map PressOf (calls_in presses.now round)) world.new.world }
+    ensures same { world.new.program ≡ world.old.program }
 {
     let _config = world.verified().config();
     'presses: for press in presses {
@@ -66,8 +65,8 @@ fn press_all(world: &mut World, presses: &[Press], round: u16, report: &mut Repo
 
 /// What the desk has from each floor is gathered.
 fn gather_all(world: &mut World, report: &mut Report)
-    ensures taken { Happen world.old.verified.config (world_of world.old) (map GatherOf (floors_rising world.old.verified.config)) (world_of world.new) }
-    ensures same { world.new.verified ≡ world.old.verified }
+    ensures taken { Happen world.old.program.config world.old.world (map GatherOf (floors_rising world.old.program.config)) world.new.world }
+    ensures same { world.new.program ≡ world.old.program }
 {
     let _config = world.verified().config();
     let Sizes { floors, .. } = world.sizes();
@@ -78,11 +77,11 @@ fn gather_all(world: &mut World, report: &mut Report)
 
 /// The presses of a round, and the gatherings. Where there is no press at all, there is nothing to gather.
 fn desk(world: &mut World, presses: &[Press], round: u16, report: &mut Report)
-    requires calls { ArePressed (sizes_of world.old.verified.config) presses.now }
-    requires idle { presses.now ≡ [] → (world_of world.old).desk ≡ [] }
-    ensures taken { Happen world.old.verified.config (world_of world.old) (desk_events world.old.verified.config (calls_in presses.now round)) (world_of world.new) }
-    ensures idle { presses.now ≡ [] → (world_of world.new).desk ≡ [] }
-    ensures same { world.new.verified ≡ world.old.verified }
+    requires calls { ArePressed (sizes_of world.old.program.config) presses.now }
+    requires idle { presses.now ≡ [] → world.old.world.desk ≡ [] }
+    ensures taken { Happen world.old.program.config world.old.world (desk_events world.old.program.config (calls_in presses.now round)) world.new.world }
+    ensures idle { presses.now ≡ [] → world.new.world.desk ≡ [] }
+    ensures same { world.new.program ≡ world.old.program }
 {
     if presses.is_empty() {
         return;
@@ -98,10 +97,10 @@ fn refresh(
     entries: &mut Vec<Entry>,
     report: &mut Report,
 ) -> Result<(), AllocError>
-    requires inside { FieldsInRange (sizes_of world.old.verified.config) fields }
-    ensures taken { OnOk result (happens world.old.verified.config (world_of world.old) (RefreshOf fields) ≡ Ok (world_of world.new, Refreshed report.new)) }
+    requires inside { FieldsInRange (sizes_of world.old.program.config) fields }
+    ensures taken { OnOk result (happens world.old.program.config world.old.world (RefreshOf fields) ≡ Ok (world.new.world, Refreshed report.new)) }
     ensures journal { OnOk result (entries.new.items ≡ entries.old.items ++ entry.Refresh fields (entered_calls_of report.new) ∷ []) }
-    ensures same { world.new.verified ≡ world.old.verified }
+    ensures same { world.new.program ≡ world.old.program }
 {
     let _config = world.verified().config();
     let event = Event::Refresh(fields);
@@ -120,12 +119,12 @@ fn scan_all(
     entries: &mut Vec<Entry>,
     report: &mut Report,
 ) -> Result<(), AllocError>
-    requires tasks { AreTasks world.old.verified.config tasks.now }
-    requires closed { IsClosed (world_of world.old) }
-    ensures scans { OnOk result (ScanEach world.old.verified.config tasks.now (world_of world.old) (world_of world.new)) }
-    ensures closed { OnOk result (IsClosed (world_of world.new)) }
+    requires tasks { AreTasks world.old.program.config tasks.now }
+    requires closed { IsClosed world.old.world }
+    ensures scans { OnOk result (ScanEach world.old.program.config tasks.now world.old.world world.new.world) }
+    ensures closed { OnOk result (IsClosed world.new.world) }
     ensures journal { OnOk result (entries.new.items ≡ entries.old.items ++ flat_map scan_entries tasks.now) }
-    ensures same { world.new.verified ≡ world.old.verified }
+    ensures same { world.new.program ≡ world.old.program }
 {
     'tasks: for task in tasks {
         scan(world, *task, report);
@@ -144,16 +143,16 @@ fn round(
     tasks: &[u8],
     entries: &mut Vec<Entry>,
 ) -> Result<Plant, AllocError>
-    requires calls { ArePressed (sizes_of world.old.verified.config) drive.presses.now }
-    requires tasks { tasks.now ≡ tasks_in_order world.old.verified.config }
-    requires plant { IsPlantOf (sizes_of world.old.verified.config) plant }
-    requires closed { IsClosed (world_of world.old) }
-    requires idle { drive.presses.now ≡ [] → (world_of world.old).desk ≡ [] }
-    ensures round { IfOk result (λ next. (last : List EntryOf) × (entries.new.items ≡ entries.old.items ++ last) × IsRound world.old.verified.config (calls_in drive.entry.presses.now number) (is_fire_in drive.entry.fire number) plant next (world_of world.old) (world_of world.new) last) }
-    ensures plant { IfOk result (IsPlantOf (sizes_of world.old.verified.config)) }
-    ensures closed { OnOk result (IsClosed (world_of world.new)) }
-    ensures idle { OnOk result (drive.entry.presses.now ≡ [] → (world_of world.new).desk ≡ []) }
-    ensures same { world.new.verified ≡ world.old.verified }
+    requires calls { ArePressed (sizes_of world.old.program.config) drive.presses.now }
+    requires tasks { tasks.now ≡ tasks_in_order world.old.program.config }
+    requires plant { IsPlantOf (sizes_of world.old.program.config) plant }
+    requires closed { IsClosed world.old.world }
+    requires idle { drive.presses.now ≡ [] → world.old.world.desk ≡ [] }
+    ensures round { IfOk result (λ next. (last : List EntryOf) × (entries.new.items ≡ entries.old.items ++ last) × IsRound world.old.program.config (calls_in drive.entry.presses.now number) (is_fire_in drive.entry.fire number) plant next world.old.world world.new.world last) }
+    ensures plant { IfOk result (IsPlantOf (sizes_of world.old.program.config)) }
+    ensures closed { OnOk result (IsClosed world.new.world) }
+    ensures idle { OnOk result (drive.entry.presses.now ≡ [] → world.new.world.desk ≡ []) }
+    ensures same { world.new.program ≡ world.old.program }
 {
     let _config = world.verified().config();
     let mut report = Report::new();
@@ -200,12 +199,12 @@ fn run_rounds(
     tasks: &[u8],
     entries: &mut Vec<Entry>,
 ) -> Result<(), AllocError>
-    requires opening { world_of world.old ≡ opening world.old.verified.config }
-    requires calls { ArePressed (sizes_of world.old.verified.config) drive.presses.now }
-    requires tasks { tasks.now ≡ tasks_in_order world.old.verified.config }
+    requires opening { world.old.world ≡ opening world.old.program.config }
+    requires calls { ArePressed (sizes_of world.old.program.config) drive.presses.now }
+    requires tasks { tasks.now ≡ tasks_in_order world.old.program.config }
     requires none { entries.old.items ≡ [] }
-    ensures rounds { OnOk result (IsSimulated world.old.verified.config drive.entry.presses.now drive.entry.fire rounds entries.new.items) }
-    ensures same { world.new.verified ≡ world.old.verified }
+    ensures rounds { OnOk result (IsSimulated world.old.program.config drive.entry.presses.now drive.entry.fire rounds entries.new.items) }
+    ensures same { world.new.program ≡ world.old.program }
 {
     let _config = world.verified().config();
     let Sizes { cars, floors, .. } = world.sizes();
@@ -223,9 +222,9 @@ fn journal_of(
     drive: Drive<'_>,
     rounds: u16,
 ) -> Result<Vec<Entry>, AllocError>
-    requires opening { world_of world.old ≡ opening world.old.verified.config }
-    requires calls { ArePressed (sizes_of world.old.verified.config) drive.presses.now }
-    ensures rounds { IfOk result (λ entries. IsSimulated world.old.verified.config drive.entry.presses.now drive.entry.fire rounds entries.items) }
+    requires opening { world.old.world ≡ opening world.old.program.config }
+    requires calls { ArePressed (sizes_of world.old.program.config) drive.presses.now }
+    ensures rounds { IfOk result (λ entries. IsSimulated world.old.program.config drive.entry.presses.now drive.entry.fire rounds entries.items) }
 {
     let _config = world.verified().config();
     let tasks = tasks_of(alloc, world.verified())?;

@@ -1,6 +1,6 @@
 -- The instructions of a task leave the group and all other scans as they were.
 use Rattle.std.proofs.Common.{◌≡◌, ◌≤◌, ℕ, zero, suc, List, [], ◌∷◌, ◌++◌, Result, Ok, Err, refl, sym, ap, ◌∙◌, subst}
-use Rattle.std.specs.Prelude.{IfOk, IfErr, slice_get}
+use Rattle.std.specs.Prelude.{IfOk, IfErr}
 use Rattle.il_spec.specs.declared.tree.Config.{Config}
 use Rattle.lift_spec.specs.declared.event.Event.TheVariants.{Instruction}
 use Rattle.lift_spec.specs.declared.event.EventFault.{EventFault}
@@ -20,11 +20,12 @@ same_world w v a b e = let both : ◌≡◌ {A = World × List Reply} (w, a) (v,
 
 pub run_alone : (c : Config) (t n : ℕ) (w v : World) (earlier replies : List Reply) → run c w earlier (instructions t n) ≡ Ok (v, replies) → ChangesScanOnly t w v
 run_alone c t zero w v earlier replies e = subst (ChangesScanOnly t w) (same_world w v earlier replies e) (stays_alone t w)
-run_alone c t (suc n) w v earlier replies e = by (happens c w (Instruction t)) refl e
+run_alone c t (suc n) w v earlier replies e = by (happens c w (Instruction t)) refl e (λ m more. run_alone c t n m.0 v (earlier ++ m.1 ∷ []) replies more)
   where
-    by : (r : Result (World × Reply) Halt) → happens c w (Instruction t) ≡ r → and_then r (λ m. run c m.0 (earlier ++ m.1 ∷ []) (instructions t n)) ≡ Ok (v, replies) → ChangesScanOnly t w v
-    by (Err halt) is f = let bad : ◌≡◌ {A = Result (World × List Reply) Halt} (Err halt) (Ok (v, replies)) = f in cc
-    by (Ok m) is f = then_alone t w m.0 v (instruction_leaves c w t m.0 m.1 is) (run_alone c t n m.0 v (earlier ++ m.1 ∷ []) replies f)
+    by : (r : Result (World × Reply) Halt) → happens c w (Instruction t) ≡ r → and_then r (λ m. run c m.0 (earlier ++ m.1 ∷ []) (instructions t n)) ≡ Ok (v, replies)
+        → ((m : World × Reply) → run c m.0 (earlier ++ m.1 ∷ []) (instructions t n) ≡ Ok (v, replies) → ChangesScanOnly t m.0 v) → ChangesScanOnly t w v
+    by (Err halt) is f more = let bad : ◌≡◌ {A = Result (World × List Reply) Halt} (Err halt) (Ok (v, replies)) = f in cc
+    by (Ok m) is f more = then_alone t w m.0 v (instruction_leaves c w t m.0 m.1 is) (more m f)
 
 -- and so does a run of them, or none
 pub finish_alone : (c : Config) (t : ℕ) (w v : World) (r : Result ℕ EventFault) → IfOk r (λ n. (1 ≤ n) × (run c w [] (instructions t n) ≡ Ok (v, up_to_end n)))

@@ -16,7 +16,7 @@ use Rattle.lift_spec.specs.declared.report.Report.{Report}
 use Rattle.lift_spec.specs.Calls.{Calls, Entered, enter_all}
 use Rattle.lift_spec.specs.Settle.{Settled, AllSettled, settled_car, settled_all, with_outputs, denials_of}
 use Rattle.lift_spec.specs.Snapshot.{program_of, wishes_of, assigned, assigned_from, written_globals}
-use Rattle.lift_spec.specs.World.{Group, TaskState, committed_group, group_commits, car_commits, refreshed_group, refreshed_as, tell_all, serve_wish}
+use Rattle.lift_spec.specs.World.{Group, committed_group, car_commits, refreshed_group, refreshed_as, tell_all, serve_wish}
 use Rattle.lift_world.specs.declared.shared.Seat.{Seat}
 use Rattle.lift_world.specs.Running.{task_in, tasks_in, group_by}
 use Rattle.lift_world.proofs.Views.{task_put}

@@ -17,7 +17,7 @@ use Rattle.lift_spec.specs.Image.{sizes_of, fields_in_range, is_floor}
 use Rattle.lift_spec.specs.Hands.{with_call, with_calls, has_call, has_from, calls_from, calls_not_from, mask_of}
 use Rattle.lift_spec.specs.Snapshot.{scan_begins}
 use Rattle.lift_spec.specs.World.{World, Group, TaskState, Halt, flat, task_at, scan_at, happens, starts, starts_from, started_group, instructs, instructs_in, instructs_scan, stepped, commits, commits_scan, commits_ended, reply_to, beginning_of, committed_group, closed_tasks, refreshes, refreshed_group, presses, presses_floors, presses_new, gathers, gathers_from}
-use Rattle.lift_world.specs.Worlds.{scan_by, scans_by, world_by}
+use Rattle.lift_world.specs.Groups.{scan_by, scans_by, world_by}
 use Rattle.lift_world.proofs.Views.{scan_here, scan_put, set_same, flat_some}
 
 -- WHERE A SCAN STANDS

@@ -12,7 +12,8 @@ use Rattle.lift_spec.specs.declared.calls.Call.{Call}
 use Rattle.lift_spec.specs.Replies.{Reply, More, End}
 use Rattle.lift_spec.specs.World.{World, Group, TaskState, flat, task_at, happens, run, and_then, reply_to, instructs, instructs_in, instructs_scan, stepped}
 use Rattle.lift_world.specs.Running.{instructions, up_to_end}
-use Rattle.lift_world.specs.Worlds.{scans_by, world_by, RunsOut}
+use Rattle.lift_world.specs.Groups.{scans_by, world_by}
+use Rattle.lift_world.specs.Worlds.{RunsOut}
 use Rattle.lift_world.proofs.Views.{scan_put, scans_length, set_same, set_again, set_there, within, flat_some}
 use Rattle.lift_world.proofs.Events.{ended_so}
 

@@ -1,23 +1,21 @@
 -- What the tasks share keeps its ranges, and is the group of the definitions.
-use Rattle.std.proofs.Common.{◌≡◌, ℕ, zero, suc, ◌+◌, ◌≤◌, inl, inr, Bool, true, false, List, [], ◌∷◌, map, length, All, Option, Some, None, refl, sym, ap, ap₂, ◌∙◌, subst, arith}
-use Rattle.std.specs.Prelude.{slice_get, slice_set, is_some, option_copied, Bor}
+use Rattle.std.proofs.Common.{◌≡◌, ℕ, suc, ◌+◌, inl, inr, List, [], ◌∷◌, map, length, All, Option, Some, None, Bor, refl, sym, ap, ◌∙◌, subst}
+use Rattle.std.specs.Prelude.{slice_get, is_some, option_copied}
 use Rattle.std.proofs.lemmas.List.{length-map}
 use Rattle.il_spec.specs.declared.tree.Config.{Config}
 use Rattle.il_spec.specs.declared.tree.Unit.{Unit as ProgramUnit}
 use Rattle.il_run.specs.State.{State}
-use Rattle.il_slots.specs.Layout.{Rows}
 use Rattle.il_machine.specs.Scanning.{IsRunnable}
 use Rattle.il_machine.specs.Sharing.{globals_in}
 use Rattle.il_machine.proofs.Scans.{sound_of}
 use Rattle.lift_spec.specs.declared.image.Fields.{Fields}
-use Rattle.lift_spec.specs.declared.image.Image.{Image}
 use Rattle.lift_spec.specs.declared.calls.Call.{Call}
 use Rattle.lift_spec.specs.declared.report.Report.{Report}
-use Rattle.lift_spec.specs.Calls.{Calls, Entered, ticket_of, enter_all, IsCall}
+use Rattle.lift_spec.specs.Calls.{ticket_of, IsCall}
 use Rattle.lift_spec.specs.Hands.{IsInOrder}
 use Rattle.lift_spec.specs.Image.{sizes_of, FieldsInRange, Obeys}
 use Rattle.lift_spec.specs.Settle.{settled_all}
-use Rattle.lift_spec.specs.World.{World, Group, TaskState, flat, task_at, opening, opening_group, opening_tasks_from, started_group, committed_group, refreshed_group, closed_tasks, entered_from, InRanges}
+use Rattle.lift_spec.specs.World.{Group, TaskState, flat, task_at, opening, opening_group, started_group, committed_group, refreshed_group, entered_from, InRanges}
 use Rattle.lift_spec.proofs.Refreshed.{refresh_obeys}
 use Rattle.lift_run_laws.specs.Holding.{TicketsHold, WorldHolds}
 use Rattle.lift_run_laws.specs.Scans.{ScanHolds}
@@ -25,12 +23,12 @@ use Rattle.lift_run_laws.specs.Tasks.{IsTaskOf}
 use Rattle.lift_run_laws.proofs.Accepted.{opens_well}
 use Rattle.lift_run_laws.proofs.Events.{CommitsWell, commits_well}
 use Rattle.lift_run_laws.proofs.Openings as openings
-use Rattle.lift_run_laws.proofs.Slots.{CallsHold, EntersWell, enter_all_holds}
+use Rattle.lift_run_laws.proofs.Slots.{EntersWell, enter_all_holds}
 use Rattle.lift_run_laws.proofs.Tasks.{is_sized}
 use Rattle.lift_world.specs.declared.shared.Shared.{Shared}
 use Rattle.lift_world.specs.declared.shared.Seat.{Seat}
-use Rattle.lift_world.specs.Running.{seat_at, open_by, task_in, seated, tasks_in, group_in, group_by, with_seat, SharedFits, HasOpenScan, Commits, HoldsShared}
-use Rattle.lift_world.specs.Worlds.{GroupOf, holds_tickets, is_open_in}
+use Rattle.lift_world.specs.Running.{seat_at, open_by, task_in, seated, tasks_in, group_in, with_seat, SharedFits, HasOpenScan, Commits, HoldsShared}
+use Rattle.lift_world.specs.Groups.{GroupOf, holds_tickets, is_open_in}
 use Rattle.lift_world.proofs.Views.{length_set, after_set, task_here, task_put}
 use Rattle.lift_world.proofs.Keeping.{seats_put}
 use Rattle.lift_world.proofs.Opens.{all_idle, tasks_many}
@@ -109,7 +107,7 @@ opening_holds c runs k group fits = record {
 
 module _ (c : Config) (k after : Shared) (holds : HoldsShared c k) (t : ℕ) (s : Seat) (there : seat_at k t ≡ Some s) (image : after.image ≡ k.image) (calls : after.calls ≡ k.calls) (globals : after.globals ≡ k.globals)
     (put : after.seats.items ≡ with_seat k t s.variables (Some (map ticket_of k.calls.slots))) where
-  seat : Seat
+  abbrev seat : Seat
   seat = record { variables = s.variables; tickets = Some (map ticket_of k.calls.slots) }
 
   pub group_started : (x : TaskState) → task_at (group_in c k) t ≡ Some x → group_in c after ≡ started_group (group_in c k) t x

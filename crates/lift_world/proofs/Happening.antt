@@ -3,7 +3,7 @@ use Rattle.std.proofs.Common.{◌≡◌, ◌≢◌, ℕ, ◌≤◌, ◌<◌, Boo
 use Rattle.std.specs.Prelude.{slice_get, slice_set, slice_index_or, is_some, ◌==◌, nat_le, IfOk, IfErr}
 use Rattle.std.proofs.lemmas.Bool.Decides.{nat_tests}
 use Rattle.il_spec.specs.declared.tree.Config.{Config}
-use Rattle.il_run.specs.State.{Frame, State}
+use Rattle.il_run.specs.State.{Frame}
 use Rattle.il_machine.specs.Scanning.{Program, IsRunnable}
 use Rattle.il_machine.specs.Standing.{Standing, IsOf}
 use Rattle.lift_spec.specs.declared.image.Fields.{Fields}
@@ -20,12 +20,13 @@ use Rattle.lift_spec.specs.Replies.{Reply, Started, More, End, Committed, Refres
 use Rattle.lift_spec.specs.Calls.{enter_all, IsCall}
 use Rattle.lift_spec.specs.Image.{sizes_of, is_floor, fields_in_range, FieldsInRange}
 use Rattle.lift_spec.specs.Snapshot.{scan_begins}
-use Rattle.lift_spec.specs.World.{Group, TaskState, flat, task_at, happens, run, reply_to, beginning_of, started_group, committed_group, closed_tasks, refreshed_group}
+use Rattle.lift_spec.specs.World.{Group, TaskState, flat, task_at, happens, run, reply_to, beginning_of, started_group, committed_group, refreshed_group}
 use Rattle.lift_spec.proofs.Laws.{fields_in_range_means}
 use Rattle.lift_run_laws.specs.Runs.{IsReached}
 use Rattle.lift_world.specs.declared.controller.Controller.{Controller}
 use Rattle.lift_world.specs.Running.{instructions, up_to_end}
-use Rattle.lift_world.specs.Worlds.{holds_tickets, is_open_in, world_by, world_in, IsController, StoresFit, Steps, RunsOut}
+use Rattle.lift_world.specs.Groups.{holds_tickets, is_open_in, world_by, StoresFit}
+use Rattle.lift_world.specs.Worlds.{world_in, IsController, Steps, RunsOut}
 use Rattle.lift_world.proofs.Views.{set_same, flat_some, some_of, within, here}
 use Rattle.lift_world.proofs.Keeping.{stores_step, stores_task}
 use Rattle.il_machine.proofs.Sizes.{sizes_fit}

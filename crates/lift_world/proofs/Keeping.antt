@@ -8,8 +8,8 @@ use Rattle.il_machine.specs.Standing.{Standing, IsOf}
 use Rattle.lift_spec.specs.World.{TaskState, flat}
 use Rattle.lift_world.specs.declared.shared.Shared.{Shared}
 use Rattle.lift_world.specs.declared.shared.Seat.{Seat}
-use Rattle.lift_world.specs.Running.{seat_at, with_seat, SeatsFit, SharedFits}
-use Rattle.lift_world.specs.Worlds.{StoresFit}
+use Rattle.lift_world.specs.Running.{with_seat, SeatsFit, SharedFits}
+use Rattle.lift_world.specs.Groups.{StoresFit}
 use Rattle.il_machine.specs.Sharing.{FitsGlobals}
 use Rattle.lift_world.proofs.Views.{length_set, after_set, there_set}
 

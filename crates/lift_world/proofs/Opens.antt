@@ -15,7 +15,7 @@ use Rattle.std.proofs.lemmas.List.{length-append}
 use Rattle.std.proofs.lemmas.Bool.{cases_eq, cases_lt}
 use Rattle.lift_world.specs.declared.shared.Seat.{Seat}
 use Rattle.lift_world.specs.Running.{task_in, seated, tasks_in}
-use Rattle.lift_world.specs.Worlds.{scan_by, scans_by, world_by, StoresFit}
+use Rattle.lift_world.specs.Groups.{scan_by, scans_by, world_by, StoresFit}
 use Rattle.lift_world.proofs.Views.{flat_of, beyond}
 
 -- a task that is there has a program

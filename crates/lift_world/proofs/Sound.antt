@@ -10,7 +10,7 @@ use Rattle.lift_spec.specs.declared.event.Event.{Event as Happening}
 use Rattle.lift_spec.specs.Replies.{Reply}
 use Rattle.lift_spec.specs.Snapshot.{task_name, program_of}
 use Rattle.lift_spec.specs.World.{World, run, opening, happens}
-use Rattle.lift_run_laws.specs.Tasks.{IsTaskOf, budget_of, budget_by}
+use Rattle.lift_run_laws.specs.Tasks.{budget_of, budget_by}
 use Rattle.lift_run_laws.specs.Runs.{WorldWell, IsReached}
 use Rattle.lift_run_laws.specs.Histories.{CallGoesWell}
 use Rattle.lift_run_laws.proofs.Accepted.{accepted_runs_well}

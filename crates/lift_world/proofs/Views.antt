@@ -8,7 +8,7 @@ use Rattle.il_machine.specs.Standing.{Standing}
 use Rattle.lift_spec.specs.World.{TaskState, flat}
 use Rattle.lift_world.specs.declared.shared.Seat.{Seat}
 use Rattle.lift_world.specs.Running.{task_in, seated, tasks_in}
-use Rattle.lift_world.specs.Worlds.{scan_by, scans_by}
+use Rattle.lift_world.specs.Groups.{scan_by, scans_by}
 
 -- OPTIONS IN LISTS
 

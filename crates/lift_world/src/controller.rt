@@ -13,7 +13,8 @@ ghost use Rattle.lift_spec.specs.Snapshot.{program_of, scan_begins};
 ghost use Rattle.lift_spec.specs.World.{TaskState, task_at};
 ghost use Rattle.lift_spec.specs.World as model;
 ghost use Rattle.lift_world.specs.Running.{reports_by, may_report, reporting, instructions, up_to_end};
-ghost use Rattle.lift_world.specs.Worlds.{world_in, IsController, StoresFit, Steps, RunsOut};
+ghost use Rattle.lift_world.specs.Groups.{StoresFit};
+ghost use Rattle.lift_world.specs.Worlds.{world_in, IsController, Steps, RunsOut};
 
 use crate::group::Core;
 use crate::replies::Replies;

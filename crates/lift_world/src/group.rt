@@ -7,7 +7,7 @@ ghost use Rattle.lift_spec.specs.Calls.{enter_all, IsCall};
 ghost use Rattle.lift_spec.specs.Image.{sizes_of, FieldsInRange, Obeys};
 ghost use Rattle.lift_spec.specs.Snapshot.{scan_begins};
 ghost use Rattle.lift_spec.specs.World.{TaskState, task_at, opening_group, beginning_of, started_group, committed_group, refreshed_group, InRanges};
-ghost use Rattle.lift_world.specs.Worlds.{is_open_in};
+ghost use Rattle.lift_world.specs.Groups.{is_open_in};
 
 use crate::shared::Shared;
 use il_machine::{Store, Value, Verified};
@@ -37,7 +37,7 @@ impl Drop for Core {
 }
 
 impl Model for Core {
-    ghost use Rattle.lift_world.specs.Worlds.{GroupOf, group_of_code};
+    ghost use Rattle.lift_world.specs.Groups.{GroupOf, group_of_code};
     ghost use Rattle.lift_world.specs.Running.{group_in, HoldsShared};
 
     ghost Value = { GroupOf };
@@ -144,6 +144,7 @@ impl Core {
         ensures config { self.new.config ≡ self.old.config }
         ensures group { (x : TaskState) (tickets : List (Option ℕ)) → task_at self.old.group task ≡ Some x → x.tickets ≡ Some tickets → committed_group verified.now.config self.old.group task x tickets store.now.state.values ≡ (self.new.group, report.new) }
     {
+        store.holds();
         self.shared.commit(verified, task, store, report);
     }
 

@@ -2,7 +2,6 @@
 #![tactic(auto)]
 
 ghost use Rattle.std.specs.Prelude.{◌≡◌, ◌+◌, ℕ, IfOk, slice_index_or};
-ghost use Rattle.lift_book.specs.Ledgers.{page_of};
 ghost use Rattle.lift_journal.specs.Pages.{Kept};
 
 use il_machine::{Verified, scan};
@@ -88,7 +87,7 @@ fn run_in<G: Naming + Send + Sync, R: Threads + Wait + Sync>(
 ) -> Result<Closed, Refusal>
     requires program { verified ≡ G.program }
     requires names { (i : ℕ) → slice_index_or blanks i 0 ≡ G.names i }
-    ensures { IfOk result (λ c. Kept (page_of c.book)) }
+    ensures { IfOk result (λ c. Kept c.book) }
 {
     let (station, passes, refresher) = Station::<G>::new(alloc, blanks, verified, ENTRIES)?;
     match drive_both(rt, alloc, &station, passes) {
@@ -102,7 +101,7 @@ fn run_in<G: Naming + Send + Sync, R: Threads + Wait + Sync>(
 
 /// Runs both cars of the text.
 fn run<R: Threads + Wait + Sync>(rt: &R, alloc: Global) -> Result<Closed, Refusal>
-    ensures { IfOk result (λ c. Kept (page_of c.book)) }
+    ensures { IfOk result (λ c. Kept c.book) }
 {
     let verified = load(alloc, TEXT)?;
     run_in::<Brand, R>(rt, alloc, Blanks::new(), verified)

@@ -56,9 +56,9 @@ fn answers(rt: HostRuntime) {
         ticket: 1,
         call: UP,
     };
-    assert_eq!(rt; one.slots().first().copied(), Some(waits));
-    assert_eq!(rt; one.slots().get(1).copied(), Some(Slot::Free));
-    assert_eq!(rt; one.slots().len(), 8);
+    assert_eq!(rt; one.slot(1), Some(waits));
+    assert_eq!(rt; one.slot(2), Some(Slot::Free));
+    assert_eq!(rt; one.count(), 8);
 
     // A slot that was served and entered again: its old ticket is stale.
     let mut again = book_of(1);
@@ -86,7 +86,7 @@ fn answers(rt: HostRuntime) {
         ticket: 2,
         call: DOWN,
     };
-    assert_eq!(rt; again.slots().first().copied(), Some(waits));
+    assert_eq!(rt; again.slot(1), Some(waits));
     assert_eq!(rt; again.last_ticket(), 2);
 
     // 64 calls in 64 slots, and the slot that is served is the next to be entered.

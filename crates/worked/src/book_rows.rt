@@ -1,7 +1,6 @@
 // What the book of one owner journals and refuses. No command shows it yet.
 
 ghost use Rattle.std.specs.Prelude.{◌≡◌, ◌≤◌, true, IfOk, IfSome};
-ghost use Rattle.il_machine.specs.Scanned.{Begins};
 ghost use Rattle.il_machine.specs.Scanning.{HasTask};
 
 use crate::texts::TWO_IDLE;
@@ -36,9 +35,9 @@ fn start_fault(
     verified: &Verified,
     car: u8,
 ) -> Result<u8, AllocError>
-    requires program { verified.now ≡ book.old.program.value }
+    requires program { verified.now.config ≡ book.old.config }
     requires there { HasTask verified.now.config car }
-    ensures same { book.new.program ≡ book.old.program }
+    ensures same { book.new.config ≡ book.old.config }
 {
     let store = Store::new(alloc, verified, car)?;
     match book.start(verified, car, store) {
@@ -49,9 +48,9 @@ fn start_fault(
 
 // The number of the fault of a commit of a scan for a car, 0 where it is done.
 fn commit_fault(book: &mut Book, verified: &Verified, car: u8, begun: OpenScan) -> u8
-    requires program { verified.now ≡ book.old.program.value }
-    requires begins { Begins verified.now.config begun.task begun.store }
-    ensures same { book.new.program ≡ book.old.program }
+    requires program { verified.now.config ≡ book.old.config }
+    requires of { begun.config ≡ verified.now.config }
+    ensures same { book.new.config ≡ book.old.config }
 {
     match book.commit(verified, car, scan(verified, begun), &mut Report::new()) {
         Ok(_) => 0,
@@ -65,10 +64,10 @@ fn begun(
     book: &mut Book,
     verified: &Verified,
 ) -> Result<Option<OpenScan>, AllocError>
-    requires program { verified.now ≡ book.old.program.value }
+    requires program { verified.now.config ≡ book.old.config }
     requires there { HasTask verified.now.config 1 }
-    ensures begins { IfOk result (λ o. IfSome o (λ b. Begins verified.now.config b.task b.store)) }
-    ensures same { book.new.program ≡ book.old.program }
+    ensures of { IfOk result (λ o. IfSome o (λ b. b.config ≡ verified.now.config)) }
+    ensures same { book.new.config ≡ book.old.config }
 {
     let store = Store::new(alloc, verified, 1)?;
     match book.start(verified, 1, store) {
@@ -83,7 +82,7 @@ fn round_and_start(
     book: &mut Book,
     verified: &Verified,
 ) -> Result<(u8, u8), AllocError>
-    requires program { verified.now ≡ book.old.program.value }
+    requires program { verified.now.config ≡ book.old.config }
     requires there { HasTask verified.now.config 1 }
 {
     match begun(alloc, book, verified)? {
@@ -102,7 +101,7 @@ fn start_and_commit_other(
     book: &mut Book,
     verified: &Verified,
 ) -> Result<(u8, u8), AllocError>
-    requires program { verified.now ≡ book.old.program.value }
+    requires program { verified.now.config ≡ book.old.config }
     requires first { HasTask verified.now.config 1 }
     requires second { HasTask verified.now.config 2 }
 {

@@ -48,7 +48,7 @@ fn left_by(alloc: Global, world: &mut World, given: &[Given]) -> Result<Left, Al
     for one in given {
         replies.push(world.apply(&event(*one), &mut report))?;
     }
-    let slots = Vec::from_slice(alloc, world.slots())?;
+    let slots = Vec::from_slice(alloc, world.slots().as_slice())?;
     Ok(Left {
         replies,
         report,

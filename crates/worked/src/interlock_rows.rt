@@ -2,7 +2,7 @@
 
 ghost use Rattle.std.specs.Prelude.{◌≡◌, length};
 
-use lift_image::{Bounded, CarFields, CarOutputs, Fields, Image, Motor};
+use lift_image::{Bounded, CarFields, CarOutputs, Fields, Image, Motor, Outputs};
 use lift_interlock::{commit_keeps_obeying, refresh_gives_obeying, settle_all, settle_car};
 use lift_spec::report::{Denial, Rule};
 
@@ -33,7 +33,7 @@ fn one_car(motor: Motor, locked: bool) -> Image
 {
     let mut cars = Bounded::new();
     cars.push(car(locked));
-    let mut outputs = Bounded::new();
+    let mut outputs = Outputs::new();
     outputs.push(running(motor));
     Image {
         fields: Fields {
@@ -54,7 +54,7 @@ fn two_cars(first: Motor, second: Motor, run_limit: u8) -> Image
     let mut cars = Bounded::new();
     cars.push(car(true));
     cars.push(car(true));
-    let mut outputs = Bounded::new();
+    let mut outputs = Outputs::new();
     outputs.push(running(first));
     outputs.push(running(second));
     Image {

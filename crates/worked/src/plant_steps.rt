@@ -2,14 +2,14 @@
 
 ghost use Rattle.std.specs.Prelude.{◌≡◌, length};
 
-use lift_image::{Bounded, CarFields, CarOutputs, Motor};
+use lift_image::{CarFields, CarOutputs, Motor, Outputs};
 use lift_plant::plant::{Plant, plant_step, step_is_safe};
 
 // The outputs of a group of one car.
-fn outputs_of(motor: Motor, opens: bool) -> Bounded<CarOutputs, 8>
+fn outputs_of(motor: Motor, opens: bool) -> Outputs
     ensures { length result ≡ 1 }
 {
-    let mut outputs = Bounded::new();
+    let mut outputs = Outputs::new();
     outputs.push(CarOutputs { motor, opens });
     outputs
 }

@@ -472,7 +472,7 @@ fn closed<G: Naming>(station: Station<G>, desk: Desk, rest: Rest<G>) -> Played
         answers,
         report,
         outputs: book.copied_image().outputs,
-        slot: book.slots().first().copied(),
+        slot: book.slots().as_slice().first().copied(),
         journal: book.into_journal(),
         globals,
         desk,

@@ -1,20 +1,19 @@
 use Rattle.std.proofs.Common.{ap, ◌∙◌, Ok}
 use Rattle.lift_run_laws.proofs.Coming.{refused_unchanged}
 use Rattle.lift_spec.specs.Replies.{Refused, reply_with}
-use Rattle.lift_world.specs.Running.{world_of}
 use Rattle.lift_journal.proofs.Taking.{happen_one}
 use Rattle.lift_runs.proofs.Taking.{answer_taken}
 use Rattle.lift_runs.proofs.scan.taken.Goals as goal
 
 pub returns-in-Refused-clause-refused : goal.returns-in-Refused-clause-refused
 returns-in-Refused-clause-refused c =
-    let same = refused_unchanged c.args.world.now.verified.config (world_of c.args.world.now) (world_of c.apply.new.self) c.args.event.now c.in-Refused.fault c.in-Refused.ensures.model in
+    let same = refused_unchanged c.args.world.now.program.config c.args.world.now.world c.apply.new.self.world c.args.event.now c.in-Refused.fault c.in-Refused.ensures.model in
     (same, c.in-Refused.ensures.model ∙ ap (λ w. Ok (w, Refused c.in-Refused.fault)) same)
 
 pub returns-in_default : goal.returns-in_default
 returns-in_default c = record {
   taken =
-      happen_one c.args.world.now.verified.config (world_of c.args.world.now) (world_of c.apply.new.self) c.args.event.now (reply_with c.apply.result c.apply.new.report) c.apply.ensures.model
+      happen_one c.args.world.now.program.config c.args.world.now.world c.apply.new.self.world c.args.event.now (reply_with c.apply.result c.apply.new.report) c.apply.ensures.model
       (answer_taken c.apply.result c.apply.new.report c.in_default.not-Refused);
   refused = tt;
   same = c.apply.ensures.same;

@@ -5,7 +5,6 @@ use Rattle.lift_spec.specs.declared.event.Event.TheVariants.{Press, Gather}
 use Rattle.lift_journal.specs.Rounds.{Happen, desk_events, floors_rising}
 use Rattle.lift_journal.proofs.Taking.{happen_more}
 use Rattle.lift_journal.proofs.Desks.{nothing_happens}
-use Rattle.lift_world.specs.Running.{world_of}
 use Rattle.lift_runs.specs.Driven.{calls_in}
 use Rattle.lift_runs.proofs.Driving.{none_left}
 use Rattle.lift_runs.proofs.sim.desk.Goals as goal
@@ -13,10 +12,10 @@ use Rattle.lift_runs.proofs.sim.desk.Goals as goal
 pub returns-then-is_empty-clause-taken : goal.returns-then-is_empty-clause-taken
 returns-then-is_empty-clause-taken c =
     let none = none_left c.args.presses.now c.is_empty.result c.is_empty.ensures c.if-is_empty.true in
-    subst (λ (ps : List PressOf). Happen c.args.world.now.verified.config (world_of c.args.world.now) (desk_events c.args.world.now.verified.config (calls_in ps c.args.round)) (world_of c.args.world.now)) (sym none)
-    (nothing_happens c.args.world.now.verified.config (world_of c.args.world.now) (c.requires.idle none))
+    subst (λ (ps : List PressOf). Happen c.args.world.now.program.config c.args.world.now.world (desk_events c.args.world.now.program.config (calls_in ps c.args.round)) c.args.world.now.world) (sym none)
+    (nothing_happens c.args.world.now.program.config c.args.world.now.world (c.requires.idle none))
 
 pub returns-clause-taken : goal.returns-clause-taken
 returns-clause-taken c =
-    happen_more c.args.world.now.verified.config (world_of c.args.world.now) (world_of c.press_all.new.world) (world_of c.gather_all.new.world) (map Press (calls_in c.args.presses.now c.args.round)) (map Gather (floors_rising c.args.world.now.verified.config)) c.press_all.ensures.taken
-    (subst (λ (p : Program). Happen p.config (world_of c.press_all.new.world) (map Gather (floors_rising p.config)) (world_of c.gather_all.new.world)) c.press_all.ensures.same c.gather_all.ensures.taken)
+    happen_more c.args.world.now.program.config c.args.world.now.world c.press_all.new.world.world c.gather_all.new.world.world (map Press (calls_in c.args.presses.now c.args.round)) (map Gather (floors_rising c.args.world.now.program.config)) c.press_all.ensures.taken
+    (subst (λ (p : Program). Happen p.config c.press_all.new.world.world (map Gather (floors_rising p.config)) c.gather_all.new.world.world) c.press_all.ensures.same c.gather_all.ensures.taken)

@@ -9,7 +9,6 @@ use Rattle.lift_spec.specs.Image.{sizes_of}
 use Rattle.lift_spec.specs.Replies.{reply_with}
 use Rattle.lift_spec.specs.World.{happens}
 use Rattle.il_machine.proofs.Sizes.{sizes_fit}
-use Rattle.lift_world.specs.Running.{world_of}
 use Rattle.lift_runs.specs.Driven.{call_of}
 use Rattle.lift_runs.proofs.Driving.{read, is_pressed, press_more, press_skips}
 use Rattle.lift_runs.proofs.sim.press_all.Goals as goal
@@ -21,8 +20,8 @@ none = record { round = 0; from = 0; to = 0; panel = 0 }
 pub call_of-requires-clause-from : goal.call_of-requires-clause-from
 call_of-requires-clause-from c =
     let below : c.presses.press-index < length c.args.presses.now = search rules in
-    let call = is_pressed (sizes_of c.args.world.now.verified.config) c.args.presses.now c.presses.press-index (slice_index_or c.args.presses.now c.presses.press-index none) c.requires.calls (read c.args.presses.now c.presses.press-index none below) in
-    let fit = sizes_fit c.args.world.now.verified.config (subst (λ (p : Program). IsRunnable p.config) c.verified.ensures c.config-config.ensures.runnable) in
+    let call = is_pressed (sizes_of c.args.world.now.program.config) c.args.presses.now c.presses.press-index (slice_index_or c.args.presses.now c.presses.press-index none) c.requires.calls (read c.args.presses.now c.presses.press-index none below) in
+    let fit = sizes_fit c.args.world.now.program.config (subst (λ (p : Program). IsRunnable p.config) c.verified.ensures c.config-config.ensures.runnable) in
     let high = call.from.1 in
     let most = fit.1.1 in
     omega (arith, high, most)
@@ -30,8 +29,8 @@ call_of-requires-clause-from c =
 pub call_of-requires-clause-to : goal.call_of-requires-clause-to
 call_of-requires-clause-to c =
     let below : c.presses.press-index < length c.args.presses.now = search rules in
-    let call = is_pressed (sizes_of c.args.world.now.verified.config) c.args.presses.now c.presses.press-index (slice_index_or c.args.presses.now c.presses.press-index none) c.requires.calls (read c.args.presses.now c.presses.press-index none below) in
-    let fit = sizes_fit c.args.world.now.verified.config (subst (λ (p : Program). IsRunnable p.config) c.verified.ensures c.config-config.ensures.runnable) in
+    let call = is_pressed (sizes_of c.args.world.now.program.config) c.args.presses.now c.presses.press-index (slice_index_or c.args.presses.now c.presses.press-index none) c.requires.calls (read c.args.presses.now c.presses.press-index none below) in
+    let fit = sizes_fit c.args.world.now.program.config (subst (λ (p : Program). IsRunnable p.config) c.verified.ensures c.config-config.ensures.runnable) in
     let high = call.to.1 in
     let most = fit.1.1 in
     omega (arith, high, most)
@@ -44,13 +43,13 @@ presses-preserved c =
     elim c.if-press-round.branch [
       | then-press-round w ↦
           let reply = reply_with w.apply.result w.apply.new.report in (
-            press_more c.args.world.now.verified.config (world_of c.args.world.now) (world_of c.presses.world) (world_of c.if-press-round.world) c.args.presses.now c.args.round c.presses.press-index press reply c.requires.calls at (search rules) c.presses.invariant.0
-                (subst (λ (p : Program). happens p.config (world_of c.presses.world) (Press (call_of press)) ≡ Ok (world_of c.if-press-round.world, reply)) c.presses.invariant.1
-                (subst (λ (l : Call). happens c.presses.world.verified.config (world_of c.presses.world) (Press l) ≡ Ok (world_of c.if-press-round.world, reply)) w.call_of.ensures (rw w.world-is w.apply.ensures.model))),
+            press_more c.args.world.now.program.config c.args.world.now.world c.presses.world.world c.if-press-round.world.world c.args.presses.now c.args.round c.presses.press-index press reply c.requires.calls at (search rules) c.presses.invariant.0
+                (subst (λ (p : Program). happens p.config c.presses.world.world (Press (call_of press)) ≡ Ok (c.if-press-round.world.world, reply)) c.presses.invariant.1
+                (subst (λ (l : Call). happens c.presses.world.program.config c.presses.world.world (Press l) ≡ Ok (c.if-press-round.world.world, reply)) w.call_of.ensures (rw w.world-is w.apply.ensures.model))),
             rw w.world-is (w.apply.ensures.same ∙ c.presses.invariant.1),
           )
       | else-press-round w ↦ (
-        rw w.world-is (press_skips c.args.world.now.verified.config (world_of c.args.world.now) (world_of c.presses.world) c.args.presses.now c.args.round c.presses.press-index press at (search rules) c.presses.invariant.0),
+        rw w.world-is (press_skips c.args.world.now.program.config c.args.world.now.world c.presses.world.world c.args.presses.now c.args.round c.presses.press-index press at (search rules) c.presses.invariant.0),
         rw w.world-is c.presses.invariant.1,
       )
     ]

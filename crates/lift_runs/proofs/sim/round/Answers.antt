@@ -14,14 +14,13 @@ use Rattle.lift_journal.specs.Rounds.{ScanEach, tasks_in_order, scan_entries, en
 use Rattle.lift_journal.proofs.Desks.{refresh_keeps, each_keeps}
 use Rattle.lift_journal.proofs.Taking.{desk_closes, refresh_closes}
 use Rattle.il_machine.proofs.Sizes.{sizes_fit}
-use Rattle.lift_world.specs.Running.{world_of}
 use Rattle.lift_runs.specs.Driven.{AreTasks, calls_in}
 use Rattle.lift_runs.proofs.Driving.{tasks_are}
 use Rattle.lift_runs.proofs.sim.round.Goals as goal
 
 pub refresh-requires : goal.refresh-requires
 refresh-requires c =
-    let p = c.args.world.now.verified in
+    let p = c.args.world.now.program in
     let sizes = sizes_of p.config in
     let fit = sizes_fit p.config (subst (λ (x : Program). IsRunnable x.config) c.verified.ensures c.config-config.ensures.runnable) in
     let two = fit.1.0 in
@@ -33,23 +32,23 @@ refresh-requires c =
 
 pub scan_all-requires-clause-tasks : goal.scan_all-requires-clause-tasks
 scan_all-requires-clause-tasks c =
-    let p = c.args.world.now.verified in
+    let p = c.args.world.now.program in
     subst (λ (x : Program). AreTasks x.config c.args.tasks.now) (sym (c.refresh.ensures.same ∙ c.desk.ensures.same)) (rw c.requires.tasks (tasks_are p.config))
 
 pub scan_all-requires-clause-closed : goal.scan_all-requires-clause-closed
 scan_all-requires-clause-closed c =
-    let p = c.args.world.now.verified in
-    refresh_closes c.desk.new.world.verified.config (world_of c.desk.new.world) (world_of c.refresh.new.world) c.plant_step-plant.result.1 c.refresh.new.report c.in_ok-refresh.ensures.taken
-    (desk_closes p.config (calls_in c.args.drive.presses.now c.args.number) (world_of c.args.world.now) (world_of c.desk.new.world) c.desk.ensures.taken c.requires.closed)
+    let p = c.args.world.now.program in
+    refresh_closes c.desk.new.world.program.config c.desk.new.world.world c.refresh.new.world.world c.plant_step-plant.result.1 c.refresh.new.report c.in_ok-refresh.ensures.taken
+    (desk_closes p.config (calls_in c.args.drive.presses.now c.args.number) c.args.world.now.world c.desk.new.world.world c.desk.ensures.taken c.requires.closed)
 
 pub returns-clause-round : goal.returns-clause-round
 returns-clause-round c =
-    let p = c.args.world.now.verified in
+    let p = c.args.world.now.program in
     let next = c.plant_step-plant.result.0 in
     let report = c.refresh.new.report in
-    let refreshing : happens p.config (world_of c.desk.new.world) (Refresh (fields_of_plant next)) ≡ Ok (world_of c.refresh.new.world, Refreshed report) =
-    subst (λ (f : Fields). happens p.config (world_of c.desk.new.world) (Refresh f) ≡ Ok (world_of c.refresh.new.world, Refreshed report)) c.plant_step-plant.ensures.fields
-    (subst (λ (x : Program). happens x.config (world_of c.desk.new.world) (Refresh c.plant_step-plant.result.1) ≡ Ok (world_of c.refresh.new.world, Refreshed report)) c.desk.ensures.same c.in_ok-refresh.ensures.taken)
+    let refreshing : happens p.config c.desk.new.world.world (Refresh (fields_of_plant next)) ≡ Ok (c.refresh.new.world.world, Refreshed report) =
+    subst (λ (f : Fields). happens p.config c.desk.new.world.world (Refresh f) ≡ Ok (c.refresh.new.world.world, Refreshed report)) c.plant_step-plant.ensures.fields
+    (subst (λ (x : Program). happens x.config c.desk.new.world.world (Refresh c.plant_step-plant.result.1) ≡ Ok (c.refresh.new.world.world, Refreshed report)) c.desk.ensures.same c.in_ok-refresh.ensures.taken)
     in
     let last = entry.Refresh (fields_of_plant next) (entered_calls_of report) ∷ flat_map scan_entries (tasks_in_order p.config) in
     let first = ap (λ (f : Fields). c.args.entries.now.items ++ entry.Refresh f (entered_calls_of report) ∷ []) c.plant_step-plant.ensures.fields in (
@@ -57,24 +56,24 @@ returns-clause-round c =
       c.in_ok-scan_all.ensures.journal ∙ ap₂ (λ es ts. es ++ flat_map scan_entries ts) (c.in_ok-refresh.ensures.journal ∙ first) c.requires.tasks
           ∙ append_assoc c.args.entries.now.items (entry.Refresh (fields_of_plant next) (entered_calls_of report) ∷ []) (flat_map scan_entries (tasks_in_order p.config)),
       record {
-        gathered = world_of c.desk.new.world;
+        gathered = c.desk.new.world.world;
         desk = c.desk.ensures.taken;
         plant_step =
             c.plant_step-plant.ensures.plant ∙ ap₂ (λ (a : PlantState) (i : Image). plant_after a i.outputs) (c.with_fire-plant.ensures.plant ∙ ap (λ (b : Bool). record c.args.plant { fire = b }) c.is_fire_in.ensures) c.image.ensures.image;
-        refreshed = world_of c.refresh.new.world;
+        refreshed = c.refresh.new.world.world;
         report = report;
         refresh = refreshing;
         scans =
             rw (sym c.requires.tasks)
-            (subst (λ (x : Program). ScanEach x.config c.args.tasks.now (world_of c.refresh.new.world) (world_of c.scan_all.new.world)) (c.refresh.ensures.same ∙ c.desk.ensures.same) c.in_ok-scan_all.ensures.scans);
+            (subst (λ (x : Program). ScanEach x.config c.args.tasks.now c.refresh.new.world.world c.scan_all.new.world.world) (c.refresh.ensures.same ∙ c.desk.ensures.same) c.in_ok-scan_all.ensures.scans);
         journal = refl;
       },
     )
 
 pub returns-clause-plant : goal.returns-clause-plant
-returns-clause-plant c = let sizes = sizes_of c.args.world.now.verified.config in c.plant_step-plant.ensures.sized sizes (c.with_fire-plant.ensures.sized sizes c.requires.plant)
+returns-clause-plant c = let sizes = sizes_of c.args.world.now.program.config in c.plant_step-plant.ensures.sized sizes (c.with_fire-plant.ensures.sized sizes c.requires.plant)
 
 pub returns-clause-idle : goal.returns-clause-idle
 returns-clause-idle c = λ none.
-    each_keeps c.refresh.new.world.verified.config c.args.tasks.now (world_of c.refresh.new.world) (world_of c.scan_all.new.world) c.in_ok-scan_all.ensures.scans
-    ∙ refresh_keeps c.desk.new.world.verified.config (world_of c.desk.new.world) (world_of c.refresh.new.world) c.plant_step-plant.result.1 (Refreshed c.refresh.new.report) c.in_ok-refresh.ensures.taken ∙ c.desk.ensures.idle none
+    each_keeps c.refresh.new.world.program.config c.args.tasks.now c.refresh.new.world.world c.scan_all.new.world.world c.in_ok-scan_all.ensures.scans
+    ∙ refresh_keeps c.desk.new.world.program.config c.desk.new.world.world c.refresh.new.world.world c.plant_step-plant.result.1 (Refreshed c.refresh.new.report) c.in_ok-refresh.ensures.taken ∙ c.desk.ensures.idle none

@@ -11,23 +11,22 @@ use Rattle.lift_journal.specs.Rounds.{Rounds}
 use Rattle.lift_journal.proofs.Rounds.{rounds_are_journal}
 use Rattle.lift_journal.proofs.Safe.{rounds_keep_cars_safe}
 use Rattle.il_machine.proofs.Sizes.{sizes_fit}
-use Rattle.lift_world.specs.Running.{world_of}
 use Rattle.lift_runs.specs.Driven.{calls_in, is_fire_in}
 use Rattle.lift_runs.proofs.Driving.{rounds_more, opening_desk}
 use Rattle.lift_runs.proofs.sim.run_rounds.Goals as goal
 
 pub new-plant-requires-clause-cars : goal.new-plant-requires-clause-cars
 new-plant-requires-clause-cars c =
-    subst (λ (s : Sizes). (1 ≤ s.cars) × (s.cars ≤ 8)) (sym c.sizes-cars.ensures) (sizes_fit c.args.world.now.verified.config (subst (λ (p : Program). IsRunnable p.config) c.verified.ensures c.config-config.ensures.runnable)).0
+    subst (λ (s : Sizes). (1 ≤ s.cars) × (s.cars ≤ 8)) (sym c.sizes-cars.ensures) (sizes_fit c.args.world.now.program.config (subst (λ (p : Program). IsRunnable p.config) c.verified.ensures c.config-config.ensures.runnable)).0
 
 pub new-plant-requires-clause-floors : goal.new-plant-requires-clause-floors
 new-plant-requires-clause-floors c =
-    let fit = sizes_fit c.args.world.now.verified.config (subst (λ (p : Program). IsRunnable p.config) c.verified.ensures c.config-config.ensures.runnable) in
+    let fit = sizes_fit c.args.world.now.program.config (subst (λ (p : Program). IsRunnable p.config) c.verified.ensures c.config-config.ensures.runnable) in
     subst (λ (s : Sizes). (2 ≤ s.floors) × (s.floors ≤ 16)) (sym c.sizes-cars.ensures) (fit.1.0, fit.1.1)
 
 pub rounds-init : goal.rounds-init
 rounds-init c =
-    let config = c.args.world.now.verified.config in
+    let config = c.args.world.now.program.config in
     record {
       rounds = (c.new-plant.ensures.plant ∙ ap (λ (s : Sizes). opening_plant s.cars s.floors) c.sizes-cars.ensures, c.requires.opening, c.requires.none);
       plant = subst (λ (s : Sizes). IsPlantOf s c.new-plant.result) c.sizes-cars.ensures (c.new-plant.ensures.sized c.sizes-cars.result.slots);
@@ -38,11 +37,11 @@ rounds-init c =
 
 pub rounds-preserved : goal.rounds-preserved
 rounds-preserved c =
-    let p = c.args.world.now.verified in
+    let p = c.args.world.now.program in
     let round = c.in_ok-plant.ensures.round in
     record {
       rounds =
-          rounds_more p c.rounds.world.verified c.rounds.invariant.same c.args.drive.presses.now c.args.drive.fire c.rounds.number c.rounds.plant c.in_ok-plant.plant (world_of c.rounds.world) (world_of c.round.new.world) c.rounds.entries.items c.round.new.entries.items round.0
+          rounds_more p c.rounds.world.program c.rounds.invariant.same c.args.drive.presses.now c.args.drive.fire c.rounds.number c.rounds.plant c.in_ok-plant.plant c.rounds.world.world c.round.new.world.world c.rounds.entries.items c.round.new.entries.items round.0
           c.rounds.invariant.rounds round.1 round.2;
       plant = subst (λ (x : Program). IsPlantOf (sizes_of x.config) c.in_ok-plant.plant) c.rounds.invariant.same c.in_ok-plant.ensures.plant;
       closed = c.in_ok-plant.ensures.closed;
@@ -52,16 +51,16 @@ rounds-preserved c =
 
 pub returns-clause-rounds : goal.returns-clause-rounds
 returns-clause-rounds c =
-    let config = c.args.world.now.verified.config in
+    let config = c.args.world.now.program.config in
     let runs = subst (λ (p : Program). IsRunnable p.config) c.verified.ensures c.config-config.ensures.runnable in
     let all : c.rounds.number ≡ c.args.rounds = search rules in
     let driven =
-    subst (λ n. Rounds config (calls_in c.args.drive.presses.now) (is_fire_in c.args.drive.fire) n c.rounds.plant (world_of c.rounds.world) c.rounds.entries.items) all c.rounds.invariant.rounds
+    subst (λ n. Rounds config (calls_in c.args.drive.presses.now) (is_fire_in c.args.drive.fire) n c.rounds.plant c.rounds.world.world c.rounds.entries.items) all c.rounds.invariant.rounds
     in
     record {
       plant = c.rounds.plant;
-      world = world_of c.rounds.world;
+      world = c.rounds.world.world;
       driven = driven;
-      journal = rounds_are_journal config (sound_of config runs) (calls_in c.args.drive.presses.now) (is_fire_in c.args.drive.fire) c.args.rounds c.rounds.plant (world_of c.rounds.world) c.rounds.entries.items driven;
-      safe = rounds_keep_cars_safe config (sound_of config runs) (calls_in c.args.drive.presses.now) (is_fire_in c.args.drive.fire) c.args.rounds c.rounds.plant (world_of c.rounds.world) c.rounds.entries.items driven;
+      journal = rounds_are_journal config (sound_of config runs) (calls_in c.args.drive.presses.now) (is_fire_in c.args.drive.fire) c.args.rounds c.rounds.plant c.rounds.world.world c.rounds.entries.items driven;
+      safe = rounds_keep_cars_safe config (sound_of config runs) (calls_in c.args.drive.presses.now) (is_fire_in c.args.drive.fire) c.args.rounds c.rounds.plant c.rounds.world.world c.rounds.entries.items driven;
     }

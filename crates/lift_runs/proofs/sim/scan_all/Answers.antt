@@ -4,7 +4,6 @@ use Rattle.std.proofs.lemmas.List.{append_assoc}
 use Rattle.il_machine.specs.Scanning.{Program, HasTask}
 use Rattle.lift_spec.specs.declared.journal.Entry.TheVariants as entry
 use Rattle.lift_journal.specs.Rounds.{Scans}
-use Rattle.lift_world.specs.Running.{world_of}
 use Rattle.lift_runs.proofs.Driving.{read, is_task, each_next, entries_next}
 use Rattle.lift_runs.proofs.sim.scan_all.Goals as goal
 
@@ -12,7 +11,7 @@ pub scan-requires-clause-task : goal.scan-requires-clause-task
 scan-requires-clause-task c =
     let below : c.tasks.task-index < length c.args.tasks.now = search rules in
     let t = slice_index_or c.args.tasks.now c.tasks.task-index 0 in
-    subst (λ (p : Program). HasTask p.config t) (sym c.tasks.invariant.same) (is_task c.args.world.now.verified.config c.args.tasks.now c.tasks.task-index t c.requires.tasks (read c.args.tasks.now c.tasks.task-index 0 below))
+    subst (λ (p : Program). HasTask p.config t) (sym c.tasks.invariant.same) (is_task c.args.world.now.program.config c.args.tasks.now c.tasks.task-index t c.requires.tasks (read c.args.tasks.now c.tasks.task-index 0 below))
 
 pub tasks-preserved : goal.tasks-preserved
 tasks-preserved c =
@@ -21,8 +20,8 @@ tasks-preserved c =
     let at = read c.args.tasks.now c.tasks.task-index 0 below in
     record {
       scans =
-          each_next c.args.world.now.verified.config c.args.tasks.now c.tasks.task-index t (world_of c.args.world.now) (world_of c.tasks.world) (world_of c.scan.new.world) at c.tasks.invariant.scans
-          (subst (λ (p : Program). Scans p.config t (world_of c.tasks.world) (world_of c.scan.new.world)) c.tasks.invariant.same c.scan.ensures.scan);
+          each_next c.args.world.now.program.config c.args.tasks.now c.tasks.task-index t c.args.world.now.world c.tasks.world.world c.scan.new.world.world at c.tasks.invariant.scans
+          (subst (λ (p : Program). Scans p.config t c.tasks.world.world c.scan.new.world.world) c.tasks.invariant.same c.scan.ensures.scan);
       closed = c.scan.ensures.closed;
       journal =
           c.in_ok-push-2.ensures.items ∙ ap (λ l. l ++ entry.Commit t ∷ []) c.in_ok-push.ensures.items ∙ append_assoc c.tasks.entries.items (entry.Start t ∷ []) (entry.Commit t ∷ [])

@@ -2,7 +2,6 @@ use Rattle.std.proofs.Common.{◌≡◌, ◌+◌, ◌≤◌, ℕ, sym, ap, ◌�
 use Rattle.il_spec.specs.declared.tree.Config.{Config}
 use Rattle.il_machine.specs.Scanning.{Program, IsRunnable}
 use Rattle.lift_spec.specs.declared.journal.Entry.{Entry}
-use Rattle.lift_book.specs.Ledgers.{page_of}
 use Rattle.lift_journal.specs.Journal.{IsJournalOf, entries_by, refresher}
 use Rattle.il_machine.proofs.Sizes.{sizes_fit}
 use Rattle.lift_workers.proofs.Counting.{all_counted, low_task}
@@ -12,12 +11,12 @@ pub returns : goal.returns
 returns g c =
     let program = g.G.Naming.program in
     let config = program.config in
-    let book = page_of c.close-verified.result.book in
+    let book = c.close-verified.result.book in
     let entries = sym c.into_journal.ensures in
     let runs = subst (λ (p : Program). IsRunnable p.config) c.close-verified.ensures.verified c.config-config.ensures.runnable in
     record {
       world = book.world;
-      journal = subst (λ (es : _). IsJournalOf config es book.world) entries (subst (λ (p : Program). IsJournalOf p.config book.journal book.world) c.close-verified.ensures.program c.close-verified.ensures.kept.run);
+      journal = subst (λ (es : _). IsJournalOf config es book.world) entries (subst (λ (k : Config). IsJournalOf k book.journal book.world) c.close-verified.ensures.program c.close-verified.ensures.kept.run);
       tasks = λ t is.
           ap (entries_by t) c.into_journal.ensures
           ∙ all_counted config (c.args.rounds + c.args.rounds) book.journal c.args.passes.tasks.items c.requires.tasks c.requires.counts c.close-verified.ensures.tasks t (low_task config runs t is) is;

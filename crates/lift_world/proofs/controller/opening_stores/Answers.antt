@@ -1,6 +1,6 @@
 use Rattle.std.proofs.Common.{◌∙◌, ap, ◌+◌, arith}
 use Rattle.std.specs.Prelude.{is_some}
-use Rattle.il_machine.specs.Standing.{Standing, IsOf}
+use Rattle.il_machine.specs.Standing.{IsOf}
 use Rattle.lift_spec.specs.Snapshot.{program_of}
 use Rattle.lift_world.proofs.Opens.{length_more, holds_more, there_more}
 use Rattle.lift_world.proofs.controller.opening_stores.Goals as goal

@@ -2,6 +2,7 @@ use Rattle.std.proofs.Common.{rules, ◌≡◌, ℕ, List, Option, Some, subst, 
 use Rattle.std.specs.Prelude.{is_some}
 use Rattle.il_machine.specs.Standing.{Standing}
 use Rattle.lift_spec.specs.World.{TaskState, task_at, committed_group}
+use Rattle.lift_world.proofs.Views.{the_seat}
 use Rattle.lift_world.proofs.Happening.{none_there, found, tickets_so, store_within, lent_is, lent_of, commit_none, commit_without, commit_early, open_so, committed, committed_stores}
 use Rattle.lift_world.proofs.controller.Controller.commit.Goals as goal
 
@@ -26,3 +27,45 @@ unreachable-requires c =
     let some = ap is_some (lent_is c.args.self.now c.requires c.args.task x _ _ c.from.ensures c.index.ensures) in
     let bad : false ≡ true = ap is_some (sym c.in_default.is) ∙ some in
     cc
+
+pub returns-then-not-has_ended-clause-model : goal.returns-then-not-has_ended-clause-model
+returns-then-not-has_ended-clause-model c =
+    let w = c.args.self.now in
+    let x = found c.args.self.now c.requires c.args.task _ c.has_task.ensures c.if-not-has_task.false in
+    let same : c.in-Some.store ≡ x.store = the_seat _ c.in-Some.store x.store c.in-Some.is (lent_is c.args.self.now c.requires c.args.task x _ _ c.from.ensures c.index.ensures) in
+    commit_early w c.requires c.args.task x (tickets_so w c.requires c.args.task x _ true c.is_open.ensures c.if-not-is_open.false)
+    (λ over. (let bad : false ≡ true = c.if-not-has_ended.ensures.1 (ap (λ (s : Standing). s.state.frames) same ∙ over) in cc))
+
+pub commit-requires-clause-open : goal.commit-requires-clause-open
+commit-requires-clause-open c =
+    let w = c.args.self.now in
+    let x = found c.args.self.now c.requires c.args.task _ c.has_task.ensures c.if-not-has_task.false in
+    open_so w c.requires c.args.task x (tickets_so w c.requires c.args.task x _ true c.is_open.ensures c.if-not-is_open.false)
+
+pub commit-requires-clause-of : goal.commit-requires-clause-of
+commit-requires-clause-of c =
+    let w = c.args.self.now in
+    let x = found c.args.self.now c.requires c.args.task _ c.has_task.ensures c.if-not-has_task.false in
+    lent_of w c.requires c.args.task x _ (lent_is c.args.self.now c.requires c.args.task x _ _ c.from.ensures c.index.ensures) c.in-Some.store c.in-Some.is
+
+pub returns-clause-model : goal.returns-clause-model
+returns-clause-model c =
+    let w = c.args.self.now in
+    let x = found c.args.self.now c.requires c.args.task _ c.has_task.ensures c.if-not-has_task.false in
+    let same : c.in-Some.store ≡ x.store = the_seat _ c.in-Some.store x.store c.in-Some.is (lent_is c.args.self.now c.requires c.args.task x _ _ c.from.ensures c.index.ensures) in
+    let group =
+    subst (λ (s : Standing). (y : TaskState) (ts : List (Option ℕ)) → task_at w.core.group c.args.task ≡ Some y → y.tickets ≡ Some ts → committed_group w.verified.config w.core.group c.args.task y ts s.state.values ≡ (c.commit.new.self.group, c.commit.new.report)) same
+    c.commit.ensures.group
+    in
+    committed w c.requires c.args.task x c.commit.new.self.group c.commit.new.report (tickets_so w c.requires c.args.task x _ true c.is_open.ensures c.if-not-is_open.false) group (ap (λ (s : Standing). s.state.frames) (sym same) ∙ c.if-not-has_ended.ensures.0 refl)
+
+pub returns-clause-stores : goal.returns-clause-stores
+returns-clause-stores c =
+    let w = c.args.self.now in
+    let x = found c.args.self.now c.requires c.args.task _ c.has_task.ensures c.if-not-has_task.false in
+    let same : c.in-Some.store ≡ x.store = the_seat _ c.in-Some.store x.store c.in-Some.is (lent_is c.args.self.now c.requires c.args.task x _ _ c.from.ensures c.index.ensures) in
+    let group =
+    subst (λ (s : Standing). (y : TaskState) (ts : List (Option ℕ)) → task_at w.core.group c.args.task ≡ Some y → y.tickets ≡ Some ts → committed_group w.verified.config w.core.group c.args.task y ts s.state.values ≡ (c.commit.new.self.group, c.commit.new.report)) same
+    c.commit.ensures.group
+    in
+    committed_stores w c.requires c.args.task x c.commit.new.self.group c.commit.new.report (tickets_so w c.requires c.args.task x _ true c.is_open.ensures c.if-not-is_open.false) group

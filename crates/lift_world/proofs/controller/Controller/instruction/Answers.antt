@@ -1,4 +1,4 @@
-use Rattle.std.proofs.Common.{rules, ◌≡◌, ◌∙◌, sym, ap, refl, true, false}
+use Rattle.std.proofs.Common.{rules, ◌∙◌, ap, true, false}
 use Rattle.std.specs.Prelude.{is_some}
 use Rattle.lift_world.proofs.Happening.{none_there, found, tickets_so, store_within, lent_is, lent_of, instruction_none, instruction_without, advanced, advanced_stores}
 use Rattle.lift_world.proofs.controller.Controller.instruction.Goals as goal

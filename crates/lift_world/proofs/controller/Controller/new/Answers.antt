@@ -1,9 +1,8 @@
-use Rattle.std.proofs.Common.{◌≡◌, subst, sym}
+use Rattle.std.proofs.Common.{◌≡◌, ◌∙◌, subst}
 use Rattle.std.specs.Prelude.{IfOk}
-use Rattle.il_spec.specs.declared.tree.Config.{Config}
 use Rattle.lift_spec.specs.World.{opening_group}
 use Rattle.lift_world.specs.declared.controller.Opened.{Opened}
-use Rattle.lift_world.specs.Worlds.{StoresFit}
+use Rattle.lift_world.specs.Groups.{StoresFit}
 use Rattle.lift_world.proofs.Opens.{world_opens, tasks_many}
 use Rattle.lift_world.proofs.Sound.{opening_reached}
 use Rattle.lift_world.proofs.controller.Controller.new.Goals.{After-of}
@@ -18,3 +17,21 @@ group c = subst (λ r. IfOk r (λ (o : Opened). o.core.group ≡ opening_group c
 
 stores : (c : After-of) → StoresFit c.args.verified.config c.in_ok-verified.opened.core.group.tasks c.in_ok-verified.opened.stores.items
 stores c = subst (λ r. IfOk r (λ (o : Opened). StoresFit c.args.verified.config o.core.group.tasks o.stores.items)) c.in_ok-verified.ensures.ok.1 c.opening-opened.ensures.stores
+
+pub returns-clause-opening : goal.returns-clause-opening
+returns-clause-opening c =
+    rw (c.of.ensures.core, c.of.ensures.stores, c.of.ensures.calls.0, c.of.ensures.calls.1)
+    (world_opens c.args.verified.config c.in_ok-verified.opened.core.group c.in_ok-verified.opened.stores.items (group c) ((stores c).as_many ∙ tasks_many c.args.verified.config c.in_ok-verified.opened.core.group (group c)))
+
+pub returns-clause-world : goal.returns-clause-world
+returns-clause-world c =
+    let k = c.args.verified.config in
+    let opened = c.in_ok-verified.opened in
+    rw (c.of.ensures.verified, c.of.ensures.core, c.of.ensures.stores, c.of.ensures.calls.0, c.of.ensures.calls.1, c.in_ok-verified.ensures.ok.0)
+    (record {
+      runnable = c.config-config.ensures.runnable;
+      costs = c.config-config.ensures.costs;
+      same = config c;
+      stores = stores c;
+      reached = opening_reached k _ (world_opens k opened.core.group opened.stores.items (group c) ((stores c).as_many ∙ tasks_many k opened.core.group (group c)));
+    })

@@ -3,7 +3,7 @@ use Rattle.il_spec.specs.declared.tree.Config.{Config}
 use Rattle.il_table.specs.NameMap.{get}
 use Rattle.il_machine.specs.Sharing.{globals_in}
 use Rattle.lift_world.specs.Running.{SharedFits}
-use Rattle.lift_world.specs.Worlds.{GroupOf}
+use Rattle.lift_world.specs.Groups.{GroupOf}
 use Rattle.lift_world.proofs.Grouped.{config_here}
 use Rattle.lift_world.proofs.group.Core.global.Goals as goal
 

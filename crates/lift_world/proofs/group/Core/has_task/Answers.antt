@@ -2,7 +2,7 @@ use Rattle.std.proofs.Common.{ap, ◌∙◌}
 use Rattle.std.specs.Prelude.{is_some}
 use Rattle.lift_spec.specs.World.{task_at}
 use Rattle.lift_world.proofs.Grouped.{seat_some}
-use Rattle.lift_world.specs.Worlds.{GroupOf}
+use Rattle.lift_world.specs.Groups.{GroupOf}
 use Rattle.lift_world.proofs.group.Core.has_task.Goals as goal
 
 pub returns : goal.returns

@@ -1,7 +1,7 @@
 use Rattle.std.proofs.Common.{subst}
 use Rattle.lift_spec.specs.Image.{Obeys}
 use Rattle.lift_spec.specs.World.{InRanges}
-use Rattle.lift_world.specs.Worlds.{GroupOf}
+use Rattle.lift_world.specs.Groups.{GroupOf}
 use Rattle.lift_world.proofs.group.Core.holds.Goals as goal
 
 pub returns-clause-ranges : goal.returns-clause-ranges

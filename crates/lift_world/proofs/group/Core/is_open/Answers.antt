@@ -1,7 +1,7 @@
 use Rattle.std.proofs.Common.{ap, ◌∙◌}
-use Rattle.lift_world.specs.Worlds.{is_open_in}
+use Rattle.lift_world.specs.Groups.{is_open_in}
 use Rattle.lift_world.proofs.Grouped.{open_is}
-use Rattle.lift_world.specs.Worlds.{GroupOf}
+use Rattle.lift_world.specs.Groups.{GroupOf}
 use Rattle.lift_world.proofs.group.Core.is_open.Goals as goal
 
 pub returns : goal.returns

@@ -1,10 +1,10 @@
-use Rattle.std.proofs.Common.{◌≡◌, ap, sym, ◌∙◌, subst}
+use Rattle.std.proofs.Common.{ap, sym, ◌∙◌, subst}
 use Rattle.std.specs.Prelude.{option_and_then}
 use Rattle.il_spec.specs.declared.tree.Config.{Config}
 use Rattle.il_table.specs.NameMap.{get}
 use Rattle.lift_spec.specs.World.{TaskState, task_at}
 use Rattle.lift_world.specs.Running.{seat_at, group_in, SharedFits}
-use Rattle.lift_world.specs.Worlds.{GroupOf}
+use Rattle.lift_world.specs.Groups.{GroupOf}
 use Rattle.lift_world.proofs.Views.{variable_of}
 use Rattle.lift_world.proofs.Grouped.{task_is, config_here}
 use Rattle.lift_world.proofs.group.Core.variable.Goals as goal

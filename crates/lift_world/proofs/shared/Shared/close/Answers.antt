@@ -1,4 +1,5 @@
-use Rattle.std.proofs.Common.{◌∙◌, sym, ap₂, slice_set}
+use Rattle.std.proofs.Common.{◌∙◌, sym, ap₂, slice_set, subst}
+use Rattle.il_machine.specs.Sharing.{FitsGlobals}
 use Rattle.lift_world.proofs.Views.{here, some_of}
 use Rattle.lift_world.proofs.Keeping.{rows_put}
 use Rattle.lift_world.proofs.shared.Shared.close.Goals as goal
@@ -15,4 +16,4 @@ pub returns-clause-fits : goal.returns-clause-fits
 returns-clause-fits c =
     let seat = some_of _ c.requires.there in
     let left = c.close_seat.ensures seat.0 (sym (here _ _ _ _ c.from.ensures c.index_mut.ensures.value c.requires.there) ∙ seat.1) in
-    rows_put c.args.verified.now.config c.args.self.now _ c.args.task left.0 _ c.requires.fits (ap₂ (slice_set c.args.self.now.seats.items) c.from.ensures left.1) left.2 left.3 c.copy_globals.ensures.fits
+    rows_put c.args.verified.now.config c.args.self.now _ c.args.task left.0 _ c.requires.fits (ap₂ (slice_set c.args.self.now.seats.items) c.from.ensures left.1) left.2 left.3 (subst (λ k. FitsGlobals k c.copy_globals.new.globals) c.requires.of.0 c.copy_globals.ensures.fits)

@@ -1,6 +1,6 @@
-use Rattle.std.proofs.Common.{◌≡◌, sym, subst, arith}
+use Rattle.std.proofs.Common.{subst}
 use Rattle.il_machine.specs.Standing.{IsOf}
-use Rattle.lift_world.specs.Running.{HasOpenScan, Commits}
+use Rattle.lift_world.specs.Running.{HasOpenScan}
 use Rattle.lift_world.proofs.shared.Shared.commit.Goals as goal
 
 pub commit_group-requires-clause-open : goal.commit_group-requires-clause-open

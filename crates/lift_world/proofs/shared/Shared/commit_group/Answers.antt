@@ -1,5 +1,6 @@
 use Rattle.std.proofs.Common.{[], length, ◌∙◌, sym, ap, arith, refl}
 use Rattle.std.specs.Prelude.{is_some}
+use Rattle.lift_spec.specs.Image.{sizes_of}
 use Rattle.lift_spec.specs.Snapshot.{assigned}
 use Rattle.lift_spec.specs.World.{tell_all}
 use Rattle.il_machine.specs.Sharing.{globals_in}
@@ -32,7 +33,7 @@ pub tell_all-requires-clause-each : goal.tell_all-requires-clause-each
 tell_all-requires-clause-each c =
     let open_so = c.requires.open in
     let at = sym (here c.args.self.now.seats.items 0 0 c.index.result.now refl c.index.ensures (ap is_some open_so.there)) ∙ open_so.there in
-    ap length (c.as_slice.ensures ∙ c.assigned-cars.ensures) ∙ assigned_each _ _ ∙ sym (ap length (c.saw-tickets.ensures open_so.seat open_so.tickets at open_so.saw) ∙ open_so.each)
+    ap length (c.as_slice.ensures ∙ c.assigned-cars.ensures) ∙ assigned_each _ _ ∙ ap (λ k. (sizes_of k).slots) c.requires.of.0 ∙ sym (ap length (c.saw-tickets.ensures open_so.seat open_so.tickets at open_so.saw) ∙ open_so.each)
 
 pub close-requires-clause-there : goal.close-requires-clause-there
 close-requires-clause-there c = ap is_some c.requires.open.there
@@ -52,8 +53,8 @@ returns c =
           let all = ap length (the_seat _ tickets open_so.tickets saw (ap (λ (x : Seat). x.tickets) (the_seat _ s open_so.seat there open_so.there) ∙ open_so.saw)) ∙ open_so.each in
           let closed = c.close.ensures.closed s there in
           commit_group config before.image before.calls (globals_in config before.globals) before.seats.items s tickets values closed.0 c.tell_all.new.calls (globals_in config c.close.new.self.globals) c.tell_all.new.answers
-          c.as_slice.result.now (c.as_slice.ensures ∙ c.assigned-cars.ensures ∙ ap (λ n. assigned n values) (sym all)) (ap (λ ts. tell_all before.calls [] 1 ts c.as_slice.result.now) (sym (c.saw-tickets.ensures s tickets at saw)) ∙ c.tell_all.ensures) closed.2 c.close.ensures.globals
-          ∙ rw (c.close.ensures.shared.0, c.close.ensures.shared.1, closed.1, c.clear.ensures, c.clear-2.ensures, c.from_slice-report.ensures, c.as_slice-2.ensures, c.close.ensures.shared.0) refl;
+          c.as_slice.result.now (c.as_slice.ensures ∙ c.assigned-cars.ensures ∙ ap (λ k. assigned (sizes_of k).slots values) c.requires.of.0 ∙ ap (λ n. assigned n values) (sym all)) (ap (λ ts. tell_all before.calls [] 1 ts c.as_slice.result.now) (sym (c.saw-tickets.ensures s tickets at saw)) ∙ c.tell_all.ensures) closed.2 c.close.ensures.globals
+          ∙ rw (c.close.ensures.shared.0, c.close.ensures.shared.1, closed.1, c.clear.ensures, c.clear-2.ensures, c.copied-report.ensures, c.close.ensures.shared.0) refl;
       closed = (let closed = c.close.ensures.closed open_so.seat open_so.there in (closed.0, closed.1));
       fits = c.close.ensures.fits;
     }

@@ -1,11 +1,9 @@
-use Rattle.std.proofs.Common.{ℕ, [], ◌∷◌, ◌≡◌, ap, sym, ◌∙◌, subst}
-use Rattle.lift_spec.specs.declared.event.Event.TheVariants.{Instruction}
+use Rattle.std.proofs.Common.{[], ◌∷◌, ap, sym, ◌∙◌, subst}
 use Rattle.il_machine.specs.Scanning.{IsRunnable}
 use Rattle.lift_spec.specs.World.{happens}
 use Rattle.lift_spec.proofs.Laws.{instruction_leaves}
-use Rattle.lift_run_laws.specs.Histories.{CallGoesWell}
 use Rattle.lift_run_laws.specs.Runs.{IsReached}
-use Rattle.lift_world.specs.Worlds.{WorldOf, world_in, PrintsEachBudget}
+use Rattle.lift_world.specs.Worlds.{WorldOf, PrintsEachBudget}
 use Rattle.lift_world.proofs.Sound.{call_goes_well, prints_each}
 use Rattle.lift_world.proofs.world.World.apply.Goals as goal
 
@@ -20,4 +18,5 @@ returns-clause-printed c = subst (λ (w : WorldOf). PrintsEachBudget w.program) 
 
 pub returns-clause-scan_only : goal.returns-clause-scan_only
 returns-clause-scan_only c = λ task is.
-    instruction_leaves c.args.self.now.program.config c.args.self.now.world task _ _ (ap (λ e. happens c.args.self.now.program.config c.args.self.now.world e) (sym is) ∙ returns-clause-model c)
+    instruction_leaves c.args.self.now.program.config c.args.self.now.world task _ _
+    (ap (λ e. happens c.args.self.now.program.config c.args.self.now.world e) (sym is) ∙ ap (λ (w : WorldOf). happens w.program.config w.world c.args.event.now) (sym c.self.view_is) ∙ c.happen.ensures.model)
