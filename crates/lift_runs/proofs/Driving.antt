@@ -7,7 +7,6 @@ use Rattle.il_spec.specs.declared.tree.Unit.{Unit as ProgramUnit}
 use Rattle.il_machine.specs.Scanning.{Program}
 use Rattle.lift_host.specs.declared.press.Press.{Press as PressOf}
 use Rattle.lift_spec.specs.declared.calls.Call.{Call}
-use Rattle.lift_spec.specs.declared.event.Event.{Event}
 use Rattle.lift_spec.specs.declared.event.Event.TheVariants.{Press, Gather}
 use Rattle.lift_spec.specs.declared.image.Sizes.{Sizes}
 use Rattle.lift_spec.specs.declared.journal.Entry.{Entry}

@@ -1,11 +1,9 @@
 -- What the world's calls say of the events that they hand in.
-use Rattle.std.proofs.Common.{◌≡◌, ℕ, zero, suc, ◌≤◌, ◌<◌, ◌+◌, List, [], ◌∷◌, ◌++◌, replicate, take, drop, length, Result, Ok, Err, IfOk, IfErr, OnOk, refl, sym, ap, ◌∙◌, subst, arith, Option, Some, None}
-use Rattle.std.specs.Prelude.{slice_get, is_some}
-use Rattle.std.proofs.lemmas.List.{append_assoc}
+use Rattle.std.proofs.Common.{◌≡◌, ℕ, zero, suc, ◌≤◌, ◌+◌, List, [], ◌∷◌, ◌++◌, replicate, take, drop, length, Result, Ok, Err, IfOk, IfErr, OnOk, refl, sym, ap, ◌∙◌, subst, arith, Some, None}
+use Rattle.std.specs.Prelude.{slice_get}
 use Rattle.il_spec.specs.declared.tree.Config.{Config}
 use Rattle.il_machine.specs.Scanning.{Program, IsRunnable, HasTask}
 use Rattle.il_machine.proofs.Scans.{sound_of}
-use Rattle.lift_spec.specs.declared.event.Event.{Event}
 use Rattle.lift_spec.specs.declared.event.Event.TheVariants.{Start, Instruction, Commit, Refresh}
 use Rattle.lift_spec.specs.declared.image.Fields.{Fields}
 use Rattle.lift_spec.specs.Hands.{IsInOrder}
@@ -15,8 +13,8 @@ use Rattle.lift_spec.specs.declared.event.Reply.{Reply as Answer}
 use Rattle.lift_spec.specs.declared.event.Reply.TheVariants as answer
 use Rattle.lift_spec.specs.declared.report.Report.{Report}
 use Rattle.lift_spec.specs.declared.trace.TraceEvent.{TraceEvent}
-use Rattle.lift_spec.specs.Replies.{Reply, Started, More, Refreshed, Refused, reply_with}
-use Rattle.lift_spec.specs.World.{World, happens, run, scan_at}
+use Rattle.lift_spec.specs.Replies.{Reply, More, Refreshed, Refused, reply_with}
+use Rattle.lift_spec.specs.World.{World, happens, run}
 use Rattle.lift_run_laws.specs.Runs.{IsReached}
 use Rattle.lift_journal.specs.Journal.{IsAccepted}
 use Rattle.lift_journal.specs.Entered.{AllHaveWords}

@@ -1,4 +1,4 @@
-use Rattle.std.proofs.Common.{rules, ◌≡◌, [], List, map, subst, sym}
+use Rattle.std.proofs.Common.{List, map, subst, sym}
 use Rattle.il_machine.specs.Scanning.{Program}
 use Rattle.lift_host.specs.declared.press.Press.{Press as PressOf}
 use Rattle.lift_spec.specs.declared.event.Event.TheVariants.{Press, Gather}

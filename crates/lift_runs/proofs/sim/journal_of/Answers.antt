@@ -1,4 +1,4 @@
-use Rattle.std.proofs.Common.{arith, ◌≡◌, ◌≤◌, ◌+◌, ◌*◌, subst, ap, ◌∙◌, mul-le-mul}
+use Rattle.std.proofs.Common.{arith, ◌≤◌, ◌+◌, ◌*◌, subst, ap, ◌∙◌, mul-le-mul}
 use Rattle.il_machine.specs.Scanning.{Program, IsRunnable}
 use Rattle.lift_journal.specs.Rounds.{tasks_in_order}
 use Rattle.il_machine.proofs.Sizes.{sizes_fit}

@@ -1,10 +1,9 @@
-use Rattle.std.proofs.Common.{rules, arith, ◌≡◌, ◌<◌, ◌≤◌, subst, sym, ◌∙◌, Ok, length, false}
-use Rattle.std.specs.Prelude.{◌==◌, slice_index_or}
+use Rattle.std.proofs.Common.{rules, arith, ◌≡◌, ◌<◌, subst, ◌∙◌, Ok, length}
+use Rattle.std.specs.Prelude.{slice_index_or}
 use Rattle.il_machine.specs.Scanning.{Program, IsRunnable}
 use Rattle.lift_host.specs.declared.press.Press.{Press as PressOf}
 use Rattle.lift_spec.specs.declared.calls.Call.{Call}
 use Rattle.lift_spec.specs.declared.event.Event.TheVariants.{Press}
-use Rattle.lift_spec.specs.Calls.{IsCall}
 use Rattle.lift_spec.specs.Image.{sizes_of}
 use Rattle.lift_spec.specs.Replies.{reply_with}
 use Rattle.lift_spec.specs.World.{happens}

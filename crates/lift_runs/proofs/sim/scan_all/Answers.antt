@@ -1,4 +1,4 @@
-use Rattle.std.proofs.Common.{rules, ◌≡◌, ◌<◌, ◌∷◌, ◌++◌, [], subst, sym, ap, ◌∙◌, length}
+use Rattle.std.proofs.Common.{rules, ◌<◌, ◌∷◌, ◌++◌, [], subst, sym, ap, ◌∙◌, length}
 use Rattle.std.specs.Prelude.{slice_index_or}
 use Rattle.std.proofs.lemmas.List.{append_assoc}
 use Rattle.il_machine.specs.Scanning.{Program, HasTask}

@@ -1,4 +1,4 @@
-use Rattle.std.proofs.Common.{rules, arith, ◌≡◌, ◌<◌, ◌+◌, subst, sym, ap, ◌∙◌, true, false}
+use Rattle.std.proofs.Common.{rules, arith, ◌<◌, sym, ap, ◌∙◌, true, false}
 use Rattle.lift_spec.specs.declared.image.Sizes.{Sizes}
 use Rattle.il_machine.proofs.Sizes.{sizes_fit}
 use Rattle.lift_runs.proofs.Driving.{tasks_more}
