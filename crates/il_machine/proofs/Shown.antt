@@ -35,9 +35,9 @@ task_found c unbroken n l is = by (task_of c.tasks n) refl
         (bad_task refl
         (unknown_task l at.0
         (λ among.
-            (let t = of_map (λ (t : Task). t.name.name) c.tasks l.task.name among in
-            let one = finds_some (λ (t : Task). is_task_name t.name.name n) c.tasks t.0 t.1 (ap (λ x. is_task_name x n) t.2 ∙ at.1) in
-            none_some (task_of c.tasks n) one.0 found one.1))
+        (let t = of_map (λ (t : Task). t.name.name) c.tasks l.task.name among in
+        let one = finds_some (λ (t : Task). is_task_name t.name.name n) c.tasks t.0 t.1 (ap (λ x. is_task_name x n) t.2 ∙ at.1) in
+        none_some (task_of c.tasks n) one.0 found one.1))
         refl)))
 
 -- a unit that is found has a line
@@ -67,5 +67,5 @@ lists_tasks p runs costs n u is = by_line (program_line_of p.config.programs n) 
         let there : unit_of lines l.program.name ≡ Some v.0 = ap (λ ks. unit_of (unit_lines p.config.units ks) l.program.name) costs ∙ v.1 in (
           task_by t.0 l v.0,
           ap (option_and_then (λ t. option_and_then (λ l. option_map (task_by t l) (unit_of lines l.program.name)) (program_line_of p.config.programs n))) t.1
-          ∙ ap (option_and_then (λ l. option_map (task_by t.0 l) (unit_of lines l.program.name))) at ∙ ap (option_map (task_by t.0 l)) there,
+              ∙ ap (option_and_then (λ l. option_map (task_by t.0 l) (unit_of lines l.program.name))) at ∙ ap (option_map (task_by t.0 l)) there,
         )

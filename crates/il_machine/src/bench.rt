@@ -276,15 +276,7 @@ impl Bench {
         let count = verified.slot_count(task);
         let rows = room(alloc, count)?;
         let first = room(alloc, count)?;
-        Ok(Bench::opened(
-            verified,
-            task,
-            rows,
-            first,
-            &variables,
-            &globals,
-            &calls,
-        ))
+        Ok(Bench::opened(verified, task, rows, first, &variables, &globals, &calls))
     }
 
     /// A scan's start with these variables, globals, image and call slots. No allocation.

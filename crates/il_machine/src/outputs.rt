@@ -6,8 +6,8 @@ ghost use Rattle.lift_spec.specs.Image.{sizes_of};
 ghost use Rattle.lift_spec.specs.Snapshot.{whole_of, truth_of, motor_of, wishes_of, assigned};
 ghost use Rattle.il_machine.specs.Scanning.{state_of, kept_of, value_at, IsScanOf};
 
-use crate::rows::value;
 use crate::bench::Bench;
+use crate::rows::value;
 use crate::verified::Verified;
 use il_exec::rows::Rows;
 use il_run::value::Value;

@@ -155,7 +155,11 @@ impl<'v> Scanned<'v> {
         if self.task != store.task() {
             return false;
         }
-        same_values(&self.first, store.rows(verified), verified.task_code(self.task).cells())
+        same_values(
+            &self.first,
+            store.rows(verified),
+            verified.task_code(self.task).cells(),
+        )
     }
 
     /// The store of the scan, at its end. No allocation.

@@ -44,21 +44,18 @@ pub fn play(alloc: Global, text: &[u8], given: &[Given]) -> Result<Left, Refusal
 }
 
 /// Whether one run over the events, from the opening of the group of a text, leaves just this.
-pub fn runs_so(
-    alloc: Global,
-    text: &[u8],
-    given: &[Given],
-    left: &Left,
-) -> Result<bool, Refusal> {
+pub fn runs_so(alloc: Global, text: &[u8], given: &[Given], left: &Left) -> Result<bool, Refusal> {
     let events = events(alloc, given)?;
     let mut world = opened(alloc, text)?;
     let replies = run(alloc, &mut world, events.as_slice());
     let slots = world.slots();
     world.release();
     let replies = replies?;
-    Ok(replies.as_slice() == left.replies.as_slice()
-        && same_reports(replies.reports(), left.reports.as_slice())
-        && slots.as_slice() == left.slots.as_slice())
+    Ok(
+        replies.as_slice() == left.replies.as_slice()
+            && same_reports(replies.reports(), left.reports.as_slice())
+            && slots.as_slice() == left.slots.as_slice(),
+    )
 }
 
 // The events that a row hands in.

@@ -9,9 +9,11 @@ use Rattle.il_machine.specs.Ran.{standing}
 use Rattle.il_machine.proofs.store.Store.assigned.Goals as goal
 
 pub assigned-requires : goal.assigned-requires
-assigned-requires c = record { scan =
-    subst (λ (n : ℕ). IsScanOf c.args.verified.now.config n c.self.inside.bench) (ap (λ (s : Standing). s.task) c.self.view_is ∙ c.requires.group)
-    (scan_here c.self.inside.program.value.config c.self.inside.task c.self.inside.bench c.args.self.now c.self.view_is c.args.verified.now.config c.self.inside.task (own_task c.self.inside.program.value.config c.self.inside.task c.self.inside.bench c.args.self.now c.self.view_is c.args.verified.now.config c.requires.program) c.self.inside.bench c.self.invariant.1) }
+assigned-requires c = record {
+  scan =
+      subst (λ (n : ℕ). IsScanOf c.args.verified.now.config n c.self.inside.bench) (ap (λ (s : Standing). s.task) c.self.view_is ∙ c.requires.group)
+      (scan_here c.self.inside.program.value.config c.self.inside.task c.self.inside.bench c.args.self.now c.self.view_is c.args.verified.now.config c.self.inside.task (own_task c.self.inside.program.value.config c.self.inside.task c.self.inside.bench c.args.self.now c.self.view_is c.args.verified.now.config c.requires.program) c.self.inside.bench c.self.invariant.1);
+}
 
 pub returns : goal.returns
 returns c =
