@@ -1,7 +1,7 @@
 -- A relation through more and more units is transitive through these.
-use Rattle.std.proofs.Common.{◌≡◌, ℕ, zero, suc, ◌<◌, ◌≤◌, ◌⊎◌, inl, inr, Bool, true, ◌&&◌, List, sym, ap, ◌∙◌, subst, arith}
+use Rattle.std.proofs.Common.{◌≡◌, ℕ, zero, suc, ◌<◌, ◌≤◌, ◌⊎◌, inl, inr, Bool, true, false, ◌&&◌, ◌||◌, if◌then◌else◌, List, [], ◌∷◌, Option, Some, None, slice_get, refl, sym, ap, ◌∙◌, subst, arith}
 use Rattle.std.proofs.lemmas.Bool.{cases_lt}
-use Rattle.il_order.specs.Related.{is_entry, holds_in, holds, is_joined, joined_row, closed}
+use Rattle.il_order.specs.Related.{is_entry, is_set, holds_in, holds, row_or_none, either_row, joined_row, closed}
 use Rattle.il_order.proofs.Tabled.{or_left, or_right, from_or, and_both, from_and, tabulated}
 
 module _ (n : ℕ) (relation : List (List Bool)) where
@@ -9,10 +9,21 @@ module _ (n : ℕ) (relation : List (List Bool)) where
   abbrev pub Leads : ℕ → ℕ → ℕ → Type 0
   Leads k u v = holds (closed n relation k) u v ≡ true
 
-  next : (k u v : ℕ) → u < n → v < n → holds (closed n relation (suc k)) u v ≡ is_joined (closed n relation k) k u v
-  next k u v lu lv =
-      ap (λ o. holds_in o v) (tabulated (λ from. joined_row n (closed n relation k) k from) n u lu)
-      ∙ ap is_entry (tabulated (λ to. is_joined (closed n relation k) k u to) n v lv)
+  -- one unit more
+  next : (k u v : ℕ) → u < n → v < n → holds (closed n relation (suc k)) u v ≡ holds (closed n relation k) u v || (holds (closed n relation k) u k && holds (closed n relation k) k v)
+  next k u v lu lv = ap (λ o. holds_in o v) (tabulated (λ from. joined_row n (closed n relation k) k from) n u lu) ∙ by_test (holds (closed n relation k) u k)
+    where
+      or_none : (b : Bool) → b ≡ b || false
+      or_none true = refl
+      or_none false = refl
+
+      of_row : (o : Option (List Bool)) → is_set (row_or_none o) v ≡ holds_in o v || false
+      of_row None = refl
+      of_row (Some row) = or_none (is_set row v)
+
+      by_test : (b : Bool) → is_set (if b then either_row n (closed n relation k) k u else row_or_none (slice_get (closed n relation k) u)) v ≡ holds (closed n relation k) u v || (b && holds (closed n relation k) k v)
+      by_test true = ap is_entry (tabulated (λ to. holds (closed n relation k) u to || holds (closed n relation k) k to) n v lv)
+      by_test false = of_row (slice_get (closed n relation k) u)
 
   pub keeps : (k u v : ℕ) → u < n → v < n → Leads k u v → Leads (suc k) u v
   keeps k u v lu lv a = next k u v lu lv ∙ or_left (holds (closed n relation k) u v) (holds (closed n relation k) u k && holds (closed n relation k) k v) a

@@ -4,6 +4,7 @@ ghost use Rattle.std.specs.Prelude.{◌≡◌, IfOk, length};
 ghost use Rattle.il_rules.specs.Faults.{HasNoFault, BreaksDeclarations, BreaksOrder};
 ghost use Rattle.il_found.specs.Least.{IsLeast};
 ghost use Rattle.il_order.specs.Breaks as breaks;
+ghost use Rattle.il_order.specs.Instances.{needed};
 ghost use Rattle.il_order.specs.Breaks.{UnitBreaks, UnitsBreak, AllUnitsBreak, LinesBreak, GlobalsBreak, SlotsBreak};
 
 use crate::chains::{LONGEST, chains};
@@ -24,20 +25,20 @@ pub fn order_fault(alloc: Global, names: &Scoped) -> Result<Option<Found<OrderFa
     ensures { IfOk result (λ found. IsLeast found (λ n p. BreaksOrder names.now n p)) }
 {
     let count = names.config().units.as_slice().len();
-    let reached = reached(alloc, names)?;
-    let uses = uses(alloc, names)?;
+    let uses = uses(alloc, names, true)?;
+    let reached = closed(alloc, &uses, count)?;
     let chains = chains(alloc, &uses, &reached, count)?;
     let units = units_fault(names, &reached, &chains);
     let slots = slots_fault(alloc, names, &reached)?;
     Ok(earlier(units, slots))
 }
 
-// Which units reach which; the relation of uses is used up.
-fn reached(alloc: Global, names: &Scoped) -> Result<Relation, AllocError>
-    ensures { IfOk result (λ r. r ≡ breaks.reached names.now) }
+/// Which units need which, by calls and by instances that have a name.
+pub fn needed(alloc: Global, names: &Scoped) -> Result<Relation, AllocError>
+    ensures { IfOk result (λ r. r ≡ needed names.now) }
 {
     let count = names.config().units.as_slice().len();
-    closed(alloc, uses(alloc, names)?, count)
+    closed(alloc, &uses(alloc, names, false)?, count)
 }
 
 // The first unit that reaches itself, or has a chain of uses that is too long.

@@ -14,7 +14,7 @@ ghost use Rattle.std.specs.Prelude.{◌≡◌, IfOk, IfErr};
 ghost use Rattle.il_rules.specs.Faults.{IsRefusedBy, Ordering, HasNoFault, Broken, BreaksOrder};
 ghost use Rattle.il_found.specs.Least.{IsLeast};
 
-use crate::answer::order_fault;
+use crate::answer::{needed, order_fault};
 pub use container::Ordered;
 pub use fault::OrderFault;
 use il_found::{Found, refusal};
@@ -30,7 +30,8 @@ pub fn ordered(alloc: Global, typed: Typed) -> Result<Ordered, Refusal>
     ensures refused { IfErr result (IsRefusedBy (Broken Ordering typed)) }
 {
     check(alloc, &typed)?;
-    Ok(Ordered::of(typed))
+    let needed = needed(alloc, typed.names())?;
+    Ok(Ordered::of(typed, needed))
 }
 
 // Checks order and slots.
