@@ -43,7 +43,15 @@ joined_row count relation through from = if holds relation from through then eit
 abbrev pub joined : ℕ → List (List Bool) → ℕ → List (List Bool)
 joined count relation through = tabulate count (λ from. joined_row count relation through from)
 
+-- whether a relation leads on from a unit
+abbrev pub leads_anywhere : ℕ → List (List Bool) → ℕ → Bool
+leads_anywhere count relation through = any_below count (λ to. holds relation through to)
+
+-- a relation, through one unit more
+abbrev pub next : ℕ → List (List Bool) → ℕ → List (List Bool)
+next count relation through = if leads_anywhere count relation through then joined count relation through else relation
+
 -- a relation through the units with a number below a bound
 abbrev pub closed : ℕ → List (List Bool) → ℕ → List (List Bool)
 closed count relation zero = relation
-closed count relation (suc through) = joined count (closed count relation through) through
+closed count relation (suc through) = next count (closed count relation through) through

@@ -16,7 +16,7 @@ use std::marker::Model;
 #[derive(Drop)]
 pub struct Ordered {
     typed: Typed,
-    needed: Relation,
+    relation: Relation,
 }
 
 impl Model for Ordered {
@@ -29,17 +29,17 @@ impl Model for Ordered {
 
     ghost view = { λ o. o.typed };
 
-    ghost invariant = { λ o. HasNoFault (Broken Ordering o.typed) × (o.needed ≡ needed o.typed) };
+    ghost invariant = { λ o. HasNoFault (Broken Ordering o.typed) × (o.relation ≡ needed o.typed) };
 }
 
 impl Ordered {
     // A configuration whose order is checked.
-    pub(crate) fn of(typed: Typed, needed: Relation) -> Ordered
+    pub(crate) fn of(typed: Typed, relation: Relation) -> Ordered
         requires ordered { HasNoFault (Broken Ordering typed) }
-        requires needed { needed ≡ needed typed }
+        requires needed { relation ≡ needed typed }
         ensures { result ≡ typed }
     {
-        Ordered { typed, needed }
+        Ordered { typed, relation }
     }
 
     /// The configuration.
@@ -68,6 +68,6 @@ impl Ordered {
         ensures { (U V : ProgramUnit) → slice_get self.now.units unit ≡ Some U → slice_get self.now.units other ≡ Some V → (result ≡ true) ↔ Needs self.now U V }
     {
         let _config = self.typed.config();
-        holds(&self.needed, unit, other)
+        holds(&self.relation, unit, other)
     }
 }

@@ -1,7 +1,7 @@
 // Relations between units, by their numbers.
 
 ghost use Rattle.std.specs.Prelude.{◌≡◌, slice_get, IfOk};
-ghost use Rattle.il_order.specs.Related.{is_set, holds, row_or_none, either_row, joined_row, joined, closed};
+ghost use Rattle.il_order.specs.Related.{is_set, holds, row_or_none, either_row, joined_row, joined, leads_anywhere, next, closed};
 
 use lists::Items;
 use std::alloc::{AllocError, Global};
@@ -35,7 +35,7 @@ pub fn closed(alloc: Global, relation: &Relation, count: usize) -> Result<Relati
 {
     let mut closed = copied(alloc, relation)?;
     for through in 0..count {
-        closed = joined(alloc, &closed, count, through)?;
+        closed = next(alloc, closed, count, through)?;
     }
     Ok(closed)
 }
@@ -51,7 +51,34 @@ fn copied(alloc: Global, relation: &Relation) -> Result<Relation, AllocError>
     Ok(rows)
 }
 
-// The relation, through one unit more.
+// The relation, through one unit more. It stays as it is where nothing leads on from there.
+fn next(
+    alloc: Global,
+    relation: Relation,
+    count: usize,
+    through: usize,
+) -> Result<Relation, AllocError>
+    ensures { IfOk result (λ r. r ≡ next count relation through) }
+{
+    if leads_anywhere(&relation, count, through) {
+        joined(alloc, &relation, count, through)
+    } else {
+        Ok(relation)
+    }
+}
+
+// Whether a relation leads on from a unit.
+fn leads_anywhere(relation: &Relation, count: usize, through: usize) -> bool
+    ensures { result ≡ leads_anywhere count relation.now through }
+{
+    let mut found = false;
+    for to in 0..count {
+        found = found || holds(relation, through, to);
+    }
+    found
+}
+
+// From each unit that leads through another, it leads on to where it leads from there.
 fn joined(
     alloc: Global,
     relation: &Relation,

@@ -7,4 +7,4 @@ use Rattle.il_order.proofs.container.Ordered.needs.Goals as goal
 
 pub returns : goal.returns
 returns c =
-    need_is c.args.self.now (subst (λ (d : Config). HasNoFault (BreaksDeclarations d)) c.self.view_is c.config.ensures.declared) c.self.inside.needed c.args.unit c.args.other c.holds.result (c.self.invariant.1 ∙ ap needed c.self.view_is) c.holds.ensures
+    need_is c.args.self.now (subst (λ (d : Config). HasNoFault (BreaksDeclarations d)) c.self.view_is c.config-config.ensures.declared) c.self.inside.relation c.args.unit c.args.other c.holds.result (c.self.invariant.1 ∙ ap needed c.self.view_is) c.holds.ensures
