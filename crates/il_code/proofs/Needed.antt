@@ -1,5 +1,5 @@
 -- What the program of a task uses are the units that it needs.
-use Rattle.std.proofs.Common.{◌≡◌, ◌↔◌, ◌⊎◌, inl, inr, ℕ, zero, suc, ◌<◌, ◌≤◌, Bool, true, false, ◌&&◌, ◌||◌, List, [], ◌∷◌, ◌++◌, map, length, slice_get, refl, sym, ap, ◌∙◌, subst, Option, Some, None, arith}
+use Rattle.std.proofs.Common.{◌≡◌, ◌↔◌, ◌⊎◌, inl, inr, ℕ, zero, suc, ◌<◌, ◌≤◌, Bool, true, false, ◌&&◌, List, [], ◌∷◌, ◌++◌, length, slice_get, refl, sym, ap, ◌∙◌, subst, Option, Some, None, arith}
 use Rattle.std.specs.Prelude.{Contains, flat_map, is_some, if◌then◌else◌}
 use Rattle.std.proofs.lemmas.List.Elements.{Contains-append_left, Contains-append_cases}
 use Rattle.std.proofs.lemmas.Option.{same_Some, slice_get-get_or}
@@ -10,7 +10,7 @@ use Rattle.il_spec.specs.declared.tree.Named.{Named}
 use Rattle.il_spec.specs.declared.tree.Operand.{Operand}
 use Rattle.il_spec.specs.declared.tree.Step.{Step}
 use Rattle.il_spec.specs.declared.tree.Instruction.{Instruction}
-use Rattle.il_spec.specs.declared.tree.Instruction.TheVariants.{Invoke}
+use Rattle.il_spec.specs.declared.tree.Instruction.TheVariants.{Load, Store, Not, Operate, Defer, Evaluate, Jump, Return, Call, Invoke}
 use Rattle.il_spec.specs.declared.tree.Declaration.{Declaration}
 use Rattle.il_spec.specs.declared.tree.Unit.{Unit as ProgramUnit}
 use Rattle.il_spec.specs.declared.tree.Config.{Config}
@@ -32,8 +32,8 @@ use Rattle.il_scan_laws.proofs.Declared.{one_unit}
 use Rattle.il_scan_laws.proofs.Meant.{is_scalar, is_block, input_typed, output_typed, variable_typed}
 use Rattle.il_scan_laws.proofs.Fresh.{IsEntity, of_entities}
 use Rattle.il_scan_laws.proofs.Stacks.{is_shallow}
-use Rattle.il_scan_laws.proofs.Used.{Invoked, of_invoked, of_found, used_among, instance_used, calls_are_uses, no_standard}
-use Rattle.il_slots.specs.Program.{is_used, task_functions}
+use Rattle.il_scan_laws.proofs.Used.{Invoked, of_found, used_among, instance_used, calls_are_uses, no_standard}
+use Rattle.il_slots.specs.Program.{is_used}
 use Rattle.il_slots.proofs.Frames.{in_filter, of_filter, two_of, stack_used, function_in_task, of_task_functions}
 use Rattle.il_slots.proofs.Tasks.{at_contains}
 use Rattle.il_code.specs.Laying.{has_frame}
@@ -62,6 +62,29 @@ of_block_names (d ∷ es) block among = by_form d.form refl among (of_block_name
       where
         by_place : Contains (b ∷ block_names es) block → (e : Entity) × Contains (d ∷ es) e × (e.form ≡ BlockForm block)
         by_place (zero, low, same) = (d, at_head d es, is ∙ ap (λ (t : Text). BlockForm t) same)
+        by_place (suc k, low, same) = later (more (k, omega arith, same))
+
+of_invoked : (ss : List Step) (name : Text) → Contains (invoked_names ss) name → Invoked ss name
+of_invoked [] name among = absurd (in_nothing name among)
+of_invoked (t ∷ ss) name among = by_instruction t.instruction refl among (of_invoked ss name)
+  where
+    later : Invoked ss name → Invoked (t ∷ ss) name
+    later r = record { step = r.step; function = r.function; operands = r.operands; among = in_tail t ss r.step r.among; is = r.is; named = r.named }
+
+    by_instruction : (i : Instruction) → t.instruction ≡ i → Contains (invoked_names (t ∷ ss)) name → (Contains (invoked_names ss) name → Invoked ss name) → Invoked (t ∷ ss) name
+    by_instruction (Load negated o) is has more = later (more (rw is at has))
+    by_instruction (Store kind to) is has more = later (more (rw is at has))
+    by_instruction Not is has more = later (more (rw is at has))
+    by_instruction (Operate operator o) is has more = later (more (rw is at has))
+    by_instruction (Defer operator first) is has more = later (more (rw is at has))
+    by_instruction Evaluate is has more = later (more (rw is at has))
+    by_instruction (Jump condition label) is has more = later (more (rw is at has))
+    by_instruction (Return condition) is has more = later (more (rw is at has))
+    by_instruction (Call condition instance arguments) is has more = later (more (rw is at has))
+    by_instruction (Invoke function operands) is has more = by_place (rw is at has)
+      where
+        by_place : Contains (function.name ∷ invoked_names ss) name → Invoked (t ∷ ss) name
+        by_place (zero, low, same) = record { step = t; function = function; operands = operands; among = at_head t ss; is = is; named = same }
         by_place (suc k, low, same) = later (more (k, omega arith, same))
 
 module _ (c : Config) (unbroken : HasNoFault (Broken Declaring c)) where

@@ -1,4 +1,4 @@
-use Rattle.std.proofs.Common.{◌≡◌, ◌×◌, ◌++◌, drop, map, length, slice_get, Some}
+use Rattle.std.proofs.Common.{◌≡◌, ◌++◌, drop, map, length, slice_get, Some}
 use Rattle.il_spec.specs.declared.tree.Unit.{Unit as ProgramUnit}
 use Rattle.il_code.specs.Laying.{has_frame}
 use Rattle.il_code.proofs.framing.framed_units.Given as goal
