@@ -1,5 +1,5 @@
 -- A relation through more and more units is transitive through these.
-use Rattle.std.proofs.Common.{◌≡◌, ℕ, zero, suc, ◌<◌, ◌≤◌, ◌⊎◌, inl, inr, Bool, true, false, ◌&&◌, ◌||◌, if◌then◌else◌, List, [], ◌∷◌, Option, Some, None, slice_get, refl, sym, ap, ◌∙◌, subst, arith}
+use Rattle.std.proofs.Common.{◌≡◌, ℕ, zero, suc, ◌<◌, ◌≤◌, ◌⊎◌, inl, inr, Bool, true, false, ◌&&◌, ◌||◌, if◌then◌else◌, List, Option, Some, None, slice_get, refl, sym, ap, ◌∙◌, subst, arith}
 use Rattle.std.proofs.lemmas.Bool.{cases_lt}
 use Rattle.il_order.specs.Related.{is_entry, is_set, holds_in, holds, row_or_none, either_row, joined_row, joined, leads_anywhere, closed}
 use Rattle.il_order.proofs.Tabled.{or_left, or_right, from_or, and_both, from_and, tabulated, below_some}

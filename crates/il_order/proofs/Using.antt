@@ -1,5 +1,5 @@
 -- The numbers of the units that a unit uses are those of the rules.
-use Rattle.std.proofs.Common.{◌≡◌, ℕ, zero, suc, ◌<◌, inl, inr, Bool, true, false, ◌||◌, if◌then◌else◌, List, [], ◌∷◌, length, slice_get, Option, Some, None, is_some, option_map, option_and_then, refl, sym, ap, ◌∙◌, subst, arith}
+use Rattle.std.proofs.Common.{◌≡◌, ℕ, zero, suc, ◌<◌, inl, inr, Bool, true, false, ◌&&◌, ◌||◌, if◌then◌else◌, List, [], ◌∷◌, ◌++◌, map, length, slice_get, Option, Some, None, is_some, option_map, option_and_then, refl, sym, ap, ap₂, ◌∙◌, subst, arith}
 use Rattle.std.specs.Prelude.{Contains, nat_eq, find, bytes_eq}
 use Rattle.std.proofs.lemmas.Bool.Decides.{nat_tests}
 use Rattle.std.proofs.lemmas.Option.{slice_get-map, slice_get_within}
@@ -20,9 +20,10 @@ use Rattle.il_scope.specs.declared.entry.BlockType.TheVariants.{Standard as Stan
 use Rattle.il_scope.specs.Views.{function_number, function_block_number, block_type}
 use Rattle.il_scope.proofs.Laws.{function_found, function_block_found}
 use Rattle.il_declare.proofs.Members.{none_in, one_in, in_rest, in_flat, from_flat}
-use Rattle.il_order.specs.Related.{is_entry, holds_in, holds}
-use Rattle.il_order.specs.Instances.{UsesBy, calls, declares}
-use Rattle.il_order.specs.Used.{numbers, own_number, called, declared_in, has_name, counted_in, called_by, declared_by, used_by, is_among, uses_row, uses}
+use Rattle.il_order.specs.Related.{is_entry, holds_in, holds, tabulate, closed}
+use Rattle.il_order.specs.Breaks.{reached}
+use Rattle.il_order.specs.Instances.{UsesBy, calls, declares, needed}
+use Rattle.il_order.specs.Used.{numbers, own_number, called, declared_in, has_name, all_named, are_named, counted_in, called_by, declared_by, used_by, is_among, uses_row, uses}
 use Rattle.il_order.proofs.Tabled.{from_or, or_left, or_right, tabulated, some_same}
 
 -- NUMBERS
@@ -173,3 +174,26 @@ module _ (c : Config) where
   pub held_from : (u : ℕ) (U V : ProgramUnit) → slice_get c.units u ≡ Some U → Uses c U V → (v : ℕ) × (slice_get c.units v ≡ Some V) × (holds (uses c true) u v ≡ true)
   held_from u U V here (of_call s function operands listed is named) = used_from c true u U V here (calls s function operands listed is named)
   held_from u U V here (of_instance d name listed is named) = used_from c true u U V here (declares d name listed refl is named)
+
+-- WHERE ALL ARE NAMED
+
+both_are : (a b : Bool) → (a && b) ≡ true → (a ≡ true) × (b ≡ true)
+both_are true b e = (refl, e)
+both_are false b e = let bad : false ≡ true = e in cc
+
+declared_same : (c : Config) (ds : List Declaration) → all_named ds ≡ true → declared_by c true ds ≡ declared_by c false ds
+declared_same c [] named = refl
+declared_same c (d ∷ ds) named =
+    let both = both_are (has_name d.names) (all_named ds) named in
+    ap₂ ◌++◌ (ap (λ b. if b then declared_in c d.declared.form else []) (sym both.0)) (declared_same c ds both.1)
+
+rows_same : (c : Config) (us : List ProgramUnit) → are_named us ≡ true → map (uses_row c true) us ≡ map (uses_row c false) us
+rows_same c [] named = refl
+rows_same c (u ∷ us) named =
+    let both = both_are (all_named u.variables) (are_named us) named in
+    ap₂ ◌∷◌ (ap (λ ks. tabulate (length c.units) (λ to. is_among (called_by c u.body.steps ++ ks) to)) (declared_same c u.variables both.0)) (rows_same c us both.1)
+
+-- what is needed is what is reached
+pub needed_same : (c : Config) (units : List ProgramUnit) (b : Bool) → units ≡ c.units → b ≡ are_named units → b ≡ true → (r : List (List Bool)) → r ≡ reached c → r ≡ needed c
+needed_same c units b is test passes r reaching =
+    reaching ∙ ap (λ u. closed (length c.units) u (length c.units)) (rows_same c c.units (ap are_named (sym is) ∙ sym test ∙ passes))

@@ -1,5 +1,5 @@
 -- The numbers of the units that a unit uses.
-use Rattle.std.specs.Prelude.{ℕ, Bool, true, false, ◌||◌, if◌then◌else◌, nat_eq, List, [], ◌∷◌, ◌++◌, length, map, flat_map, Option, Some, None}
+use Rattle.std.specs.Prelude.{ℕ, Bool, true, false, ◌&&◌, ◌||◌, if◌then◌else◌, nat_eq, List, [], ◌∷◌, ◌++◌, length, map, flat_map, Option, Some, None}
 use Rattle.il_spec.specs.declared.tree.Config.{Config}
 use Rattle.il_spec.specs.declared.tree.Unit.{Unit as ProgramUnit}
 use Rattle.il_spec.specs.declared.tree.Step.{Step}
@@ -52,6 +52,15 @@ called_by config steps = flat_map (λ s. called config s.instruction) steps
 abbrev pub has_name : List Named → Bool
 has_name [] = false
 has_name (name ∷ names) = true
+
+-- whether each declaration of units' variables has a name
+abbrev pub all_named : List Declaration → Bool
+all_named [] = true
+all_named (d ∷ ds) = has_name d.names && all_named ds
+
+abbrev pub are_named : List ProgramUnit → Bool
+are_named [] = true
+are_named (u ∷ us) = all_named u.variables && are_named us
 
 -- the own block of a declaration, one without a name too where these count
 abbrev pub counted_in : Config → Bool → Declaration → List ℕ

@@ -2,7 +2,7 @@
 
 ghost use Rattle.std.specs.Prelude.{◌≡◌, ◌++◌, IfOk};
 ghost use Rattle.il_order.specs.Related.{tabulate};
-ghost use Rattle.il_order.specs.Used.{numbers, own_number, called, called_by, declared_in, has_name, counted_in, declared_by, used_by, is_among, uses_row, uses};
+ghost use Rattle.il_order.specs.Used.{numbers, own_number, called, called_by, declared_in, has_name, all_named, are_named, counted_in, declared_by, used_by, is_among, uses_row, uses};
 
 use crate::relation::Relation;
 use il_scope::Scoped;
@@ -21,6 +21,30 @@ pub fn uses(alloc: Global, names: &Scoped, nameless: bool) -> Result<Relation, A
         rows.push(uses_row(alloc, names, nameless, unit)?)?;
     }
     Ok(rows)
+}
+
+/// Whether each declaration of units' variables has a name, as in a text.
+pub fn are_named(units: &[Unit]) -> bool
+    ensures { result ≡ are_named units.now }
+{
+    for unit in units {
+        if !all_named(unit.variables.as_slice()) {
+            return false;
+        }
+    }
+    true
+}
+
+// Whether each declaration has a name.
+fn all_named(declarations: &[Declaration]) -> bool
+    ensures { result ≡ all_named declarations.now }
+{
+    for declaration in declarations {
+        if !has_name(declaration.names.as_slice()) {
+            return false;
+        }
+    }
+    true
 }
 
 // Which units a unit uses.
