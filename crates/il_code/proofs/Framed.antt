@@ -1,5 +1,5 @@
 -- The slots of a program's task are those of the definitions.
-use Rattle.std.proofs.Common.{◌≡◌, ℕ, suc, ◌+◌, Bool, true, false, cond, ◌&&◌, List, [], ◌∷◌, ◌++◌, map, length, slice_get, refl, sym, ap, ap₂, ◌∙◌, subst, append_assoc, append-nil, length-append, codes, Option, Some, None, arith}
+use Rattle.std.proofs.Common.{◌≡◌, ℕ, suc, ◌+◌, Bool, true, false, cond, List, [], ◌∷◌, ◌++◌, map, length, slice_get, refl, sym, ap, ap₂, ◌∙◌, subst, append_assoc, append-nil, length-append, codes, Option, Some, None, arith}
 use Rattle.std.specs.Prelude.{Contains, filter, bytes_eq, if◌then◌else◌, option_map}
 use Rattle.std.proofs.lemmas.List.{map-append}
 use Rattle.std.proofs.lemmas.Slice.Eq.{bytes_eq-Decides}
@@ -20,7 +20,7 @@ use Rattle.il_code.specs.declared.framing.Frames.{Frames}
 use Rattle.il_code.specs.declared.laying.Opening.{Opening}
 use Rattle.il_slots.specs.Cells.{instance_cells}
 use Rattle.il_slots.specs.Flattened.{function_entities, place_or_zero}
-use Rattle.il_code.specs.Laying.{cell_of, value_of, openings_to, openings_of, with_frame, with_frames, no_frames, base_or, laid_task, program_task}
+use Rattle.il_code.specs.Laying.{cell_of, value_of, openings_to, openings_of, has_frame, with_frame, with_frames, no_frames, base_or, laid_task, program_task}
 use Rattle.il_slots.specs.Paths.{slot_at}
 use Rattle.il_slots.specs.Places.{entities_width, block_width, deepest, seen_image}
 use Rattle.il_slots.specs.Program.{is_used, task_functions, function_cells, functions_cells, base_in, base_of, own_cells, program_cells, own_values, now_slot}
@@ -72,13 +72,12 @@ module _ (c : Config) (test : ProgramUnit → Bool) where
   bases_from n [] = []
   bases_from n (u ∷ us) = some_if (test u) n ∷ bases_from (after n u (test u)) us
 
-  framed : (g : ProgramUnit → Bool) → ((u : ProgramUnit) → is_function u && g u ≡ test u) → (f : Frames) (us : List ProgramUnit)
-      → with_frames c f us (map g us) ≡ frames (f.openings ++ all_openings (filter test us)) (f.bases ++ bases_from (length f.openings) us)
-  framed g same f [] = ap₂ frames (sym (append-nil f.openings)) (sym (append-nil f.bases))
-  framed g same f (u ∷ us) = ap (λ b. with_frames c (with_frame c f u b) us (map g us)) (same u) ∙ by_test (test u) (λ h. framed g same h us)
+  framed : (f : Frames) (us : List ProgramUnit) → with_frames c f us (map test us) ≡ frames (f.openings ++ all_openings (filter test us)) (f.bases ++ bases_from (length f.openings) us)
+  framed f [] = ap₂ frames (sym (append-nil f.openings)) (sym (append-nil f.bases))
+  framed f (u ∷ us) = by_test (test u) (λ h. framed h us)
     where
-      by_test : (b : Bool) → ((h : Frames) → with_frames c h us (map g us) ≡ frames (h.openings ++ all_openings (filter test us)) (h.bases ++ bases_from (length h.openings) us))
-          → with_frames c (with_frame c f u b) us (map g us) ≡ frames (f.openings ++ all_openings (cond b (u ∷ filter test us) (filter test us))) (f.bases ++ (some_if b (length f.openings) ∷ bases_from (after (length f.openings) u b) us))
+      by_test : (b : Bool) → ((h : Frames) → with_frames c h us (map test us) ≡ frames (h.openings ++ all_openings (filter test us)) (h.bases ++ bases_from (length h.openings) us))
+          → with_frames c (with_frame c f u b) us (map test us) ≡ frames (f.openings ++ all_openings (cond b (u ∷ filter test us) (filter test us))) (f.bases ++ (some_if b (length f.openings) ∷ bases_from (after (length f.openings) u b) us))
       by_test true rest =
           rest (with_frame c f u true)
           ∙ ap₂ frames (append_assoc f.openings (of_function u) (all_openings (filter test us)))
@@ -165,7 +164,7 @@ module _ (c : Config) (p : ProgramUnit) (accepted : IsAccepted c p) where
   function_short u among = short-append (own_entities u) (result_entities u.kind u.name.name) (own_short u among) (result_short u among)
 
   abbrev test : ProgramUnit → Bool
-  test v = is_function v && is_used c p v
+  test v = has_frame c p v
 
   function_is : (v : ProgramUnit) → Contains c.units v → is_function v ≡ true → map cell_of (of_function c test v) ≡ function_cells c v
   function_is v among is =
@@ -251,8 +250,8 @@ module _ (c : Config) (p : ProgramUnit) (accepted : IsAccepted c p) where
     first = first_is own ∙ ap first_rows own_values_are;
   }
 
-  -- where the units that are used are known
-  pub task_is : (used : List Bool) (t : TaskLayout) → used ≡ map (is_used c p) c.units → t ≡ program_task c p used → IsTaskOf c p t
-  task_is used t known made =
+  -- where the units with frames are known
+  pub task_is : (framed_units : List Bool) (t : TaskLayout) → framed_units ≡ map (has_frame c p) c.units → t ≡ program_task c p framed_units → IsTaskOf c p t
+  task_is framed_units t known made =
       subst (IsTaskOf c p)
-      (sym (made ∙ ap (program_task c p) known ∙ ap (λ (f : Frames). laid_task (f.openings ++ openings_of c [] (own_entities p)) seen (map (base_or (length f.openings)) f.bases)) (framed c test (is_used c p) (λ u. refl) no_frames c.units))) laid
+      (sym (made ∙ ap (program_task c p) known ∙ ap (λ (f : Frames). laid_task (f.openings ++ openings_of c [] (own_entities p)) seen (map (base_or (length f.openings)) f.bases)) (framed c test no_frames c.units))) laid

@@ -17,7 +17,7 @@ use Rattle.il_scope.proofs.Laws.{program_found}
 use Rattle.il_scan_laws.specs.Accepted.{IsAccepted}
 use Rattle.il_scan_laws.proofs.Lists.{found_in}
 use Rattle.il_scan_laws.proofs.Meant.{program_is}
-use Rattle.il_code.specs.Laying.{used_by, all_paths, program_task}
+use Rattle.il_code.specs.Laying.{has_frame, program_task}
 use Rattle.il_slots.specs.Program.{program_names}
 use Rattle.il_slots.specs.Layout.{AreOnce}
 use Rattle.il_slots.proofs.Tasks.{cells_once}
@@ -25,30 +25,21 @@ use Rattle.il_slots.proofs.Globals.{globals_once}
 use Rattle.il_code.specs.Tasks.{TaskLayout, IsTaskOf, AreGlobals, AreTasksOf, Belongs}
 use Rattle.il_slots.specs.Whole.{unit_code}
 use Rattle.il_slots.specs.declared.flat.UnitCode.{UnitCode}
-use Rattle.il_slots.proofs.Counted.{length_mapped, one_there}
 use Rattle.il_code.proofs.Framed.{task_is}
-use Rattle.il_code.proofs.Reached.{row_is, row_many}
 
-pub task_there : (c : Config) (units : List ProgramUnit) (paths : List (List Bool)) (at : ℕ) (u : ProgramUnit) (row used : List Bool) (t : TaskLayout) → units ≡ c.units → paths ≡ all_paths c → at < length units → at < length paths → u ≡ get_or units at u → row ≡ get_or paths at row
-    → used ≡ row → (is_program u ≡ true → t ≡ program_task c u used) → (p : ProgramUnit) → slice_get c.units at ≡ Some p → IsAccepted c p → IsTaskOf c p t
-task_there c units paths at u row used t units_are paths_are low below is has same made p found accepted =
+pub task_there : (c o : Config) (units : List ProgramUnit) (at : ℕ) (u : ProgramUnit) (row framed : List Bool) (t : TaskLayout) → c ≡ o → units ≡ c.units → at < length units → u ≡ get_or units at u
+    → ((p : ProgramUnit) → slice_get o.units at ≡ Some p → row ≡ map (has_frame o p) o.units) → framed ≡ row → (is_program u ≡ true → t ≡ program_task c u framed) → (p : ProgramUnit) → slice_get c.units at ≡ Some p → IsAccepted c p → IsTaskOf c p t
+task_there c o units at u row framed t one units_are low is rows same made p found accepted =
     let here : slice_get units at ≡ Some u = slice_get_read units (length units) at u refl low is in
-    let one : u ≡ p = same_Some u p (sym here ∙ ap (λ xs. slice_get xs at) units_are ∙ found) in
-    let there : slice_get (all_paths c) at ≡ Some row = sym (ap (λ xs. slice_get xs at) paths_are) ∙ slice_get_read paths (length paths) at row refl below has in
-    task_is c p accepted used t (same ∙ row_is c accepted.declared at p row found there) (made (ap is_program one ∙ (program_is c p.name.name p accepted.program).1) ∙ ap (λ w. program_task c w used) one)
+    let itself : u ≡ p = same_Some u p (sym here ∙ ap (λ xs. slice_get xs at) units_are ∙ found) in
+    let frames : (p : ProgramUnit) → slice_get c.units at ≡ Some p → row ≡ map (has_frame c p) c.units = subst (λ (k : Config). (p : ProgramUnit) → slice_get k.units at ≡ Some p → row ≡ map (has_frame k p) k.units) (sym one) rows in
+    task_is c p accepted framed t (same ∙ frames p found) (made (ap is_program itself ∙ (program_is c p.name.name p accepted.program).1) ∙ ap (λ w. program_task c w framed) itself)
 
 pub none_there : (c : Config) (units : List ProgramUnit) (at : ℕ) (p : ProgramUnit) → units ≡ c.units → length units < at + 1 → slice_get c.units at ≡ Some p → ⊥
 none_there c units at p same high found = let low : at < length units = slice_get_within units at p (ap (λ xs. slice_get xs at) same ∙ found) in omega (arith, low, high)
 
-pub paths_low : (c : Config) (units : List ProgramUnit) (paths : List (List Bool)) (at : ℕ) → units ≡ c.units → paths ≡ all_paths c → at < length units → at < length paths
-paths_low c units paths at same are low =
-    let many : length paths ≡ length c.units = ap length are ∙ length_mapped _ (map (used_by c) c.units) ∙ length_mapped (used_by c) c.units in
-    let size : length units ≡ length c.units = ap length same in omega (arith, many, size, low)
-
-pub used_many : (c : Config) (units : List ProgramUnit) (paths : List (List Bool)) (at : ℕ) (row used : List Bool) → units ≡ c.units → paths ≡ all_paths c → at < length units → at < length paths → row ≡ get_or paths at row → used ≡ row → length used ≡ length c.units
-used_many c units paths at row used same are low below has is =
-    let r = one_there units at low in
-    ap length is ∙ row_many c at r.0 row (ap (λ xs. slice_get xs at) (sym same) ∙ r.1) (sym (ap (λ xs. slice_get xs at) are) ∙ slice_get_read paths (length paths) at row refl below has)
+pub framed_many : (c o : Config) (row framed : List Bool) → c ≡ o → length row ≡ length o.units → framed ≡ row → length framed ≡ length c.units
+framed_many c o row framed one many same = ap length same ∙ many ∙ ap (λ (k : Config). length k.units) (sym one)
 
 -- LINES
 

@@ -1,13 +1,7 @@
 -- The parts of laying out the slots of a task (own rules).
-use Rattle.std.specs.Prelude.{ℕ, zero, suc, ℤ, pos, ◌+ℤ◌, Bool, true, false, ◌&&◌, ◌||◌, nat_eq, if◌then◌else◌, List, [], ◌∷◌, ◌++◌, map, length, slice_get, Option, Some, None, codes}
+use Rattle.std.specs.Prelude.{ℕ, zero, suc, ℤ, pos, ◌+ℤ◌, Bool, true, false, ◌&&◌, List, [], ◌∷◌, ◌++◌, map, length, slice_get, Option, Some, None, codes}
 use Rattle.il_spec.specs.declared.tree.Scalar.{Scalar as ScalarType}
 use Rattle.il_spec.specs.declared.tree.Literal.{Literal}
-use Rattle.il_spec.specs.declared.tree.Named.{Named}
-use Rattle.il_spec.specs.declared.tree.Form.{Form}
-use Rattle.il_spec.specs.declared.tree.Form.TheVariants.{Block as BlockForm}
-use Rattle.il_spec.specs.declared.tree.Instruction.{Instruction}
-use Rattle.il_spec.specs.declared.tree.Instruction.TheVariants.{Invoke}
-use Rattle.il_spec.specs.declared.tree.Step.{Step}
 use Rattle.il_spec.specs.declared.tree.Unit.{Unit as ProgramUnit}
 use Rattle.il_spec.specs.declared.tree.Config.{Config}
 use Rattle.il_rules.specs.Names.{is_function}
@@ -17,8 +11,7 @@ use Rattle.il_run.specs.Meaning.{Entity, entities, own_entities, under, element_
 use Rattle.il_scope.specs.declared.entry.VariableType.{VariableType}
 use Rattle.il_scope.specs.declared.entry.VariableType.TheVariants.{Scalar, Array, Instance}
 use Rattle.il_scope.specs.declared.entry.BlockType.{BlockType}
-use Rattle.il_scope.specs.Views.{unit_number}
-use Rattle.il_order.specs.Related.{tabulate, holds}
+use Rattle.il_order.specs.Related.{tabulate}
 use Rattle.il_slots.specs.declared.flat.Cell.{Cell}
 use Rattle.il_code.specs.declared.framing.Frames.{Frames}
 use Rattle.il_code.specs.declared.laying.Opening.{Opening}
@@ -28,6 +21,7 @@ use Rattle.il_slots.specs.Layout.{Rows, rows, cell, number_part, flag_part}
 use Rattle.il_slots.specs.Making.{shown, block_place, block_lists}
 use Rattle.il_slots.specs.Places.{capped, seen_image}
 use Rattle.il_slots.specs.Paths.{slot_at}
+use Rattle.il_slots.specs.Program.{is_used}
 use Rattle.il_code.specs.Tasks.{TaskLayout}
 
 -- OPENINGS
@@ -90,63 +84,13 @@ abbrev pub with_values : Rows → List Opening → Rows
 with_values r [] = r
 with_values r (o ∷ os) = with_values (with_value r o.value) os
 
--- USES
-
--- a number more, if it is not there
-abbrev pub is_there : List ℕ → ℕ → Bool
-is_there [] n = false
-is_there (m ∷ ms) n = nat_eq m n || is_there ms n
-
-abbrev pub noted : List ℕ → Option ℕ → List ℕ
-noted ns None = ns
-noted ns (Some n) = if is_there ns n then ns else ns ++ n ∷ []
-
--- the units of which instances are declared
-abbrev pub with_instance : Config → List ℕ → Form → List ℕ
-with_instance c ns (BlockForm block) = noted ns (unit_number c block)
-with_instance c ns _ = ns
-
-abbrev pub with_instances : Config → List ℕ → List Entity → List ℕ
-with_instances c ns [] = ns
-with_instances c ns (e ∷ es) = with_instances c (with_instance c ns e.form) es
-
--- of one type, by the names that have it
-abbrev pub with_named : Config → List ℕ → Form → List Named → List ℕ
-with_named c ns form [] = ns
-with_named c ns form (name ∷ names) = with_named c (with_instance c ns form) form names
-
--- and those that are called
-abbrev pub with_call : Config → List ℕ → Instruction → List ℕ
-with_call c ns (Invoke function operands) = noted ns (unit_number c function.name)
-with_call c ns _ = ns
-
-abbrev pub with_calls : Config → List ℕ → List Step → List ℕ
-with_calls c ns [] = ns
-with_calls c ns (s ∷ ss) = with_calls c (with_call c ns s.instruction) ss
-
--- all that a unit uses, by number
-abbrev pub used_by : Config → ProgramUnit → List ℕ
-used_by c u = with_calls c (with_instances c [] (own_entities u)) u.body.steps
-
--- whether one of some units is another, or leads to it
-abbrev pub leads : List (List Bool) → List ℕ → ℕ → Bool
-leads paths [] to = false
-leads paths (n ∷ ns) to = (nat_eq n to || holds paths n to) || leads paths ns to
-
-abbrev pub path_row : ℕ → List (List Bool) → List ℕ → List Bool
-path_row count paths ns = tabulate count (leads paths ns)
-
--- which units lead to which, by so many uses
-abbrev pub paths_to : ℕ → ℕ → List (List ℕ) → List (List Bool)
-paths_to zero count uses = []
-paths_to (suc n) count uses = map (path_row count (paths_to n count uses)) uses
-
-abbrev pub all_paths : Config → List (List Bool)
-all_paths c = paths_to 16 (length c.units) (map (used_by c) c.units)
-
 -- FRAMES
 
--- one unit more: a function has a frame if it is used
+-- whether a unit has a frame in the task of a program: it is a function that the program uses
+abbrev pub has_frame : Config → ProgramUnit → ProgramUnit → Bool
+has_frame c p v = is_function v && is_used c p v
+
+-- one unit more, which has a frame or not
 abbrev pub with_frame : Config → Frames → ProgramUnit → Bool → Frames
 with_frame c f u true = record { openings = f.openings ++ openings_of c u.name.name (function_entities u); bases = f.bases ++ Some (length f.openings) ∷ [] }
 with_frame c f u false = record { openings = f.openings; bases = f.bases ++ None ∷ [] }
@@ -154,7 +98,7 @@ with_frame c f u false = record { openings = f.openings; bases = f.bases ++ None
 abbrev pub with_frames : Config → Frames → List ProgramUnit → List Bool → Frames
 with_frames c f [] bs = f
 with_frames c f (u ∷ us) [] = f
-with_frames c f (u ∷ us) (b ∷ bs) = with_frames c (with_frame c f u (is_function u && b)) us bs
+with_frames c f (u ∷ us) (b ∷ bs) = with_frames c (with_frame c f u b) us bs
 
 abbrev pub no_frames : Frames
 no_frames = record { openings = []; bases = [] }
@@ -180,6 +124,6 @@ laid_task own seen bases = record {
 abbrev pub task_by : Config → ProgramUnit → Frames → TaskLayout
 task_by c p f = laid_task (f.openings ++ openings_of c [] (own_entities p)) (openings_to 17 c [] (entities p.externals ++ seen_image c p)) (map (base_or (length f.openings)) f.bases)
 
--- and where these units are used
+-- and where these units have frames
 abbrev pub program_task : Config → ProgramUnit → List Bool → TaskLayout
-program_task c p used = task_by c p (with_frames c no_frames c.units used)
+program_task c p framed = task_by c p (with_frames c no_frames c.units framed)

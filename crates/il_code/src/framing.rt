@@ -1,13 +1,15 @@
 // The frames of functions in a task.
 
-ghost use Rattle.std.specs.Prelude.{◌≡◌, List, ◌++◌, ◌&&◌, [], length, map, IfOk, OnOk};
+ghost use Rattle.std.specs.Prelude.{◌≡◌, List, ◌++◌, ◌&&◌, [], Some, length, map, slice_get, IfOk, OnOk};
+ghost use Rattle.il_spec.specs.declared.tree.Unit.{Unit as ProgramUnit};
 ghost use Rattle.il_rules.specs.Names.{is_function};
 ghost use Rattle.il_run.specs.Meaning.{Entity, own_entities};
 ghost use Rattle.il_slots.specs.Flattened.{function_entities};
-ghost use Rattle.il_code.specs.Laying.{openings_to, openings_of, with_frame, with_frames, no_frames, base_or};
+ghost use Rattle.il_code.specs.Laying.{openings_to, openings_of, has_frame, with_frame, with_frames, no_frames, base_or};
 ghost use Rattle.il_slots.specs.Making.{shown};
 
 use crate::laying::{Blocks, Opening, add_variables};
+use il_order::Ordered;
 use il_slots::variables::{Variable, function_variables, own_variables};
 use il_spec::tree::{Unit, UnitKind};
 use lists::Items;
@@ -51,17 +53,17 @@ fn add_function(
     add_openings(alloc, blocks, openings, DEPTH, path, list.as_slice())
 }
 
-// Adds a unit: a function has a frame if it is used.
+// Adds a unit, which has a frame or not.
 fn add_frame(
     alloc: Global,
     blocks: &Blocks,
     frames: &mut Frames,
     unit: &Unit,
-    used: bool,
+    framed: bool,
 ) -> Result<(), AllocError>
-    ensures { OnOk result (frames.new ≡ with_frame blocks.now.names.now frames.old unit.now used) }
+    ensures { OnOk result (frames.new ≡ with_frame blocks.now.names.now frames.old unit.now framed) }
 {
-    if !used {
+    if !framed {
         return frames.bases.push(None);
     }
     let base = frames.openings.as_slice().len();
@@ -69,7 +71,7 @@ fn add_frame(
     add_function(alloc, blocks, &mut frames.openings, unit)
 }
 
-// Whether a unit has a frame: it is a function, and used.
+// Whether a unit is a function, and used.
 fn is_framed(unit: &Unit, used: bool) -> bool
     ensures { result ≡ (is_function unit.now && used) }
 {
@@ -79,10 +81,36 @@ fn is_framed(unit: &Unit, used: bool) -> bool
     }
 }
 
-/// The frames of the functions that are used.
-pub fn frames_of(alloc: Global, blocks: &Blocks, used: &[bool]) -> Result<Frames, AllocError>
-    requires { length used.now ≡ length blocks.now.names.now.units }
-    ensures { IfOk result (λ f. f ≡ with_frames blocks.now.names.now no_frames blocks.now.names.now.units used.now) }
+// Whether a unit has a frame in the task of the program of a number: it is a function that the program uses (IEC 61131-3:2003, 2.5).
+fn has_frame(ordered: &Ordered, program: usize, at: usize, unit: &Unit) -> bool
+    requires { slice_get ordered.now.units at ≡ Some unit.now }
+    ensures { (p : ProgramUnit) → slice_get ordered.now.units program ≡ Some p → result ≡ has_frame ordered.now p unit.now }
+{
+    let _config = ordered.config();
+    is_framed(unit, ordered.needs(program, at))
+}
+
+/// The units that have a frame in the task of the program of a number.
+pub fn framed_units(
+    alloc: Global,
+    ordered: &Ordered,
+    program: usize,
+) -> Result<Items<bool>, AllocError>
+    ensures count { IfOk result (λ r. length r ≡ length ordered.now.units) }
+    ensures framed { IfOk result (λ r. (p : ProgramUnit) → slice_get ordered.now.units program ≡ Some p → r ≡ map (has_frame ordered.now p) ordered.now.units) }
+{
+    let units = ordered.config().units.as_slice();
+    let mut framed = Items::new(alloc);
+    'units: for at in 0..units.len() {
+        framed.push(has_frame(ordered, program, at, &units[at]))?;
+    }
+    Ok(framed)
+}
+
+/// The frames of the units that have one.
+pub fn frames_of(alloc: Global, blocks: &Blocks, framed: &[bool]) -> Result<Frames, AllocError>
+    requires { length framed.now ≡ length blocks.now.names.now.units }
+    ensures { IfOk result (λ f. f ≡ with_frames blocks.now.names.now no_frames blocks.now.names.now.units framed.now) }
 {
     let units = blocks.names.config().units.as_slice();
     let mut frames = Frames {
@@ -90,9 +118,7 @@ pub fn frames_of(alloc: Global, blocks: &Blocks, used: &[bool]) -> Result<Frames
         bases: Items::new(alloc),
     };
     'units: for at in 0..units.len() {
-        let unit = &units[at];
-        let framed = is_framed(unit, used[at]);
-        add_frame(alloc, blocks, &mut frames, unit, framed)?;
+        add_frame(alloc, blocks, &mut frames, &units[at], framed[at])?;
     }
     Ok(frames)
 }

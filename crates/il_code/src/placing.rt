@@ -5,14 +5,14 @@ ghost use Rattle.il_spec.specs.declared.tree.Unit.{Unit as ProgramUnit};
 ghost use Rattle.il_rules.specs.Names.{is_program, program_named};
 ghost use Rattle.il_run.specs.Meaning.{entities};
 ghost use Rattle.il_scan_laws.specs.Accepted.{IsAccepted};
-ghost use Rattle.il_code.specs.Laying.{openings_to, laid_task, task_by, program_task, all_paths};
+ghost use Rattle.il_code.specs.Laying.{openings_to, laid_task, task_by, program_task};
 ghost use Rattle.il_slots.specs.Places.{seen_image};
 ghost use Rattle.il_code.specs.Tasks.{IsTaskOf, AreTasksOf};
 
-use crate::framing::{Frames, add_openings, add_own, bases_of, frames_of};
+use crate::framing::{Frames, add_openings, add_own, bases_of, framed_units, frames_of};
 use crate::laying::{Blocks, Opening};
-use crate::reaching::all_paths;
 use crate::task::TaskCode;
+use il_order::Ordered;
 use il_scope::{Scoped, is_program};
 use il_slots::sizes::block_lists;
 use il_slots::variables::{global_variables, other_variables};
@@ -63,18 +63,18 @@ fn framed_task(
     task_with(alloc, blocks, unit, own.as_slice(), bases)
 }
 
-// The slots of the task of a program, where these units are used.
+// The slots of the task of a program, where these units have frames.
 fn program_task(
     alloc: Global,
     blocks: &Blocks,
     unit: &Unit,
-    used: &[bool],
+    framed: &[bool],
 ) -> Result<TaskCode, AllocError>
     requires program { is_program unit.now ≡ true }
-    requires used { length used.now ≡ length blocks.now.names.now.units }
-    ensures { IfOk result (λ t. t ≡ program_task blocks.now.names.now unit.now used.now) }
+    requires framed { length framed.now ≡ length blocks.now.names.now.units }
+    ensures { IfOk result (λ t. t ≡ program_task blocks.now.names.now unit.now framed.now) }
 {
-    let frames = frames_of(alloc, blocks, used)?;
+    let frames = frames_of(alloc, blocks, framed)?;
     framed_task(alloc, blocks, unit, frames)
 }
 
@@ -88,13 +88,13 @@ fn unit_task(
     alloc: Global,
     blocks: &Blocks,
     unit: &Unit,
-    used: &[bool],
+    framed: &[bool],
 ) -> Result<TaskCode, AllocError>
-    requires { length used.now ≡ length blocks.now.names.now.units }
-    ensures { IfOk result (λ t. is_program unit.now ≡ true → t ≡ program_task blocks.now.names.now unit.now used.now) }
+    requires { length framed.now ≡ length blocks.now.names.now.units }
+    ensures { IfOk result (λ t. is_program unit.now ≡ true → t ≡ program_task blocks.now.names.now unit.now framed.now) }
 {
     if is_program(unit.kind) {
-        program_task(alloc, blocks, unit, used)
+        program_task(alloc, blocks, unit, framed)
     } else {
         no_task(alloc)
     }
@@ -104,10 +104,10 @@ fn unit_task(
 fn task_of(
     alloc: Global,
     blocks: &Blocks,
-    paths: &[Items<bool>],
+    ordered: &Ordered,
     at: usize,
 ) -> Result<TaskCode, AllocError>
-    requires { paths.now ≡ all_paths blocks.now.names.now }
+    requires { blocks.now.names.now ≡ ordered.now }
     ensures { IfOk result (λ t. (p : ProgramUnit) → slice_get blocks.now.names.now.units at ≡ Some p → IsAccepted blocks.now.names.now p → IsTaskOf blocks.now.names.now p t) }
 {
     let units = blocks.names.config().units.as_slice();
@@ -116,8 +116,8 @@ fn task_of(
         return Ok(task);
     }
     let unit = &units[at];
-    let row = &paths[at];
-    let task = unit_task(alloc, blocks, unit, row.as_slice())?;
+    let framed = framed_units(alloc, ordered, at)?;
+    let task = unit_task(alloc, blocks, unit, framed.as_slice())?;
     Ok(task)
 }
 
@@ -125,15 +125,15 @@ fn task_of(
 fn line_task(
     alloc: Global,
     blocks: &Blocks,
-    paths: &[Items<bool>],
+    ordered: &Ordered,
     line: &ProgramLine,
 ) -> Result<TaskCode, AllocError>
-    requires { paths.now ≡ all_paths blocks.now.names.now }
+    requires { blocks.now.names.now ≡ ordered.now }
     ensures { IfOk result (λ t. (p : ProgramUnit) → program_named blocks.now.names.now line.now.program.name ≡ Some p → IsAccepted blocks.now.names.now p → IsTaskOf blocks.now.names.now p t) }
 {
     match blocks.names.program(line.program.name.as_str()) {
         Some(at) => {
-            let task = task_of(alloc, blocks, paths, at)?;
+            let task = task_of(alloc, blocks, ordered, at)?;
             Ok(task)
         }
         None => {
@@ -147,15 +147,15 @@ fn line_task(
 fn line_tasks(
     alloc: Global,
     blocks: &Blocks,
-    paths: &[Items<bool>],
+    ordered: &Ordered,
     lines: &[ProgramLine],
 ) -> Result<Items<TaskCode>, AllocError>
-    requires { paths.now ≡ all_paths blocks.now.names.now }
+    requires { blocks.now.names.now ≡ ordered.now }
     ensures { IfOk result (λ ts. AreTasksOf blocks.now.names.now lines.now ts) }
 {
     let mut tasks = Items::new(alloc);
     'lines: for line in lines {
-        tasks.push(line_task(alloc, blocks, paths, line)?)?;
+        tasks.push(line_task(alloc, blocks, ordered, line)?)?;
     }
     Ok(tasks)
 }
@@ -193,11 +193,15 @@ pub fn globals(alloc: Global, names: &Scoped) -> Result<TaskCode, AllocError>
 }
 
 /// The slots of the task of each PROGRAM line, in the written order.
-pub fn tasks(alloc: Global, names: &Scoped) -> Result<Items<TaskCode>, AllocError>
-    requires { length names.now.units < 2 ^ 63 }
+pub fn tasks(
+    alloc: Global,
+    ordered: &Ordered,
+    names: &Scoped,
+) -> Result<Items<TaskCode>, AllocError>
+    requires same { names.now ≡ ordered.now }
+    requires count { length names.now.units < 2 ^ 63 }
     ensures { IfOk result (λ ts. AreTasksOf names.now names.now.programs ts) }
 {
-    let paths = all_paths(alloc, names)?;
     let lists = block_lists(alloc, names)?;
     let blocks = Blocks {
         names,
@@ -205,5 +209,5 @@ pub fn tasks(alloc: Global, names: &Scoped) -> Result<Items<TaskCode>, AllocErro
         lists: lists.as_slice(),
     };
     let lines = names.config().programs.as_slice();
-    line_tasks(alloc, &blocks, paths.as_slice(), lines)
+    line_tasks(alloc, &blocks, ordered, lines)
 }

@@ -16,6 +16,7 @@ use Rattle.il_found.specs.Least.{NumberedFault, earlier_of, IsLeast, Either}
 use Rattle.il_found.proofs.Least.{least_both, least_same}
 use Rattle.il_scope.specs.Views.{program_number}
 use Rattle.il_scope.proofs.Laws.{program_found, program_there}
+use Rattle.il_order.specs.Related.{closed}
 use Rattle.il_order.specs.Used.{uses}
 use Rattle.il_order.specs.Chained.{chains}
 use Rattle.il_order.specs.Counted.{counts, counts_of, unit_counts, units_listed, all_listed, with_variables, is_over, is_over_of, task_count, with_declared}
@@ -107,12 +108,19 @@ slots_least c r count total units declared counted all lines globals found reach
     sum_is : total ≡ with_declared c (length c.units + 1) (counts c (length c.units + 1)) 0 c.globals
     sum_is = total_is ∙ ap (λ d. with_variables (count + 1) counted 0 d) declared_are ∙ ap (λ x. with_declared c (count + 1) x 0 c.globals) own ∙ ap (λ x. with_declared c (x + 1) (counts c (length c.units + 1)) 0 c.globals) counting
 
+-- the relation of the units that reach which
+pub reached_is : (c : Config) (count : ℕ) (used r : List (List Bool)) → count ≡ length c.units → used ≡ uses c true → r ≡ closed count used count → r ≡ reached c
+reached_is c count used r counting using closing = closing ∙ ap (λ u. closed count u count) using ∙ ap (λ n. closed n (uses c true) n) counting
+
 -- all of order
 pub order_least : (c : Config) → HasNoFault (BreaksDeclarations c) → (count : ℕ) (used r long : List (List Bool)) (units slots found : Option NumberedFault)
-    → count ≡ length c.units → used ≡ uses c → r ≡ reached c → long ≡ chains count used r 16
+    → count ≡ length c.units → used ≡ uses c true → r ≡ closed count used count → long ≡ chains count used r 16
     → IsLeast units (UnitsBreak c r long (length c.units)) → IsLeast slots (SlotsBreak c) → found ≡ earlier_of units slots → IsLeast found (λ n p. BreaksOrder c n p)
-order_least c declared count used r long units slots found counting using reach chaining a b is =
+order_least c declared count used r long units slots found counting using closing chaining a b is =
     least_order c declared units slots found is (subst (λ x. IsLeast units (UnitsBreak c (reached c) x (length c.units))) chain (subst (λ x. IsLeast units (UnitsBreak c x long (length c.units))) reach a)) b
   where
-    chain : long ≡ chains (length c.units) (uses c) (reached c) 16
-    chain = chaining ∙ ap (λ u. chains count u r 16) using ∙ ap (λ n. chains n (uses c) r 16) counting ∙ ap (λ x. chains (length c.units) (uses c) x 16) reach
+    reach : r ≡ reached c
+    reach = reached_is c count used r counting using closing
+
+    chain : long ≡ chains (length c.units) (uses c true) (reached c) 16
+    chain = chaining ∙ ap (λ u. chains count u r 16) using ∙ ap (λ n. chains n (uses c true) r 16) counting ∙ ap (λ x. chains (length c.units) (uses c true) x 16) reach

@@ -27,7 +27,7 @@ same_nat a b e = grind (arith, nat_tests)
 
 module _ (c : Config) where
   abbrev pub IsNumberWay : ℕ → List ℕ → Type 0
-  IsNumberWay u ks = IsWay (length c.units) (uses c) u ks
+  IsNumberWay u ks = IsWay (length c.units) (uses c true) u ks
 
   -- units, by their numbers
   abbrev pub AreAt : List ℕ → List ProgramUnit → Type 0
@@ -129,16 +129,16 @@ module _ (c : Config) where
     alone : (U : ProgramUnit) → NamesNoneTwice (U ∷ [])
     alone U = λ i j d low high. absurd (omega (arith, low, high))
 
-    pub long_to : (u : ℕ) (U : ProgramUnit) → slice_get c.units u ≡ Some U → holds (chains (length c.units) (uses c) (reached c) 16) 16 u ≡ true → IsLong U
+    pub long_to : (u : ℕ) (U : ProgramUnit) → slice_get c.units u ≡ Some U → holds (chains (length c.units) (uses c true) (reached c) 16) 16 u ≡ true → IsLong U
     long_to u U here e =
-        let way = chain_to (length c.units) (uses c) 16 u (slice_get_within c.units u U here) e in
+        let way = chain_to (length c.units) (uses c true) 16 u (slice_get_within c.units u U here) e in
         let r = units_of way.0 u U here way.1 in
         let long = as_many way.0 r.0 r.2 in
         let sixteen = way.2 in
         record { chain = r.0; is_chain = r.1; once = once_to way.0 r.0 (u ∷ []) (U ∷ []) (here, tt) r.2 (alone U) way.3; long = omega (arith, long, sixteen) }
 
-    pub long_from : (u : ℕ) (U : ProgramUnit) (chain : List ProgramUnit) → slice_get c.units u ≡ Some U → IsChain c U chain → NamesNoneTwice (U ∷ chain) → 16 < length (U ∷ chain) → holds (chains (length c.units) (uses c) (reached c) 16) 16 u ≡ true
+    pub long_from : (u : ℕ) (U : ProgramUnit) (chain : List ProgramUnit) → slice_get c.units u ≡ Some U → IsChain c U chain → NamesNoneTwice (U ∷ chain) → 16 < length (U ∷ chain) → holds (chains (length c.units) (uses c true) (reached c) 16) 16 u ≡ true
     long_from u U chain here is once long =
         let r = numbers_of chain u U here is in
         let same = as_many r.0 chain r.2 in
-        chain_from (length c.units) (uses c) 16 u r.0 (slice_get_within c.units u U here) r.1 (once_from r.0 chain (u ∷ []) (U ∷ []) (here, tt) r.2 once) (omega (arith, same, long))
+        chain_from (length c.units) (uses c true) 16 u r.0 (slice_get_within c.units u U here) r.1 (once_from r.0 chain (u ∷ []) (U ∷ []) (here, tt) r.2 once) (omega (arith, same, long))

@@ -1,30 +1,54 @@
 -- A relation through more and more units is transitive through these.
-use Rattle.std.proofs.Common.{◌≡◌, ℕ, zero, suc, ◌<◌, ◌≤◌, ◌⊎◌, inl, inr, Bool, true, ◌&&◌, List, sym, ap, ◌∙◌, subst, arith}
+use Rattle.std.proofs.Common.{◌≡◌, ℕ, zero, suc, ◌<◌, ◌≤◌, ◌⊎◌, inl, inr, Bool, true, false, ◌&&◌, ◌||◌, if◌then◌else◌, List, Option, Some, None, slice_get, refl, sym, ap, ◌∙◌, subst, arith}
 use Rattle.std.proofs.lemmas.Bool.{cases_lt}
-use Rattle.il_order.specs.Related.{is_entry, holds_in, holds, is_joined, joined_row, closed}
-use Rattle.il_order.proofs.Tabled.{or_left, or_right, from_or, and_both, from_and, tabulated}
+use Rattle.il_order.specs.Related.{is_entry, is_set, holds_in, holds, row_or_none, either_row, joined_row, joined, leads_anywhere, closed}
+use Rattle.il_order.proofs.Tabled.{or_left, or_right, from_or, and_both, from_and, tabulated, below_some}
 
 module _ (n : ℕ) (relation : List (List Bool)) where
   -- a relation through units with a number below a bound
   abbrev pub Leads : ℕ → ℕ → ℕ → Type 0
   Leads k u v = holds (closed n relation k) u v ≡ true
 
-  next : (k u v : ℕ) → u < n → v < n → holds (closed n relation (suc k)) u v ≡ is_joined (closed n relation k) k u v
-  next k u v lu lv =
-      ap (λ o. holds_in o v) (tabulated (λ from. joined_row n (closed n relation k) k from) n u lu)
-      ∙ ap is_entry (tabulated (λ to. is_joined (closed n relation k) k u to) n v lv)
+  -- one unit more
+  next_is : (k u v : ℕ) → u < n → v < n → holds (closed n relation (suc k)) u v ≡ holds (closed n relation k) u v || (holds (closed n relation k) u k && holds (closed n relation k) k v)
+  next_is k u v lu lv = by_next (leads_anywhere n (closed n relation k) k) refl
+    where
+      or_none : (b : Bool) → b ≡ b || false
+      or_none true = refl
+      or_none false = refl
+
+      of_row : (o : Option (List Bool)) → is_set (row_or_none o) v ≡ holds_in o v || false
+      of_row None = refl
+      of_row (Some row) = or_none (is_set row v)
+
+      by_test : (b : Bool) → is_set (if b then either_row n (closed n relation k) k u else row_or_none (slice_get (closed n relation k) u)) v ≡ holds (closed n relation k) u v || (b && holds (closed n relation k) k v)
+      by_test true = ap is_entry (tabulated (λ to. holds (closed n relation k) u to || holds (closed n relation k) k to) n v lv)
+      by_test false = of_row (slice_get (closed n relation k) u)
+
+      off : leads_anywhere n (closed n relation k) k ≡ false → (b : Bool) → holds (closed n relation k) k v ≡ b → b ≡ false
+      off is true leads = sym (below_some (λ to. holds (closed n relation k) k to) n v lv leads) ∙ is
+      off is false leads = refl
+
+      without : (a d b : Bool) → b ≡ false → a ≡ a || (d && b)
+      without true d b e = refl
+      without false true b e = sym e
+      without false false b e = refl
+
+      by_next : (b : Bool) → leads_anywhere n (closed n relation k) k ≡ b → holds (if b then joined n (closed n relation k) k else closed n relation k) u v ≡ holds (closed n relation k) u v || (holds (closed n relation k) u k && holds (closed n relation k) k v)
+      by_next true is = ap (λ o. holds_in o v) (tabulated (λ from. joined_row n (closed n relation k) k from) n u lu) ∙ by_test (holds (closed n relation k) u k)
+      by_next false is = without (holds (closed n relation k) u v) (holds (closed n relation k) u k) (holds (closed n relation k) k v) (off is (holds (closed n relation k) k v) refl)
 
   pub keeps : (k u v : ℕ) → u < n → v < n → Leads k u v → Leads (suc k) u v
-  keeps k u v lu lv a = next k u v lu lv ∙ or_left (holds (closed n relation k) u v) (holds (closed n relation k) u k && holds (closed n relation k) k v) a
+  keeps k u v lu lv a = next_is k u v lu lv ∙ or_left (holds (closed n relation k) u v) (holds (closed n relation k) u k && holds (closed n relation k) k v) a
 
   through : (k u v : ℕ) → u < n → v < n → Leads k u k → Leads k k v → Leads (suc k) u v
   through k u v lu lv a b =
-      next k u v lu lv
+      next_is k u v lu lv
       ∙ or_right (holds (closed n relation k) u v) (holds (closed n relation k) u k && holds (closed n relation k) k v) (and_both (holds (closed n relation k) u k) (holds (closed n relation k) k v) a b)
 
   pub parts : (k u v : ℕ) → u < n → v < n → Leads (suc k) u v → Leads k u v ⊎ (Leads k u k × Leads k k v)
   parts k u v lu lv a =
-      elim (from_or (holds (closed n relation k) u v) (holds (closed n relation k) u k && holds (closed n relation k) k v) (sym (next k u v lu lv) ∙ a)) [
+      elim (from_or (holds (closed n relation k) u v) (holds (closed n relation k) u k && holds (closed n relation k) k v) (sym (next_is k u v lu lv) ∙ a)) [
         | inl x ↦ inl x
         | inr y ↦ inr (from_and (holds (closed n relation k) u k) (holds (closed n relation k) k v) y)
       ]

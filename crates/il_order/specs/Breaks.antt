@@ -10,7 +10,7 @@ use Rattle.il_order.specs.Counted.{with_declared, counts, is_over}
 
 -- the relation of the units that reach which
 abbrev pub reached : Config → List (List Bool)
-reached config = closed (length config.units) (uses config) (length config.units)
+reached config = closed (length config.units) (uses config true) (length config.units)
 
 -- a unit that reaches itself, or has a chain that is too long
 abbrev pub UnitBreaks : List (List Bool) → List (List Bool) → ℕ → Place → ℕ → Place → Type 0
@@ -36,4 +36,4 @@ SlotsBreak config = Either (LinesBreak config (reached config) (counts config (s
 
 -- all of order
 abbrev pub AllUnitsBreak : Config → ℕ → Place → Type 0
-AllUnitsBreak config = UnitsBreak config (reached config) (chains (length config.units) (uses config) (reached config) 16) (length config.units)
+AllUnitsBreak config = UnitsBreak config (reached config) (chains (length config.units) (uses config true) (reached config) 16) (length config.units)

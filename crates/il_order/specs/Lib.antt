@@ -1,6 +1,7 @@
 pub mod Breaks
 pub mod Chained
 pub mod Counted
+pub mod Instances
 pub mod OrderFaults
 pub mod Related
 pub mod Used

@@ -1,5 +1,5 @@
 -- Relations between units, by their numbers.
-use Rattle.std.specs.Prelude.{ℕ, zero, suc, Bool, false, ◌&&◌, ◌||◌, List, [], ◌∷◌, ◌++◌, Option, Some, None, slice_get}
+use Rattle.std.specs.Prelude.{ℕ, zero, suc, Bool, false, ◌||◌, if◌then◌else◌, List, [], ◌∷◌, ◌++◌, Option, Some, None, slice_get}
 
 -- the values at the numbers below a bound
 abbrev pub tabulate : {A : Type 0} → ℕ → (ℕ → A) → List A
@@ -27,17 +27,31 @@ holds_in (Some row) to = is_set row to
 abbrev pub holds : List (List Bool) → ℕ → ℕ → Bool
 holds relation from to = holds_in (slice_get relation from) to
 
--- a relation, and from where it leads through a unit to where it leads on from there
-abbrev pub is_joined : List (List Bool) → ℕ → ℕ → ℕ → Bool
-is_joined relation through from to = holds relation from to || (holds relation from through && holds relation through to)
+-- the row of a unit
+abbrev pub row_or_none : Option (List Bool) → List Bool
+row_or_none None = []
+row_or_none (Some row) = row
 
+-- where a relation leads from a unit, or from another
+abbrev pub either_row : ℕ → List (List Bool) → ℕ → ℕ → List Bool
+either_row count relation other from = tabulate count (λ to. holds relation from to || holds relation other to)
+
+-- from a unit that leads through another, it leads on to where it leads from there
 abbrev pub joined_row : ℕ → List (List Bool) → ℕ → ℕ → List Bool
-joined_row count relation through from = tabulate count (λ to. is_joined relation through from to)
+joined_row count relation through from = if holds relation from through then either_row count relation through from else row_or_none (slice_get relation from)
 
 abbrev pub joined : ℕ → List (List Bool) → ℕ → List (List Bool)
 joined count relation through = tabulate count (λ from. joined_row count relation through from)
 
+-- whether a relation leads on from a unit
+abbrev pub leads_anywhere : ℕ → List (List Bool) → ℕ → Bool
+leads_anywhere count relation through = any_below count (λ to. holds relation through to)
+
+-- a relation, through one unit more
+abbrev pub next : ℕ → List (List Bool) → ℕ → List (List Bool)
+next count relation through = if leads_anywhere count relation through then joined count relation through else relation
+
 -- a relation through the units with a number below a bound
 abbrev pub closed : ℕ → List (List Bool) → ℕ → List (List Bool)
 closed count relation zero = relation
-closed count relation (suc through) = joined count (closed count relation through) through
+closed count relation (suc through) = next count (closed count relation through) through

@@ -4,13 +4,14 @@ ghost use Rattle.std.specs.Prelude.{◌≡◌, IfOk, length};
 ghost use Rattle.il_rules.specs.Faults.{HasNoFault, BreaksDeclarations, BreaksOrder};
 ghost use Rattle.il_found.specs.Least.{IsLeast};
 ghost use Rattle.il_order.specs.Breaks as breaks;
+ghost use Rattle.il_order.specs.Instances.{needed};
 ghost use Rattle.il_order.specs.Breaks.{UnitBreaks, UnitsBreak, AllUnitsBreak, LinesBreak, GlobalsBreak, SlotsBreak};
 
 use crate::chains::{LONGEST, chains};
 use crate::fault::OrderFault;
 use crate::relation::{Relation, closed, holds};
 use crate::slots::{MOST, counts, is_over, unit_counts, with_variables};
-use crate::uses::uses;
+use crate::uses::{are_named, uses};
 use crate::variables::{all_listed, units_listed};
 use il_found::{Found, earlier, fault_if};
 use il_scope::Scoped;
@@ -18,26 +19,44 @@ use il_spec::tree::Place;
 use lists::Items;
 use std::alloc::{AllocError, Global};
 
-/// The first fault of order and of slots.
-pub fn order_fault(alloc: Global, names: &Scoped) -> Result<Option<Found<OrderFault>>, AllocError>
+/// What is found of a configuration's order.
+#[derive(Drop)]
+pub struct Checked {
+    /// The first fault of order and of slots.
+    pub fault: Option<Found<OrderFault>>,
+    /// Which units reach which.
+    pub reached: Relation,
+}
+
+/// Finds the first fault of order and of slots, and which units reach which.
+pub fn order_fault(alloc: Global, names: &Scoped) -> Result<Checked, AllocError>
     requires { HasNoFault (BreaksDeclarations names.now) }
-    ensures { IfOk result (λ found. IsLeast found (λ n p. BreaksOrder names.now n p)) }
+    ensures fault { IfOk result (λ c. IsLeast c.fault (λ n p. BreaksOrder names.now n p)) }
+    ensures reached { IfOk result (λ c. c.reached ≡ breaks.reached names.now) }
 {
     let count = names.config().units.as_slice().len();
-    let reached = reached(alloc, names)?;
-    let uses = uses(alloc, names)?;
+    let uses = uses(alloc, names, true)?;
+    let reached = closed(alloc, &uses, count)?;
     let chains = chains(alloc, &uses, &reached, count)?;
     let units = units_fault(names, &reached, &chains);
     let slots = slots_fault(alloc, names, &reached)?;
-    Ok(earlier(units, slots))
+    Ok(Checked {
+        fault: earlier(units, slots),
+        reached,
+    })
 }
 
-// Which units reach which; the relation of uses is used up.
-fn reached(alloc: Global, names: &Scoped) -> Result<Relation, AllocError>
-    ensures { IfOk result (λ r. r ≡ breaks.reached names.now) }
+/// Which units need which, by calls and by instances that have a name: those that reach each other, where each declaration has one.
+pub fn needed(alloc: Global, names: &Scoped, reached: Relation) -> Result<Relation, AllocError>
+    requires { reached ≡ breaks.reached names.now }
+    ensures { IfOk result (λ r. r ≡ needed names.now) }
 {
-    let count = names.config().units.as_slice().len();
-    closed(alloc, uses(alloc, names)?, count)
+    let units = names.config().units.as_slice();
+    if are_named(units) {
+        Ok(reached)
+    } else {
+        closed(alloc, &uses(alloc, names, false)?, units.len())
+    }
 }
 
 // The first unit that reaches itself, or has a chain of uses that is too long.

@@ -13,11 +13,14 @@ mod variables;
 ghost use Rattle.std.specs.Prelude.{◌≡◌, IfOk, IfErr};
 ghost use Rattle.il_rules.specs.Faults.{IsRefusedBy, Ordering, HasNoFault, Broken, BreaksOrder};
 ghost use Rattle.il_found.specs.Least.{IsLeast};
+ghost use Rattle.il_order.specs.Breaks.{reached};
+ghost use Rattle.il_order.specs.Instances.{needed};
 
-use crate::answer::order_fault;
+use crate::answer::{Checked, needed, order_fault};
+use crate::relation::Relation;
 pub use container::Ordered;
 pub use fault::OrderFault;
-use il_found::{Found, refusal};
+use il_found::refusal;
 use il_spec::fault::Refusal;
 use il_typed::Typed;
 use std::alloc::{AllocError, Global};
@@ -29,24 +32,27 @@ pub fn ordered(alloc: Global, typed: Typed) -> Result<Ordered, Refusal>
     ensures accepted { IfOk result (λ _. HasNoFault (Broken Ordering typed)) }
     ensures refused { IfErr result (IsRefusedBy (Broken Ordering typed)) }
 {
-    check(alloc, &typed)?;
-    Ok(Ordered::of(typed))
+    let needed = check(alloc, &typed)?;
+    Ok(Ordered::of(typed, needed))
 }
 
-// Checks order and slots.
-fn check(alloc: Global, typed: &Typed) -> Result<(), Refusal>
+// Checks order and slots, and finds which units need which.
+fn check(alloc: Global, typed: &Typed) -> Result<Relation, Refusal>
     ensures accepted { IfOk result (λ _. HasNoFault (Broken Ordering typed.now)) }
+    ensures needed { IfOk result (λ r. r ≡ needed typed.now) }
     ensures refused { IfErr result (IsRefusedBy (Broken Ordering typed.now)) }
 {
-    match fault_of(alloc, typed)? {
+    let Checked { fault, reached } = checked(alloc, typed)?;
+    match fault {
         Some(found) => Err(refusal(found)),
-        None => Ok(()),
+        None => Ok(needed(alloc, typed.names(), reached)?),
     }
 }
 
-// The first fault of order and slots; what is typed breaks no rule of declarations.
-fn fault_of(alloc: Global, typed: &Typed) -> Result<Option<Found<OrderFault>>, AllocError>
-    ensures { IfOk result (λ found. IsLeast found (λ n p. BreaksOrder typed.now n p)) }
+// The first fault of order and slots, and which units reach which; what is typed breaks no rule of declarations.
+fn checked(alloc: Global, typed: &Typed) -> Result<Checked, AllocError>
+    ensures fault { IfOk result (λ c. IsLeast c.fault (λ n p. BreaksOrder typed.now n p)) }
+    ensures reached { IfOk result (λ c. c.reached ≡ reached typed.now) }
 {
     let _config = typed.config();
     order_fault(alloc, typed.names())

@@ -2,31 +2,61 @@
 
 ghost use Rattle.std.specs.Prelude.{◌≡◌, ◌++◌, IfOk};
 ghost use Rattle.il_order.specs.Related.{tabulate};
-ghost use Rattle.il_order.specs.Used.{numbers, own_number, called, called_by, declared_in, declared_by, used_by, is_among, uses_row, uses};
+ghost use Rattle.il_order.specs.Used.{numbers, own_number, called, called_by, declared_in, has_name, all_named, are_named, counted_in, declared_by, used_by, is_among, uses_row, uses};
 
 use crate::relation::Relation;
 use il_scope::Scoped;
 use il_scope::entry::BlockType;
-use il_spec::tree::{Declaration, Form, Instruction, Step, Unit};
+use il_spec::tree::{Declaration, Form, Instruction, Named, Step, Unit};
 use lists::Items;
 use std::alloc::{AllocError, Global};
 
 /// Which units use which: they call that function, or declare an instance of that block (IEC 61131-3:2003, 2.5.1, 2.5.2).
-pub fn uses(alloc: Global, names: &Scoped) -> Result<Relation, AllocError>
-    ensures { IfOk result (λ r. r ≡ uses names.now) }
+/// `nameless`: whether a declaration without a name, which no text spells, counts as well.
+pub fn uses(alloc: Global, names: &Scoped, nameless: bool) -> Result<Relation, AllocError>
+    ensures { IfOk result (λ r. r ≡ uses names.now nameless) }
 {
     let mut rows = Items::new(alloc);
     for unit in names.config().units.as_slice() {
-        rows.push(uses_row(alloc, names, unit)?)?;
+        rows.push(uses_row(alloc, names, nameless, unit)?)?;
     }
     Ok(rows)
 }
 
-// Which units a unit uses.
-fn uses_row(alloc: Global, names: &Scoped, unit: &Unit) -> Result<Items<bool>, AllocError>
-    ensures { IfOk result (λ r. r ≡ uses_row names.now unit.now) }
+/// Whether each declaration of units' variables has a name, as in a text.
+pub fn are_named(units: &[Unit]) -> bool
+    ensures { result ≡ are_named units.now }
 {
-    let used = used_by(alloc, names, unit)?;
+    for unit in units {
+        if !all_named(unit.variables.as_slice()) {
+            return false;
+        }
+    }
+    true
+}
+
+// Whether each declaration has a name.
+fn all_named(declarations: &[Declaration]) -> bool
+    ensures { result ≡ all_named declarations.now }
+{
+    for declaration in declarations {
+        if !has_name(declaration.names.as_slice()) {
+            return false;
+        }
+    }
+    true
+}
+
+// Which units a unit uses.
+fn uses_row(
+    alloc: Global,
+    names: &Scoped,
+    nameless: bool,
+    unit: &Unit,
+) -> Result<Items<bool>, AllocError>
+    ensures { IfOk result (λ r. r ≡ uses_row names.now nameless unit.now) }
+{
+    let used = used_by(alloc, names, nameless, unit)?;
     row_of(alloc, &used, names.config().units.as_slice().len())
 }
 
@@ -54,12 +84,17 @@ pub fn is_among(numbers: &[usize], number: usize) -> bool
 }
 
 // The numbers of the units that a unit uses.
-fn used_by(alloc: Global, names: &Scoped, unit: &Unit) -> Result<Items<usize>, AllocError>
-    ensures { IfOk result (λ u. u ≡ used_by names.now unit.now) }
+fn used_by(
+    alloc: Global,
+    names: &Scoped,
+    nameless: bool,
+    unit: &Unit,
+) -> Result<Items<usize>, AllocError>
+    ensures { IfOk result (λ u. u ≡ used_by names.now nameless unit.now) }
 {
     let mut used = Items::new(alloc);
     note_steps(names, unit.body.steps.as_slice(), &mut used)?;
-    note_variables(names, unit.variables.as_slice(), &mut used)?;
+    note_variables(names, nameless, unit.variables.as_slice(), &mut used)?;
     Ok(used)
 }
 
@@ -90,15 +125,42 @@ fn note_instruction(
 // Notes the blocks of declared instances.
 fn note_variables(
     names: &Scoped,
+    nameless: bool,
     declarations: &[Declaration],
     used: &mut Items<usize>,
 ) -> Result<(), AllocError>
-    ensures { IfOk result (λ _. used.new ≡ used.old ++ declared_by names.now declarations.now) }
+    ensures { IfOk result (λ _. used.new ≡ used.old ++ declared_by names.now nameless declarations.now) }
 {
     for declaration in declarations {
-        note_form(names, &declaration.declared.form, used)?;
+        note_declaration(names, nameless, declaration, used)?;
     }
     Ok(())
+}
+
+// Notes the block of a declaration, if it counts.
+fn note_declaration(
+    names: &Scoped,
+    nameless: bool,
+    declaration: &Declaration,
+    used: &mut Items<usize>,
+) -> Result<(), AllocError>
+    ensures { IfOk result (λ _. used.new ≡ used.old ++ counted_in names.now nameless declaration.now) }
+{
+    if nameless || has_name(declaration.names.as_slice()) {
+        note_form(names, &declaration.declared.form, used)
+    } else {
+        note(None, used)
+    }
+}
+
+// Whether names are there.
+fn has_name(names: &[Named]) -> bool
+    ensures { result ≡ has_name names.now }
+{
+    match names.first() {
+        Some(_) => true,
+        None => false,
+    }
 }
 
 // Notes the block of an instance.

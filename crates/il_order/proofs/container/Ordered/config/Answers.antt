@@ -11,7 +11,7 @@ pub returns-clause-typed : goal.returns-clause-typed
 returns-clause-typed c = subst (λ (d : Config). HasNoFault (Broken Typing d)) c.self.view_is c.config.ensures.typed
 
 pub returns-clause-ordered : goal.returns-clause-ordered
-returns-clause-ordered c = subst (λ (d : Config). HasNoFault (Broken Ordering d)) c.self.view_is c.self.invariant
+returns-clause-ordered c = subst (λ (d : Config). HasNoFault (Broken Ordering d)) c.self.view_is c.self.invariant.0
 
 pub returns-clause-written : goal.returns-clause-written
 returns-clause-written c = subst IsWritten c.self.view_is c.config.ensures.written
