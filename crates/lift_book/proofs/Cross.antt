@@ -2,14 +2,27 @@
 use denote.Param.Send.{IsSend, sendable, view_send}
 use denote.Param.SendFields.{declared_send}
 use Rattle.std.proofs.Crossing.{crosses}
-use Rattle.il_machine.proofs.store.Store.TheSendSync as store
+use Rattle.il_machine.specs.contracts.store.Store as Store
+use Rattle.il_machine.proofs.bench.Bench.TheSendSync as bench
+use Rattle.lift_world.specs.contracts.group.Core as Core
+use Rattle.lift_world.specs.contracts.group.Core.TheInside as CoreInside
+use Rattle.lift_world.proofs.shared.Shared.TheSendSync as shared
 use Rattle.lift_spec.proofs.journal.Entry.TheSendSync as entry
 use Rattle.lift_book.specs.contracts.ledger.Ledger as Ledger
 use Rattle.lift_book.specs.contracts.book.Book as Book
 use Rattle.lift_book.specs.contracts.book.Book.TheInside as Inside
 
+pub Store-send : IsSend Store.the_row
+Store-send = search (sendable, crosses, bench.the_send) depth 40 fits 10000
+
+CoreInside-send : IsSend CoreInside.the_row
+CoreInside-send = declared_send CoreInside.the_type (search (sendable, crosses) depth 20, (shared.the_send, tt))
+
+Core-send : IsSend Core.the_row
+Core-send = search (view_send, CoreInside-send) depth 10
+
 pub Ledger-send : IsSend Ledger.the_row
-Ledger-send = search (sendable, crosses, store.the_send, entry.the_send) depth 40 fits 10000
+Ledger-send = search (sendable, crosses, Core-send, Store-send, entry.the_send) depth 40 fits 10000
 
 Inside-send : IsSend Inside.the_row
 Inside-send = declared_send Inside.the_type (Ledger-send, tt)

@@ -117,7 +117,7 @@ impl Book {
         report: &mut Report,
     ) -> Result<Store, (StationFault, Scanned<'v>)>
         requires program { verified.now.config ≡ self.old.config }
-        requires own { scanned.program.config ≡ verified.now.config }
+        requires own { scanned.config ≡ verified.now.config }
         ensures open { IsOpenHere self.old task scanned.entry → fault_of result ≡ full_fault self.old }
         ensures other { ¬ (IsOpenHere self.old task scanned.entry) → fault_of result ≡ Some NotOpen }
         ensures mine { OnOk result (IsOpenHere self.old task scanned.entry) }

@@ -62,7 +62,8 @@ IsUndriven floors asked _ = ⊥
 
 -- SIM
 
--- The trace is that of a journal of the program, a run from its opening: so many rounds, with the presses and the FIRE of the words.
+-- The trace is that of a journal of the program, a run from its opening: so many rounds, with the presses and the FIRE of the words, each
+-- of them safe for those in the cars.
 pub record IsTraceOf (program : Program) (asked : Rounds) (text : List ℕ) : Type 0 where
   pub presses : List Press
   pub first : Option ℕ

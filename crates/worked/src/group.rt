@@ -5,9 +5,10 @@ use lift_image::{Bounded, CarFields, Fields};
 use lift_load::load;
 use lift_spec::calls::{Call, Slot};
 use lift_spec::event::{Event, Reply};
-use lift_spec::report::Report;
-use lift_world::World;
+use lift_spec::report::{EnteredCall, Report};
+use lift_world::{Replies, World};
 use std::alloc::{AllocError, Global};
+use std::mem;
 
 /// What a row hands in. A refresh has each car stand locked at a level of one floor.
 #[derive(Clone, Copy)]
@@ -20,40 +21,112 @@ pub enum Given {
     Gather(u8),
 }
 
-/// What a list of events leaves: its replies, the report that was written last, and the slots.
+/// What a list of events leaves: its replies, the reports of its commits and refreshes, and the slots.
 #[derive(Drop)]
 pub struct Left {
     pub replies: Vec<Reply>,
-    pub report: Report,
+    pub reports: Vec<Report>,
     pub slots: Vec<Slot>,
+}
+
+/// The group of a text as it opens.
+pub fn opened(alloc: Global, text: &[u8]) -> Result<World, Refusal> {
+    World::new(alloc, load(alloc, text)?)
 }
 
 /// Hands events to the group of a text, one after the other.
 pub fn play(alloc: Global, text: &[u8], given: &[Given]) -> Result<Left, Refusal> {
+    let events = events(alloc, given)?;
     let mut world = opened(alloc, text)?;
-    let left = left_by(alloc, &mut world, given);
+    let left = applied(alloc, &mut world, events.as_slice());
     world.release();
     Ok(left?)
 }
 
-// The group of a text as it opens.
-fn opened(alloc: Global, text: &[u8]) -> Result<World, Refusal> {
-    World::new(alloc, load(alloc, text)?)
+/// Whether one run over the events, from the opening of the group of a text, leaves just this.
+pub fn runs_so(
+    alloc: Global,
+    text: &[u8],
+    given: &[Given],
+    left: &Left,
+) -> Result<bool, Refusal> {
+    let events = events(alloc, given)?;
+    let mut world = opened(alloc, text)?;
+    let replies = run(alloc, &mut world, events.as_slice());
+    let slots = world.slots();
+    world.release();
+    let replies = replies?;
+    Ok(replies.as_slice() == left.replies.as_slice()
+        && same_reports(replies.reports(), left.reports.as_slice())
+        && slots.as_slice() == left.slots.as_slice())
 }
 
-// Hands events to a group.
-fn left_by(alloc: Global, world: &mut World, given: &[Given]) -> Result<Left, AllocError> {
+// The events that a row hands in.
+fn events(alloc: Global, given: &[Given]) -> Result<Vec<Event>, AllocError> {
+    let mut events = Vec::new(alloc);
+    for one in given {
+        events.push(event(*one))?;
+    }
+    Ok(events)
+}
+
+// Applies the events one after the other.
+fn applied(alloc: Global, world: &mut World, events: &[Event]) -> Result<Left, AllocError> {
     let mut report = Report::new();
     let mut replies = Vec::new(alloc);
-    for one in given {
-        replies.push(world.apply(&event(*one), &mut report))?;
+    let mut reports = Vec::new(alloc);
+    for event in events {
+        let reply = world.apply(event, &mut report);
+        replies.push(reply)?;
+        if let Reply::Committed | Reply::Refreshed = reply {
+            reports.push(mem::replace(&mut report, Report::new()))?;
+        }
     }
     let slots = Vec::from_slice(alloc, world.slots().as_slice())?;
     Ok(Left {
         replies,
-        report,
+        reports,
         slots,
     })
+}
+
+// Runs over all of them.
+fn run(alloc: Global, world: &mut World, events: &[Event]) -> Result<Replies, AllocError> {
+    let mut replies = Replies::with_room(alloc, events.len(), events.len())?;
+    world.run(events, &mut replies);
+    Ok(replies)
+}
+
+fn same_reports(some: &[Report], others: &[Report]) -> bool {
+    if some.len() != others.len() {
+        return false;
+    }
+    for at in 0..some.len() {
+        if !same_report(&some[at], &others[at]) {
+            return false;
+        }
+    }
+    true
+}
+
+fn same_report(one: &Report, other: &Report) -> bool {
+    one.outputs.as_slice() == other.outputs.as_slice()
+        && one.denials.as_slice() == other.denials.as_slice()
+        && one.answers.as_slice() == other.answers.as_slice()
+        && same_entered(one.entered.as_slice(), other.entered.as_slice())
+}
+
+fn same_entered(some: &[EnteredCall], others: &[EnteredCall]) -> bool {
+    if some.len() != others.len() {
+        return false;
+    }
+    for at in 0..some.len() {
+        let (one, other) = (some[at], others[at]);
+        if one.slot != other.slot || one.ticket != other.ticket || one.call != other.call {
+            return false;
+        }
+    }
+    true
 }
 
 // An event.
