@@ -1,5 +1,5 @@
 -- A text that is spelled has one fault at most, by its number and its line.
-use Rattle.std.proofs.Common.{◌≡◌, ◌<◌, ◌+◌, ◌++◌, ◌∷◌, [], ℕ, List, Result, Ok, Err, arith, sym, ap₂, ◌∙◌, subst, slice_get, length}
+use Rattle.std.proofs.Common.{◌≡◌, ◌++◌, ◌∷◌, [], ℕ, List, Result, Ok, Err, arith, sym, ap₂, ◌∙◌, subst}
 use Rattle.std.specs.Prelude.{Contains, IfErr, IsErrAnd, flat_map}
 use Rattle.std.proofs.lemmas.Option.{slice_get_within}
 use Rattle.il_spec.specs.declared.fault.Refusal.{Refusal}

@@ -1,5 +1,5 @@
 -- What the phases say of a text.
-use Rattle.std.proofs.Common.{◌≡◌, ℕ, ◌≤◌, List, [], length, subst, sym, ap, map, ◌∙◌, Result, Ok, Err, arith}
+use Rattle.std.proofs.Common.{◌≡◌, ℕ, ◌≤◌, List, [], length, subst, sym, Result, Ok, Err}
 use Rattle.std.specs.Prelude.{IsErrAnd, IfErr, IfOk}
 use Rattle.il_spec.specs.declared.tree.Config.{Config}
 use Rattle.il_spec.specs.declared.token.Token.{Token}
@@ -13,7 +13,7 @@ use Rattle.il_parse.specs.Refused.{IsFault}
 use Rattle.il_ranges.specs.Lacking.{BreaksRanges}
 use Rattle.il_budget.specs.Costs.{IsTooLong}
 use Rattle.il_run.specs.Annotation.{Annotated}
-use Rattle.il_machine.specs.Scanning.{Program, IsRunnable}
+use Rattle.il_machine.specs.Scanning.{Program}
 use Rattle.lift_run_laws.specs.Runs.{RunsWell}
 use Rattle.lift_load.specs.Loading.{IsSpelled, SpellsOnly, IsAccepted, IsRefusedFor, by_declarations, by_types, by_order, IsUnbroken, by_ranges, by_budgets, IsExplained}
 use Rattle.lift_load.proofs.Explaining.{explained_by_tree}

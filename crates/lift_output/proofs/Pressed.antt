@@ -1,10 +1,10 @@
 -- Presses that words spell are calls of the group.
-use Rattle.std.proofs.Common.{◌≡◌, ℕ, zero, suc, ◌+◌, ◌≤◌, List, [], ◌∷◌, length, refl, arith}
+use Rattle.std.proofs.Common.{◌≡◌, ℕ, suc, List, [], ◌∷◌, length, refl, arith}
 use Rattle.std.specs.Prelude.{slice_get, Some, All}
 use Rattle.std.proofs.lemmas.List.Elements.{All-cons, All-nil}
 use borrow.Author.Tests.{ne_eqb}
 use Rattle.lift_host.specs.declared.press.Press.{Press}
-use Rattle.lift_host.specs.Presses.{IsPressOf, IsPress, plain, at_panel, AreOfWords, ArePresses}
+use Rattle.lift_host.specs.Presses.{IsPressOf, IsPress, plain, at_panel, ArePresses}
 use Rattle.lift_spec.specs.declared.image.Sizes.{Sizes}
 use Rattle.lift_spec.specs.Calls.{IsCall}
 use Rattle.lift_desk.specs.Passes.{IsFloorOf}

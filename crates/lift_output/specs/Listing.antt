@@ -1,5 +1,5 @@
 -- What `check` prints (own rules).
-use Rattle.std.specs.Prelude.{ℕ, List, [], ◌∷◌, ◌++◌, flat_map, codes, decimal}
+use Rattle.std.specs.Prelude.{ℕ, List, ◌++◌, flat_map, codes, decimal}
 use Rattle.std.specs.Fmt.{signed_decimal}
 use Rattle.il_machine.specs.Listing.{TaskLine, UnitLine, task_lines, unit_lines}
 use Rattle.il_machine.specs.Scanning.{Program}

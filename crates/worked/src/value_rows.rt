@@ -200,7 +200,7 @@ fn scan(world: &mut World, report: &mut Report) -> bool {
 }
 
 // The whole number that is read, if there is one.
-fn read(world: &World, what: Read) -> Option<i64> {
+fn value_of(world: &World, what: Read) -> Option<i64> {
     let value = match what {
         Read::Variable(path) => world.variable(1, path),
         Read::Global(path) => world.global(path),
@@ -220,7 +220,7 @@ fn left_by(alloc: Global, row: &ValueRow) -> Result<Option<i64>, Refusal> {
         let done = scan(&mut world, &mut report);
         all = all && done;
     }
-    let value = read(&world, row.read);
+    let value = value_of(&world, row.read);
     world.release();
     Ok(if all { value } else { None })
 }

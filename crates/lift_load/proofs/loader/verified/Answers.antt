@@ -1,4 +1,4 @@
-use Rattle.std.proofs.Common.{◌≡◌, ◌∙◌, subst, sym}
+use Rattle.std.proofs.Common.{◌≡◌, ◌∙◌, subst}
 use Rattle.il_rules.specs.Faults.{HasNoFault, IsRefusedBy}
 use Rattle.il_run.specs.Annotation.{Annotated}
 use Rattle.il_budget.specs.Costs.{IsTooLong}

@@ -1,4 +1,4 @@
-use Rattle.std.proofs.Common.{◌≡◌, ◌∙◌, subst, sym}
+use Rattle.std.proofs.Common.{◌≡◌, ◌∙◌, subst}
 use Rattle.il_rules.specs.Faults.{HasNoFault, IsRefusedBy, Broken, Typing}
 use Rattle.lift_load.specs.Loading.{IsRefusedFor, by_declarations}
 use Rattle.lift_load.proofs.Explaining.{handed_as, if_ok, if_err}

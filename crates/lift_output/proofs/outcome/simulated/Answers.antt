@@ -1,4 +1,4 @@
-use Rattle.std.proofs.Common.{ℕ, List, subst, sym, ap, ◌∙◌}
+use Rattle.std.proofs.Common.{List, subst, sym, ap, ◌∙◌}
 use Rattle.lift_host.specs.declared.press.Press.{Press}
 use Rattle.lift_host.specs.Presses.{ArePresses}
 use Rattle.lift_host.specs.Requests.{words_of}
