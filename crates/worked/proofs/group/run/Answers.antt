@@ -7,5 +7,4 @@ run-requires-clause-report_room c =
     let few = few_reports c.args.events.now in
     let room = c.in_ok-replies.ensures.report_room in
     let none = c.in_ok-replies.ensures.empty.1 in
-    let many = c.len-2.ensures in
-    omega (arith, few, room, none, many)
+    omega (arith, few, room, none)
