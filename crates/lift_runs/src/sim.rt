@@ -142,6 +142,7 @@ fn round(
     number: u16,
     tasks: &[u8],
     entries: &mut Vec<Entry>,
+    report: &mut Report,
 ) -> Result<Plant, AllocError>
     requires calls { ArePressed (sizes_of world.old.program.config) drive.presses.now }
     requires tasks { tasks.now ≡ tasks_in_order world.old.program.config }
@@ -155,12 +156,11 @@ fn round(
     ensures same { world.new.program ≡ world.old.program }
 {
     let _config = world.verified().config();
-    let mut report = Report::new();
-    desk(world, drive.presses, number, &mut report);
+    desk(world, drive.presses, number, report);
     let plant = plant.with_fire(is_fire_in(drive.fire, number));
     let (plant, fields) = plant_step(plant, &world.image().outputs);
-    refresh(world, fields, entries, &mut report)?;
-    scan_all(world, tasks, entries, &mut report)?;
+    refresh(world, fields, entries, report)?;
+    scan_all(world, tasks, entries, report)?;
     Ok(plant)
 }
 
@@ -209,8 +209,9 @@ fn run_rounds(
     let _config = world.verified().config();
     let Sizes { cars, floors, .. } = world.sizes();
     let mut plant = Plant::new(cars, floors);
+    let mut report = Report::new();
     'rounds: for number in 0..rounds {
-        plant = round(world, plant, drive, number + 1, tasks, entries)?;
+        plant = round(world, plant, drive, number + 1, tasks, entries, &mut report)?;
     }
     Ok(())
 }
