@@ -112,7 +112,7 @@ impl<G: Naming> Locked<G> {
         ensures even { count_of share.old % 2 ≡ 0 → fault_of result ≡ Some NotOpen }
         ensures done { OnOk result (Adds self.old (entry.Commit (task_of share.old)) (Committed report.new) self.new × CountsOne share.old share.new) }
         ensures report { OnOk result (IsCommitted G.program.config (task_of share.old) (count_of share.old) scanned.entry report.new) }
-        ensures store { IfOk result (IsOf G.program.config (task_of share.old)) }
+        ensures store { IfOk result (λ s. (s ≡ record { config = scanned.entry.config; task = scanned.entry.task; state = scanned.entry.last }) × IsOf G.program.config (task_of share.old) s) }
         ensures refused { IfErr result (λ r. (self.new ≡ self.old) × (share.new ≡ share.old) × (report.new ≡ report.old) × (r.1 ≡ scanned.entry)) }
     {
         self.audit(share);

@@ -27,8 +27,11 @@ returns-in-Ok-clause-report g c =
 pub returns-in-Ok-clause-store : goal.returns-in-Ok-clause-store
 returns-in-Ok-clause-store g c =
     let a = c.audit.ensures in
+    (
+    c.in-Ok.ensures.done.1,
     scan_left g.G.Naming.program c.args.verified.now c.requires.program c.self.inside.book c.args.self.now (c.self.view_is ∙ a.same.0) a.program a.kept c.task.result (task_of c.args.share.now) (c.task.ensures.0 ∙ ap (λ s. task_of s) a.same.1) (count_of c.args.share.now) a.count
-    c.args.scanned c.in-Ok.ensures.mine c.in-Ok.store c.in-Ok.ensures.done.1
+    c.args.scanned c.in-Ok.ensures.mine c.in-Ok.store c.in-Ok.ensures.done.1,
+    )
 
 pub invariant_of-self : goal.invariant_of-self
 invariant_of-self g c =
