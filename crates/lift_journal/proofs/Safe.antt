@@ -31,7 +31,7 @@ as_size (pos n) low = omega (arith, ints, low)
 as_size (negsuc n) low = absurd (omega (arith, ints, low))
 
 -- an accepted configuration has two floors
-two_floors : (c : Config) → IsSound c → 2 ≤ (sizes_of c).floors
+pub two_floors : (c : Config) → IsSound c → 2 ≤ (sizes_of c).floors
 two_floors c sound = as_size c.floors.value (floors_within c sound.declared).0
 
 -- SCANS LEAVE THE FIELDS
@@ -53,16 +53,16 @@ scans_fields c (t ∷ tasks) w v (m, first, rest) = scans_fields c tasks m v res
 -- THE STEP OF A ROUND
 
 -- outputs that obey obey without FIRE
-without_fire : (image : Image) (plant : PlantState) → image.fields ≡ fields_of_plant plant → Obeys image → ObeysWithOwnFields plant image.outputs
+pub without_fire : (image : Image) (plant : PlantState) → image.fields ≡ fields_of_plant plant → Obeys image → ObeysWithOwnFields plant image.outputs
 without_fire image plant shown obeys =
     let own : Obeys (record { fields = fields_of_plant plant; outputs = image.outputs }) = subst (λ (f : Fields). Obeys (record { fields = f; outputs = image.outputs })) shown obeys in
     record { cars = own.cars; each = own.each; limit = own.limit; fire = λ is. let no : false ≡ true = is in cc }
 
 -- the plant with another FIRE is as safe
-told : (sizes : Sizes) (plant : PlantState) (fire : Bool) → IsPlantOf sizes plant → IsPlantOf sizes (record plant { fire = fire })
+pub told : (sizes : Sizes) (plant : PlantState) (fire : Bool) → IsPlantOf sizes plant → IsPlantOf sizes (record plant { fire = fire })
 told sizes plant fire is = record { cars = is.cars; floors = is.floors; time = is.time; run_limit = is.run_limit; doors = is.doors; places = is.places }
 
-told_safe : (sizes : Sizes) (plant next : PlantState) (fire : Bool) → StaysSafe sizes (record plant { fire = fire }) next → StaysSafe sizes plant next
+pub told_safe : (sizes : Sizes) (plant next : PlantState) (fire : Bool) → StaysSafe sizes (record plant { fire = fire }) next → StaysSafe sizes plant next
 told_safe sizes plant next fire is = record { doors = is.doors; shaft = is.shaft; fields = is.fields }
 
 pub driven_is_safe : DrivenIsSafe
@@ -101,7 +101,7 @@ opening_shown : (c : Config) → 2 ≤ (sizes_of c).floors → (opening c).group
 unfolding opening
 opening_shown c two = sym (opening_reports (sizes_of c).cars (sizes_of c).floors (sizes_of c).slots two)
 
-opening_driven : (c : Config) → IsSound c → IsDriven c (opening_plant (sizes_of c).cars (sizes_of c).floors) (opening c)
+pub opening_driven : (c : Config) → IsSound c → IsDriven c (opening_plant (sizes_of c).cars (sizes_of c).floors) (opening c)
 opening_driven c sound = record {
   reached = opening_reached c;
   sized = opening_sized (sizes_of c).cars (sizes_of c).floors (sizes_of c).slots;

@@ -85,7 +85,7 @@ positions_so sizes (car ∷ cars) all =
 le_so : (m n : ℕ) → m ≤ n → nat_le m n ≡ true
 le_so m n low = grind (arith, nat_tests)
 
-fields_so : (sizes : Sizes) (fields : Fields) → FieldsInRange sizes fields → fields_in_range sizes fields ≡ true
+pub fields_so : (sizes : Sizes) (fields : Fields) → FieldsInRange sizes fields → fields_in_range sizes fields ≡ true
 fields_so sizes fields is = both_so _ _ (eq-eqb (length fields.cars) sizes.cars is.cars) (both_so _ _ (positions_so sizes fields.cars is.positions) (both_so _ _ (le_so fields.time 2147483647 is.time) (le_so fields.run_limit sizes.cars is.run_limit)))
 
 -- fields in range are taken

@@ -1,5 +1,5 @@
 -- Rounds of a group on its plant, and what a trace's events stand for (own rules).
-use Rattle.std.specs.Prelude.{◌≡◌, ℕ, zero, suc, ◌+◌, Bool, List, [], ◌∷◌, ◌++◌, map, flat_map, filter, length, replicate, Ok}
+use Rattle.std.specs.Prelude.{◌≡◌, ℕ, zero, suc, ◌+◌, nat_le, Bool, false, List, [], ◌∷◌, ◌++◌, map, flat_map, filter, length, replicate, Option, Some, None, Ok}
 use Rattle.il_spec.specs.declared.tree.Config.{Config}
 use Rattle.lift_spec.specs.declared.calls.Call.{Call}
 use Rattle.lift_spec.specs.declared.event.Event.{Event}
@@ -101,6 +101,11 @@ abbrev pub Rounds : Config → (ℕ → List Call) → (ℕ → Bool) → ℕ �
 Rounds c calls fire zero plant w entries = (plant ≡ opening_plant (sizes_of c).cars (sizes_of c).floors) × (w ≡ opening c) × (entries ≡ [])
 Rounds c calls fire (suc n) plant w entries =
     (before : PlantState) × (u : World) × (earlier last : List Entry) × Rounds c calls fire n before u earlier × IsRound c (calls (suc n)) (fire (suc n)) before plant u w last × (entries ≡ earlier ++ last)
+
+-- whether FIRE holds in a round: from the round that is given on, if one is
+abbrev pub is_fire_in : Option ℕ → ℕ → Bool
+is_fire_in None round = false
+is_fire_in (Some first) round = nat_le first round
 
 -- the same group, with no call on the desk or in the hand
 abbrev pub cleared : World → World

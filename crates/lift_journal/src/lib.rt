@@ -2,6 +2,7 @@
 #![tactic(auto)]
 
 ghost use Rattle.lift_journal.specs.Laws.{JournalReaches, JournalIsWell, EntryKeeps, EntriesAlternate, RefreshEnters, CommitEnters};
+ghost use Rattle.lift_journal.specs.Driven.{DrivenJournalIsSafe};
 ghost use Rattle.lift_journal.specs.Safe.{DrivenIsSafe, RoundsKeepCarsSafe};
 
 pub mod entered;
@@ -47,4 +48,10 @@ pub fn driven_is_safe()
 /// shut, and none leaves its shaft.
 pub fn rounds_keep_cars_safe()
     ensures { RoundsKeepCarsSafe }
+{}
+
+/// A law: of an accepted configuration, a journal whose refreshes come from the plant keeps the cars safe, in whatever order the scans of
+/// its tasks stand between them.
+pub fn driven_journal_is_safe()
+    ensures { DrivenJournalIsSafe }
 {}

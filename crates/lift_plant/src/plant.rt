@@ -71,6 +71,19 @@ impl Plant {
         Plant { fire, ..self }
     }
 
+    /// A copy.
+    pub fn copied(&self) -> Plant
+        ensures { result ≡ self.now }
+    {
+        Plant {
+            floors: self.floors,
+            time: self.time,
+            run_limit: self.run_limit,
+            fire: self.fire,
+            cars: Bounded::from_slice(self.cars.as_slice()),
+        }
+    }
+
     /// How many cars there are.
     pub fn cars(&self) -> usize
         ensures { result ≡ length self.now.cars }

@@ -17,9 +17,9 @@ use Rattle.lift_spec.specs.Snapshot.{program_of, has_task}
 use Rattle.lift_spec.specs.Plant.{PlantState}
 use Rattle.lift_spec.specs.World.{World, happens, opening}
 use Rattle.lift_run_laws.specs.Tasks.{IsTaskOf}
-use Rattle.lift_journal.specs.Rounds.{Happen, Scans, ScanEach, IsRound, Rounds, counting_from, scan_entries, tasks_in_order}
+use Rattle.lift_journal.specs.Rounds.{Happen, Scans, ScanEach, IsRound, Rounds, counting_from, is_fire_in, scan_entries, tasks_in_order}
 use Rattle.lift_journal.proofs.Taking.{happen_one, happen_more, press_taken, gather_taken}
-use Rattle.lift_runs.specs.Driven.{call_of, calls_in, ArePressed, AreTasks, is_fire_in}
+use Rattle.lift_runs.specs.Driven.{call_of, calls_in, ArePressed, AreTasks}
 
 -- LISTS
 

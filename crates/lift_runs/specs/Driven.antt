@@ -1,5 +1,5 @@
 -- What drives a simulation: the presses of each round, and FIRE (own rules).
-use Rattle.std.specs.Prelude.{ℕ, Bool, false, List, [], ◌∷◌, map, filter, Option, Some, None, ◌==◌, nat_le}
+use Rattle.std.specs.Prelude.{ℕ, List, [], ◌∷◌, map, filter, Option, ◌==◌}
 use Rattle.il_spec.specs.declared.tree.Config.{Config}
 use Rattle.il_spec.specs.declared.tree.Unit.{Unit as ProgramUnit}
 use Rattle.lift_host.specs.declared.press.Press.{Press}
@@ -11,7 +11,7 @@ use Rattle.lift_spec.specs.Calls.{IsCall}
 use Rattle.lift_spec.specs.Plant.{PlantState}
 use Rattle.lift_spec.specs.World.{World}
 use Rattle.lift_journal.specs.Journal.{IsJournalOf}
-use Rattle.lift_journal.specs.Rounds.{Rounds, cleared}
+use Rattle.lift_journal.specs.Rounds.{Rounds, is_fire_in, cleared}
 use Rattle.lift_journal.specs.Safe.{KeepsCarsSafe}
 
 -- the call of a press
@@ -31,11 +31,6 @@ ArePressed sizes (press ∷ presses) = IsCall sizes (call_of press) × ArePresse
 abbrev pub AreTasks : Config → List ℕ → Type 0
 AreTasks c [] = Unit {0}
 AreTasks c (t ∷ tasks) = ((u : ProgramUnit) × IsTaskOf c t u) × AreTasks c tasks
-
--- whether FIRE holds in a round: from the round that is given on, if one is
-abbrev pub is_fire_in : Option ℕ → ℕ → Bool
-is_fire_in None round = false
-is_fire_in (Some first) round = nat_le first round
 
 -- The entries are the journal of so many rounds of the group with these presses, under this FIRE: a run from its opening. In each of the
 -- rounds no car changes its place unless its door is shut, and each stays in its shaft.

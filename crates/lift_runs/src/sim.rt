@@ -12,9 +12,9 @@ ghost use Rattle.lift_spec.specs.Plant.{IsPlantOf, fields_of_plant};
 ghost use Rattle.lift_spec.specs.Replies.{Refreshed};
 ghost use Rattle.lift_spec.specs.World.{happens};
 ghost use Rattle.lift_spec.specs.declared.journal.Entry.TheVariants as entry;
-ghost use Rattle.lift_journal.specs.Rounds.{Happen, ScanEach, IsRound, Rounds, desk_events, floors_rising, tasks_in_order, scan_entries, entered_calls_of};
+ghost use Rattle.lift_journal.specs.Rounds.{Happen, ScanEach, IsRound, Rounds, desk_events, floors_rising, tasks_in_order, scan_entries, entered_calls_of, is_fire_in};
 ghost use Rattle.lift_journal.proofs.Taking.{IsClosed};
-ghost use Rattle.lift_runs.specs.Driven.{call_of, calls_in, ArePressed, is_fire_in, IsSimulated, AreTasks};
+ghost use Rattle.lift_runs.specs.Driven.{call_of, calls_in, ArePressed, IsSimulated, AreTasks};
 
 use crate::scan::scan;
 use il_machine::Verified;

@@ -7,11 +7,11 @@ use Rattle.lift_spec.specs.declared.image.Sizes.{Sizes}
 use Rattle.lift_spec.specs.Image.{sizes_of}
 use Rattle.lift_spec.specs.Plant.{IsPlantOf, opening_plant}
 use Rattle.lift_spec.specs.World.{World, scan_at}
-use Rattle.lift_journal.specs.Rounds.{Rounds}
+use Rattle.lift_journal.specs.Rounds.{Rounds, is_fire_in}
 use Rattle.lift_journal.proofs.Rounds.{rounds_are_journal}
 use Rattle.lift_journal.proofs.Safe.{rounds_keep_cars_safe}
 use Rattle.il_machine.proofs.Sizes.{sizes_fit}
-use Rattle.lift_runs.specs.Driven.{calls_in, is_fire_in}
+use Rattle.lift_runs.specs.Driven.{calls_in}
 use Rattle.lift_runs.proofs.Driving.{rounds_more, opening_desk}
 use Rattle.lift_runs.proofs.sim.run_rounds.Goals as goal
 

@@ -1,9 +1,9 @@
 use Rattle.std.proofs.Common.{◌≡◌, []}
 use Rattle.lift_spec.specs.Image.{sizes_of}
 use Rattle.lift_spec.specs.Plant.{IsPlantOf}
-use Rattle.lift_journal.specs.Rounds.{Rounds}
+use Rattle.lift_journal.specs.Rounds.{Rounds, is_fire_in}
 use Rattle.lift_journal.proofs.Taking.{IsClosed}
-use Rattle.lift_runs.specs.Driven.{calls_in, is_fire_in}
+use Rattle.lift_runs.specs.Driven.{calls_in}
 use Rattle.lift_runs.proofs.sim.run_rounds.Given as goal
 
 -- so many rounds were run
