@@ -11,7 +11,7 @@ use Rattle.lift_host.specs.declared.status.Fault.TheVariants as fault
 use Rattle.lift_host.specs.Messages.{fault_of_reading}
 use Rattle.lift_host.specs.Presses.{ArePresses}
 use Rattle.lift_host.specs.Requests.{IsNumberTo, words_of}
-use Rattle.lift_journal.specs.Rounds.{TakesAll, IsRefusedAt}
+use Rattle.lift_journal.specs.Rounds.{TakesAll, IsRefusedAt, is_fire_in}
 use Rattle.lift_output.specs.ImageText.{image_text}
 use Rattle.lift_output.specs.Listing.{listing}
 use Rattle.lift_runs.specs.Driven.{IsSimulated}
@@ -80,13 +80,14 @@ IsSimOutcome program asked (Err why) = IsUndriven (sizes_of program.config).floo
 -- RUN
 
 -- The trace is that of a journal of the program, a run from its opening in whatever order the threads came: each task was started and
--- committed in each of so many rounds, and the image was refreshed in each.
+-- committed in each of so many rounds, and the image was refreshed by the plant in each, under the FIRE of the words and safe for those in
+-- the cars.
 pub record IsTraceOfRun (program : Program) (asked : Rounds) (text : List ℕ) : Type 0 where
   pub presses : List Press
   pub first : Option ℕ
   pub driven : AreDriven (sizes_of program.config).floors asked presses first
   pub entries : List Entry
-  pub ran : IsRun program.config asked.rounds entries
+  pub ran : IsRun program.config (is_fire_in first) asked.rounds entries
   pub trace : text ≡ text_of_entries entries
 
 -- `run` prints its trace, where its further words are presses and the word behind `--fire` is a round.

@@ -22,6 +22,7 @@ use il_spec::fault::Refusal;
 use lift_host::press::Press;
 use lift_image::{Fields, Sizes};
 use lift_journal::entered::calls_of;
+use lift_journal::fire::is_fire_in;
 use lift_plant::plant::{Plant, plant_step};
 use lift_spec::calls::Call;
 use lift_spec::event::Event;
@@ -162,16 +163,6 @@ fn round(
     refresh(world, fields, entries, report)?;
     scan_all(world, tasks, entries, report)?;
     Ok(plant)
-}
-
-/// Whether FIRE holds in a round.
-fn is_fire_in(fire: Option<u16>, round: u16) -> bool
-    ensures { result ≡ is_fire_in fire round }
-{
-    match fire {
-        Some(first) => first <= round,
-        None => false,
-    }
 }
 
 /// The tasks that the group has, in the order in which a round runs them: CAR1 to CARn, and then GROUP.

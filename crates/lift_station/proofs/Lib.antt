@@ -1,4 +1,5 @@
 pub mod Totals
+pub mod AtPlant
 pub mod Showing
 pub mod Hands
 pub mod Tasks

@@ -23,11 +23,11 @@ total_at totals a b false is low =
 pub counted_more : (totals : List ℕ) (es now : List Entry) (e : Entry) (a : ℕ) → Counted totals es → now ≡ es ++ e ∷ [] → actor_of e ≡ a → a < 10 → entered_in e ≡ 0 → Counted (slice_set totals a (slice_index_or totals a 0 + 1)) now
 counted_more totals es now e a c is by low none =
     let n = slice_index_or totals a 0 + 1 in
-    let low11 : a < length totals = omega (arith, low, c.many) in
+    let within : a < length totals = omega (arith, low, c.many) in
     rw is (record {
       many = length-set totals a n ∙ c.many;
       actors = λ b small.
-          total_at totals a b (a == b) refl low11 ∙ ap (λ k. k + (if a == b then 1 else 0)) (c.actors b small) ∙ ap (λ k. entries_by b es + (if k == b then 1 else 0)) (sym by) ∙ sym (entries_more b es e);
+          total_at totals a b (a == b) refl within ∙ ap (λ k. k + (if a == b then 1 else 0)) (c.actors b small) ∙ ap (λ k. entries_by b es + (if k == b then 1 else 0)) (sym by) ∙ sym (entries_more b es e);
       entered =
           (let apart : 10 ≢ a = λ same. absurd (omega (arith, same, low)) in
           get_or-set_other totals a 10 n 0 apart ∙ omega (arith, c.entered, entered_more es e, none));
@@ -41,7 +41,7 @@ counted_refresh totals es now fields calls many c is count =
     let first = slice_set totals 9 (slice_index_or totals 9 0 + 1) in
     let n = slice_index_or totals 10 0 + many in
     let nine : 9 < length totals = omega (arith, c.many) in
-    let long : length first ≡ 11 = length-set totals 9 (slice_index_or totals 9 0 + 1) ∙ c.many in
+    let long : length first ≡ 12 = length-set totals 9 (slice_index_or totals 9 0 + 1) ∙ c.many in
     let ten : 10 < length first = omega (arith, long) in
     rw is (record {
       many = length-set first 10 n ∙ long;
@@ -50,3 +50,15 @@ counted_refresh totals es now fields calls many c is count =
           get_or-set_other first 10 b n 0 apart ∙ total_at totals 9 b (9 == b) refl nine ∙ ap (λ k. k + (if 9 == b then 1 else 0)) (c.actors b small) ∙ sym (entries_more b es e));
       entered = get_or-set_same first 10 n 0 ten ∙ omega (arith, c.entered, entered_more es e, count);
     })
+
+-- that a refresh came from the plant changes none of them
+pub counted_driven : (totals : List ℕ) (es : List Entry) (n : ℕ) → Counted totals es → Counted (slice_set totals 11 n) es
+counted_driven totals es n c = record {
+  many = length-set totals 11 n ∙ c.many;
+  actors = λ b small.
+      (let apart : b ≢ 11 = λ same. absurd (omega (arith, same, small)) in
+      get_or-set_other totals 11 b n 0 apart ∙ c.actors b small);
+  entered =
+      (let apart : 10 ≢ 11 = λ same. absurd (omega (arith, same)) in
+      get_or-set_other totals 11 10 n 0 apart ∙ c.entered);
+}

@@ -1,25 +1,34 @@
 -- What is counted, and what an answer shows (own rules).
-use Rattle.std.specs.Prelude.{◌≡◌, ℕ, ◌+◌, ◌<◌, ◌%◌, List, length, map, slice_index_or, Option, Some, None}
+use Rattle.std.specs.Prelude.{◌≡◌, ℕ, ◌+◌, ◌<◌, ◌≤◌, ◌%◌, Bool, List, length, map, slice_index_or, Option, Some, None}
 use Rattle.il_spec.specs.declared.tree.Config.{Config}
 use Rattle.il_machine.specs.Standing.{Finished}
 use Rattle.lift_spec.specs.declared.image.Fields.{Fields}
 use Rattle.lift_spec.specs.declared.report.Report.{Report}
 use Rattle.lift_spec.specs.declared.report.EnteredCall.{EnteredCall}
 use Rattle.lift_spec.specs.declared.calls.Call.{Call}
+use Rattle.lift_spec.specs.Image.{sizes_of}
+use Rattle.lift_spec.specs.Plant.{PlantState, IsPlantOf, plant_after, fields_of_plant}
 use Rattle.lift_spec.specs.Replies.{Committed, Refreshed}
 use Rattle.lift_spec.specs.declared.journal.Entry.{Entry}
 use Rattle.lift_spec.specs.declared.journal.Entry.TheVariants as entry
 use Rattle.lift_journal.specs.declared.fault.StationFault.{StationFault}
 use Rattle.lift_journal.specs.declared.fault.StationFault.TheVariants.{JournalFull}
+use Rattle.lift_journal.specs.Driven.{IsDrivenJournal}
 use Rattle.lift_journal.specs.Journal.{entries_by, entered_calls, refresher}
 use Rattle.lift_journal.specs.Pages.{Page, Kept, Adds}
 use Rattle.lift_book.specs.Ledgers.{IsOpenHere}
 
--- the totals are the numbers of entries of the actors, and of the calls that were entered
+-- the totals are the numbers of entries of the actors, and of the calls that were entered; one more counts the refreshes by the plant
 pub record Counted (totals : List ℕ) (journal : List Entry) : Type 0 where
-  pub many : length totals ≡ 11
+  pub many : length totals ≡ 12
   pub actors : (a : ℕ) → a < 10 → slice_index_or totals a 0 ≡ entries_by a journal
   pub entered : slice_index_or totals 10 0 ≡ entered_calls journal
+
+-- The plant is one of the group; and where all refreshes came from it, the journal is driven by it.
+pub record IsAtPlant (c : Config) (fire : ℕ → Bool) (totals : List ℕ) (page : Page) (plant : PlantState) : Type 0 where
+  pub sized : IsPlantOf (sizes_of c) plant
+  pub most : slice_index_or totals 11 0 ≤ slice_index_or totals 9 0
+  pub driven : slice_index_or totals 11 0 ≡ slice_index_or totals 9 0 → IsDrivenJournal c fire page.journal plant page.world
 
 -- no fault, or 70
 abbrev pub IsNoneOrFull : Option StationFault → Type 0
@@ -50,3 +59,11 @@ pub record IsRefreshed (c : Config) (count entered : ℕ) (fields : Fields) (rep
   pub called : entered_calls before.journal ≡ entered
   pub after : Page
   pub adds : Adds before (entry.Refresh fields (calls_in report)) (Refreshed report) after
+
+-- The report is that of a refresh by a plant of the group, which goes one step under the outputs of the image, with this FIRE.
+pub record IsDrivenOn (c : Config) (count entered : ℕ) (fire : Bool) (report : Report) : Type 0 where
+  pub plant : PlantState
+  pub sized : IsPlantOf (sizes_of c) plant
+  pub next : PlantState
+  pub refreshed : IsRefreshed c count entered (fields_of_plant next) report
+  pub step : next ≡ plant_after (record plant { fire = fire }) refreshed.before.world.group.image.outputs

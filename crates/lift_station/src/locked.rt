@@ -1,18 +1,20 @@
 // The book with its ledgers, as it lies under the lock.
 
-ghost use Rattle.std.specs.Prelude.{◌≡◌, ◌↔◌, ◌%◌, ◌+◌, false, [], ◌++◌, length, replicate, Some, Err, IfOk, IfErr, IfSome, OnOk, OnErr};
+ghost use Rattle.std.specs.Prelude.{◌≡◌, ◌↔◌, ◌%◌, ◌+◌, false, [], ◌++◌, length, replicate, Some, Err, ◌≤◌, ℕ, IfOk, IfErr, IfSome, OnOk, OnErr};
 ghost use Rattle.il_machine.specs.Scanning.{HasTask};
 ghost use Rattle.il_machine.specs.Standing.{IsOf};
 ghost use Rattle.lift_spec.specs.Image.{sizes_of, fields_in_range, Obeys};
-ghost use Rattle.lift_spec.specs.World.{InRanges};
+ghost use Rattle.lift_spec.specs.Plant.{PlantState, IsPlantOf};
+ghost use Rattle.lift_spec.specs.World.{InRanges, opening};
 ghost use Rattle.lift_spec.specs.Replies.{Started, Committed, Refreshed};
 ghost use Rattle.lift_journal.specs.Journal.{AllCalls, entries_by, entered_calls, refresher};
+ghost use Rattle.lift_journal.specs.Driven.{IsDrivenJournal, first_plant};
 ghost use Rattle.lift_journal.specs.Pages.{Adds, Kept, IsSnapped, IsShown, IsTold};
 ghost use Rattle.lift_spec.specs.declared.journal.Entry.TheVariants as entry;
 ghost use Rattle.lift_journal.specs.declared.fault.StationFault.TheVariants.{FieldOutOfRange, NotOpen, AlreadyOpen};
 ghost use Rattle.lift_book.specs.Ledgers.{fault_of, fault_in, full_fault, start_fault, refresh_fault, IsOpenHere};
 ghost use Rattle.lift_station.specs.Passes.{task_of, count_of, CountsOne};
-ghost use Rattle.lift_station.specs.Counted.{IsNoneOrFull, calls_in, IsCommitted, IsRefreshed};
+ghost use Rattle.lift_station.specs.Counted.{IsNoneOrFull, calls_in, IsCommitted, IsRefreshed, IsDrivenOn};
 
 use crate::actor::{Counts, Naming, RefreshPass, TaskShare};
 use crate::passes::TaskPass;
@@ -20,20 +22,23 @@ use il_machine::{OpenScan, Scanned, Store, Verified};
 use lift_book::Book;
 use lift_image::{Fields, Image};
 use lift_journal::fault::StationFault;
+use lift_plant::plant::{Plant, plant_step};
 use lift_spec::hand::Hand;
 use lift_spec::report::Report;
 use std::marker::Model;
 
-/// What lies under the lock. Contracts see it as the book.
+/// What lies under the lock: the book, the totals, and the plant, which is at the journal's end where all refreshes came from it. Contracts
+/// see it as the book.
 pub struct Locked<G: Naming> {
     book: Book,
     counts: Counts<G>,
+    plant: Plant,
 }
 
 impl<G: Naming> Model for Locked<G> {
     ghost use Rattle.std.specs.Prelude.{◌≡◌};
     ghost use Rattle.lift_journal.specs.Pages.{Page, page_code};
-    ghost use Rattle.lift_station.specs.Counted.{Counted};
+    ghost use Rattle.lift_station.specs.Counted.{Counted, IsAtPlant};
 
     ghost Value = { Page };
 
@@ -41,18 +46,25 @@ impl<G: Naming> Model for Locked<G> {
 
     ghost view = { λ l. l.book };
 
-    ghost invariant = { λ l. (l.book.config ≡ G.program.config) × Counted l.counts l.book.journal };
+    ghost invariant = { λ l. (l.book.config ≡ G.program.config) × Counted l.counts l.book.journal × IsAtPlant G.program.config G.fire l.counts l.book l.plant };
 }
 
 impl<G: Naming> Locked<G> {
-    /// The book with the totals, as it is at the start.
-    pub(crate) fn of(book: Book, counts: Counts<G>) -> Locked<G>
+    /// The book with the totals and the plant, as they are at the start.
+    pub(crate) fn of(book: Book, counts: Counts<G>, plant: Plant) -> Locked<G>
         requires program { book.config ≡ G.program.config }
+        requires world { book.world ≡ opening G.program.config }
         requires empty { book.journal ≡ [] }
-        requires counts { counts ≡ replicate 11 0 }
+        requires counts { counts ≡ replicate 12 0 }
+        requires plant { plant ≡ first_plant G.program.config }
+        requires sized { IsPlantOf (sizes_of G.program.config) plant }
         ensures { result ≡ book }
     {
-        Locked { book, counts }
+        Locked {
+            book,
+            counts,
+            plant,
+        }
     }
 
     /// What holds whenever the lock is got, and of a task's share.
@@ -139,6 +151,7 @@ impl<G: Naming> Locked<G> {
         ensures obeys { Obeys self.old.world.group.image }
         ensures refreshes { pass.old.refreshes ≡ entries_by refresher self.old.journal }
         ensures entered { pass.old.entered ≡ entered_calls self.old.journal }
+        ensures driven { pass.old.driven ≡ pass.old.refreshes → (plant : PlantState) × IsDrivenJournal G.program.config G.fire self.old.journal plant self.old.world }
     {
         self.counts.audit_refreshes(pass);
         self.book.runs();
@@ -158,7 +171,7 @@ impl<G: Naming> Locked<G> {
         ensures fault { fault_in result ≡ refresh_fault self.old fields }
         ensures out_of_range { (fields_in_range (sizes_of G.program.config) fields ≡ false) ↔ (result ≡ Err FieldOutOfRange) }
         ensures done { OnOk result (Adds self.old (entry.Refresh fields (calls_in report.new)) (Refreshed report.new) self.new) }
-        ensures pass { OnOk result (pass.new ≡ record { refreshes = pass.old.refreshes + 1; entered = pass.old.entered + length report.new.entered }) }
+        ensures pass { OnOk result (pass.new ≡ record { refreshes = pass.old.refreshes + 1; entered = pass.old.entered + length report.new.entered; driven = pass.old.driven }) }
         ensures report { OnOk result (IsRefreshed G.program.config pass.old.refreshes pass.old.entered fields report.new) }
         ensures hand { OnOk result (hand.old ≡ calls_in report.new ++ hand.new) }
         ensures refused { OnErr result ((self.new ≡ self.old) × (pass.new ≡ pass.old) × (hand.new ≡ hand.old) × (report.new ≡ report.old)) }
@@ -167,6 +180,37 @@ impl<G: Naming> Locked<G> {
         self.book.refresh(verified, fields, hand, report)?;
         let entered = report.entered.len();
         self.counts.count_refresh(pass, entered as u64);
+        Ok(())
+    }
+
+    /// Refresh by the plant: it goes one step under the outputs of the image, with this FIRE, and the image takes what it then reports. The
+    /// pass counts one more of each.
+    pub fn drive(
+        &mut self,
+        verified: &Verified,
+        pass: &mut RefreshPass<G>,
+        fire: bool,
+        hand: &mut Hand,
+        report: &mut Report,
+    ) -> Result<(), StationFault>
+        requires program { verified.now ≡ G.program }
+        requires fire { fire ≡ G.fire (pass.old.refreshes + 1) }
+        requires calls { AllCalls (sizes_of G.program.config) hand.old }
+        ensures full { IsNoneOrFull (fault_in result) }
+        ensures pass { OnOk result (pass.new ≡ record { refreshes = pass.old.refreshes + 1; entered = pass.old.entered + length report.new.entered; driven = pass.old.driven + 1 }) }
+        ensures report { OnOk result (IsDrivenOn G.program.config pass.old.refreshes pass.old.entered fire report.new) }
+        ensures hand { OnOk result (hand.old ≡ calls_in report.new ++ hand.new) }
+        ensures refused { OnErr result ((self.new ≡ self.old) × (pass.new ≡ pass.old) × (hand.new ≡ hand.old) × (report.new ≡ report.old)) }
+    {
+        self.audit_refreshes(pass);
+        let _config = verified.config();
+        let before = self.plant.copied().with_fire(fire);
+        let (plant, fields) = plant_step(before, &self.book.image().outputs);
+        self.book.refresh(verified, fields, hand, report)?;
+        let entered = report.entered.len();
+        self.counts.count_refresh(pass, entered as u64);
+        self.counts.count_driven(pass);
+        self.plant = plant;
         Ok(())
     }
 
@@ -207,6 +251,7 @@ impl<G: Naming> Locked<G> {
         let Locked {
             book,
             counts: _counts,
+            plant: _plant,
         } = self;
         book.runs();
         book

@@ -5,12 +5,14 @@ ghost use Rattle.il_spec.specs.declared.fault.Refusal.TheVariants.{Memory};
 ghost use Rattle.il_machine.specs.Scanning.{HasTask};
 ghost use Rattle.il_machine.specs.Standing.{IsOf};
 ghost use Rattle.lift_spec.specs.Image.{sizes_of, fields_in_range, Obeys};
+ghost use Rattle.lift_spec.specs.Plant.{PlantState, IsPlantOf};
 ghost use Rattle.lift_journal.specs.Journal.{entries_by, entered_calls, refresher};
+ghost use Rattle.lift_journal.specs.Driven.{IsDrivenJournal, first_plant};
 ghost use Rattle.lift_journal.specs.Pages.{Kept, IsSnapped, IsShown, IsTold};
 ghost use Rattle.lift_journal.specs.declared.fault.StationFault.TheVariants.{FieldOutOfRange, JournalFull, NotOpen, AlreadyOpen};
 ghost use Rattle.lift_book.specs.Ledgers.{fault_of, fault_in};
 ghost use Rattle.lift_station.specs.Passes.{task_of, count_of, counts_one, is_task, all_tasks};
-ghost use Rattle.lift_station.specs.Counted.{IsNoneOrFull, calls_in, IsCommitted, IsRefreshed};
+ghost use Rattle.lift_station.specs.Counted.{IsNoneOrFull, calls_in, IsCommitted, IsRefreshed, IsDrivenOn};
 
 use crate::actor::{Blanks, Naming, RefreshPass, TaskShare};
 use crate::locked::Locked;
@@ -21,6 +23,7 @@ use lift_book::Book;
 use lift_desk::HandPass;
 use lift_image::{Fields, Image};
 use lift_journal::fault::StationFault;
+use lift_plant::plant::Plant;
 use lift_spec::report::Report;
 use std::alloc::{AllocError, Global};
 use std::marker::{Model, PhantomData};
@@ -123,6 +126,16 @@ fn add_pass<G: Naming>(
     Ok(())
 }
 
+// The plant of the group as it opens.
+fn plant_of(verified: &Verified) -> Plant
+    ensures opens { result ≡ first_plant verified.now.config }
+    ensures sized { IsPlantOf (sizes_of verified.now.config) result }
+{
+    let _config = verified.config();
+    let sizes = verified.sizes();
+    Plant::new(sizes.cars, sizes.floors)
+}
+
 // What lies under the lock at the start, and the passes.
 fn opened<G: Naming>(
     alloc: Global,
@@ -134,12 +147,12 @@ fn opened<G: Naming>(
     requires names { (i : ℕ) → slice_index_or blanks i 0 ≡ G.names i }
     ensures tasks { IfOk result (λ r. map (λ p. p.task) r.1.items ≡ filter (is_task G.program.config) all_tasks) }
     ensures counts { IfOk result (λ r. All (λ p. p.count ≡ 0) r.1.items) }
-    ensures refreshes { IfOk result (λ r. r.2 ≡ record { refreshes = 0; entered = 0 }) }
+    ensures refreshes { IfOk result (λ r. r.2 ≡ record { refreshes = 0; entered = 0; driven = 0 }) }
 {
     let (counts, shares, refresher) = blanks.open::<G>(alloc)?;
     let tasks = passes_of(alloc, verified, shares)?;
     let book = Book::new(alloc, verified, capacity)?;
-    Ok((Locked::of(book, counts), tasks, refresher))
+    Ok((Locked::of(book, counts, plant_of(verified)), tasks, refresher))
 }
 
 /// The station: a program, and a book under a lock. It is given up by `close` or `release`.
@@ -166,7 +179,7 @@ impl<G: Naming> Station<G> {
         requires names { (i : ℕ) → slice_index_or blanks i 0 ≡ G.names i }
         ensures tasks { IfOk result (λ r. map (λ p. p.task) r.1.items ≡ filter (is_task G.program.config) all_tasks) }
         ensures counts { IfOk result (λ r. All (λ p. p.count ≡ 0) r.1.items) }
-        ensures refreshes { IfOk result (λ r. r.2 ≡ record { refreshes = 0; entered = 0 }) }
+        ensures refreshes { IfOk result (λ r. r.2 ≡ record { refreshes = 0; entered = 0; driven = 0 }) }
         ensures memory { IfErr result (λ e. e ≡ Memory) }
     {
         let opened = opened::<G>(alloc, blanks, &verified, capacity);
@@ -276,7 +289,7 @@ impl<G: Naming> Station<G> {
     ) -> (RefreshPass<G>, HandPass, Result<(), StationFault>)
         requires { collector.floors ≡ (sizes_of G.program.config).floors }
         ensures out_of_range { (fields_in_range (sizes_of G.program.config) fields ≡ false) ↔ (result.2 ≡ Err FieldOutOfRange) }
-        ensures pass { OnOk result.2 (result.0 ≡ record { refreshes = pass.refreshes + 1; entered = pass.entered + length report.new.entered }) }
+        ensures pass { OnOk result.2 (result.0 ≡ record { refreshes = pass.refreshes + 1; entered = pass.entered + length report.new.entered; driven = pass.driven }) }
         ensures report { OnOk result.2 (IsRefreshed G.program.config pass.refreshes pass.entered fields report.new) }
         ensures hand { OnOk result.2 (collector.hand ≡ calls_in report.new ++ result.1.hand) }
         ensures rest { result.1 ≡ record collector { hand = result.1.hand } }
@@ -289,6 +302,39 @@ impl<G: Naming> Station<G> {
             self.program.program(),
             &mut pass,
             fields,
+            &mut hand,
+            report,
+        );
+        collector.keep(hand);
+        (pass, collector, answer)
+    }
+
+    /// Refresh by the plant: it goes one step under the outputs of the image, with this FIRE, and the image takes what it then reports; the
+    /// first calls of the hand enter. It waits for the lock.
+    pub fn drive(
+        &self,
+        rt: &impl Wait,
+        pass: RefreshPass<G>,
+        fire: bool,
+        collector: HandPass,
+        report: &mut Report,
+    ) -> (RefreshPass<G>, HandPass, Result<(), StationFault>)
+        requires floors { collector.floors ≡ (sizes_of G.program.config).floors }
+        requires fire { fire ≡ G.fire (pass.refreshes + 1) }
+        ensures full { IsNoneOrFull (fault_in result.2) }
+        ensures pass { OnOk result.2 (result.0 ≡ record { refreshes = pass.refreshes + 1; entered = pass.entered + length report.new.entered; driven = pass.driven + 1 }) }
+        ensures report { OnOk result.2 (IsDrivenOn G.program.config pass.refreshes pass.entered fire report.new) }
+        ensures hand { OnOk result.2 (collector.hand ≡ calls_in report.new ++ result.1.hand) }
+        ensures rest { result.1 ≡ record collector { hand = result.1.hand } }
+        ensures refused { OnErr result.2 ((result.0 ≡ pass) × (result.1 ≡ collector) × (report.new ≡ report.old)) }
+    {
+        let mut pass = pass;
+        let mut collector = collector;
+        let mut hand = collector.hand();
+        let answer = self.book.lock(rt).drive(
+            self.program.program(),
+            &mut pass,
+            fire,
             &mut hand,
             report,
         );
@@ -323,7 +369,7 @@ impl<G: Naming> Station<G> {
     }
 
     /// The program and the book at the end: the journal runs to the book's image, and holds as many entries and entered calls as the
-    /// passes count.
+    /// passes count. Where all refreshes came from the plant, the journal is driven by it.
     pub fn close(self, tasks: Vec<TaskPass<G>>, pass: RefreshPass<G>) -> Closed
         ensures verified { result.verified ≡ G.program }
         ensures program { result.book.config ≡ G.program.config }
@@ -331,6 +377,7 @@ impl<G: Naming> Station<G> {
         ensures tasks { All (λ p. p.count ≡ entries_by p.task result.book.journal) tasks.items }
         ensures refreshes { pass.refreshes ≡ entries_by refresher result.book.journal }
         ensures entered { pass.entered ≡ entered_calls result.book.journal }
+        ensures driven { pass.driven ≡ pass.refreshes → (plant : PlantState) × IsDrivenJournal G.program.config G.fire result.book.journal plant result.book.world }
     {
         let Station { program, book } = self;
         let mut locked = book.into_inner();

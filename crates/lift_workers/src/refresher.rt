@@ -1,13 +1,12 @@
-// The worker that gathers calls, moves the plant and refreshes the image.
+// The worker that gathers calls and refreshes the image by the plant.
 
-ghost use Rattle.std.specs.Prelude.{◌≡◌, ◌+◌, ◌≤◌, IfOk};
+ghost use Rattle.std.specs.Prelude.{◌≡◌, ◌+◌, IfOk};
+ghost use Rattle.lift_journal.specs.Rounds.{is_fire_in};
 ghost use Rattle.lift_spec.specs.Image.{sizes_of};
-ghost use Rattle.lift_spec.specs.Plant.{IsPlantOf};
 
 use lift_desk::{Desk, HandPass};
-use lift_image::Sizes;
 use lift_journal::fault::StationFault;
-use lift_plant::plant::{Plant, plant_step};
+use lift_journal::fire::is_fire_in;
 use lift_spec::report::Report;
 use lift_station::{Naming, RefreshPass, Station};
 use std::alloc::AllocError;
@@ -15,12 +14,11 @@ use std::snapshot::Snapshot;
 use std::sync::Wait;
 use std::thread::{Promise, PromisedHandle, Scope, Threads};
 
-/// The passes of a refresher, and its plant.
+/// The passes of a refresher.
 #[derive(Drop)]
 pub struct Refresher<G: Naming> {
     pub pass: RefreshPass<G>,
     pub hand: HandPass,
-    pub plant: Plant,
 }
 
 /// How many rounds a refresher has, and the round from which on FIRE holds.
@@ -30,13 +28,6 @@ pub struct Pace {
     pub fire: Option<u16>,
 }
 
-/// The passes of a refresher whose worker has ended.
-#[derive(Drop)]
-pub struct RefresherPasses<G: Naming> {
-    pub pass: RefreshPass<G>,
-    pub hand: HandPass,
-}
-
 /// The rounds of a refresher, and the desk of its hand.
 #[derive(Drop)]
 pub struct RefreshRounds {
@@ -44,20 +35,16 @@ pub struct RefreshRounds {
     pub desk: Snapshot<Desk>,
 }
 
-impl<G: Naming> Promise<Result<RefresherPasses<G>, StationFault>> for RefreshRounds {
+impl<G: Naming> Promise<Result<Refresher<G>, StationFault>> for RefreshRounds {
     ghost use Rattle.std.specs.Prelude.{◌≡◌, IfOk};
 
-    ghost kept_by = { λ p r. IfOk r (λ d. (d.hand.table ≡ p.desk.value.table) × (d.pass.refreshes ≡ p.rounds)) };
+    ghost kept_by = { λ p r. IfOk r (λ d. (d.hand.table ≡ p.desk.value.table) × (d.pass.refreshes ≡ p.rounds) × (d.pass.driven ≡ p.rounds)) };
 }
 
 /// The handle of a refresher's worker.
-pub type RefresherHandle<G> = PromisedHandle<
-    Result<RefresherPasses<G>, StationFault>,
-    RefreshRounds,
->;
+pub type RefresherHandle<G> = PromisedHandle<Result<Refresher<G>, StationFault>, RefreshRounds>;
 
-// One round: each floor is gathered, the plant goes one step under the outputs of the image, and the image is refreshed with what
-// the plant then reports.
+// One round: each floor is gathered, and the image is refreshed by the plant.
 fn round<G: Naming, R: Wait>(
     rt: &R,
     station: &Station<G>,
@@ -68,23 +55,15 @@ fn round<G: Naming, R: Wait>(
 ) -> Result<Refresher<G>, StationFault>
     requires table { refresher.hand.table ≡ desk.now.table }
     requires floors { refresher.hand.floors ≡ (sizes_of G.program.config).floors }
-    requires plant { IsPlantOf (sizes_of G.program.config) refresher.plant }
+    requires fire { fire ≡ G.fire (refresher.pass.refreshes + 1) }
     ensures hand { IfOk result (λ r. (r.hand.table ≡ refresher.hand.table) × (r.hand.floors ≡ refresher.hand.floors)) }
-    ensures plant { IfOk result (λ r. IsPlantOf (sizes_of G.program.config) r.plant) }
-    ensures counts { IfOk result (λ r. r.pass.refreshes ≡ refresher.pass.refreshes + 1) }
+    ensures counts { IfOk result (λ r. (r.pass.refreshes ≡ refresher.pass.refreshes + 1) × (r.pass.driven ≡ refresher.pass.driven + 1)) }
 {
-    let Refresher { pass, hand, plant } = refresher;
+    let Refresher { pass, hand } = refresher;
     let hand = desk.gather(hand);
-    let (pass, image) = station.outputs(rt, pass);
-    let (plant, fields) = plant_step(plant.with_fire(fire), &image.outputs);
-    let (pass, hand, refreshed) = station.refresh(rt, pass, fields, hand, report);
-    refreshed?;
-    Ok(Refresher { pass, hand, plant })
-}
-
-// Whether FIRE holds in a round.
-fn is_fire_in(fire: Option<u16>, round: u16) -> bool {
-    fire.is_some_and(|first| first <= round)
+    let (pass, hand, driven) = station.drive(rt, pass, fire, hand, report);
+    driven?;
+    Ok(Refresher { pass, hand })
 }
 
 /// So many rounds of gathering and refreshing.
@@ -94,11 +73,12 @@ pub fn work<G: Naming, R: Wait>(
     desk: &Desk,
     refresher: Refresher<G>,
     pace: Pace,
-) -> Result<RefresherPasses<G>, StationFault>
+) -> Result<Refresher<G>, StationFault>
+    requires new { (refresher.pass.refreshes ≡ 0) × (refresher.pass.driven ≡ 0) }
     requires table { refresher.hand.table ≡ desk.now.table }
     requires floors { refresher.hand.floors ≡ (sizes_of G.program.config).floors }
-    requires plant { IsPlantOf (sizes_of G.program.config) refresher.plant }
-    ensures { IfOk result (λ d. (d.hand.table ≡ refresher.hand.table) × (d.pass.refreshes ≡ refresher.pass.refreshes + pace.rounds)) }
+    requires fire { G.fire ≡ is_fire_in pace.fire }
+    ensures { IfOk result (λ d. (d.hand.table ≡ refresher.hand.table) × (d.pass.refreshes ≡ pace.rounds) × (d.pass.driven ≡ pace.rounds)) }
 {
     let mut refresher = refresher;
     let mut report = Report::new();
@@ -106,23 +86,7 @@ pub fn work<G: Naming, R: Wait>(
         let fire = is_fire_in(pace.fire, below + 1);
         refresher = round(rt, station, desk, refresher, fire, &mut report)?;
     }
-    let Refresher { pass, hand, .. } = refresher;
-    Ok(RefresherPasses { pass, hand })
-}
-
-/// A refresher of a group as it opens.
-pub fn opening<G: Naming>(pass: RefreshPass<G>, hand: HandPass, sizes: Sizes) -> Refresher<G>
-    requires sizes { sizes ≡ sizes_of G.program.config }
-    requires cars { (1 ≤ sizes.cars) × (sizes.cars ≤ 8) }
-    requires floors { (2 ≤ sizes.floors) × (sizes.floors ≤ 16) }
-    ensures passes { (result.pass ≡ pass) × (result.hand ≡ hand) }
-    ensures plant { IsPlantOf (sizes_of G.program.config) result.plant }
-{
-    Refresher {
-        pass,
-        hand,
-        plant: Plant::new(sizes.cars, sizes.floors),
-    }
+    Ok(refresher)
 }
 
 /// Starts the worker of a refresher.
@@ -134,17 +98,18 @@ pub fn start<'s, E, G: Naming + Send + Sync, R: Threads + Wait + Sync>(
     refresher: Refresher<G>,
     pace: Pace,
 ) -> Result<RefresherHandle<G>, AllocError>
-    requires new { refresher.pass.refreshes ≡ 0 }
+    requires new { (refresher.pass.refreshes ≡ 0) × (refresher.pass.driven ≡ 0) }
     requires table { refresher.hand.table ≡ desk.now.table }
     requires floors { refresher.hand.floors ≡ (sizes_of G.program.config).floors }
-    requires plant { IsPlantOf (sizes_of G.program.config) refresher.plant }
+    requires fire { G.fire ≡ is_fire_in pace.fire }
     ensures { IfOk result (λ h. (h.promise.rounds ≡ pace.rounds) × (h.promise.desk.value.table ≡ desk.now.table)) }
 {
-    let job = move || -> Result<RefresherPasses<G>, StationFault>
+    let job = move || -> Result<Refresher<G>, StationFault>
+        requires new { (refresher.pass.refreshes ≡ 0) × (refresher.pass.driven ≡ 0) }
         requires table { refresher.hand.table ≡ desk.now.table }
         requires floors { refresher.hand.floors ≡ (sizes_of G.program.config).floors }
-        requires plant { IsPlantOf (sizes_of G.program.config) refresher.plant }
-        ensures { IfOk result (λ d. (d.hand.table ≡ desk.entry.now.table) × (d.pass.refreshes ≡ refresher.pass.refreshes + pace.rounds)) }
+        requires fire { G.fire ≡ is_fire_in pace.fire }
+        ensures { IfOk result (λ d. (d.hand.table ≡ desk.entry.now.table) × (d.pass.refreshes ≡ pace.rounds) × (d.pass.driven ≡ pace.rounds)) }
     { work(rt, station, desk, refresher, pace) };
     let promise = RefreshRounds {
         rounds: pace.rounds,

@@ -3,7 +3,7 @@
 ghost use Rattle.std.specs.Prelude.{◌≡◌, ◌+◌, ◌≤◌, ◌*◌, ℕ, All, map, filter, length, slice_index_or, IfOk, IsPermutation};
 ghost use Rattle.std.specs.Thread.{IsSync};
 ghost use Rattle.lift_spec.specs.Image.{sizes_of};
-ghost use Rattle.lift_spec.specs.Plant.{IsPlantOf};
+ghost use Rattle.lift_journal.specs.Rounds.{is_fire_in};
 ghost use Rattle.lift_desk.specs.Passes.{IsFloorOf, AreAllPanels};
 ghost use Rattle.lift_station.specs.Passes.{is_task, all_tasks};
 ghost use Rattle.lift_workers.specs.Ran.{IsRun};
@@ -11,7 +11,7 @@ ghost use Rattle.lift_workers.specs.Ran.{IsRun};
 use crate::fault::RunFault;
 use crate::gate::Gate;
 use crate::panel::{PanelHandle, is_pressed};
-use crate::refresher::{Pace, Refresher, RefresherPasses, opening};
+use crate::refresher::{Pace, Refresher};
 use crate::{panel, refresher, task};
 use il_machine::Verified;
 use lift_desk::{Desk, HandPass, PanelPass};
@@ -48,7 +48,7 @@ pub struct Crew<G: Naming> {
 #[derive(Drop)]
 pub struct Passes<G: Naming> {
     pub tasks: Vec<TaskPass<G>>,
-    pub refresher: RefresherPasses<G>,
+    pub refresher: Refresher<G>,
     pub panels: Vec<PanelPass>,
 }
 
@@ -117,15 +117,15 @@ pub fn run_all<G: Naming + Send + Sync, T: Gate + Sync, R: Threads + Wait + Sync
     plan: Plan<'_>,
 ) -> Result<Passes<G>, RunFault>
     requires tasks { All (λ p. p.count ≡ 0) crew.tasks.items }
-    requires refreshes { crew.refresher.pass.refreshes ≡ 0 }
+    requires refreshes { (crew.refresher.pass.refreshes ≡ 0) × (crew.refresher.pass.driven ≡ 0) }
     requires hand { crew.refresher.hand.table ≡ desk.now.table }
     requires floors { crew.refresher.hand.floors ≡ (sizes_of G.program.config).floors }
-    requires plant { IsPlantOf (sizes_of G.program.config) crew.refresher.plant }
+    requires fire { G.fire ≡ is_fire_in plan.entry.fire }
     requires panels { AreAllPanels desk.now crew.panels.items }
     requires presses { All (λ press. IsFloorOf desk.now.floors press.to) plan.presses.now }
     ensures tasks { IfOk result (λ p. map (λ q. q.task) p.tasks.items ≡ map (λ q. q.task) crew.tasks.items) }
     ensures counts { IfOk result (λ p. All (λ q. q.count ≡ plan.entry.rounds + plan.entry.rounds) p.tasks.items) }
-    ensures refreshes { IfOk result (λ p. p.refresher.pass.refreshes ≡ plan.entry.rounds) }
+    ensures refreshes { IfOk result (λ p. (p.refresher.pass.refreshes ≡ plan.entry.rounds) × (p.refresher.pass.driven ≡ plan.entry.rounds)) }
     ensures desk { IfOk result (λ p. (p.refresher.hand.table ≡ desk.now.table) × AreAllPanels desk.now p.panels.items) }
 {
     let Crew {
@@ -145,15 +145,15 @@ pub fn run_all<G: Naming + Send + Sync, T: Gate + Sync, R: Threads + Wait + Sync
             requires r { IsSync R.row }
             requires t { IsSync T.row }
             requires tasks { All (λ p. p.count ≡ 0) tasks.items }
-            requires refreshes { refresher.pass.refreshes ≡ 0 }
+            requires refreshes { (refresher.pass.refreshes ≡ 0) × (refresher.pass.driven ≡ 0) }
             requires hand { refresher.hand.table ≡ desk.now.table }
             requires floors { refresher.hand.floors ≡ (sizes_of G.program.config).floors }
-            requires plant { IsPlantOf (sizes_of G.program.config) refresher.plant }
+            requires fire { G.fire ≡ is_fire_in fire }
             requires panels { AreAllPanels desk.now panels.items }
             requires presses { All (λ press. IsFloorOf desk.now.floors press.to) presses.now }
             ensures tasks { IfOk result (λ p. map (λ q. q.task) p.tasks.items ≡ map (λ q. q.task) tasks.items) }
             ensures counts { IfOk result (λ p. All (λ q. q.count ≡ rounds + rounds) p.tasks.items) }
-            ensures refreshes { IfOk result (λ p. p.refresher.pass.refreshes ≡ rounds) }
+            ensures refreshes { IfOk result (λ p. (p.refresher.pass.refreshes ≡ rounds) × (p.refresher.pass.driven ≡ rounds)) }
             ensures desk { IfOk result (λ p. (p.refresher.hand.table ≡ desk.entry.now.table) × AreAllPanels desk.entry.now p.panels.items) }
         {
             let panels = start_panels(scope, alloc, desk, panels, presses)?;
@@ -197,9 +197,9 @@ fn entries(verified: &Verified, rounds: u16) -> usize {
 fn closed<G: Naming>(station: Station<G>, desk: Desk, passes: Passes<G>, rounds: u16) -> Vec<Entry>
     requires tasks { map (λ q. q.task) passes.tasks.items ≡ filter (is_task G.program.config) all_tasks }
     requires counts { All (λ q. q.count ≡ rounds + rounds) passes.tasks.items }
-    requires refreshes { passes.refresher.pass.refreshes ≡ rounds }
+    requires refreshes { (passes.refresher.pass.refreshes ≡ rounds) × (passes.refresher.pass.driven ≡ rounds) }
     requires desk { (passes.refresher.hand.table ≡ desk.table) × AreAllPanels desk passes.panels.items }
-    ensures { IsRun G.program.config rounds result.items }
+    ensures { IsRun G.program.config G.fire rounds result.items }
 {
     let Passes {
         tasks,
@@ -225,13 +225,13 @@ fn run_at<G: Naming + Send + Sync, T: Gate + Sync, R: Threads + Wait + Sync>(
 ) -> Result<Vec<Entry>, RunFault>
     requires tasks { map (λ q. q.task) crew.tasks.items ≡ filter (is_task G.program.config) all_tasks }
     requires new { All (λ p. p.count ≡ 0) crew.tasks.items }
-    requires refreshes { crew.refresher.pass.refreshes ≡ 0 }
+    requires refreshes { (crew.refresher.pass.refreshes ≡ 0) × (crew.refresher.pass.driven ≡ 0) }
     requires hand { crew.refresher.hand.table ≡ desk.table }
     requires floors { crew.refresher.hand.floors ≡ (sizes_of G.program.config).floors }
-    requires plant { IsPlantOf (sizes_of G.program.config) crew.refresher.plant }
+    requires fire { G.fire ≡ is_fire_in plan.entry.fire }
     requires panels { AreAllPanels desk crew.panels.items }
     requires presses { All (λ press. IsFloorOf desk.floors press.to) plan.presses.now }
-    ensures { IfOk result (λ es. IsRun G.program.config plan.entry.rounds es.items) }
+    ensures { IfOk result (λ es. IsRun G.program.config G.fire plan.entry.rounds es.items) }
 {
     match run_all(rt, alloc, &station, &desk, gate, crew, plan) {
         Ok(passes) => Ok(closed(station, desk, passes, plan.rounds)),
@@ -272,9 +272,10 @@ fn run_in<G: Naming + Send + Sync, T: Gate + Sync, R: Threads + Wait + Sync>(
     plan: Plan<'_>,
 ) -> Result<Vec<Entry>, RunFault>
     requires program { verified ≡ G.program }
+    requires fire { G.fire ≡ is_fire_in plan.entry.fire }
     requires names { (i : ℕ) → slice_index_or blanks i 0 ≡ G.names i }
     requires presses { All (λ press. IsFloorOf (sizes_of verified.config).floors press.to) plan.presses.now }
-    ensures { IfOk result (λ es. IsRun G.program.config plan.entry.rounds es.items) }
+    ensures { IfOk result (λ es. IsRun G.program.config G.fire plan.entry.rounds es.items) }
 {
     let _config = verified.config();
     let sizes = verified.sizes();
@@ -287,7 +288,10 @@ fn run_in<G: Naming + Send + Sync, T: Gate + Sync, R: Threads + Wait + Sync>(
         Ok(Opened { desk, panels, hand }) => {
             let crew = Crew {
                 tasks,
-                refresher: opening(refresher, hand, sizes),
+                refresher: Refresher {
+                    pass: refresher,
+                    hand,
+                },
                 panels,
             };
             run_at(rt, alloc, station, desk, gate, crew, plan)
@@ -299,7 +303,7 @@ fn run_in<G: Naming + Send + Sync, T: Gate + Sync, R: Threads + Wait + Sync>(
     }
 }
 
-/// Runs a group in threads: one for each task, with so many scans, one that gathers calls, moves the plant and refreshes, so many times,
+/// Runs a group in threads: one for each task, with so many scans, one that gathers calls and refreshes by the plant, so many times,
 /// and one for each panel that is pressed. The answer is the journal. Memory for all of its entries is reserved before the first thread starts; a thread that
 /// can't be started ends the run with `OutOfMemory`, once the others have ended.
 pub fn run<T: Gate + Sync, R: Threads + Wait + Sync>(
@@ -310,7 +314,7 @@ pub fn run<T: Gate + Sync, R: Threads + Wait + Sync>(
     plan: Plan<'_>,
 ) -> Result<Vec<Entry>, RunFault>
     requires presses { All (λ press. IsFloorOf (sizes_of verified.config).floors press.to) plan.presses.now }
-    ensures { IfOk result (λ es. IsRun verified.config plan.entry.rounds es.items) }
+    ensures { IfOk result (λ es. IsRun verified.config (is_fire_in plan.entry.fire) plan.entry.rounds es.items) }
 {
     match by_round(alloc, plan.presses) {
         Ok(ordered) => {

@@ -1,8 +1,11 @@
-use Rattle.std.proofs.Common.{◌≡◌, ◌+◌, ◌≤◌, ℕ, sym, ap, ◌∙◌, subst, arith}
+use Rattle.std.proofs.Common.{◌≡◌, ◌+◌, ◌≤◌, ℕ, List, sym, ap, ◌∙◌, subst, arith}
 use Rattle.il_spec.specs.declared.tree.Config.{Config}
 use Rattle.il_machine.specs.Scanning.{Program, IsRunnable}
 use Rattle.lift_spec.specs.declared.journal.Entry.{Entry}
+use Rattle.lift_journal.specs.Driven.{IsSafeJournal}
 use Rattle.lift_journal.specs.Journal.{IsJournalOf, entries_by, refresher}
+use Rattle.lift_journal.proofs.Driven.{driven_journal_is_safe}
+use Rattle.il_machine.proofs.Scans.{sound_of}
 use Rattle.il_machine.proofs.Sizes.{sizes_fit}
 use Rattle.lift_workers.proofs.Counting.{all_counted, low_task}
 use Rattle.lift_workers.proofs.run.closed.Goals as goal
@@ -14,11 +17,14 @@ returns g c =
     let book = c.close-verified.result.book in
     let entries = sym c.into_journal.ensures in
     let runs = subst (λ (p : Program). IsRunnable p.config) c.close-verified.ensures.verified c.config-config.ensures.runnable in
+    let driven = c.close-verified.ensures.driven (c.requires.refreshes.1 ∙ sym c.requires.refreshes.0) in
     record {
       world = book.world;
       journal = subst (λ (es : _). IsJournalOf config es book.world) entries (subst (λ (k : Config). IsJournalOf k book.journal book.world) c.close-verified.ensures.program c.close-verified.ensures.kept.run);
       tasks = λ t is.
           ap (entries_by t) c.into_journal.ensures
           ∙ all_counted config (c.args.rounds + c.args.rounds) book.journal c.args.passes.tasks.items c.requires.tasks c.requires.counts c.close-verified.ensures.tasks t (low_task config runs t is) is;
-      refreshes = ap (entries_by refresher) c.into_journal.ensures ∙ sym c.close-verified.ensures.refreshes ∙ c.requires.refreshes;
+      refreshes = ap (entries_by refresher) c.into_journal.ensures ∙ sym c.close-verified.ensures.refreshes ∙ c.requires.refreshes.0;
+      plant = driven.0;
+      safe = subst (λ (es : List Entry). IsSafeJournal config g.G.Naming.fire es driven.0 book.world) entries (driven_journal_is_safe config (sound_of config runs) g.G.Naming.fire book.journal driven.0 book.world driven.1);
     }

@@ -10,12 +10,6 @@ pub desk_of-requires : goal.desk_of-requires
 desk_of-requires g c =
     record { floors = subst (λ (s : Sizes). (2 ≤ s.floors) × (s.floors ≤ 16)) (sym c.sizes-sizes.ensures) (sizes_fit c.args.verified.config c.config-config.ensures.runnable).1 }
 
-pub opening-requires-clause-cars : goal.opening-requires-clause-cars
-opening-requires-clause-cars g c = subst (λ (s : Sizes). (1 ≤ s.cars) × (s.cars ≤ 8)) (sym c.sizes-sizes.ensures) (sizes_fit c.args.verified.config c.config-config.ensures.runnable).0
-
-pub opening-requires-clause-floors : goal.opening-requires-clause-floors
-opening-requires-clause-floors g c = subst (λ (s : Sizes). (2 ≤ s.floors) × (s.floors ≤ 16)) (sym c.sizes-sizes.ensures) (sizes_fit c.args.verified.config c.config-config.ensures.runnable).1
-
 pub run_at-requires-clause-presses : goal.run_at-requires-clause-presses
 run_at-requires-clause-presses g c κs within =
     subst (λ n. All (λ (p : Press). IsFloorOf n p.to) c.args.plan.presses.now) (sym (c.in-Ok-desk_of.ensures.floors.0 ∙ ap (λ (s : Sizes). s.floors) c.sizes-sizes.ensures)) c.requires.presses
