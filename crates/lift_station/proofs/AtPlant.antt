@@ -1,20 +1,25 @@
 -- The plant under the lock, after one entry more.
 use Rattle.std.proofs.Common.{◌≡◌, ◌≢◌, ℕ, ◌+◌, ◌<◌, ◌≤◌, Bool, List, [], ◌∷◌, ◌++◌, length, replicate, refl, sym, ap, ◌∙◌, arith, subst}
-use Rattle.std.specs.Prelude.{slice_index_or, slice_set}
+use Rattle.std.specs.Prelude.{slice_index_or, slice_set, if◌then◌else◌, Some, Result, Ok, Err}
+use Rattle.std.specs.Result.{IsErrAnd}
 use Rattle.std.proofs.lemmas.List.{get_or-set_same, get_or-set_other, length-set}
 use Rattle.il_spec.specs.declared.tree.Config.{Config}
 use Rattle.lift_spec.specs.declared.calls.Call.{Call}
 use Rattle.lift_spec.specs.declared.image.Fields.{Fields}
 use Rattle.lift_spec.specs.declared.journal.Entry.{Entry}
 use Rattle.lift_spec.specs.declared.journal.Entry.TheVariants as entry
-use Rattle.lift_spec.specs.Image.{sizes_of}
+use Rattle.lift_spec.specs.Image.{sizes_of, FieldsInRange}
 use Rattle.lift_spec.specs.Plant.{PlantState, IsPlantOf}
 use Rattle.lift_spec.specs.Replies.{Reply}
 use Rattle.lift_spec.specs.World.{World, opening}
 use Rattle.lift_journal.specs.Driven.{Moves, Leads, IsDrivenJournal, first_plant}
 use Rattle.lift_journal.specs.Journal.{Enters, entries_by, refresher}
 use Rattle.lift_journal.specs.Pages.{Page, Adds}
+use Rattle.lift_journal.specs.declared.fault.StationFault.{StationFault}
+use Rattle.lift_journal.specs.declared.fault.StationFault.TheVariants.{FieldOutOfRange}
 use Rattle.lift_journal.proofs.Driven.{leads_more}
+use Rattle.lift_journal.proofs.Taking.{fields_so}
+use Rattle.lift_book.specs.Ledgers.{refresh_fault, full_fault, fault_in}
 use Rattle.lift_station.specs.Counted.{Counted, IsAtPlant}
 
 -- the journal with one entry more is driven, where the entry takes the plant on
@@ -81,3 +86,12 @@ at_driven c fire now totals b p plant next fields calls answer many counted conf
       driven = λ same.
           driven_more c fire b p plant next (entry.Refresh fields calls) answer config adds (at.driven (omega (arith, nine, eleven, still, more, same))) (subst (λ f. Moves f b.world (entry.Refresh fields calls) plant next) burns moves);
     }
+
+-- fields in range are refused only by a full journal
+pub driven_fault : (b : Page) (fields : Fields) → FieldsInRange (sizes_of b.config) fields → refresh_fault b fields ≡ full_fault b
+driven_fault b fields inside = ap (λ (x : Bool). if x then full_fault b else Some FieldOutOfRange) (fields_so (sizes_of b.config) fields inside)
+
+-- a fault goes up as it is
+pub fault_up : {A : Type 0} (r : Result A StationFault) (f : StationFault) → IsErrAnd r (λ e. e ≡ f) → fault_in r ≡ Some f
+fault_up (Ok x) f bad = absurd bad
+fault_up (Err e) f same = ap Some same

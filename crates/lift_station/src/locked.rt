@@ -207,8 +207,8 @@ impl<G: Naming> Locked<G> {
         let before = self.plant.copied().with_fire(fire);
         let (plant, fields) = plant_step(before, &self.book.image().outputs);
         self.book.refresh(verified, fields, hand, report)?;
-        let entered = report.entered.len();
-        self.counts.count_refresh(pass, entered as u64);
+        let entered = report.entered.len() as u64;
+        self.counts.count_refresh(pass, entered);
         self.counts.count_driven(pass);
         self.plant = plant;
         Ok(())

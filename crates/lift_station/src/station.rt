@@ -330,15 +330,15 @@ impl<G: Naming> Station<G> {
     {
         let mut pass = pass;
         let mut collector = collector;
-        let mut hand = collector.hand();
+        let mut called = collector.hand();
         let answer = self.book.lock(rt).drive(
             self.program.program(),
             &mut pass,
             fire,
-            &mut hand,
+            &mut called,
             report,
         );
-        collector.keep(hand);
+        collector.keep(called);
         (pass, collector, answer)
     }
 

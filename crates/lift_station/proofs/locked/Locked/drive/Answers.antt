@@ -1,0 +1,81 @@
+use Rattle.std.proofs.Common.{◌≡◌, ◌≤◌, ℕ, ◌+◌, Bool, sym, ap, ap₂, ◌∙◌, subst, length, arith}
+use Rattle.std.proofs.lemmas.List.{length-map}
+use Rattle.il_machine.specs.Scanning.{Program, IsRunnable}
+use Rattle.il_machine.proofs.Sizes.{sizes_fit}
+use Rattle.lift_spec.specs.declared.image.Fields.{Fields}
+use Rattle.lift_spec.specs.declared.image.Image.{Image}
+use Rattle.lift_spec.specs.declared.journal.Entry.TheVariants as entry
+use Rattle.lift_spec.specs.declared.report.EnteredCall.{EnteredCall}
+use Rattle.lift_spec.specs.Image.{sizes_of, FieldsInRange}
+use Rattle.lift_spec.specs.Plant.{PlantState, IsPlantOf, plant_after, fields_of_plant}
+use Rattle.lift_spec.specs.Replies.{Refreshed}
+use Rattle.lift_book.specs.Ledgers.{fault_in, refresh_fault}
+use Rattle.lift_journal.specs.Driven.{Moves}
+use Rattle.lift_journal.specs.Journal.{entries_by, refresher}
+use Rattle.lift_journal.specs.Pages.{Page, Adds}
+use Rattle.lift_station.specs.Counted.{IsNoneOrFull, calls_in}
+use Rattle.lift_station.proofs.AtPlant.{at_driven, driven_fault, fault_up}
+use Rattle.lift_station.proofs.Showing.{full_or_none}
+use Rattle.lift_station.proofs.Totals.{counted_refresh, counted_driven}
+use Rattle.lift_station.proofs.locked.Locked.drive.Goals as goal
+
+pub returns-in_err-refresh-clause-full : goal.returns-in_err-refresh-clause-full
+returns-in_err-refresh-clause-full g c =
+    let b = c.self.inside.book in
+    let sizes = sizes_of b.config in
+    let runs = subst (λ (p : Program). IsRunnable p.config) c.requires.program c.config-config.ensures.runnable in
+    let two = (sizes_fit g.G.Naming.program.config runs).1.0 in
+    let some : 1 ≤ sizes.floors = omega (arith, two, ap (λ k. (sizes_of k).floors) c.self.invariant.0) in
+    let own : IsPlantOf sizes c.copied.result = subst (λ k. IsPlantOf (sizes_of k) c.copied.result) (sym c.self.invariant.0) (subst (IsPlantOf (sizes_of g.G.Naming.program.config)) (sym c.copied.ensures) c.self.invariant.2.sized) in
+    let inside = c.plant_step-plant.ensures.inside sizes (c.with_fire-before.ensures.sized sizes own) some in
+    let told = fault_up c.from_residual.result c.in_err-refresh.field-0.0 c.from_residual.ensures.1 ∙ c.in_err-refresh.ensures.fault in
+    subst IsNoneOrFull (sym (told ∙ driven_fault b c.plant_step-plant.result.1 inside)) (full_or_none b)
+
+pub invariant_of-self-2 : goal.invariant_of-self-2
+invariant_of-self-2 g c =
+    let config = g.G.Naming.program.config in
+    let b = c.self.inside.book in
+    let before = c.self.inside.plant in
+    let next = c.plant_step-plant.result.0 in
+    let a = c.audit_refreshes.ensures in
+    let adds = c.in_ok-refresh.ensures.done in
+    let calls = calls_in c.refresh.new.report in
+    let many : c.len-entered.result ≡ length calls = c.len-entered.ensures.count ∙ sym (length-map c.refresh.new.report.entered (λ (d : EnteredCall). d.call)) in
+    let moved : next ≡ plant_after (record before { fire = c.args.fire }) b.world.group.image.outputs =
+    c.plant_step-plant.ensures.plant ∙ ap₂ (λ (p : PlantState) (i : Image). plant_after p i.outputs) (c.with_fire-before.ensures.plant ∙ ap (λ (p : PlantState). record p { fire = c.args.fire }) c.copied.ensures) c.image.ensures in
+    let burns = c.requires.fire ∙ ap (λ n. g.G.Naming.fire (n + 1)) (a.refreshes ∙ ap (λ (l : Page). entries_by refresher l.journal) (sym (c.self.view_is ∙ a.same.0))) in
+    let sized = c.plant_step-plant.ensures.sized (sizes_of config) (c.with_fire-before.ensures.sized (sizes_of config) (subst (IsPlantOf (sizes_of config)) (sym c.copied.ensures) c.self.invariant.2.sized)) in
+    let counted = counted_refresh c.self.inside.counts b.journal c.refresh.new.self.journal c.plant_step-plant.result.1 calls c.len-entered.result c.self.invariant.1 adds.journal many in
+    let at = at_driven config g.G.Naming.fire c.args.fire c.self.inside.counts b c.refresh.new.self before next c.plant_step-plant.result.1 calls _ c.len-entered.result c.self.invariant.1 c.self.invariant.0 adds burns (moved, c.plant_step-plant.ensures.fields) sized c.self.invariant.2
+    c.count_refresh.new.self c.count_refresh.ensures.total in
+    (
+      adds.config ∙ c.self.invariant.0,
+      rw c.count_driven.ensures.total (counted_driven c.count_refresh.new.self c.refresh.new.self.journal _ (rw c.count_refresh.ensures.total counted)),
+      rw c.count_driven.ensures.total at,
+    )
+
+pub returns-clause-report : goal.returns-clause-report
+returns-clause-report g c =
+    let before = c.self.inside.plant in
+    let next = c.plant_step-plant.result.0 in
+    let a = c.audit_refreshes.ensures in
+    let here = c.self.view_is ∙ a.same.0 in
+    let report = c.refresh.new.report in
+    let adds = subst (λ (f : Fields). Adds c.self.inside.book (entry.Refresh f (calls_in report)) (Refreshed report) c.refresh.new.self) c.plant_step-plant.ensures.fields c.in_ok-refresh.ensures.done in
+    record {
+      plant = before;
+      sized = c.self.invariant.2.sized;
+      next = next;
+      refreshed = record {
+        before = c.args.self.now;
+        config = a.program;
+        kept = a.kept;
+        counted = sym a.refreshes;
+        called = sym a.entered;
+        after = c.refresh.new.self;
+        adds = subst (λ (l : Page). Adds l (entry.Refresh (fields_of_plant next) (calls_in report)) (Refreshed report) c.refresh.new.self) here adds;
+      };
+      step =
+          c.plant_step-plant.ensures.plant ∙ ap₂ (λ (p : PlantState) (i : Image). plant_after p i.outputs) (c.with_fire-before.ensures.plant ∙ ap (λ (p : PlantState). record p { fire = c.args.fire }) c.copied.ensures) c.image.ensures
+          ∙ ap (λ (l : Page). plant_after (record before { fire = c.args.fire }) l.world.group.image.outputs) here;
+    }
