@@ -120,7 +120,7 @@ pub fn run_all<G: Naming + Send + Sync, T: Gate + Sync, R: Threads + Wait + Sync
     requires refreshes { (crew.refresher.pass.refreshes ≡ 0) × (crew.refresher.pass.driven ≡ 0) }
     requires hand { crew.refresher.hand.table ≡ desk.now.table }
     requires floors { crew.refresher.hand.floors ≡ (sizes_of G.program.config).floors }
-    requires fire { G.fire ≡ is_fire_in plan.entry.fire }
+    requires fire { G.fire ≡ is_fire_in plan.fire }
     requires panels { AreAllPanels desk.now crew.panels.items }
     requires presses { All (λ press. IsFloorOf desk.now.floors press.to) plan.presses.now }
     ensures tasks { IfOk result (λ p. map (λ q. q.task) p.tasks.items ≡ map (λ q. q.task) crew.tasks.items) }
@@ -228,7 +228,7 @@ fn run_at<G: Naming + Send + Sync, T: Gate + Sync, R: Threads + Wait + Sync>(
     requires refreshes { (crew.refresher.pass.refreshes ≡ 0) × (crew.refresher.pass.driven ≡ 0) }
     requires hand { crew.refresher.hand.table ≡ desk.table }
     requires floors { crew.refresher.hand.floors ≡ (sizes_of G.program.config).floors }
-    requires fire { G.fire ≡ is_fire_in plan.entry.fire }
+    requires fire { G.fire ≡ is_fire_in plan.fire }
     requires panels { AreAllPanels desk crew.panels.items }
     requires presses { All (λ press. IsFloorOf desk.floors press.to) plan.presses.now }
     ensures { IfOk result (λ es. IsRun G.program.config G.fire plan.entry.rounds es.items) }
@@ -272,7 +272,7 @@ fn run_in<G: Naming + Send + Sync, T: Gate + Sync, R: Threads + Wait + Sync>(
     plan: Plan<'_>,
 ) -> Result<Vec<Entry>, RunFault>
     requires program { verified ≡ G.program }
-    requires fire { G.fire ≡ is_fire_in plan.entry.fire }
+    requires fire { G.fire ≡ is_fire_in plan.fire }
     requires names { (i : ℕ) → slice_index_or blanks i 0 ≡ G.names i }
     requires presses { All (λ press. IsFloorOf (sizes_of verified.config).floors press.to) plan.presses.now }
     ensures { IfOk result (λ es. IsRun G.program.config G.fire plan.entry.rounds es.items) }
