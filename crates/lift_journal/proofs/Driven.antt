@@ -1,17 +1,17 @@
 -- Journals whose refreshes come from the plant are safe.
-use Rattle.std.proofs.Common.{◌≡◌, ℕ, zero, suc, ◌+◌, ◌≤◌, Bool, List, [], ◌∷◌, ◌++◌, map, length, replicate, ◌==◌, if◌then◌else◌, Ok, refl, sym, ap, ◌∙◌, subst, arith}
+use Rattle.std.proofs.Common.{◌≡◌, ℕ, zero, suc, ◌+◌, Bool, List, [], ◌∷◌, ◌++◌, map, length, replicate, ◌==◌, if◌then◌else◌, refl, sym, ap, ◌∙◌, subst, arith}
 use Rattle.std.proofs.lemmas.List.{append_assoc}
 use Rattle.il_spec.specs.declared.tree.Config.{Config}
 use Rattle.lift_spec.specs.declared.event.Event.{Event}
-use Rattle.lift_spec.specs.declared.event.Event.TheVariants.{Start, Instruction, Commit, Refresh, Press, Gather}
+use Rattle.lift_spec.specs.declared.event.Event.TheVariants.{Instruction, Commit, Refresh, Press, Gather}
 use Rattle.lift_spec.specs.declared.image.Fields.{Fields}
 use Rattle.lift_spec.specs.declared.journal.Entry.{Entry}
 use Rattle.lift_spec.specs.declared.journal.Entry.TheVariants as entry
 use Rattle.lift_spec.specs.Hands.{floors_of}
 use Rattle.lift_spec.specs.Image.{sizes_of, FieldsInRange}
-use Rattle.lift_spec.specs.Plant.{PlantState, IsPlantOf, StaysSafe, ObeysWithOwnFields, plant_after, fields_of_plant}
-use Rattle.lift_spec.specs.Replies.{Reply, Refreshed}
-use Rattle.lift_spec.specs.World.{World, opening, happens}
+use Rattle.lift_spec.specs.Plant.{PlantState, IsPlantOf, StaysSafe, ObeysWithOwnFields}
+use Rattle.lift_spec.specs.Replies.{Reply}
+use Rattle.lift_spec.specs.World.{World, opening}
 use Rattle.lift_run_laws.specs.Accepted.{IsSound}
 use Rattle.lift_run_laws.specs.Runs.{IsReached, HasNoRefresh, fields_behind}
 use Rattle.lift_run_laws.proofs.Accepted.{accepted_runs_well}
@@ -19,8 +19,8 @@ use Rattle.lift_run_laws.proofs.Fields.{fields_changed, fields_kept}
 use Rattle.lift_run_laws.proofs.Following.{goes_on}
 use Rattle.lift_plant.proofs.Safe.{stays_safe, sized_after, fields_length, in_shafts_after}
 use Rattle.lift_journal.specs.Journal.{Enters, AreAccepted, events_of, actor_of, entries_by, refresher}
-use Rattle.lift_journal.specs.Safe.{AreInShafts, IsSafeRound, IsDriven}
-use Rattle.lift_journal.specs.Driven.{Moves, MovesSafely, Leads, IsSafeJournal, DrivenJournalIsSafe}
+use Rattle.lift_journal.specs.Safe.{AreInShafts, IsDriven}
+use Rattle.lift_journal.specs.Driven.{Moves, MovesSafely, Leads, DrivenJournalIsSafe}
 use Rattle.lift_journal.proofs.Journals.{Ends, takes_first, ended_run}
 use Rattle.lift_journal.proofs.Safe.{two_floors, without_fire, told, told_safe, opening_driven}
 use Rattle.lift_journal.proofs.Taking.{refresh_taken}

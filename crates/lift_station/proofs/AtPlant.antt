@@ -1,5 +1,5 @@
 -- The plant under the lock, after one entry more.
-use Rattle.std.proofs.Common.{◌≡◌, ◌≢◌, ℕ, ◌+◌, ◌<◌, ◌≤◌, Bool, List, [], ◌∷◌, ◌++◌, length, replicate, refl, sym, ap, ◌∙◌, arith, subst}
+use Rattle.std.proofs.Common.{◌≡◌, ℕ, ◌+◌, ◌<◌, Bool, List, [], length, replicate, sym, ap, ◌∙◌, arith, subst}
 use Rattle.std.specs.Prelude.{slice_index_or, slice_set, if◌then◌else◌, Some, Result, Ok, Err}
 use Rattle.std.specs.Result.{IsErrAnd}
 use Rattle.std.proofs.lemmas.List.{get_or-set_same, get_or-set_other, length-set}
@@ -12,7 +12,7 @@ use Rattle.lift_spec.specs.Image.{sizes_of, FieldsInRange}
 use Rattle.lift_spec.specs.Plant.{PlantState, IsPlantOf}
 use Rattle.lift_spec.specs.Replies.{Reply}
 use Rattle.lift_spec.specs.World.{World, opening}
-use Rattle.lift_journal.specs.Driven.{Moves, Leads, IsDrivenJournal, first_plant}
+use Rattle.lift_journal.specs.Driven.{Moves, IsDrivenJournal, first_plant}
 use Rattle.lift_journal.specs.Journal.{Enters, entries_by, refresher}
 use Rattle.lift_journal.specs.Pages.{Page, Adds}
 use Rattle.lift_journal.specs.declared.fault.StationFault.{StationFault}

@@ -1,14 +1,13 @@
 -- Hands of the desk's collector, as a refresh takes them.
-use Rattle.std.proofs.Common.{◌≡◌, ◌≢◌, ℕ, ◌<◌, ◌≤◌, Bool, true, false, List, [], ◌∷◌, ◌++◌, refl, sym, ap, ◌∙◌, subst, arith, ne_eqb}
-use Rattle.std.specs.Prelude.{◌||◌, ◌&&◌, ◌==◌, Result, Ok, Err, OnOk, OnErr}
+use Rattle.std.proofs.Common.{◌≡◌, ℕ, Bool, true, false, List, [], ◌∷◌, ◌++◌, refl, sym, ap, ◌∙◌, subst, arith, ne_eqb}
+use Rattle.std.specs.Prelude.{◌||◌, Result, Ok, Err, OnOk, OnErr}
 use Rattle.lift_journal.specs.declared.fault.StationFault.{StationFault}
 use Rattle.std.proofs.lemmas.Bool.Decides.{nat_tests}
 use Rattle.lift_spec.specs.declared.calls.Call.{Call}
 use Rattle.lift_spec.specs.declared.image.Sizes.{Sizes}
-use Rattle.lift_spec.specs.Calls.{IsCall}
 use Rattle.lift_spec.specs.Hands.{has_call, same_call}
 use Rattle.lift_journal.specs.Journal.{AllCalls}
-use Rattle.lift_desk.specs.Passes.{AreCalls, IsPart, IsFloorOf}
+use Rattle.lift_desk.specs.Passes.{AreCalls, IsPart}
 
 same_self : (c : Call) → same_call c c ≡ true
 same_self c = grind (arith, nat_tests)

@@ -1,5 +1,5 @@
 -- What is shown under the lock is what a run shows.
-use Rattle.std.proofs.Common.{◌≡◌, ◌≢◌, ℕ, ◌+◌, ◌%◌, ◌<◌, ◌≤◌, Bool, true, false, List, [], Option, Some, None, refl, sym, ap, ◌∙◌, subst, arith}
+use Rattle.std.proofs.Common.{◌≡◌, ◌≢◌, ℕ, ◌%◌, ◌≤◌, Bool, true, false, Option, Some, None, refl, sym, ap, ◌∙◌, subst, arith}
 use Rattle.std.specs.Prelude.{is_some, if◌then◌else◌, IfSome, ◌==◌, length}
 use Rattle.il_spec.specs.declared.tree.Config.{Config}
 use Rattle.il_run.specs.State.{State}
@@ -7,7 +7,6 @@ use Rattle.il_machine.specs.Scanning.{Program, IsRunnable}
 use Rattle.il_machine.specs.Standing.{Standing, IsOf, Finished}
 use Rattle.il_machine.proofs.Scans.{sound_of}
 use Rattle.lift_spec.specs.declared.image.Fields.{Fields}
-use Rattle.lift_spec.specs.declared.image.CarOutputs.{CarOutputs}
 use Rattle.lift_spec.specs.declared.image.Image.{Image}
 use Rattle.lift_spec.specs.declared.report.Report.{Report}
 use Rattle.lift_spec.specs.Calls.{told_car}
@@ -17,7 +16,7 @@ use Rattle.lift_run_laws.specs.Accepted.{IsSound}
 use Rattle.lift_journal.specs.declared.fault.StationFault.{StationFault}
 use Rattle.lift_journal.specs.declared.fault.StationFault.TheVariants.{AlreadyOpen, JournalFull}
 use Rattle.lift_spec.specs.declared.journal.Entry.TheVariants as entry
-use Rattle.lift_journal.specs.Journal.{entries_by, entered_calls, refresher, IsJournalOf, IsOpenWhereOdd}
+use Rattle.lift_journal.specs.Journal.{entries_by, entered_calls, refresher, IsJournalOf}
 use Rattle.lift_journal.specs.Pages.{Page, Kept, Adds, IsSnapped, IsShown, IsTold}
 use Rattle.lift_journal.proofs.Journals.{entries_alternate}
 use Rattle.lift_book.specs.Ledgers.{SnappedNow, IsOpenHere, start_fault, full_fault}

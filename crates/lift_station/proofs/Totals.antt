@@ -1,5 +1,5 @@
 -- The totals after one entry more.
-use Rattle.std.proofs.Common.{◌≡◌, ◌≢◌, ℕ, ◌+◌, ◌<◌, ◌≤◌, Bool, true, false, List, [], ◌∷◌, ◌++◌, length, refl, sym, ap, ◌∙◌, arith, subst}
+use Rattle.std.proofs.Common.{◌≡◌, ◌≢◌, ℕ, ◌+◌, ◌<◌, Bool, true, false, List, [], ◌∷◌, ◌++◌, length, refl, sym, ap, ◌∙◌, arith}
 use Rattle.std.specs.Prelude.{◌==◌, if◌then◌else◌, slice_index_or, slice_set}
 use Rattle.std.proofs.lemmas.List.{get_or-set_same, get_or-set_other, length-set}
 use Rattle.std.proofs.lemmas.Bool.Decides.{nat_tests}
@@ -7,7 +7,7 @@ use Rattle.lift_spec.specs.declared.image.Fields.{Fields}
 use Rattle.lift_spec.specs.declared.calls.Call.{Call}
 use Rattle.lift_spec.specs.declared.journal.Entry.{Entry}
 use Rattle.lift_spec.specs.declared.journal.Entry.TheVariants as entry
-use Rattle.lift_journal.specs.Journal.{actor_of, entries_by, entered_in, entered_calls, refresher}
+use Rattle.lift_journal.specs.Journal.{actor_of, entries_by, entered_in}
 use Rattle.lift_journal.proofs.Journals.{entries_more, entered_more}
 use Rattle.lift_station.specs.Counted.{Counted}
 

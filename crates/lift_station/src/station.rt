@@ -152,7 +152,11 @@ fn opened<G: Naming>(
     let (counts, shares, refresher) = blanks.open::<G>(alloc)?;
     let tasks = passes_of(alloc, verified, shares)?;
     let book = Book::new(alloc, verified, capacity)?;
-    Ok((Locked::of(book, counts, plant_of(verified)), tasks, refresher))
+    Ok((
+        Locked::of(book, counts, plant_of(verified)),
+        tasks,
+        refresher,
+    ))
 }
 
 /// The station: a program, and a book under a lock. It is given up by `close` or `release`.

@@ -1,5 +1,5 @@
 -- Each task of a group has a pass that counts its entries.
-use Rattle.std.proofs.Common.{◌≡◌, ℕ, zero, suc, ◌+◌, ◌≤◌, Bool, true, false, List, [], ◌∷◌, ◌++◌, map, refl, sym, ap, ◌∙◌, arith, subst}
+use Rattle.std.proofs.Common.{◌≡◌, ℕ, zero, suc, ◌≤◌, Bool, true, false, List, [], ◌∷◌, ◌++◌, map, refl, sym, ap, ◌∙◌, arith, subst}
 use Rattle.std.proofs.Common.{inl, inr}
 use Rattle.std.specs.Prelude.{All, filter, ◌⊎◌}
 use Rattle.std.proofs.lemmas.List.Elements.{All-head, All-tail, All-push}

@@ -1,4 +1,4 @@
-use Rattle.std.proofs.Common.{◌≡◌, ◌+◌, ◌≤◌, ℕ, List, sym, ap, ◌∙◌, subst, arith}
+use Rattle.std.proofs.Common.{◌+◌, List, sym, ap, ◌∙◌, subst}
 use Rattle.il_spec.specs.declared.tree.Config.{Config}
 use Rattle.il_machine.specs.Scanning.{Program, IsRunnable}
 use Rattle.lift_spec.specs.declared.journal.Entry.{Entry}
@@ -6,7 +6,6 @@ use Rattle.lift_journal.specs.Driven.{IsSafeJournal}
 use Rattle.lift_journal.specs.Journal.{IsJournalOf, entries_by, refresher}
 use Rattle.lift_journal.proofs.Driven.{driven_journal_is_safe}
 use Rattle.il_machine.proofs.Scans.{sound_of}
-use Rattle.il_machine.proofs.Sizes.{sizes_fit}
 use Rattle.lift_workers.proofs.Counting.{all_counted, low_task}
 use Rattle.lift_workers.proofs.run.closed.Goals as goal
 

@@ -1,4 +1,3 @@
-use Rattle.std.proofs.Common.{ℕ}
 use Rattle.std.proofs.lemmas.List.Sorted.{All-permutation}
 use Rattle.lift_desk.specs.Passes.{IsFloorOf}
 use Rattle.lift_host.specs.declared.press.Press.{Press}

@@ -1,10 +1,9 @@
-use Rattle.std.proofs.Common.{◌≡◌, ◌<◌, refl, sym, ap, ◌∙◌, subst, arith, ℕ}
-use Rattle.il_machine.specs.Scanning.{Program}
+use Rattle.std.proofs.Common.{◌<◌, refl, ap, ◌∙◌, arith}
 use Rattle.lift_spec.specs.declared.journal.Entry.TheVariants as entry
 use Rattle.lift_station.specs.Passes.{task_of, count_of}
 use Rattle.lift_station.proofs.AtPlant.{at_scanned}
 use Rattle.lift_station.proofs.Totals.{counted_more}
-use Rattle.lift_station.proofs.Showing.{open_there, scan_left, committed_under, none_open_under}
+use Rattle.lift_station.proofs.Showing.{scan_left, committed_under, none_open_under}
 use Rattle.lift_station.proofs.locked.Locked.commit.Goals as goal
 
 pub returns-in-Err-clause-even : goal.returns-in-Err-clause-even
@@ -27,11 +26,10 @@ returns-in-Ok-clause-report g c =
 
 pub returns-in-Ok-clause-store : goal.returns-in-Ok-clause-store
 returns-in-Ok-clause-store g c =
-    let a = c.audit.ensures in
-    (
-    c.in-Ok.ensures.done.1,
-    scan_left g.G.Naming.program c.args.verified.now c.requires.program c.self.inside.book c.args.self.now (c.self.view_is ∙ a.same.0) a.program a.kept c.task.result (task_of c.args.share.now) (c.task.ensures.0 ∙ ap (λ s. task_of s) a.same.1) (count_of c.args.share.now) a.count
-    c.args.scanned c.in-Ok.ensures.mine c.in-Ok.store c.in-Ok.ensures.done.1,
+    let a = c.audit.ensures in (
+      c.in-Ok.ensures.done.1,
+      scan_left g.G.Naming.program c.args.verified.now c.requires.program c.self.inside.book c.args.self.now (c.self.view_is ∙ a.same.0) a.program a.kept c.task.result (task_of c.args.share.now) (c.task.ensures.0 ∙ ap (λ s. task_of s) a.same.1) (count_of c.args.share.now) a.count
+          c.args.scanned c.in-Ok.ensures.mine c.in-Ok.store c.in-Ok.ensures.done.1,
     )
 
 pub invariant_of-self : goal.invariant_of-self

@@ -1,4 +1,4 @@
-use Rattle.std.proofs.Common.{◌≡◌, ◌≤◌, ℕ, ◌+◌, Bool, sym, ap, ap₂, ◌∙◌, subst, length, arith}
+use Rattle.std.proofs.Common.{◌≡◌, ◌≤◌, ◌+◌, sym, ap, ap₂, ◌∙◌, subst, length, arith}
 use Rattle.std.proofs.lemmas.List.{length-map}
 use Rattle.il_machine.specs.Scanning.{Program, IsRunnable}
 use Rattle.il_machine.proofs.Sizes.{sizes_fit}
@@ -6,11 +6,9 @@ use Rattle.lift_spec.specs.declared.image.Fields.{Fields}
 use Rattle.lift_spec.specs.declared.image.Image.{Image}
 use Rattle.lift_spec.specs.declared.journal.Entry.TheVariants as entry
 use Rattle.lift_spec.specs.declared.report.EnteredCall.{EnteredCall}
-use Rattle.lift_spec.specs.Image.{sizes_of, FieldsInRange}
+use Rattle.lift_spec.specs.Image.{sizes_of}
 use Rattle.lift_spec.specs.Plant.{PlantState, IsPlantOf, plant_after, fields_of_plant}
 use Rattle.lift_spec.specs.Replies.{Refreshed}
-use Rattle.lift_book.specs.Ledgers.{fault_in, refresh_fault}
-use Rattle.lift_journal.specs.Driven.{Moves}
 use Rattle.lift_journal.specs.Journal.{entries_by, refresher}
 use Rattle.lift_journal.specs.Pages.{Page, Adds}
 use Rattle.lift_station.specs.Counted.{IsNoneOrFull, calls_in}
@@ -47,8 +45,7 @@ invariant_of-self-2 g c =
     let sized = c.plant_step-plant.ensures.sized (sizes_of config) (c.with_fire-before.ensures.sized (sizes_of config) (subst (IsPlantOf (sizes_of config)) (sym c.copied.ensures) c.self.invariant.2.sized)) in
     let counted = counted_refresh c.self.inside.counts b.journal c.refresh.new.self.journal c.plant_step-plant.result.1 calls c.len-entered.result c.self.invariant.1 adds.journal many in
     let at = at_driven config g.G.Naming.fire c.args.fire c.self.inside.counts b c.refresh.new.self before next c.plant_step-plant.result.1 calls _ c.len-entered.result c.self.invariant.1 c.self.invariant.0 adds burns (moved, c.plant_step-plant.ensures.fields) sized c.self.invariant.2
-    c.count_refresh.new.self c.count_refresh.ensures.total in
-    (
+    c.count_refresh.new.self c.count_refresh.ensures.total in (
       adds.config ∙ c.self.invariant.0,
       rw c.count_driven.ensures.total (counted_driven c.count_refresh.new.self c.refresh.new.self.journal _ (rw c.count_refresh.ensures.total counted)),
       rw c.count_driven.ensures.total at,

@@ -1,5 +1,4 @@
-use Rattle.std.proofs.Common.{◌≡◌, ◌<◌, refl, sym, ap, ◌∙◌, subst, arith, ℕ}
-use Rattle.il_machine.specs.Scanning.{Program}
+use Rattle.std.proofs.Common.{◌<◌, refl, ap, ◌∙◌, arith}
 use Rattle.lift_spec.specs.declared.journal.Entry.TheVariants as entry
 use Rattle.lift_station.specs.Passes.{task_of, count_of}
 use Rattle.lift_station.proofs.AtPlant.{at_scanned}

@@ -1,4 +1,3 @@
-use Rattle.std.proofs.Common.{sym, ◌∙◌}
 use Rattle.lift_spec.specs.Image.{sizes_of}
 use Rattle.lift_station.specs.Counted.{calls_in}
 use Rattle.lift_station.proofs.Hands.{all_calls, part_kept}
