@@ -1,7 +1,6 @@
-use Rattle.std.proofs.Common.{◌≡◌, refl, ap, ◌∙◌, nat_abs, rules, SFits, w64}
+use Rattle.std.proofs.Common.{refl, ap, ◌∙◌, nat_abs, rules, SFits, w64}
 use Rattle.std.proofs.lemmas.Int.{to_z-of_z}
 use Rattle.lift_spec.specs.Snapshot.{whole_of, truth_of, motor_of, wishes_of}
-use Rattle.il_machine.specs.Scanning.{state_of, kept_of}
 use Rattle.il_machine.proofs.Outgoing.{car_stands, serve_low}
 use Rattle.il_machine.proofs.bench.Bench.wishes.Goals as goal
 
