@@ -1,11 +1,13 @@
 -- What a scan's rows hold of its outputs.
-use Rattle.std.proofs.Common.{◌≡◌, ◌<◌, ◌≤◌, ℕ, zero, suc, ◌+◌, ◌-◌, List, [], ◌∷◌, ◌++◌, length, slice_get, refl, sym, ap, ap₂, ◌∙◌, Some, Option, subst, Contains, ℤ, pos, ◌≤ℤ◌, nat_abs, codes, append-nil, append_assoc, arith}
+use Rattle.std.proofs.Common.{◌≡◌, ◌<◌, ◌≤◌, ℕ, zero, suc, ◌+◌, ◌-◌, List, [], ◌∷◌, ◌++◌, length, slice_get, refl, sym, ap, ap₂, ◌∙◌, Some, Option, subst, Contains, ℤ, pos, negsuc, ◌≤ℤ◌, nat_abs, codes, append-nil, append_assoc, arith}
 use Rattle.std.specs.Prelude.{option_and_then}
 use Rattle.std.proofs.lemmas.Int.{ints}
 use Rattle.std.proofs.lemmas.List.{length-append, map-append}
 use Rattle.il_spec.specs.declared.tree.Config.{Config}
+use Rattle.il_spec.specs.declared.tree.Elementary.TheVariants.{Bool as BoolType}
 use Rattle.il_spec.specs.declared.tree.Scalar.{Scalar}
 use Rattle.il_spec.specs.declared.tree.Unit.{Unit as ProgramUnit}
+use Rattle.il_spec.specs.ElementaryTypes.{plain}
 use Rattle.il_rules.specs.Names.{within}
 use Rattle.il_run.specs.declared.value.Value.{Value}
 use Rattle.il_run.specs.declared.value.Value.TheVariants.{Boolean, Integer}
@@ -33,7 +35,7 @@ use Rattle.lift_spec.specs.Snapshot.{whole_of, assigned, assigned_from}
 use Rattle.lift_run_laws.specs.Tasks.{IsTaskOf, output_scalars}
 use Rattle.lift_run_laws.proofs.Given.{outputs_have}
 use Rattle.lift_run_laws.proofs.Kept.{as_many}
-use Rattle.lift_run_laws.proofs.Seen.{firsts, calls, places, motors, assigns}
+use Rattle.lift_run_laws.proofs.Seen.{firsts, calls, fields, outputs, places, motors, assigns}
 use Rattle.lift_run_laws.proofs.Tasks.{same_image}
 use Rattle.il_machine.specs.Scanning.{IsRunnable, value_at, kept_of, state_of, IsScanOf}
 use Rattle.il_machine.proofs.Given.{cells_of, seen_cells_are}
@@ -131,6 +133,65 @@ serve_in c runs k s scan =
 pub car_serves : (c : Config) (runs : IsRunnable c) (car : ℕ) (s : Stored) → 1 ≤ car → IsScanOf c car s → let v = get (state_of (kept_of c car s)).values (codes "SERVE") in (pos 0 ≤ℤ whole_of v) × (whole_of v ≤ℤ pos 64)
 car_serves c runs zero s some scan = absurd (omega (arith, some))
 car_serves c runs (suc k) s some scan = serve_in c runs k s scan
+
+-- MOTOR, OPEN AND SERVE
+
+-- as code reads them, in the last three slots
+pub record StandLast (cells : List Cell) (r : Rows) (values : Values) : Type 0 where
+  pub room : 3 ≤ length cells
+  pub motor : value_at cells r (length cells - 3) ≡ get values (codes "MOTOR")
+  pub opens : value_at cells r (length cells - 3 + 1) ≡ get values (codes "OPEN")
+  pub serve : value_at cells r (length cells - 3 + 2) ≡ get values (codes "SERVE")
+
+module _ (c : Config) (runs : IsRunnable c) (k : ℕ) (s : Stored) (scan : IsScanOf c (suc k) s) where
+  abbrev driver : ProgramUnit
+  driver = scan.0
+
+  abbrev car_values : Values
+  car_values = (state_of (kept_of c (suc k) s)).values
+
+  abbrev before : List Cell
+  before = own_cells c driver ++ cells_of (external_scalars c driver ++ (firsts c ++ calls c ++ fields c))
+
+  outputs_end : program_cells c driver ≡ before ++ cells_of (outputs c)
+  outputs_end =
+      ap (λ xs. own_cells c driver ++ xs)
+      (seen_cells_are c (sound_of c runs) (suc k) driver scan.1
+      ∙ ap cells_of
+      (ap (λ xs. external_scalars c driver ++ xs) (sym (append_assoc (firsts c ++ calls c) (fields c) (outputs c))) ∙ sym (append_assoc (external_scalars c driver) (firsts c ++ calls c ++ fields c) (outputs c)))
+      ∙ map-append (λ (p : Text × Scalar). cell p.0 p.1) (external_scalars c driver ++ (firsts c ++ calls c ++ fields c)) (outputs c))
+      ∙ sym (append_assoc (own_cells c driver) (cells_of (external_scalars c driver ++ (firsts c ++ calls c ++ fields c))) (cells_of (outputs c)))
+
+  three_last : length (program_cells c driver) ≡ length before + 3
+  three_last = ap length outputs_end ∙ length-append before (cells_of (outputs c))
+
+  output_at : (j : ℕ) (x : Cell) → slice_get (cells_of (outputs c)) j ≡ Some x → value_at (program_cells c driver) s.rows (length before + j) ≡ get car_values x.path
+  output_at j x is =
+      ap (option_and_then (value_at (program_cells c driver) s.rows))
+      (sym (stands_slot (program_cells c driver) (cells_once c driver (accepted c runs (suc k) driver scan.1)) (length before + j) x (ap (λ xs. slice_get xs (length before + j)) outputs_end ∙ behind_first before (cells_of (outputs c)) j ∙ is)))
+      ∙ reads_kept c runs (suc k) s scan x.path
+
+  stand_last : (cells : List Cell) (r : Rows) → cells ≡ program_cells c driver → r ≡ s.rows → StandLast cells r car_values
+  stand_last cells r cells_is rows_is =
+      let long = ap length cells_is ∙ three_last in
+      let read : (j : ℕ) → value_at cells r (length before + j) ≡ value_at (program_cells c driver) s.rows (length before + j) = λ j. ap₂ (λ xs x. value_at xs x (length before + j)) cells_is rows_is in
+      let at0 : length cells - 3 ≡ length before + 0 = omega (arith, long) in
+      let at1 : length cells - 3 + 1 ≡ length before + 1 = omega (arith, long) in
+      let at2 : length cells - 3 + 2 ≡ length before + 2 = omega (arith, long) in
+      record {
+        room = omega (arith, long);
+        motor = ap (value_at cells r) at0 ∙ read 0 ∙ output_at 0 (cell (codes "MOTOR") (within (negsuc 0) (pos 1))) refl;
+        opens = ap (value_at cells r) at1 ∙ read 1 ∙ output_at 1 (cell (codes "OPEN") (plain BoolType)) refl;
+        serve = ap (value_at cells r) at2 ∙ read 2 ∙ output_at 2 (cell (codes "SERVE") (within (pos 0) c.slots.value)) refl;
+      }
+
+pub car_stands : (c : Config) (runs : IsRunnable c) (car : ℕ) (s : Stored) → 1 ≤ car → (scan : IsScanOf c car s) → (cells : List Cell) (r : Rows) → cells ≡ program_cells c scan.0 → r ≡ s.rows → StandLast cells r (state_of (kept_of c car s)).values
+car_stands c runs zero s some scan cells r cells_is rows_is = absurd (omega (arith, some))
+car_stands c runs (suc k) s some scan cells r cells_is rows_is = stand_last c runs k s scan cells r cells_is rows_is
+
+-- SERVE's value names a slot, or none
+pub serve_low : (c : Config) (runs : IsRunnable c) (car : ℕ) (s : Stored) → 1 ≤ car → IsScanOf c car s → (o : Option Value) → o ≡ get (state_of (kept_of c car s)).values (codes "SERVE") → (pos 0 ≤ℤ whole_of o) × (whole_of o ≤ℤ pos 64)
+serve_low c runs car s some scan o is = subst (λ v. (pos 0 ≤ℤ whole_of v) × (whole_of v ≤ℤ pos 64)) (sym is) (car_serves c runs car s some scan)
 
 -- ASSIGN
 

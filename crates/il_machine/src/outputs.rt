@@ -67,38 +67,20 @@ fn named_at(rows: &Rows, cells: &[Cell], slot: usize) -> u8
 }
 
 impl Bench {
-    // A variable of the scan, by its path.
-    fn kept_value(&self, verified: &Verified, task: u8, path: &str) -> Option<Value>
-        requires scan { IsScanOf verified.now.config task self.now }
-        ensures { result ≡ get (state_of (kept_of verified.now.config task self.now)).values path.now }
-    {
-        let _config = verified.config();
-        let code = verified.task_code(task);
-        let slot = code.slot_of(path)?;
-        value(self.rows(), code.cells(), slot)
-    }
-
-    // SERVE, as a car's scan left it.
-    fn served(&self, verified: &Verified, car: u8) -> u8
-        requires car { 1 ≤ car }
-        requires scan { IsScanOf verified.now.config car self.now }
-        ensures { result ≡ nat_abs (whole_of (get (state_of (kept_of verified.now.config car self.now)).values (codes "SERVE"))) }
-    {
-        let _config = verified.config();
-        one_of(whole_of(self.kept_value(verified, car, "SERVE")))
-    }
-
-    /// MOTOR, OPEN and SERVE, as a car's scan left them.
+    /// MOTOR, OPEN and SERVE, as a car's scan left them. Their slots are the last.
     #[tactic(auto, unfolding(lift_spec::specs::Snapshot::wishes_of))]
     pub fn wishes(&self, verified: &Verified, car: u8) -> Wishes
         requires car { 1 ≤ car }
         requires scan { IsScanOf verified.now.config car self.now }
         ensures { result ≡ wishes_of (state_of (kept_of verified.now.config car self.now)).values }
     {
+        let _config = verified.config();
+        let cells = verified.task_code(car).cells();
+        let first = cells.len() - 3;
         Wishes {
-            motor: motor_of(whole_of(self.kept_value(verified, car, "MOTOR"))),
-            opens: truth_of(self.kept_value(verified, car, "OPEN")),
-            serve: self.served(verified, car),
+            motor: motor_of(whole_of(value(self.rows(), cells, first))),
+            opens: truth_of(value(self.rows(), cells, first + 1)),
+            serve: named_at(self.rows(), cells, first + 2),
         }
     }
 
