@@ -1,3 +1,4 @@
+pub mod Seen
 pub mod Running
 pub mod Groups
 pub mod Worlds

@@ -1,13 +1,13 @@
 // What events do to the calls, and the rows of a report.
 
-ghost use Rattle.std.specs.Prelude.{◌≡◌, ℕ, List, Option, ◌≤◌, ◌<◌, ◌+◌, ◌∷◌, [], length, map};
-ghost use Rattle.lift_spec.specs.Calls.{ticket_of, enter_all};
+ghost use Rattle.std.specs.Prelude.{◌≡◌, ℕ, List, Option, ◌≤◌, ◌<◌, ◌+◌, ◌∷◌, [], length};
+ghost use Rattle.lift_spec.specs.Calls.{enter_all};
 ghost use Rattle.lift_spec.specs.Settle.{denials_of};
 ghost use Rattle.lift_spec.specs.World.{serve_wish, tell_with, tell_all};
 
 use lift_calls::book::CallBook;
 use lift_image::Bounded;
-use lift_spec::calls::{Answer, Entering, Slot};
+use lift_spec::calls::{Answer, Entering};
 use lift_spec::hand::Hand;
 use lift_spec::report::{Denial, EnteredCall, Rule};
 
@@ -18,28 +18,6 @@ pub fn clear<T: Drop + Default, const N: usize>(row: &mut Bounded<T, N>)
     if row.len() > 0 {
         *row = Bounded::new();
     }
-}
-
-// The ticket of a slot that isn't Free.
-fn ticket_of(slot: Slot) -> Option<u64>
-    ensures { result ≡ ticket_of slot }
-{
-    match slot {
-        Slot::Free => None,
-        Slot::Waiting { ticket, .. } => Some(ticket),
-        Slot::Told { ticket, .. } => Some(ticket),
-    }
-}
-
-/// The tickets of the slots.
-pub fn tickets_of(calls: &CallBook) -> Bounded<Option<u64>, 64>
-    ensures { result ≡ map ticket_of calls.now.slots }
-{
-    let mut tickets = Bounded::new();
-    for index in 0..usize::from(calls.count()) {
-        tickets.push(ticket_of(calls.slot_of(index)));
-    }
-    tickets
 }
 
 /// The denials of a car.

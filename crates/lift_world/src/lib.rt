@@ -6,6 +6,7 @@ mod controller;
 mod group;
 mod replies;
 mod shared;
+mod tickets;
 mod world;
 
 pub use controller::{Opened, opening};

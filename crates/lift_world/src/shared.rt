@@ -17,7 +17,8 @@ ghost use Rattle.lift_spec.specs.World.{InRanges, flat, opening_task, opening_ta
 ghost use Rattle.lift_world.specs.Running.{seat_at, task_in, seated, tasks_in, group_in, is_open, SharedFits, with_seat, HasOpenScan, Commits};
 ghost use Rattle.il_machine.specs.Sharing.{globals_in, FitsGlobals};
 
-use crate::calling::{clear, denials_of, enter_all, serve, tell_all, tickets_of};
+use crate::calling::{clear, denials_of, enter_all, serve, tell_all};
+use crate::tickets::Tickets;
 use il_machine::{Begin, FirstRows, Rows, Store, Value, Verified, opening_image, variable};
 use lift_calls::book::CallBook;
 use lift_image::{Bounded, Fields, Image, Motor};
@@ -31,7 +32,7 @@ use std::alloc::{AllocError, Global};
 #[derive(Drop)]
 pub struct Seat {
     variables: Rows,
-    tickets: Option<Bounded<Option<u64>, 64>>,
+    tickets: Tickets,
 }
 
 /// What the tasks of a group share, and the tasks: GROUP first, then CAR1 and so on; none where the group has no such task.
@@ -74,7 +75,7 @@ fn opening_seat(alloc: Global, verified: &Verified, task: u8) -> Result<Option<S
     let variables = copied(alloc, verified.opening_variables(task))?;
     Ok(Some(Seat {
         variables,
-        tickets: None,
+        tickets: Tickets::none(),
     }))
 }
 
@@ -127,7 +128,7 @@ fn start_seat(
             calls,
         };
         store.restart(verified, task, &begin);
-        seat.tickets = Some(tickets_of(calls));
+        seat.tickets.open(calls);
     }
 }
 
@@ -139,7 +140,7 @@ fn close_seat(seat: &mut Option<Seat>, verified: &Verified, task: u8, store: &St
 {
     if let Some(seat) = seat {
         store.copy_variables(verified, &mut seat.variables);
-        seat.tickets = None;
+        seat.tickets.shut();
     }
 }
 
@@ -149,13 +150,8 @@ fn saw(seat: &Option<Seat>) -> &[Option<u64>]
     ensures { (s : SeatOf) (tickets : List (Option ℕ)) → seat.now ≡ Some s → s.tickets ≡ Some tickets → result.now ≡ tickets }
 {
     match seat {
-        Some(
-            Seat {
-                tickets: Some(tickets),
-                ..
-            },
-        ) => tickets.as_slice(),
-        _ => unreachable!(),
+        Some(seat) => seat.tickets.saw(),
+        None => unreachable!(),
     }
 }
 
@@ -242,7 +238,7 @@ impl Shared {
         ensures { result ≡ is_open self.now task }
     {
         match self.seats.as_slice().get(usize::from(task)) {
-            Some(Some(seat)) => seat.tickets.is_some(),
+            Some(Some(seat)) => seat.tickets.is_open(),
             _ => false,
         }
     }

@@ -14,5 +14,6 @@ opening_variables-requires c = record { there = task_there _ _ c.requires (sym c
 
 pub returns-clause-task : goal.returns-clause-task
 returns-clause-task c =
-    seat_opens _ _ _ (sym c.has_task.ensures ∙ c.if-not-has_task.false)
-    (λ u is. ap (variables_in c.args.verified.now.config c.args.task) c.in_ok-variables.ensures ∙ c.opening_variables.ensures.variables u is)
+    rw c.none.ensures
+    (seat_opens _ _ _ (sym c.has_task.ensures ∙ c.if-not-has_task.false)
+    (λ u is. ap (variables_in c.args.verified.now.config c.args.task) c.in_ok-variables.ensures ∙ c.opening_variables.ensures.variables u is))
