@@ -35,7 +35,13 @@ fn round(verified: &Verified, book: &mut Book, store: Store, is_own: bool) -> Op
     } else {
         book.commit(verified, 1, scanned, &mut report)
     };
-    committed.ok()
+    match committed {
+        Ok(store) => Some(store),
+        Err((_, scanned)) => {
+            let _store = scanned.into_store();
+            None
+        }
+    }
 }
 
 // Two rounds, and a start that finds the journal full: the entries, and the number of the fault.

@@ -45,7 +45,14 @@ fn drive<G: Naming, R: Wait>(
     let mut report = Report::new();
     let scanned = scan(station.verified(), begun);
     let (pass, committed) = station.commit(rt, pass, scanned, &mut report);
-    (pass, ("Station::commit", committed.is_ok() as i128))
+    let is_committed = match committed {
+        Ok(()) => true,
+        Err((_, scanned)) => {
+            let _store = scanned.into_store();
+            false
+        }
+    };
+    (pass, ("Station::commit", is_committed as i128))
 }
 
 // The next task's scan, and the car that is then told the call under ticket 1. The pass goes to the end.
@@ -61,9 +68,9 @@ fn drive_next<G: Naming, R: Print + Wait>(
     let (pass, driven) = drive(lines.stream(), station, passes.remove(0));
     let told = station.told(lines.stream(), 1).unwrap_or(0);
     lines.figures(&[driven, ("Station::told", told as i128)]);
-    match passes.push(pass) {
-        Ok(()) | Err(_) => passes,
-    }
+    // There is room, since one was taken out.
+    let _ = passes.push(pass);
+    passes
 }
 
 // A refresh with the calls of the hand: how many are left in it.
