@@ -238,7 +238,7 @@ impl<G: Naming> Locked<G> {
         ensures same { self.new ≡ self.old }
         ensures count { pass.count ≡ entries_by pass.task self.old.journal }
     {
-        let TaskPass { mut share, .. } = pass;
+        let mut share = pass.into_share();
         self.audit(&mut share);
     }
 

@@ -225,7 +225,7 @@ impl<G: Naming> Station<G> {
         ensures refused { OnErr result.1 (result.0 ≡ pass) }
     {
         pass.task();
-        let TaskPass { mut share, store } = pass;
+        let (mut share, store) = pass.into_parts();
         let Some(store) = store else {
             return (
                 TaskPass { share, store: None },
@@ -265,7 +265,7 @@ impl<G: Naming> Station<G> {
         if !scanned.is_of(self.program.program()) {
             return (pass, Err((StationFault::NotOpen, scanned)));
         }
-        let TaskPass { mut share, store } = pass;
+        let (mut share, store) = pass.into_parts();
         let answer = self
             .book
             .lock(rt)
