@@ -1,5 +1,5 @@
 -- The image in the rows of a task (own rules).
-use Rattle.std.specs.Prelude.{ℕ, zero, suc, ◌+◌, List, replicate, [], ◌∷◌, ◌++◌, map, set}
+use Rattle.std.specs.Prelude.{ℕ, zero, suc, ◌+◌, List, replicate, [], ◌∷◌, ◌++◌, map, set, take, drop, length}
 use Rattle.il_run.specs.declared.value.Value.{Value}
 use Rattle.il_run.specs.declared.value.Value.TheVariants.{Boolean, Integer}
 use Rattle.il_slots.specs.Layout.{Rows, rows, number_part, flag_part}
@@ -22,6 +22,10 @@ with_slot r at v = rows (set r.numbers at (number_part v)) (set r.flags at (flag
 abbrev pub filled : Rows → ℕ → List Value → Rows
 filled r at [] = r
 filled r at (v ∷ vs) = filled (with_slot r at v) (at + 1) vs
+
+-- a list with others in it from a place on
+abbrev pub spliced : {A : Type 0} → List A → ℕ → List A → List A
+spliced xs at ys = take at xs ++ (ys ++ drop (length ys) (drop at xs))
 
 -- what a column shows of a call slot
 abbrev pub call_value : Column → Slot → Value

@@ -5,7 +5,7 @@ ghost use Rattle.lift_spec.specs.Settle.{fields_of, outputs_of};
 ghost use Rattle.lift_spec.specs.Snapshot.{motor_number, number};
 ghost use Rattle.il_image.specs.Image.{filled, call_value, call_values, group_values, car_values, position_value, motor_value, cars_values, role_values, image_values};
 
-use crate::rows::{put, put_all};
+use crate::rows::{put, put_parts};
 use il_exec::rows::Rows;
 use il_run::value::Value;
 use lift_calls::book::CallBook;
@@ -80,15 +80,16 @@ fn write_group(rows: &mut Rows, at: usize, sizes: Sizes, fields: &Fields)
     requires flags { at + 6 ≤ length rows.old.flags }
     ensures { rows.new ≡ filled rows.old at (group_values sizes fields.now) }
 {
-    let values = [
-        Value::Integer(sizes.cars as i64),
-        Value::Integer(sizes.floors as i64),
-        Value::Integer(sizes.slots as i64),
-        Value::Integer(fields.time as i64),
-        Value::Integer(fields.run_limit as i64),
-        Value::Boolean(fields.fire),
+    let numbers = [
+        sizes.cars as i64,
+        sizes.floors as i64,
+        sizes.slots as i64,
+        fields.time as i64,
+        fields.run_limit as i64,
+        0,
     ];
-    put_all(rows, at, &values);
+    let flags = [false, false, false, false, false, fields.fire];
+    put_parts(rows, at, &numbers, &flags);
 }
 
 // Writes what a car's program sees of its car from a slot on.
@@ -97,19 +98,22 @@ fn write_car(rows: &mut Rows, at: usize, car: u8, fields: CarFields, outputs: Ca
     requires flags { at + 10 ≤ length rows.old.flags }
     ensures { rows.new ≡ filled rows.old at (car_values car fields outputs) }
 {
-    let values = [
-        Value::Integer(car as i64),
-        Value::Integer(fields.pos as i64),
-        Value::Boolean(fields.level),
-        Value::Boolean(fields.top),
-        Value::Boolean(fields.bottom),
-        Value::Boolean(fields.locked),
-        Value::Boolean(fields.opened),
-        Value::Integer(motor_number(outputs.motor)),
-        Value::Boolean(outputs.opens),
-        Value::Integer(0),
+    let motor = motor_number(outputs.motor);
+    let serve = 0;
+    let numbers = [car as i64, fields.pos as i64, 0, 0, 0, 0, 0, motor, 0, serve];
+    let flags = [
+        false,
+        false,
+        fields.level,
+        fields.top,
+        fields.bottom,
+        fields.locked,
+        fields.opened,
+        false,
+        outputs.opens,
+        false,
     ];
-    put_all(rows, at, &values);
+    put_parts(rows, at, &numbers, &flags);
 }
 
 // The fields of a car.
