@@ -1,9 +1,9 @@
 // The image, as a task sees it in its rows.
 
-ghost use Rattle.std.specs.Prelude.{◌≡◌, ◌+◌, ◌*◌, ◌≤◌, length, map, replicate};
+ghost use Rattle.std.specs.Prelude.{◌≡◌, ◌+◌, ◌*◌, ◌<◌, ◌≤◌, length, map, replicate};
 ghost use Rattle.lift_spec.specs.Settle.{fields_of, outputs_of};
 ghost use Rattle.lift_spec.specs.Snapshot.{motor_number, number};
-ghost use Rattle.il_image.specs.Image.{filled, call_value, call_values, group_values, car_values, position_value, motor_value, cars_values, role_values, image_values};
+ghost use Rattle.il_image.specs.Image.{filled, call_value, with_call, call_values, group_values, car_values, position_value, motor_value, cars_values, role_values, image_values};
 
 use crate::rows::{put, put_parts};
 use il_exec::rows::Rows;
@@ -48,16 +48,17 @@ fn call_value(column: Column, slot: Slot) -> Value
     }
 }
 
-// Writes a column from a slot on.
-fn write_column(rows: &mut Rows, at: usize, column: Column, calls: &CallBook)
-    requires numbers { at + length calls.now.slots ≤ length rows.old.numbers }
-    requires flags { at + length calls.now.slots ≤ length rows.old.flags }
-    ensures { rows.new ≡ filled rows.old at (map (call_value column) calls.now.slots) }
+// Writes what a program sees of a call slot, so far apart from one column to the next.
+fn write_slot(rows: &mut Rows, at: usize, apart: usize, slot: Slot)
+    requires numbers { at + 3 * apart < length rows.old.numbers }
+    requires flags { at + 3 * apart < length rows.old.flags }
+    ensures { rows.new ≡ with_call rows.old at apart slot }
 {
     let _room = rows.numbers.len();
-    'slots: for index in 0..usize::from(calls.count()) {
-        put(rows, at + index, call_value(column, calls.slot_of(index)));
-    }
+    put(rows, at, call_value(Column::Waits, slot));
+    put(rows, at + apart, call_value(Column::From, slot));
+    put(rows, at + 2 * apart, call_value(Column::To, slot));
+    put(rows, at + 3 * apart, call_value(Column::Car, slot));
 }
 
 // Writes all columns from a slot on.
@@ -68,10 +69,9 @@ fn write_calls(rows: &mut Rows, at: usize, calls: &CallBook)
 {
     let _room = rows.numbers.len();
     let count = usize::from(calls.count());
-    write_column(rows, at, Column::Waits, calls);
-    write_column(rows, at + count, Column::From, calls);
-    write_column(rows, at + 2 * count, Column::To, calls);
-    write_column(rows, at + 3 * count, Column::Car, calls);
+    'slots: for index in 0..count {
+        write_slot(rows, at + index, count, calls.slot_of(index));
+    }
 }
 
 // Writes what each program sees of the group from a slot on.

@@ -1,52 +1,30 @@
-use Rattle.std.proofs.Common.{arith, map, ◌∙◌, ◌+◌, ◌*◌}
-use Rattle.il_image.specs.declared.image.Column.TheVariants.{Waits, From, To}
-use Rattle.il_image.specs.Image.{call_value}
-use Rattle.il_image.proofs.Writing.{same_numbers, same_flags, calls_written}
+use Rattle.std.proofs.Common.{◌≡◌, ◌<◌, ◌≤◌, ◌+◌, ◌∙◌, sym, ap, length, drop, arith}
+use Rattle.std.proofs.lemmas.Option.{get_or_from_slice_get}
+use Rattle.il_slots.specs.Layout.{Rows}
+use Rattle.il_image.specs.Image.{with_call, with_calls}
+use Rattle.il_image.proofs.Columns.{calls_by_slots, one_call_more, no_call_more, call_numbers, call_flags}
 use Rattle.il_image.proofs.image.write_calls.Goals as goal
 
-pub write_column-requires-2-clause-numbers : goal.write_column-requires-2-clause-numbers
-write_column-requires-2-clause-numbers c =
-    let k = c.requires.numbers in
-    let n1 = same_numbers c.args.rows.now c.write_column.new.rows c.args.at (map (call_value Waits) c.args.calls.now.slots) c.write_column.ensures in
-    omega (arith, k, n1, c.from-count.ensures, c.count.ensures.value)
-
-pub write_column-requires-2-clause-flags : goal.write_column-requires-2-clause-flags
-write_column-requires-2-clause-flags c =
-    let k = c.requires.flags in
-    let n1 = same_flags c.args.rows.now c.write_column.new.rows c.args.at (map (call_value Waits) c.args.calls.now.slots) c.write_column.ensures in
-    omega (arith, k, n1, c.from-count.ensures, c.count.ensures.value)
-
-pub write_column-requires-3-clause-numbers : goal.write_column-requires-3-clause-numbers
-write_column-requires-3-clause-numbers c =
-    let k = c.requires.numbers in
-    let n1 = same_numbers c.args.rows.now c.write_column.new.rows c.args.at (map (call_value Waits) c.args.calls.now.slots) c.write_column.ensures in
-    let n2 = same_numbers c.write_column.new.rows c.write_column-2.new.rows (c.args.at + c.from-count.result) (map (call_value From) c.args.calls.now.slots) c.write_column-2.ensures in
-    omega (arith, k, n1, n2, c.from-count.ensures, c.count.ensures.value)
-
-pub write_column-requires-3-clause-flags : goal.write_column-requires-3-clause-flags
-write_column-requires-3-clause-flags c =
-    let k = c.requires.flags in
-    let n1 = same_flags c.args.rows.now c.write_column.new.rows c.args.at (map (call_value Waits) c.args.calls.now.slots) c.write_column.ensures in
-    let n2 = same_flags c.write_column.new.rows c.write_column-2.new.rows (c.args.at + c.from-count.result) (map (call_value From) c.args.calls.now.slots) c.write_column-2.ensures in
-    omega (arith, k, n1, n2, c.from-count.ensures, c.count.ensures.value)
-
-pub write_column-requires-4-clause-numbers : goal.write_column-requires-4-clause-numbers
-write_column-requires-4-clause-numbers c =
-    let k = c.requires.numbers in
-    let n1 = same_numbers c.args.rows.now c.write_column.new.rows c.args.at (map (call_value Waits) c.args.calls.now.slots) c.write_column.ensures in
-    let n2 = same_numbers c.write_column.new.rows c.write_column-2.new.rows (c.args.at + c.from-count.result) (map (call_value From) c.args.calls.now.slots) c.write_column-2.ensures in
-    let n3 = same_numbers c.write_column-2.new.rows c.write_column-3.new.rows (c.args.at + 2 * c.from-count.result) (map (call_value To) c.args.calls.now.slots) c.write_column-3.ensures in
-    omega (arith, k, n1, n2, n3, c.from-count.ensures, c.count.ensures.value)
-
-pub write_column-requires-4-clause-flags : goal.write_column-requires-4-clause-flags
-write_column-requires-4-clause-flags c =
-    let k = c.requires.flags in
-    let n1 = same_flags c.args.rows.now c.write_column.new.rows c.args.at (map (call_value Waits) c.args.calls.now.slots) c.write_column.ensures in
-    let n2 = same_flags c.write_column.new.rows c.write_column-2.new.rows (c.args.at + c.from-count.result) (map (call_value From) c.args.calls.now.slots) c.write_column-2.ensures in
-    let n3 = same_flags c.write_column-2.new.rows c.write_column-3.new.rows (c.args.at + 2 * c.from-count.result) (map (call_value To) c.args.calls.now.slots) c.write_column-3.ensures in
-    omega (arith, k, n1, n2, n3, c.from-count.ensures, c.count.ensures.value)
+pub slots-preserved : goal.slots-preserved
+slots-preserved c =
+    let slots = c.args.calls.now.slots in
+    let i = c.slots.index in
+    let at = c.args.at + i in
+    let count = c.from-count.result in
+    let below : i < length slots = omega (arith, c.slots-test.true, c.from-count.ensures, c.count.ensures.value) in
+    let next : c.args.at + (i + 1) ≡ at + 1 = omega arith in
+    let there = ap (with_call c.slots.rows at count) (sym (get_or_from_slice_get slots i c.slot_of.result c.slot_of.result c.slot_of.ensures)) in
+    record {
+      numbers = ap (λ (rows : Rows). length rows.numbers) c.write_slot.ensures ∙ call_numbers c.slots.rows at count c.slot_of.result ∙ c.slots.invariant.numbers;
+      flags = ap (λ (rows : Rows). length rows.flags) c.write_slot.ensures ∙ call_flags c.slots.rows at count c.slot_of.result ∙ c.slots.invariant.flags;
+      rest = ap (λ n. with_calls c.write_slot.new.rows n count (drop (i + 1) slots)) next
+          ∙ one_call_more c.slots.rows c.write_slot.new.rows at count i slots c.slot_of.result below (c.write_slot.ensures ∙ there) ∙ c.slots.invariant.rest;
+    }
 
 pub returns : goal.returns
 returns c =
-    calls_written c.args.rows.now c.write_column.new.rows c.write_column-2.new.rows c.write_column-3.new.rows c.write_column-4.new.rows c.args.at c.from-count.result c.args.calls.now.slots (c.from-count.ensures ∙ c.count.ensures.value) c.write_column.ensures c.write_column-2.ensures c.write_column-3.ensures
-    c.write_column-4.ensures
+    let slots = c.args.calls.now.slots in
+    let count = c.from-count.result in
+    let is : count ≡ length slots = c.from-count.ensures ∙ c.count.ensures.value in
+    let all : length slots ≤ c.slots.index = omega (arith, is, c.slots-test.false) in
+    sym (no_call_more c.slots.rows (c.args.at + c.slots.index) count c.slots.index slots all) ∙ c.slots.invariant.rest ∙ calls_by_slots c.args.rows.now c.args.at count slots is
