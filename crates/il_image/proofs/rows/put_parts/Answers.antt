@@ -11,5 +11,5 @@ returns c = λ values numbers flags.
     let f = ap length flags in
     let vn = length-map values number_part in
     let vf = length-map values flag_part in
-    ap₂ rows (c.copy_at.ensures ∙ ap (spliced c.args.all.now.numbers c.args.at) (sym numbers)) (c.copy_at-2.ensures ∙ ap (spliced c.args.all.now.flags c.args.at) (sym flags))
+    ap₂ rows (c.copy_at.ensures ∙ ap₂ (λ xs ys. spliced xs c.args.at ys) c.as_mut_slice.ensures.value (sym numbers)) (c.copy_at-2.ensures ∙ ap₂ (λ xs ys. spliced xs c.args.at ys) c.as_mut_slice-2.ensures.value (sym flags))
     ∙ sym (filled_spliced c.args.all.now c.args.at values (omega (arith, n, vn, c.requires.numbers)) (omega (arith, f, vf, c.requires.flags)))
