@@ -32,63 +32,58 @@ abbrev columns : Rows → ℕ → ℕ → List Slot → Rows
 columns r at n ss =
     filled (filled (filled (filled r at (map (call_value Waits) ss)) (at + n) (map (call_value From) ss)) (at + 2 * n) (map (call_value To) ss)) (at + 3 * n) (map (call_value Car) ss)
 
+-- a slot's values before those of the slots behind it
+module _ (at n : ℕ) (s : Slot) (ss : List Slot) where
+  abbrev s1 : Rows → Rows
+  s1 x = with_slot x at (call_value Waits s)
+
+  abbrev s2 : Rows → Rows
+  s2 x = with_slot x (at + n) (call_value From s)
+
+  abbrev s3 : Rows → Rows
+  s3 x = with_slot x (at + 2 * n) (call_value To s)
+
+  abbrev s4 : Rows → Rows
+  s4 x = with_slot x (at + 3 * n) (call_value Car s)
+
+  abbrev f1 : Rows → Rows
+  f1 x = filled x (at + 1) (map (call_value Waits) ss)
+
+  abbrev f2 : Rows → Rows
+  f2 x = filled x (at + 1 + n) (map (call_value From) ss)
+
+  abbrev f3 : Rows → Rows
+  f3 x = filled x (at + 1 + 2 * n) (map (call_value To) ss)
+
+  abbrev f4 : Rows → Rows
+  f4 x = filled x (at + 1 + 3 * n) (map (call_value Car) ss)
+
+  pub grouped : (r : Rows) → suc (length ss) ≤ n → f4 (f3 (f2 (f1 (s4 (s3 (s2 (s1 r))))))) ≡ columns r at n (s ∷ ss)
+  grouped r h =
+      let e2 : at + 1 + n ≡ at + n + 1 = omega arith in
+      let e3 : at + 1 + 2 * n ≡ at + 2 * n + 1 = omega arith in
+      let e4 : at + 1 + 3 * n ≡ at + 3 * n + 1 = omega arith in
+      let lw = length-map ss (call_value Waits) in
+      let lf = length-map ss (call_value From) in
+      let lt = length-map ss (call_value To) in
+      let first : f1 (s4 (s3 (s2 (s1 r)))) ≡ s4 (s3 (s2 (f1 (s1 r)))) =
+      before (s3 (s2 (s1 r))) (at + 3 * n) (at + 1) (length ss) (call_value Car s) (map (call_value Waits) ss) lw (omega (arith, h))
+      ∙ ap s4
+      (before (s2 (s1 r)) (at + 2 * n) (at + 1) (length ss) (call_value To s) (map (call_value Waits) ss) lw (omega (arith, h))
+      ∙ ap s3 (before (s1 r) (at + n) (at + 1) (length ss) (call_value From s) (map (call_value Waits) ss) lw (omega (arith, h)))) in
+      let second : f2 (s4 (s3 (s2 (f1 (s1 r))))) ≡ s4 (s3 (f2 (s2 (f1 (s1 r))))) =
+      before (s3 (s2 (f1 (s1 r)))) (at + 3 * n) (at + 1 + n) (length ss) (call_value Car s) (map (call_value From) ss) lf (omega (arith, h))
+      ∙ ap s4 (before (s2 (f1 (s1 r))) (at + 2 * n) (at + 1 + n) (length ss) (call_value To s) (map (call_value From) ss) lf (omega (arith, h))) in
+      let third : f3 (s4 (s3 (f2 (s2 (f1 (s1 r)))))) ≡ s4 (f3 (s3 (f2 (s2 (f1 (s1 r)))))) =
+      before (s3 (f2 (s2 (f1 (s1 r))))) (at + 3 * n) (at + 1 + 2 * n) (length ss) (call_value Car s) (map (call_value To) ss) lt (omega (arith, h)) in
+      ap (λ x. f4 (f3 (f2 x))) first ∙ ap (λ x. f4 (f3 x)) second ∙ ap f4 third
+      ∙ ap (λ i. filled (s4 (f3 (s3 (f2 (s2 (f1 (s1 r))))))) i (map (call_value Car) ss)) e4
+      ∙ ap (λ i. filled (s4 (filled (s3 (f2 (s2 (f1 (s1 r))))) i (map (call_value To) ss))) (at + 3 * n + 1) (map (call_value Car) ss)) e3
+      ∙ ap (λ i. filled (s4 (filled (s3 (filled (s2 (f1 (s1 r))) i (map (call_value From) ss))) (at + 2 * n + 1) (map (call_value To) ss))) (at + 3 * n + 1) (map (call_value Car) ss)) e2
+
 by_columns : (r : Rows) (at n : ℕ) (ss : List Slot) → length ss ≤ n → with_calls r at n ss ≡ columns r at n ss
 by_columns r at n [] h = refl
-by_columns r at n (s ∷ ss) h =
-    by_columns (with_call r at n s) (at + 1) n ss (omega (arith, h))
-    ∙ ap (λ x. f4 (f3 (f2 x))) first ∙ ap (λ x. f4 (f3 x)) second ∙ ap f4 third ∙ fourth
-    ∙ ap₂ (λ i x. filled x i (map (call_value Car) ss)) e4 (ap (s4) (ap₂ (λ i x. filled x i (map (call_value To) ss)) e3 (ap (s3) (ap (λ i. filled (s2 (f1 (s1 r))) i (map (call_value From) ss)) e2))))
-  where
-    abbrev s1 : Rows → Rows
-    s1 x = with_slot x at (call_value Waits s)
-
-    abbrev s2 : Rows → Rows
-    s2 x = with_slot x (at + n) (call_value From s)
-
-    abbrev s3 : Rows → Rows
-    s3 x = with_slot x (at + 2 * n) (call_value To s)
-
-    abbrev s4 : Rows → Rows
-    s4 x = with_slot x (at + 3 * n) (call_value Car s)
-
-    abbrev f1 : Rows → Rows
-    f1 x = filled x (at + 1) (map (call_value Waits) ss)
-
-    abbrev f2 : Rows → Rows
-    f2 x = filled x (at + 1 + n) (map (call_value From) ss)
-
-    abbrev f3 : Rows → Rows
-    f3 x = filled x (at + 1 + 2 * n) (map (call_value To) ss)
-
-    abbrev f4 : Rows → Rows
-    f4 x = filled x (at + 1 + 3 * n) (map (call_value Car) ss)
-
-    e2 : at + 1 + n ≡ at + n + 1
-    e2 = omega arith
-
-    e3 : at + 1 + 2 * n ≡ at + 2 * n + 1
-    e3 = omega arith
-
-    e4 : at + 1 + 3 * n ≡ at + 3 * n + 1
-    e4 = omega arith
-
-    first : f1 (s4 (s3 (s2 (s1 r)))) ≡ s4 (s3 (s2 (f1 (s1 r))))
-    first =
-        before (s3 (s2 (s1 r))) (at + 3 * n) (at + 1) (length ss) (call_value Car s) (map (call_value Waits) ss) (length-map ss (call_value Waits)) (omega (arith, h))
-        ∙ ap s4
-        (before (s2 (s1 r)) (at + 2 * n) (at + 1) (length ss) (call_value To s) (map (call_value Waits) ss) (length-map ss (call_value Waits)) (omega (arith, h))
-        ∙ ap s3 (before (s1 r) (at + n) (at + 1) (length ss) (call_value From s) (map (call_value Waits) ss) (length-map ss (call_value Waits)) (omega (arith, h))))
-
-    second : f2 (s4 (s3 (s2 (f1 (s1 r))))) ≡ s4 (s3 (f2 (s2 (f1 (s1 r)))))
-    second =
-        before (s3 (s2 (f1 (s1 r)))) (at + 3 * n) (at + 1 + n) (length ss) (call_value Car s) (map (call_value From) ss) (length-map ss (call_value From)) (omega (arith, h))
-        ∙ ap s4 (before (s2 (f1 (s1 r))) (at + 2 * n) (at + 1 + n) (length ss) (call_value To s) (map (call_value From) ss) (length-map ss (call_value From)) (omega (arith, h)))
-
-    third : f3 (s4 (s3 (f2 (s2 (f1 (s1 r)))))) ≡ s4 (f3 (s3 (f2 (s2 (f1 (s1 r))))))
-    third = before (s3 (f2 (s2 (f1 (s1 r))))) (at + 3 * n) (at + 1 + 2 * n) (length ss) (call_value Car s) (map (call_value To) ss) (length-map ss (call_value To)) (omega (arith, h))
-
-    fourth : f4 (s4 (f3 (s3 (f2 (s2 (f1 (s1 r))))))) ≡ filled (s4 (filled (s3 (filled (s2 (f1 (s1 r))) (at + 1 + n) (map (call_value From) ss))) (at + 1 + 2 * n) (map (call_value To) ss))) (at + 1 + 3 * n) (map (call_value Car) ss)
-    fourth = refl
+by_columns r at n (s ∷ ss) h = by_columns (with_call r at n s) (at + 1) n ss (omega (arith, h)) ∙ grouped at n s ss r h
 
 -- slot after slot
 pub calls_by_slots : (r : Rows) (at n : ℕ) (slots : List Slot) → n ≡ length slots → with_calls r at n slots ≡ filled r at (call_values slots)

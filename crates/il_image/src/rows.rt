@@ -2,7 +2,7 @@
 
 ghost use Rattle.std.specs.Prelude.{◌≡◌, ◌+◌, ◌<◌, ◌≤◌, List, length, map};
 ghost use Rattle.il_run.specs.declared.value.Value.{Value as Written};
-ghost use Rattle.il_slots.specs.Layout.{number_part, flag_part};
+ghost use Rattle.il_slots.specs.Layout.{rows, number_part, flag_part};
 ghost use Rattle.il_image.specs.Image.{with_slot, filled, spliced};
 
 use il_exec::rows::Rows;
@@ -36,6 +36,16 @@ pub fn put(all: &mut Rows, at: usize, value: Value)
 {
     all.numbers[at] = number_part(value);
     all.flags[at] = flag_part(value);
+}
+
+/// The same in two rows.
+pub fn put_at(numbers: &mut [i64], flags: &mut [bool], at: usize, value: Value)
+    requires numbers { at < length numbers.old }
+    requires flags { at < length flags.old }
+    ensures { rows numbers.new flags.new ≡ with_slot (rows numbers.old flags.old) at value }
+{
+    numbers[at] = number_part(value);
+    flags[at] = flag_part(value);
 }
 
 // Copies numbers or Booleans into a row from a slot on.
