@@ -6,6 +6,7 @@ mod controller;
 mod group;
 mod replies;
 mod shared;
+mod taking;
 mod tickets;
 mod world;
 

@@ -17,7 +17,8 @@ ghost use Rattle.lift_spec.specs.World.{InRanges, flat, opening_task, opening_ta
 ghost use Rattle.lift_world.specs.Running.{seat_at, task_in, seated, tasks_in, group_in, is_open, SharedFits, with_seat, HasOpenScan, Commits};
 ghost use Rattle.il_machine.specs.Sharing.{globals_in, FitsGlobals};
 
-use crate::calling::{clear, denials_of, enter_all, serve, tell_all};
+use crate::calling::{clear, enter_all, report_denials, serve, tell_all};
+use crate::taking::{take_fields, take_outputs};
 use crate::tickets::Tickets;
 use il_machine::{Begin, FirstRows, Rows, Store, Value, Verified, opening_image, variable};
 use lift_calls::book::CallBook;
@@ -165,8 +166,8 @@ fn settle(image: &mut Image, car: u8, motor: Motor, opens: bool, report: &mut Re
     let _room = image.outputs.len();
     let settled = settle_car(image, car, motor, opens);
     image.outputs.set(usize::from(car - 1), settled.outputs);
-    report.outputs = image.outputs.copied();
-    report.denials = denials_of(car, settled.denials.as_slice());
+    take_outputs(&mut report.outputs, &image.outputs);
+    report_denials(&mut report.denials, car, settled.denials.as_slice());
     clear(&mut report.entered);
 }
 
@@ -322,7 +323,7 @@ impl Shared {
             &mut report.answers,
         );
         self.close(verified, 0, store);
-        report.outputs = self.image.outputs.copied();
+        take_outputs(&mut report.outputs, &self.image.outputs);
         clear(&mut report.denials);
         clear(&mut report.entered);
     }
@@ -351,11 +352,9 @@ impl Shared {
     {
         let settled = settle_all(&self.image.outputs, fields);
         enter_all(&mut self.calls, hand, &mut report.entered);
-        self.image = Image {
-            fields: fields.copied(),
-            outputs: settled.outputs.copied(),
-        };
-        report.outputs = settled.outputs;
+        take_fields(&mut self.image.fields, fields);
+        take_outputs(&mut self.image.outputs, &settled.outputs);
+        take_outputs(&mut report.outputs, &settled.outputs);
         report.denials = settled.denials;
         clear(&mut report.answers);
     }
