@@ -59,6 +59,17 @@ fn copy_at<T: Copy>(row: &mut [T], at: usize, some: &[T])
     front.copy_from_slice(some);
 }
 
+// Copies numbers and Booleans into rows from a slot on.
+#[inline(always)]
+fn copy_parts(all: &mut Rows, at: usize, numbers: &[i64], flags: &[bool])
+    requires numbers { at + length numbers.now ≤ length all.old.numbers }
+    requires flags { at + length flags.now ≤ length all.old.flags }
+    ensures { all.new ≡ rows (spliced all.old.numbers at numbers.now) (spliced all.old.flags at flags.now) }
+{
+    copy_at(all.numbers.as_mut_slice(), at, numbers);
+    copy_at(all.flags.as_mut_slice(), at, flags);
+}
+
 /// Gives slots from one on values: what the two rows keep of each.
 #[inline(always)]
 pub fn put_parts(all: &mut Rows, at: usize, numbers: &[i64], flags: &[bool])
@@ -66,6 +77,5 @@ pub fn put_parts(all: &mut Rows, at: usize, numbers: &[i64], flags: &[bool])
     requires flags { at + length flags.now ≤ length all.old.flags }
     ensures { (values : List Written) → map number_part values ≡ numbers.now → map flag_part values ≡ flags.now → all.new ≡ filled all.old at values }
 {
-    copy_at(all.numbers.as_mut_slice(), at, numbers);
-    copy_at(all.flags.as_mut_slice(), at, flags);
+    copy_parts(all, at, numbers, flags);
 }
