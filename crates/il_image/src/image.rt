@@ -58,7 +58,12 @@ fn write_slot(numbers: &mut [i64], flags: &mut [bool], at: usize, apart: usize, 
     put_at(numbers, flags, at, call_value(Column::Waits, slot));
     put_at(numbers, flags, at + apart, call_value(Column::From, slot));
     put_at(numbers, flags, at + 2 * apart, call_value(Column::To, slot));
-    put_at(numbers, flags, at + 3 * apart, call_value(Column::Car, slot));
+    put_at(
+        numbers,
+        flags,
+        at + 3 * apart,
+        call_value(Column::Car, slot),
+    );
 }
 
 // Writes all columns from a slot on, slot after slot.
@@ -113,7 +118,18 @@ fn write_car(rows: &mut Rows, at: usize, car: u8, fields: CarFields, outputs: Ca
 {
     let motor = motor_number(outputs.motor);
     let serve = 0;
-    let numbers = [car as i64, fields.pos as i64, 0, 0, 0, 0, 0, motor, 0, serve];
+    let numbers = [
+        car as i64,
+        fields.pos as i64,
+        0,
+        0,
+        0,
+        0,
+        0,
+        motor,
+        0,
+        serve,
+    ];
     let flags = [
         false,
         false,
