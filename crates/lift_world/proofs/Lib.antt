@@ -11,4 +11,3 @@ pub mod Finishing
 pub mod Replying
 pub mod Happening
 pub mod Alone
-pub mod Taking

@@ -327,6 +327,7 @@ impl Controller {
     }
 
     /// One event. The report is written by a commit and by a refresh alone.
+    #[inline(always)]
     pub fn happen(&mut self, event: &Event, report: &mut Report) -> Reply
         requires { IsController self.old }
         ensures model { model.happens self.old.verified.config (world_in self.old) event.now ≡ Ok (world_in self.new, reply_with result report.new) }
