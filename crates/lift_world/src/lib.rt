@@ -4,6 +4,7 @@
 mod calling;
 mod controller;
 mod group;
+mod held;
 mod replies;
 mod shared;
 mod taking;

@@ -11,7 +11,7 @@ ghost use Rattle.il_machine.specs.Scanning.{FitsOwn, OwnsDeclared, variables_in}
 ghost use Rattle.il_machine.specs.Standing.{IsOf};
 ghost use Rattle.lift_spec.specs.Image.{sizes_of, FieldsInRange};
 ghost use Rattle.lift_spec.specs.Calls.{ticket_of, enter_all, SlotInRange};
-ghost use Rattle.lift_spec.specs.Settle.{settled_car, with_outputs, denials_of};
+ghost use Rattle.lift_spec.specs.Settle.{settled_car, settled_all, with_outputs, denials_of};
 ghost use Rattle.lift_spec.specs.Snapshot.{scan_begins, program_of, written_globals};
 ghost use Rattle.lift_spec.specs.World.{InRanges, flat, opening_task, opening_tasks_from, opening_group, beginning_of, refreshed_group};
 ghost use Rattle.lift_world.specs.Running.{seat_at, task_in, seated, tasks_in, group_in, is_open, SharedFits, with_seat, HasOpenScan, Commits};
@@ -169,6 +169,20 @@ fn settle(image: &mut Image, car: u8, motor: Motor, opens: bool, report: &mut Re
     take_outputs(&mut report.outputs, &image.outputs);
     report_denials(&mut report.denials, car, settled.denials.as_slice());
     clear(&mut report.entered);
+}
+
+// The image takes fields of as many cars, and the outputs of all are settled under them, and reported.
+fn settle_cars(image: &mut Image, fields: &Fields, report: &mut Report)
+    requires { length image.old.outputs ≡ length fields.now.cars }
+    ensures image { image.new ≡ record { fields = fields.now; outputs = (settled_all image.old.outputs fields.now).outputs } }
+    ensures report { report.new ≡ record { outputs = (settled_all image.old.outputs fields.now).outputs; denials = (settled_all image.old.outputs fields.now).denials; answers = []; entered = report.old.entered } }
+{
+    let settled = settle_all(&image.outputs, fields);
+    take_fields(&mut image.fields, fields);
+    take_outputs(&mut image.outputs, &settled.outputs);
+    take_outputs(&mut report.outputs, &settled.outputs);
+    report.denials = settled.denials;
+    clear(&mut report.answers);
 }
 
 impl Shared {
@@ -350,12 +364,18 @@ impl Shared {
         ensures seats { self.new.seats ≡ self.old.seats }
         ensures globals { self.new.globals ≡ self.old.globals }
     {
-        let settled = settle_all(&self.image.outputs, fields);
+        settle_cars(&mut self.image, fields, report);
         enter_all(&mut self.calls, hand, &mut report.entered);
-        take_fields(&mut self.image.fields, fields);
-        take_outputs(&mut self.image.outputs, &settled.outputs);
-        take_outputs(&mut report.outputs, &settled.outputs);
-        report.denials = settled.denials;
-        clear(&mut report.answers);
+    }
+
+    /// The image takes fields of as many cars, and the outputs are settled under them. No call is in the hand.
+    pub fn refresh_alone(&mut self, fields: &Fields, report: &mut Report)
+        requires cars { length self.old.image.outputs ≡ length fields.now.cars }
+        ensures group { (c : ConfigOf) → refreshed_group (group_in c self.old) fields.now [] ≡ (group_in c self.new, report.new) }
+        ensures seats { self.new.seats ≡ self.old.seats }
+        ensures globals { self.new.globals ≡ self.old.globals }
+    {
+        settle_cars(&mut self.image, fields, report);
+        clear(&mut report.entered);
     }
 }
