@@ -36,12 +36,21 @@ fn are_same(outputs: &[CarOutputs], others: &[CarOutputs]) -> bool
     true
 }
 
+// Copies the outputs of all cars.
+#[inline(never)]
+fn copy_outputs(outputs: &mut Outputs, others: &Outputs)
+    ensures { outputs.new ≡ others.now }
+{
+    *outputs = others.copied();
+}
+
 /// Takes over the outputs of all cars. Nothing is copied where they are the same.
+#[inline(always)]
 pub fn take_outputs(outputs: &mut Outputs, others: &Outputs)
     ensures { outputs.new ≡ others.now }
 {
     if !are_same(outputs.as_slice(), others.as_slice()) {
-        *outputs = others.copied();
+        copy_outputs(outputs, others);
     }
 }
 
