@@ -1,1 +1,3 @@
 pub mod Writing
+pub mod Splicing
+pub mod Columns

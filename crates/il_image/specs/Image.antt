@@ -1,5 +1,5 @@
 -- The image in the rows of a task (own rules).
-use Rattle.std.specs.Prelude.{ℕ, zero, suc, ◌+◌, List, replicate, [], ◌∷◌, ◌++◌, map, set}
+use Rattle.std.specs.Prelude.{ℕ, zero, suc, ◌+◌, ◌*◌, List, replicate, [], ◌∷◌, ◌++◌, map, set, take, drop, length}
 use Rattle.il_run.specs.declared.value.Value.{Value}
 use Rattle.il_run.specs.declared.value.Value.TheVariants.{Boolean, Integer}
 use Rattle.il_slots.specs.Layout.{Rows, rows, number_part, flag_part}
@@ -23,12 +23,26 @@ abbrev pub filled : Rows → ℕ → List Value → Rows
 filled r at [] = r
 filled r at (v ∷ vs) = filled (with_slot r at v) (at + 1) vs
 
+-- a list with others in it from a place on
+abbrev pub spliced : {A : Type 0} → List A → ℕ → List A → List A
+spliced xs at ys = take at xs ++ (ys ++ drop (length ys) (drop at xs))
+
 -- what a column shows of a call slot
 abbrev pub call_value : Column → Slot → Value
 call_value Waits s = Boolean (waits s)
 call_value From s = number (from_of s)
 call_value To s = number (to_of s)
 call_value Car s = number (car_of s)
+
+-- rows with what a program sees of a call slot, so far apart from one column to the next
+abbrev pub with_call : Rows → ℕ → ℕ → Slot → Rows
+with_call r at apart s =
+    with_slot (with_slot (with_slot (with_slot r at (call_value Waits s)) (at + apart) (call_value From s)) (at + 2 * apart) (call_value To s)) (at + 3 * apart) (call_value Car s)
+
+-- with that of slots one behind the other
+abbrev pub with_calls : Rows → ℕ → ℕ → List Slot → Rows
+with_calls r at apart [] = r
+with_calls r at apart (s ∷ ss) = with_calls (with_call r at apart s) (at + 1) apart ss
 
 -- all columns
 abbrev pub call_values : List Slot → List Value

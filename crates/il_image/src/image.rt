@@ -1,11 +1,12 @@
 // The image, as a task sees it in its rows.
 
-ghost use Rattle.std.specs.Prelude.{◌≡◌, ◌+◌, ◌*◌, ◌≤◌, length, map, replicate};
+ghost use Rattle.std.specs.Prelude.{◌≡◌, ◌+◌, ◌*◌, ◌<◌, ◌≤◌, length, map, replicate};
+ghost use Rattle.il_slots.specs.Layout.{rows};
 ghost use Rattle.lift_spec.specs.Settle.{fields_of, outputs_of};
 ghost use Rattle.lift_spec.specs.Snapshot.{motor_number, number};
-ghost use Rattle.il_image.specs.Image.{filled, call_value, call_values, group_values, car_values, position_value, motor_value, cars_values, role_values, image_values};
+ghost use Rattle.il_image.specs.Image.{filled, call_value, with_call, call_values, group_values, car_values, position_value, motor_value, cars_values, role_values, image_values};
 
-use crate::rows::{put, put_all};
+use crate::rows::{put, put_at, put_parts};
 use il_exec::rows::Rows;
 use il_run::value::Value;
 use lift_calls::book::CallBook;
@@ -48,30 +49,47 @@ fn call_value(column: Column, slot: Slot) -> Value
     }
 }
 
-// Writes a column from a slot on.
-fn write_column(rows: &mut Rows, at: usize, column: Column, calls: &CallBook)
-    requires numbers { at + length calls.now.slots ≤ length rows.old.numbers }
-    requires flags { at + length calls.now.slots ≤ length rows.old.flags }
-    ensures { rows.new ≡ filled rows.old at (map (call_value column) calls.now.slots) }
+// Writes what a program sees of a call slot, so far apart from one column to the next.
+fn write_slot(numbers: &mut [i64], flags: &mut [bool], at: usize, apart: usize, slot: Slot)
+    requires numbers { at + 3 * apart < length numbers.old }
+    requires flags { at + 3 * apart < length flags.old }
+    ensures { rows numbers.new flags.new ≡ with_call (rows numbers.old flags.old) at apart slot }
 {
-    let _room = rows.numbers.len();
-    'slots: for index in 0..usize::from(calls.count()) {
-        put(rows, at + index, call_value(column, calls.slot_of(index)));
+    put_at(numbers, flags, at, call_value(Column::Waits, slot));
+    put_at(numbers, flags, at + apart, call_value(Column::From, slot));
+    put_at(numbers, flags, at + 2 * apart, call_value(Column::To, slot));
+    put_at(
+        numbers,
+        flags,
+        at + 3 * apart,
+        call_value(Column::Car, slot),
+    );
+}
+
+// Writes all columns from a slot on, slot after slot.
+fn write_columns(numbers: &mut [i64], flags: &mut [bool], at: usize, calls: &CallBook)
+    requires numbers { at + 4 * length calls.now.slots ≤ length numbers.old }
+    requires flags { at + 4 * length calls.now.slots ≤ length flags.old }
+    ensures { rows numbers.new flags.new ≡ filled (rows numbers.old flags.old) at (call_values calls.now.slots) }
+{
+    let count = usize::from(calls.count());
+    'slots: for index in 0..count {
+        write_slot(numbers, flags, at + index, count, calls.slot_of(index));
     }
 }
 
-// Writes all columns from a slot on.
+// Writes what a program sees of the calls from a slot on.
 fn write_calls(rows: &mut Rows, at: usize, calls: &CallBook)
     requires numbers { at + 4 * length calls.now.slots ≤ length rows.old.numbers }
     requires flags { at + 4 * length calls.now.slots ≤ length rows.old.flags }
     ensures { rows.new ≡ filled rows.old at (call_values calls.now.slots) }
 {
-    let _room = rows.numbers.len();
-    let count = usize::from(calls.count());
-    write_column(rows, at, Column::Waits, calls);
-    write_column(rows, at + count, Column::From, calls);
-    write_column(rows, at + 2 * count, Column::To, calls);
-    write_column(rows, at + 3 * count, Column::Car, calls);
+    write_columns(
+        rows.numbers.as_mut_slice(),
+        rows.flags.as_mut_slice(),
+        at,
+        calls,
+    );
 }
 
 // Writes what each program sees of the group from a slot on.
@@ -80,15 +98,16 @@ fn write_group(rows: &mut Rows, at: usize, sizes: Sizes, fields: &Fields)
     requires flags { at + 6 ≤ length rows.old.flags }
     ensures { rows.new ≡ filled rows.old at (group_values sizes fields.now) }
 {
-    let values = [
-        Value::Integer(sizes.cars as i64),
-        Value::Integer(sizes.floors as i64),
-        Value::Integer(sizes.slots as i64),
-        Value::Integer(fields.time as i64),
-        Value::Integer(fields.run_limit as i64),
-        Value::Boolean(fields.fire),
+    let numbers = [
+        sizes.cars as i64,
+        sizes.floors as i64,
+        sizes.slots as i64,
+        fields.time as i64,
+        fields.run_limit as i64,
+        0,
     ];
-    put_all(rows, at, &values);
+    let flags = [false, false, false, false, false, fields.fire];
+    put_parts(rows, at, &numbers, &flags);
 }
 
 // Writes what a car's program sees of its car from a slot on.
@@ -97,19 +116,33 @@ fn write_car(rows: &mut Rows, at: usize, car: u8, fields: CarFields, outputs: Ca
     requires flags { at + 10 ≤ length rows.old.flags }
     ensures { rows.new ≡ filled rows.old at (car_values car fields outputs) }
 {
-    let values = [
-        Value::Integer(car as i64),
-        Value::Integer(fields.pos as i64),
-        Value::Boolean(fields.level),
-        Value::Boolean(fields.top),
-        Value::Boolean(fields.bottom),
-        Value::Boolean(fields.locked),
-        Value::Boolean(fields.opened),
-        Value::Integer(motor_number(outputs.motor)),
-        Value::Boolean(outputs.opens),
-        Value::Integer(0),
+    let motor = motor_number(outputs.motor);
+    let serve = 0;
+    let numbers = [
+        car as i64,
+        fields.pos as i64,
+        0,
+        0,
+        0,
+        0,
+        0,
+        motor,
+        0,
+        serve,
     ];
-    put_all(rows, at, &values);
+    let flags = [
+        false,
+        false,
+        fields.level,
+        fields.top,
+        fields.bottom,
+        fields.locked,
+        fields.opened,
+        false,
+        outputs.opens,
+        false,
+    ];
+    put_parts(rows, at, &numbers, &flags);
 }
 
 // The fields of a car.

@@ -26,6 +26,7 @@ pub fn taken(world: &mut World, event: &Event, report: &mut Report) -> Result<()
 }
 
 /// The rest of a task's open scan, and its commit; refused where there is no instruction to run.
+#[inline(always)]
 pub fn finish_and_commit(world: &mut World, task: u8, report: &mut Report) -> Result<(), EventFault>
     ensures taken { OnOk result (FinishesAndCommits world.old.program.config task world.old.world world.new.world) }
     ensures refused { IfErr result (λ fault. (world.new.world ≡ world.old.world) × (happens world.old.program.config world.old.world (Instruction task) ≡ Ok (world.old.world, Refused fault))) }

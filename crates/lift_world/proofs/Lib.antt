@@ -11,3 +11,4 @@ pub mod Finishing
 pub mod Replying
 pub mod Happening
 pub mod Alone
+pub mod Handing

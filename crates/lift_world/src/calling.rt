@@ -20,16 +20,15 @@ pub fn clear<T: Drop + Default, const N: usize>(row: &mut Bounded<T, N>)
     }
 }
 
-/// The denials of a car.
-pub fn denials_of(car: u8, rules: &[Rule]) -> Bounded<Denial, 16>
+/// The denials of a car, in place of those before.
+pub fn report_denials(denials: &mut Bounded<Denial, 16>, car: u8, rules: &[Rule])
     requires { length rules.now ≤ 16 }
-    ensures { result ≡ denials_of car rules.now }
+    ensures { denials.new ≡ denials_of car rules.now }
 {
-    let mut denials = Bounded::new();
+    clear(denials);
     'rules: for rule in rules {
         denials.push(Denial { car, rule: *rule });
     }
-    denials
 }
 
 /// What a car serves: the call in the slot of its wish, under the ticket that its scan saw.

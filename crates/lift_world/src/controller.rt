@@ -17,6 +17,7 @@ ghost use Rattle.lift_world.specs.Groups.{StoresFit};
 ghost use Rattle.lift_world.specs.Worlds.{world_in, IsController, Steps, RunsOut};
 
 use crate::group::Core;
+use crate::held::{Held, refresh};
 use crate::replies::Replies;
 use il_machine::{Stepped, Store, Value, Verified, finish, step};
 use il_spec::pair::both;
@@ -35,7 +36,7 @@ pub struct Controller {
     pub core: Core,
     pub stores: Vec<Option<Store>>,
     pub desk: Hand,
-    pub hand: Hand,
+    pub hand: Held,
 }
 
 // A store for a task, if the group has it.
@@ -169,7 +170,7 @@ impl Controller {
             core: opened.core,
             stores: opened.stores,
             desk: Hand::new(),
-            hand: Hand::new(),
+            hand: Held::new(),
         }
     }
 
@@ -281,7 +282,7 @@ impl Controller {
         if !in_range(fields, self.verified.sizes()) {
             return Reply::Refused(EventFault::FieldOutOfRange);
         }
-        self.core.refresh(fields, &mut self.hand, report);
+        refresh(&mut self.core, fields, &mut self.hand, report);
         Reply::Refreshed
     }
 
@@ -323,10 +324,11 @@ impl Controller {
         if self.hand.has_from(floor) {
             return Reply::Held;
         }
-        Reply::Gathered(self.desk.move_from(floor, &mut self.hand))
+        Reply::Gathered(self.hand.take_from(floor, &mut self.desk))
     }
 
     /// One event. The report is written by a commit and by a refresh alone.
+    #[inline(always)]
     pub fn happen(&mut self, event: &Event, report: &mut Report) -> Reply
         requires { IsController self.old }
         ensures model { model.happens self.old.verified.config (world_in self.old) event.now ≡ Ok (world_in self.new, reply_with result report.new) }

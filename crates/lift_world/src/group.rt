@@ -159,4 +159,13 @@ impl Core {
         hand.in_order();
         self.shared.refresh(fields, hand, report);
     }
+
+    /// The same where no call is in the hand.
+    pub(crate) fn refresh_alone(&mut self, fields: &Fields, report: &mut Report)
+        requires { FieldsInRange (sizes_of self.old.config) fields.now }
+        ensures config { self.new.config ≡ self.old.config }
+        ensures group { refreshed_group self.old.group fields.now [] ≡ (self.new.group, report.new) }
+    {
+        self.shared.refresh_alone(fields, report);
+    }
 }

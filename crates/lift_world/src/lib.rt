@@ -4,8 +4,10 @@
 mod calling;
 mod controller;
 mod group;
+mod held;
 mod replies;
 mod shared;
+mod taking;
 mod tickets;
 mod world;
 

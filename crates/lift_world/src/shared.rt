@@ -11,13 +11,14 @@ ghost use Rattle.il_machine.specs.Scanning.{FitsOwn, OwnsDeclared, variables_in}
 ghost use Rattle.il_machine.specs.Standing.{IsOf};
 ghost use Rattle.lift_spec.specs.Image.{sizes_of, FieldsInRange};
 ghost use Rattle.lift_spec.specs.Calls.{ticket_of, enter_all, SlotInRange};
-ghost use Rattle.lift_spec.specs.Settle.{settled_car, with_outputs, denials_of};
+ghost use Rattle.lift_spec.specs.Settle.{settled_car, settled_all, with_outputs, denials_of};
 ghost use Rattle.lift_spec.specs.Snapshot.{scan_begins, program_of, written_globals};
 ghost use Rattle.lift_spec.specs.World.{InRanges, flat, opening_task, opening_tasks_from, opening_group, beginning_of, refreshed_group};
 ghost use Rattle.lift_world.specs.Running.{seat_at, task_in, seated, tasks_in, group_in, is_open, SharedFits, with_seat, HasOpenScan, Commits};
 ghost use Rattle.il_machine.specs.Sharing.{globals_in, FitsGlobals};
 
-use crate::calling::{clear, denials_of, enter_all, serve, tell_all};
+use crate::calling::{clear, enter_all, report_denials, serve, tell_all};
+use crate::taking::{take_fields, take_outputs};
 use crate::tickets::Tickets;
 use il_machine::{Begin, FirstRows, Rows, Store, Value, Verified, opening_image, variable};
 use lift_calls::book::CallBook;
@@ -165,9 +166,23 @@ fn settle(image: &mut Image, car: u8, motor: Motor, opens: bool, report: &mut Re
     let _room = image.outputs.len();
     let settled = settle_car(image, car, motor, opens);
     image.outputs.set(usize::from(car - 1), settled.outputs);
-    report.outputs = image.outputs.copied();
-    report.denials = denials_of(car, settled.denials.as_slice());
+    take_outputs(&mut report.outputs, &image.outputs);
+    report_denials(&mut report.denials, car, settled.denials.as_slice());
     clear(&mut report.entered);
+}
+
+// The image takes fields of as many cars, and the outputs of all are settled under them, and reported.
+fn settle_cars(image: &mut Image, fields: &Fields, report: &mut Report)
+    requires { length image.old.outputs ≡ length fields.now.cars }
+    ensures image { image.new ≡ record { fields = fields.now; outputs = (settled_all image.old.outputs fields.now).outputs } }
+    ensures report { report.new ≡ record { outputs = (settled_all image.old.outputs fields.now).outputs; denials = (settled_all image.old.outputs fields.now).denials; answers = []; entered = report.old.entered } }
+{
+    let settled = settle_all(&image.outputs, fields);
+    take_fields(&mut image.fields, fields);
+    take_outputs(&mut image.outputs, &settled.outputs);
+    take_outputs(&mut report.outputs, &settled.outputs);
+    report.denials = settled.denials;
+    clear(&mut report.answers);
 }
 
 impl Shared {
@@ -322,7 +337,7 @@ impl Shared {
             &mut report.answers,
         );
         self.close(verified, 0, store);
-        report.outputs = self.image.outputs.copied();
+        take_outputs(&mut report.outputs, &self.image.outputs);
         clear(&mut report.denials);
         clear(&mut report.entered);
     }
@@ -349,14 +364,18 @@ impl Shared {
         ensures seats { self.new.seats ≡ self.old.seats }
         ensures globals { self.new.globals ≡ self.old.globals }
     {
-        let settled = settle_all(&self.image.outputs, fields);
+        settle_cars(&mut self.image, fields, report);
         enter_all(&mut self.calls, hand, &mut report.entered);
-        self.image = Image {
-            fields: fields.copied(),
-            outputs: settled.outputs.copied(),
-        };
-        report.outputs = settled.outputs;
-        report.denials = settled.denials;
-        clear(&mut report.answers);
+    }
+
+    /// The image takes fields of as many cars, and the outputs are settled under them. No call is in the hand.
+    pub fn refresh_alone(&mut self, fields: &Fields, report: &mut Report)
+        requires cars { length self.old.image.outputs ≡ length fields.now.cars }
+        ensures group { (c : ConfigOf) → refreshed_group (group_in c self.old) fields.now [] ≡ (group_in c self.new, report.new) }
+        ensures seats { self.new.seats ≡ self.old.seats }
+        ensures globals { self.new.globals ≡ self.old.globals }
+    {
+        settle_cars(&mut self.image, fields, report);
+        clear(&mut report.entered);
     }
 }

@@ -68,6 +68,7 @@ impl World {
 
     /// One event. The report is written by a commit and by a refresh that are done, and by nothing else. An event that is refused
     /// changes nothing.
+    #[inline(always)]
     pub fn apply(&mut self, event: &Event, report: &mut Report) -> Reply
         ensures model { model.happens self.old.program.config self.old.world event.now ≡ Ok (self.new.world, reply_with result report.new) }
         ensures kept { reports_by result ≡ 0 → report.new ≡ report.old }

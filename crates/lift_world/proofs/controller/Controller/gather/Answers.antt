@@ -17,11 +17,11 @@ returns-then-has_from-clause-model c = λ _.
     let w = c.args.self.now in
     gather_held w.verified.config (world_in w) c.args.floor (told _ _ _ _ _ c.sizes.ensures c.is_floor.ensures c.if-not-is_floor.false) (sym c.has_from.ensures ∙ c.if-has_from.true)
 
-pub move_from-requires : goal.move_from-requires
-move_from-requires c = floor_fits c.args.self.now.verified.config c.requires.runnable c.args.floor (told _ _ _ _ _ c.sizes.ensures c.is_floor.ensures c.if-not-is_floor.false)
+pub take_from-requires : goal.take_from-requires
+take_from-requires c = floor_fits c.args.self.now.verified.config c.requires.runnable c.args.floor (told _ _ _ _ _ c.sizes.ensures c.is_floor.ensures c.if-not-is_floor.false)
 
 pub returns-clause-model : goal.returns-clause-model
 returns-clause-model c = λ _.
     let w = c.args.self.now in
-    rw (c.move_from.ensures.rest, c.move_from.ensures.moved, c.move_from.ensures.mask)
+    rw (c.take_from.ensures.rest, c.take_from.ensures.moved, c.take_from.ensures.mask)
     (gather_moves w.verified.config (world_in w) c.args.floor (told _ _ _ _ _ c.sizes.ensures c.is_floor.ensures c.if-not-is_floor.false) (sym c.has_from.ensures ∙ c.if-has_from.false))

@@ -18,8 +18,8 @@ refresh-requires-clause-calls c = refresh_calls c.args.self.now c.requires c.arg
 
 pub returns-clause-model : goal.returns-clause-model
 returns-clause-model c =
-    refreshed_world c.args.self.now c.requires c.args.fields.now (ap (λ s. fields_in_range s c.args.fields.now) (sym c.sizes.ensures) ∙ sym c.in_range.ensures ∙ c.if-not-in_range.false) c.refresh.new.self.group c.refresh.new.hand c.refresh.new.report c.refresh.ensures.group c.refresh.ensures.hand
+    refreshed_world c.args.self.now c.requires c.args.fields.now (ap (λ s. fields_in_range s c.args.fields.now) (sym c.sizes.ensures) ∙ sym c.in_range.ensures ∙ c.if-not-in_range.false) c.refresh.new.core.group c.refresh.new.hand c.refresh.new.report c.refresh.ensures.group c.refresh.ensures.hand
 
 pub returns-clause-stores : goal.returns-clause-stores
 returns-clause-stores c =
-    refreshed_stores c.args.self.now c.requires c.args.fields.now (ap (λ s. fields_in_range s c.args.fields.now) (sym c.sizes.ensures) ∙ sym c.in_range.ensures ∙ c.if-not-in_range.false) c.refresh.new.self.group c.refresh.new.hand c.refresh.new.report c.refresh.ensures.group
+    refreshed_stores c.args.self.now c.requires c.args.fields.now (ap (λ s. fields_in_range s c.args.fields.now) (sym c.sizes.ensures) ∙ sym c.in_range.ensures ∙ c.if-not-in_range.false) c.refresh.new.core.group c.refresh.new.hand c.refresh.new.report c.refresh.ensures.group

@@ -54,7 +54,7 @@ returns c =
           let closed = c.close.ensures.closed s there in
           commit_group config before.image before.calls (globals_in config before.globals) before.seats.items s tickets values closed.0 c.tell_all.new.calls (globals_in config c.close.new.self.globals) c.tell_all.new.answers
           c.as_slice.result.now (c.as_slice.ensures ∙ c.assigned-cars.ensures ∙ ap (λ k. assigned (sizes_of k).slots values) c.requires.of.0 ∙ ap (λ n. assigned n values) (sym all)) (ap (λ ts. tell_all before.calls [] 1 ts c.as_slice.result.now) (sym (c.saw-tickets.ensures s tickets at saw)) ∙ c.tell_all.ensures) closed.2 c.close.ensures.globals
-          ∙ rw (c.close.ensures.shared.0, c.close.ensures.shared.1, closed.1, c.clear.ensures, c.clear-2.ensures, c.copied-report.ensures, c.close.ensures.shared.0) refl;
+          ∙ rw (c.close.ensures.shared.0, c.close.ensures.shared.1, closed.1, c.clear.ensures, c.clear-2.ensures, c.take_outputs.ensures, c.close.ensures.shared.0) refl;
       closed = (let closed = c.close.ensures.closed open_so.seat open_so.there in (closed.0, closed.1));
       fits = c.close.ensures.fits;
     }
