@@ -19,3 +19,4 @@ pub mod Shared
 pub mod Seated
 pub mod Standing
 pub mod Shown
+pub mod Bare

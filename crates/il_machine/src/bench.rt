@@ -39,6 +39,8 @@ pub struct Bench {
     pub(crate) scan: Scan,
     // Room for the values with which a scan begins.
     pub(crate) first: Rows,
+    // Whether no operation is deferred and no frame has called, so that there is nothing to clear.
+    pub(crate) is_bare: bool,
 }
 
 // Written by hand, since who drops a type whose drop is derived proves the drop of each type inside again.
@@ -47,6 +49,7 @@ impl Drop for Bench {
         let Bench {
             scan: _scan,
             first: _first,
+            is_bare: _is_bare,
         } = self;
     }
 }
@@ -58,11 +61,11 @@ impl Model for Bench {
 
     ghost coded = { stored_code };
 
-    ghost use Rattle.std.specs.Prelude.{◌≡◌, length};
+    ghost use Rattle.std.specs.Prelude.{◌≡◌, [], length, true};
 
     ghost view = { λ s. s.scan };
 
-    ghost invariant = { λ s. (length s.first.numbers ≡ length s.scan.rows.numbers) × (length s.first.flags ≡ length s.scan.rows.flags) };
+    ghost invariant = { λ s. (length s.first.numbers ≡ length s.scan.rows.numbers) × (length s.first.flags ≡ length s.scan.rows.flags) × (s.is_bare ≡ true → (s.scan.pairs ≡ []) × (s.scan.callers ≡ [])) };
 }
 
 /// How a step left the scan.
@@ -82,6 +85,7 @@ pub fn step(verified: &Verified, task: u8, store: &mut Bench) -> Stepped
     ensures own { OwnsDeclared verified.now.config task (kept_of verified.now.config task store.new).variables }
 {
     let _config = verified.config();
+    store.is_bare = false;
     store.scan.advance(verified.running(task));
     match store.scan.running {
         Some(_) => Stepped::More,
@@ -101,7 +105,9 @@ pub fn finish(verified: &Verified, task: u8, store: &mut Bench) -> u32
 {
     let _config = verified.config();
     let budget = verified.budget(task);
-    store.scan.run(verified.running(task), budget)
+    let steps = store.scan.run(verified.running(task), budget);
+    store.is_bare = true; // after its end
+    steps
 }
 
 // Writes what a scan starts with: the task's variables, the globals that its program lists, and the image.
@@ -146,7 +152,7 @@ impl Bench {
         ensures numbers { length result.1.numbers ≡ length result.0.rows.numbers }
         ensures flags { length result.1.flags ≡ length result.0.rows.flags }
     {
-        let Bench { scan, first } = self;
+        let Bench { scan, first, .. } = self;
         (scan, first)
     }
 
@@ -182,10 +188,11 @@ impl Bench {
     fn enter(&mut self, frame: Frame)
         ensures { self.new ≡ going self.old.rows frame [] [] None }
     {
-        if self.scan.callers.pop().is_some() {
+        if !self.is_bare {
+            self.scan.pairs = Pairs::new();
             self.scan.callers = Frames::new();
+            self.is_bare = true;
         }
-        self.scan.pairs = Pairs::new();
         self.scan.running = Some(frame);
         self.scan.result = None;
     }
@@ -258,6 +265,7 @@ impl Bench {
                 result: None,
             },
             first,
+            is_bare: true,
         };
         store.begin(verified, task, variables, listed, &image, calls);
         store

@@ -1,5 +1,6 @@
 use Rattle.std.proofs.Common.{ap, ◌∙◌, length}
 use Rattle.il_exec.specs.Going.{Stored}
+use Rattle.il_machine.proofs.Bare.{ends_bare}
 use Rattle.il_machine.proofs.Values.{same_length}
 use Rattle.il_machine.proofs.Ending.{end_there, run_out}
 use Rattle.il_machine.proofs.Keeping.{variables_declared}
@@ -34,4 +35,4 @@ pub invariant_of-store : goal.invariant_of-store
 invariant_of-store c =
     let after = (run_out c.args.verified.now.config c.config-config.ensures.runnable c.args.task c.args.store.now _ c.run.new.self c.run.result c.store.view_is c.requires.scan c.requires.going _ c.running.ensures.runs _ c.budget-budget.ensures c.run.ensures).scan in
     let long = same_length c.args.verified.now.config c.args.task c.args.store.now c.run.new.self c.requires.scan after in
-    (c.store.invariant.0 ∙ ap (λ (s : Stored). length s.rows.numbers) c.store.view_is ∙ long.0, c.store.invariant.1 ∙ ap (λ (s : Stored). length s.rows.flags) c.store.view_is ∙ long.1)
+    (c.store.invariant.0 ∙ ap (λ (s : Stored). length s.rows.numbers) c.store.view_is ∙ long.0, c.store.invariant.1 ∙ ap (λ (s : Stored). length s.rows.flags) c.store.view_is ∙ long.1, λ _. ends_bare _ c.budget-budget.result _ c.run.result c.run.new.self c.run.ensures)

@@ -44,10 +44,10 @@ pub invariant_of-store : goal.invariant_of-store
 invariant_of-store c =
     let after = (stepped c.args.verified.now.config c.config-config.ensures.runnable c.args.task c.args.store.now _ c.advance.new.self c.store.view_is c.requires.scan c.requires.going _ c.running.ensures.runs c.advance.ensures.step c.advance.ensures.scan).scan in
     let long = same_length c.args.verified.now.config c.args.task c.args.store.now c.advance.new.self c.requires.scan after in
-    (c.store.invariant.0 ∙ ap (λ (s : Stored). length s.rows.numbers) c.store.view_is ∙ long.0, c.store.invariant.1 ∙ ap (λ (s : Stored). length s.rows.flags) c.store.view_is ∙ long.1)
+    (c.store.invariant.0 ∙ ap (λ (s : Stored). length s.rows.numbers) c.store.view_is ∙ long.0, c.store.invariant.1 ∙ ap (λ (s : Stored). length s.rows.flags) c.store.view_is ∙ long.1, λ bare. cc)
 
 pub invariant_of-store-in-None : goal.invariant_of-store-in-None
 invariant_of-store-in-None c =
     let after = (stepped c.args.verified.now.config c.config-config.ensures.runnable c.args.task c.args.store.now _ c.advance.new.self c.store.view_is c.requires.scan c.requires.going _ c.running.ensures.runs c.advance.ensures.step c.advance.ensures.scan).scan in
     let long = same_length c.args.verified.now.config c.args.task c.args.store.now c.advance.new.self c.requires.scan after in
-    (c.store.invariant.0 ∙ ap (λ (s : Stored). length s.rows.numbers) c.store.view_is ∙ long.0, c.store.invariant.1 ∙ ap (λ (s : Stored). length s.rows.flags) c.store.view_is ∙ long.1)
+    (c.store.invariant.0 ∙ ap (λ (s : Stored). length s.rows.numbers) c.store.view_is ∙ long.0, c.store.invariant.1 ∙ ap (λ (s : Stored). length s.rows.flags) c.store.view_is ∙ long.1, λ bare. cc)

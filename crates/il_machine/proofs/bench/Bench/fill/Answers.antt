@@ -15,4 +15,5 @@ invariant_of-self c =
     c.requires.flags in (
       ap (λ (i : Inside). length i.first.numbers) c.self-inside.view_is ∙ c.self.invariant.0 ∙ ap (λ (s : Stored). length s.rows.numbers) c.self.view_is ∙ sym long.0,
       ap (λ (i : Inside). length i.first.flags) c.self-inside.view_is ∙ c.self.invariant.1 ∙ ap (λ (s : Stored). length s.rows.flags) c.self.view_is ∙ sym long.1,
+      c.self.invariant.2,
     )

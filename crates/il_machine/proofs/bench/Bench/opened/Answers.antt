@@ -22,7 +22,7 @@ pub invariant_of-store : goal.invariant_of-store
 invariant_of-store c =
     let config = c.args.verified.now.config in
     let same = ap (λ (u : ProgramUnit). length (program_cells config u)) (same_unit config c.args.task c.requires.first.0 c.requires.rows.0 c.requires.first.1 c.requires.rows.1) in
-    (c.requires.first.2.numbers ∙ same ∙ sym c.requires.rows.2.numbers, c.requires.first.2.flags ∙ same ∙ sym c.requires.rows.2.flags)
+    (c.requires.first.2.numbers ∙ same ∙ sym c.requires.rows.2.numbers, c.requires.first.2.flags ∙ same ∙ sym c.requires.rows.2.flags, λ _. (c.new.ensures, c.new-2.ensures))
 
 pub returns-clause-begins : goal.returns-clause-begins
 returns-clause-begins c =
