@@ -1,7 +1,6 @@
 -- The hand, with none in it.
-use Rattle.std.proofs.Common.{◌≡◌, ℕ, Bool, true, false, not, List, [], ◌∷◌, length, refl, sym, ap, ◌∙◌, arith}
-use Rattle.std.specs.Prelude.{◌==◌, ◌&&◌, ◌||◌, cond}
-use Rattle.std.proofs.lemmas.Bool.{eqb-true}
+use Rattle.std.proofs.Common.{◌≡◌, ℕ, Bool, true, false, not, List, [], ◌∷◌, refl, sym, ap, ◌∙◌}
+use Rattle.std.specs.Prelude.{◌&&◌, ◌||◌, cond}
 use Rattle.lift_spec.specs.declared.calls.Call.{Call}
 use Rattle.lift_spec.specs.Hands.{is_from, has_from, calls_from, with_calls}
 
@@ -18,11 +17,3 @@ pub blank_stays : (blank has : Bool) (old desk new : List Call) (floor : ℕ) �
 blank_stays true false old desk new floor is empty moved e = moved ∙ ap (with_calls old) (none_from desk floor (sym is)) ∙ empty refl
 blank_stays true true old desk new floor is empty moved e = cc
 blank_stays false has old desk new floor is empty moved e = cc
-
-nothing : (xs : List Call) → length xs ≡ 0 → xs ≡ []
-nothing [] e = refl
-nothing (x ∷ xs) e = absurd (omega (arith, e))
-
--- what is_empty answers
-pub is_nothing : (xs : List Call) (answer : Bool) → answer ≡ (length xs == 0) → answer ≡ true → xs ≡ []
-is_nothing xs answer is e = nothing xs (eqb-true (length xs) 0 (sym is ∙ e))

@@ -1,6 +1,6 @@
 // The hand of a group.
 
-ghost use Rattle.std.specs.Prelude.{◌≡◌, [], All};
+ghost use Rattle.std.specs.Prelude.{◌≡◌, ◌&&◌, not, [], All};
 ghost use Rattle.lift_spec.specs.Calls.{enter_all, IsCall};
 ghost use Rattle.lift_spec.specs.Hands.{with_calls, has_from, calls_from, calls_not_from, mask_of, HasWord};
 ghost use Rattle.lift_spec.specs.Image.{sizes_of, FieldsInRange};
@@ -31,6 +31,14 @@ impl Model for Held {
     ghost invariant = { λ h. h.is_blank ≡ true → h.calls ≡ [] };
 }
 
+// Whether a hand that may be empty stays so when the calls from a floor are taken.
+fn stays_blank(is_blank: bool, desk: &Hand, floor: u8) -> bool
+    requires { HasWord floor }
+    ensures { result ≡ (is_blank && not (has_from desk.now floor)) }
+{
+    is_blank && !desk.has_from(floor)
+}
+
 impl Held {
     /// No call.
     pub fn new() -> Held
@@ -57,8 +65,7 @@ impl Held {
         ensures rest { desk.new ≡ calls_not_from floor desk.old }
         ensures moved { self.new ≡ with_calls self.old (calls_from floor desk.old) }
     {
-        let is_none = !desk.has_from(floor);
-        self.is_blank = self.is_blank && is_none;
+        self.is_blank = stays_blank(self.is_blank, desk, floor);
         desk.move_from(floor, &mut self.calls)
     }
 }
