@@ -152,7 +152,11 @@ impl Bench {
         ensures numbers { length result.1.numbers ≡ length result.0.rows.numbers }
         ensures flags { length result.1.flags ≡ length result.0.rows.flags }
     {
-        let Bench { scan, first, .. } = self;
+        let Bench {
+            scan,
+            first,
+            is_bare: _is_bare,
+        } = self;
         (scan, first)
     }
 
