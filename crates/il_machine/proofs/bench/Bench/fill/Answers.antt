@@ -1,4 +1,4 @@
-use Rattle.std.proofs.Common.{sym, ap, ◌∙◌, length}
+use Rattle.std.proofs.Common.{◌≡◌, true, [], sym, ap, ◌∙◌, subst, length}
 use Rattle.std.proofs.lemmas.List.{length-map}
 use Rattle.il_exec.specs.Going.{Stored}
 use Rattle.il_image.specs.Image.{image_values}
@@ -15,5 +15,5 @@ invariant_of-self c =
     c.requires.flags in (
       ap (λ (i : Inside). length i.first.numbers) c.self-inside.view_is ∙ c.self.invariant.0 ∙ ap (λ (s : Stored). length s.rows.numbers) c.self.view_is ∙ sym long.0,
       ap (λ (i : Inside). length i.first.flags) c.self-inside.view_is ∙ c.self.invariant.1 ∙ ap (λ (s : Stored). length s.rows.flags) c.self.view_is ∙ sym long.1,
-      c.self.invariant.2,
+      subst (λ (i : Inside). i.is_bare ≡ true → (i.scan.pairs ≡ []) × (i.scan.callers ≡ [])) (sym c.self-inside.view_is) c.self.invariant.2,
     )
