@@ -5,7 +5,6 @@ ghost use Rattle.il_machine.specs.Scanning.{HasTask};
 ghost use Rattle.il_machine.specs.Standing.{IsOf};
 
 use crate::lines::{ALLOCATION, Lines, NO_ALLOCATION};
-use crate::scans::opened;
 use crate::values::fields;
 use il_machine::{Store, Verified, scan};
 use lift_book::Book;
@@ -51,7 +50,8 @@ pub fn all<R: Print>(
 ) -> Result<(), AllocError>
     requires { HasTask verified.now.config 1 }
 {
-    let store = opened(lines, alloc, verified, 1)?;
+    let store = Store::new(alloc, verified, 1)?;
+    lines.figures(&[("Store::new", store.task() as i128)]);
     let mut book = Book::new(alloc, verified, ENTRIES)?;
     lines.figures(&[("Book::new", book.slots().len() as i128)]);
     lines.print(NO_ALLOCATION);

@@ -1,79 +1,88 @@
 // The calls of a desk and of its passes.
 
-ghost use Rattle.std.specs.Prelude.{◌≡◌, IfOk};
+ghost use Rattle.std.specs.Prelude.{◌≡◌, ◌≤◌};
 ghost use Rattle.lift_desk.specs.Passes.{AreAllPanels};
 
-use crate::lines::{ALLOCATION, Lines, NO_ALLOCATION};
+use crate::lines::{ALLOCATION, Figure, Lines, NO_ALLOCATION};
+use crate::station;
 use crate::text::FLOORS;
 use il_spec::fault::Refusal;
 use lift_desk::{Desk, HandPass, PanelPass, Pressed};
 use std::alloc::Global;
 use std::io::Print;
+use std::sync::Wait;
 
-/// An empty desk, with two panels on each floor.
-pub fn opened<R: Print>(
-    lines: &mut Lines<'_, R>,
-    alloc: Global,
-) -> Result<(Desk, Vec<PanelPass>, HandPass), Refusal>
-    ensures desk { IfOk result (λ o. o.0.floors ≡ FLOORS) }
-    ensures hand { IfOk result (λ o. (o.2.table ≡ o.0.table) × (o.2.floors ≡ FLOORS)) }
-    ensures panels { IfOk result (λ o. AreAllPanels o.0 o.1.items) }
+// A panel presses a call: whether it is answered so.
+fn press(desk: &Desk, panel: PanelPass, to: u8, wanted: Pressed) -> (PanelPass, Figure)
+    requires table { panel.table ≡ desk.now.table }
+    requires floors { desk.now.floors ≡ FLOORS }
+    requires to { (1 ≤ to) × (to ≤ FLOORS) }
+    ensures { result.0.table ≡ panel.table }
 {
-    let opened = Desk::new(alloc, FLOORS, 2);
-    if let Ok((_, panels, _)) = &opened {
-        lines.figures(&[("Desk::new", panels.len() as i128)]);
-    }
-    opened
+    let (panel, answer) = desk.press(panel, to);
+    (panel, ("Desk::press", (answer == wanted) as i128))
 }
 
-/// The last panel, which is on the last floor, presses a call, the same again, and one to its own floor; the word of its floor is shown, and
-/// the collector gathers the call.
-pub fn called<R: Print>(
+// The last panel, which is on the last floor, presses a call, the same again, another one, and one to its own floor.
+fn press_last<R: Print>(
     lines: &mut Lines<'_, R>,
     desk: &Desk,
     panels: Vec<PanelPass>,
-    pass: HandPass,
-) -> (Vec<PanelPass>, HandPass)
+) -> Vec<PanelPass>
     requires floors { desk.now.floors ≡ FLOORS }
     requires panels { AreAllPanels desk.now panels.items }
-    requires table { pass.table ≡ desk.now.table }
-    ensures panels { AreAllPanels desk.now result.0.items }
-    ensures table { result.1.table ≡ pass.table }
-    ensures floors { result.1.floors ≡ pass.floors }
+    ensures { AreAllPanels desk.now result.items }
 {
     let mut panels = panels;
-    let Some(panel) = panels.pop() else {
-        return (panels, pass);
-    };
-    let (panel, first) = desk.press(panel, 1);
-    let (panel, second) = desk.press(panel, 1);
-    let (panel, third) = desk.press(panel, FLOORS);
-    panels.push_reserved(panel);
-    let (pass, word) = desk.shown(pass, FLOORS);
-    let pass = desk.gather(pass);
-    lines.figures(&[
-        ("Desk::press", (first == Pressed::New) as i128),
-        ("Desk::press", (second == Pressed::Already) as i128),
-        ("Desk::press", (third == Pressed::SameFloor) as i128),
-        ("Desk::shown", word as i128),
-        ("Desk::gather", pass.hand().len() as i128),
-    ]);
-    (panels, pass)
+    if let Some(panel) = panels.pop() {
+        let (panel, first) = press(desk, panel, 1, Pressed::New);
+        let (panel, again) = press(desk, panel, 1, Pressed::Already);
+        let (panel, other) = press(desk, panel, 2, Pressed::New);
+        let (panel, same) = press(desk, panel, FLOORS, Pressed::SameFloor);
+        lines.figures(&[first, again, other, same]);
+        panels.push_reserved(panel);
+    }
+    panels
 }
 
-/// Each call.
-pub fn all<R: Print>(lines: &mut Lines<'_, R>, alloc: Global) -> Result<(), Refusal> {
-    let (desk, panels, pass) = opened(lines, alloc)?;
-    lines.print(NO_ALLOCATION);
-    let (panels, mut pass) = called(lines, &desk, panels, pass);
+// The word of the last floor is shown, and its calls are gathered: how many there are. All but the first are kept.
+fn gather(desk: &Desk, pass: HandPass) -> (HandPass, [Figure; 3])
+    requires table { pass.table ≡ desk.now.table }
+    requires floors { desk.now.floors ≡ FLOORS }
+    ensures table { result.0.table ≡ pass.table }
+    ensures floors { result.0.floors ≡ pass.floors }
+{
+    let (pass, word) = desk.shown(pass, FLOORS);
+    let mut pass = desk.gather(pass);
     let mut hand = pass.hand();
+    let count = hand.len();
     hand.take_first();
     pass.keep(hand);
-    let closed = desk.close(panels, pass);
-    lines.figures(&[
-        ("HandPass::keep", closed.hand.len() as i128),
-        ("Desk::close", closed.desk.len() as i128),
-    ]);
+    let figures = [
+        ("Desk::shown", word as i128),
+        ("Desk::gather", count as i128),
+        ("HandPass::keep", pass.hand().len() as i128),
+    ];
+    (pass, figures)
+}
+
+/// Each call, with those of a station that takes the call from the collector's hand before the desk is closed.
+pub fn all<R: Print + Wait>(lines: &mut Lines<'_, R>, alloc: Global) -> Result<(), Refusal> {
+    let (desk, panels, pass) = Desk::new(alloc, FLOORS, 2)?;
+    lines.figures(&[("Desk::new", panels.len() as i128)]);
+    lines.print(NO_ALLOCATION);
+    let panels = press_last(lines, &desk, panels);
+    let (pass, figures) = gather(&desk, pass);
+    lines.figures(&figures);
     lines.print(ALLOCATION);
-    Ok(())
+    let (pass, done) = station::all(lines, alloc, pass);
+    if done.is_ok() {
+        lines.print(NO_ALLOCATION);
+        let closed = desk.close(panels, pass);
+        lines.figures(&[("Desk::close", closed.hand.len() as i128)]);
+        lines.print(ALLOCATION);
+    } else {
+        desk.close(panels, pass);
+    }
+    done
 }

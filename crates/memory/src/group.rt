@@ -4,9 +4,9 @@ ghost use Rattle.std.specs.Prelude.{◌≡◌};
 ghost use Rattle.il_machine.specs.Scanning.{HasTask};
 
 use crate::lines::{ALLOCATION, Lines, NO_ALLOCATION};
-use crate::scans::{opened, run_out};
+use crate::scans::run_out;
 use crate::values::fields;
-use il_machine::Verified;
+use il_machine::{Store, Verified};
 use lift_image::in_range;
 use lift_spec::hand::Hand;
 use lift_spec::report::Report;
@@ -22,7 +22,8 @@ pub fn all<R: Print>(
 ) -> Result<(), AllocError>
     requires { HasTask verified.now.config 1 }
 {
-    let mut store = opened(lines, alloc, verified, 1)?;
+    let mut store = Store::new(alloc, verified, 1)?;
+    lines.figures(&[("Store::new", store.task() as i128)]);
     let mut core = Core::new(alloc, verified)?;
     lines.figures(&[("Core::new", core.slots().len() as i128)]);
     lines.print(NO_ALLOCATION);

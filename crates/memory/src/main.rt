@@ -40,8 +40,7 @@ fn run<R: Print + Wait>(lines: &mut Lines<'_, R>, alloc: Global) -> Result<(), R
         }
     }
     world::all(lines, alloc)?;
-    desk::all(lines, alloc)?;
-    station::all(lines, alloc)
+    desk::all(lines, alloc)
 }
 
 fn main(rt: HostRuntime) -> io::Result<()> {

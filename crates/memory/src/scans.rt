@@ -1,11 +1,10 @@
 // The calls of a store and of its scan.
 
-ghost use Rattle.std.specs.Prelude.{◌≡◌, IfOk};
+ghost use Rattle.std.specs.Prelude.{◌≡◌};
 ghost use Rattle.il_run.specs.Ranges.{HoldGlobals};
 ghost use Rattle.il_machine.specs.Scanning.{HasTask, FitsOwn, OwnsDeclared, variables_in};
 ghost use Rattle.il_machine.specs.Sharing.{FitsGlobals, globals_in};
 ghost use Rattle.il_machine.specs.Standing.{IsOf};
-ghost use Rattle.memory.specs.Opening.{IsOpening};
 
 use crate::lines::{ALLOCATION, Figure, Lines, NO_ALLOCATION};
 use il_machine::{
@@ -14,22 +13,6 @@ use il_machine::{
 use lift_calls::book::CallBook;
 use std::alloc::{AllocError, Global};
 use std::io::Print;
-
-/// A store of a task, at a scan's start.
-pub fn opened<R: Print>(
-    lines: &mut Lines<'_, R>,
-    alloc: Global,
-    verified: &Verified,
-    task: u8,
-) -> Result<Store, AllocError>
-    requires { HasTask verified.now.config task }
-    ensures of { IfOk result (IsOf verified.now.config task) }
-    ensures begins { IfOk result (λ s. IsOpening verified.now.config task s) }
-{
-    let store = Store::new(alloc, verified, task)?;
-    lines.figures(&[("Store::new", store.task() as i128)]);
-    Ok(store)
-}
 
 /// The scan goes to its end: whether it goes on behind a step, and the steps from there.
 pub fn run_out(verified: &Verified, task: u8, store: &mut Store) -> [Figure; 2]
@@ -56,8 +39,10 @@ pub fn of_group<R: Print>(
 ) -> Result<(), AllocError>
     requires { HasTask verified.now.config 0 }
 {
-    let begun = opened(lines, alloc, verified, 0)?;
-    let other = opened(lines, alloc, verified, 0)?;
+    let begun = Store::new(alloc, verified, 0)?;
+    lines.figures(&[("Store::new", begun.task() as i128)]);
+    let other = Store::new(alloc, verified, 0)?;
+    lines.figures(&[("Store::new", other.task() as i128)]);
     lines.print(NO_ALLOCATION);
     let scanned = scan(verified, OpenScan::of(begun));
     scanned.is_scan();
@@ -113,7 +98,8 @@ pub fn of_car<R: Print>(
     let opening = verified.opening_globals();
     let mut globals = Rows::of(alloc, opening.numbers(), opening.flags())?;
     lines.figures(&[("Rows::of", globals.len() as i128)]);
-    let mut store = opened(lines, alloc, verified, 1)?;
+    let mut store = Store::new(alloc, verified, 1)?;
+    lines.figures(&[("Store::new", store.task() as i128)]);
     lines.print(NO_ALLOCATION);
     lines.figures(&restart(verified, &mut store, &variables, &globals));
     lines.figures(&run_out(verified, 1, &mut store));

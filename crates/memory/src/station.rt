@@ -3,7 +3,6 @@
 ghost use Rattle.std.specs.Prelude.{◌≡◌, ℕ, false, slice_index_or};
 ghost use Rattle.lift_spec.specs.Image.{sizes_of};
 
-use crate::desk;
 use crate::lines::{ALLOCATION, Figure, Lines, NO_ALLOCATION};
 use crate::program::loaded;
 use crate::text::FLOORS;
@@ -115,21 +114,22 @@ fn in_station<G: Naming, R: Print + Wait>(
     }
 }
 
-/// The station of the program of the text, with a collector who has gathered a call of a desk of as many floors.
-pub fn all<R: Print + Wait>(lines: &mut Lines<'_, R>, alloc: Global) -> Result<(), Refusal> {
-    let (desk, panels, collector) = desk::opened(lines, alloc)?;
-    let (panels, collector) = desk::called(lines, &desk, panels, collector);
-    let (collector, done) = match loaded(lines, alloc) {
-        Err(refusal) => (collector, Err(refusal)),
-        Ok(verified) => {
-            if verified.sizes().floors == FLOORS {
-                in_station::<Brand, R>(lines, alloc, Blanks::new(), verified, collector)
-            } else {
-                verified.release();
-                (collector, Ok(()))
-            }
-        }
+/// The station of the program of the text, and each of its calls. The collector, of a desk of as many floors, comes back.
+pub fn all<R: Print + Wait>(
+    lines: &mut Lines<'_, R>,
+    alloc: Global,
+    collector: HandPass,
+) -> (HandPass, Result<(), Refusal>)
+    requires { collector.floors ≡ FLOORS }
+    ensures { result.0.table ≡ collector.table }
+{
+    let verified = match loaded(lines, alloc) {
+        Ok(verified) => verified,
+        Err(refusal) => return (collector, Err(refusal)),
     };
-    desk.close(panels, collector);
-    done
+    if verified.sizes().floors != FLOORS {
+        verified.release();
+        return (collector, Ok(()));
+    }
+    in_station::<Brand, R>(lines, alloc, Blanks::new(), verified, collector)
 }

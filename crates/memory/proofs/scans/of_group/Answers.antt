@@ -3,7 +3,11 @@ use Rattle.il_machine.proofs.Standing.{at_start}
 use Rattle.memory.proofs.scans.of_group.Goals as goal
 
 pub of-requires : goal.of-requires
-of-requires c = at_start c.args.verified.now.config 0 (opening_beginning c.args.verified.now.config 0) c.args.begun c.requires.of c.requires.begins
+of-requires g c =
+    let config = c.args.verified.now.config in
+    at_start config 0 (opening_beginning config 0) c.in_ok-begun.begun c.in_ok-begun.ensures.of c.in_ok-begun.ensures.opens
 
 pub began_as-began_as-requires-clause-begins : goal.began_as-began_as-requires-clause-begins
-began_as-began_as-requires-clause-begins c = at_start c.args.verified.now.config 0 (opening_beginning c.args.verified.now.config 0) c.args.other.now c.requires.other_of c.requires.other_begins
+began_as-began_as-requires-clause-begins g c =
+    let config = c.args.verified.now.config in
+    at_start config 0 (opening_beginning config 0) c.in_ok-other.other c.in_ok-other.ensures.of c.in_ok-other.ensures.opens
