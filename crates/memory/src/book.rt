@@ -51,16 +51,15 @@ pub fn all<R: Print>(
     requires { HasTask verified.now.config 1 }
 {
     let store = Store::new(alloc, verified, 1)?;
-    lines.figures(&[("Store::new", store.task() as i128)]);
+    lines.print(&[("Store::new", store.task() as i128)]);
     let mut book = Book::new(alloc, verified, ENTRIES)?;
-    lines.figures(&[("Book::new", book.slots().len() as i128)]);
-    lines.print(NO_ALLOCATION);
+    lines.print(&[("Book::new", book.slots().len() as i128), NO_ALLOCATION]);
     let refreshed = book.refresh(verified, fields(), &mut Hand::new(), &mut Report::new());
     let (store, commit) = round(verified, &mut book, store, false);
     let (store, commit_own) = round(verified, &mut book, store, true);
     let (_store, start) = round(verified, &mut book, store, true);
     book.runs();
-    lines.figures(&[
+    lines.print(&[
         ("Book::refresh", refreshed.is_ok() as i128),
         ("Book::commit", commit as i128),
         ("Book::commit_own", commit_own as i128),
@@ -70,9 +69,8 @@ pub fn all<R: Print>(
         ("Book::slots", book.slots().len() as i128),
         ("Book::told", book.told(1).is_some() as i128),
         ("Book::global", book.global(verified, "G").is_some() as i128),
-        ("Book::journal", book.journal().len() as i128),
     ]);
-    lines.figures(&[("Book::into_journal", book.into_journal().len() as i128)]);
-    lines.print(ALLOCATION);
+    let entries = book.into_journal().len();
+    lines.print(&[("Book::into_journal", entries as i128), ALLOCATION]);
     Ok(())
 }

@@ -39,14 +39,14 @@ fn press_last<R: Print>(
         let (panel, again) = press(desk, panel, 1, Pressed::Already);
         let (panel, other) = press(desk, panel, 2, Pressed::New);
         let (panel, same) = press(desk, panel, FLOORS, Pressed::SameFloor);
-        lines.figures(&[first, again, other, same]);
+        lines.print(&[first, again, other, same]);
         panels.push_reserved(panel);
     }
     panels
 }
 
 // The word of the last floor is shown, and its calls are gathered: how many there are. All but the first are kept.
-fn gather(desk: &Desk, pass: HandPass) -> (HandPass, [Figure; 3])
+fn gather(desk: &Desk, pass: HandPass) -> (HandPass, [Figure; 4])
     requires table { pass.table ≡ desk.now.table }
     requires floors { desk.now.floors ≡ FLOORS }
     ensures table { result.0.table ≡ pass.table }
@@ -62,6 +62,7 @@ fn gather(desk: &Desk, pass: HandPass) -> (HandPass, [Figure; 3])
         ("Desk::shown", word as i128),
         ("Desk::gather", count as i128),
         ("HandPass::keep", pass.hand().len() as i128),
+        ALLOCATION,
     ];
     (pass, figures)
 }
@@ -69,18 +70,15 @@ fn gather(desk: &Desk, pass: HandPass) -> (HandPass, [Figure; 3])
 /// Each call, with those of a station that takes the call from the collector's hand before the desk is closed.
 pub fn all<R: Print + Wait>(lines: &mut Lines<'_, R>, alloc: Global) -> Result<(), Refusal> {
     let (desk, panels, pass) = Desk::new(alloc, FLOORS, 2)?;
-    lines.figures(&[("Desk::new", panels.len() as i128)]);
-    lines.print(NO_ALLOCATION);
+    lines.print(&[("Desk::new", panels.len() as i128), NO_ALLOCATION]);
     let panels = press_last(lines, &desk, panels);
     let (pass, figures) = gather(&desk, pass);
-    lines.figures(&figures);
-    lines.print(ALLOCATION);
+    lines.print(&figures);
     let (pass, done) = station::all(lines, alloc, pass);
     if done.is_ok() {
-        lines.print(NO_ALLOCATION);
+        lines.print(&[NO_ALLOCATION]);
         let closed = desk.close(panels, pass);
-        lines.figures(&[("Desk::close", closed.hand.len() as i128)]);
-        lines.print(ALLOCATION);
+        lines.print(&[("Desk::close", closed.hand.len() as i128), ALLOCATION]);
     } else {
         desk.close(panels, pass);
     }

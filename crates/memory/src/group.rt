@@ -23,10 +23,9 @@ pub fn all<R: Print>(
     requires { HasTask verified.now.config 1 }
 {
     let mut store = Store::new(alloc, verified, 1)?;
-    lines.figures(&[("Store::new", store.task() as i128)]);
+    lines.print(&[("Store::new", store.task() as i128)]);
     let mut core = Core::new(alloc, verified)?;
-    lines.figures(&[("Core::new", core.slots().len() as i128)]);
-    lines.print(NO_ALLOCATION);
+    lines.print(&[("Core::new", core.slots().len() as i128), NO_ALLOCATION]);
     let mut report = Report::new();
     let fields = fields();
     if in_range(&fields, verified.sizes()) {
@@ -43,7 +42,7 @@ pub fn all<R: Print>(
     }
     core.holds();
     let variable = core.variable(verified, 1, "N").is_some();
-    lines.figures(&[
+    lines.print(&[
         ("Core::refresh", refreshed as i128),
         ("Core::start", is_open as i128),
         ("Core::commit", report.outputs.running_count() as i128),
@@ -52,7 +51,7 @@ pub fn all<R: Print>(
         ("Core::calls", core.calls().count() as i128),
         ("Core::variable", variable as i128),
         ("Core::global", core.global(verified, "G").is_some() as i128),
+        ALLOCATION,
     ]);
-    lines.print(ALLOCATION);
     Ok(())
 }

@@ -1,36 +1,36 @@
 // The lines that the program prints.
 
-use std::fmt::Display;
-use std::io;
 use std::io::Print;
 
 /// A call, and a figure of its answer.
 pub type Figure = (&'static str, i128);
 
-/// The line behind which calls take no memory.
-pub const NO_ALLOCATION: &str = "no allocation from here on";
+/// Behind this line calls take no memory.
+pub const NO_ALLOCATION: Figure = ("allocation", 0);
 
-/// The line behind which they may.
-pub const ALLOCATION: &str = "allocation from here on";
+/// Behind this line they may.
+pub const ALLOCATION: Figure = ("allocation", 1);
 
-/// The lines of a stream. Behind one that can't be printed there are no others.
+/// All calls follow once more, since one was refused memory.
+pub const AGAIN: Figure = ("again", 1);
+
+/// The lines of a stream, and whether one couldn't be printed.
 pub struct Lines<'r, R: Print> {
     pub stream: &'r R,
-    pub printed: io::Result<()>,
+    pub is_lost: bool,
 }
 
 impl<'r, R: Print> Lines<'r, R> {
-    /// A line.
-    pub fn print<D: Display + Drop>(&mut self, line: D) {
-        if self.printed.is_ok() {
-            self.printed = self.stream.println(line);
-        }
-    }
-
-    /// A line for each call.
-    pub fn figures(&mut self, figures: &[Figure]) {
+    /// A line for each figure.
+    pub fn print(&mut self, figures: &[Figure]) {
         for (call, figure) in figures {
-            self.print(format_args!("{call}: {figure}"));
+            if self
+                .stream
+                .println(format_args!("{call}: {figure}"))
+                .is_err()
+            {
+                self.is_lost = true;
+            }
         }
     }
 }

@@ -14,9 +14,8 @@ mod trace;
 mod values;
 mod world;
 
-use crate::lines::{ALLOCATION, Lines, NO_ALLOCATION};
+use crate::lines::{AGAIN, Lines};
 use il_spec::fault::Refusal;
-use lift_trace::fault::TraceFault;
 use std::alloc::Global;
 use std::io;
 use std::io::Print;
@@ -24,21 +23,9 @@ use std::sync::Wait;
 
 // All calls.
 fn run<R: Print + Wait>(lines: &mut Lines<'_, R>, alloc: Global) -> Result<(), Refusal> {
-    lines.print(NO_ALLOCATION);
-    lines.figures(&values::blocks());
-    lines.figures(&values::ranges());
-    lines.figures(&values::calls());
-    lines.figures(&values::image());
-    lines.print(ALLOCATION);
+    values::all(lines);
     program::all(lines, alloc)?;
-    match trace::all(lines, alloc) {
-        Ok(()) => {}
-        // a list that can't grow fails as a sink
-        Err(TraceFault::Write | TraceFault::Memory) => return Err(Refusal::Memory),
-        Err(TraceFault::BadLine { line } | TraceFault::Truncated { line }) => {
-            return Err(Refusal::Fault { number: 80, line });
-        }
-    }
+    trace::all(lines, alloc)?;
     world::all(lines, alloc)?;
     desk::all(lines, alloc)
 }
@@ -46,19 +33,19 @@ fn run<R: Print + Wait>(lines: &mut Lines<'_, R>, alloc: Global) -> Result<(), R
 fn main(rt: HostRuntime) -> io::Result<()> {
     let mut lines = Lines {
         stream: &rt,
-        printed: Ok(()),
+        is_lost: false,
     };
     let mut done = run(&mut lines, rt.alloc());
-    if let Err(Refusal::Memory) = done {
-        lines.print("refused, and once more");
+    if matches!(done, Err(Refusal::Memory)) {
+        lines.print(&[AGAIN]);
         done = run(&mut lines, rt.alloc());
     }
     let Lines {
         stream: _stream,
-        printed,
+        is_lost,
     } = lines;
-    match done {
-        Ok(()) => printed,
-        Err(_) => Err(io::ErrorKind::OutOfMemory.into()),
+    if is_lost || done.is_err() {
+        return Err(io::ErrorKind::Other.into());
     }
+    Ok(())
 }

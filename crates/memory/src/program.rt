@@ -12,15 +12,6 @@ use lift_load::load;
 use std::alloc::{AllocError, Global};
 use std::io::Print;
 
-/// The program of the text.
-pub fn loaded<R: Print>(lines: &mut Lines<'_, R>, alloc: Global) -> Result<Verified, Refusal> {
-    let loaded = load(alloc, TEXT);
-    if let Ok(verified) = &loaded {
-        lines.figures(&[("load", verified.globals().len() as i128)]);
-    }
-    loaded
-}
-
 // Whether the group has the task of a number.
 fn has_task(verified: &Verified, task: u8) -> bool
     requires { task ≤ 8 }
@@ -36,7 +27,7 @@ fn over<R: Print>(
     alloc: Global,
     verified: &Verified,
 ) -> Result<(), AllocError> {
-    lines.print(NO_ALLOCATION);
+    lines.print(&[NO_ALLOCATION]);
     let mut cost = 0u32;
     'units: for unit in verified.units() {
         cost = cost.wrapping_add(unit.cost);
@@ -45,14 +36,14 @@ fn over<R: Print>(
     'tasks: for task in verified.tasks() {
         budget = budget.wrapping_add(task.budget);
     }
-    lines.figures(&[
+    lines.print(&[
         ("Verified::config", verified.config().floors.value as i128),
         ("Verified::sizes", verified.sizes().cars as i128),
         ("Verified::globals", verified.globals().len() as i128),
         ("Verified::units", cost as i128),
         ("Verified::tasks", budget as i128),
+        ALLOCATION,
     ]);
-    lines.print(ALLOCATION);
     if has_task(verified, 0) {
         scans::of_group(lines, alloc, verified)?;
     }
@@ -66,7 +57,8 @@ fn over<R: Print>(
 
 /// Each call.
 pub fn all<R: Print>(lines: &mut Lines<'_, R>, alloc: Global) -> Result<(), Refusal> {
-    let verified = loaded(lines, alloc)?;
+    let verified = load(alloc, TEXT)?;
+    lines.print(&[("load", verified.globals().len() as i128)]);
     let done = over(lines, alloc, &verified);
     verified.release();
     Ok(done?)

@@ -40,22 +40,21 @@ pub fn of_group<R: Print>(
     requires { HasTask verified.now.config 0 }
 {
     let begun = Store::new(alloc, verified, 0)?;
-    lines.figures(&[("Store::new", begun.task() as i128)]);
+    lines.print(&[("Store::new", begun.task() as i128)]);
     let other = Store::new(alloc, verified, 0)?;
-    lines.figures(&[("Store::new", other.task() as i128)]);
-    lines.print(NO_ALLOCATION);
+    lines.print(&[("Store::new", other.task() as i128), NO_ALLOCATION]);
     let scanned = scan(verified, OpenScan::of(begun));
     scanned.is_scan();
     let is_of = scanned.is_of(verified);
     let began_as = scanned.began_as(verified, &other);
     let store = scanned.into_store();
-    lines.figures(&[
+    lines.print(&[
         ("Scanned::is_of", is_of as i128),
         ("Scanned::began_as", began_as as i128),
         ("Scanned::into_store", store.has_ended(verified) as i128),
         ("Store::assigned", store.assigned(verified).len() as i128),
+        ALLOCATION,
     ]);
-    lines.print(ALLOCATION);
     Ok(())
 }
 
@@ -94,18 +93,17 @@ pub fn of_car<R: Print>(
     let _config = verified.config();
     let opening = verified.opening_variables(1);
     let mut variables = Rows::of(alloc, opening.numbers(), opening.flags())?;
-    lines.figures(&[("Rows::of", variables.len() as i128)]);
+    lines.print(&[("Rows::of", variables.len() as i128)]);
     let opening = verified.opening_globals();
     let mut globals = Rows::of(alloc, opening.numbers(), opening.flags())?;
-    lines.figures(&[("Rows::of", globals.len() as i128)]);
+    lines.print(&[("Rows::of", globals.len() as i128)]);
     let mut store = Store::new(alloc, verified, 1)?;
-    lines.figures(&[("Store::new", store.task() as i128)]);
-    lines.print(NO_ALLOCATION);
-    lines.figures(&restart(verified, &mut store, &variables, &globals));
-    lines.figures(&run_out(verified, 1, &mut store));
+    lines.print(&[("Store::new", store.task() as i128), NO_ALLOCATION]);
+    lines.print(&restart(verified, &mut store, &variables, &globals));
+    lines.print(&run_out(verified, 1, &mut store));
     store.copy_variables(verified, &mut variables);
     store.copy_globals(verified, &mut globals);
-    lines.figures(&[
+    lines.print(&[
         (
             "Store::copy_variables",
             variable(&variables, verified, 1, "N").is_some() as i128,
@@ -115,7 +113,7 @@ pub fn of_car<R: Print>(
             verified.global(&globals, "G").is_some() as i128,
         ),
         ("Store::wishes", store.wishes(verified).serve as i128),
+        ALLOCATION,
     ]);
-    lines.print(ALLOCATION);
     Ok(())
 }

@@ -4,12 +4,12 @@ ghost use Rattle.std.specs.Prelude.{◌≡◌, ℕ, false, slice_index_or};
 ghost use Rattle.lift_spec.specs.Image.{sizes_of};
 
 use crate::lines::{ALLOCATION, Figure, Lines, NO_ALLOCATION};
-use crate::program::loaded;
-use crate::text::FLOORS;
+use crate::text::{FLOORS, TEXT};
 use crate::values::fields;
 use il_machine::{Verified, scan};
 use il_spec::fault::Refusal;
 use lift_desk::HandPass;
+use lift_load::load;
 use lift_spec::report::Report;
 use lift_station::{Blanks, Closed, Naming, RefreshPass, Station, TaskPass};
 use std::alloc::Global;
@@ -43,7 +43,7 @@ fn next_scan<G: Naming, R: Print + Wait>(
         Err(fault) => (pass, ("Station::start", fault.number() as i128)),
     };
     let told = station.told(rt, 1).unwrap_or(0);
-    lines.figures(&[figure, ("Station::told", told as i128)]);
+    lines.print(&[figure, ("Station::told", told as i128)]);
     passes.push_reserved(pass);
     passes
 }
@@ -66,7 +66,7 @@ fn used<G: Naming, R: Print + Wait>(
     let (pass, collector, refreshed) =
         station.refresh(rt, pass, fields(), collector, &mut report);
     let (pass, collector, driven) = station.drive(rt, pass, false, collector, &mut report);
-    lines.figures(&[
+    lines.print(&[
         ("Station::refresh", refreshed.is_ok() as i128),
         ("Station::drive", driven.is_ok() as i128),
         ("HandPass::hand", collector.hand().len() as i128),
@@ -78,10 +78,11 @@ fn used<G: Naming, R: Print + Wait>(
     let (pass, image) = station.outputs(rt, pass);
     let cars = station.verified().sizes().cars;
     let Closed { verified, book } = station.close(passes, pass);
-    lines.figures(&[
+    lines.print(&[
         ("Station::outputs", image.outputs.running_count() as i128),
         ("Station::verified", cars as i128),
         ("Station::close", book.journal().len() as i128),
+        ALLOCATION,
     ]);
     verified.release();
     book.release();
@@ -105,10 +106,8 @@ fn in_station<G: Naming, R: Print + Wait>(
     match Station::<G>::new(alloc, blanks, verified, ENTRIES) {
         Err(refusal) => (collector, Err(refusal)),
         Ok((station, passes, pass)) => {
-            lines.figures(&[("Station::new", passes.len() as i128)]);
-            lines.print(NO_ALLOCATION);
+            lines.print(&[("Station::new", passes.len() as i128), NO_ALLOCATION]);
             let collector = used(lines, station, passes, pass, collector);
-            lines.print(ALLOCATION);
             (collector, Ok(()))
         }
     }
@@ -123,10 +122,11 @@ pub fn all<R: Print + Wait>(
     requires { collector.floors ≡ FLOORS }
     ensures { result.0.table ≡ collector.table }
 {
-    let verified = match loaded(lines, alloc) {
+    let verified = match load(alloc, TEXT) {
         Ok(verified) => verified,
         Err(refusal) => return (collector, Err(refusal)),
     };
+    lines.print(&[("load", verified.globals().len() as i128)]);
     if verified.sizes().floors != FLOORS {
         verified.release();
         return (collector, Ok(()));

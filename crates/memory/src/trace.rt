@@ -2,6 +2,7 @@
 
 use crate::lines::Lines;
 use crate::values::fields;
+use il_spec::fault::Refusal;
 use lift_sink::sink::Memory;
 use lift_spec::hand::Hand;
 use lift_spec::journal::Entry;
@@ -11,8 +12,8 @@ use lift_trace::write::write_trace;
 use std::alloc::Global;
 use std::io::Print;
 
-/// Some entries are written to a list, and read again.
-pub fn all<R: Print>(lines: &mut Lines<'_, R>, alloc: Global) -> Result<(), TraceFault> {
+/// Some entries are written to a list, which fails only where it can't grow, and read again.
+pub fn all<R: Print>(lines: &mut Lines<'_, R>, alloc: Global) -> Result<(), Refusal> {
     let entries = [
         Entry::Refresh {
             fields: fields(),
@@ -22,9 +23,15 @@ pub fn all<R: Print>(lines: &mut Lines<'_, R>, alloc: Global) -> Result<(), Trac
         Entry::Commit(1),
     ];
     let mut list = Memory::new(alloc);
-    write_trace(&entries, &mut list)?;
-    lines.figures(&[("write_trace", list.bytes().len() as i128)]);
-    let events = read_trace(alloc, list.bytes(), 2)?;
-    lines.figures(&[("read_trace", events.len() as i128)]);
+    if write_trace(&entries, &mut list).is_err() {
+        return Err(Refusal::Memory);
+    }
+    lines.print(&[("write_trace", list.bytes().len() as i128)]);
+    let count = match read_trace(alloc, list.bytes(), 2) {
+        Ok(events) => events.len() as i128,
+        Err(TraceFault::Memory) => return Err(Refusal::Memory),
+        Err(_) => -1,
+    };
+    lines.print(&[("read_trace", count)]);
     Ok(())
 }

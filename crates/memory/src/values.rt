@@ -2,7 +2,7 @@
 
 ghost use Rattle.std.specs.Prelude.{◌≡◌, length};
 
-use crate::lines::Figure;
+use crate::lines::{ALLOCATION, Figure, Lines, NO_ALLOCATION};
 use il_interval::{Interval, ranges_grow};
 use il_spec::tree::Comparison;
 use lift_calls::book::CallBook;
@@ -13,6 +13,7 @@ use lift_image::{
 };
 use lift_interlock::{commit_keeps_obeying, refresh_gives_obeying, settle_all, settle_car};
 use lift_plant::plant::{Plant, plant_step, step_is_safe};
+use std::io::Print;
 use std_blocks::bistable::{ResetDominant, SetDominant};
 use std_blocks::counters::{DownCounter, UpCounter, UpDownCounter};
 use std_blocks::edges::EdgeDetector;
@@ -28,8 +29,8 @@ const UP: Call = Call { from: 3, to: 5 };
 
 const DOWN: Call = Call { from: 4, to: 1 };
 
-/// Bistables and edge detectors: Q1 or Q. Counters: CV. Timers: ET.
-pub fn blocks() -> [Figure; 10] {
+// Bistables and edge detectors: Q1 or Q. Counters: CV. Timers: ET.
+fn blocks() -> [Figure; 10] {
     let mut set = SetDominant::new();
     set.s1 = true;
     set.sr();
@@ -79,8 +80,8 @@ pub fn blocks() -> [Figure; 10] {
     ]
 }
 
-/// The upper ends of what operations give, the lower one of what a comparison leaves, and whether a range lies in another.
-pub fn ranges() -> [Figure; 12] {
+// The upper ends of what operations give, the lower one of what a comparison leaves, and whether a range lies in another.
+fn ranges() -> [Figure; 12] {
     let some = Interval { lo: -3, hi: 9 };
     let other = Interval { lo: -2, hi: 5 };
     let divisor = Interval { lo: 2, hi: 4 };
@@ -105,8 +106,8 @@ pub fn ranges() -> [Figure; 12] {
     ]
 }
 
-/// A call book: the ticket of a call, whether it is told and served, and what reads the book. Then a set of calls.
-pub fn calls() -> [Figure; 16] {
+// A call book: the ticket of a call, whether it is told and served, and what reads the book. Then a set of calls.
+fn calls() -> [Figure; 16] {
     let mut book = CallBook::new(SIZES);
     let ticket = match book.enter(UP) {
         Entering::Done { ticket, .. } => ticket,
@@ -160,9 +161,9 @@ pub fn fields() -> Fields
     }
 }
 
-/// How many denials a commit has, how many cars run on behind a refresh, what lies in its ranges, how many cars the plant has, and NOW
-/// behind its step.
-pub fn image() -> [Figure; 6] {
+// How many denials a commit has, how many cars run on behind a refresh, what lies in its ranges, how many cars the plant has, and NOW
+// behind its step.
+fn image() -> [Figure; 6] {
     let up = CarOutputs {
         motor: Motor::Up,
         opens: false,
@@ -187,4 +188,14 @@ pub fn image() -> [Figure; 6] {
         ("Plant::cars", plant.cars() as i128),
         ("plant_step", fields.time as i128),
     ]
+}
+
+/// Each call.
+pub fn all<R: Print>(lines: &mut Lines<'_, R>) {
+    lines.print(&[NO_ALLOCATION]);
+    lines.print(&blocks());
+    lines.print(&ranges());
+    lines.print(&calls());
+    lines.print(&image());
+    lines.print(&[ALLOCATION]);
 }
