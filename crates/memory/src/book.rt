@@ -69,6 +69,7 @@ pub fn all<R: Print>(
         ("Book::slots", book.slots().len() as i128),
         ("Book::told", book.told(1).is_some() as i128),
         ("Book::global", book.global(verified, "G").is_some() as i128),
+        ("Book::journal", book.journal().len() as i128),
     ]);
     let entries = book.into_journal().len();
     lines.print(&[("Book::into_journal", entries as i128), ALLOCATION]);

@@ -39,6 +39,7 @@ fn over<R: Print>(
     lines.print(&[
         ("Verified::config", verified.config().floors.value as i128),
         ("Verified::sizes", verified.sizes().cars as i128),
+        ("Verified::has_task", verified.has_task(2) as i128),
         ("Verified::globals", verified.globals().len() as i128),
         ("Verified::units", cost as i128),
         ("Verified::tasks", budget as i128),

@@ -52,6 +52,7 @@ pub fn of_group<R: Print>(
         ("Scanned::is_of", is_of as i128),
         ("Scanned::began_as", began_as as i128),
         ("Scanned::into_store", store.has_ended(verified) as i128),
+        ("Store::task", store.task() as i128),
         ("Store::assigned", store.assigned(verified).len() as i128),
         ALLOCATION,
     ]);
@@ -113,6 +114,14 @@ pub fn of_car<R: Print>(
             verified.global(&globals, "G").is_some() as i128,
         ),
         ("Store::wishes", store.wishes(verified).serve as i128),
+        (
+            "Verified::opening_variables",
+            verified.opening_variables(1).numbers().len() as i128,
+        ),
+        (
+            "Verified::opening_globals",
+            verified.opening_globals().numbers().len() as i128,
+        ),
         ALLOCATION,
     ]);
     Ok(())
