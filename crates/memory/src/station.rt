@@ -38,7 +38,14 @@ fn next_scan<G: Naming, R: Print + Wait>(
         Ok(begun) => {
             let scanned = scan(station.verified(), begun);
             let (pass, committed) = station.commit(rt, pass, scanned, &mut report);
-            (pass, ("Station::commit", committed.is_ok() as i128))
+            let is_committed = match committed {
+                Ok(()) => true,
+                Err((_, scanned)) => {
+                    let _store = scanned.into_store();
+                    false
+                }
+            };
+            (pass, ("Station::commit", is_committed as i128))
         }
         Err(fault) => (pass, ("Station::start", fault.number() as i128)),
     };
