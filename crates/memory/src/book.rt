@@ -65,7 +65,10 @@ pub fn all<R: Print>(
         ("Book::commit_own", commit_own as i128),
         ("Book::start", start as i128),
         ("Book::image", book.image().fields.time as i128),
-        ("Book::copied_image", book.copied_image().fields.time as i128),
+        (
+            "Book::copied_image",
+            book.copied_image().fields.time as i128,
+        ),
         ("Book::slots", book.slots().len() as i128),
         ("Book::told", book.told(1).is_some() as i128),
         ("Book::global", book.global(verified, "G").is_some() as i128),

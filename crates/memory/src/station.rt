@@ -70,8 +70,7 @@ fn used<G: Naming, R: Print + Wait>(
 {
     let rt = lines.stream;
     let mut report = Report::new();
-    let (pass, collector, refreshed) =
-        station.refresh(rt, pass, fields(), collector, &mut report);
+    let (pass, collector, refreshed) = station.refresh(rt, pass, fields(), collector, &mut report);
     let (pass, collector, driven) = station.drive(rt, pass, false, collector, &mut report);
     lines.print(&[
         ("Station::refresh", refreshed.is_ok() as i128),
