@@ -2,7 +2,7 @@
 
 ghost use Rattle.std.specs.Prelude.{◌≡◌, ◌⊎◌, true, false, map, string_bytes};
 ghost use Rattle.std.specs.Io.KnownBytes.{Appends, Keeps};
-ghost use Rattle.lift_shell.specs.Runs.{IsOutcome, HasWritten, HasTold};
+ghost use Rattle.lift_shell.specs.Runs.{IsRunOutcome, IsBelowRun, HasWritten, HasTold};
 ghost use Rattle.lift_command.specs.Runs.{IsTextOutcome};
 ghost use Rattle.lift_sink.specs.Writes.{Writes, AppendsFront};
 
@@ -17,28 +17,30 @@ use std::process::ExitCode;
 use std::sync::Wait;
 use std::thread::Threads;
 
-/// Runs `liftplc` on its words, without the program's name. Only where they ask for `run` it waits for threads.
+/// Runs `liftplc` on its words, without the program's name. A refusal is explained where that is asked for, or where the words have
+/// `--explain`. Only where they ask for `run` it waits for threads.
 pub fn run<R: Threads + Wait + Sync, F: TextFiles, O: Sink, E: Sink>(
     rt: &R,
     alloc: Global,
     words: &[String],
     files: &F,
+    explains: bool,
     out: &mut O,
     err: &mut E,
 ) -> Status
     requires { O.has_failed out.old ≡ false }
 
     // Where it is done, the standard output has the output of the words, and the standard error nothing.
-    ensures done { result ≡ Status.Done → HasWritten (IsOutcome (F.gives files.now) (F.fails files.now) (IsTextOutcome (F.gives files.now) (F.fails files.now)) (map string_bytes words.now)) (Appends (O.contents out.old) (O.contents out.new)) }
+    ensures done { result ≡ Status.Done → HasWritten (IsRunOutcome (F.gives files.now) (F.fails files.now) (IsTextOutcome (F.gives files.now) (F.fails files.now)) (map string_bytes words.now)) (Appends (O.contents out.old) (O.contents out.new)) }
     ensures silent { result ≡ Status.Done → Keeps (E.contents err.old) (E.contents err.new) }
 
     // Otherwise the standard error has the one message of the words' fault, or of a standard output
     // that failed, and unless the standard output failed nothing was written there.
-    ensures told { (result ≡ Status.Done) ⊎ HasTold (IsOutcome (F.gives files.now) (F.fails files.now) (IsTextOutcome (F.gives files.now) (F.fails files.now)) (map string_bytes words.now)) (O.has_failed out.new) result (Writes (E.contents err.old) (E.contents err.new) (E.has_failed err.new)) }
+    ensures told { (result ≡ Status.Done) ⊎ HasTold (IsRunOutcome (F.gives files.now) (F.fails files.now) (IsTextOutcome (F.gives files.now) (F.fails files.now)) (map string_bytes words.now)) (IsBelowRun (F.gives files.now) (map string_bytes words.now) explains) (O.has_failed out.new) result (Writes (E.contents err.old) (E.contents err.new) (E.has_failed err.new)) }
     ensures nothing { (result ≡ Status.Done) ⊎ (((result ≡ Status.CannotWrite) × (O.has_failed out.new ≡ true)) ⊎ Keeps (O.contents out.old) (O.contents out.new)) }
-    ensures front { result ≡ Status.CannotWrite → HasWritten (IsOutcome (F.gives files.now) (F.fails files.now) (IsTextOutcome (F.gives files.now) (F.fails files.now)) (map string_bytes words.now)) (AppendsFront (O.contents out.old) (O.contents out.new)) }
+    ensures front { result ≡ Status.CannotWrite → HasWritten (IsRunOutcome (F.gives files.now) (F.fails files.now) (IsTextOutcome (F.gives files.now) (F.fails files.now)) (map string_bytes words.now)) (AppendsFront (O.contents out.old) (O.contents out.new)) }
 {
-    lift_shell::run::run(rt, alloc, words, files, &Liftplc, out, err)
+    lift_shell::run::run(rt, alloc, words, files, &Liftplc, explains, out, err)
 }
 
 /// Runs `liftplc` on the words of the command line; `threads` lends the right to start threads and to wait for them.

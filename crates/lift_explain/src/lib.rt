@@ -22,6 +22,13 @@ pub fn explanation(number: u16) -> Option<&'static str>
     Some(meaning_in(&TEXTS, number)?.text)
 }
 
+/// The first line of what it means: the number and its title.
+pub fn title(number: u16) -> Option<&'static str> {
+    let text = explanation(number)?;
+    let (title, _) = text.split_once('\n')?;
+    Some(title)
+}
+
 // The first meaning of a number.
 #[tactic(auto, unfolding(crate::specs::Explained::meaning_in))]
 fn meaning_in(meanings: &[Meaning], number: u16) -> Option<&Meaning>

@@ -9,6 +9,8 @@ use std::alloc::{AllocError, Global};
 const VERSION: &str = "0.1.0";
 
 const AFTER_HELP: &str = "\
+With every command, --explain shows below a refusal of FILE or TRACE its line and what its number means, as on a terminal.
+
 Exit status:
   0  done
   2  the command line, FILE or TRACE is refused
@@ -104,6 +106,33 @@ fn run_command<'a>(alloc: Global) -> Result<Command<'a>, AllocError> {
     )
 }
 
+/// The command that prints what was denied.
+fn denials_command<'a>(alloc: Global) -> Result<Command<'a>, AllocError> {
+    rounds_command(
+        alloc,
+        "denials",
+        "Runs FILE as `sim` does and prints what the interlock denied",
+    )
+}
+
+/// The arguments NAME of `watch`, and behind them PRESS.
+fn names<'a>(alloc: Global) -> Arg<'a> {
+    Arg::new(alloc, "NAME").num_args(0..).help(
+        "What is shown behind each round, as NOW, CAR1.POS, CAR1.V or a global; behind the names stand calls, as for `sim`",
+    )
+}
+
+/// The command that prints values.
+fn watch_command<'a>(alloc: Global) -> Result<Command<'a>, AllocError> {
+    file_and_rounds(
+        alloc,
+        "watch",
+        "Runs FILE as `sim` does and prints values behind each round, as CSV",
+    )?
+    .arg(names(alloc))?
+    .arg(fire(alloc))
+}
+
 /// A command that takes FILE, ROUNDS, PRESS and `--fire`.
 fn rounds_command<'a>(
     alloc: Global,
@@ -136,8 +165,30 @@ fn trace<'a>(alloc: Global) -> Arg<'a> {
 
 /// The command that replays.
 fn replay_command<'a>(alloc: Global) -> Result<Command<'a>, AllocError> {
-    Command::new(alloc, "replay")
-        .about("Replays a trace on FILE and prints the image")
+    trace_command(
+        alloc,
+        "replay",
+        "Replays a trace on FILE and prints the image",
+    )
+}
+
+/// The command that draws.
+fn draw_command<'a>(alloc: Global) -> Result<Command<'a>, AllocError> {
+    trace_command(
+        alloc,
+        "draw",
+        "Replays a trace on FILE and prints a picture of it, as SVG",
+    )
+}
+
+/// A command that takes FILE and TRACE.
+fn trace_command<'a>(
+    alloc: Global,
+    name: &'a str,
+    about: &'a str,
+) -> Result<Command<'a>, AllocError> {
+    Command::new(alloc, name)
+        .about(about)
         .arg(file(alloc))?
         .arg(trace(alloc))
 }
@@ -192,7 +243,18 @@ fn add_other_commands<'a>(
     commands: &mut Vec<Command<'a>>,
 ) -> Result<(), AllocError> {
     add(commands, run_command(alloc))?;
+    add(commands, denials_command(alloc))?;
+    add(commands, watch_command(alloc))?;
+    add_trace_commands(alloc, commands)
+}
+
+/// Adds the commands over a trace, and `explain`.
+fn add_trace_commands<'a>(
+    alloc: Global,
+    commands: &mut Vec<Command<'a>>,
+) -> Result<(), AllocError> {
     add(commands, replay_command(alloc))?;
+    add(commands, draw_command(alloc))?;
     add(commands, explain_command(alloc))
 }
 
@@ -220,12 +282,12 @@ fn first_option(words: &[String]) -> Option<Misuse<'_>> {
     Some(Misuse::Option(word))
 }
 
-/// Whether a word is the command `sim` or `run`.
+/// Whether a word is a command that simulates.
 fn takes_rounds(word: &str) -> bool {
-    word == Name::Sim.as_str() || word == Name::Run.as_str()
+    matches!(Name::of(word), Some(Name::Rounds(_)))
 }
 
-/// What is wrong with words behind `sim` or `run`.
+/// What is wrong with words behind a command that simulates.
 fn misuse_of_rounds(words: &[String]) -> Misuse<'_> {
     let Some(place) = words.iter().position(|word| is_fire(word)) else {
         return misuse_of_places(Words {
@@ -247,7 +309,7 @@ fn is_fire(word: &str) -> bool {
     word == FIRE
 }
 
-/// What is wrong with words behind `sim` or `run` that have no `--fire`.
+/// What is wrong with words behind such a command that have no `--fire`.
 fn misuse_of_places(words: Words<'_>) -> Misuse<'_> {
     if let Some(misuse) = first_option(words.front).or_else(|| first_option(words.back)) {
         return misuse;

@@ -9,7 +9,7 @@ use Rattle.lift_host.specs.declared.press.PressFault.TheVariants as press
 use Rattle.lift_host.specs.declared.status.Status.{Status}
 use Rattle.lift_host.specs.declared.status.Status.TheVariants as status
 use Rattle.lift_host.specs.declared.status.Fault.{Fault}
-use Rattle.lift_host.specs.declared.status.Fault.TheVariants.{Misuse, Refused, BadPress, BadFire, CannotRead, CannotWrite, NoMemory}
+use Rattle.lift_host.specs.declared.status.Fault.TheVariants.{Misuse, Refused, BadPress, BadFire, BadName, CannotRead, CannotWrite, NoMemory}
 
 -- the exit status
 abbrev pub code_of : Status → ℕ
@@ -25,6 +25,7 @@ status_of (Misuse text) = status.Refused
 status_of (Refused number line) = status.Refused
 status_of BadPress = status.Refused
 status_of BadFire = status.Refused
+status_of BadName = status.Refused
 status_of CannotRead = status.CannotRead
 status_of CannotWrite = status.CannotWrite
 status_of NoMemory = status.NoMemory
@@ -35,6 +36,7 @@ message_of (Misuse text) = string_bytes text
 message_of (Refused number line) = codes "refused " ++ (decimal number ++ (codes " at line " ++ (decimal line ++ codes "\n")))
 message_of BadPress = codes "bad press\n"
 message_of BadFire = codes "bad fire\n"
+message_of BadName = codes "bad name\n"
 message_of CannotRead = codes "cannot read\n"
 message_of CannotWrite = codes "cannot write\n"
 message_of NoMemory = codes "no memory\n"

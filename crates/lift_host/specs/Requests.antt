@@ -1,9 +1,11 @@
 -- What the words of a command line ask for (own rules).
-use Rattle.std.specs.Prelude.{◌≡◌, ◌≤◌, ◌<◌, ℕ, List, [], ◌∷◌, ◌++◌, length, slice_index, EachIndex, codes, map, slice_get, Option, Some, None, option_map, string_bytes}
+use Rattle.std.specs.Prelude.{◌≡◌, ◌⊎◌, ◌≤◌, ◌<◌, ℕ, List, [], ◌∷◌, ◌++◌, length, slice_index, EachIndex, codes, map, slice_get, Option, Some, None, option_map, string_bytes}
 use Rattle.std.specs.Int.{IsInRange}
 use Rattle.std.specs.Str.Parse.{digits_value}
 use Rattle.lift_host.specs.declared.request.Name.{Name}
 use Rattle.lift_host.specs.declared.request.Name.TheVariants as name
+use Rattle.lift_host.specs.declared.request.Following.TheVariants as following
+use Rattle.lift_host.specs.declared.request.Simulating.TheVariants as simulating
 use Rattle.lift_host.specs.declared.request.Words.{Words}
 use Rattle.lift_host.specs.declared.request.Rounds.{Rounds}
 use Rattle.lift_host.specs.declared.request.Request.{Request}
@@ -32,16 +34,24 @@ IsOption word = slice_index word 0 ≡ 45
 -- the word of a command
 abbrev pub word_of : Name → List ℕ
 word_of name.Check = codes "check"
-word_of name.Sim = codes "sim"
-word_of name.Run = codes "run"
-word_of name.Replay = codes "replay"
+word_of (name.Rounds simulating.Sim) = codes "sim"
+word_of (name.Rounds simulating.Run) = codes "run"
+word_of (name.Rounds simulating.Denials) = codes "denials"
+word_of (name.Rounds simulating.Watch) = codes "watch"
+word_of (name.Trace following.Replay) = codes "replay"
+word_of (name.Trace following.Draw) = codes "draw"
+
+-- the command of a request
+abbrev pub command_of : Request → Name
+command_of (request.Check file) = name.Check
+command_of (request.Rounds command rounds) = name.Rounds command
+command_of (request.Trace command traced) = name.Trace command
 
 -- the name of a request's file
 abbrev pub name_of : Request → List ℕ
 name_of (request.Check file) = file.now
-name_of (request.Sim rounds) = rounds.file.now
-name_of (request.Run rounds) = rounds.file.now
-name_of (request.Replay file trace) = file.now
+name_of (request.Rounds command rounds) = rounds.file.now
+name_of (request.Trace command traced) = traced.file.now
 
 -- no word is an option
 abbrev pub AreNoOptions : List (List ℕ) → Type 0
@@ -50,6 +60,16 @@ AreNoOptions words = (k : ℕ) (word : List ℕ) → slice_get words k ≡ Some 
 -- the words of two parts, one behind the other
 abbrev pub words_of : Words → List (List ℕ)
 words_of words = map string_bytes words.front.now ++ map string_bytes words.back.now
+
+-- a word that begins with a digit
+abbrev pub BeginsWithDigit : List ℕ → Type 0
+BeginsWithDigit word = IsInRange 48 57 (slice_index word 0)
+
+-- words in two parts: before the first that begins with a digit, and from there on
+pub record AreNamesFirst (words names presses : List (List ℕ)) : Type 0 where
+  pub are : words ≡ names ++ presses
+  pub unnumbered : (k : ℕ) (word : List ℕ) → slice_get names k ≡ Some word → BeginsWithDigit word → ⊥
+  pub numbered : (word : List ℕ) → slice_get presses 0 ≡ Some word → BeginsWithDigit word
 
 -- words without `--fire ROUND`, which may stand anywhere among them, and that ROUND
 abbrev pub IsApart : List (List ℕ) → List (List ℕ) → Option (List ℕ) → Type 0
@@ -66,15 +86,30 @@ pub record GiveRounds (words : List (List ℕ)) (rounds : Rounds) : Type 0 where
   pub is_rounds : IsRounds text rounds.rounds
   pub plain : AreNoOptions positional
 
--- the word of a command, and words behind it that give the rounds
-pub record AsksRounds (name : List ℕ) (words : List (List ℕ)) (rounds : Rounds) : Type 0 where
-  pub rest : List (List ℕ)
-  pub are : words ≡ name ∷ rest
-  pub behind : GiveRounds rest rounds
+-- FILE alone, which is no option
+pub record IsFile (words : List (List ℕ)) (file : List ℕ) : Type 0 where
+  pub are : words ≡ file ∷ []
+  pub plain : IsOption file → ⊥
 
--- `check FILE`, `sim` and `run` as above and `replay FILE TRACE`, where neither FILE nor TRACE is an option
-abbrev pub Asks : List (List ℕ) → Request → Type 0
-Asks words (request.Check file) = (words ≡ codes "check" ∷ file.now ∷ []) × (IsOption file.now → ⊥)
-Asks words (request.Sim rounds) = AsksRounds (codes "sim") words rounds
-Asks words (request.Run rounds) = AsksRounds (codes "run") words rounds
-Asks words (request.Replay file trace) = (words ≡ codes "replay" ∷ file.now ∷ trace.now ∷ []) × (IsOption file.now → ⊥) × (IsOption trace.now → ⊥)
+-- FILE and TRACE, and neither is an option
+pub record AreFiles (words : List (List ℕ)) (file trace : List ℕ) : Type 0 where
+  pub are : words ≡ file ∷ trace ∷ []
+  pub plain_file : IsOption file → ⊥
+  pub plain_trace : IsOption trace → ⊥
+
+-- what a request takes behind its command: `FILE` for check, `FILE ROUNDS` and more for a simulation, and `FILE TRACE`
+abbrev pub Takes : List (List ℕ) → Request → Type 0
+Takes words (request.Check file) = IsFile words file.now
+Takes words (request.Rounds command rounds) = GiveRounds words rounds
+Takes words (request.Trace command traced) = AreFiles words traced.file.now traced.trace.now
+
+-- a command, and behind it what it takes
+pub record Asks (words : List (List ℕ)) (request : Request) : Type 0 where
+  pub rest : List (List ℕ)
+  pub are : words ≡ word_of (command_of request) ∷ rest
+  pub takes : Takes rest request
+
+-- these are the words but `--explain`
+abbrev pub AreWithoutExplain : List (List ℕ) → List (List ℕ) → Type 0
+AreWithoutExplain [] rest = rest ≡ []
+AreWithoutExplain (word ∷ words) rest = ((word ≡ codes "--explain") × AreWithoutExplain words rest) ⊎ ((word ≡ codes "--explain" → ⊥) × (more : List (List ℕ)) × (rest ≡ word ∷ more) × AreWithoutExplain words more)

@@ -1,24 +1,50 @@
 // What the words ask for.
 
-ghost use Rattle.std.specs.Prelude.{◌≡◌, ◌≤◌, ◌<◌, ◌∷◌, ◌++◌, ◌↔◌, [], ℕ, List, Option, Some, true, false, IfSome, IsNone, IsTrue, codes, length, map, option_map, slice_get, string_bytes};
-ghost use Rattle.lift_host.specs.Requests.{IsNumberTo, IsDigits, IsOption, AreNoOptions, IsApart, GiveRounds, Asks, name_of, word_of, words_of};
+ghost use Rattle.std.specs.Prelude.{◌≡◌, ◌≤◌, ◌<◌, ◌∷◌, ◌++◌, ◌↔◌, [], ℕ, List, Option, Some, true, false, IfSome, IfOk, IsNone, IsTrue, codes, length, map, option_map, slice_get, string_bytes};
+ghost use Rattle.lift_host.specs.Requests.{IsNumberTo, IsDigits, IsOption, AreNoOptions, IsApart, IsFile, AreFiles, GiveRounds, Takes, Asks, BeginsWithDigit, AreNamesFirst, AreWithoutExplain, command_of, name_of, word_of, words_of};
 ghost use Rattle.lift_host.specs.declared.request.Name.{Name};
 ghost use Rattle.lift_host.specs.declared.request.Request.{Request};
 ghost use Rattle.lift_host.specs.declared.request.Rounds.{Rounds};
 
-/// The most rounds that `sim` and `run` run.
+use std::alloc::{AllocError, Global};
+
+/// The most rounds of a simulation.
 pub const MOST_ROUNDS: u16 = 50_000;
 
-/// The option of `sim` and `run` whose value is the round from which on fire recall is on.
+/// The option of a simulation whose value is the round from which on fire recall is on.
 pub const FIRE: &str = "--fire";
+
+/// The option of every command that has a refusal of a text shown with the text's line and the number's meaning.
+pub const EXPLAIN: &str = "--explain";
+
+/// A command over a simulation of so many rounds.
+#[derive(Clone, Copy)]
+pub enum Simulating {
+    /// Its trace, in one thread.
+    Sim,
+    /// Its trace, with a thread for each task.
+    Run,
+    /// What the interlock denied in it.
+    Denials,
+    /// Values behind each round.
+    Watch,
+}
+
+/// A command over a trace.
+#[derive(Clone, Copy)]
+pub enum Following {
+    /// The image behind it.
+    Replay,
+    /// A picture of it.
+    Draw,
+}
 
 /// The name of a command.
 #[derive(Clone, Copy)]
 pub enum Name {
     Check,
-    Sim,
-    Run,
-    Replay,
+    Rounds(Simulating),
+    Trace(Following),
 }
 
 /// Words in two parts, one behind the other.
@@ -28,29 +54,33 @@ pub struct Words<'w> {
     pub back: &'w [String],
 }
 
-/// What `sim` and `run` take.
+/// What a command takes that simulates.
 #[derive(Clone, Copy)]
 pub struct Rounds<'w> {
     /// The name of the file.
     pub file: &'w str,
     /// How many rounds.
     pub rounds: u16,
-    /// The words behind ROUNDS, which are to be presses.
+    /// The words behind ROUNDS, which are to be presses, behind names for `watch`.
     pub presses: Words<'w>,
     /// The word behind `--fire`, which is to be a round.
     pub fire: Option<&'w str>,
 }
 
+/// What a command takes that follows a trace: names of files.
+#[derive(Clone, Copy)]
+pub struct Traced<'w> {
+    pub file: &'w str,
+    pub trace: &'w str,
+}
+
 /// What the words ask for.
 #[derive(Clone, Copy)]
 pub enum Request<'w> {
-    Check { file: &'w str },
-    /// A simulation in one thread.
-    Sim(Rounds<'w>),
-    /// A simulation with a thread for each task.
-    Run(Rounds<'w>),
-    /// Both are names of files.
-    Replay { file: &'w str, trace: &'w str },
+    /// The name of the file.
+    Check(&'w str),
+    Rounds(Simulating, Rounds<'w>),
+    Trace(Following, Traced<'w>),
 }
 
 impl Name {
@@ -60,19 +90,30 @@ impl Name {
     {
         match self {
             Name::Check => "check",
-            Name::Sim => "sim",
-            Name::Run => "run",
-            Name::Replay => "replay",
+            Name::Rounds(Simulating::Sim) => "sim",
+            Name::Rounds(Simulating::Run) => "run",
+            Name::Rounds(Simulating::Denials) => "denials",
+            Name::Rounds(Simulating::Watch) => "watch",
+            Name::Trace(Following::Replay) => "replay",
+            Name::Trace(Following::Draw) => "draw",
         }
     }
 
-    fn of(word: &str) -> Option<Name>
+    /// The command that a word names.
+    pub fn of(word: &str) -> Option<Name>
         ensures some { IfSome result (λ name. word.now ≡ word_of name) }
         ensures none { IsNone result → (name : Name) → word.now ≡ word_of name → ⊥ }
     {
-        [Name::Check, Name::Sim, Name::Run, Name::Replay]
-            .into_iter()
-            .find(|name| word == name.as_str())
+        match word {
+            "check" => Some(Name::Check),
+            "sim" => Some(Name::Rounds(Simulating::Sim)),
+            "run" => Some(Name::Rounds(Simulating::Run)),
+            "denials" => Some(Name::Rounds(Simulating::Denials)),
+            "watch" => Some(Name::Rounds(Simulating::Watch)),
+            "replay" => Some(Name::Trace(Following::Replay)),
+            "draw" => Some(Name::Trace(Following::Draw)),
+            _ => None,
+        }
     }
 }
 
@@ -99,15 +140,54 @@ impl<'w> Words<'w> {
     }
 }
 
+/// Words that are names, and those behind them.
+#[derive(Clone, Copy)]
+pub struct Named<'w> {
+    pub names: Words<'w>,
+    pub presses: Words<'w>,
+}
+
+impl<'w> Words<'w> {
+    /// The names before the first word that begins with a digit, and the words from there on.
+    pub fn names_first(self) -> Named<'w>
+        ensures { AreNamesFirst (words_of self.entry) (words_of result.names) (words_of result.presses) }
+    {
+        let (names, presses) = self.front.split_at(first_number(self.front));
+        if !presses.is_empty() {
+            return Named {
+                names: Words {
+                    front: names,
+                    back: &[],
+                },
+                presses: Words {
+                    front: presses,
+                    back: self.back,
+                },
+            };
+        }
+        let (more, presses) = self.back.split_at(first_number(self.back));
+        Named {
+            names: Words {
+                front: self.front,
+                back: more,
+            },
+            presses: Words {
+                front: presses,
+                back: &[],
+            },
+        }
+    }
+}
+
 impl<'w> Request<'w> {
     /// The name of its file.
     pub fn file(self) -> &'w str
         ensures { result.now ≡ name_of self.entry }
     {
         match self {
-            Request::Check { file } => file,
-            Request::Sim(rounds) | Request::Run(rounds) => rounds.file,
-            Request::Replay { file, .. } => file,
+            Request::Check(file) => file,
+            Request::Rounds(_, rounds) => rounds.file,
+            Request::Trace(_, traced) => traced.file,
         }
     }
 }
@@ -146,38 +226,45 @@ pub fn asked(words: &[String]) -> Option<Request<'_>>
     ensures none { IsNone result → (request : Request) → Asks (map string_bytes words.now) request → ⊥ }
 {
     let (name, rest) = words.split_first()?;
-    match Name::of(name)? {
-        Name::Check => asked_check(rest),
-        Name::Sim => asked_rounds(rest).map(Request::Sim),
-        Name::Run => asked_rounds(rest).map(Request::Run),
-        Name::Replay => asked_replay(rest),
+    takes(Name::of(name)?, rest)
+}
+
+/// What a command is asked for by the words behind its name.
+fn takes(name: Name, rest: &[String]) -> Option<Request<'_>>
+    ensures some { IfSome result (λ request. (command_of request ≡ name) × Takes (map string_bytes rest.now) request) }
+    ensures none { IsNone result → (request : Request) → command_of request ≡ name → Takes (map string_bytes rest.now) request → ⊥ }
+{
+    match name {
+        Name::Check => Some(Request::Check(file_alone(rest)?)),
+        Name::Rounds(command) => Some(Request::Rounds(command, rounds_given(rest)?)),
+        Name::Trace(command) => Some(Request::Trace(command, trace_given(rest)?)),
     }
 }
 
-fn asked_check(rest: &[String]) -> Option<Request<'_>>
-    ensures some { IfSome result (Asks (codes "check" ∷ map string_bytes rest.now)) }
-    ensures none { IsNone result → (request : Request) → Asks (codes "check" ∷ map string_bytes rest.now) request → ⊥ }
+/// FILE, where it is the one word.
+fn file_alone(rest: &[String]) -> Option<&str>
+    ensures some { IfSome result (λ file. IsFile (map string_bytes rest.now) file.now) }
+    ensures none { IsNone result → (file : List ℕ) → IsFile (map string_bytes rest.now) file → ⊥ }
 {
     match rest {
-        [file] if !is_option(file) => Some(Request::Check { file }),
+        [file] if !is_option(file) => Some(file),
         _ => None,
     }
 }
 
-fn asked_replay(rest: &[String]) -> Option<Request<'_>>
-    ensures some { IfSome result (Asks (codes "replay" ∷ map string_bytes rest.now)) }
-    ensures none { IsNone result → (request : Request) → Asks (codes "replay" ∷ map string_bytes rest.now) request → ⊥ }
+/// FILE and TRACE, where they are the two words.
+fn trace_given(rest: &[String]) -> Option<Traced<'_>>
+    ensures some { IfSome result (λ traced. AreFiles (map string_bytes rest.now) traced.file.now traced.trace.now) }
+    ensures none { IsNone result → (file trace : List ℕ) → AreFiles (map string_bytes rest.now) file trace → ⊥ }
 {
     match rest {
-        [file, trace] if !is_option(file) && !is_option(trace) => {
-            Some(Request::Replay { file, trace })
-        }
+        [file, trace] if !is_option(file) && !is_option(trace) => Some(Traced { file, trace }),
         _ => None,
     }
 }
 
-/// The rounds that the words behind `sim` or `run` give.
-fn asked_rounds(rest: &[String]) -> Option<Rounds<'_>>
+/// FILE and ROUNDS, and what stands behind them.
+fn rounds_given(rest: &[String]) -> Option<Rounds<'_>>
     ensures some { IfSome result (GiveRounds (map string_bytes rest.now)) }
     ensures none { IsNone result → (rounds : Rounds) → GiveRounds (map string_bytes rest.now) rounds → ⊥ }
 {
@@ -193,13 +280,13 @@ fn asked_rounds(rest: &[String]) -> Option<Rounds<'_>>
     })
 }
 
-/// The words behind `sim` or `run` that stand in places, and the word behind `--fire`.
+/// The words behind such a command that stand in places, and the word behind `--fire`.
 struct WordsApart<'w> {
     positional: Words<'w>,
     fire: Option<&'w str>,
 }
 
-/// The words behind `sim` or `run` apart, where they have no other option and a word behind `--fire`.
+/// The words behind such a command apart, where they have no other option and a word behind `--fire`.
 fn apart(rest: &[String]) -> Option<WordsApart<'_>>
     ensures some { IfSome result (λ apart. IsApart (map string_bytes rest.now) (words_of apart.positional) (option_map (λ value. value.now) apart.fire)) }
     ensures plain { IfSome result (λ apart. AreNoOptions (words_of apart.positional)) }
@@ -252,4 +339,47 @@ fn first_option(words: &[String]) -> usize
         place += 1;
     }
     place
+}
+
+/// Whether a word begins with a digit.
+fn is_number(word: &str) -> bool
+    ensures { IsTrue result ↔ BeginsWithDigit word.now }
+{
+    matches!(word.as_bytes(), [b'0'..=b'9', ..])
+}
+
+/// How many words stand before the first that begins with a digit.
+fn first_number(words: &[String]) -> usize
+    ensures within { result ≤ length words.now }
+    ensures before { (k : ℕ) (word : List ℕ) → k < result → slice_get (map string_bytes words.now) k ≡ Some word → BeginsWithDigit word → ⊥ }
+    ensures at { (word : List ℕ) → slice_get (map string_bytes words.now) result ≡ Some word → BeginsWithDigit word }
+{
+    let mut place = 0;
+    'words: for word in words {
+        if is_number(word) {
+            return place;
+        }
+        place += 1;
+    }
+    place
+}
+
+/// Whether a word is the option `--explain`.
+fn is_explain(word: &str) -> bool
+    ensures { IsTrue result ↔ (word.now ≡ codes "--explain") }
+{
+    word == EXPLAIN
+}
+
+/// The words without `--explain`, wherever it stands among them.
+pub fn without_explain(alloc: Global, words: &[String]) -> Result<Vec<String>, AllocError>
+    ensures { IfOk result (λ rest. AreWithoutExplain (map string_bytes words.now) (map string_bytes rest.items)) }
+{
+    let mut rest = Vec::new(alloc);
+    'words: for word in words {
+        if !is_explain(word) {
+            rest.push(String::from_str(alloc, word)?)?;
+        }
+    }
+    Ok(rest)
 }

@@ -37,6 +37,8 @@ pub enum Fault {
     BadPress,
     /// ROUND of `--fire` is no round of the simulation.
     BadFire,
+    /// A NAME of `watch` names nothing that has a value.
+    BadName,
     CannotRead,
     CannotWrite,
     NoMemory,
@@ -117,6 +119,7 @@ impl Fault {
             Fault::Refused { .. } => Status::Refused,
             Fault::BadPress => Status::Refused,
             Fault::BadFire => Status::Refused,
+            Fault::BadName => Status::Refused,
             Fault::CannotRead => Status::CannotRead,
             Fault::CannotWrite => Status::CannotWrite,
             Fault::NoMemory => Status::NoMemory,
@@ -133,6 +136,7 @@ impl Fault {
             Fault::Refused { number, line } => put_refusal(sink, *number, *line),
             Fault::BadPress => put_all(sink, b"bad press\n"),
             Fault::BadFire => put_all(sink, b"bad fire\n"),
+            Fault::BadName => put_all(sink, b"bad name\n"),
             Fault::CannotRead => put_all(sink, b"cannot read\n"),
             Fault::CannotWrite => put_all(sink, b"cannot write\n"),
             Fault::NoMemory => put_all(sink, b"no memory\n"),

@@ -1,4 +1,4 @@
 pub mod Pressed
 pub mod Counted
 pub mod Drawn
-pub mod Replayed
+pub mod Followed

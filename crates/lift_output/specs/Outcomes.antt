@@ -1,20 +1,26 @@
 -- What a request gives of a verified configuration (own rules).
-use Rattle.std.specs.Prelude.{◌≡◌, ℕ, ◌+◌, List, Option, Some, None, option_map, Ok, Err}
+use Rattle.std.specs.Prelude.{◌≡◌, ℕ, ◌+◌, ◌++◌, List, Option, Some, None, option_map, Ok, Err}
 use Rattle.il_machine.specs.Scanning.{Program}
 use Rattle.lift_host.specs.declared.files.ReadFault.{ReadFault}
 use Rattle.lift_host.specs.declared.press.Press.{Press}
 use Rattle.lift_host.specs.declared.request.Request.{Request}
 use Rattle.lift_host.specs.declared.request.Rounds.{Rounds}
 use Rattle.lift_host.specs.declared.request.Request.TheVariants as request
+use Rattle.lift_host.specs.declared.request.Following.{Following}
+use Rattle.lift_host.specs.declared.request.Following.TheVariants as following
+use Rattle.lift_host.specs.declared.request.Simulating.{Simulating}
+use Rattle.lift_host.specs.declared.request.Simulating.TheVariants as simulating
 use Rattle.lift_host.specs.declared.status.Fault.{Fault}
 use Rattle.lift_host.specs.declared.status.Fault.TheVariants as fault
 use Rattle.lift_host.specs.Messages.{fault_of_reading}
 use Rattle.lift_host.specs.Presses.{ArePresses}
-use Rattle.lift_host.specs.Requests.{IsNumberTo, words_of}
+use Rattle.lift_host.specs.declared.request.Words.{Words}
+use Rattle.lift_host.specs.Requests.{AreNamesFirst, IsNumberTo, words_of}
 use Rattle.lift_journal.specs.Rounds.{TakesAll, IsRefusedAt, is_fire_in}
 use Rattle.lift_output.specs.ImageText.{image_text}
 use Rattle.lift_output.specs.Listing.{listing}
 use Rattle.lift_runs.specs.Driven.{IsSimulated}
+use Rattle.lift_runs.specs.Shown.{IsShown}
 use Rattle.lift_show.specs.Outputs.{Outcome, bytes_of}
 use Rattle.lift_spec.specs.declared.event.EventFault.{EventFault}
 use Rattle.lift_spec.specs.declared.journal.Entry.{Entry}
@@ -25,6 +31,9 @@ use Rattle.lift_spec.specs.World.{World, opening}
 use Rattle.lift_trace.specs.declared.fault.TraceFault.TheVariants.{BadLine, Truncated}
 use Rattle.lift_trace.specs.Reading.{Reads}
 use Rattle.lift_trace.specs.Written.{text_of_entries}
+use Rattle.lift_watch.specs.declared.names.Watched.{Watched}
+use Rattle.lift_watch.specs.Denials.{denied}
+use Rattle.lift_watch.specs.Values.{AreWatched, IsUnknown, header_text, watching}
 use Rattle.lift_workers.specs.Ran.{IsRun}
 
 -- CHECK
@@ -95,19 +104,77 @@ abbrev pub IsRunOutcome : Program → Rounds → Outcome → Type 0
 IsRunOutcome program asked (Ok output) = IsTraceOfRun program asked (bytes_of output)
 IsRunOutcome program asked (Err why) = IsUndriven (sizes_of program.config).floors asked why
 
--- REPLAY
+-- DENIALS
+
+-- The lines are those of a simulation of the program from its opening, with the presses and the FIRE of the words.
+pub record IsDenialsOf (program : Program) (asked : Rounds) (text : List ℕ) : Type 0 where
+  pub presses : List Press
+  pub first : Option ℕ
+  pub driven : AreDriven (sizes_of program.config).floors asked presses first
+  pub entries : List Entry
+  pub shown : IsShown denied program.config presses first asked.rounds entries text
+
+-- `denials` prints them, where its further words are presses and the word behind `--fire` is a round.
+abbrev pub IsDenialsOutcome : Program → Rounds → Outcome → Type 0
+IsDenialsOutcome program asked (Ok output) = IsDenialsOf program asked (bytes_of output)
+IsDenialsOutcome program asked (Err why) = IsUndriven (sizes_of program.config).floors asked why
+
+-- WATCH
+
+-- The words behind ROUNDS are names, which have values as the program opens, and then presses. The lines are that of the names, and
+-- those of a simulation.
+pub record IsWatchOf (program : Program) (asked : Rounds) (text : List ℕ) : Type 0 where
+  pub names : List (List ℕ)
+  pub behind : Words
+  pub split : AreNamesFirst (words_of asked.presses) names (words_of behind)
+  pub watched : List Watched
+  pub known : AreWatched (opening program.config) names watched
+  pub presses : List Press
+  pub first : Option ℕ
+  pub driven : AreDriven (sizes_of program.config).floors (record asked { presses = behind }) presses first
+  pub entries : List Entry
+  pub rows : List ℕ
+  pub shown : IsShown (watching watched) program.config presses first asked.rounds entries rows
+  pub lines : text ≡ header_text names ++ rows
+
+-- The words are names and then presses, and one of the names has no value as the program opens.
+pub record HasUnknown (program : Program) (asked : Rounds) : Type 0 where
+  pub names : List (List ℕ)
+  pub behind : Words
+  pub split : AreNamesFirst (words_of asked.presses) names (words_of behind)
+  pub unknown : IsUnknown (opening program.config) names
+
+-- or they are no presses, or the word behind `--fire` is no round
+pub record IsUnwatched (program : Program) (asked : Rounds) (why : Fault) : Type 0 where
+  pub names : List (List ℕ)
+  pub behind : Words
+  pub split : AreNamesFirst (words_of asked.presses) names (words_of behind)
+  pub undriven : IsUndriven (sizes_of program.config).floors (record asked { presses = behind }) why
+
+-- `watch` prints them, or says what is wrong with the words.
+abbrev pub IsWatchOutcome : Program → Rounds → Outcome → Type 0
+IsWatchOutcome program asked (Ok output) = IsWatchOf program asked (bytes_of output)
+IsWatchOutcome program asked (Err fault.BadName) = HasUnknown program asked
+IsWatchOutcome program asked (Err why) = IsUnwatched program asked why
+
+-- TRACES
 
 -- the bytes of a trace that are read: one more than a trace may have
 abbrev pub most_trace_bytes : ℕ
 most_trace_bytes = 67108865
 
--- the image behind a trace's events, from the opening of the program
-pub record IsImageAfter (program : Program) (trace text : List ℕ) : Type 0 where
+-- what a command says of a world behind a trace: `replay` prints its image, `draw` some picture
+abbrev pub Says : Following → Program → World → List ℕ → Type 0
+Says following.Replay program after text = text ≡ image_text program.config after
+Says following.Draw program after text = Unit {0}
+
+-- it says so of the world behind a trace's events, from the opening of the program
+pub record IsSaidAfter (command : Following) (program : Program) (trace text : List ℕ) : Type 0 where
   pub events : List TraceEvent
   pub reads : Reads (sizes_of program.config).cars trace (Ok events)
   pub after : World
   pub taken : TakesAll program.config (opening program.config) events after
-  pub is : text ≡ image_text program.config after
+  pub is : Says command program after text
 
 -- an event of the trace is refused, with this number, at its line: the first event stands in line 2
 pub record IsEventRefused (program : Program) (trace : List ℕ) (number line : ℕ) : Type 0 where
@@ -125,23 +192,29 @@ pub data IsTraceRefused (program : Program) (trace : List ℕ) (number line : �
   truncated : number ≡ 81 → Reads (sizes_of program.config).cars trace (Err (Truncated line)) → IsTraceRefused program trace number line
   event : IsEventRefused program trace number line → IsTraceRefused program trace number line
 
--- `replay` of a trace prints the image behind its events, or what is wrong with it. Memory may be missing.
-abbrev pub IsReplayed : Program → List ℕ → Outcome → Type 0
-IsReplayed program trace (Ok output) = IsImageAfter program trace (bytes_of output)
-IsReplayed program trace (Err (fault.Refused number line)) = IsTraceRefused program trace number line
-IsReplayed program trace (Err fault.NoMemory) = Unit {0}
-IsReplayed program trace (Err _) = ⊥
+-- A command over a trace says what stands behind its events, or what is wrong with it. Memory may be missing.
+abbrev pub IsFollowed : Following → Program → List ℕ → Outcome → Type 0
+IsFollowed command program trace (Ok output) = IsSaidAfter command program trace (bytes_of output)
+IsFollowed command program trace (Err (fault.Refused number line)) = IsTraceRefused program trace number line
+IsFollowed command program trace (Err fault.NoMemory) = Unit {0}
+IsFollowed command program trace (Err _) = ⊥
 
--- the file of a trace can't be read, or it is replayed
-pub data IsReplayOutcome (reads : List ℕ → ℕ → List ℕ → Type 0) (fails : List ℕ → ℕ → ReadFault → Type 0) (program : Program) (trace : List ℕ) (outcome : Outcome) : Type 0 where
-  unread : (why : ReadFault) → fails trace most_trace_bytes why → outcome ≡ Err (fault_of_reading why) → IsReplayOutcome reads fails program trace outcome
-  read : (text : List ℕ) → reads trace most_trace_bytes text → IsReplayed program text outcome → IsReplayOutcome reads fails program trace outcome
+-- the file of a trace can't be read, or it is followed
+pub data IsTraceOutcome (reads : List ℕ → ℕ → List ℕ → Type 0) (fails : List ℕ → ℕ → ReadFault → Type 0) (command : Following) (program : Program) (trace : List ℕ) (outcome : Outcome) : Type 0 where
+  unread : (why : ReadFault) → fails trace most_trace_bytes why → outcome ≡ Err (fault_of_reading why) → IsTraceOutcome reads fails command program trace outcome
+  read : (text : List ℕ) → reads trace most_trace_bytes text → IsFollowed command program text outcome → IsTraceOutcome reads fails command program trace outcome
 
 -- REQUESTS
+
+-- what a simulation is asked for
+abbrev pub IsRoundsOutcome : Simulating → Program → Rounds → Outcome → Type 0
+IsRoundsOutcome simulating.Sim program asked outcome = IsSimOutcome program asked outcome
+IsRoundsOutcome simulating.Run program asked outcome = IsRunOutcome program asked outcome
+IsRoundsOutcome simulating.Denials program asked outcome = IsDenialsOutcome program asked outcome
+IsRoundsOutcome simulating.Watch program asked outcome = IsWatchOutcome program asked outcome
 
 -- A verified program gives what its command prints.
 abbrev pub IsProgramOutcome : (List ℕ → ℕ → List ℕ → Type 0) → (List ℕ → ℕ → ReadFault → Type 0) → Request → Program → Outcome → Type 0
 IsProgramOutcome reads fails (request.Check file) program outcome = IsCheckOutcome program outcome
-IsProgramOutcome reads fails (request.Sim asked) program outcome = IsSimOutcome program asked outcome
-IsProgramOutcome reads fails (request.Run asked) program outcome = IsRunOutcome program asked outcome
-IsProgramOutcome reads fails (request.Replay file trace) program outcome = IsReplayOutcome reads fails program trace.now outcome
+IsProgramOutcome reads fails (request.Rounds command asked) program outcome = IsRoundsOutcome command program asked outcome
+IsProgramOutcome reads fails (request.Trace command traced) program outcome = IsTraceOutcome reads fails command program traced.trace.now outcome

@@ -4,22 +4,28 @@ ghost use Rattle.std.specs.Prelude.{◌≡◌, ◌≢◌, ◌≤◌, ℕ, Option
 ghost use Rattle.lift_spec.specs.Image.{sizes_of};
 ghost use Rattle.lift_spec.specs.World.{opening};
 ghost use Rattle.lift_trace.specs.Reading.{Reads, greatest_trace};
-ghost use Rattle.lift_output.specs.Outcomes.{IsCheckOutcome, IsFire, AreDriven, IsUndriven, IsSimOutcome, IsRunOutcome, IsReplayed, IsReplayOutcome, IsProgramOutcome};
-ghost use Rattle.lift_output.specs.Parts.{fault_of_trace, IsTraceUnread, IsWorldReplayed};
+ghost use Rattle.lift_output.specs.Outcomes.{IsCheckOutcome, IsFire, AreDriven, IsUndriven, IsSimOutcome, IsRunOutcome, IsDenialsOutcome, IsWatchOutcome, IsRoundsOutcome, IsFollowed, IsTraceOutcome, IsProgramOutcome};
+ghost use Rattle.lift_output.specs.Parts.{fault_of_trace, IsTraceUnread, AreFollowed, IsWatched};
+ghost use Rattle.lift_runs.specs.Driven.{ArePressed};
+ghost use Rattle.lift_host.specs.Requests.{words_of};
+ghost use Rattle.lift_spec.specs.EventFaults.{event_fault_number};
 
 use crate::check::check_text;
 use crate::image::image_text;
 use il_machine::Verified;
+use lift_draw::drawing::{Stop, drawing};
 use lift_host::files::TextFiles;
 use lift_host::press::{Press, fire_round, presses};
-use lift_host::request::{Request, Rounds};
+use lift_host::request::{Following, Named, Request, Rounds, Simulating, Words};
 use lift_host::status::Fault;
-use lift_runs::replay::replay;
-use lift_runs::sim::{Drive, simulate};
+use lift_runs::replay::{Refused, replay};
+use lift_runs::sim::{Drive, simulate, simulate_before, simulate_on};
 use lift_show::output::Output;
 use lift_spec::trace::TraceEvent;
 use lift_trace::fault::TraceFault;
 use lift_trace::read::{GREATEST_TRACE, read_trace};
+use lift_watch::denials::Denials;
+use lift_watch::watch::Watch;
 use lift_workers::gate::Open;
 use lift_workers::run::{Plan, run};
 use lift_world::World;
@@ -40,10 +46,28 @@ pub fn outcome<F: TextFiles, R: Threads + Wait + Sync>(
     ensures unwritten { result ≢ Err Fault.CannotWrite }
 {
     match request {
-        Request::Check { .. } => checked(alloc, verified),
-        Request::Sim(asked) => simulated(alloc, verified, asked),
-        Request::Run(asked) => ran(rt, alloc, verified, asked),
-        Request::Replay { trace, .. } => replayed(alloc, verified, trace, files),
+        Request::Check(_) => checked(alloc, verified),
+        Request::Rounds(command, asked) => rounds_outcome(rt, alloc, verified, command, asked),
+        Request::Trace(command, traced) => trace_outcome(alloc, verified, command, traced.trace, files),
+    }
+}
+
+/// What a simulation is asked for. `run` alone starts threads.
+fn rounds_outcome<R: Threads + Wait + Sync>(
+    rt: &R,
+    alloc: Global,
+    verified: Verified,
+    command: Simulating,
+    asked: Rounds<'_>,
+) -> Result<Output, Fault>
+    ensures is { IsRoundsOutcome command verified asked.entry result }
+    ensures unwritten { result ≢ Err Fault.CannotWrite }
+{
+    match command {
+        Simulating::Sim => simulated(alloc, verified, asked),
+        Simulating::Run => ran(rt, alloc, verified, asked),
+        Simulating::Denials => denied(alloc, verified, asked),
+        Simulating::Watch => watched(alloc, verified, asked),
     }
 }
 
@@ -107,6 +131,69 @@ fn simulated(alloc: Global, verified: Verified, asked: Rounds<'_>) -> Result<Out
     }
 }
 
+fn denied(alloc: Global, verified: Verified, asked: Rounds<'_>) -> Result<Output, Fault>
+    ensures is { IsDenialsOutcome verified asked.entry result }
+    ensures unwritten { result ≢ Err Fault.CannotWrite }
+{
+    let floors = u16::from(verified.sizes().floors);
+    match drive_of(alloc, asked, floors) {
+        Ok(driven) => {
+            let drive = Drive {
+                presses: driven.presses.as_slice(),
+                fire: driven.fire,
+            };
+            let mut denials = Denials::new(alloc);
+            simulate_before(alloc, verified, drive, asked.rounds, &mut denials)?;
+            Ok(Output::Text(denials.text))
+        }
+        Err(fault) => {
+            verified.release();
+            Err(fault)
+        }
+    }
+}
+
+fn watched(alloc: Global, verified: Verified, asked: Rounds<'_>) -> Result<Output, Fault>
+    ensures is { IsWatchOutcome verified asked.entry result }
+    ensures unwritten { result ≢ Err Fault.CannotWrite }
+{
+    let floors = u16::from(verified.sizes().floors);
+    let Named { names, presses } = asked.presses.names_first();
+    match drive_of(alloc, Rounds { presses, ..asked }, floors) {
+        Ok(driven) => {
+            let drive = Drive {
+                presses: driven.presses.as_slice(),
+                fire: driven.fire,
+            };
+            let mut world = World::new(alloc, verified)?;
+            let output = watched_world(alloc, &mut world, names, drive, asked.rounds);
+            world.release();
+            output
+        }
+        Err(fault) => {
+            verified.release();
+            Err(fault)
+        }
+    }
+}
+
+/// The values of names behind each of so many rounds of a world that opens.
+fn watched_world(
+    alloc: Global,
+    world: &mut World,
+    names: Words<'_>,
+    drive: Drive<'_>,
+    rounds: u16,
+) -> Result<Output, Fault>
+    requires opening { world.old.world ≡ opening world.old.program.config }
+    requires calls { ArePressed (sizes_of world.old.program.config) drive.presses.now }
+    ensures { IsWatched world.old.program.config (words_of names.entry) drive.entry.presses.now drive.entry.fire rounds result }
+{
+    let mut watch = Watch::of(alloc, world, names)?;
+    simulate_on(alloc, world, drive, rounds, &mut watch)?;
+    Ok(Output::Text(watch.text))
+}
+
 /// The outcome of a run with threads. A fault of it is no memory, or no room.
 fn ran<R: Threads + Wait + Sync>(
     rt: &R,
@@ -161,27 +248,70 @@ fn events_of(alloc: Global, text: &[u8], cars: u8) -> Result<Vec<TraceEvent>, Fa
     }
 }
 
+/// What a command says of a world that opens, behind events.
+fn said_after(
+    alloc: Global,
+    world: &mut World,
+    command: Following,
+    events: &[TraceEvent],
+) -> Result<Output, Fault>
+    requires opening { world.old.world ≡ opening world.old.program.config }
+    requires few { length events.now ≤ greatest_trace }
+    ensures { AreFollowed command world.old.program events.now result }
+{
+    match command {
+        Following::Replay => image_after(alloc, world, events),
+        Following::Draw => picture_of(alloc, world, events),
+    }
+}
+
 /// The image of a world that opens, behind events.
 fn image_after(alloc: Global, world: &mut World, events: &[TraceEvent]) -> Result<Output, Fault>
     requires opening { world.old.world ≡ opening world.old.program.config }
     requires few { length events.now ≤ greatest_trace }
-    ensures { IsWorldReplayed world.old.program.config events.now result }
+    ensures { AreFollowed Following.Replay world.old.program events.now result }
 {
     match replay(world, events) {
         Ok(()) => Ok(Output::Text(image_text(alloc, world)?)),
-        Err(refused) => Err(Fault::Refused {
-            number: u16::from(refused.fault.number()),
-            line: refused.index as u32 + 2,
-        }),
+        Err(refused) => Err(fault_of_event(refused)),
+    }
+}
+
+/// The picture of events in a world that opens.
+fn picture_of(alloc: Global, world: &mut World, events: &[TraceEvent]) -> Result<Output, Fault>
+    requires opening { world.old.world ≡ opening world.old.program.config }
+    requires few { length events.now ≤ greatest_trace }
+    ensures { AreFollowed Following.Draw world.old.program events.now result }
+{
+    match drawing(alloc, world, events) {
+        Ok(picture) => Ok(Output::Text(picture)),
+        Err(Stop::Refused(refused)) => Err(fault_of_event(refused)),
+        Err(Stop::Memory) => Err(Fault::NoMemory),
+    }
+}
+
+/// The fault of an event that was refused. The first event of a trace stands in line 2.
+fn fault_of_event(refused: Refused) -> Fault
+    requires few { refused.index ≤ greatest_trace }
+    ensures { result ≡ Fault.Refused (event_fault_number refused.fault) (refused.index + 2) }
+{
+    Fault::Refused {
+        number: u16::from(refused.fault.number()),
+        line: refused.index as u32 + 2,
     }
 }
 
 /// The outcome of a trace's text.
-fn replayed_text(alloc: Global, verified: Verified, text: &[u8]) -> Result<Output, Fault>
-    ensures { IsReplayed verified text.now result }
+fn followed_text(
+    alloc: Global,
+    verified: Verified,
+    command: Following,
+    text: &[u8],
+) -> Result<Output, Fault>
+    ensures { IsFollowed command verified text.now result }
 {
     match events_of(alloc, text, verified.sizes().cars) {
-        Ok(events) => replayed_events(alloc, verified, &events),
+        Ok(events) => followed_events(alloc, verified, command, &events),
         Err(fault) => {
             verified.release();
             Err(fault)
@@ -189,31 +319,33 @@ fn replayed_text(alloc: Global, verified: Verified, text: &[u8]) -> Result<Outpu
     }
 }
 
-fn replayed_events(
+fn followed_events(
     alloc: Global,
     verified: Verified,
+    command: Following,
     events: &[TraceEvent],
 ) -> Result<Output, Fault>
     requires few { length events.now ≤ greatest_trace }
-    ensures { IsWorldReplayed verified.config events.now result }
+    ensures { AreFollowed command verified events.now result }
 {
     let mut world = World::new(alloc, verified)?;
-    let output = image_after(alloc, &mut world, events);
+    let output = said_after(alloc, &mut world, command, events);
     world.release();
     output
 }
 
-fn replayed<F: TextFiles>(
+fn trace_outcome<F: TextFiles>(
     alloc: Global,
     verified: Verified,
+    command: Following,
     trace: &str,
     files: &F,
 ) -> Result<Output, Fault>
-    ensures is { IsReplayOutcome (F.gives files.now) (F.fails files.now) verified trace.now result }
+    ensures is { IsTraceOutcome (F.gives files.now) (F.fails files.now) command verified trace.now result }
     ensures unwritten { result ≢ Err Fault.CannotWrite }
 {
     match files.read(alloc, trace, GREATEST_TRACE + 1) {
-        Ok(text) => replayed_text(alloc, verified, &text),
+        Ok(text) => followed_text(alloc, verified, command, &text),
         Err(fault) => {
             verified.release();
             Err(fault.into())

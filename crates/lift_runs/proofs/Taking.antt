@@ -13,17 +13,18 @@ use Rattle.lift_spec.specs.declared.event.Reply.{Reply as Answer}
 use Rattle.lift_spec.specs.declared.event.Reply.TheVariants as answer
 use Rattle.lift_spec.specs.declared.report.Report.{Report}
 use Rattle.lift_spec.specs.declared.trace.TraceEvent.{TraceEvent}
-use Rattle.lift_spec.specs.Replies.{Reply, More, Refreshed, Refused, reply_with}
-use Rattle.lift_spec.specs.World.{World, happens, run}
+use Rattle.lift_spec.specs.Replies.{Reply, More, Committed, Refreshed, Refused, reply_with}
+use Rattle.lift_spec.specs.World.{World, Next, happens, run}
 use Rattle.lift_run_laws.specs.Runs.{IsReached}
 use Rattle.lift_journal.specs.Journal.{IsAccepted}
 use Rattle.lift_journal.specs.Entered.{AllHaveWords}
-use Rattle.lift_journal.specs.Rounds.{ending, entered_calls_of, FinishesAndCommits, Scans, Takes, TakesAll, Refuses, IsRefusedAt}
+use Rattle.lift_journal.specs.Rounds.{ending, entered_calls_of, Scans, Takes, TakesAll, Refuses, IsRefusedAt}
 use Rattle.lift_journal.proofs.Journals.{Led}
 use Rattle.lift_journal.proofs.Taking.{IsClosed, IsBegun, start_begins, begun_taken, finished, scan_closes, refresh_taken, entered_are}
 use Rattle.lift_journal.proofs.Calls.{have_words}
 use Rattle.il_machine.proofs.Sizes.{sizes_fit}
 use Rattle.lift_world.specs.Running.{instructions, up_to_end}
+use Rattle.lift_runs.specs.Shown.{FinishesReporting, ScansReporting}
 use Rattle.lift_runs.proofs.Driving.{take_next}
 
 -- an answer that is no refusal is an accepted reply
@@ -48,21 +49,48 @@ replies_are zero = refl
 replies_are (suc zero) = refl
 replies_are (suc (suc n)) = ap (λ l. More ∷ l) (replies_are (suc n))
 
+committed_is : (a : Answer) (report other : Report) → reply_with a report ≡ Committed other → other ≡ report
+committed_is answer.Started report other e = cc
+committed_is answer.More report other e = cc
+committed_is answer.End report other e = cc
+committed_is answer.Committed report other e = cc
+committed_is answer.Refreshed report other e = cc
+committed_is answer.New report other e = cc
+committed_is answer.Already report other e = cc
+committed_is (answer.Gathered mask) report other e = cc
+committed_is answer.Held report other e = cc
+committed_is (answer.Refused fault) report other e = cc
+
+same_reply : (v : World) (r s : Reply) → ◌≡◌ {A = Next} (Ok (v, r)) (Ok (v, s)) → r ≡ s
+same_reply v r s e = cc
+
+-- its commit reports what the answer to it has beside it
+reports : (c : Config) (w u v : World) (t n : ℕ) (a : Answer) (report : Report) → (some : 1 ≤ n) → (steps : run c w [] (replicate n (Instruction t)) ≡ Ok (u, ending n)) → (commit : happens c u (Commit t) ≡ Ok (v, reply_with a report))
+    → FinishesReporting c t w v report
+reports c w u v t zero a report some steps commit = absurd (omega (arith, some))
+reports c w u v t (suc n) a report some steps commit =
+    let rest = finished c w u v t (suc n) (reply_with a report) some steps commit in
+    (rest, committed_is a report rest.report (same_reply v (reply_with a report) (Committed rest.report) (sym commit ∙ rest.commit)))
+
 -- a scan that is run to its end, and committed
-pub commits : (p q : Program) → q ≡ p → (w u v : World) (t : ℕ) (result : Result ℕ EventFault) (r : Reply) → ((fault : EventFault) → result ≡ Err fault → ⊥)
-    → IfOk result (λ n. (1 ≤ n) × (run p.config w [] (instructions t n) ≡ Ok (u, up_to_end n))) → happens q.config u (Commit t) ≡ Ok (v, r) → FinishesAndCommits p.config t w v
-commits p q same w u v t (Err fault) r other steps commit = absurd (other fault refl)
-commits p q same w u v t (Ok n) r other steps commit =
-    finished p.config w u v t n r steps.0 (ap (run p.config w []) (sym (instructions_are t n)) ∙ steps.1 ∙ ap (λ rs. Ok (u, rs)) (replies_are n)) (subst (λ (x : Program). happens x.config u (Commit t) ≡ Ok (v, r)) same commit)
+pub commits : (p q : Program) → q ≡ p → (w u v : World) (t : ℕ) (result : Result ℕ EventFault) (a : Answer) (report : Report) → ((fault : EventFault) → result ≡ Err fault → ⊥)
+    → IfOk result (λ n. (1 ≤ n) × (run p.config w [] (instructions t n) ≡ Ok (u, up_to_end n))) → happens q.config u (Commit t) ≡ Ok (v, reply_with a report) → FinishesReporting p.config t w v report
+commits p q same w u v t (Err fault) a report other steps commit = absurd (other fault refl)
+commits p q same w u v t (Ok n) a report other steps commit =
+    reports p.config w u v t n a report steps.0 (ap (run p.config w []) (sym (instructions_are t n)) ∙ steps.1 ∙ ap (λ rs. Ok (u, rs)) (replies_are n))
+    (subst (λ (x : Program). happens x.config u (Commit t) ≡ Ok (v, reply_with a report)) same commit)
 
 module _ (p : Program) (runs : IsRunnable p.config) (w v x : World) (t : ℕ) (task : HasTask p.config t) (closed : IsClosed w) (reached : IsReached p.config w) (r : Reply) (start : happens p.config w (Start t) ≡ Ok (v, r)) where
   begun : IsBegun p.config t w v r
   begun = start_begins p.config (sound_of p.config runs) w v t task.0 r reached task.1 (closed t) start
 
   -- a task's scan
-  pub scans : {A : Type 0} (q : Program) → q ≡ p → (result : Result A EventFault) → OnOk result (FinishesAndCommits q.config t v x) → IfErr result (λ fault. (x ≡ v) × (happens q.config v (Instruction t) ≡ Ok (v, Refused fault))) → Scans p.config t w x
-  scans q same (Ok done) taken refused = record { started = v; start = start ∙ ap (Led v) begun.started; rest = subst (λ (y : Program). FinishesAndCommits y.config t v x) same taken }
-  scans q same (Err fault) taken refused = absurd (begun_taken p.config w v t r fault begun (subst (λ (y : Program). happens y.config v (Instruction t) ≡ Ok (v, Refused fault)) same refused.1))
+  pub scans : {A : Type 0} (q : Program) → q ≡ p → (result : Result A EventFault) (report : Report) → OnOk result (FinishesReporting q.config t v x report) → IfErr result (λ fault. (x ≡ v) × (happens q.config v (Instruction t) ≡ Ok (v, Refused fault)))
+      → ScansReporting p.config t w x report
+  scans q same (Ok done) report taken refused =
+      let rest = subst (λ (y : Program). FinishesReporting y.config t v x report) same taken in
+      (record { started = v; start = start ∙ ap (Led v) begun.started; rest = rest.0 }, rest.1)
+  scans q same (Err fault) report taken refused = absurd (begun_taken p.config w v t r fault begun (subst (λ (y : Program). happens y.config v (Instruction t) ≡ Ok (v, Refused fault)) same refused.1))
 
   pub closes : Scans p.config t w x → IsClosed x
   closes s = scan_closes p.config (sound_of p.config runs) t w x reached s closed

@@ -1,7 +1,8 @@
 // Events that a world takes.
 
 ghost use Rattle.std.specs.Prelude.{◌≡◌, [], ◌∷◌, Ok, OnOk, IfErr, true, false, is_some};
-ghost use Rattle.lift_journal.specs.Rounds.{Happen, FinishesAndCommits, Scans};
+ghost use Rattle.lift_journal.specs.Rounds.{Happen};
+ghost use Rattle.lift_runs.specs.Shown.{FinishesReporting, ScansReporting};
 ghost use Rattle.lift_journal.proofs.Taking.{IsClosed};
 ghost use Rattle.lift_run_laws.specs.Tasks.{IsTaskOf};
 ghost use Rattle.il_machine.specs.Scanning.{HasTask};
@@ -28,7 +29,7 @@ pub fn taken(world: &mut World, event: &Event, report: &mut Report) -> Result<()
 /// The rest of a task's open scan, and its commit; refused where there is no instruction to run.
 #[inline(always)]
 pub fn finish_and_commit(world: &mut World, task: u8, report: &mut Report) -> Result<(), EventFault>
-    ensures taken { OnOk result (FinishesAndCommits world.old.program.config task world.old.world world.new.world) }
+    ensures taken { OnOk result (FinishesReporting world.old.program.config task world.old.world world.new.world report.new) }
     ensures refused { IfErr result (λ fault. (world.new.world ≡ world.old.world) × (happens world.old.program.config world.old.world (Instruction task) ≡ Ok (world.old.world, Refused fault))) }
     ensures same { world.new.program ≡ world.old.program }
 {
@@ -43,7 +44,7 @@ pub fn finish_and_commit(world: &mut World, task: u8, report: &mut Report) -> Re
 pub fn scan(world: &mut World, task: u8, report: &mut Report)
     requires task { HasTask world.old.program.config task }
     requires closed { IsClosed world.old.world }
-    ensures scan { Scans world.old.program.config task world.old.world world.new.world }
+    ensures scan { ScansReporting world.old.program.config task world.old.world world.new.world report.new }
     ensures closed { IsClosed world.new.world }
     ensures same { world.new.program ≡ world.old.program }
 {

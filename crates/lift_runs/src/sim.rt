@@ -1,6 +1,6 @@
 // A group on its simulated plant.
 
-ghost use Rattle.std.specs.Prelude.{◌≡◌, ◌++◌, ◌≤◌, ◌+◌, [], ◌∷◌, map, flat_map, length, Ok, OnOk, IfOk, IfErr, List};
+ghost use Rattle.std.specs.Prelude.{◌≡◌, ◌++◌, ◌≤◌, ◌+◌, ℕ, [], ◌∷◌, map, flat_map, length, Ok, OnOk, IfOk, IfErr, List};
 ghost use Rattle.il_spec.specs.declared.fault.Refusal.TheVariants.{Memory};
 ghost use Rattle.lift_spec.specs.declared.journal.Entry.{Entry as EntryOf};
 ghost use Rattle.lift_spec.specs.World.{opening};
@@ -12,10 +12,12 @@ ghost use Rattle.lift_spec.specs.Plant.{IsPlantOf, fields_of_plant};
 ghost use Rattle.lift_spec.specs.Replies.{Refreshed};
 ghost use Rattle.lift_spec.specs.World.{happens};
 ghost use Rattle.lift_spec.specs.declared.journal.Entry.TheVariants as entry;
-ghost use Rattle.lift_journal.specs.Rounds.{Happen, ScanEach, IsRound, Rounds, desk_events, floors_rising, tasks_in_order, scan_entries, entered_calls_of, is_fire_in};
+ghost use Rattle.lift_journal.specs.Rounds.{Happen, desk_events, floors_rising, tasks_in_order, scan_entries, entered_calls_of, is_fire_in};
 ghost use Rattle.lift_journal.proofs.Taking.{IsClosed};
 ghost use Rattle.lift_runs.specs.Driven.{call_of, calls_in, ArePressed, IsSimulated, AreTasks};
+ghost use Rattle.lift_runs.specs.Shown.{IsShown, ScansShown, RoundShown};
 
+use crate::observer::{Nobody, Observer};
 use crate::scan::scan;
 use il_machine::Verified;
 use il_spec::fault::Refusal;
@@ -113,16 +115,19 @@ fn refresh(
     }
 }
 
-/// A scan of each of the tasks, and their entries.
-fn scan_all(
+/// A scan of each of the tasks in a round, and their entries.
+fn scan_all<O: Observer>(
     world: &mut World,
+    number: u16,
     tasks: &[u8],
     entries: &mut Vec<Entry>,
     report: &mut Report,
+    observer: &mut O,
 ) -> Result<(), AllocError>
     requires tasks { AreTasks world.old.program.config tasks.now }
     requires closed { IsClosed world.old.world }
-    ensures scans { OnOk result (ScanEach world.old.program.config tasks.now world.old.world world.new.world) }
+    ensures scans { OnOk result ((text : List ℕ) × (O.text observer.new ≡ O.text observer.old ++ text) × ScansShown (O.shows observer.old) number world.old.program.config tasks.now world.old.world world.new.world text) }
+    ensures shows { OnOk result (O.shows observer.new ≡ O.shows observer.old) }
     ensures closed { OnOk result (IsClosed world.new.world) }
     ensures journal { OnOk result (entries.new.items ≡ entries.old.items ++ flat_map scan_entries tasks.now) }
     ensures same { world.new.program ≡ world.old.program }
@@ -131,12 +136,13 @@ fn scan_all(
         scan(world, *task, report);
         entries.push(Entry::Start(*task))?;
         entries.push(Entry::Commit(*task))?;
+        observer.committed(number, *task, report)?;
     }
     Ok(())
 }
 
 /// One round: its presses and gatherings, a step of the plant, a refresh, and a scan of each task.
-fn round(
+fn round<O: Observer>(
     world: &mut World,
     plant: Plant,
     drive: Drive<'_>,
@@ -144,13 +150,15 @@ fn round(
     tasks: &[u8],
     entries: &mut Vec<Entry>,
     report: &mut Report,
+    observer: &mut O,
 ) -> Result<Plant, AllocError>
     requires calls { ArePressed (sizes_of world.old.program.config) drive.presses.now }
     requires tasks { tasks.now ≡ tasks_in_order world.old.program.config }
     requires plant { IsPlantOf (sizes_of world.old.program.config) plant }
     requires closed { IsClosed world.old.world }
     requires idle { drive.presses.now ≡ [] → world.old.world.desk ≡ [] }
-    ensures round { IfOk result (λ next. (last : List EntryOf) × (entries.new.items ≡ entries.old.items ++ last) × IsRound world.old.program.config (calls_in drive.entry.presses.now number) (is_fire_in drive.entry.fire number) plant next world.old.world world.new.world last) }
+    ensures round { IfOk result (λ next. (last : List EntryOf) × (entries.new.items ≡ entries.old.items ++ last) × (text : List ℕ) × (O.text observer.new ≡ O.text observer.old ++ text) × RoundShown (O.shows observer.old) number world.old.program.config (calls_in drive.entry.presses.now number) (is_fire_in drive.entry.fire number) plant next world.old.world world.new.world last text) }
+    ensures shows { OnOk result (O.shows observer.new ≡ O.shows observer.old) }
     ensures plant { IfOk result (IsPlantOf (sizes_of world.old.program.config)) }
     ensures closed { OnOk result (IsClosed world.new.world) }
     ensures idle { OnOk result (drive.entry.presses.now ≡ [] → world.new.world.desk ≡ []) }
@@ -161,7 +169,9 @@ fn round(
     let plant = plant.with_fire(is_fire_in(drive.fire, number));
     let (plant, fields) = plant_step(plant, &world.image().outputs);
     refresh(world, fields, entries, report)?;
-    scan_all(world, tasks, entries, report)?;
+    observer.refreshed(number, report)?;
+    scan_all(world, number, tasks, entries, report, observer)?;
+    observer.ended(number, world)?;
     Ok(plant)
 }
 
@@ -183,18 +193,19 @@ fn tasks_of(alloc: Global, verified: &Verified) -> Result<Vec<u8>, AllocError>
 }
 
 /// So many rounds of a world that opens.
-fn run_rounds(
+fn run_rounds<O: Observer>(
     world: &mut World,
     drive: Drive<'_>,
     rounds: u16,
     tasks: &[u8],
     entries: &mut Vec<Entry>,
+    observer: &mut O,
 ) -> Result<(), AllocError>
     requires opening { world.old.world ≡ opening world.old.program.config }
     requires calls { ArePressed (sizes_of world.old.program.config) drive.presses.now }
     requires tasks { tasks.now ≡ tasks_in_order world.old.program.config }
     requires none { entries.old.items ≡ [] }
-    ensures rounds { OnOk result (IsSimulated world.old.program.config drive.entry.presses.now drive.entry.fire rounds entries.new.items) }
+    ensures rounds { OnOk result ((text : List ℕ) × (O.text observer.new ≡ O.text observer.old ++ text) × IsShown (O.shows observer.old) world.old.program.config drive.entry.presses.now drive.entry.fire rounds entries.new.items text) }
     ensures same { world.new.program ≡ world.old.program }
 {
     let _config = world.verified().config();
@@ -202,26 +213,36 @@ fn run_rounds(
     let mut plant = Plant::new(cars, floors);
     let mut report = Report::new();
     'rounds: for number in 0..rounds {
-        plant = round(world, plant, drive, number + 1, tasks, entries, &mut report)?;
+        plant = round(
+            world,
+            plant,
+            drive,
+            number + 1,
+            tasks,
+            entries,
+            &mut report,
+            observer,
+        )?;
     }
     Ok(())
 }
 
-/// So many rounds of a group as it opens, in a journal with room for all of its entries.
-fn journal_of(
+/// So many rounds of a world that opens, before an observer: their journal, which has room for all of its entries from the first on.
+pub fn simulate_on<O: Observer>(
     alloc: Global,
     world: &mut World,
     drive: Drive<'_>,
     rounds: u16,
+    observer: &mut O,
 ) -> Result<Vec<Entry>, AllocError>
     requires opening { world.old.world ≡ opening world.old.program.config }
     requires calls { ArePressed (sizes_of world.old.program.config) drive.presses.now }
-    ensures rounds { IfOk result (λ entries. IsSimulated world.old.program.config drive.entry.presses.now drive.entry.fire rounds entries.items) }
+    ensures rounds { IfOk result (λ entries. (text : List ℕ) × (O.text observer.new ≡ O.text observer.old ++ text) × IsShown (O.shows observer.old) world.old.program.config drive.entry.presses.now drive.entry.fire rounds entries.items text) }
 {
     let _config = world.verified().config();
     let tasks = tasks_of(alloc, world.verified())?;
     let mut entries = Vec::with_capacity(alloc, usize::from(rounds) * (1 + 2 * tasks.len()))?;
-    run_rounds(world, drive, rounds, &tasks, &mut entries)?;
+    run_rounds(world, drive, rounds, &tasks, &mut entries, observer)?;
     Ok(entries)
 }
 
@@ -237,8 +258,23 @@ pub fn simulate(
     ensures rounds { IfOk result (λ entries. IsSimulated verified.config drive.entry.presses.now drive.entry.fire rounds entries.items) }
     ensures memory { IfErr result (λ refusal. refusal ≡ Memory) }
 {
+    simulate_before(alloc, verified, drive, rounds, &mut Nobody)
+}
+
+/// The same before an observer, who writes of each round.
+pub fn simulate_before<O: Observer>(
+    alloc: Global,
+    verified: Verified,
+    drive: Drive<'_>,
+    rounds: u16,
+    observer: &mut O,
+) -> Result<Vec<Entry>, Refusal>
+    requires calls { ArePressed (sizes_of verified.config) drive.presses.now }
+    ensures rounds { IfOk result (λ entries. (text : List ℕ) × (O.text observer.new ≡ O.text observer.old ++ text) × IsShown (O.shows observer.old) verified.config drive.entry.presses.now drive.entry.fire rounds entries.items text) }
+    ensures memory { IfErr result (λ refusal. refusal ≡ Memory) }
+{
     let mut world = World::new(alloc, verified)?;
-    let entries = journal_of(alloc, &mut world, drive, rounds);
+    let entries = simulate_on(alloc, &mut world, drive, rounds, observer);
     world.release();
     Ok(entries?)
 }

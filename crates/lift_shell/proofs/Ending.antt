@@ -1,5 +1,5 @@
 -- How a run ends, by its outcome and how that was shown.
-use Rattle.std.proofs.Common.{◌≡◌, ◌⊎◌, ℕ, List, Bool, true, Result, Ok, Err, IfOk, IfErr, inl, inr, sym, refl, ap, ◌∙◌}
+use Rattle.std.proofs.Common.{◌≡◌, ◌⊎◌, ◌++◌, ℕ, List, [], Bool, true, Result, Ok, Err, IfOk, IfErr, inl, inr, sym, refl, ap, ◌∙◌}
 use Rattle.lift_host.specs.Messages.{status_of, message_of}
 use Rattle.lift_show.specs.declared.output.Output.{Output}
 use Rattle.lift_show.specs.Outputs.{Outcome}
@@ -14,6 +14,7 @@ never_done (fault.Misuse text) e = cc
 never_done (fault.Refused number line) e = cc
 never_done fault.BadPress e = cc
 never_done fault.BadFire e = cc
+never_done fault.BadName e = cc
 never_done fault.CannotRead e = cc
 never_done fault.CannotWrite e = cc
 never_done fault.NoMemory e = cc
@@ -24,6 +25,7 @@ cannot_write_only (fault.Misuse text) e = cc
 cannot_write_only (fault.Refused number line) e = cc
 cannot_write_only fault.BadPress e = cc
 cannot_write_only fault.BadFire e = cc
+cannot_write_only fault.BadName e = cc
 cannot_write_only fault.CannotRead e = cc
 cannot_write_only fault.CannotWrite e = refl
 cannot_write_only fault.NoMemory e = cc
@@ -42,13 +44,14 @@ pub front_of : (M : Outcome → Type 0) (Begun : Output → Type 0) (outcome : O
 front_of M Begun (Ok output) result never m front ends e = (output, m, front e)
 front_of M Begun (Err f) result never m front ends e = absurd (never (ap Err (cannot_write_only f (sym ends ∙ e))))
 
--- else the outcome was a fault, or the output failed, and the message was written
-pub told_of : (M : Outcome → Type 0) (Told : List ℕ → Type 0) (failed : Bool) (outcome : Outcome) (result : Status)
-    → M outcome
+-- else the outcome was a fault, or the output failed, and the message was written, with what stands below it
+pub told_of : (M : Outcome → Type 0) (Below : Fault → List ℕ → Type 0) (Told : List ℕ → Type 0) (failed : Bool) (outcome : Outcome) (below : List ℕ) (result : Status)
+    → M outcome → ((f : Fault) → Below f [])
     → IfOk outcome (λ _. (result ≡ status.Done) ⊎ ((result ≡ status.CannotWrite) × (failed ≡ true)))
     → IfOk outcome (λ _. result ≡ status.CannotWrite → Told (message_of fault.CannotWrite))
-    → IfErr outcome (λ f. result ≡ status_of f) → IfErr outcome (λ f. Told (message_of f))
-    → (result ≡ status.Done) ⊎ ((f : Fault) × (M (Err f) ⊎ ((f ≡ fault.CannotWrite) × (failed ≡ true))) × (status_of f ≡ result) × Told (message_of f))
-told_of M Told failed (Ok output) result m (inl done) unwritten ends told = inl done
-told_of M Told failed (Ok output) result m (inr (is, fails)) unwritten ends told = inr (fault.CannotWrite, inr (refl, fails), sym is, unwritten is)
-told_of M Told failed (Err f) result m ok unwritten ends told = inr (f, inl m, sym ends, told)
+    → IfErr outcome (λ f. result ≡ status_of f) → IfErr outcome (λ f. Told (message_of f ++ below)) → IfErr outcome (λ f. Below f below)
+    → (result ≡ status.Done) ⊎ ((f : Fault) × (M (Err f) ⊎ ((f ≡ fault.CannotWrite) × (failed ≡ true))) × (status_of f ≡ result) × (text : List ℕ) × Below f text × Told (message_of f ++ text))
+told_of M Below Told failed (Ok output) below result m none (inl done) unwritten ends told placed = inl done
+told_of M Below Told failed (Ok output) below result m none (inr (is, fails)) unwritten ends told placed =
+    inr (fault.CannotWrite, inr (refl, fails), sym is, [], none fault.CannotWrite, unwritten is)
+told_of M Below Told failed (Err f) below result m none ok unwritten ends told placed = inr (f, inl m, sym ends, below, placed, told)

@@ -10,6 +10,7 @@ use std::alloc::Global;
 use std::process::ExitCode;
 use std::sync::Wait;
 use std::thread::Threads;
+use std::io::IsTerminal;
 use std::{env, io};
 
 /// In bytes: more than any block that is reserved for a text.
@@ -40,7 +41,7 @@ fn keep_freed_memory(rt: &HostRuntime) {
     let _block = Vec::<u8>::with_capacity(rt.alloc(), LARGE_BLOCK);
 }
 
-/// Runs the program on the words of the command line; `threads` lends the right to start threads and to wait for them.
+/// Runs the program on the words of the command line, which explains refusals where the standard error is a terminal; `threads` lends the right to start threads and to wait for them.
 pub fn command<R: Threads + Wait + Sync, C: Commands>(
     rt: &HostRuntime,
     threads: &R,
@@ -56,10 +57,11 @@ pub fn command<R: Threads + Wait + Sync, C: Commands>(
             &words,
             &Disk(rt),
             commands,
+            rt.stderr().is_terminal(),
             &mut out,
             &mut err,
         ),
-        Err(fault) => show(Err(fault), &mut out, &mut err),
+        Err(fault) => show(Err(fault), b"", &mut out, &mut err),
     };
     ExitCode::from(status.code())
 }
@@ -83,6 +85,8 @@ pub fn tried<R: Threads + Wait + Sync, F: TextFiles, C: Commands>(
 ) -> Outcome {
     let mut out = Memory::with_limit(alloc, limit);
     let mut err = Memory::new(alloc);
-    let status = run(rt, alloc, words, files, commands, &mut out, &mut err);
+    let status = run(
+        rt, alloc, words, files, commands, false, &mut out, &mut err,
+    );
     Outcome { status, out, err }
 }

@@ -1,8 +1,7 @@
-use Rattle.lift_spec.specs.Replies.{reply_with}
 use Rattle.lift_runs.proofs.Taking.{commits}
 use Rattle.lift_runs.proofs.scan.finish_and_commit.Goals as goal
 
 pub returns-clause-taken : goal.returns-clause-taken
 returns-clause-taken c =
     commits c.args.world.now.program c.finish.new.self.program c.finish.ensures.same c.args.world.now.world c.finish.new.self.world c.apply.new.self.world c.args.task c.finish.result
-    (reply_with c.apply.result c.apply.new.report) c.in_default.not-Err c.finish.ensures.model c.apply.ensures.model
+    c.apply.result c.apply.new.report c.in_default.not-Err c.finish.ensures.model c.apply.ensures.model

@@ -1,4 +1,4 @@
-use Rattle.std.proofs.Common.{◌≡◌, ◌∷◌, ◌++◌, [], Bool, flat_map, refl, subst, sym, ap, ap₂, ◌∙◌, Ok, arith}
+use Rattle.std.proofs.Common.{◌≡◌, ◌∷◌, ◌++◌, ℕ, List, [], Bool, flat_map, refl, subst, sym, ap, ap₂, ◌∙◌, Ok, arith}
 use Rattle.std.proofs.lemmas.List.{append_assoc}
 use Rattle.il_machine.specs.Scanning.{Program, IsRunnable}
 use Rattle.lift_spec.specs.declared.event.Event.TheVariants.{Refresh}
@@ -9,16 +9,18 @@ use Rattle.lift_spec.specs.Image.{sizes_of, FieldsInRange}
 use Rattle.lift_spec.specs.Plant.{PlantState, fields_of_plant, plant_after}
 use Rattle.lift_spec.specs.Replies.{Refreshed}
 use Rattle.lift_spec.specs.World.{happens}
-use Rattle.lift_journal.specs.Rounds.{ScanEach, tasks_in_order, scan_entries, entered_calls_of}
+use Rattle.lift_journal.specs.Rounds.{tasks_in_order, scan_entries, entered_calls_of}
 use Rattle.lift_journal.proofs.Desks.{refresh_keeps, each_keeps}
 use Rattle.lift_journal.proofs.Taking.{desk_closes, refresh_closes}
 use Rattle.il_machine.proofs.Sizes.{sizes_fit}
 use Rattle.lift_runs.specs.Driven.{AreTasks, calls_in}
+use Rattle.lift_runs.specs.Shown.{Shows, ScansShown}
 use Rattle.lift_runs.proofs.Driving.{tasks_are}
+use Rattle.lift_runs.proofs.Showing.{texts_joined}
 use Rattle.lift_runs.proofs.sim.round.Goals as goal
 
 pub refresh-requires : goal.refresh-requires
-refresh-requires c =
+refresh-requires g c =
     let p = c.args.world.now.program in
     let sizes = sizes_of p.config in
     let fit = sizes_fit p.config (subst (λ (x : Program). IsRunnable x.config) c.verified.ensures c.config-config.ensures.runnable) in
@@ -30,18 +32,18 @@ refresh-requires c =
     }
 
 pub scan_all-requires-clause-tasks : goal.scan_all-requires-clause-tasks
-scan_all-requires-clause-tasks c =
+scan_all-requires-clause-tasks g c =
     let p = c.args.world.now.program in
     subst (λ (x : Program). AreTasks x.config c.args.tasks.now) (sym (c.refresh.ensures.same ∙ c.desk.ensures.same)) (rw c.requires.tasks (tasks_are p.config))
 
 pub scan_all-requires-clause-closed : goal.scan_all-requires-clause-closed
-scan_all-requires-clause-closed c =
+scan_all-requires-clause-closed g c =
     let p = c.args.world.now.program in
     refresh_closes c.desk.new.world.program.config c.desk.new.world.world c.refresh.new.world.world c.plant_step-plant.result.1 c.refresh.new.report c.in_ok-refresh.ensures.taken
     (desk_closes p.config (calls_in c.args.drive.presses.now c.args.number) c.args.world.now.world c.desk.new.world.world c.desk.ensures.taken c.requires.closed)
 
 pub returns-clause-round : goal.returns-clause-round
-returns-clause-round c =
+returns-clause-round g c =
     let p = c.args.world.now.program in
     let next = c.plant_step-plant.result.0 in
     let report = c.refresh.new.report in
@@ -49,11 +51,25 @@ returns-clause-round c =
     subst (λ (f : Fields). happens p.config c.desk.new.world.world (Refresh f) ≡ Ok (c.refresh.new.world.world, Refreshed report)) c.plant_step-plant.ensures.fields
     (subst (λ (x : Program). happens x.config c.desk.new.world.world (Refresh c.plant_step-plant.result.1) ≡ Ok (c.refresh.new.world.world, Refreshed report)) c.desk.ensures.same c.in_ok-refresh.ensures.taken)
     in
+    let number = c.args.number in
+    let shows = g.O.Observer.shows c.args.observer.now in
+    let world = c.scan_all.new.world.world in
+    let told = c.in_ok-scan_all.ensures.scans in
+    let shown : ScansShown shows number p.config (tasks_in_order p.config) c.refresh.new.world.world world told.0 =
+    subst (λ (ts : List ℕ). ScansShown shows number p.config ts c.refresh.new.world.world world told.0) c.requires.tasks
+    (subst (λ (s : Shows). ScansShown s number p.config c.args.tasks.now c.refresh.new.world.world world told.0) c.in_ok-refreshed.ensures.same
+    (subst (λ (x : Program). ScansShown (g.O.Observer.shows c.refreshed.new.self) number x.config c.args.tasks.now c.refresh.new.world.world world told.0) (c.refresh.ensures.same ∙ c.desk.ensures.same) (told.2, told.3)))
+    in
+    let scans = (told.0, told.1, shown.0, shown.1) in
     let last = entry.Refresh (fields_of_plant next) (entered_calls_of report) ∷ flat_map scan_entries (tasks_in_order p.config) in
     let first = ap (λ (f : Fields). c.args.entries.now.items ++ entry.Refresh f (entered_calls_of report) ∷ []) c.plant_step-plant.ensures.fields in (
       last,
       c.in_ok-scan_all.ensures.journal ∙ ap₂ (λ es ts. es ++ flat_map scan_entries ts) (c.in_ok-refresh.ensures.journal ∙ first) c.requires.tasks
           ∙ append_assoc c.args.entries.now.items (entry.Refresh (fields_of_plant next) (entered_calls_of report) ∷ []) (flat_map scan_entries (tasks_in_order p.config)),
+      shows.of_refresh number report ++ (scans.0 ++ shows.of_round number world),
+      c.in_ok-ended.ensures.text ∙ ap (λ (s : Shows). g.O.Observer.text c.scan_all.new.observer ++ s.of_round number world) (c.in_ok-scan_all.ensures.shows ∙ c.in_ok-refreshed.ensures.same)
+          ∙ ap (λ l. l ++ shows.of_round number world) (scans.1 ∙ ap (λ l. l ++ scans.0) c.in_ok-refreshed.ensures.text)
+          ∙ texts_joined (g.O.Observer.text c.args.observer.now) (shows.of_refresh number report) scans.0 (shows.of_round number world),
       record {
         gathered = c.desk.new.world.world;
         desk = c.desk.ensures.taken;
@@ -62,17 +78,16 @@ returns-clause-round c =
         refreshed = c.refresh.new.world.world;
         report = report;
         refresh = refreshing;
-        scans =
-            rw (sym c.requires.tasks)
-            (subst (λ (x : Program). ScanEach x.config c.args.tasks.now c.refresh.new.world.world c.scan_all.new.world.world) (c.refresh.ensures.same ∙ c.desk.ensures.same) c.in_ok-scan_all.ensures.scans);
+        scans = scans.2;
         journal = refl;
       },
+      ap (λ l. shows.of_refresh number report ++ (l ++ shows.of_round number world)) scans.3,
     )
 
 pub returns-clause-plant : goal.returns-clause-plant
-returns-clause-plant c = let sizes = sizes_of c.args.world.now.program.config in c.plant_step-plant.ensures.sized sizes (c.with_fire-plant.ensures.sized sizes c.requires.plant)
+returns-clause-plant g c = let sizes = sizes_of c.args.world.now.program.config in c.plant_step-plant.ensures.sized sizes (c.with_fire-plant.ensures.sized sizes c.requires.plant)
 
 pub returns-clause-idle : goal.returns-clause-idle
-returns-clause-idle c = λ none.
-    each_keeps c.refresh.new.world.program.config c.args.tasks.now c.refresh.new.world.world c.scan_all.new.world.world c.in_ok-scan_all.ensures.scans
+returns-clause-idle g c = λ none.
+    each_keeps c.refresh.new.world.program.config c.args.tasks.now c.refresh.new.world.world c.scan_all.new.world.world c.in_ok-scan_all.ensures.scans.2
     ∙ refresh_keeps c.desk.new.world.program.config c.desk.new.world.world c.refresh.new.world.world c.plant_step-plant.result.1 (Refreshed c.refresh.new.report) c.in_ok-refresh.ensures.taken ∙ c.desk.ensures.idle none

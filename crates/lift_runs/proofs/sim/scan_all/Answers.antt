@@ -1,27 +1,36 @@
-use Rattle.std.proofs.Common.{rules, ◌<◌, ◌∷◌, ◌++◌, [], subst, sym, ap, ◌∙◌, length}
+use Rattle.std.proofs.Common.{rules, ◌<◌, ◌∷◌, ◌++◌, [], subst, sym, ap, ◌∙◌, refl, length}
 use Rattle.std.specs.Prelude.{slice_index_or}
 use Rattle.std.proofs.lemmas.List.{append_assoc}
 use Rattle.il_machine.specs.Scanning.{Program, HasTask}
 use Rattle.lift_spec.specs.declared.journal.Entry.TheVariants as entry
-use Rattle.lift_journal.specs.Rounds.{Scans}
-use Rattle.lift_runs.proofs.Driving.{read, is_task, each_next, entries_next}
+use Rattle.lift_runs.specs.Shown.{Shows, ScansReporting}
+use Rattle.lift_runs.proofs.Driving.{read, is_task, entries_next}
+use Rattle.lift_runs.proofs.Showing.{scans_next}
 use Rattle.lift_runs.proofs.sim.scan_all.Goals as goal
 
 pub scan-requires-clause-task : goal.scan-requires-clause-task
-scan-requires-clause-task c =
+scan-requires-clause-task g c =
     let below : c.tasks.task-index < length c.args.tasks.now = search rules in
     let t = slice_index_or c.args.tasks.now c.tasks.task-index 0 in
     subst (λ (p : Program). HasTask p.config t) (sym c.tasks.invariant.same) (is_task c.args.world.now.program.config c.args.tasks.now c.tasks.task-index t c.requires.tasks (read c.args.tasks.now c.tasks.task-index 0 below))
 
 pub tasks-preserved : goal.tasks-preserved
-tasks-preserved c =
+tasks-preserved g c =
     let below : c.tasks.task-index < length c.args.tasks.now = search rules in
     let t = slice_index_or c.args.tasks.now c.tasks.task-index 0 in
     let at = read c.args.tasks.now c.tasks.task-index 0 below in
+    let shows = g.O.Observer.shows c.args.observer.now in
+    let before = c.tasks.invariant.scans in
+    let more = shows.of_commit c.args.number t c.scan.new.report in
     record {
-      scans =
-          each_next c.args.world.now.program.config c.args.tasks.now c.tasks.task-index t c.args.world.now.world c.tasks.world.world c.scan.new.world.world at c.tasks.invariant.scans
-          (subst (λ (p : Program). Scans p.config t c.tasks.world.world c.scan.new.world.world) c.tasks.invariant.same c.scan.ensures.scan);
+      scans = (
+        before.0 ++ more,
+        c.in_ok-committed.ensures.text ∙ ap (λ (s : Shows). g.O.Observer.text c.tasks.observer ++ s.of_commit c.args.number t c.scan.new.report) c.tasks.invariant.shows
+            ∙ ap (λ l. l ++ more) before.1 ∙ append_assoc (g.O.Observer.text c.args.observer.now) before.0 more,
+        scans_next shows c.args.number c.args.world.now.program.config c.args.tasks.now c.tasks.task-index t c.args.world.now.world c.tasks.world.world c.scan.new.world.world before.0 c.scan.new.report at before.2
+            (subst (λ (p : Program). ScansReporting p.config t c.tasks.world.world c.scan.new.world.world c.scan.new.report) c.tasks.invariant.same c.scan.ensures.scan),
+      );
+      shows = c.in_ok-committed.ensures.same ∙ c.tasks.invariant.shows;
       closed = c.scan.ensures.closed;
       journal =
           c.in_ok-push-2.ensures.items ∙ ap (λ l. l ++ entry.Commit t ∷ []) c.in_ok-push.ensures.items ∙ append_assoc c.tasks.entries.items (entry.Start t ∷ []) (entry.Commit t ∷ [])

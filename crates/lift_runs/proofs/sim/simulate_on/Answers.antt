@@ -3,10 +3,10 @@ use Rattle.il_machine.specs.Scanning.{Program, IsRunnable}
 use Rattle.lift_journal.specs.Rounds.{tasks_in_order}
 use Rattle.il_machine.proofs.Sizes.{sizes_fit}
 use Rattle.lift_runs.proofs.Driving.{entries_fit}
-use Rattle.lift_runs.proofs.sim.journal_of.Goals as goal
+use Rattle.lift_runs.proofs.sim.simulate_on.Goals as goal
 
 pub overflow_mul-from : goal.overflow_mul-from
-overflow_mul-from c =
+overflow_mul-from g c =
     let fit = sizes_fit c.args.world.now.program.config (subst (λ (p : Program). IsRunnable p.config) c.verified.ensures c.config-config.ensures.runnable) in
     let nine = entries_fit c.args.world.now.program.config c.in_ok-tasks.tasks.items (c.in_ok-tasks.ensures ∙ ap (λ (p : Program). tasks_in_order p.config) c.verified-2.ensures) fit.0.1 in
     let long = c.len.ensures in

@@ -1,6 +1,6 @@
 use Rattle.std.proofs.Common.{ap, ◌∙◌, ◌∷◌}
 use Rattle.lift_host.specs.Requests.{words_of}
-use Rattle.lift_host.proofs.request.asked_rounds.Goals as goal
+use Rattle.lift_host.proofs.request.rounds_given.Goals as goal
 
 pub returns-clause-some : goal.returns-clause-some
 returns-clause-some c = record {

@@ -1,0 +1,107 @@
+-- Words in two parts, at the first that begins with a digit; and words without an option.
+use Rattle.std.proofs.Common.{arith, ℕ, ◌≡◌, ◌<◌, ◌+◌, inl, inr, List, [], ◌∷◌, ◌++◌, zero, suc, refl, sym, ap, ◌∙◌, subst, map, take, drop, length}
+use Rattle.std.specs.Prelude.{codes, Some, slice_get, String, string_bytes}
+use Rattle.std.specs.Global.{Global}
+use Rattle.std.proofs.lemmas.Bool.{cases_lt}
+use Rattle.std.proofs.lemmas.List.{append_assoc}
+use Rattle.std.proofs.lemmas.Option.{slice_get_within, same_Some}
+use Rattle.lift_host.specs.Requests.{BeginsWithDigit, AreNamesFirst, AreWithoutExplain}
+use Rattle.lift_host.proofs.Apart.{map_drop, map_take, parted, place_of}
+
+nil : (xs : List (List ℕ)) → xs ++ [] ≡ xs
+nil [] = refl
+nil (x ∷ xs) = ap (λ l. x ∷ l) (nil xs)
+
+-- none of the words begins with a digit
+abbrev AreNames : List (List ℕ) → Type 0
+AreNames words = (k : ℕ) (word : List ℕ) → slice_get words k ≡ Some word → BeginsWithDigit word → ⊥
+
+no_name : AreNames []
+no_name k word at = let low = slice_get_within [] k word at in omega (arith, low)
+
+rest_names : (x : List ℕ) (xs : List (List ℕ)) → AreNames (x ∷ xs) → AreNames xs
+rest_names x xs names k word at = names (suc k) word at
+
+both_names : (xs ys : List (List ℕ)) → AreNames xs → AreNames ys → AreNames (xs ++ ys)
+both_names [] ys names more k word at = more k word at
+both_names (x ∷ xs) ys names more zero word at = names 0 word at
+both_names (x ∷ xs) ys names more (suc k) word at = both_names xs ys (rest_names x xs names) more k word at
+
+-- one word more
+pub one_name : (words : List (List ℕ)) (n : ℕ) (bytes : List ℕ) → slice_get words n ≡ Some bytes → (BeginsWithDigit bytes → ⊥) → ((k : ℕ) (word : List ℕ) → k < n → slice_get words k ≡ Some word → BeginsWithDigit word → ⊥)
+    → (k : ℕ) (word : List ℕ) → k < n + 1 → slice_get words k ≡ Some word → BeginsWithDigit word → ⊥
+one_name words n bytes there none before k word low at = elim (cases_lt k n) [
+  | inl less ↦ before k word less at
+  | inr not_less ↦
+      let last : k ≡ n = omega (arith, low, not_less) in
+      let same : word ≡ bytes = same_Some word bytes (sym at ∙ ap (slice_get words) last ∙ there) in
+      λ is. none (subst BeginsWithDigit same is)
+]
+
+names_to : (n : ℕ) (words : List (List ℕ)) → ((k : ℕ) (word : List ℕ) → k < n → slice_get words k ≡ Some word → BeginsWithDigit word → ⊥) → AreNames (take n words)
+names_to zero words before k word at = no_name k word at
+names_to (suc n) [] before k word at = no_name k word at
+names_to (suc n) (x ∷ xs) before zero word at = before 0 word (omega arith) at
+names_to (suc n) (x ∷ xs) before (suc k) word at = names_to n xs (λ j w low there. before (suc j) w (omega (arith, low)) there) k word at
+
+module _ (words front back : List (String Global)) (n : ℕ) (e : front ≡ take n words) (f : back ≡ drop n words)
+    (before : (k : ℕ) (word : List ℕ) → k < n → slice_get (map string_bytes words) k ≡ Some word → BeginsWithDigit word → ⊥)
+    (at : (word : List ℕ) → slice_get (map string_bytes words) n ≡ Some word → BeginsWithDigit word) where
+  front_names : AreNames (map string_bytes front)
+  front_names = subst AreNames (sym (ap (map string_bytes) e ∙ map_take n words)) (names_to n (map string_bytes words) before)
+
+  back_begins : (more : List (List ℕ)) (word : List ℕ) → slice_get (map string_bytes back ++ more) 0 ≡ Some word → (length back ≡ 0 → ⊥) → BeginsWithDigit word
+  back_begins more word there some = by back f there some
+    where
+      by : (b : List (String Global)) → b ≡ drop n words → slice_get (map string_bytes b ++ more) 0 ≡ Some word → (length b ≡ 0 → ⊥) → BeginsWithDigit word
+      by [] is there some = absurd (some refl)
+      by (x ∷ b) is there some =
+          let first : string_bytes x ≡ word = same_Some (string_bytes x) word there in
+          at word (place_of n (map string_bytes words) word (map string_bytes b) (sym (map_drop n words) ∙ ap (map string_bytes) (sym is) ∙ ap (λ w. w ∷ map string_bytes b) first))
+
+  -- where a word of these begins with a digit, the words behind them are presses too
+  pub split_here : (behind : List (String Global)) → (length back ≡ 0 → ⊥)
+      → AreNamesFirst (map string_bytes words ++ map string_bytes behind) (map string_bytes front ++ []) (map string_bytes back ++ map string_bytes behind)
+  split_here behind some = record {
+    are =
+        ap (λ ws. ws ++ map string_bytes behind) (parted words front back n e f) ∙ append_assoc (map string_bytes front) (map string_bytes back) (map string_bytes behind)
+        ∙ sym (ap (λ ws. ws ++ (map string_bytes back ++ map string_bytes behind)) (nil (map string_bytes front)));
+    unnumbered = subst AreNames (sym (nil (map string_bytes front))) front_names;
+    numbered = λ word there. back_begins (map string_bytes behind) word there some;
+  }
+
+  -- otherwise all of them are names
+  pub all_names : length back ≡ 0 → AreNames (map string_bytes words)
+  all_names none = subst AreNames (sym (parted words front back n e f ∙ ap (λ ws. map string_bytes front ++ ws) (by back none) ∙ nil (map string_bytes front))) front_names
+    where
+      by : (b : List (String Global)) → length b ≡ 0 → map string_bytes b ≡ []
+      by [] is = refl
+      by (x ∷ b) is = absurd (omega (arith, is))
+
+  -- and those behind them are split
+  pub split_behind : (earlier : List (List ℕ)) → AreNames earlier → AreNamesFirst (earlier ++ map string_bytes words) (earlier ++ map string_bytes front) (map string_bytes back ++ [])
+  split_behind earlier names = record {
+    are =
+        ap (λ ws. earlier ++ ws) (parted words front back n e f) ∙ sym (append_assoc earlier (map string_bytes front) (map string_bytes back))
+        ∙ ap (λ ws. (earlier ++ map string_bytes front) ++ ws) (sym (nil (map string_bytes back)));
+    unnumbered = both_names earlier (map string_bytes front) names front_names;
+    numbered = λ word there. by back f there;
+  }
+    where
+      by : (b : List (String Global)) {word : List ℕ} → b ≡ drop n words → slice_get (map string_bytes b ++ []) 0 ≡ Some word → BeginsWithDigit word
+      by [] {word} is there = let low = slice_get_within [] 0 word there in absurd (omega (arith, low))
+      by (x ∷ b) {word} is there =
+          let first : string_bytes x ≡ word = same_Some (string_bytes x) word there in
+          at word (place_of n (map string_bytes words) word (map string_bytes b) (sym (map_drop n words) ∙ ap (map string_bytes) (sym is) ∙ ap (λ w. w ∷ map string_bytes b) first))
+
+-- WITHOUT --explain
+
+pub explain_dropped : (words rest : List (List ℕ)) (word : List ℕ) → word ≡ codes "--explain" → AreWithoutExplain words rest → AreWithoutExplain (words ++ word ∷ []) rest
+explain_dropped [] rest word is are = inl (is, are)
+explain_dropped (w ∷ words) rest word is (inl (here, more)) = inl (here, explain_dropped words rest word is more)
+explain_dropped (w ∷ words) rest word is (inr (other, more, e, are)) = inr (other, more, e, explain_dropped words more word is are)
+
+pub other_kept : (words rest : List (List ℕ)) (word : List ℕ) → (word ≡ codes "--explain" → ⊥) → AreWithoutExplain words rest → AreWithoutExplain (words ++ word ∷ []) (rest ++ word ∷ [])
+other_kept [] rest word other are = inr (other, [], ap (λ ws. ws ++ word ∷ []) are, refl)
+other_kept (w ∷ words) rest word other (inl (here, more)) = inl (here, other_kept words rest word other more)
+other_kept (w ∷ words) rest word other (inr (not, more, e, are)) = inr (not, more ++ word ∷ [], ap (λ ws. ws ++ word ∷ []) e, other_kept words more word other are)

@@ -1,0 +1,18 @@
+use Rattle.std.proofs.Common.{◌≤◌, List, length, subst, sym, Ok}
+use Rattle.lift_spec.specs.declared.image.Sizes.{Sizes}
+use Rattle.lift_spec.specs.declared.trace.TraceEvent.{TraceEvent}
+use Rattle.lift_spec.specs.Image.{sizes_of}
+use Rattle.lift_trace.specs.Reading.{Reads, greatest_trace}
+use Rattle.lift_output.proofs.Counted.{few_events}
+use Rattle.lift_output.proofs.Followed.{followed_is}
+use Rattle.lift_output.proofs.outcome.followed_text.Goals as goal
+
+pub followed_events-requires : goal.followed_events-requires
+followed_events-requires c = record {
+  few = subst (λ (l : List TraceEvent). length l ≤ greatest_trace) (sym c.deref.ensures.value) (few_events c.sizes.result.cars c.args.text.now c.in-Ok.events.items c.in-Ok.ensures.ok);
+}
+
+pub returns-in-Ok : goal.returns-in-Ok
+returns-in-Ok c =
+    followed_is c.args.command c.args.verified c.args.text.now c.deref.result.now c.followed_events.result
+    (subst (λ (l : List TraceEvent). Reads (sizes_of c.args.verified.config).cars c.args.text.now (Ok l)) (sym c.deref.ensures.value) (subst (λ (s : Sizes). Reads s.cars c.args.text.now (Ok c.in-Ok.events.items)) c.sizes.ensures c.in-Ok.ensures.ok)) c.followed_events.ensures

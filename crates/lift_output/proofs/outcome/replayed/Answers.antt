@@ -1,9 +1,0 @@
-use Rattle.std.proofs.Common.{ℕ, List, subst, ap, Err}
-use Rattle.lift_output.specs.Outcomes.{IsReplayed, unread, read}
-use Rattle.lift_output.proofs.outcome.replayed.Goals as goal
-
-pub returns-in-Ok-clause-is : goal.returns-in-Ok-clause-is
-returns-in-Ok-clause-is g c = read c.in-Ok.text.items c.in-Ok.ensures.gives (subst (λ (l : List ℕ). IsReplayed c.args.verified l c.replayed_text.result) c.deref.ensures.value c.replayed_text.ensures)
-
-pub returns-in-Err-clause-is : goal.returns-in-Err-clause-is
-returns-in-Err-clause-is g c = unread c.in-Err.fault c.in-Err.ensures.fails (ap Err c.into.ensures)

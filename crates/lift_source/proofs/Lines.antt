@@ -1,0 +1,1 @@
+-- Lines, one behind the other.

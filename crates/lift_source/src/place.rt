@@ -1,0 +1,70 @@
+// The place of a fault, as it is shown below a refusal.
+
+ghost use Rattle.std.specs.Prelude.{◌≡◌, ◌++◌, ◌-◌, ℕ, List, map, take, IfOk, OnOk, decimal};
+ghost use Rattle.lift_source.specs.Places.{IsShownBelow, shown, quoted};
+
+use crate::lines::line_at;
+use itoa::Buffer;
+use lift_explain::title;
+use std::alloc::{AllocError, Global};
+
+/// The most bytes of a line that are shown.
+const MOST_BYTES: usize = 200;
+
+/// What is shown below the refusal of a text with a number at a line, counted from 1: the name of the file, the line, and its text; then
+/// the meaning of the number.
+pub fn below(
+    alloc: Global,
+    name: &str,
+    text: &[u8],
+    number: u16,
+    line: u32,
+) -> Result<Vec<u8>, AllocError>
+    ensures { IfOk result (λ below. IsShownBelow name.now text.now line below.items) }
+{
+    let mut below = Vec::new(alloc);
+    put_place(&mut below, name, line)?;
+    let source = line_at(text, line.saturating_sub(1)).unwrap_or(b"");
+    put_quoted(&mut below, source)?;
+    put_meaning(&mut below, number)?;
+    Ok(below)
+}
+
+/// `NAME:LINE: `.
+fn put_place(to: &mut Vec<u8>, name: &str, line: u32) -> Result<(), AllocError> {
+    let mut digits = Buffer::new();
+    to.extend_from_slice(name.as_bytes())?;
+    to.extend_from_slice(b":")?;
+    to.extend_from_slice(digits.format(line).as_bytes())?;
+    to.extend_from_slice(b": ")
+}
+
+/// A byte as it is shown: `?` for one that can't be printed.
+fn shown(byte: u8) -> u8
+    ensures { result ≡ shown byte }
+{
+    match byte {
+        b' '..=b'~' => byte,
+        _ => b'?',
+    }
+}
+
+/// The first bytes of a line, and a line feed.
+fn put_quoted(to: &mut Vec<u8>, line: &[u8]) -> Result<(), AllocError> {
+    'bytes: for byte in line.iter().take(MOST_BYTES) {
+        to.push(shown(*byte))?;
+    }
+    to.push(b'\n')
+}
+
+/// What the number means, and who says more.
+fn put_meaning(to: &mut Vec<u8>, number: u16) -> Result<(), AllocError> {
+    let Some(title) = title(number) else {
+        return Ok(());
+    };
+    let mut digits = Buffer::new();
+    to.extend_from_slice(title.as_bytes())?;
+    to.extend_from_slice(b"\n`liftplc explain ")?;
+    to.extend_from_slice(digits.format(number).as_bytes())?;
+    to.extend_from_slice(b"` says more\n")
+}

@@ -1,0 +1,1 @@
+-- Names of tasks, and what stands behind them.

@@ -1,0 +1,3 @@
+pub mod Denials
+pub mod Names
+pub mod Values

@@ -1,0 +1,97 @@
+-- What `watch` prints (own rules).
+use Rattle.std.specs.Prelude.{◌≡◌, ℕ, zero, suc, true, false, List, [], ◌∷◌, ◌++◌, flat_map, All, slice_get, Option, Some, None, option_map, option_and_then, pos, codes, decimal}
+use Rattle.std.specs.Fmt.{signed_decimal}
+use Rattle.il_run.specs.declared.value.Value.{Value}
+use Rattle.il_run.specs.declared.value.Value.TheVariants.{Boolean, Integer}
+use Rattle.il_table.specs.NameMap as values
+use Rattle.lift_spec.specs.declared.image.CarFields.{CarFields}
+use Rattle.lift_spec.specs.declared.image.CarOutputs.{CarOutputs}
+use Rattle.lift_spec.specs.declared.image.Fields.{Fields}
+use Rattle.lift_spec.specs.declared.image.Image.{Image}
+use Rattle.lift_spec.specs.Snapshot.{motor_number, task_name}
+use Rattle.lift_spec.specs.World.{World, task_at}
+use Rattle.lift_runs.specs.Shown.{Shows}
+use Rattle.lift_watch.specs.Names.{IsReadAs, word_of_shared, word_of_car_name}
+use Rattle.lift_watch.specs.declared.names.CarName.{CarName}
+use Rattle.lift_watch.specs.declared.names.CarName.TheVariants.{Pos, Level, Top, Bottom, Locked, Opened, Motor, Open}
+use Rattle.lift_watch.specs.declared.names.Shared.{Shared as SharedName}
+use Rattle.lift_watch.specs.declared.names.Shared.TheVariants.{Now, RunLimit, Fire}
+use Rattle.lift_watch.specs.declared.names.Watched.{Watched}
+use Rattle.lift_watch.specs.declared.names.Watched.TheVariants.{Shared, Car, Variable, Global}
+
+-- the value of a shared name of the image
+abbrev pub shared_value : SharedName → Fields → Value
+shared_value Now fields = Integer (pos fields.time)
+shared_value RunLimit fields = Integer (pos fields.run_limit)
+shared_value Fire fields = Boolean fields.fire
+
+-- what the plant reports of a car, and its outputs
+abbrev pub value_in_car : CarName → CarFields → CarOutputs → Value
+value_in_car Pos fields outputs = Integer (pos fields.pos)
+value_in_car Level fields outputs = Boolean fields.level
+value_in_car Top fields outputs = Boolean fields.top
+value_in_car Bottom fields outputs = Boolean fields.bottom
+value_in_car Locked fields outputs = Boolean fields.locked
+value_in_car Opened fields outputs = Boolean fields.opened
+value_in_car Motor fields outputs = Integer (motor_number outputs.motor)
+value_in_car Open fields outputs = Boolean outputs.opens
+
+-- the value of a name of a car's image, where the group has the car; cars count from 1
+abbrev pub car_value_in : ℕ → CarName → Image → Option Value
+car_value_in zero name image = None
+car_value_in (suc k) name image = option_and_then (λ (fields : CarFields). option_map (value_in_car name fields) (slice_get image.outputs k)) (slice_get image.fields.cars k)
+
+-- what a name stands for in a world; a variable has the value that its task's last commit left
+abbrev pub value_of : Watched → World → Option Value
+value_of (Shared name) w = Some (shared_value name w.group.image.fields)
+value_of (Car car name) w = car_value_in car name w.group.image
+value_of (Variable task path) w = option_and_then (λ t. values.get t.variables path.now) (task_at w.group task)
+value_of (Global path) w = values.get w.group.globals path.now
+
+-- TRUE, FALSE or a decimal, behind a comma; nothing but the comma where there is no value
+abbrev pub value_text : Option Value → List ℕ
+value_text None = codes ","
+value_text (Some (Boolean true)) = codes ",TRUE"
+value_text (Some (Boolean false)) = codes ",FALSE"
+value_text (Some (Integer z)) = codes "," ++ signed_decimal z
+
+-- the values, one behind the other
+abbrev pub values_text : List Watched → World → List ℕ
+values_text watched w = flat_map (λ (it : Watched). value_text (value_of it w)) watched
+
+-- a line of the number of the round and the values behind it
+abbrev pub row_text : List Watched → ℕ → World → List ℕ
+row_text watched round w = decimal round ++ (values_text watched w ++ codes "\n")
+
+-- what is written of each round
+abbrev pub watching : List Watched → Shows
+watching watched = record { of_refresh = λ round report. []; of_commit = λ round task report. []; of_round = row_text watched }
+
+-- the names, each behind a comma
+abbrev pub names_text : List (List ℕ) → List ℕ
+names_text names = flat_map (λ (name : List ℕ). codes "," ++ name) names
+
+-- the first line: ROUND and the names
+abbrev pub header_text : List (List ℕ) → List ℕ
+header_text names = codes "ROUND" ++ (names_text names ++ codes "\n")
+
+-- each of the names stands for something
+abbrev pub AreReadAs : List (List ℕ) → List Watched → Type 0
+AreReadAs [] [] = Unit {0}
+AreReadAs [] (it ∷ watched) = ⊥
+AreReadAs (name ∷ names) [] = ⊥
+AreReadAs (name ∷ names) (it ∷ watched) = IsReadAs name it × AreReadAs names watched
+
+-- the names stand for these, each of which has a value in the world
+pub record AreWatched (w : World) (names : List (List ℕ)) (watched : List Watched) : Type 0 where
+  pub read : AreReadAs names watched
+  pub known : All (λ (it : Watched). value_of it w ≡ None → ⊥) watched
+
+-- one of the names has no value in the world
+pub record IsUnknown (w : World) (names : List (List ℕ)) : Type 0 where
+  pub place : ℕ
+  pub name : List ℕ
+  pub stands : slice_get names place ≡ Some name
+  pub it : Watched
+  pub read : IsReadAs name it
+  pub none : value_of it w ≡ None

@@ -1,0 +1,162 @@
+// What the names of `watch` stand for.
+
+ghost use Rattle.std.specs.Prelude.{◌≡◌, ◌≤◌, ◌<◌, ◌∷◌, ◌++◌, [], ℕ, List, IfSome, IsNone};
+ghost use Rattle.lift_spec.specs.Snapshot.{task_name};
+ghost use Rattle.lift_watch.specs.Names.{word_of_shared, word_of_car_name, IsReadIn, IsReadAs, IsInTask};
+ghost use Rattle.lift_watch.specs.declared.names.Shared.{Shared};
+ghost use Rattle.lift_watch.specs.declared.names.CarName.{CarName};
+
+/// A name of the image that all tasks share.
+#[derive(Clone, Copy)]
+pub enum Shared {
+    /// The time, in milliseconds.
+    Now,
+    RunLimit,
+    Fire,
+}
+
+/// A name of the image that each car has.
+#[derive(Clone, Copy)]
+pub enum CarName {
+    /// The floor, from 1 on.
+    Pos,
+    Level,
+    Top,
+    Bottom,
+    Locked,
+    Opened,
+    /// 1 is up, -1 is down.
+    Motor,
+    Open,
+}
+
+/// What a name stands for. A task is 0 for GROUP and k for CARk.
+#[derive(Clone, Copy)]
+pub enum Watched<'n> {
+    Shared(Shared),
+    Car(u8, CarName),
+    /// A variable of a task, by its path.
+    Variable(u8, &'n str),
+    /// A global, by its path.
+    Global(&'n str),
+}
+
+/// A task, and what stands behind its name and a period.
+#[derive(Clone, Copy)]
+struct InTask<'n> {
+    task: u8,
+    rest: &'n str,
+}
+
+impl Shared {
+    /// Its word.
+    pub fn as_str(self) -> &'static str
+        ensures { result.now ≡ word_of_shared self }
+    {
+        match self {
+            Shared::Now => "NOW",
+            Shared::RunLimit => "RUNLIMIT",
+            Shared::Fire => "FIRE",
+        }
+    }
+
+    fn of(word: &str) -> Option<Shared>
+        ensures some { IfSome result (λ shared. word.now ≡ word_of_shared shared) }
+        ensures none { IsNone result → (shared : Shared) → word.now ≡ word_of_shared shared → ⊥ }
+    {
+        [Shared::Now, Shared::RunLimit, Shared::Fire]
+            .into_iter()
+            .find(|shared| word == shared.as_str())
+    }
+}
+
+impl CarName {
+    /// Its word.
+    pub fn as_str(self) -> &'static str
+        ensures { result.now ≡ word_of_car_name self }
+    {
+        match self {
+            CarName::Pos => "POS",
+            CarName::Level => "LEVEL",
+            CarName::Top => "TOP",
+            CarName::Bottom => "BOTTOM",
+            CarName::Locked => "LOCKED",
+            CarName::Opened => "OPENED",
+            CarName::Motor => "MOTOR",
+            CarName::Open => "OPEN",
+        }
+    }
+
+    fn of(word: &str) -> Option<CarName>
+        ensures some { IfSome result (λ name. word.now ≡ word_of_car_name name) }
+        ensures none { IsNone result → (name : CarName) → word.now ≡ word_of_car_name name → ⊥ }
+    {
+        [
+            CarName::Pos,
+            CarName::Level,
+            CarName::Top,
+            CarName::Bottom,
+            CarName::Locked,
+            CarName::Opened,
+            CarName::Motor,
+            CarName::Open,
+        ]
+        .into_iter()
+        .find(|name| word == name.as_str())
+    }
+}
+
+/// What a name stands for: a name of the image, otherwise a variable of the task whose name stands before its first period, and
+/// otherwise a global.
+pub fn read(name: &str) -> Watched<'_>
+    ensures { IsReadAs name.now result }
+{
+    if let Some(shared) = Shared::of(name) {
+        return Watched::Shared(shared);
+    }
+    match in_task(name) {
+        Some(InTask { task, rest }) => read_in(task, rest),
+        None => Watched::Global(name),
+    }
+}
+
+/// What a name stands for behind that of a task.
+fn read_in(task: u8, rest: &str) -> Watched<'_>
+    ensures { IsReadIn task rest.now result }
+{
+    match CarName::of(rest) {
+        Some(name) if task > 0 => Watched::Car(task, name),
+        _ => Watched::Variable(task, rest),
+    }
+}
+
+/// The task whose name stands before the first period.
+fn in_task(name: &str) -> Option<InTask<'_>>
+    ensures some { IfSome result (λ it. IsInTask name.now it.task it.rest.now) }
+    ensures none { IsNone result → (task : ℕ) (rest : List ℕ) → IsInTask name.now task rest → ⊥ }
+{
+    let (front, rest) = name.split_once('.')?;
+    let task = task_of(front)?;
+    Some(InTask { task, rest })
+}
+
+/// The task of a name.
+fn task_of(word: &str) -> Option<u8>
+    ensures some { IfSome result (λ task. (task ≤ 8) × (word.now ≡ task_name task)) }
+    ensures none { IsNone result → (task : ℕ) → task ≤ 8 → word.now ≡ task_name task → ⊥ }
+{
+    [
+        (0, "GROUP"),
+        (1, "CAR1"),
+        (2, "CAR2"),
+        (3, "CAR3"),
+        (4, "CAR4"),
+        (5, "CAR5"),
+        (6, "CAR6"),
+        (7, "CAR7"),
+        (8, "CAR8"),
+    ]
+    .into_iter()
+    .find(|(_, name)| word == *name)
+    .map(|(task, _)| task)
+}

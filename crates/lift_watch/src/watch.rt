@@ -1,0 +1,212 @@
+// What `watch` prints.
+
+ghost use Rattle.std.specs.Prelude.{◌≡◌, ◌⊎◌, ◌++◌, [], ℕ, List, None, flat_map, IfOk, IfErr, OnOk, map, string_bytes, codes};
+ghost use Rattle.lift_host.specs.Requests.{words_of};
+ghost use Rattle.lift_host.specs.declared.status.Fault.TheVariants.{BadName, NoMemory};
+ghost use Rattle.lift_spec.specs.Snapshot.{motor_number};
+ghost use Rattle.lift_watch.specs.Values.{shared_value, value_in_car, car_value_in, value_of, value_text, names_text, values_text, row_text, header_text, AreWatched, IsUnknown};
+
+use crate::names::{CarName, Shared, Watched, read};
+use il_machine::Value;
+use lift_host::request::Words;
+use lift_host::status::Fault;
+use lift_image::{CarFields, CarOutputs, Fields, Image, Motor};
+use lift_runs::observer::Observer;
+use lift_spec::report::Report;
+use lift_world::World;
+use std::alloc::{AllocError, Global};
+
+/// Writes the values of names behind each round, as lines of CSV.
+#[derive(Drop)]
+pub struct Watch<'n> {
+    /// What the names stand for.
+    pub watched: Vec<Watched<'n>>,
+    /// The lines so far.
+    pub text: String,
+}
+
+impl<'n> Watch<'n> {
+    /// Of these names, which have values in the world. The line of the names is written.
+    pub fn of(alloc: Global, world: &World, names: Words<'n>) -> Result<Watch<'n>, Fault>
+        ensures known { IfOk result (λ watch. AreWatched world.now.world (words_of names.entry) watch.watched.items) }
+        ensures header { IfOk result (λ watch. string_bytes watch.text ≡ header_text (words_of names.entry)) }
+        ensures unknown { IfErr result (λ fault. (fault ≡ NoMemory) ⊎ ((fault ≡ BadName) × IsUnknown world.now.world (words_of names.entry))) }
+    {
+        let watched = watched_of(alloc, world, names)?;
+        let text = header(alloc, names)?;
+        Ok(Watch { watched, text })
+    }
+}
+
+impl Observer for Watch<'_> {
+    ghost use Rattle.std.specs.Prelude.{string_bytes};
+    ghost use Rattle.lift_watch.specs.Values.{watching};
+
+    ghost text = { λ w. string_bytes w.text };
+
+    ghost shows = { λ w. watching w.watched.items };
+
+    fn refreshed(&mut self, _round: u16, _report: &Report) -> Result<(), AllocError> {
+        Ok(())
+    }
+
+    fn committed(
+        &mut self,
+        _round: u16,
+        _task: u8,
+        _report: &Report,
+    ) -> Result<(), AllocError> {
+        Ok(())
+    }
+
+    fn ended(&mut self, round: u16, world: &World) -> Result<(), AllocError> {
+        put_row(&mut self.text, round, world, &self.watched)
+    }
+}
+
+/// What names stand for.
+fn watched_of<'n>(alloc: Global, world: &World, names: Words<'n>) -> Result<Vec<Watched<'n>>, Fault>
+    ensures known { IfOk result (λ watched. AreWatched world.now.world (words_of names.entry) watched.items) }
+    ensures unknown { IfErr result (λ fault. (fault ≡ NoMemory) ⊎ ((fault ≡ BadName) × IsUnknown world.now.world (words_of names.entry))) }
+{
+    let mut watched = Vec::new(alloc);
+    add_names(&mut watched, world, names.front)?;
+    add_names(&mut watched, world, names.back)?;
+    Ok(watched)
+}
+
+/// Adds what names stand for, where each has a value.
+fn add_names<'n>(
+    watched: &mut Vec<Watched<'n>>,
+    world: &World,
+    names: &'n [String],
+) -> Result<(), Fault>
+    ensures known { OnOk result ((before : List (List ℕ)) → AreWatched world.now.world before watched.old.items → AreWatched world.now.world (before ++ map string_bytes names.now) watched.new.items) }
+    ensures unknown { IfErr result (λ fault. (fault ≡ NoMemory) ⊎ ((fault ≡ BadName) × IsUnknown world.now.world (map string_bytes names.now))) }
+{
+    'names: for name in names {
+        let it = read(name);
+        if value_of(world, it).is_none() {
+            return Err(Fault::BadName);
+        }
+        watched.push(it)?;
+    }
+    Ok(())
+}
+
+/// The line of the names.
+fn header(alloc: Global, names: Words<'_>) -> Result<String, AllocError>
+    ensures { IfOk result (λ text. string_bytes text ≡ header_text (words_of names.entry)) }
+{
+    let mut text = String::from_str(alloc, "ROUND")?;
+    put_names(&mut text, names.front)?;
+    put_names(&mut text, names.back)?;
+    text.push_str("\n")?;
+    Ok(text)
+}
+
+fn put_names(text: &mut String, names: &[String]) -> Result<(), AllocError>
+    ensures { OnOk result (string_bytes text.new ≡ string_bytes text.old ++ names_text (map string_bytes names.now)) }
+{
+    'names: for name in names {
+        text.push_str(",")?;
+        text.push_str(name)?;
+    }
+    Ok(())
+}
+
+/// The number of the round, and the values.
+fn put_row(
+    text: &mut String,
+    round: u16,
+    world: &World,
+    watched: &[Watched<'_>],
+) -> Result<(), AllocError>
+    ensures { OnOk result (string_bytes text.new ≡ string_bytes text.old ++ row_text watched.now round world.now.world) }
+{
+    write!(text, "{}", round)?;
+    put_values(text, world, watched)?;
+    text.push_str("\n")
+}
+
+fn put_values(
+    text: &mut String,
+    world: &World,
+    watched: &[Watched<'_>],
+) -> Result<(), AllocError>
+    ensures { OnOk result (string_bytes text.new ≡ string_bytes text.old ++ values_text watched.now world.now.world) }
+{
+    'values: for it in watched {
+        put_value(text, value_of(world, *it))?;
+    }
+    Ok(())
+}
+
+fn put_value(text: &mut String, value: Option<Value>) -> Result<(), AllocError>
+    ensures { OnOk result (string_bytes text.new ≡ string_bytes text.old ++ value_text value) }
+{
+    match value {
+        None => text.push_str(","),
+        Some(Value::Boolean(true)) => text.push_str(",TRUE"),
+        Some(Value::Boolean(false)) => text.push_str(",FALSE"),
+        Some(Value::Integer(number)) => write!(text, ",{}", number),
+    }
+}
+
+/// The value in a world.
+fn value_of(world: &World, watched: Watched<'_>) -> Option<Value>
+    ensures { result ≡ value_of watched.entry world.now.world }
+{
+    match watched {
+        Watched::Shared(name) => Some(shared_value(&world.image().fields, name)),
+        Watched::Car(car, name) => car_value(world.image(), car, name),
+        Watched::Variable(task, path) => world.variable(task, path),
+        Watched::Global(path) => world.global(path),
+    }
+}
+
+fn shared_value(fields: &Fields, name: Shared) -> Value
+    ensures { result ≡ shared_value name fields.now }
+{
+    match name {
+        Shared::Now => Value::Integer(i64::from(fields.time)),
+        Shared::RunLimit => Value::Integer(i64::from(fields.run_limit)),
+        Shared::Fire => Value::Boolean(fields.fire),
+    }
+}
+
+/// The value of a car's name; cars count from 1.
+fn car_value(image: &Image, car: u8, name: CarName) -> Option<Value>
+    ensures { result ≡ car_value_in car name image.now }
+{
+    let place = usize::from(car).checked_sub(1)?;
+    let fields = image.fields.cars.as_slice().get(place)?;
+    let outputs = image.outputs.as_slice().get(place)?;
+    Some(value_in_car(name, fields, outputs))
+}
+
+fn value_in_car(name: CarName, fields: &CarFields, outputs: &CarOutputs) -> Value
+    ensures { result ≡ value_in_car name fields.now outputs.now }
+{
+    match name {
+        CarName::Pos => Value::Integer(i64::from(fields.pos)),
+        CarName::Level => Value::Boolean(fields.level),
+        CarName::Top => Value::Boolean(fields.top),
+        CarName::Bottom => Value::Boolean(fields.bottom),
+        CarName::Locked => Value::Boolean(fields.locked),
+        CarName::Opened => Value::Boolean(fields.opened),
+        CarName::Motor => Value::Integer(number_of(outputs.motor)),
+        CarName::Open => Value::Boolean(outputs.opens),
+    }
+}
+
+/// A motor as a number: 1 is up, -1 is down.
+fn number_of(motor: Motor) -> i64
+    ensures { result ≡ motor_number motor }
+{
+    match motor {
+        Motor::Up => 1,
+        Motor::Down => -1,
+        Motor::Still => 0,
+    }
+}
