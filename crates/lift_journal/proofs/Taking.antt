@@ -227,12 +227,12 @@ commit_over : (c : Config) (w v : World) (t : ℕ) (r : Reply) → IsOver c t w 
 unfolding happens
 commit_over c w v t r o e = let both = same_world _ v _ r (sym (ap (commits c w t) o.there ∙ ap (commits_scan c w t o.task) o.standing ∙ ap (commits_ended c w t o.task o.scan) o.over) ∙ e) in (_, sym both.1)
 
--- a scan that was run to its end commits
-pub finished : (c : Config) (w u v : World) (t n : ℕ) (r : Reply) → 1 ≤ n → run c w [] (replicate n (Instruction t)) ≡ Ok (u, ending n) → happens c u (Commit t) ≡ Ok (v, r) → FinishesAndCommits c t w v
+-- a scan that was run to its end commits, and that is what it is answered
+pub finished : (c : Config) (w u v : World) (t n : ℕ) (r : Reply) → 1 ≤ n → run c w [] (replicate n (Instruction t)) ≡ Ok (u, ending n) → happens c u (Commit t) ≡ Ok (v, r) → (rest : FinishesAndCommits c t w v) × (r ≡ Committed rest.report)
 finished c w u v t zero r some steps e = absurd (omega (arith, some))
 finished c w u v t (suc n) r some steps e =
     let report = commit_over c u v t r (ends_over c t n w u [] (ending (suc n)) steps (last_ending n)) e in
-    record { at_end = u; finish = record { instructions = suc n; steps = steps }; report = report.0; commit = e ∙ ap (Led v) report.1 }
+    (record { at_end = u; finish = record { instructions = suc n; steps = steps }; report = report.0; commit = e ∙ ap (Led v) report.1 }, report.1)
 
 -- WHOSE SCANS ARE OPEN
 

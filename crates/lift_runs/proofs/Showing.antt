@@ -11,7 +11,7 @@ use Rattle.lift_spec.specs.Plant.{PlantState}
 use Rattle.lift_spec.specs.World.{World}
 use Rattle.lift_journal.specs.Rounds.{is_fire_in}
 use Rattle.lift_runs.specs.Driven.{calls_in}
-use Rattle.lift_runs.specs.Shown.{Shows, ScansReporting, ScansShown, RoundShown, RoundsShown, scans_text}
+use Rattle.lift_runs.specs.Shown.{Shows, ScansReporting, ScansShown, RoundShown, RoundsShown, scans_text, rounds_text}
 use Rattle.lift_runs.proofs.Driving.{take_next}
 
 pub nil : (xs : List ℕ) → xs ++ [] ≡ xs
@@ -46,7 +46,7 @@ rounds_next s p q same presses fire n before plant u w earlier now last text mor
     (subst (λ (x : Program). RoundShown s (n + 1) x.config (calls_in presses (n + 1)) (is_fire_in fire (n + 1)) before plant u w last more) same round)
     in
     subst (λ k. RoundsShown s p.config (calls_in presses) (is_fire_in fire) k plant w now (text ++ more)) (sym number)
-    ((before, u, earlier, last, rounds.0, here.0, is), ap (λ l. l ++ more) rounds.1 ∙ ap (λ l. _ ++ l) here.1)
+    ((before, u, earlier, last, rounds.0, here.0, is), ap (λ l. l ++ more) rounds.1 ∙ ap (λ l. rounds_text s p.config (calls_in presses) (is_fire_in fire) n before u earlier rounds.0 ++ l) here.1)
 
 -- the texts of a round, one behind the other
 pub texts_joined : (old refresh scans round : List ℕ) → ((old ++ refresh) ++ scans) ++ round ≡ old ++ (refresh ++ (scans ++ round))

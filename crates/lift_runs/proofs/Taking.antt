@@ -14,7 +14,7 @@ use Rattle.lift_spec.specs.declared.event.Reply.TheVariants as answer
 use Rattle.lift_spec.specs.declared.report.Report.{Report}
 use Rattle.lift_spec.specs.declared.trace.TraceEvent.{TraceEvent}
 use Rattle.lift_spec.specs.Replies.{Reply, More, Committed, Refreshed, Refused, reply_with}
-use Rattle.lift_spec.specs.World.{World, Next, happens, run}
+use Rattle.lift_spec.specs.World.{World, happens, run}
 use Rattle.lift_run_laws.specs.Runs.{IsReached}
 use Rattle.lift_journal.specs.Journal.{IsAccepted}
 use Rattle.lift_journal.specs.Entered.{AllHaveWords}
@@ -61,24 +61,16 @@ committed_is (answer.Gathered mask) report other e = cc
 committed_is answer.Held report other e = cc
 committed_is (answer.Refused fault) report other e = cc
 
-same_reply : (v : World) (r s : Reply) → ◌≡◌ {A = Next} (Ok (v, r)) (Ok (v, s)) → r ≡ s
-same_reply v r s e = cc
-
--- its commit reports what the answer to it has beside it
-reports : (c : Config) (w u v : World) (t n : ℕ) (a : Answer) (report : Report) → (some : 1 ≤ n) → (steps : run c w [] (replicate n (Instruction t)) ≡ Ok (u, ending n)) → (commit : happens c u (Commit t) ≡ Ok (v, reply_with a report))
-    → FinishesReporting c t w v report
-reports c w u v t zero a report some steps commit = absurd (omega (arith, some))
-reports c w u v t (suc n) a report some steps commit =
-    let rest = finished c w u v t (suc n) (reply_with a report) some steps commit in
-    (rest, committed_is a report rest.report (same_reply v (reply_with a report) (Committed rest.report) (sym commit ∙ rest.commit)))
-
 -- a scan that is run to its end, and committed
 pub commits : (p q : Program) → q ≡ p → (w u v : World) (t : ℕ) (result : Result ℕ EventFault) (a : Answer) (report : Report) → ((fault : EventFault) → result ≡ Err fault → ⊥)
     → IfOk result (λ n. (1 ≤ n) × (run p.config w [] (instructions t n) ≡ Ok (u, up_to_end n))) → happens q.config u (Commit t) ≡ Ok (v, reply_with a report) → FinishesReporting p.config t w v report
 commits p q same w u v t (Err fault) a report other steps commit = absurd (other fault refl)
 commits p q same w u v t (Ok n) a report other steps commit =
-    reports p.config w u v t n a report steps.0 (ap (run p.config w []) (sym (instructions_are t n)) ∙ steps.1 ∙ ap (λ rs. Ok (u, rs)) (replies_are n))
+    let rest =
+    finished p.config w u v t n (reply_with a report) steps.0 (ap (run p.config w []) (sym (instructions_are t n)) ∙ steps.1 ∙ ap (λ rs. Ok (u, rs)) (replies_are n))
     (subst (λ (x : Program). happens x.config u (Commit t) ≡ Ok (v, reply_with a report)) same commit)
+    in
+    (rest.0, committed_is a report rest.0.report rest.1)
 
 module _ (p : Program) (runs : IsRunnable p.config) (w v x : World) (t : ℕ) (task : HasTask p.config t) (closed : IsClosed w) (reached : IsReached p.config w) (r : Reply) (start : happens p.config w (Start t) ≡ Ok (v, r)) where
   begun : IsBegun p.config t w v r

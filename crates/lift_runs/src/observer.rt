@@ -32,6 +32,7 @@ pub trait Observer {
 }
 
 /// Nobody: nothing is written.
+#[derive(Drop)]
 pub struct Nobody;
 
 impl Observer for Nobody {
@@ -48,12 +49,7 @@ impl Observer for Nobody {
     }
 
     #[inline(always)]
-    fn committed(
-        &mut self,
-        _round: u16,
-        _task: u8,
-        _report: &Report,
-    ) -> Result<(), AllocError> {
+    fn committed(&mut self, _round: u16, _task: u8, _report: &Report) -> Result<(), AllocError> {
         Ok(())
     }
 

@@ -49,60 +49,37 @@ struct InTask<'n> {
 }
 
 impl Shared {
-    /// Its word.
-    pub fn as_str(self) -> &'static str
-        ensures { result.now ≡ word_of_shared self }
-    {
-        match self {
-            Shared::Now => "NOW",
-            Shared::RunLimit => "RUNLIMIT",
-            Shared::Fire => "FIRE",
-        }
-    }
-
+    /// The name of a word.
     fn of(word: &str) -> Option<Shared>
         ensures some { IfSome result (λ shared. word.now ≡ word_of_shared shared) }
         ensures none { IsNone result → (shared : Shared) → word.now ≡ word_of_shared shared → ⊥ }
     {
-        [Shared::Now, Shared::RunLimit, Shared::Fire]
-            .into_iter()
-            .find(|shared| word == shared.as_str())
+        match word {
+            "NOW" => Some(Shared::Now),
+            "RUNLIMIT" => Some(Shared::RunLimit),
+            "FIRE" => Some(Shared::Fire),
+            _ => None,
+        }
     }
 }
 
 impl CarName {
-    /// Its word.
-    pub fn as_str(self) -> &'static str
-        ensures { result.now ≡ word_of_car_name self }
-    {
-        match self {
-            CarName::Pos => "POS",
-            CarName::Level => "LEVEL",
-            CarName::Top => "TOP",
-            CarName::Bottom => "BOTTOM",
-            CarName::Locked => "LOCKED",
-            CarName::Opened => "OPENED",
-            CarName::Motor => "MOTOR",
-            CarName::Open => "OPEN",
-        }
-    }
-
+    /// The name of a word.
     fn of(word: &str) -> Option<CarName>
         ensures some { IfSome result (λ name. word.now ≡ word_of_car_name name) }
         ensures none { IsNone result → (name : CarName) → word.now ≡ word_of_car_name name → ⊥ }
     {
-        [
-            CarName::Pos,
-            CarName::Level,
-            CarName::Top,
-            CarName::Bottom,
-            CarName::Locked,
-            CarName::Opened,
-            CarName::Motor,
-            CarName::Open,
-        ]
-        .into_iter()
-        .find(|name| word == name.as_str())
+        match word {
+            "POS" => Some(CarName::Pos),
+            "LEVEL" => Some(CarName::Level),
+            "TOP" => Some(CarName::Top),
+            "BOTTOM" => Some(CarName::Bottom),
+            "LOCKED" => Some(CarName::Locked),
+            "OPENED" => Some(CarName::Opened),
+            "MOTOR" => Some(CarName::Motor),
+            "OPEN" => Some(CarName::Open),
+            _ => None,
+        }
     }
 }
 
@@ -145,18 +122,16 @@ fn task_of(word: &str) -> Option<u8>
     ensures some { IfSome result (λ task. (task ≤ 8) × (word.now ≡ task_name task)) }
     ensures none { IsNone result → (task : ℕ) → task ≤ 8 → word.now ≡ task_name task → ⊥ }
 {
-    [
-        (0, "GROUP"),
-        (1, "CAR1"),
-        (2, "CAR2"),
-        (3, "CAR3"),
-        (4, "CAR4"),
-        (5, "CAR5"),
-        (6, "CAR6"),
-        (7, "CAR7"),
-        (8, "CAR8"),
-    ]
-    .into_iter()
-    .find(|(_, name)| word == *name)
-    .map(|(task, _)| task)
+    match word {
+        "GROUP" => Some(0),
+        "CAR1" => Some(1),
+        "CAR2" => Some(2),
+        "CAR3" => Some(3),
+        "CAR4" => Some(4),
+        "CAR5" => Some(5),
+        "CAR6" => Some(6),
+        "CAR7" => Some(7),
+        "CAR8" => Some(8),
+        _ => None,
+    }
 }

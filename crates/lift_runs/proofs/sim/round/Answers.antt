@@ -58,30 +58,31 @@ returns-clause-round g c =
     let shown : ScansShown shows number p.config (tasks_in_order p.config) c.refresh.new.world.world world told.0 =
     subst (λ (ts : List ℕ). ScansShown shows number p.config ts c.refresh.new.world.world world told.0) c.requires.tasks
     (subst (λ (s : Shows). ScansShown s number p.config c.args.tasks.now c.refresh.new.world.world world told.0) c.in_ok-refreshed.ensures.same
-    (subst (λ (x : Program). ScansShown (g.O.Observer.shows c.refreshed.new.self) number x.config c.args.tasks.now c.refresh.new.world.world world told.0) (c.refresh.ensures.same ∙ c.desk.ensures.same) (told.2, told.3)))
+    (subst (λ (x : Program). ScansShown (g.O.Observer.shows c.refreshed.new.self) number x.config c.args.tasks.now c.refresh.new.world.world world told.0) (c.refresh.ensures.same ∙ c.desk.ensures.same) told.2))
     in
-    let scans = (told.0, told.1, shown.0, shown.1) in
     let last = entry.Refresh (fields_of_plant next) (entered_calls_of report) ∷ flat_map scan_entries (tasks_in_order p.config) in
     let first = ap (λ (f : Fields). c.args.entries.now.items ++ entry.Refresh f (entered_calls_of report) ∷ []) c.plant_step-plant.ensures.fields in (
       last,
       c.in_ok-scan_all.ensures.journal ∙ ap₂ (λ es ts. es ++ flat_map scan_entries ts) (c.in_ok-refresh.ensures.journal ∙ first) c.requires.tasks
           ∙ append_assoc c.args.entries.now.items (entry.Refresh (fields_of_plant next) (entered_calls_of report) ∷ []) (flat_map scan_entries (tasks_in_order p.config)),
-      shows.of_refresh number report ++ (scans.0 ++ shows.of_round number world),
+      shows.of_refresh number report ++ (told.0 ++ shows.of_round number world),
       c.in_ok-ended.ensures.text ∙ ap (λ (s : Shows). g.O.Observer.text c.scan_all.new.observer ++ s.of_round number world) (c.in_ok-scan_all.ensures.shows ∙ c.in_ok-refreshed.ensures.same)
-          ∙ ap (λ l. l ++ shows.of_round number world) (scans.1 ∙ ap (λ l. l ++ scans.0) c.in_ok-refreshed.ensures.text)
-          ∙ texts_joined (g.O.Observer.text c.args.observer.now) (shows.of_refresh number report) scans.0 (shows.of_round number world),
-      record {
-        gathered = c.desk.new.world.world;
-        desk = c.desk.ensures.taken;
-        plant_step =
-            c.plant_step-plant.ensures.plant ∙ ap₂ (λ (a : PlantState) (i : Image). plant_after a i.outputs) (c.with_fire-plant.ensures.plant ∙ ap (λ (b : Bool). record c.args.plant { fire = b }) c.is_fire_in.ensures) c.image.ensures.image;
-        refreshed = c.refresh.new.world.world;
-        report = report;
-        refresh = refreshing;
-        scans = scans.2;
-        journal = refl;
-      },
-      ap (λ l. shows.of_refresh number report ++ (l ++ shows.of_round number world)) scans.3,
+          ∙ ap (λ l. l ++ shows.of_round number world) (told.1 ∙ ap (λ l. l ++ told.0) c.in_ok-refreshed.ensures.text)
+          ∙ texts_joined (g.O.Observer.text c.args.observer.now) (shows.of_refresh number report) told.0 (shows.of_round number world),
+      (
+        record {
+          gathered = c.desk.new.world.world;
+          desk = c.desk.ensures.taken;
+          plant_step =
+              c.plant_step-plant.ensures.plant ∙ ap₂ (λ (a : PlantState) (i : Image). plant_after a i.outputs) (c.with_fire-plant.ensures.plant ∙ ap (λ (b : Bool). record c.args.plant { fire = b }) c.is_fire_in.ensures) c.image.ensures.image;
+          refreshed = c.refresh.new.world.world;
+          report = report;
+          refresh = refreshing;
+          scans = shown.0;
+          journal = refl;
+        },
+        ap (λ l. shows.of_refresh number report ++ (l ++ shows.of_round number world)) shown.1,
+      ),
     )
 
 pub returns-clause-plant : goal.returns-clause-plant
@@ -89,5 +90,5 @@ returns-clause-plant g c = let sizes = sizes_of c.args.world.now.program.config 
 
 pub returns-clause-idle : goal.returns-clause-idle
 returns-clause-idle g c = λ none.
-    each_keeps c.refresh.new.world.program.config c.args.tasks.now c.refresh.new.world.world c.scan_all.new.world.world c.in_ok-scan_all.ensures.scans.2
+    each_keeps c.refresh.new.world.program.config c.args.tasks.now c.refresh.new.world.world c.scan_all.new.world.world c.in_ok-scan_all.ensures.scans.2.0
     ∙ refresh_keeps c.desk.new.world.program.config c.desk.new.world.world c.refresh.new.world.world c.plant_step-plant.result.1 (Refreshed c.refresh.new.report) c.in_ok-refresh.ensures.taken ∙ c.desk.ensures.idle none

@@ -31,7 +31,7 @@ pub rounds-init : goal.rounds-init
 rounds-init g c =
     let config = c.args.world.now.program.config in
     record {
-      rounds = ([], sym (nil (g.O.Observer.text c.args.observer.now)), (c.new-plant.ensures.plant ∙ ap (λ (s : Sizes). opening_plant s.cars s.floors) c.sizes-cars.ensures, c.requires.opening, c.requires.none), refl);
+      rounds = ([], sym (nil (g.O.Observer.text c.args.observer.now)), ((c.new-plant.ensures.plant ∙ ap (λ (s : Sizes). opening_plant s.cars s.floors) c.sizes-cars.ensures, c.requires.opening, c.requires.none), refl));
       shows = refl;
       plant = subst (λ (s : Sizes). IsPlantOf s c.new-plant.result) c.sizes-cars.ensures (c.new-plant.ensures.sized c.sizes-cars.result.slots);
       closed = λ j. ap (λ (w : World). is_some (scan_at w j)) c.requires.opening ∙ ap is_some (no_scan_open config j);
@@ -50,8 +50,8 @@ rounds-preserved g c =
         before.0 ++ round.2,
         round.3 ∙ ap (λ l. l ++ round.2) before.1 ∙ append_assoc (g.O.Observer.text c.args.observer.now) before.0 round.2,
         rounds_next shows p c.rounds.world.program c.rounds.invariant.same c.args.drive.presses.now c.args.drive.fire c.rounds.number c.rounds.plant c.in_ok-plant.plant c.rounds.world.world c.round.new.world.world c.rounds.entries.items c.round.new.entries.items round.0
-            before.0 round.2 (before.2, before.3) round.1
-            (subst (λ (s : Shows). RoundShown s (c.rounds.number + 1) c.rounds.world.program.config (calls_in c.args.drive.presses.now (c.rounds.number + 1)) (is_fire_in c.args.drive.fire (c.rounds.number + 1)) c.rounds.plant c.in_ok-plant.plant c.rounds.world.world c.round.new.world.world round.0 round.2) c.rounds.invariant.shows (round.4, round.5)),
+            before.0 round.2 before.2 round.1
+            (subst (λ (s : Shows). RoundShown s (c.rounds.number + 1) c.rounds.world.program.config (calls_in c.args.drive.presses.now (c.rounds.number + 1)) (is_fire_in c.args.drive.fire (c.rounds.number + 1)) c.rounds.plant c.in_ok-plant.plant c.rounds.world.world c.round.new.world.world round.0 round.2) c.rounds.invariant.shows round.4),
       );
       shows = c.in_ok-plant.ensures.shows ∙ c.rounds.invariant.shows;
       plant = subst (λ (x : Program). IsPlantOf (sizes_of x.config) c.in_ok-plant.plant) c.rounds.invariant.same c.in_ok-plant.ensures.plant;
@@ -67,7 +67,7 @@ returns-clause-rounds g c =
     let all : c.rounds.number ≡ c.args.rounds = search rules in
     let seen = c.rounds.invariant.rounds in
     let shown =
-    subst (λ n. RoundsShown (g.O.Observer.shows c.args.observer.now) config (calls_in c.args.drive.presses.now) (is_fire_in c.args.drive.fire) n c.rounds.plant c.rounds.world.world c.rounds.entries.items seen.0) all (seen.2, seen.3)
+    subst (λ n. RoundsShown (g.O.Observer.shows c.args.observer.now) config (calls_in c.args.drive.presses.now) (is_fire_in c.args.drive.fire) n c.rounds.plant c.rounds.world.world c.rounds.entries.items seen.0) all seen.2
     in (
       seen.0,
       seen.1,

@@ -1,9 +1,9 @@
-use Rattle.std.proofs.Common.{rules, ◌<◌, ◌∷◌, ◌++◌, [], subst, sym, ap, ◌∙◌, refl, length}
+use Rattle.std.proofs.Common.{rules, arith, ◌<◌, ◌∷◌, ◌++◌, [], subst, sym, ap, ◌∙◌, refl, length}
 use Rattle.std.specs.Prelude.{slice_index_or}
-use Rattle.std.proofs.lemmas.List.{append_assoc}
+use Rattle.std.proofs.lemmas.List.{append_assoc, take_all}
 use Rattle.il_machine.specs.Scanning.{Program, HasTask}
 use Rattle.lift_spec.specs.declared.journal.Entry.TheVariants as entry
-use Rattle.lift_runs.specs.Shown.{Shows, ScansReporting}
+use Rattle.lift_runs.specs.Shown.{Shows, ScansReporting, ScansShown}
 use Rattle.lift_runs.proofs.Driving.{read, is_task, entries_next}
 use Rattle.lift_runs.proofs.Showing.{scans_next}
 use Rattle.lift_runs.proofs.sim.scan_all.Goals as goal
@@ -37,3 +37,9 @@ tasks-preserved g c =
           ∙ entries_next c.args.tasks.now c.tasks.task-index t c.args.entries.now.items c.tasks.entries.items at c.tasks.invariant.journal;
       same = c.scan.ensures.same ∙ c.tasks.invariant.same;
     }
+
+pub returns-clause-scans : goal.returns-clause-scans
+returns-clause-scans g c =
+    let all = take_all c.tasks.task-index c.args.tasks.now (omega (arith, c.tasks-test.false)) in
+    let seen = c.tasks.invariant.scans in
+    (seen.0, seen.1, subst (λ l. ScansShown (g.O.Observer.shows c.args.observer.now) c.args.number c.args.world.now.program.config l c.args.world.now.world c.tasks.world.world seen.0) all seen.2)
