@@ -1,1 +1,1 @@
-mod Lines
+mod Splitting

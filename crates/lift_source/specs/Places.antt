@@ -20,9 +20,13 @@ quoted line = map shown (take 200 line)
 abbrev pub IsSource : List ℕ → ℕ → List ℕ → Type 0
 IsSource text line source = IsLineOf (line - 1) text source ⊎ ((source ≡ []) × ((other : List ℕ) → IsLineOf (line - 1) text other → ⊥))
 
+-- `NAME:LINE: `
+abbrev pub place_text : List ℕ → ℕ → List ℕ
+place_text name line = name ++ (codes ":" ++ (decimal line ++ codes ": "))
+
 -- `NAME:LINE: ` and the text of the line; behind them stands what the number means
 pub record IsShownBelow (name text : List ℕ) (line : ℕ) (below : List ℕ) : Type 0 where
   pub source : List ℕ
   pub is_source : IsSource text line source
   pub meaning : List ℕ
-  pub is : below ≡ name ++ (codes ":" ++ (decimal line ++ (codes ": " ++ (quoted source ++ (codes "\n" ++ meaning)))))
+  pub is : below ≡ place_text name line ++ ((quoted source ++ codes "\n") ++ meaning)

@@ -1,7 +1,7 @@
 // The place of a fault, as it is shown below a refusal.
 
-ghost use Rattle.std.specs.Prelude.{◌≡◌, ◌++◌, ◌-◌, ℕ, List, map, take, IfOk, OnOk, decimal};
-ghost use Rattle.lift_source.specs.Places.{IsShownBelow, shown, quoted};
+ghost use Rattle.std.specs.Prelude.{◌≡◌, ◌++◌, ℕ, List, map, codes, IfOk, OnOk};
+ghost use Rattle.lift_source.specs.Places.{IsShownBelow, place_text, shown, quoted};
 
 use crate::lines::line_at;
 use itoa::Buffer;
@@ -31,7 +31,9 @@ pub fn below(
 }
 
 /// `NAME:LINE: `.
-fn put_place(to: &mut Vec<u8>, name: &str, line: u32) -> Result<(), AllocError> {
+fn put_place(to: &mut Vec<u8>, name: &str, line: u32) -> Result<(), AllocError>
+    ensures { OnOk result (to.new.items ≡ to.old.items ++ place_text name.now line) }
+{
     let mut digits = Buffer::new();
     to.extend_from_slice(name.as_bytes())?;
     to.extend_from_slice(b":")?;
@@ -50,18 +52,38 @@ fn shown(byte: u8) -> u8
 }
 
 /// The first bytes of a line, and a line feed.
-fn put_quoted(to: &mut Vec<u8>, line: &[u8]) -> Result<(), AllocError> {
-    'bytes: for byte in line.iter().take(MOST_BYTES) {
+fn put_quoted(to: &mut Vec<u8>, line: &[u8]) -> Result<(), AllocError>
+    ensures { OnOk result (to.new.items ≡ to.old.items ++ (quoted line.now ++ codes "\n")) }
+{
+    put_shown(to, &line[..line.len().min(MOST_BYTES)])?;
+    to.extend_from_slice(b"\n")?;
+    Ok(())
+}
+
+/// Bytes as they are shown.
+fn put_shown(to: &mut Vec<u8>, bytes: &[u8]) -> Result<(), AllocError>
+    ensures { OnOk result (to.new.items ≡ to.old.items ++ map shown bytes.now) }
+{
+    'bytes: for byte in bytes {
         to.push(shown(*byte))?;
     }
-    to.push(b'\n')
+    Ok(())
 }
 
 /// What the number means, and who says more.
-fn put_meaning(to: &mut Vec<u8>, number: u16) -> Result<(), AllocError> {
-    let Some(title) = title(number) else {
-        return Ok(());
-    };
+fn put_meaning(to: &mut Vec<u8>, number: u16) -> Result<(), AllocError>
+    ensures { OnOk result ((meaning : List ℕ) × (to.new.items ≡ to.old.items ++ meaning)) }
+{
+    match title(number) {
+        Some(title) => put_title(to, title, number),
+        None => Ok(()),
+    }
+}
+
+/// A title, and who says more.
+fn put_title(to: &mut Vec<u8>, title: &str, number: u16) -> Result<(), AllocError>
+    ensures { OnOk result ((meaning : List ℕ) × (to.new.items ≡ to.old.items ++ meaning)) }
+{
     let mut digits = Buffer::new();
     to.extend_from_slice(title.as_bytes())?;
     to.extend_from_slice(b"\n`liftplc explain ")?;

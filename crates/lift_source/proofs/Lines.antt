@@ -1,1 +1,0 @@
--- Lines, one behind the other.
