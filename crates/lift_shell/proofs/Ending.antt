@@ -1,5 +1,5 @@
 -- How a run ends, by its outcome and how that was shown.
-use Rattle.std.proofs.Common.{◌≡◌, ◌⊎◌, ◌++◌, ℕ, List, [], Bool, true, Result, Ok, Err, IfOk, IfErr, inl, inr, sym, refl, ap, ◌∙◌}
+use Rattle.std.proofs.Common.{◌≡◌, ◌⊎◌, ◌++◌, ℕ, List, [], Bool, true, Ok, Err, IfOk, IfErr, inl, inr, sym, refl, ap, ◌∙◌}
 use Rattle.lift_host.specs.Messages.{status_of, message_of}
 use Rattle.lift_show.specs.declared.output.Output.{Output}
 use Rattle.lift_show.specs.Outputs.{Outcome}

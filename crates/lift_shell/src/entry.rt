@@ -7,10 +7,10 @@ use lift_host::status::{Fault, Status};
 use lift_show::show::show;
 use lift_sink::sink::{Memory, Stream};
 use std::alloc::Global;
+use std::io::IsTerminal;
 use std::process::ExitCode;
 use std::sync::Wait;
 use std::thread::Threads;
-use std::io::IsTerminal;
 use std::{env, io};
 
 /// In bytes: more than any block that is reserved for a text.
@@ -85,8 +85,6 @@ pub fn tried<R: Threads + Wait + Sync, F: TextFiles, C: Commands>(
 ) -> Outcome {
     let mut out = Memory::with_limit(alloc, limit);
     let mut err = Memory::new(alloc);
-    let status = run(
-        rt, alloc, words, files, commands, false, &mut out, &mut err,
-    );
+    let status = run(rt, alloc, words, files, commands, false, &mut out, &mut err);
     Outcome { status, out, err }
 }

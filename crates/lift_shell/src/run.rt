@@ -1,6 +1,6 @@
 // The program, over its words.
 
-ghost use Rattle.std.specs.Prelude.{◌≡◌, ◌≢◌, ◌⊎◌, Err, IfErr, IfSome, true, false, map, string_bytes};
+ghost use Rattle.std.specs.Prelude.{◌≡◌, ◌≢◌, ◌⊎◌, ◌||◌, nat_lt, length, Err, IfErr, IfSome, true, false, map, string_bytes};
 ghost use Rattle.std.specs.Io.KnownBytes.{Appends, Keeps};
 ghost use Rattle.lift_shell.specs.Runs.{IsOutcome, IsRunOutcome, IsFileOutcome, IsWordsOutcome, IsBelow, IsBelowRun, IsPlaced, HasWritten, HasTold, source_of};
 ghost use Rattle.lift_sink.specs.Writes.{Writes, AppendsFront};
@@ -71,7 +71,7 @@ fn answer<R: Threads + Wait + Sync, F: TextFiles, C: Commands>(
 {
     match without_explain(alloc, words) {
         Ok(rest) => {
-            let explains = explains || rest.len() < words.len();
+            let explains = is_explained(explains, words, &rest);
             plain_answer(rt, alloc, &rest, files, commands, explains)
         }
         Err(_) => Answered {
@@ -95,13 +95,33 @@ fn plain_answer<R: Threads + Wait + Sync, F: TextFiles, C: Commands>(
     ensures below { IfErr result.outcome (λ fault. IsBelow (F.gives files.now) (map string_bytes words.now) explains fault result.below.items) }
 {
     let outcome = outcome(rt, alloc, words, files, commands);
-    let below = match &outcome {
+    let below = below_of(alloc, words, files, explains, &outcome);
+    Answered { outcome, below }
+}
+
+/// What stands below the fault of words: of a refusal, where it is to be explained.
+fn below_of<F: TextFiles>(
+    alloc: Global,
+    words: &[String],
+    files: &F,
+    explains: bool,
+    outcome: &Result<Output, Fault>,
+) -> Vec<u8>
+    ensures { IfErr outcome.now (λ fault. IsBelow (F.gives files.now) (map string_bytes words.now) explains fault result.items) }
+{
+    match outcome {
         Err(Fault::Refused { number, line }) if explains => {
             below_refusal(alloc, words, files, *number, *line)
         }
         _ => Vec::new(alloc),
-    };
-    Answered { outcome, below }
+    }
+}
+
+/// Whether refusals are to be explained: always, or since words have `--explain`, which the rest lacks.
+fn is_explained(always: bool, words: &[String], rest: &[String]) -> bool
+    ensures { result ≡ (always || nat_lt (length rest.now) (length words.now)) }
+{
+    always || rest.len() < words.len()
 }
 
 /// What stands below a refusal; nothing where memory is missing or the file can't be read.
