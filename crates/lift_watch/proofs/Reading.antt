@@ -1,8 +1,9 @@
 -- The task whose name stands before the first period of a name.
 use Rattle.std.proofs.Common.{arith, ◌≡◌, ℕ, zero, suc, ◌<◌, ◌≤◌, ◌+◌, Bool, true, false, not, List, [], ◌∷◌, ◌++◌, length, get_or, refl, sym, ap, ◌∙◌, subst, Option, Some, None, Bor}
-use Rattle.std.specs.Prelude.{◌==◌, IfSome, IsNone}
+use Rattle.std.specs.Prelude.{◌==◌, codes}
 use Rattle.std.specs.Option.{MatchOption}
 use Rattle.std.specs.List.{position_or_len, before_first, after_first}
+use Rattle.std.proofs.lemmas.Fmt.{decimal_digit}
 use Rattle.std.proofs.lemmas.List.Sums.{split_at_first, prefix_len_stops}
 use borrow.Author.Tests.{eqb-true}
 use Rattle.lift_spec.specs.Snapshot.{task_name}
@@ -15,18 +16,47 @@ passes : (b : Bool) → not b ≡ false → b ≡ true
 passes true e = refl
 passes false e = cc
 
--- the name of a task has no period
-ends_there : (task : ℕ) (rest : List ℕ) → task ≤ 8 → (before_first is_dot (task_name task ++ 46 ∷ rest) ≡ task_name task) × (position_or_len is_dot (task_name task ++ 46 ∷ rest) < length (task_name task ++ 46 ∷ rest))
+-- the name of a car's task
+pub named : (car : ℕ) → 1 ≤ car → car ≤ 8 → task_name car ≡ codes "CAR" ++ (48 + car) ∷ []
+named zero least most = absurd (omega (arith, least))
+named (suc k) least most = ap (λ (l : List ℕ). codes "CAR" ++ l) (decimal_digit (suc k) (omega (arith, most)))
+
+-- a name ends before the first period behind it
+abbrev EndsThere : List ℕ → List ℕ → Type 0
+EndsThere name rest = (before_first is_dot (name ++ 46 ∷ rest) ≡ name) × (position_or_len is_dot (name ++ 46 ∷ rest) < length (name ++ 46 ∷ rest))
+
+ends_by : (task : ℕ) (name rest : List ℕ) → task_name task ≡ name → EndsThere name rest → EndsThere (task_name task) rest
+ends_by task name rest is ends = subst (λ (n : List ℕ). EndsThere n rest) (sym is) ends
+
+ends_there : (task : ℕ) (rest : List ℕ) → task ≤ 8 → EndsThere (task_name task) rest
 ends_there zero rest few = (refl, omega arith)
-ends_there (suc zero) rest few = (refl, omega arith)
-ends_there (suc (suc zero)) rest few = (refl, omega arith)
-ends_there (suc (suc (suc zero))) rest few = (refl, omega arith)
-ends_there (suc (suc (suc (suc zero)))) rest few = (refl, omega arith)
-ends_there (suc (suc (suc (suc (suc zero))))) rest few = (refl, omega arith)
-ends_there (suc (suc (suc (suc (suc (suc zero)))))) rest few = (refl, omega arith)
-ends_there (suc (suc (suc (suc (suc (suc (suc zero))))))) rest few = (refl, omega arith)
-ends_there (suc (suc (suc (suc (suc (suc (suc (suc zero)))))))) rest few = (refl, omega arith)
+ends_there (suc zero) rest few = ends_by 1 (codes "CAR1") rest (named 1 (omega arith) (omega arith)) (refl, omega arith)
+ends_there (suc (suc zero)) rest few = ends_by 2 (codes "CAR2") rest (named 2 (omega arith) (omega arith)) (refl, omega arith)
+ends_there (suc (suc (suc zero))) rest few = ends_by 3 (codes "CAR3") rest (named 3 (omega arith) (omega arith)) (refl, omega arith)
+ends_there (suc (suc (suc (suc zero)))) rest few = ends_by 4 (codes "CAR4") rest (named 4 (omega arith) (omega arith)) (refl, omega arith)
+ends_there (suc (suc (suc (suc (suc zero))))) rest few = ends_by 5 (codes "CAR5") rest (named 5 (omega arith) (omega arith)) (refl, omega arith)
+ends_there (suc (suc (suc (suc (suc (suc zero)))))) rest few = ends_by 6 (codes "CAR6") rest (named 6 (omega arith) (omega arith)) (refl, omega arith)
+ends_there (suc (suc (suc (suc (suc (suc (suc zero))))))) rest few = ends_by 7 (codes "CAR7") rest (named 7 (omega arith) (omega arith)) (refl, omega arith)
+ends_there (suc (suc (suc (suc (suc (suc (suc (suc zero)))))))) rest few = ends_by 8 (codes "CAR8") rest (named 8 (omega arith) (omega arith)) (refl, omega arith)
 ends_there (suc (suc (suc (suc (suc (suc (suc (suc (suc n))))))))) rest few = absurd (omega (arith, few))
+
+-- a word that is none of the names
+pub none_named : (word : List ℕ) → (word ≡ codes "GROUP" → ⊥) → ((car : ℕ) → 1 ≤ car → car ≤ 8 → word ≡ codes "CAR" ++ (48 + car) ∷ [] → ⊥) → (task : ℕ) → task ≤ 8 → word ≡ task_name task → ⊥
+none_named word group cars zero few is = group is
+none_named word group cars (suc k) few is = cars (suc k) (omega arith) few (is ∙ named (suc k) (omega arith) few)
+
+-- each of eight
+pub each_of_eight : (P : ℕ → Type 0) → P 1 → P 2 → P 3 → P 4 → P 5 → P 6 → P 7 → P 8 → (car : ℕ) → 1 ≤ car → car ≤ 8 → P car
+each_of_eight P a b c d e f g h zero least most = absurd (omega (arith, least))
+each_of_eight P a b c d e f g h (suc zero) least most = a
+each_of_eight P a b c d e f g h (suc (suc zero)) least most = b
+each_of_eight P a b c d e f g h (suc (suc (suc zero))) least most = c
+each_of_eight P a b c d e f g h (suc (suc (suc (suc zero)))) least most = d
+each_of_eight P a b c d e f g h (suc (suc (suc (suc (suc zero))))) least most = e
+each_of_eight P a b c d e f g h (suc (suc (suc (suc (suc (suc zero)))))) least most = f
+each_of_eight P a b c d e f g h (suc (suc (suc (suc (suc (suc (suc zero))))))) least most = g
+each_of_eight P a b c d e f g h (suc (suc (suc (suc (suc (suc (suc (suc zero)))))))) least most = h
+each_of_eight P a b c d e f g h (suc (suc (suc (suc (suc (suc (suc (suc (suc n))))))))) least most = absurd (omega (arith, most))
 
 -- so a name without a period has no task before it
 pub no_period : (name : List ℕ) → position_or_len is_dot name ≡ length name → (task : ℕ) (rest : List ℕ) → IsInTask name task rest → ⊥

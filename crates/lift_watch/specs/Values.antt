@@ -1,5 +1,5 @@
 -- What `watch` prints (own rules).
-use Rattle.std.specs.Prelude.{◌≡◌, ℕ, zero, suc, true, false, List, [], ◌∷◌, ◌++◌, flat_map, All, slice_get, Option, Some, None, option_map, option_and_then, pos, codes, decimal}
+use Rattle.std.specs.Prelude.{◌≡◌, ℕ, zero, suc, true, false, List, [], ◌∷◌, ◌++◌, flat_map, slice_get, Option, Some, None, option_map, option_and_then, pos, codes, decimal}
 use Rattle.std.specs.Fmt.{signed_decimal}
 use Rattle.il_run.specs.declared.value.Value.{Value}
 use Rattle.il_run.specs.declared.value.Value.TheVariants.{Boolean, Integer}
@@ -75,17 +75,12 @@ names_text names = flat_map (λ (name : List ℕ). codes "," ++ name) names
 abbrev pub header_text : List (List ℕ) → List ℕ
 header_text names = codes "ROUND" ++ (names_text names ++ codes "\n")
 
--- each of the names stands for something
-abbrev pub AreReadAs : List (List ℕ) → List Watched → Type 0
-AreReadAs [] [] = Unit {0}
-AreReadAs [] (it ∷ watched) = ⊥
-AreReadAs (name ∷ names) [] = ⊥
-AreReadAs (name ∷ names) (it ∷ watched) = IsReadAs name it × AreReadAs names watched
-
 -- the names stand for these, each of which has a value in the world
-pub record AreWatched (w : World) (names : List (List ℕ)) (watched : List Watched) : Type 0 where
-  pub read : AreReadAs names watched
-  pub known : All (λ (it : Watched). value_of it w ≡ None → ⊥) watched
+abbrev pub AreWatched : World → List (List ℕ) → List Watched → Type 0
+AreWatched w [] [] = Unit {0}
+AreWatched w [] (it ∷ watched) = ⊥
+AreWatched w (name ∷ names) [] = ⊥
+AreWatched w (name ∷ names) (it ∷ watched) = IsReadAs name it × (value_of it w ≡ None → ⊥) × AreWatched w names watched
 
 -- one of the names has no value in the world
 pub record IsUnknown (w : World) (names : List (List ℕ)) : Type 0 where

@@ -92,7 +92,7 @@ pub fn read(name: &str) -> Watched<'_>
         return Watched::Shared(shared);
     }
     match in_task(name) {
-        Some(InTask { task, rest }) => read_in(task, rest),
+        Some(it) => read_in(it.task, it.rest),
         None => Watched::Global(name),
     }
 }

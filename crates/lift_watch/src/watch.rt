@@ -14,13 +14,14 @@ use lift_image::{CarFields, CarOutputs, Fields, Image, Motor};
 use lift_runs::observer::Observer;
 use lift_spec::report::Report;
 use lift_world::World;
+use lists::Items;
 use std::alloc::{AllocError, Global};
 
 /// Writes the values of names behind each round, as lines of CSV.
 #[derive(Drop)]
 pub struct Watch<'n> {
     /// What the names stand for.
-    pub watched: Vec<Watched<'n>>,
+    pub watched: Items<Watched<'n>>,
     /// The lines so far.
     pub text: String,
 }
@@ -28,7 +29,7 @@ pub struct Watch<'n> {
 impl<'n> Watch<'n> {
     /// Of these names, which have values in the world. The line of the names is written.
     pub fn of(alloc: Global, world: &World, names: Words<'n>) -> Result<Watch<'n>, Fault>
-        ensures known { IfOk result (λ watch. AreWatched world.now.world (words_of names.entry) watch.watched.items) }
+        ensures known { IfOk result (λ watch. AreWatched world.now.world (words_of names.entry) watch.watched) }
         ensures header { IfOk result (λ watch. string_bytes watch.text ≡ header_text (words_of names.entry)) }
         ensures unknown { IfErr result (λ fault. (fault ≡ NoMemory) ⊎ ((fault ≡ BadName) × IsUnknown world.now.world (words_of names.entry))) }
     {
@@ -44,7 +45,7 @@ impl Observer for Watch<'_> {
 
     ghost text = { λ w. string_bytes w.text };
 
-    ghost shows = { λ w. watching w.watched.items };
+    ghost shows = { λ w. watching w.watched };
 
     fn refreshed(&mut self, _round: u16, _report: &Report) -> Result<(), AllocError> {
         Ok(())
@@ -60,16 +61,16 @@ impl Observer for Watch<'_> {
     }
 
     fn ended(&mut self, round: u16, world: &World) -> Result<(), AllocError> {
-        put_row(&mut self.text, round, world, &self.watched)
+        put_row(&mut self.text, round, world, self.watched.as_slice())
     }
 }
 
 /// What names stand for.
-fn watched_of<'n>(alloc: Global, world: &World, names: Words<'n>) -> Result<Vec<Watched<'n>>, Fault>
-    ensures known { IfOk result (λ watched. AreWatched world.now.world (words_of names.entry) watched.items) }
+fn watched_of<'n>(alloc: Global, world: &World, names: Words<'n>) -> Result<Items<Watched<'n>>, Fault>
+    ensures known { IfOk result (λ watched. AreWatched world.now.world (words_of names.entry) watched) }
     ensures unknown { IfErr result (λ fault. (fault ≡ NoMemory) ⊎ ((fault ≡ BadName) × IsUnknown world.now.world (words_of names.entry))) }
 {
-    let mut watched = Vec::new(alloc);
+    let mut watched = Items::new(alloc);
     add_names(&mut watched, world, names.front)?;
     add_names(&mut watched, world, names.back)?;
     Ok(watched)
@@ -77,11 +78,11 @@ fn watched_of<'n>(alloc: Global, world: &World, names: Words<'n>) -> Result<Vec<
 
 /// Adds what names stand for, where each has a value.
 fn add_names<'n>(
-    watched: &mut Vec<Watched<'n>>,
+    watched: &mut Items<Watched<'n>>,
     world: &World,
     names: &'n [String],
 ) -> Result<(), Fault>
-    ensures known { OnOk result ((before : List (List ℕ)) → AreWatched world.now.world before watched.old.items → AreWatched world.now.world (before ++ map string_bytes names.now) watched.new.items) }
+    ensures known { OnOk result ((before : List (List ℕ)) → AreWatched world.now.world before watched.old → AreWatched world.now.world (before ++ map string_bytes names.now) watched.new) }
     ensures unknown { IfErr result (λ fault. (fault ≡ NoMemory) ⊎ ((fault ≡ BadName) × IsUnknown world.now.world (map string_bytes names.now))) }
 {
     'names: for name in names {

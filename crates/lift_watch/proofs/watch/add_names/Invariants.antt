@@ -5,4 +5,4 @@ use Rattle.lift_watch.proofs.watch.add_names.Given as goal
 
 -- the names so far are watched
 abbrev pub invariant-names : goal.invariant-names
-invariant-names l = (before : List (List ℕ)) → AreWatched l.world.world before l.initial.watched.items → AreWatched l.world.world (before ++ map string_bytes (take l.name-index l.names)) l.watched.items
+invariant-names l = (before : List (List ℕ)) → AreWatched l.world.world before l.initial.watched → AreWatched l.world.world (before ++ map string_bytes (take l.name-index l.names)) l.watched
