@@ -17,7 +17,7 @@ pub struct Refused {
 }
 
 /// One event of a trace, unless it is refused. A commit comes behind the rest of its task's scan.
-fn take(world: &mut World, event: &TraceEvent, report: &mut Report) -> Result<(), EventFault>
+pub fn take(world: &mut World, event: &TraceEvent, report: &mut Report) -> Result<(), EventFault>
     ensures taken { OnOk result (Takes world.old.program.config world.old.world event.now world.new.world) }
     ensures refused { IfErr result (Refuses world.old.program.config world.old.world event.now) }
     ensures same { world.new.program ≡ world.old.program }
