@@ -1,4 +1,4 @@
-// The calls: in the bands of the cars that they were told, and in a strip of their own while they wait.
+// The calls: in the bands of their cars, and in a strip of their own while they wait.
 
 use crate::frame::Frame;
 use crate::rides::{Ride, Told};
@@ -22,32 +22,56 @@ pub fn waiting(rides: &[Ride]) -> u64 {
     count
 }
 
-/// Where a call was entered, in the band of a car.
-fn entry(frame: Frame, ride: &Ride, told: Told) -> Point {
-    frame.at(told.car, ride.entered, u64::from(ride.call.from))
+/// Where a call was entered: at its floor in the band of its car, or in a lane.
+fn entry(frame: Frame, ride: &Ride, lane: u64) -> Point {
+    match ride.told {
+        Some(told) => frame.at(told.car, ride.entered, u64::from(ride.call.from)),
+        None => frame.lane(lane, ride.entered),
+    }
 }
 
-/// The line of a call: level until it was told its car, and straight to where and when it was served.
+/// The lane of the call behind this one.
+fn next_lane(ride: &Ride, lane: u64) -> u64 {
+    if ride.told.is_none() {
+        lane.saturating_add(1)
+    } else {
+        lane
+    }
+}
+
+/// The line of a call that was served: level until it was told its car, and straight to where and when it was served.
 fn put_served(
     text: &mut String,
     frame: Frame,
-    ride: &Ride,
+    from: Point,
     told: Told,
-    served: u64,
+    end: Point,
 ) -> Result<(), AllocError> {
-    let Point { x, y } = entry(frame, ride, told);
+    let Point { x, y } = from;
     let turn = frame.x(told.round);
-    let Point { x: end, y: landing } = frame.at(told.car, served, u64::from(ride.call.to));
-    write!(text, "<path d=\"M{x} {y}H{turn}L{end} {landing}\">")
+    let Point { x: right, y: landing } = end;
+    write!(text, "<path d=\"M{x} {y}H{turn}L{right} {landing}\">")
 }
 
-/// The line of a call that isn't served: level to the end.
-fn put_unserved(text: &mut String, from: Point, end: u64) -> Result<(), AllocError> {
+/// The line of a call that was not served: level to the end.
+fn put_unserved(text: &mut String, frame: Frame, from: Point) -> Result<(), AllocError> {
     let Point { x, y } = from;
+    let end = frame.right();
     write!(
         text,
         "<path d=\"M{x} {y}H{end}\" stroke-dasharray=\"4 3\" marker-end=\"none\">"
     )
+}
+
+/// The line of a call.
+fn put_line(text: &mut String, frame: Frame, ride: &Ride, from: Point) -> Result<(), AllocError> {
+    match (ride.told, ride.served) {
+        (Some(told), Some(served)) => {
+            let end = frame.at(told.car, served, u64::from(ride.call.to));
+            put_served(text, frame, from, told, end)
+        }
+        _ => put_unserved(text, frame, from),
+    }
 }
 
 /// What a call is.
@@ -78,47 +102,21 @@ fn put_service(text: &mut String, served: Option<u64>) -> Result<(), AllocError>
     }
 }
 
-/// The title of a call, and the end of its line.
-fn end_call(text: &mut String, ride: &Ride) -> Result<(), AllocError> {
+/// A call, with a title.
+fn put_ride(text: &mut String, frame: Frame, ride: &Ride, from: Point) -> Result<(), AllocError> {
+    put_line(text, frame, ride, from)?;
     put_call(text, ride)?;
     put_told(text, ride.told)?;
     put_service(text, ride.served)?;
     text.push_str("</title></path>\n")
 }
 
-/// A call that was told a car.
-fn put_ride(text: &mut String, frame: Frame, ride: &Ride, told: Told) -> Result<(), AllocError> {
-    match ride.served {
-        Some(served) => put_served(text, frame, ride, told, served)?,
-        None => put_unserved(text, entry(frame, ride, told), frame.right())?,
-    }
-    end_call(text, ride)
-}
-
-/// The calls that were told a car.
-fn put_told_calls(text: &mut String, frame: Frame, rides: &[Ride]) -> Result<(), AllocError> {
-    'rides: for ride in rides {
-        if let Some(told) = ride.told {
-            put_ride(text, frame, ride, told)?;
-        }
-    }
-    Ok(())
-}
-
-/// A call that waits, in its lane.
-fn put_waiting(text: &mut String, frame: Frame, ride: &Ride, lane: u64) -> Result<(), AllocError> {
-    put_unserved(text, frame.lane(lane, ride.entered), frame.right())?;
-    end_call(text, ride)
-}
-
-/// The calls that wait.
-fn put_waiting_calls(text: &mut String, frame: Frame, rides: &[Ride]) -> Result<(), AllocError> {
+/// The lines of the calls.
+fn put_lines(text: &mut String, frame: Frame, rides: &[Ride]) -> Result<(), AllocError> {
     let mut lane: u64 = 0;
     'rides: for ride in rides {
-        if ride.told.is_none() {
-            put_waiting(text, frame, ride, lane)?;
-            lane = lane.saturating_add(1);
-        }
+        put_ride(text, frame, ride, entry(frame, ride, lane))?;
+        lane = next_lane(ride, lane);
     }
     Ok(())
 }
@@ -147,29 +145,6 @@ fn is_beside(one: &Ride, other: &Ride) -> bool {
     }
 }
 
-/// Where the label of a call stands that was told a car, beside so many others: not where its line goes.
-fn label_at(frame: Frame, ride: &Ride, told: Told, beside: u64) -> Point {
-    let Point { x, y } = entry(frame, ride, told);
-    let x = x
-        .saturating_add(4)
-        .saturating_add(beside.saturating_mul(LABEL));
-    if ride.call.from < ride.call.to {
-        let y = y.saturating_add(11);
-        return Point { x, y };
-    }
-    let y = y.saturating_sub(3);
-    Point { x, y }
-}
-
-/// Where the label of a call stands that waits.
-fn waiting_label_at(frame: Frame, ride: &Ride, lane: u64) -> Point {
-    let Point { x, y } = frame.lane(lane, ride.entered);
-    Point {
-        x: x.saturating_add(4),
-        y: y.saturating_sub(2),
-    }
-}
-
 /// How many of the calls before begin where this one does.
 fn beside(before: &[Ride], ride: &Ride) -> u64 {
     let mut count: u64 = 0;
@@ -181,49 +156,30 @@ fn beside(before: &[Ride], ride: &Ride) -> u64 {
     count
 }
 
-/// The labels of the calls that were told a car.
-fn put_told_labels(text: &mut String, frame: Frame, rides: &[Ride]) -> Result<(), AllocError> {
-    'rides: for (index, ride) in rides.iter().enumerate() {
-        if let Some(told) = ride.told {
-            let at = label_at(frame, ride, told, beside(&rides[..index], ride));
-            put_label(text, at, ride)?;
-        }
+/// Where the label of a call stands, beside so many others: not where its line goes.
+fn label_at(ride: &Ride, from: Point, beside: u64) -> Point {
+    let x = from
+        .x
+        .saturating_add(4)
+        .saturating_add(beside.saturating_mul(LABEL));
+    if ride.told.is_some() && ride.call.from < ride.call.to {
+        let y = from.y.saturating_add(11);
+        return Point { x, y };
     }
-    Ok(())
+    let y = from.y.saturating_sub(3);
+    Point { x, y }
 }
 
-/// The labels of the calls that wait.
-fn put_waiting_labels(text: &mut String, frame: Frame, rides: &[Ride]) -> Result<(), AllocError> {
-    let mut lane: u64 = 0;
-    'rides: for ride in rides {
-        if ride.told.is_none() {
-            put_label(text, waiting_label_at(frame, ride, lane), ride)?;
-            lane = lane.saturating_add(1);
-        }
-    }
-    Ok(())
-}
-
-/// The labels, if the calls are few enough.
+/// The labels of the calls.
 fn put_labels(text: &mut String, frame: Frame, rides: &[Ride]) -> Result<(), AllocError> {
-    if rides.len() > MOST_LABELLED {
-        return Ok(());
+    let mut lane: u64 = 0;
+    'rides: for (index, ride) in rides.iter().enumerate() {
+        let from = entry(frame, ride, lane);
+        let at = label_at(ride, from, beside(&rides[..index], ride));
+        put_label(text, at, ride)?;
+        lane = next_lane(ride, lane);
     }
-    open_group(text, "fill=\"#1f5fbf\"")?;
-    put_told_labels(text, frame, rides)?;
-    put_waiting_labels(text, frame, rides)?;
-    close_group(text)
-}
-
-/// The lines of the calls.
-fn put_lines(text: &mut String, frame: Frame, rides: &[Ride]) -> Result<(), AllocError> {
-    open_group(
-        text,
-        "fill=\"none\" stroke=\"#1f5fbf\" marker-start=\"url(#entry)\" marker-end=\"url(#service)\"",
-    )?;
-    put_told_calls(text, frame, rides)?;
-    put_waiting_calls(text, frame, rides)?;
-    close_group(text)
+    Ok(())
 }
 
 /// The name of the strip of the calls that wait, if any do.
@@ -235,9 +191,24 @@ fn put_name(text: &mut String, frame: Frame, rides: &[Ride]) -> Result<(), Alloc
     put_words(text, Point { x: 8, y }, "waiting")
 }
 
+/// The lines of the calls, as a group.
+fn put_all(text: &mut String, frame: Frame, rides: &[Ride]) -> Result<(), AllocError> {
+    open_group(
+        text,
+        "fill=\"none\" stroke=\"#1f5fbf\" marker-start=\"url(#entry)\" marker-end=\"url(#service)\"",
+    )?;
+    put_lines(text, frame, rides)?;
+    close_group(text)
+}
+
 /// The calls, with their tickets and floors if they are few enough.
 pub fn put_calls(text: &mut String, frame: Frame, rides: &[Ride]) -> Result<(), AllocError> {
     put_name(text, frame, rides)?;
-    put_lines(text, frame, rides)?;
-    put_labels(text, frame, rides)
+    put_all(text, frame, rides)?;
+    if rides.len() > MOST_LABELLED {
+        return Ok(());
+    }
+    open_group(text, "fill=\"#1f5fbf\"")?;
+    put_labels(text, frame, rides)?;
+    close_group(text)
 }

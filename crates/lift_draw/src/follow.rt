@@ -10,6 +10,24 @@ use lift_runs::replay::{Refused, take};
 use lift_spec::report::Report;
 use lift_spec::trace::TraceEvent;
 use lift_world::World;
+use std::alloc::AllocError;
+
+/// Notes an event that the world took, with its report if it has one.
+fn note(
+    world: &World,
+    event: &TraceEvent,
+    report: &Report,
+    story: &mut Story,
+) -> Result<(), AllocError> {
+    match event {
+        TraceEvent::Refresh(fields) => story.note_refresh(fields, report),
+        TraceEvent::Commit(_) => {
+            let slots = world.slots();
+            story.note_commit(slots.as_slice(), report)
+        }
+        TraceEvent::Start(_) | TraceEvent::Press(_) | TraceEvent::Gather(_) => Ok(()),
+    }
+}
 
 /// The events of a trace, one behind the other, up to the first that is refused, and what happens along them.
 pub fn follow(world: &mut World, events: &[TraceEvent], story: &mut Story) -> Result<(), Stop>
@@ -22,7 +40,7 @@ pub fn follow(world: &mut World, events: &[TraceEvent], story: &mut Story) -> Re
         if let Err(fault) = take(world, event, &mut report) {
             return Err(Stop::Refused(Refused { index, fault }));
         }
-        story.note(world, event, &report)?;
+        note(world, event, &report, story)?;
     }
     Ok(())
 }

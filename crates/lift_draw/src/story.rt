@@ -3,10 +3,9 @@
 use crate::denials::Denials;
 use crate::places::Places;
 use crate::rides::Rides;
+use lift_spec::calls::Slot;
 use lift_spec::image::{Fields, Sizes};
 use lift_spec::report::Report;
-use lift_spec::trace::TraceEvent;
-use lift_world::World;
 use std::alloc::{AllocError, Global};
 
 /// FIRE from a round on, up to the next switch.
@@ -64,21 +63,8 @@ impl Story {
         self.fires.as_slice()
     }
 
-    /// An event that the world took, with its report if it has one.
-    pub fn note(
-        &mut self,
-        world: &World,
-        event: &TraceEvent,
-        report: &Report,
-    ) -> Result<(), AllocError> {
-        match event {
-            TraceEvent::Refresh(fields) => self.note_refresh(fields, report),
-            TraceEvent::Commit(_) => self.note_commit(world, report),
-            TraceEvent::Start(_) | TraceEvent::Press(_) | TraceEvent::Gather(_) => Ok(()),
-        }
-    }
-
-    fn note_refresh(&mut self, fields: &Fields, report: &Report) -> Result<(), AllocError> {
+    /// A refresh, with its report.
+    pub fn note_refresh(&mut self, fields: &Fields, report: &Report) -> Result<(), AllocError> {
         self.times.push(fields.time)?;
         let round = self.rounds();
         self.note_fire(fields.fire, round)?;
@@ -95,12 +81,10 @@ impl Story {
         Ok(())
     }
 
-    fn note_commit(&mut self, world: &World, report: &Report) -> Result<(), AllocError> {
+    /// A commit, with its report and the call slots behind it.
+    pub fn note_commit(&mut self, slots: &[Slot], report: &Report) -> Result<(), AllocError> {
         let round = self.rounds();
-        if report.answers.len() > 0 {
-            let slots = world.slots();
-            self.rides.follow(slots.as_slice(), round);
-        }
+        self.rides.follow(slots, round);
         self.denials.note(report.denials.as_slice(), round)
     }
 }
