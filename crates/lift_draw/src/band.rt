@@ -108,12 +108,7 @@ fn half_way(from: Place, to: &Change) -> u64 {
 }
 
 /// The line to a place: to the landing where the car is level with it, and half way where it is between two and nearer to another.
-fn put_turn(
-    text: &mut String,
-    frame: Frame,
-    from: Change,
-    to: &Change,
-) -> Result<(), AllocError> {
+fn put_turn(text: &mut String, frame: Frame, from: Change, to: &Change) -> Result<(), AllocError> {
     let at = frame.at(to.car, to.round, u64::from(to.place.floor));
     if to.place.level {
         return put_line(text, at);
@@ -136,7 +131,13 @@ fn put_way(text: &mut String, frame: Frame, from: Change, to: &Change) -> Result
 /// The line from a change to the end of the last round.
 fn put_rest(text: &mut String, frame: Frame, from: Change) -> Result<(), AllocError> {
     let y = frame.y(from.car, u64::from(from.place.floor));
-    put_line(text, Point { x: frame.right(), y })
+    put_line(
+        text,
+        Point {
+            x: frame.right(),
+            y,
+        },
+    )
 }
 
 /// The line behind the change before, or its beginning.

@@ -49,7 +49,10 @@ fn put_served(
 ) -> Result<(), AllocError> {
     let Point { x, y } = from;
     let turn = frame.x(told.round);
-    let Point { x: right, y: landing } = end;
+    let Point {
+        x: right,
+        y: landing,
+    } = end;
     write!(text, "<path d=\"M{x} {y}H{turn}L{right} {landing}\">")
 }
 

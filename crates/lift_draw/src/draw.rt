@@ -112,11 +112,7 @@ fn picture(alloc: Global, story: &Story) -> Result<String, AllocError> {
 
 /// The picture of a trace, as SVG: what happens along its events, from this world on, which is changed as they say. The text of the picture
 /// is no part of the promise.
-pub fn drawing(
-    alloc: Global,
-    world: &mut World,
-    events: &[TraceEvent],
-) -> Result<String, Stop>
+pub fn drawing(alloc: Global, world: &mut World, events: &[TraceEvent]) -> Result<String, Stop>
     ensures taken { OnOk result (TakesAll world.old.program.config world.old.world events.now world.new.world) }
     ensures stopped { IfErr result (IsStopped world.old.program.config world.old.world events.now) }
     ensures same { world.new.program ≡ world.old.program }

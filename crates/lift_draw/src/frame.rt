@@ -13,6 +13,7 @@ const RIGHT: u64 = 24;
 
 /// The least and the greatest width of the bands.
 const NARROW: u64 = 528;
+
 const WIDE: u64 = 2300;
 
 /// How wide a round is, where there is room.
@@ -26,6 +27,7 @@ const LANE: u64 = 11;
 
 /// What is above the highest floor of a band: the denials; and below the lowest.
 const ABOVE: u64 = 20;
+
 const BELOW: u64 = 12;
 
 /// What is below the bands: the time.
