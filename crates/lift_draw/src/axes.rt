@@ -1,5 +1,7 @@
 // The time below the bands.
 
+ghost use Rattle.std.specs.Prelude.{◌≤◌, IfSome};
+
 use crate::frame::Frame;
 use crate::story::Story;
 use crate::svg::{
@@ -27,7 +29,9 @@ fn step_of(rounds: u64) -> u64 {
 }
 
 /// The round of a label, from 0 on: the first round, and then each that the step divides.
-fn labelled(count: u64, step: u64, rounds: u64) -> Option<u64> {
+fn labelled(count: u64, step: u64, rounds: u64) -> Option<u64>
+    ensures { IfSome result (λ round. (1 ≤ round) × (round ≤ rounds)) }
+{
     if count == 0 && step == 1 {
         return None;
     }

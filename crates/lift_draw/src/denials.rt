@@ -1,6 +1,6 @@
 // What the interlock denied.
 
-ghost use Rattle.std.specs.Prelude.{◌<◌};
+ghost use Rattle.std.specs.Prelude.{◌<◌, ◌≤◌};
 
 use lift_spec::report::{Denial, Rule};
 use std::alloc::{AllocError, Global};
@@ -31,7 +31,7 @@ pub struct Denials {
 
 /// The number of a rule, 1 to 6.
 pub fn number_of(rule: Rule) -> u8
-    ensures { result < 8 }
+    ensures { (1 ≤ result) × (result ≤ 6) }
 {
     match rule {
         Rule::Reversal => 1,

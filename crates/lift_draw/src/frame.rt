@@ -89,13 +89,17 @@ impl Frame {
         LEFT + self.inner()
     }
 
-    /// The left edge of a round; of the one behind the last it is the right edge of the bands.
-    pub fn x(self, round: u64) -> u64 {
+    /// The left edge of a round; of the one behind the last it is the right edge of the bands. It is never outside of them.
+    pub fn x(self, round: u64) -> u64
+        ensures low { 72 ≤ result }
+        ensures high { result ≤ 2372 }
+    {
         let past = round.saturating_sub(1).min(self.rounds);
         if self.rounds == 0 {
             return LEFT;
         }
-        LEFT.saturating_add(self.inner().saturating_mul(past) / self.rounds)
+        let inner = self.inner();
+        LEFT + (inner.saturating_mul(past) / self.rounds).min(inner)
     }
 
     /// From a floor to the next.

@@ -46,7 +46,7 @@ fn put_names(text: &mut String, frame: Frame, fires: &[Switch]) -> Result<(), Al
     'fires: for switch in fires {
         if switch.on {
             let x = frame.x(switch.round).saturating_add(3);
-            let y = frame.top().saturating_add(9);
+            let y = frame.top().saturating_sub(3);
             put_words(text, Point { x, y }, "FIRE")?;
         }
     }
