@@ -13,7 +13,7 @@ ghost use Rattle.lift_spec.specs.EventFaults.{event_fault_number};
 use crate::check::check_text;
 use crate::image::image_text;
 use il_machine::Verified;
-use lift_draw::drawing::{Stop, drawing};
+use lift_draw::{Stop, drawing};
 use lift_host::files::TextFiles;
 use lift_host::press::{Press, fire_round, presses};
 use lift_host::request::{Following, Named, Request, Rounds, Simulating, Words};

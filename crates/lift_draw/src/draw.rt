@@ -1,0 +1,124 @@
+// A trace's picture.
+
+ghost use Rattle.std.specs.Prelude.{◌≡◌, OnOk, IfErr};
+ghost use Rattle.lift_journal.specs.Rounds.{TakesAll};
+ghost use Rattle.lift_draw.specs.Stops.{IsStopped};
+
+use crate::axes::{put_axes, put_grid};
+use crate::band::put_bands;
+use crate::calls::{put_calls, waiting};
+use crate::follow::follow;
+use crate::frame::Frame;
+use crate::marks::{put_denials, put_fire};
+use crate::stop::Stop;
+use crate::story::Story;
+use crate::svg::put_seconds;
+use lift_spec::trace::TraceEvent;
+use lift_world::World;
+use std::alloc::{AllocError, Global};
+
+/// What the colours mean, and how a call's line begins and ends.
+const LEGEND: &str = "\
+<defs>
+<marker id=\"entry\" markerWidth=\"6\" markerHeight=\"6\" refX=\"3\" refY=\"3\" markerUnits=\"userSpaceOnUse\"><circle cx=\"3\" cy=\"3\" r=\"2.5\" fill=\"#1f5fbf\"/></marker>
+<marker id=\"service\" markerWidth=\"6\" markerHeight=\"6\" refX=\"3\" refY=\"3\" markerUnits=\"userSpaceOnUse\"><path d=\"M1 1H5V5H1z\" fill=\"#1f5fbf\"/></marker>
+</defs>
+<g fill=\"#444\">
+<path d=\"M72 35H92\" stroke=\"#222\" stroke-width=\"1.5\"/><text x=\"96\" y=\"38\">car</text>
+<path d=\"M124 31H140V39H124z\" fill=\"#2e9e6b\"/><text x=\"144\" y=\"38\">door open</text>
+<path d=\"M202 31H218V39H202z\" fill=\"#b9e3cf\"/><text x=\"222\" y=\"38\">door moving</text>
+<path d=\"M292 35H312\" stroke=\"#1f5fbf\" marker-start=\"url(#entry)\" marker-end=\"url(#service)\"/><text x=\"319\" y=\"38\">call, ticket: from-to</text>
+<path d=\"M438 31l4 7h-8z\" fill=\"#c62828\"/><text x=\"446\" y=\"38\">denied by interlock</text>
+<path d=\"M552 31H568V39H552z\" fill=\"#fde3c8\"/><text x=\"572\" y=\"38\">FIRE</text>
+</g>
+";
+
+/// The head of the picture, on white.
+fn put_head(text: &mut String, frame: Frame) -> Result<(), AllocError> {
+    let width = frame.width();
+    let height = frame.height();
+    write!(
+        text,
+        "<svg xmlns=\"http://www.w3.org/2000/svg\" width=\"{width}\" height=\"{height}\" viewBox=\"0 0 {width} {height}\""
+    )?;
+    text.push_str(" font-family=\"sans-serif\" font-size=\"10\">\n")?;
+    writeln!(text, "<path fill=\"#fff\" d=\"M0 0H{width}V{height}H0z\"/>")
+}
+
+/// The sizes of the group.
+fn put_sizes(text: &mut String, story: &Story) -> Result<(), AllocError> {
+    let sizes = story.sizes();
+    let cars = sizes.cars;
+    let floors = sizes.floors;
+    let slots = sizes.slots;
+    write!(
+        text,
+        "cars: {cars}, floors: {floors}, call slots: {slots}; "
+    )
+}
+
+/// The rounds of the trace, and their time.
+fn put_time(text: &mut String, story: &Story) -> Result<(), AllocError> {
+    let rounds = story.rounds();
+    write!(text, "rounds: {rounds}, ")?;
+    put_seconds(text, story.time(1))?;
+    text.push_str(" s to ")?;
+    put_seconds(text, story.time(rounds))?;
+    text.push_str(" s; ")
+}
+
+/// How much happened.
+fn put_counts(text: &mut String, story: &Story) -> Result<(), AllocError> {
+    let calls = story.rides.list().len();
+    write!(text, "calls: {calls}")
+}
+
+/// The title row.
+fn put_title(text: &mut String, story: &Story) -> Result<(), AllocError> {
+    text.push_str("<text x=\"72\" y=\"18\" font-size=\"12\" fill=\"#222\">")?;
+    put_sizes(text, story)?;
+    put_time(text, story)?;
+    put_counts(text, story)?;
+    text.push_str("</text>\n")
+}
+
+/// What is along the time: FIRE, the bands of the cars, the calls, and what was denied.
+fn put_body(text: &mut String, story: &Story, frame: Frame) -> Result<(), AllocError> {
+    put_fire(text, frame, story.fires())?;
+    put_grid(text, frame)?;
+    put_bands(text, frame, story.places.changes())?;
+    put_calls(text, frame, story.rides.list())?;
+    put_denials(text, frame, story.denials.list())
+}
+
+/// The picture, as SVG.
+fn put_picture(text: &mut String, story: &Story) -> Result<(), AllocError> {
+    let lanes = waiting(story.rides.list());
+    let frame = Frame::new(story.sizes(), story.rounds(), lanes);
+    put_head(text, frame)?;
+    put_title(text, story)?;
+    text.push_str(LEGEND)?;
+    put_body(text, story, frame)?;
+    put_axes(text, story, frame)?;
+    text.push_str("</svg>\n")
+}
+
+/// The text of the picture.
+fn picture(alloc: Global, story: &Story) -> Result<String, AllocError> {
+    let mut text = String::new(alloc);
+    put_picture(&mut text, story)?;
+    Ok(text)
+}
+
+/// The picture of a trace, as SVG: what happens along its events, from this world on, which is changed as they say. The text of the picture
+/// is no part of the promise.
+pub fn drawing(alloc: Global, world: &mut World, events: &[TraceEvent]) -> Result<String, Stop>
+    ensures taken { OnOk result (TakesAll world.old.program.config world.old.world events.now world.new.world) }
+    ensures stopped { IfErr result (IsStopped world.old.program.config world.old.world events.now) }
+    ensures same { world.new.program ≡ world.old.program }
+{
+    let mut story = Story::new(alloc, world.sizes());
+    follow(world, events, &mut story)?;
+    let text = picture(alloc, &story)?;
+    Ok(text)
+}

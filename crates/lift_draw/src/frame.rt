@@ -1,0 +1,174 @@
+// Where things stand in the picture, in pixels.
+
+ghost use Rattle.std.specs.Prelude.{◌≤◌};
+
+use crate::svg::Point;
+use lift_spec::image::Sizes;
+
+/// The left edge of the bands. Their names and floors stand left of it.
+pub const LEFT: u64 = 72;
+
+/// What is right of the bands.
+const RIGHT: u64 = 24;
+
+/// The least and the greatest width of the bands.
+const NARROW: u64 = 528;
+
+const WIDE: u64 = 2300;
+
+/// How wide a round is, where there is room.
+const ROUND: u64 = 4;
+
+/// What is above the first band: the title and the legend.
+const TOP: u64 = 54;
+
+/// The height of a waiting call.
+const LANE: u64 = 11;
+
+/// What is above the highest floor of a band: the denials; and below the lowest.
+const ABOVE: u64 = 20;
+
+const BELOW: u64 = 12;
+
+/// What is below the bands: the time.
+const AXIS: u64 = 44;
+
+/// How much a picture shows: so many rounds of a group, and so many calls that wait.
+#[derive(Clone, Copy)]
+pub struct Frame {
+    rounds: u64,
+    cars: u64,
+    floors: u64,
+    lanes: u64,
+}
+
+impl Frame {
+    /// The frame of so many rounds, with a lane for each call that waits.
+    pub fn new(sizes: Sizes, rounds: u64, lanes: u64) -> Frame {
+        Frame {
+            rounds,
+            cars: u64::from(sizes.cars),
+            floors: u64::from(sizes.floors),
+            lanes,
+        }
+    }
+
+    /// How many rounds there are.
+    pub fn rounds(self) -> u64 {
+        self.rounds
+    }
+
+    /// How many cars there are.
+    pub fn cars(self) -> u64 {
+        self.cars
+    }
+
+    /// How many floors there are.
+    pub fn floors(self) -> u64 {
+        self.floors
+    }
+
+    /// The width of the bands.
+    fn inner(self) -> u64
+        ensures low { 528 ≤ result }
+        ensures high { result ≤ 2300 }
+    {
+        self.rounds.saturating_mul(ROUND).clamp(NARROW, WIDE)
+    }
+
+    /// The width of the picture.
+    pub fn width(self) -> u64
+        ensures low { 600 ≤ result }
+        ensures high { result ≤ 2400 }
+    {
+        LEFT + self.inner() + RIGHT
+    }
+
+    /// The right edge of the bands.
+    pub fn right(self) -> u64 {
+        LEFT + self.inner()
+    }
+
+    /// The left edge of a round; of the one behind the last it is the right edge of the bands. It is never outside of them.
+    pub fn x(self, round: u64) -> u64
+        ensures low { 72 ≤ result }
+        ensures high { result ≤ 2372 }
+    {
+        let past = round.saturating_sub(1).min(self.rounds);
+        if self.rounds == 0 {
+            return LEFT;
+        }
+        let inner = self.inner();
+        LEFT + (inner.saturating_mul(past) / self.rounds).min(inner)
+    }
+
+    /// From a floor to the next.
+    fn storey(self) -> u64 {
+        if self.floors > 6 { 12 } else { 20 }
+    }
+
+    /// The height of a band.
+    fn band(self) -> u64 {
+        let shaft = self.floors.saturating_sub(1).saturating_mul(self.storey());
+        shaft.saturating_add(ABOVE + BELOW)
+    }
+
+    /// The height of the strip of waiting calls.
+    fn strip(self) -> u64 {
+        if self.lanes == 0 {
+            return 0;
+        }
+        self.lanes.saturating_mul(LANE).saturating_add(LANE)
+    }
+
+    /// The upper edge of all that is drawn along the time.
+    pub fn top(self) -> u64 {
+        TOP
+    }
+
+    /// The upper edge of the band of a car.
+    pub fn band_top(self, car: u64) -> u64 {
+        let above = car.saturating_sub(1).saturating_mul(self.band());
+        TOP.saturating_add(self.strip()).saturating_add(above)
+    }
+
+    /// The lower edge of the last band.
+    pub fn bottom(self) -> u64 {
+        self.band_top(self.cars.saturating_add(1))
+    }
+
+    /// The height of the picture.
+    pub fn height(self) -> u64 {
+        self.bottom().saturating_add(AXIS)
+    }
+
+    /// The height of a floor in the band of a car.
+    pub fn y(self, car: u64, floor: u64) -> u64 {
+        let below_top = self
+            .floors
+            .saturating_sub(floor)
+            .saturating_mul(self.storey());
+        self.band_top(car)
+            .saturating_add(ABOVE)
+            .saturating_add(below_top)
+    }
+
+    /// Where a car is at a floor at the beginning of a round.
+    pub fn at(self, car: u64, round: u64, floor: u64) -> Point {
+        Point {
+            x: self.x(round),
+            y: self.y(car, floor),
+        }
+    }
+
+    /// Where a waiting call begins, by its lane, from 0 on.
+    pub fn lane(self, lane: u64, round: u64) -> Point {
+        Point {
+            x: self.x(round),
+            y: lane
+                .saturating_add(1)
+                .saturating_mul(LANE)
+                .saturating_add(TOP),
+        }
+    }
+}

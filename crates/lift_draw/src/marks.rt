@@ -1,0 +1,114 @@
+// FIRE, and what the interlock denied.
+
+use crate::denials::{Denied, number_of, sentence_of};
+use crate::frame::Frame;
+use crate::story::Switch;
+use crate::svg::{Point, close_group, end_path, open_group, put_box, put_words};
+use std::alloc::AllocError;
+
+/// FIRE, from a round to a round.
+fn put_burning(text: &mut String, frame: Frame, from: u64, to: u64) -> Result<(), AllocError> {
+    let upper = Point {
+        x: frame.x(from),
+        y: frame.top(),
+    };
+    let lower = Point {
+        x: frame.x(to),
+        y: frame.bottom(),
+    };
+    put_box(text, upper, lower)
+}
+
+/// FIRE up to the next switch, if the switch before was on.
+fn put_until(
+    text: &mut String,
+    frame: Frame,
+    before: Option<Switch>,
+    to: u64,
+) -> Result<(), AllocError> {
+    match before {
+        Some(switch) if switch.on => put_burning(text, frame, switch.round, to),
+        _ => Ok(()),
+    }
+}
+
+fn put_areas(text: &mut String, frame: Frame, fires: &[Switch]) -> Result<(), AllocError> {
+    let mut before: Option<Switch> = None;
+    'fires: for switch in fires {
+        put_until(text, frame, before, switch.round)?;
+        before = Some(*switch);
+    }
+    put_until(text, frame, before, frame.rounds().saturating_add(1))
+}
+
+/// The name of each time of FIRE.
+fn put_names(text: &mut String, frame: Frame, fires: &[Switch]) -> Result<(), AllocError> {
+    'fires: for switch in fires {
+        if switch.on {
+            let x = frame.x(switch.round).saturating_add(3);
+            let y = frame.top().saturating_sub(3);
+            put_words(text, Point { x, y }, "FIRE")?;
+        }
+    }
+    Ok(())
+}
+
+/// The time of FIRE, as areas.
+pub fn put_fire(text: &mut String, frame: Frame, fires: &[Switch]) -> Result<(), AllocError> {
+    if fires.is_empty() {
+        return Ok(());
+    }
+    text.push_str("<path fill=\"#fde3c8\" d=\"")?;
+    put_areas(text, frame, fires)?;
+    end_path(text)?;
+    open_group(text, "fill=\"#b35900\" font-size=\"9\"")?;
+    put_names(text, frame, fires)?;
+    close_group(text)
+}
+
+/// A triangle where a denial begins, and a bar to where it ends.
+fn put_triangle(text: &mut String, frame: Frame, denied: &Denied) -> Result<(), AllocError> {
+    let x = frame.x(denied.first);
+    let end = frame.x(denied.last);
+    let y = frame.band_top(denied.car).saturating_add(2);
+    let base = y.saturating_add(7);
+    write!(
+        text,
+        "<path d=\"M{x} {y}l4 7h-8zM{x} {base}H{end}\"><title>"
+    )
+}
+
+/// When something was denied.
+fn put_rounds(text: &mut String, denied: &Denied) -> Result<(), AllocError> {
+    let first = denied.first;
+    if denied.times == 1 {
+        return write!(text, "round {first}");
+    }
+    let last = denied.last;
+    let times = denied.times;
+    write!(text, "rounds {first} to {last}, {times} times")
+}
+
+/// What was denied, and why.
+fn put_reason(text: &mut String, denied: &Denied) -> Result<(), AllocError> {
+    let car = denied.car;
+    let number = number_of(denied.rule);
+    write!(text, ": CAR {car}, rule {number}: ")?;
+    text.push_str(sentence_of(denied.rule))
+}
+
+fn put_denied(text: &mut String, frame: Frame, denied: &Denied) -> Result<(), AllocError> {
+    put_triangle(text, frame, denied)?;
+    put_rounds(text, denied)?;
+    put_reason(text, denied)?;
+    text.push_str("</title></path>\n")
+}
+
+/// What the interlock denied, at the upper edge of the cars' bands.
+pub fn put_denials(text: &mut String, frame: Frame, list: &[Denied]) -> Result<(), AllocError> {
+    open_group(text, "fill=\"#c62828\" stroke=\"#c62828\"")?;
+    'denials: for denied in list {
+        put_denied(text, frame, denied)?;
+    }
+    close_group(text)
+}
