@@ -1,5 +1,5 @@
 -- Names that are watched.
-use Rattle.std.proofs.Common.{◌≡◌, ℕ, zero, suc, ◌+◌, List, [], ◌∷◌, ◌++◌, length, Bool, true, Option, Some, None, sym, subst, arith}
+use Rattle.std.proofs.Common.{◌≡◌, ℕ, zero, suc, ◌+◌, List, [], ◌∷◌, ◌++◌, length, true, Option, Some, None, sym, subst, arith}
 use Rattle.std.specs.Prelude.{slice_get, is_some}
 use Rattle.lift_spec.specs.World.{World}
 use Rattle.lift_watch.specs.declared.names.Watched.{Watched}

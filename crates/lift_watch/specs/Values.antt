@@ -8,10 +8,10 @@ use Rattle.lift_spec.specs.declared.image.CarFields.{CarFields}
 use Rattle.lift_spec.specs.declared.image.CarOutputs.{CarOutputs}
 use Rattle.lift_spec.specs.declared.image.Fields.{Fields}
 use Rattle.lift_spec.specs.declared.image.Image.{Image}
-use Rattle.lift_spec.specs.Snapshot.{motor_number, task_name}
+use Rattle.lift_spec.specs.Snapshot.{motor_number}
 use Rattle.lift_spec.specs.World.{World, task_at}
 use Rattle.lift_runs.specs.Shown.{Shows}
-use Rattle.lift_watch.specs.Names.{IsReadAs, word_of_shared, word_of_car_name}
+use Rattle.lift_watch.specs.Names.{IsReadAs}
 use Rattle.lift_watch.specs.declared.names.CarName.{CarName}
 use Rattle.lift_watch.specs.declared.names.CarName.TheVariants.{Pos, Level, Top, Bottom, Locked, Opened, Motor, Open}
 use Rattle.lift_watch.specs.declared.names.Shared.{Shared as SharedName}

@@ -91,12 +91,7 @@ fn put_denials(
 }
 
 #[tactic(auto, unfolding(crate::specs::Denials::denial_text))]
-fn put_denial(
-    text: &mut String,
-    event: &str,
-    round: u16,
-    denial: Denial,
-) -> Result<(), AllocError>
+fn put_denial(text: &mut String, event: &str, round: u16, denial: Denial) -> Result<(), AllocError>
     ensures { OnOk result (string_bytes text.new ≡ string_bytes text.old ++ denial_text event.now round denial) }
 {
     let rule = number_of(denial.rule);

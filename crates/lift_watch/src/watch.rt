@@ -51,12 +51,7 @@ impl Observer for Watch<'_> {
         Ok(())
     }
 
-    fn committed(
-        &mut self,
-        _round: u16,
-        _task: u8,
-        _report: &Report,
-    ) -> Result<(), AllocError> {
+    fn committed(&mut self, _round: u16, _task: u8, _report: &Report) -> Result<(), AllocError> {
         Ok(())
     }
 
@@ -66,7 +61,11 @@ impl Observer for Watch<'_> {
 }
 
 /// What names stand for.
-fn watched_of<'n>(alloc: Global, world: &World, names: Words<'n>) -> Result<Items<Watched<'n>>, Fault>
+fn watched_of<'n>(
+    alloc: Global,
+    world: &World,
+    names: Words<'n>,
+) -> Result<Items<Watched<'n>>, Fault>
     ensures known { IfOk result (λ watched. AreWatched world.now.world (words_of names.entry) watched) }
     ensures unknown { IfErr result (λ fault. (fault ≡ NoMemory) ⊎ ((fault ≡ BadName) × IsUnknown world.now.world (words_of names.entry))) }
 {
@@ -130,11 +129,7 @@ fn put_row(
     text.push_str("\n")
 }
 
-fn put_values(
-    text: &mut String,
-    world: &World,
-    watched: &[Watched<'_>],
-) -> Result<(), AllocError>
+fn put_values(text: &mut String, world: &World, watched: &[Watched<'_>]) -> Result<(), AllocError>
     ensures { OnOk result (string_bytes text.new ≡ string_bytes text.old ++ values_text watched.now world.now.world) }
 {
     'values: for it in watched {

@@ -1,5 +1,5 @@
 use Rattle.std.proofs.Common.{refl}
-use Rattle.lift_watch.specs.Names.{shared, of_task, global}
+use Rattle.lift_watch.specs.Names.{shared, of_task}
 use Rattle.lift_watch.proofs.names.read.Goals as goal
 
 pub returns-in-Some : goal.returns-in-Some
