@@ -2,3 +2,4 @@ pub mod Pressed
 pub mod Counted
 pub mod Drawn
 pub mod Followed
+pub mod Watching

@@ -1,5 +1,5 @@
 -- Presses that words spell are calls of the group.
-use Rattle.std.proofs.Common.{◌≡◌, ℕ, suc, List, [], ◌∷◌, length, refl, arith}
+use Rattle.std.proofs.Common.{◌≡◌, ℕ, suc, List, [], ◌∷◌, length, refl, sym, subst, arith}
 use Rattle.std.specs.Prelude.{slice_get, Some, All}
 use Rattle.std.proofs.lemmas.List.Elements.{All-cons, All-nil}
 use borrow.Author.Tests.{ne_eqb}
@@ -31,3 +31,8 @@ presses_are sizes rounds words presses are = each_is sizes rounds words presses 
 pub floors_are : (sizes : Sizes) (presses : List Press) → ArePressed sizes presses → All (λ (p : Press). IsFloorOf sizes.floors p.to) presses
 floors_are sizes [] are = All-nil (λ (p : Press). IsFloorOf sizes.floors p.to)
 floors_are sizes (p ∷ presses) are = All-cons (λ (q : Press). IsFloorOf sizes.floors q.to) p presses are.0.to (floors_are sizes presses are.1)
+
+-- the presses that words spell, for as many floors as the group has
+pub driven_pressed : (sizes : Sizes) (rounds : ℕ) (words : List (List ℕ)) (presses slice : List Press) (floors : ℕ) → floors ≡ sizes.floors → slice ≡ presses → ArePresses rounds floors words presses → ArePressed sizes slice
+driven_pressed sizes rounds words presses slice floors at is spelled =
+    subst (λ (l : List Press). ArePressed sizes l) (sym is) (presses_are sizes rounds words presses (subst (λ n. ArePresses rounds n words presses) at spelled))

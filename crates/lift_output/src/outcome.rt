@@ -1,6 +1,6 @@
 // What a request prints over a verified configuration.
 
-ghost use Rattle.std.specs.Prelude.{◌≡◌, ◌≢◌, ◌≤◌, ℕ, Option, option_map, length, Ok, Err, IfOk, IfErr};
+ghost use Rattle.std.specs.Prelude.{◌≡◌, ◌≢◌, ◌≤◌, ◌+◌, ℕ, Option, option_map, length, Ok, Err, IfOk, IfErr};
 ghost use Rattle.lift_spec.specs.Image.{sizes_of};
 ghost use Rattle.lift_spec.specs.World.{opening};
 ghost use Rattle.lift_trace.specs.Reading.{Reads, greatest_trace};
@@ -48,7 +48,13 @@ pub fn outcome<F: TextFiles, R: Threads + Wait + Sync>(
     match request {
         Request::Check(_) => checked(alloc, verified),
         Request::Rounds(command, asked) => rounds_outcome(rt, alloc, verified, command, asked),
-        Request::Trace(command, traced) => trace_outcome(alloc, verified, command, traced.trace, files),
+        Request::Trace(command, traced) => trace_outcome(
+            alloc,
+            verified,
+            command,
+            traced.trace,
+            files,
+        ),
     }
 }
 
