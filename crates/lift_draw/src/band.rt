@@ -84,7 +84,7 @@ fn put_bar(
     }
 }
 
-/// Whether a car that goes from a place to another is drawn no other.
+/// Whether two places are drawn alike, but for the door.
 fn is_same(from: Place, to: Place) -> bool {
     from.floor == to.floor && from.level == to.level
 }
