@@ -84,21 +84,6 @@ pub enum Request<'w> {
 }
 
 impl Name {
-    /// The word that names it.
-    pub fn as_str(self) -> &'static str
-        ensures { result.now ≡ word_of self }
-    {
-        match self {
-            Name::Check => "check",
-            Name::Rounds(Simulating::Sim) => "sim",
-            Name::Rounds(Simulating::Run) => "run",
-            Name::Rounds(Simulating::Denials) => "denials",
-            Name::Rounds(Simulating::Watch) => "watch",
-            Name::Trace(Following::Replay) => "replay",
-            Name::Trace(Following::Draw) => "draw",
-        }
-    }
-
     /// The command that a word names.
     pub fn of(word: &str) -> Option<Name>
         ensures some { IfSome result (λ name. word.now ≡ word_of name) }

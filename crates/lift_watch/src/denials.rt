@@ -135,7 +135,7 @@ fn put_undone(text: &mut String, round: u16, task: u8, answer: &str) -> Result<(
 }
 
 /// The name of a task: 0 is GROUP, k is CARk.
-pub fn put_task(text: &mut String, task: u8) -> Result<(), AllocError>
+fn put_task(text: &mut String, task: u8) -> Result<(), AllocError>
     ensures { OnOk result (string_bytes text.new ≡ string_bytes text.old ++ task_name task) }
 {
     match task {
