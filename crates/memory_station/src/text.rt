@@ -1,0 +1,28 @@
+// The text of the program that the station runs.
+
+/// How many floors the group has.
+pub const FLOORS: u8 = 8;
+
+/// Two cars, which serve slot 1, and a dispatcher, which tells a call there to car 1.
+pub const TEXT: &[u8] = b"PROGRAM SERVES
+LD 1
+ST SERVE
+END_PROGRAM
+PROGRAM TELLS
+LD CALLWAITS[1]
+RETCN
+LD 1
+ST ASSIGN[1]
+END_PROGRAM
+CONFIGURATION CABINET
+VAR_GLOBAL CONSTANT CARS : INT := 2; FLOORS : INT := 8; SLOTS : INT := 4; END_VAR
+RESOURCE PANEL ON PLC
+TASK CAR1 (INTERVAL := T#100ms, PRIORITY := 1);
+TASK CAR2 (INTERVAL := T#100ms, PRIORITY := 1);
+TASK GROUP (INTERVAL := T#200ms, PRIORITY := 2);
+PROGRAM P1 WITH CAR1 : SERVES;
+PROGRAM P2 WITH CAR2 : SERVES;
+PROGRAM P3 WITH GROUP : TELLS;
+END_RESOURCE
+END_CONFIGURATION
+";
