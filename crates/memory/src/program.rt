@@ -10,7 +10,7 @@ use il_machine::Verified;
 use il_spec::fault::Refusal;
 use lift_load::load;
 use lift_spec::report::Report;
-use std::alloc::Global;
+use std::alloc::{AllocError, Global};
 use std::io::Print;
 
 /// The program of the text.
@@ -72,7 +72,7 @@ fn of_car<R: Print>(
     alloc: Global,
     verified: &Verified,
     report: &mut Report,
-) -> Result<(), Refusal>
+) -> Result<(), AllocError>
     requires { HasTask verified.now.config 1 }
 {
     scans::all(lines, alloc, verified)?;
@@ -87,14 +87,14 @@ fn over<R: Print>(
     alloc: Global,
     verified: &Verified,
     report: &mut Report,
-) -> Result<(), Refusal> {
+) -> Result<(), AllocError> {
     lines.print(&[NO_ALLOCATION]);
     lines.print(&readings(verified));
     if has_task(verified, 0) {
         scans::of_group(lines, alloc, verified)?;
     }
     if has_task(verified, 1) {
-        of_car(lines, alloc, verified, report)?;
+        return of_car(lines, alloc, verified, report);
     }
     Ok(())
 }
@@ -109,5 +109,5 @@ pub fn all<R: Print>(
     lines.print(&[("load", verified.globals().len() as i128)]);
     let done = over(lines, alloc, &verified, report);
     verified.release();
-    done
+    Ok(done?)
 }

@@ -122,7 +122,7 @@ fn over<R: Print>(
     world: &mut World,
     events: &[Event],
     report: &mut Report,
-) -> Result<(), Refusal> {
+) -> Result<(), AllocError> {
     let mut replies = room(lines, alloc, events.len())?;
     lines.print(&[("Replies::with_room", events.len() as i128), NO_ALLOCATION]);
     lines.print(&run(world, events, &mut replies));
@@ -141,5 +141,5 @@ pub fn all<R: Print>(
     lines.print(&[("World::new", world.slots().len() as i128)]);
     let done = over(lines, alloc, &mut world, &events(), report);
     world.release();
-    done
+    Ok(done?)
 }
