@@ -27,8 +27,8 @@ pub fn flags() -> [Figure; 4] {
     ]
 }
 
-/// CTU, CTD and CTUD: CV.
-pub fn counters() -> [Figure; 3] {
+/// CTU, CTD and CTUD: CV. TON, TOF and TP: ET.
+pub fn counts() -> [Figure; 6] {
     let mut up = UpCounter::new();
     up.cu = true;
     up.ctu();
@@ -38,15 +38,6 @@ pub fn counters() -> [Figure; 3] {
     let mut both = UpDownCounter::new();
     both.cu = true;
     both.ctud();
-    [
-        ("UpCounter::ctu", up.cv as i128),
-        ("DownCounter::ctd", down.cv as i128),
-        ("UpDownCounter::ctud", both.cv as i128),
-    ]
-}
-
-/// TON, TOF and TP: ET.
-pub fn timers() -> [Figure; 3] {
     let mut on = DelayTimer::new();
     on.input = true;
     on.pt = 100;
@@ -63,6 +54,9 @@ pub fn timers() -> [Figure; 3] {
     pulse.tp(100);
     pulse.tp(170);
     [
+        ("UpCounter::ctu", up.cv as i128),
+        ("DownCounter::ctd", down.cv as i128),
+        ("UpDownCounter::ctud", both.cv as i128),
         ("DelayTimer::ton", on.et as i128),
         ("DelayTimer::tof", off.et as i128),
         ("PulseTimer::tp", pulse.et as i128),

@@ -45,30 +45,22 @@ pub fn readings() -> [Figure; 5] {
     ]
 }
 
-/// What changes a set.
-pub fn set_changes() -> [Figure; 3] {
+/// What changes and reads a set.
+pub fn of_sets() -> [Figure; 8] {
     let mut hand = Hand::new();
     hand.insert(UP);
     hand.insert_from(4, 1);
     let mut other = Hand::default();
     let moved = hand.move_from(3, &mut other);
-    let first = hand.take_first() == Some(DOWN);
+    let taken = hand.take_first() == Some(DOWN);
     [
         ("Hand::move_from", moved as i128),
-        ("Hand::take_first", first as i128),
+        ("Hand::take_first", taken as i128),
         ("Hand::len", other.len() as i128),
-    ]
-}
-
-/// What reads a set.
-pub fn set_readings() -> [Figure; 5] {
-    let mut hand = Hand::new();
-    hand.insert(UP);
-    [
         ("Hand::is_empty", hand.is_empty() as i128),
-        ("Hand::has", hand.has(UP) as i128),
-        ("Hand::has_from", hand.has_from(5) as i128),
-        ("Hand::mask_from", hand.mask_from(3) as i128),
-        ("Hand::first", hand.first().is_some() as i128),
+        ("Hand::has", other.has(UP) as i128),
+        ("Hand::has_from", other.has_from(5) as i128),
+        ("Hand::mask_from", other.mask_from(3) as i128),
+        ("Hand::first", other.first().is_some() as i128),
     ]
 }

@@ -28,14 +28,12 @@ use std::io::Print;
 fn of_values<R: Print>(lines: &mut Lines<'_, R>) {
     lines.print(&[NO_ALLOCATION]);
     lines.print(&blocks::flags());
-    lines.print(&blocks::counters());
-    lines.print(&blocks::timers());
+    lines.print(&blocks::counts());
     lines.print(&ranges::arithmetic());
     lines.print(&ranges::selection());
     lines.print(&calls::changes());
     lines.print(&calls::readings());
-    lines.print(&calls::set_changes());
-    lines.print(&calls::set_readings());
+    lines.print(&calls::of_sets());
     lines.print(&interlock::figures());
     lines.print(&plant::figures());
     lines.print(&[ALLOCATION]);

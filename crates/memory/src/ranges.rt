@@ -1,35 +1,28 @@
 // The calls of ranges.
 
-ghost use Rattle.std.specs.Prelude.{◌≡◌};
-ghost use Rattle.il_interval.specs.Interval.{between};
-
 use crate::lines::Figure;
 use il_interval::{Interval, ranges_grow};
 use il_spec::tree::Comparison;
 
-fn range(lo: i128, hi: i128) -> Interval
-    ensures { result ≡ between lo hi }
-{
-    Interval { lo, hi }
-}
-
 /// The upper ends of what arithmetic gives.
 pub fn arithmetic() -> [Figure; 6] {
-    let some = range(-3, 9);
+    let some = Interval { lo: -3, hi: 9 };
+    let other = Interval { lo: -2, hi: 5 };
+    let divisor = Interval { lo: 2, hi: 4 };
     [
-        ("Interval::add", some.add(range(1, 1)).hi),
-        ("Interval::sub", some.sub(range(0, 9)).hi),
-        ("Interval::mul", some.mul(range(-5, 4)).hi),
-        ("Interval::div", some.div(range(2, 3)).hi),
-        ("Interval::mod_", some.mod_(range(3, 4)).hi),
+        ("Interval::add", some.add(other).hi),
+        ("Interval::sub", some.sub(other).hi),
+        ("Interval::mul", some.mul(other).hi),
+        ("Interval::div", some.div(divisor).hi),
+        ("Interval::mod_", some.mod_(divisor).hi),
         ("Interval::abs", some.abs().hi),
     ]
 }
 
 /// The upper ends of what selections give, the lower one of what a comparison leaves, and whether a range lies in another.
 pub fn selection() -> [Figure; 6] {
-    let some = range(-3, 9);
-    let other = range(-2, 5);
+    let some = Interval { lo: -3, hi: 9 };
+    let other = Interval { lo: -2, hi: 5 };
     let left = match Interval::narrow(Comparison::Greater, true, some, 4) {
         Some(left) => left.lo,
         None => 0,
