@@ -1,23 +1,19 @@
-//! Calls the library where memory is refused. A call that takes memory and is refused it is made once more; calls that take none stand
+//! Calls the library where memory is refused. Calls that take memory and are refused it are made once more; calls that take none stand
 //! between two lines, and `tools/sweep` has all memory refused from the one to the other.
 #![tactic(auto)]
 
-mod blocks;
 mod book;
 mod calls;
 mod group;
 mod interlock;
 mod lines;
-mod plant;
 mod program;
-mod ranges;
-mod rows;
 mod scans;
 mod text;
 mod trace;
 mod world;
 
-use crate::lines::{ALLOCATION, Lines, NO_ALLOCATION};
+use crate::lines::{allocation, no_allocation, print};
 use il_spec::fault::Refusal;
 use lift_spec::report::Report;
 use std::alloc::Global;
@@ -25,42 +21,39 @@ use std::io;
 use std::io::Print;
 
 // The calls of values.
-fn of_values<R: Print>(lines: &mut Lines<'_, R>) {
-    lines.print(&[NO_ALLOCATION]);
-    lines.print(&blocks::flags());
-    lines.print(&blocks::counts());
-    lines.print(&ranges::arithmetic());
-    lines.print(&ranges::selection());
-    lines.print(&calls::changes());
-    lines.print(&calls::readings());
-    lines.print(&calls::of_sets());
-    lines.print(&interlock::figures());
-    lines.print(&plant::figures());
-    lines.print(&[ALLOCATION]);
+fn of_values<R: Print>(rt: &R) {
+    no_allocation(rt);
+    print(rt, "CallBook::enter, tell, serve", &calls::changes());
+    print(
+        rt,
+        "CallBook::count, slot, slots, last_ticket, copied",
+        &calls::readings(),
+    );
+    print(
+        rt,
+        "Hand::move_from, take_first, len, is_empty, has, has_from, mask_from, first",
+        &calls::of_sets(),
+    );
+    print(
+        rt,
+        "settle_car, settle_all, in_range, is_floor, plant_step, Plant::cars",
+        &interlock::answers(),
+    );
+    allocation(rt);
 }
 
-// All calls.
-fn run<R: Print>(
-    lines: &mut Lines<'_, R>,
-    alloc: Global,
-    report: &mut Report,
-) -> Result<(), Refusal> {
-    of_values(lines);
-    program::all(lines, alloc, report)?;
-    world::all(lines, alloc, report)
+// All calls. What is refused memory is done once more.
+fn run<R: Print>(rt: &R, alloc: Global, report: &mut Report) -> Result<(), Refusal> {
+    of_values(rt);
+    program::all(rt, alloc, report)?;
+    if world::all(rt, alloc, report).is_err() {
+        world::all(rt, alloc, report)?;
+    }
+    Ok(())
 }
 
 fn main(rt: HostRuntime) -> io::Result<()> {
-    let mut lines = Lines {
-        stream: &rt,
-        is_lost: false,
-    };
-    let done = run(&mut lines, rt.alloc(), &mut Report::new());
-    let Lines {
-        stream: _stream,
-        is_lost,
-    } = lines;
-    if is_lost || done.is_err() {
+    if run(&rt, rt.alloc(), &mut Report::new()).is_err() {
         return Err(io::ErrorKind::Other.into());
     }
     Ok(())

@@ -3,24 +3,29 @@
 ghost use Rattle.std.specs.Prelude.{◌≡◌, ◌≤◌, true};
 ghost use Rattle.il_machine.specs.Scanning.{HasTask};
 
-use crate::lines::{ALLOCATION, Figure, Lines, NO_ALLOCATION};
+use crate::lines::{allocation, no_allocation, print};
 use crate::text::TEXT;
-use crate::{book, group, rows, scans};
-use il_machine::Verified;
+use crate::{book, group, scans};
+use il_machine::{Value, Verified};
 use il_spec::fault::Refusal;
 use lift_load::load;
 use lift_spec::report::Report;
 use std::alloc::{AllocError, Global};
 use std::io::Print;
 
-/// The program of the text.
-pub fn loaded<R: Print>(lines: &mut Lines<'_, R>, alloc: Global) -> Result<Verified, Refusal> {
+/// The whole number of a value, -1 where there is none.
+pub fn number(value: Option<Value>) -> i128 {
+    match value {
+        Some(Value::Integer(number)) => number as i128,
+        _ => -1,
+    }
+}
+
+// The program of the text.
+fn loaded(alloc: Global) -> Result<Verified, Refusal> {
     match load(alloc, TEXT) {
         Ok(verified) => Ok(verified),
-        Err(_) => {
-            lines.refused("load");
-            load(alloc, TEXT)
-        }
+        Err(_) => load(alloc, TEXT),
     }
 }
 
@@ -43,17 +48,16 @@ fn budget(verified: &Verified) -> u32 {
 }
 
 // What reads it.
-fn readings(verified: &Verified) -> [Figure; 8] {
+fn readings(verified: &Verified) -> [i128; 7] {
     let opening = verified.opening_globals().numbers();
     [
-        ("Verified::config", verified.config().floors.value as i128),
-        ("Verified::sizes", verified.sizes().cars as i128),
-        ("Verified::has_task", verified.has_task(2) as i128),
-        ("Verified::globals", verified.globals().len() as i128),
-        ("Verified::opening_globals", opening.len() as i128),
-        ("Verified::units", cost(verified) as i128),
-        ("Verified::tasks", budget(verified) as i128),
-        ALLOCATION,
+        verified.config().floors.value as i128,
+        verified.sizes().cars as i128,
+        verified.has_task(2) as i128,
+        verified.globals().len() as i128,
+        opening.len() as i128,
+        cost(verified) as i128,
+        budget(verified) as i128,
     ]
 }
 
@@ -66,48 +70,54 @@ fn has_task(verified: &Verified, task: u8) -> bool
     task <= verified.sizes().cars && verified.has_task(task)
 }
 
-// The calls of car 1.
+// The calls of car 1. What is refused memory is done once more.
 fn of_car<R: Print>(
-    lines: &mut Lines<'_, R>,
+    rt: &R,
     alloc: Global,
     verified: &Verified,
     report: &mut Report,
 ) -> Result<(), AllocError>
     requires { HasTask verified.now.config 1 }
 {
-    scans::all(lines, alloc, verified)?;
-    rows::all(lines, alloc, verified)?;
-    group::all(lines, alloc, verified, report)?;
-    book::all(lines, alloc, verified, report)
+    if scans::of_car(rt, alloc, verified).is_err() {
+        scans::of_car(rt, alloc, verified)?;
+    }
+    if group::all(rt, alloc, verified, report).is_err() {
+        group::all(rt, alloc, verified, report)?;
+    }
+    if book::all(rt, alloc, verified, report).is_err() {
+        book::all(rt, alloc, verified, report)?;
+    }
+    Ok(())
 }
 
 // The calls over the program, which has the tasks GROUP and CAR1.
 fn over<R: Print>(
-    lines: &mut Lines<'_, R>,
+    rt: &R,
     alloc: Global,
     verified: &Verified,
     report: &mut Report,
 ) -> Result<(), AllocError> {
-    lines.print(&[NO_ALLOCATION]);
-    lines.print(&readings(verified));
-    if has_task(verified, 0) {
-        scans::of_group(lines, alloc, verified)?;
+    no_allocation(rt);
+    print(
+        rt,
+        "Verified::config, sizes, has_task, globals, opening_globals, units, tasks",
+        &readings(verified),
+    );
+    allocation(rt);
+    if has_task(verified, 0) && scans::of_group(rt, alloc, verified).is_err() {
+        scans::of_group(rt, alloc, verified)?;
     }
     if has_task(verified, 1) {
-        return of_car(lines, alloc, verified, report);
+        return of_car(rt, alloc, verified, report);
     }
     Ok(())
 }
 
 /// Each call.
-pub fn all<R: Print>(
-    lines: &mut Lines<'_, R>,
-    alloc: Global,
-    report: &mut Report,
-) -> Result<(), Refusal> {
-    let verified = loaded(lines, alloc)?;
-    lines.print(&[("load", verified.globals().len() as i128)]);
-    let done = over(lines, alloc, &verified, report);
+pub fn all<R: Print>(rt: &R, alloc: Global, report: &mut Report) -> Result<(), Refusal> {
+    let verified = loaded(alloc)?;
+    let done = over(rt, alloc, &verified, report);
     verified.release();
     Ok(done?)
 }

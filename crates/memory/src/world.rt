@@ -1,12 +1,13 @@
 // The calls of a world.
 
-ghost use Rattle.std.specs.Prelude.{◌≡◌, ◌≤◌, [], length, IfOk};
+ghost use Rattle.std.specs.Prelude.{◌≡◌, ◌≤◌, [], length};
 
 use crate::interlock::fields;
-use crate::lines::{ALLOCATION, Figure, Lines, NO_ALLOCATION};
-use crate::program::loaded;
-use crate::rows::number;
+use crate::lines::{allocation, no_allocation, print};
+use crate::program::number;
+use crate::text::TEXT;
 use il_spec::fault::Refusal;
+use lift_load::load;
 use lift_spec::calls::Call;
 use lift_spec::event::{Event, Reply};
 use lift_spec::report::Report;
@@ -16,48 +17,12 @@ use std::io::Print;
 
 const UP: Call = Call { from: 3, to: 5 };
 
-// The world of the text as it opens.
-fn made<R: Print>(lines: &mut Lines<'_, R>, alloc: Global) -> Result<World, Refusal> {
-    let verified = loaded(lines, alloc)?;
-    World::new(alloc, verified)
-}
-
-// The same. A world that is refused takes its program with it, so that is loaded once more too.
-fn opened<R: Print>(lines: &mut Lines<'_, R>, alloc: Global) -> Result<World, Refusal> {
-    match made(lines, alloc) {
-        Ok(world) => Ok(world),
-        Err(_) => {
-            lines.refused("World::new");
-            made(lines, alloc)
-        }
-    }
-}
-
-// Room for so many replies and reports.
-fn room<R: Print>(
-    lines: &mut Lines<'_, R>,
-    alloc: Global,
-    count: usize,
-) -> Result<Replies, AllocError>
-    ensures empty { IfOk result (λ r. (r.items ≡ []) × (r.reports ≡ 0)) }
-    ensures room { IfOk result (λ r. count ≤ r.room) }
-    ensures reports { IfOk result (λ r. count ≤ r.report_room) }
-{
-    match Replies::with_room(alloc, count, count) {
-        Ok(replies) => Ok(replies),
-        Err(_) => {
-            lines.refused("Replies::with_room");
-            Replies::with_room(alloc, count, count)
-        }
-    }
-}
-
 // A call that enters, a scan of GROUP, which tells it to car 1, and a scan of car 1 that isn't at its end.
 fn events() -> [Event; 13] {
     [
         Event::Press(UP),
         Event::Gather(3),
-        Event::Refresh(fields(2, 100, 2)),
+        Event::Refresh(fields(2)),
         Event::Start(0),
         Event::Instruction(0),
         Event::Instruction(0),
@@ -72,7 +37,7 @@ fn events() -> [Event; 13] {
 }
 
 // A run over all of them, for whose replies and reports there is room: how many there are.
-fn run(world: &mut World, events: &[Event], replies: &mut Replies) -> [Figure; 2]
+fn run(world: &mut World, events: &[Event], replies: &mut Replies) -> [i128; 2]
     requires empty { replies.old.items ≡ [] }
     requires none { replies.old.reports ≡ 0 }
     requires room { length events.now ≤ replies.old.room }
@@ -80,13 +45,13 @@ fn run(world: &mut World, events: &[Event], replies: &mut Replies) -> [Figure; 2
 {
     world.run(events, replies);
     [
-        ("World::run", replies.as_slice().len() as i128),
-        ("Replies::reports", replies.reports().len() as i128),
+        replies.as_slice().len() as i128,
+        replies.reports().len() as i128,
     ]
 }
 
 // The events by themselves: how many are not refused. Then the scan of car 1 goes to its end, and serves the call.
-fn apply(world: &mut World, events: &[Event], report: &mut Report) -> [Figure; 3] {
+fn apply(world: &mut World, events: &[Event], report: &mut Report) -> [i128; 3] {
     let mut taken = 0u8;
     for event in events {
         if !matches!(world.apply(event, report), Reply::Refused(_)) {
@@ -95,51 +60,56 @@ fn apply(world: &mut World, events: &[Event], report: &mut Report) -> [Figure; 3
     }
     let steps = world.finish(1).unwrap_or(0);
     world.apply(&Event::Commit(1), report);
-    [
-        ("World::apply", taken as i128),
-        ("World::finish", steps as i128),
-        ("World::apply", report.answers.len() as i128),
-    ]
+    [taken as i128, steps as i128, report.answers.len() as i128]
 }
 
 // What reads it.
-fn readings(world: &World) -> [Figure; 7] {
+fn readings(world: &World) -> [i128; 6] {
     [
-        ("World::image", world.image().fields.time as i128),
-        ("World::slots", world.slots().len() as i128),
-        ("World::verified", world.verified().sizes().cars as i128),
-        ("World::sizes", world.sizes().floors as i128),
-        ("World::global", number(world.global("G"))),
-        ("World::variable", number(world.variable(1, "N"))),
-        ALLOCATION,
+        world.image().fields.time as i128,
+        world.slots().len() as i128,
+        world.verified().sizes().cars as i128,
+        world.sizes().floors as i128,
+        number(world.global("G")),
+        number(world.variable(1, "N")),
     ]
 }
 
 // The calls over a world and some events.
 fn over<R: Print>(
-    lines: &mut Lines<'_, R>,
+    rt: &R,
     alloc: Global,
     world: &mut World,
     events: &[Event],
     report: &mut Report,
 ) -> Result<(), AllocError> {
-    let mut replies = room(lines, alloc, events.len())?;
-    lines.print(&[("Replies::with_room", events.len() as i128), NO_ALLOCATION]);
-    lines.print(&run(world, events, &mut replies));
-    lines.print(&apply(world, events, report));
-    lines.print(&readings(world));
+    let count = events.len();
+    let mut replies = Replies::with_room(alloc, count, count)?;
+    no_allocation(rt);
+    print(
+        rt,
+        "World::run, Replies::reports",
+        &run(world, events, &mut replies),
+    );
+    print(
+        rt,
+        "World::apply, finish, apply",
+        &apply(world, events, report),
+    );
+    print(
+        rt,
+        "World::image, slots, verified, sizes, global, variable",
+        &readings(world),
+    );
+    allocation(rt);
     Ok(())
 }
 
 /// Each call.
-pub fn all<R: Print>(
-    lines: &mut Lines<'_, R>,
-    alloc: Global,
-    report: &mut Report,
-) -> Result<(), Refusal> {
-    let mut world = opened(lines, alloc)?;
-    lines.print(&[("World::new", world.slots().len() as i128)]);
-    let done = over(lines, alloc, &mut world, &events(), report);
+pub fn all<R: Print>(rt: &R, alloc: Global, report: &mut Report) -> Result<(), Refusal> {
+    let verified = load(alloc, TEXT)?;
+    let mut world = World::new(alloc, verified)?;
+    let done = over(rt, alloc, &mut world, &events(), report);
     world.release();
     Ok(done?)
 }

@@ -2,21 +2,19 @@
 
 ghost use Rattle.std.specs.Prelude.{◌≡◌};
 
-use crate::lines::{Figure, Lines};
 use il_machine::{OpenScan, Scanned, scan};
 use lift_journal::fault::StationFault;
 use lift_spec::report::Report;
 use lift_station::{Naming, Station, TaskPass};
-use std::io::Print;
 use std::sync::Wait;
 
-// Whether a commit is done.
-fn is_done(committed: Result<(), (StationFault, Scanned<'_>)>) -> bool {
+// The number of the fault that refused a commit, 0 for none.
+fn fault(committed: Result<(), (StationFault, Scanned<'_>)>) -> u8 {
     match committed {
-        Ok(()) => true,
-        Err((_, scanned)) => {
+        Ok(()) => 0,
+        Err((fault, scanned)) => {
             let _store = scanned.into_store();
-            false
+            fault.number()
         }
     }
 }
@@ -28,40 +26,41 @@ fn run<G: Naming, R: Wait>(
     pass: TaskPass<G>,
     begun: OpenScan,
     report: &mut Report,
-) -> (TaskPass<G>, Figure)
+) -> (TaskPass<G>, u8)
     requires { begun.config ≡ G.program.config }
 {
     let scanned = scan(station.verified(), begun);
     let (pass, committed) = station.commit(rt, pass, scanned, report);
-    (pass, ("Station::commit", is_done(committed) as i128))
+    (pass, fault(committed))
 }
 
-// A scan of a task: whether it is committed, or the number of the fault of its start.
+// A scan of a task begins, runs and is committed: the number of the fault that refused it, 0 for none.
 fn drive<G: Naming, R: Wait>(
     rt: &R,
     station: &Station<G>,
     pass: TaskPass<G>,
     report: &mut Report,
-) -> (TaskPass<G>, Figure) {
+) -> (TaskPass<G>, u8) {
     let (pass, begun) = station.start(rt, pass);
     match begun {
         Ok(begun) => run(rt, station, pass, begun, report),
-        Err(fault) => (pass, ("Station::start", fault.number() as i128)),
+        Err(fault) => (pass, fault.number()),
     }
 }
 
 /// The next task's scan, and the car that is then told the call under ticket 1. The pass goes to the end.
-pub fn next_scan<G: Naming, R: Print + Wait>(
-    lines: &mut Lines<'_, R>,
+pub fn next_scan<G: Naming, R: Wait>(
+    rt: &R,
     station: &Station<G>,
     passes: &mut Vec<TaskPass<G>>,
     report: &mut Report,
-) {
+) -> [i128; 2] {
     if passes.is_empty() {
-        return;
+        return [-1, -1];
     }
-    let (pass, figure) = drive(lines.stream, station, passes.remove(0), report);
-    let told = station.told(lines.stream, 1).unwrap_or(0);
-    lines.print(&[figure, ("Station::told", told as i128)]);
+    let pass = passes.remove(0);
+    let (pass, fault) = drive(rt, station, pass, report);
     passes.push_reserved(pass);
+    let told = station.told(rt, 1).unwrap_or(0);
+    [fault as i128, told as i128]
 }

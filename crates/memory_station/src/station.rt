@@ -3,7 +3,7 @@
 ghost use Rattle.std.specs.Prelude.{◌≡◌, ℕ, false, slice_index_or};
 ghost use Rattle.lift_spec.specs.Image.{sizes_of};
 
-use crate::lines::{ALLOCATION, Figure, Lines, NO_ALLOCATION};
+use crate::lines::{allocation, no_allocation, print};
 use crate::scans::next_scan;
 use crate::text::{FLOORS, TEXT};
 use il_machine::Verified;
@@ -20,14 +20,14 @@ use std::sync::Wait;
 /// How many entries the journal has room for: those of two refreshes and of three scans.
 const ENTRIES: usize = 8;
 
-// A refresh by the plant: whether it is done. Then one with the fields that the image has, and how many calls are left in the hand.
+// A refresh by the plant, and one with the fields that the image then has: whether they are done, and how many calls are left in the hand.
 fn refresh<G: Naming, R: Wait>(
     rt: &R,
     station: &Station<G>,
     pass: RefreshPass<G>,
     collector: HandPass,
     report: &mut Report,
-) -> (RefreshPass<G>, HandPass, [Figure; 3])
+) -> (RefreshPass<G>, HandPass, [i128; 3])
     requires floors { collector.floors ≡ (sizes_of G.program.config).floors }
     requires fire { (i : ℕ) → G.fire i ≡ false }
     ensures { (result.1.table ≡ collector.table) × (result.1.floors ≡ collector.floors) }
@@ -36,28 +36,13 @@ fn refresh<G: Naming, R: Wait>(
     let (pass, image) = station.outputs(rt, pass);
     let fields = image.fields.copied();
     let (pass, collector, refreshed) = station.refresh(rt, pass, fields, collector, report);
-    let figures = [
-        ("Station::drive", driven.is_ok() as i128),
-        ("Station::refresh", refreshed.is_ok() as i128),
-        ("HandPass::hand", collector.hand().len() as i128),
+    let left = collector.hand().len();
+    let answers = [
+        driven.is_ok() as i128,
+        refreshed.is_ok() as i128,
+        left as i128,
     ];
-    (pass, collector, figures)
-}
-
-// What reads it: how many cars run, and how many there are.
-fn readings<G: Naming, R: Wait>(
-    rt: &R,
-    station: &Station<G>,
-    pass: RefreshPass<G>,
-) -> (RefreshPass<G>, [Figure; 2]) {
-    let (pass, image) = station.outputs(rt, pass);
-    let running = image.outputs.running_count();
-    let cars = station.verified().sizes().cars;
-    let figures = [
-        ("Station::outputs", running as i128),
-        ("Station::verified", cars as i128),
-    ];
-    (pass, figures)
+    (pass, collector, answers)
 }
 
 // What a closed station leaves: how many entries.
@@ -65,18 +50,31 @@ fn close<G: Naming>(
     station: Station<G>,
     passes: Vec<TaskPass<G>>,
     pass: RefreshPass<G>,
-) -> [Figure; 2] {
+) -> usize {
     let Closed { verified, book } = station.close(passes, pass);
     let entries = book.journal().len();
     verified.release();
     book.release();
-    [("Station::close", entries as i128), ALLOCATION]
+    entries
 }
 
-// Two refreshes, a scan of each task, a start that finds the journal full, what reads the station, and its close. The collector's pass comes
-// back.
+// Four scans: of each task, and one that finds the journal full.
+fn scans<G: Naming, R: Print + Wait>(
+    rt: &R,
+    station: &Station<G>,
+    passes: &mut Vec<TaskPass<G>>,
+    report: &mut Report,
+) {
+    let calls = "Station::start and commit, told";
+    print(rt, calls, &next_scan(rt, station, passes, report));
+    print(rt, calls, &next_scan(rt, station, passes, report));
+    print(rt, calls, &next_scan(rt, station, passes, report));
+    print(rt, calls, &next_scan(rt, station, passes, report));
+}
+
+// Two refreshes, the scans, what reads the station, and its close. The collector's pass comes back.
 fn used<G: Naming, R: Print + Wait>(
-    lines: &mut Lines<'_, R>,
+    rt: &R,
     station: Station<G>,
     passes: Vec<TaskPass<G>>,
     pass: RefreshPass<G>,
@@ -88,21 +86,24 @@ fn used<G: Naming, R: Print + Wait>(
     ensures { (result.table ≡ collector.table) × (result.floors ≡ collector.floors) }
 {
     let mut passes = passes;
-    let (pass, collector, figures) = refresh(lines.stream, &station, pass, collector, report);
-    lines.print(&figures);
-    next_scan(lines, &station, &mut passes, report);
-    next_scan(lines, &station, &mut passes, report);
-    next_scan(lines, &station, &mut passes, report);
-    next_scan(lines, &station, &mut passes, report);
-    let (pass, figures) = readings(lines.stream, &station, pass);
-    lines.print(&figures);
-    lines.print(&close(station, passes, pass));
+    no_allocation(rt);
+    let (pass, collector, answers) = refresh(rt, &station, pass, collector, report);
+    print(rt, "Station::drive, refresh, HandPass::hand", &answers);
+    scans(rt, &station, &mut passes, report);
+    let cars = station.verified().sizes().cars;
+    let entries = close(station, passes, pass);
+    print(
+        rt,
+        "Station::verified, close",
+        &[cars as i128, entries as i128],
+    );
+    allocation(rt);
     collector
 }
 
 // The station of a program, and each of its calls. The collector's pass comes back.
 fn in_station<G: Naming, R: Print + Wait>(
-    lines: &mut Lines<'_, R>,
+    rt: &R,
     alloc: Global,
     blanks: Blanks,
     verified: Verified,
@@ -118,32 +119,15 @@ fn in_station<G: Naming, R: Print + Wait>(
     match Station::<G>::new(alloc, blanks, verified, ENTRIES) {
         Err(refusal) => (collector, Err(refusal)),
         Ok((station, passes, pass)) => {
-            let cars = station.verified().sizes().cars;
-            lines.print(&[
-                ("load", cars as i128),
-                ("Station::new", passes.len() as i128),
-                NO_ALLOCATION,
-            ]);
-            let collector = used(lines, station, passes, pass, collector, report);
+            let collector = used(rt, station, passes, pass, collector, report);
             (collector, Ok(()))
-        }
-    }
-}
-
-// The program of the text.
-fn loaded<R: Print>(lines: &mut Lines<'_, R>, alloc: Global) -> Result<Verified, Refusal> {
-    match load(alloc, TEXT) {
-        Ok(verified) => Ok(verified),
-        Err(_) => {
-            lines.refused("load");
-            load(alloc, TEXT)
         }
     }
 }
 
 // The same, of a program with as many floors as the collector has.
 fn over<R: Print + Wait>(
-    lines: &mut Lines<'_, R>,
+    rt: &R,
     alloc: Global,
     verified: Verified,
     collector: HandPass,
@@ -156,12 +140,12 @@ fn over<R: Print + Wait>(
         verified.release();
         return (collector, Ok(()));
     }
-    in_station::<Brand, R>(lines, alloc, Blanks::new(), verified, collector, report)
+    in_station::<Brand, R>(rt, alloc, Blanks::new(), verified, collector, report)
 }
 
 // The station of the program of the text, and each of its calls.
 fn once<R: Print + Wait>(
-    lines: &mut Lines<'_, R>,
+    rt: &R,
     alloc: Global,
     collector: HandPass,
     report: &mut Report,
@@ -169,15 +153,15 @@ fn once<R: Print + Wait>(
     requires { collector.floors ≡ FLOORS }
     ensures { (result.0.table ≡ collector.table) × (result.0.floors ≡ collector.floors) }
 {
-    match loaded(lines, alloc) {
-        Ok(verified) => over(lines, alloc, verified, collector, report),
+    match load(alloc, TEXT) {
+        Ok(verified) => over(rt, alloc, verified, collector, report),
         Err(refusal) => (collector, Err(refusal)),
     }
 }
 
-/// The same. A station that is refused takes its program with it, so that is loaded once more too.
+/// The same. What is refused memory is done once more: a station that is refused takes its program with it.
 pub fn all<R: Print + Wait>(
-    lines: &mut Lines<'_, R>,
+    rt: &R,
     alloc: Global,
     collector: HandPass,
     report: &mut Report,
@@ -185,10 +169,9 @@ pub fn all<R: Print + Wait>(
     requires { collector.floors ≡ FLOORS }
     ensures { (result.0.table ≡ collector.table) × (result.0.floors ≡ collector.floors) }
 {
-    let (collector, done) = once(lines, alloc, collector, report);
+    let (collector, done) = once(rt, alloc, collector, report);
     if done.is_ok() {
         return (collector, done);
     }
-    lines.refused("Station::new");
-    once(lines, alloc, collector, report)
+    once(rt, alloc, collector, report)
 }
