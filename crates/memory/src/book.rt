@@ -1,6 +1,6 @@
 // The calls of the book of one owner.
 
-ghost use Rattle.std.specs.Prelude.{◌≡◌, IfSome};
+ghost use Rattle.std.specs.Prelude.{◌≡◌};
 ghost use Rattle.il_machine.specs.Scanning.{HasTask};
 ghost use Rattle.il_machine.specs.Standing.{IsOf};
 
@@ -15,8 +15,8 @@ use lift_spec::report::Report;
 use std::alloc::{AllocError, Global};
 use std::io::Print;
 
-/// How many entries the journal has room for: those of a refresh and of two scans.
-const ENTRIES: usize = 5;
+/// How many entries the journal has room for: those of a refresh and of a scan.
+const ENTRIES: usize = 3;
 
 // A refresh: whether it is done.
 fn refresh(verified: &Verified, book: &mut Book, report: &mut Report) -> bool
@@ -27,34 +27,13 @@ fn refresh(verified: &Verified, book: &mut Book, report: &mut Report) -> bool
         .is_ok()
 }
 
-// A scan of car 1 begins, runs and is committed. The store comes back if it is.
+// A scan of car 1 begins, runs and is committed: whether it is.
 fn commit(
     verified: &Verified,
     book: &mut Book,
     store: Store,
     report: &mut Report,
-) -> Option<Store>
-    requires program { verified.now.config ≡ book.old.config }
-    requires there { HasTask verified.now.config 1 }
-    requires of { IsOf verified.now.config 1 store }
-    ensures same { book.new.config ≡ book.old.config }
-    ensures of { IfSome result (IsOf verified.now.config 1) }
-{
-    let begun = match book.start(verified, 1, store) {
-        Ok(begun) => begun,
-        Err(_) => return None,
-    };
-    match book.commit(verified, 1, scan(verified, begun), report) {
-        Ok(store) => Some(store),
-        Err((_, scanned)) => {
-            let _store = scanned.into_store();
-            None
-        }
-    }
-}
-
-// The same, of a scan that is known to be of the book's program: whether it is committed.
-fn commit_own(verified: &Verified, book: &mut Book, store: Store, report: &mut Report) -> bool
+) -> bool
     requires program { verified.now.config ≡ book.old.config }
     requires there { HasTask verified.now.config 1 }
     requires of { IsOf verified.now.config 1 store }
@@ -64,25 +43,12 @@ fn commit_own(verified: &Verified, book: &mut Book, store: Store, report: &mut R
         Ok(begun) => begun,
         Err(_) => return false,
     };
-    match book.commit_own(verified, 1, scan(verified, begun), report) {
+    match book.commit(verified, 1, scan(verified, begun), report) {
         Ok(_store) => true,
         Err((_, scanned)) => {
             let _store = scanned.into_store();
             false
         }
-    }
-}
-
-// Both, one after the other: whether the second is committed.
-fn commit_both(verified: &Verified, book: &mut Book, store: Store, report: &mut Report) -> bool
-    requires program { verified.now.config ≡ book.old.config }
-    requires there { HasTask verified.now.config 1 }
-    requires of { IsOf verified.now.config 1 store }
-    ensures { book.new.config ≡ book.old.config }
-{
-    match commit(verified, book, store, report) {
-        Some(store) => commit_own(verified, book, store, report),
-        None => false,
     }
 }
 
@@ -101,7 +67,7 @@ fn readings(verified: &Verified, book: &Book) -> [i128; 6]
     ]
 }
 
-/// Each call, and those of the trace of its journal: whether a refresh is done, and two scans of car 1; then what reads the book.
+/// Each call, and those of the trace of its journal: whether a refresh is done, and a scan of car 1; then what reads the book.
 pub fn all<R: Print>(
     rt: &R,
     alloc: Global,
@@ -114,11 +80,11 @@ pub fn all<R: Print>(
     let mut book = Book::new(alloc, verified, ENTRIES)?;
     no_allocation(rt);
     let is_refreshed = refresh(verified, &mut book, report);
-    let are_committed = commit_both(verified, &mut book, store, report);
+    let is_committed = commit(verified, &mut book, store, report);
     print(
         rt,
-        "Book::refresh, commit and commit_own",
-        &[is_refreshed as i128, are_committed as i128],
+        "Book::refresh, start and commit",
+        &[is_refreshed as i128, is_committed as i128],
     );
     print(
         rt,

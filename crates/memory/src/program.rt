@@ -29,35 +29,25 @@ fn loaded(alloc: Global) -> Result<Verified, Refusal> {
     }
 }
 
-// What the units cost in all.
-fn cost(verified: &Verified) -> u32 {
-    let mut all = 0u32;
-    for unit in verified.units() {
-        all = all.wrapping_add(unit.cost);
-    }
-    all
-}
-
-// What the scans of the tasks cost in all.
-fn budget(verified: &Verified) -> u32 {
-    let mut all = 0u32;
-    for task in verified.tasks() {
-        all = all.wrapping_add(task.budget);
-    }
-    all
-}
-
-// What reads it.
+// What reads it; of the units and of the tasks the first one's cost.
 fn readings(verified: &Verified) -> [i128; 7] {
     let opening = verified.opening_globals().numbers();
+    let cost = match verified.units().next() {
+        Some(unit) => unit.cost,
+        None => 0,
+    };
+    let budget = match verified.tasks().next() {
+        Some(task) => task.budget,
+        None => 0,
+    };
     [
         verified.config().floors.value as i128,
         verified.sizes().cars as i128,
         verified.has_task(2) as i128,
         verified.globals().len() as i128,
         opening.len() as i128,
-        cost(verified) as i128,
-        budget(verified) as i128,
+        cost as i128,
+        budget as i128,
     ]
 }
 
@@ -79,9 +69,6 @@ fn of_car<R: Print>(
 ) -> Result<(), AllocError>
     requires { HasTask verified.now.config 1 }
 {
-    if scans::of_car(rt, alloc, verified).is_err() {
-        scans::of_car(rt, alloc, verified)?;
-    }
     if group::all(rt, alloc, verified, report).is_err() {
         group::all(rt, alloc, verified, report)?;
     }

@@ -5,7 +5,7 @@ ghost use Rattle.il_machine.specs.Scanning.{HasTask};
 ghost use Rattle.il_machine.specs.Standing.{IsOf};
 
 use crate::lines::{allocation, no_allocation, print};
-use il_machine::{OpenScan, Stepped, Store, Verified, finish, scan, step};
+use il_machine::{Stepped, Store, Verified, finish, step};
 use std::alloc::{AllocError, Global};
 use std::io::Print;
 
@@ -38,33 +38,6 @@ pub fn of_group<R: Print>(rt: &R, alloc: Global, verified: &Verified) -> Result<
         rt,
         "step, finish, Store::assigned",
         &[goes_on as i128, steps as i128, assigned as i128],
-    );
-    allocation(rt);
-    Ok(())
-}
-
-/// A scan of car 1 at once, compared with a store that stands at its start.
-pub fn of_car<R: Print>(rt: &R, alloc: Global, verified: &Verified) -> Result<(), AllocError>
-    requires { HasTask verified.now.config 1 }
-{
-    let begun = Store::new(alloc, verified, 1)?;
-    let other = Store::new(alloc, verified, 1)?;
-    no_allocation(rt);
-    let scanned = scan(verified, OpenScan::of(begun));
-    scanned.is_scan();
-    let is_of = scanned.is_of(verified);
-    let began_as = scanned.began_as(verified, &other);
-    let store = scanned.into_store();
-    let serve = store.wishes(verified).serve;
-    print(
-        rt,
-        "Scanned::is_of, began_as, into_store, Store::wishes",
-        &[
-            is_of as i128,
-            began_as as i128,
-            store.task() as i128,
-            serve as i128,
-        ],
     );
     allocation(rt);
     Ok(())

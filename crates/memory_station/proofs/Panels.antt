@@ -1,5 +1,5 @@
 -- A panel's pass that was taken out is put back.
-use Rattle.std.proofs.Common.{◌≡◌, ℕ, zero, suc, ◌<◌, List, [], ◌∷◌, ◌++◌, length, All, refl, ap, sym, ◌∙◌, absurd, arith}
+use Rattle.std.proofs.Common.{◌≡◌, ℕ, zero, suc, ◌<◌, List, [], ◌∷◌, ◌++◌, length, All, refl, ap, sym, ◌∙◌, arith}
 use Rattle.lift_desk.specs.Passes.{Panel, Layout, AreAllPanels}
 use Rattle.lift_desk.proofs.Closing.{all-last}
 

@@ -1,6 +1,6 @@
 // The calls of a desk and of its passes.
 
-ghost use Rattle.std.specs.Prelude.{◌≡◌, ◌≤◌, IfOk};
+ghost use Rattle.std.specs.Prelude.{◌≡◌, ◌≤◌};
 ghost use Rattle.lift_desk.specs.Passes.{AreAllPanels};
 
 use crate::lines::{allocation, no_allocation, print};
@@ -12,18 +12,6 @@ use lift_spec::report::Report;
 use std::alloc::Global;
 use std::io::Print;
 use std::sync::Wait;
-
-// An empty desk, with two panels on each floor. One that is refused memory is made once more.
-fn opened(alloc: Global) -> Result<(Desk, Vec<PanelPass>, HandPass), Refusal>
-    ensures desk { IfOk result (λ o. o.0.floors ≡ FLOORS) }
-    ensures hand { IfOk result (λ o. (o.2.table ≡ o.0.table) × (o.2.floors ≡ FLOORS)) }
-    ensures panels { IfOk result (λ o. AreAllPanels o.0 o.1.items) }
-{
-    match Desk::new(alloc, FLOORS, 2) {
-        Ok(opened) => Ok(opened),
-        Err(_) => Desk::new(alloc, FLOORS, 2),
-    }
-}
 
 // A panel presses a call: whether it is answered so.
 fn press(desk: &Desk, panel: PanelPass, to: u8, wanted: Pressed) -> (PanelPass, bool)
@@ -81,9 +69,9 @@ fn gather(desk: &Desk, pass: HandPass) -> (HandPass, [i128; 3])
     (pass, [word as i128, count as i128, kept as i128])
 }
 
-/// Each call, with those of a station that takes calls from the collector's hand before the desk is closed.
+/// Each call over a desk with two panels on each floor, with those of a station that takes calls from the collector's hand before the desk is closed.
 pub fn all<R: Print + Wait>(rt: &R, alloc: Global, report: &mut Report) -> Result<(), Refusal> {
-    let (desk, mut panels, pass) = opened(alloc)?;
+    let (desk, mut panels, pass) = Desk::new(alloc, FLOORS, 2)?;
     no_allocation(rt);
     let are_pressed = press_last(&desk, &mut panels);
     let (pass, answers) = gather(&desk, pass);

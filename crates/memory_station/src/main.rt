@@ -11,8 +11,12 @@ mod text;
 use lift_spec::report::Report;
 use std::io;
 
+// What is refused memory is done once more.
 fn main(rt: HostRuntime) -> io::Result<()> {
-    if desk::all(&rt, rt.alloc(), &mut Report::new()).is_err() {
+    let mut report = Report::new();
+    if desk::all(&rt, rt.alloc(), &mut report).is_err()
+        && desk::all(&rt, rt.alloc(), &mut report).is_err()
+    {
         return Err(io::ErrorKind::Other.into());
     }
     Ok(())
