@@ -28,12 +28,7 @@ fn refresh(verified: &Verified, book: &mut Book, report: &mut Report) -> bool
 }
 
 // A scan of car 1 begins, runs and is committed: whether it is.
-fn commit(
-    verified: &Verified,
-    book: &mut Book,
-    store: Store,
-    report: &mut Report,
-) -> bool
+fn commit(verified: &Verified, book: &mut Book, store: Store, report: &mut Report) -> bool
     requires program { verified.now.config ≡ book.old.config }
     requires there { HasTask verified.now.config 1 }
     requires of { IsOf verified.now.config 1 store }
