@@ -4,11 +4,14 @@
 
 mod book;
 mod calls;
+mod desk;
 mod group;
 mod interlock;
 mod lines;
 mod program;
 mod scans;
+mod station;
+mod station_scans;
 mod text;
 mod trace;
 mod world;
@@ -19,6 +22,7 @@ use lift_spec::report::Report;
 use std::alloc::Global;
 use std::io;
 use std::io::Print;
+use std::sync::Wait;
 
 // The calls of values.
 fn of_values<R: Print>(rt: &R) {
@@ -43,11 +47,14 @@ fn of_values<R: Print>(rt: &R) {
 }
 
 // All calls. What is refused memory is done once more.
-fn run<R: Print>(rt: &R, alloc: Global, report: &mut Report) -> Result<(), Refusal> {
+fn run<R: Print + Wait>(rt: &R, alloc: Global, report: &mut Report) -> Result<(), Refusal> {
     of_values(rt);
     program::all(rt, alloc, report)?;
     if world::all(rt, alloc, report).is_err() {
         world::all(rt, alloc, report)?;
+    }
+    if desk::all(rt, alloc, report).is_err() {
+        desk::all(rt, alloc, report)?;
     }
     Ok(())
 }

@@ -4,7 +4,7 @@ ghost use Rattle.std.specs.Prelude.{◌≡◌, ℕ, false, slice_index_or};
 ghost use Rattle.lift_spec.specs.Image.{sizes_of};
 
 use crate::lines::{allocation, no_allocation, print};
-use crate::scans::next_scan;
+use crate::station_scans::next_scan;
 use crate::text::{FLOORS, TEXT};
 use il_machine::Verified;
 use il_spec::fault::Refusal;
@@ -46,11 +46,7 @@ fn refresh<G: Naming, R: Wait>(
 }
 
 // What a closed station leaves: how many entries.
-fn close<G: Naming>(
-    station: Station<G>,
-    passes: Vec<TaskPass<G>>,
-    pass: RefreshPass<G>,
-) -> usize {
+fn close<G: Naming>(station: Station<G>, passes: Vec<TaskPass<G>>, pass: RefreshPass<G>) -> usize {
     let Closed { verified, book } = station.close(passes, pass);
     let entries = book.journal().len();
     verified.release();

@@ -1,2 +1,3 @@
 mod Fitting
 mod Opens
+mod Panels

@@ -1,8 +1,8 @@
 use Rattle.std.proofs.Common.{◌≡◌, subst, sym, ◌∙◌}
 use Rattle.lift_desk.specs.Passes.{AreAllPanels}
 use Rattle.lift_desk.proofs.Closing.{all-last}
-use Rattle.memory_station.proofs.Panels.{put_back}
-use Rattle.memory_station.proofs.desk.press_last.Goals as goal
+use Rattle.memory_calls.proofs.Panels.{put_back}
+use Rattle.memory_calls.proofs.desk.press_last.Goals as goal
 
 pub press_each-panel-requires-clause-table : goal.press_each-panel-requires-clause-table
 press_each-panel-requires-clause-table c =
