@@ -1,0 +1,3 @@
+mod Fitting
+mod Opens
+mod Panels

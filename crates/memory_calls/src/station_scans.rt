@@ -1,0 +1,66 @@
+// The scans at a station.
+
+ghost use Rattle.std.specs.Prelude.{◌≡◌};
+
+use il_machine::{OpenScan, Scanned, scan};
+use lift_journal::fault::StationFault;
+use lift_spec::report::Report;
+use lift_station::{Naming, Station, TaskPass};
+use std::sync::Wait;
+
+// The number of the fault that refused a commit, 0 for none.
+fn fault(committed: Result<(), (StationFault, Scanned<'_>)>) -> u8 {
+    match committed {
+        Ok(()) => 0,
+        Err((fault, scanned)) => {
+            let _store = scanned.into_store();
+            fault.number()
+        }
+    }
+}
+
+// A scan that has begun runs, and is committed.
+fn run<G: Naming, R: Wait>(
+    rt: &R,
+    station: &Station<G>,
+    pass: TaskPass<G>,
+    begun: OpenScan,
+    report: &mut Report,
+) -> (TaskPass<G>, u8)
+    requires { begun.config ≡ G.program.config }
+{
+    let scanned = scan(station.verified(), begun);
+    let (pass, committed) = station.commit(rt, pass, scanned, report);
+    (pass, fault(committed))
+}
+
+// A scan of a task begins, runs and is committed: the number of the fault that refused it, 0 for none.
+fn drive<G: Naming, R: Wait>(
+    rt: &R,
+    station: &Station<G>,
+    pass: TaskPass<G>,
+    report: &mut Report,
+) -> (TaskPass<G>, u8) {
+    let (pass, begun) = station.start(rt, pass);
+    match begun {
+        Ok(begun) => run(rt, station, pass, begun, report),
+        Err(fault) => (pass, fault.number()),
+    }
+}
+
+/// The next task's scan, and the car that is then told the call under ticket 1. The pass goes to the end.
+pub fn next_scan<G: Naming, R: Wait>(
+    rt: &R,
+    station: &Station<G>,
+    passes: &mut Vec<TaskPass<G>>,
+    report: &mut Report,
+) -> [i128; 2] {
+    if passes.is_empty() {
+        return [-1, -1];
+    }
+    let pass = passes.remove(0);
+    let (pass, fault) = drive(rt, station, pass, report);
+    passes.push_reserved(pass);
+    let told = station.told(rt, 1).unwrap_or(0);
+    [fault as i128, told as i128]
+}
