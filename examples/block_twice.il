@@ -4,7 +4,7 @@
    input was TRUE. Each instance has variables of its own: OPENING and SHUTTING
    don't know of each other. A block doesn't store into its own inputs, and from
    outside only inputs and outputs can be named.
-   A call costs 1 and what the body costs: HOLD's dearest path has eleven
+   A call costs 1 and what the body costs: HOLD's most expensive path has eleven
    instructions with its return. *)
 
 FUNCTION_BLOCK HOLD
