@@ -35,7 +35,8 @@ pub fn run<R: Threads + Wait + Sync, F: TextFiles, O: Sink, E: Sink>(
     ensures silent { result ≡ Status.Done → Keeps (E.contents err.old) (E.contents err.new) }
 
     // Otherwise the standard error has the one message of the words' fault, or of a standard output
-    // that failed, and unless the standard output failed nothing was written there.
+    // that failed, and below a refusal that is to be explained its line and what its number means. Unless the standard
+    // output failed, nothing was written there.
     ensures told { (result ≡ Status.Done) ⊎ HasTold (IsRunOutcome (F.gives files.now) (F.fails files.now) (IsTextOutcome (F.gives files.now) (F.fails files.now)) (map string_bytes words.now)) (IsBelowRun (F.gives files.now) (map string_bytes words.now) explains) (O.has_failed out.new) result (Writes (E.contents err.old) (E.contents err.new) (E.has_failed err.new)) }
     ensures nothing { (result ≡ Status.Done) ⊎ (((result ≡ Status.CannotWrite) × (O.has_failed out.new ≡ true)) ⊎ Keeps (O.contents out.old) (O.contents out.new)) }
     ensures front { result ≡ Status.CannotWrite → HasWritten (IsRunOutcome (F.gives files.now) (F.fails files.now) (IsTextOutcome (F.gives files.now) (F.fails files.now)) (map string_bytes words.now)) (AppendsFront (O.contents out.old) (O.contents out.new)) }

@@ -56,7 +56,7 @@ source_of number (request.Trace command traced) = if nat_lt number 60 then (trac
 
 -- below the refusal of a request stand its line of that file, and what the number means
 abbrev pub IsPlaced : (List ℕ → ℕ → List ℕ → Type 0) → Request → ℕ → ℕ → List ℕ → Type 0
-IsPlaced reads request number line below = (text : List ℕ) × reads (source_of number request).0 (source_of number request).1 text × IsShownBelow (source_of number request).0 text line below
+IsPlaced reads request number line below = (text : List ℕ) × reads (source_of number request).0 (source_of number request).1 text × IsShownBelow (source_of number request).0 text number line below
 
 -- the same by the words, and by the fault; below others stands nothing
 abbrev pub IsPlacedBy : (List ℕ → ℕ → List ℕ → Type 0) → List (List ℕ) → Fault → List ℕ → Type 0

@@ -24,9 +24,18 @@ IsSource text line source = IsLineOf (line - 1) text source ⊎ ((source ≡ [])
 abbrev pub place_text : List ℕ → ℕ → List ℕ
 place_text name line = name ++ (codes ":" ++ (decimal line ++ codes ": "))
 
+-- who says more of a number
+abbrev pub more_text : ℕ → List ℕ
+more_text number = codes "\n`liftplc explain " ++ (decimal number ++ codes "` says more\n")
+
+-- a title, and who says more of the number; or nothing, of a number that has no meaning
+abbrev pub IsMeaning : ℕ → List ℕ → Type 0
+IsMeaning number meaning = (meaning ≡ []) ⊎ ((title : List ℕ) × (meaning ≡ title ++ more_text number))
+
 -- `NAME:LINE: ` and the text of the line; behind them stands what the number means
-pub record IsShownBelow (name text : List ℕ) (line : ℕ) (below : List ℕ) : Type 0 where
+pub record IsShownBelow (name text : List ℕ) (number line : ℕ) (below : List ℕ) : Type 0 where
   pub source : List ℕ
   pub is_source : IsSource text line source
   pub meaning : List ℕ
+  pub is_meaning : IsMeaning number meaning
   pub is : below ≡ place_text name line ++ ((quoted source ++ codes "\n") ++ meaning)

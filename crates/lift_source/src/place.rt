@@ -1,7 +1,7 @@
 // The place of a fault, as it is shown below a refusal.
 
 ghost use Rattle.std.specs.Prelude.{◌≡◌, ◌++◌, ℕ, List, map, codes, IfOk, OnOk};
-ghost use Rattle.lift_source.specs.Places.{IsShownBelow, place_text, shown, quoted};
+ghost use Rattle.lift_source.specs.Places.{IsMeaning, IsShownBelow, more_text, place_text, shown, quoted};
 
 use crate::lines::line_at;
 use itoa::Buffer;
@@ -20,7 +20,7 @@ pub fn below(
     number: u16,
     line: u32,
 ) -> Result<Vec<u8>, AllocError>
-    ensures { IfOk result (λ below. IsShownBelow name.now text.now line below.items) }
+    ensures { IfOk result (λ below. IsShownBelow name.now text.now number line below.items) }
 {
     let mut below = Vec::new(alloc);
     put_place(&mut below, name, line)?;
@@ -72,21 +72,25 @@ fn put_shown(to: &mut Vec<u8>, bytes: &[u8]) -> Result<(), AllocError>
 
 /// What the number means, and who says more.
 fn put_meaning(to: &mut Vec<u8>, number: u16) -> Result<(), AllocError>
-    ensures { OnOk result ((meaning : List ℕ) × (to.new.items ≡ to.old.items ++ meaning)) }
+    ensures { OnOk result ((meaning : List ℕ) × IsMeaning number meaning × (to.new.items ≡ to.old.items ++ meaning)) }
 {
     match title(number) {
-        Some(title) => put_title(to, title, number),
+        Some(title) => {
+            to.extend_from_slice(title.as_bytes())?;
+            put_more(to, number)?;
+            Ok(())
+        }
         None => Ok(()),
     }
 }
 
-/// A title, and who says more.
-fn put_title(to: &mut Vec<u8>, title: &str, number: u16) -> Result<(), AllocError>
-    ensures { OnOk result ((meaning : List ℕ) × (to.new.items ≡ to.old.items ++ meaning)) }
+/// Who says more of a number.
+fn put_more(to: &mut Vec<u8>, number: u16) -> Result<(), AllocError>
+    ensures { OnOk result (to.new.items ≡ to.old.items ++ more_text number) }
 {
     let mut digits = Buffer::new();
-    to.extend_from_slice(title.as_bytes())?;
     to.extend_from_slice(b"\n`liftplc explain ")?;
     to.extend_from_slice(digits.format(number).as_bytes())?;
-    to.extend_from_slice(b"` says more\n")
+    to.extend_from_slice(b"` says more\n")?;
+    Ok(())
 }

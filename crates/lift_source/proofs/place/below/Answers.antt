@@ -13,8 +13,9 @@ returns c =
       source = source;
       is_source = source_is c.args.text.now c.args.line c.saturating_sub.result c.line_at.result c.unwrap_or-source.result _ c.saturating_sub.ensures refl c.unwrap_or-source.ensures c.line_at.ensures.found c.line_at.ensures.none;
       meaning = meaning;
+      is_meaning = c.in_ok-put_meaning.ensures.1;
       is =
-          c.in_ok-put_meaning.ensures.1
+          c.in_ok-put_meaning.ensures.2
           ∙ ap (λ l. l ++ meaning) (c.in_ok-put_quoted.ensures ∙ ap (λ l. l ++ (quoted source ++ 10 ∷ [])) (c.in_ok-put_place.ensures ∙ ap (λ l. l ++ place) c.new-below.ensures.items))
           ∙ append_assoc place (quoted source ++ 10 ∷ []) meaning;
     }
