@@ -55,12 +55,7 @@ impl<'t> Source<'t> {
     }
 
     /// This reserved word with its place, which may be missing, where the tokens begin so.
-    pub fn take_placed(
-        &self,
-        tokens: &mut Tokens,
-        lead: Lead,
-        keyword: Keyword,
-    ) -> Option<Place>
+    pub fn take_placed(&self, tokens: &mut Tokens, lead: Lead, keyword: Keyword) -> Option<Place>
         requires { lead ≡ lead_at self.now tokens.old }
         ensures takes { TakesWord self.now keyword tokens.old result tokens.new }
         ensures shorter { length tokens.new ≤ length tokens.old }
