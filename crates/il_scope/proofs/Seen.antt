@@ -205,6 +205,35 @@ meaning_is config unit q = go (own_variable unit q) (image_name config q) (meant
     go (Some x) i outer = refl
     go None i outer = outer
 
+-- the variable that is found under a name, if the unit sees it
+abbrev pub found_variable : Option (Option Variable) → Option Variable
+found_variable (Some seen) = seen
+found_variable None = None
+
+-- what is no variable of a unit and no image name means no variable
+no_global : (config : Config) (q : Spelling) (v : Variable) → global_binding config q ≡ Some (means.Variable v) → ⊥
+no_global config q v is = go (is_some (unit_number config q)) (is_predeclared config q) is
+  where
+    go : (a b : Bool) → (if a then Some means.Unit else (if b then Some means.Standard else None)) ≡ Some (means.Variable v) → ⊥
+    go true b e = cc
+    go false true e = cc
+    go false false e = cc
+
+meant_variable_is : (config : Config) (q : Spelling) (o : Option (Option Variable)) (m : Option rule.Meaning) → meant_by config q o ≡ option_map (binding_of config) m → found_variable o ≡ option_map (variable_of config) (rule.meant_variable m)
+meant_variable_is config q (Some (Some v)) (Some (MeansVariable w)) is = cc
+meant_variable_is config q (Some (Some v)) (Some (MeansUnit u)) is = cc
+meant_variable_is config q (Some (Some v)) (Some MeansStandard) is = cc
+meant_variable_is config q (Some (Some v)) None is = cc
+meant_variable_is config q (Some None) (Some m) is = cc
+meant_variable_is config q (Some None) None is = refl
+meant_variable_is config q None (Some (MeansVariable w)) is = absurd (no_global config q (variable_of config w) is)
+meant_variable_is config q None (Some (MeansUnit u)) is = refl
+meant_variable_is config q None (Some MeansStandard) is = refl
+meant_variable_is config q None None is = refl
+
+pub variable_is : (config : Config) (unit : ProgramUnit) (q : Spelling) → found_variable (own_seen config unit q) ≡ option_map (variable_of config) (rule.variable_named config unit q)
+variable_is config unit q = meant_variable_is config q (own_seen config unit q) (meaning config unit q) (meaning_is config unit q)
+
 -- SCOPES BY THEIR NUMBERS
 
 pub scope_at : (config : Config) (units : List ProgramUnit) (scopes : List Scope) (k : ℕ) (u : ProgramUnit) (s : Scope) → AreScopes config units scopes → slice_get units k ≡ Some u → slice_get scopes k ≡ Some s → IsScope config u s

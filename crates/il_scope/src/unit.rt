@@ -124,10 +124,7 @@ impl<'n> UnitScope<'n> {
     pub fn variable(&self, name: &str) -> Option<Variable>
         ensures { result ≡ option_map (variable_of self.now.config) (variable_named self.now.config self.now.unit name.now) }
     {
-        match self.meaning(name) {
-            Some(Binding::Variable(variable)) => Some(variable),
-            _ => None,
-        }
+        self.names.variable(self.at, name).copied()
     }
 
     /// The type of the variable that a name means.

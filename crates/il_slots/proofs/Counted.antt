@@ -1,5 +1,5 @@
 -- Sizes and offsets are those of the layout.
-use Rattle.std.proofs.Common.{◌≡◌, ℕ, zero, suc, ◌+◌, ◌<◌, get_or, Bool, true, false, List, [], ◌∷◌, ◌++◌, map, length, slice_get, refl, sym, ap, ap₂, ◌∙◌, Option, Some, None, drop, append_assoc, arith, length-append}
+use Rattle.std.proofs.Common.{◌≡◌, ℕ, zero, suc, ◌+◌, ◌<◌, ◌≤◌, get_or, Bool, true, false, List, [], ◌∷◌, ◌++◌, map, length, slice_get, refl, sym, ap, ap₂, ◌∙◌, Option, Some, None, drop, append_assoc, arith, length-append}
 use Rattle.std.specs.Prelude.{Result, Ok, Err, IfOk, option_map, option_and_then, bytes_eq, if◌then◌else◌}
 use Rattle.std.proofs.lemmas.Option.{same_Some}
 use Rattle.il_spec.specs.declared.tree.Form.{Form}
@@ -290,3 +290,19 @@ next_made f xs i ts t after all low made grown rest =
 
 pub sizes_found : (c : Config) (n : ℕ) (lists : List (List Variable)) (ss : List ℕ) → n ≡ length c.units → lists ≡ block_lists c → ss ≡ sizes_to 16 n lists → ss ≡ sizes_of c
 sizes_found c n lists ss count is made = made ∙ ap₂ (sizes_to 16) count is
+
+-- THE LISTS OF STANDARD BLOCKS
+
+drop_front : {A : Type 0} (xs ys : List A) → drop (length xs) (xs ++ ys) ≡ ys
+drop_front [] ys = refl
+drop_front (x ∷ xs) ys = drop_front xs ys
+
+-- they stand behind those of the units
+pub standard_behind : (c : Config) (n : ℕ) (lists : List (List Variable)) → n ≡ length c.units → lists ≡ block_lists c → drop n lists ≡ standard_lists
+standard_behind c n lists count is =
+    ap₂ (λ k ls. drop k ls) (count ∙ sym (length_mapped (λ u. map (shown c) (own_entities u)) c.units)) (is ∙ added_all (own_lists c) standard_lists)
+    ∙ drop_front (own_lists c) standard_lists
+
+pub standard_room : (c : Config) (n : ℕ) (lists : List (List Variable)) → n ≡ length c.units → lists ≡ block_lists c → n ≤ length lists
+standard_room c n lists count is =
+    omega (arith, count, ap length (is ∙ added_all (own_lists c) standard_lists), length-append (own_lists c) standard_lists, length_mapped (λ u. map (shown c) (own_entities u)) c.units)

@@ -1,13 +1,12 @@
 // The offsets of all names.
 
 ghost use Rattle.std.specs.Prelude.{◌≡◌, ◌<◌, ◌^◌, length, map, slice_get, Some, IfOk, OnOk};
-ghost use Rattle.il_slots.specs.Making.{shown, added, standard_lists, block_lists, sizes_of, offsets_of, unit_offsets, all_offsets};
+ghost use Rattle.il_slots.specs.Making.{shown, added, block_lists, sizes_of, offsets_of, unit_offsets, all_offsets};
 ghost use Rattle.il_spec.specs.declared.tree.Unit.{Unit as ProgramUnit};
 ghost use Rattle.il_run.specs.Meaning.{own_entities};
 
 use crate::offsets::offsets_of;
 use crate::sizes::{block_lists, block_sizes};
-use crate::standard::add_lists;
 use crate::variables::{Variable, other_variables};
 use il_scope::Scoped;
 use il_spec::tree::Unit;
@@ -90,21 +89,6 @@ fn add_standard(
     Ok(())
 }
 
-// Adds the offsets of the words of all standard blocks.
-fn add_standards(
-    alloc: Global,
-    units: usize,
-    sizes: &[usize],
-    tables: &mut Items<Table<usize>>,
-) -> Result<(), AllocError>
-    requires { units < 2 ^ 63 }
-    ensures { OnOk result (tables.new ≡ added tables.old (map (λ vs. offsets_of units sizes.now vs) standard_lists)) }
-{
-    let mut lists = Items::new(alloc);
-    add_lists(alloc, &mut lists)?;
-    add_standard(alloc, units, sizes, lists.as_slice(), tables)
-}
-
 /// The offsets of each unit's names, and behind them those of the words of the standard blocks.
 #[tactic(auto, using(crate::proofs::Counted::sizes_found))]
 pub fn all_offsets(alloc: Global, names: &Scoped) -> Result<Items<Table<usize>>, AllocError>
@@ -115,6 +99,7 @@ pub fn all_offsets(alloc: Global, names: &Scoped) -> Result<Items<Table<usize>>,
     let lists = block_lists(alloc, names)?;
     let sizes = block_sizes(alloc, units, lists.as_slice())?;
     let mut tables = units_offsets(alloc, names, sizes.as_slice(), lists.as_slice())?;
-    add_standards(alloc, units, sizes.as_slice(), &mut tables)?;
+    let standard = &lists.as_slice()[units..];
+    add_standard(alloc, units, sizes.as_slice(), standard, &mut tables)?;
     Ok(tables)
 }

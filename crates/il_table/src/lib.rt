@@ -1,7 +1,7 @@
 //! Tables: an entry for each of some names.
 #![tactic(auto)]
 
-ghost use Rattle.std.specs.Prelude.{◌≡◌, OnOk, OnErr};
+ghost use Rattle.std.specs.Prelude.{◌≡◌, OnOk, OnErr, option_copied};
 ghost use Rattle.il_table.specs.NameMap as map;
 
 use indexmap::IndexMap;
@@ -41,15 +41,23 @@ impl<X: Copy> Table<X> {
         }
     }
 
+    /// The entry of a name, where it is kept.
+    #[inline(always)]
+    pub fn find(&self, name: &str) -> Option<&X>
+        ensures { option_copied result ≡ map.get self.now name.now }
+    {
+        if self.map.is_empty() {
+            return None;
+        }
+        self.map.get(name)
+    }
+
     /// The entry of a name.
     #[inline(always)]
     pub fn get(&self, name: &str) -> Option<X>
         ensures { result ≡ map.get self.now name.now }
     {
-        if self.map.is_empty() {
-            return None;
-        }
-        self.map.get(name).copied()
+        self.find(name).copied()
     }
 
     /// Adds a name with its entry, or gives it the entry where it is there.
