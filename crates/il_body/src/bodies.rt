@@ -2,6 +2,7 @@
 
 ghost use Rattle.std.specs.Prelude.{◌≡◌, ◌<◌, ◌≤◌, length, IsTrue, IsFalse, IfOk, IfErr};
 ghost use Rattle.il_spec.specs.Grammar.{TheLineEnd, depth_after, needs_load};
+ghost use Rattle.il_read.specs.Lead.{lead_at};
 ghost use Rattle.il_read.specs.Reads.{Reads, Refuses, Eats};
 ghost use Rattle.il_read.specs.declared.stop.Stop.TheVariants.{Memory};
 ghost use Rattle.il_body.specs.Bodies.{closes_lead, leaves_lead, loads_lead, may_begin, SpellsPlaced, HasLabels, TakesEnd, SpellsNext, Shortens, IsLast, SpellsSteps, SpellsSmallBody};
@@ -87,15 +88,18 @@ fn has_room(depth: usize) -> bool
     depth < 16
 }
 
-// An instruction at its place, in so many parentheses.
+// An instruction that begins so at its place, in so many parentheses.
+#[inline(always)]
 fn placed(
     source: &Source,
     tokens: &mut Tokens,
+    lead: Lead,
     depth: usize,
     load: bool,
     full: bool,
 ) -> Result<(Place, Instruction), Stop>
-    requires { depth ≤ 16 }
+    requires depth { depth ≤ 16 }
+    requires lead { lead ≡ lead_at source.now tokens.old }
     ensures reads { IfOk result (λ x. Reads (SpellsPlaced source.now depth load full) tokens.old x tokens.new) }
     ensures refused { IfErr result (λ e. Refuses (SpellsPlaced source.now depth load full) tokens.old e) }
     ensures shorter { IfOk result (λ _. length tokens.new < length tokens.old) }
@@ -103,7 +107,6 @@ fn placed(
     let Some(place) = tokens.place() else {
         return Err(tokens.outside());
     };
-    let lead = source.lead(tokens);
     if !may_begin(depth, load, lead) {
         return Err(tokens.outside());
     }
@@ -130,6 +133,7 @@ fn eat_line_end(tokens: &mut Tokens) -> bool
 }
 
 // Labels, and whether the last stands alone on its line.
+#[inline(always)]
 fn labels(source: &Source, tokens: &mut Tokens) -> Result<(Items<Named>, bool), Stop>
     ensures labels { IfOk result (λ x. HasLabels source.now tokens.old x.0 x.1 tokens.new) }
     ensures shorter { IfOk result (λ _. length tokens.new ≤ length tokens.old) }
@@ -147,18 +151,27 @@ fn labels(source: &Source, tokens: &mut Tokens) -> Result<(Items<Named>, bool), 
     Ok((labels, true))
 }
 
-// The word that ends the body, where it may stand.
-fn eat_end(source: &Source, tokens: &mut Tokens, last: Keyword, alone: bool) -> Option<Place>
+// The word that ends the body, where it may stand and the tokens begin so.
+#[inline(always)]
+fn eat_end(
+    source: &Source,
+    tokens: &mut Tokens,
+    lead: Lead,
+    last: Keyword,
+    alone: bool,
+) -> Option<Place>
+    requires { lead ≡ lead_at source.now tokens.old }
     ensures takes { TakesEnd source.now last alone tokens.old result tokens.new }
     ensures shorter { length tokens.new ≤ length tokens.old }
 {
     if !alone {
         return None;
     }
-    source.eat_placed(tokens, last)
+    source.take_placed(tokens, lead, last)
 }
 
 // An instruction with its labels or the end of the body, outside parentheses.
+#[inline(always)]
 fn outer(
     source: &Source,
     tokens: &mut Tokens,
@@ -171,10 +184,11 @@ fn outer(
     ensures shorter { IfOk result (λ x. Shortens tokens.old x tokens.new) }
 {
     let (labels, alone) = labels(source, tokens)?;
-    if let Some(place) = eat_end(source, tokens, last, alone) {
+    let lead = source.lead(tokens);
+    if let Some(place) = eat_end(source, tokens, lead, last, alone) {
         return Ok(Entry::End { labels, place });
     }
-    let (place, instruction) = placed(source, tokens, 0, load, full)?;
+    let (place, instruction) = placed(source, tokens, lead, 0, load, full)?;
     Ok(Entry::Step(Step {
         labels,
         place,
@@ -183,6 +197,7 @@ fn outer(
 }
 
 // An instruction with its labels, or the end of the body.
+#[inline(always)]
 fn next_entry(
     source: &Source,
     tokens: &mut Tokens,
@@ -199,7 +214,8 @@ fn next_entry(
     if depth == 0 {
         return outer(source, tokens, last, load, full);
     }
-    let (place, instruction) = placed(source, tokens, depth, load, full)?;
+    let lead = source.lead(tokens);
+    let (place, instruction) = placed(source, tokens, lead, depth, load, full)?;
     Ok(Entry::Step(Step {
         labels: Items::new(source.alloc()),
         place,

@@ -178,29 +178,16 @@ fn laid_globals(alloc: Global, blocks: &Blocks) -> Result<TaskCode, AllocError>
     TaskCode::of(alloc, openings.as_slice(), &[], Items::new(alloc))
 }
 
-/// The slots of the globals.
-pub fn globals(alloc: Global, names: &Scoped) -> Result<TaskCode, AllocError>
-    requires { length names.now.units < 2 ^ 63 }
-    ensures { IfOk result (λ t. t ≡ laid_task (openings_to 0 names.now [] (entities names.now.globals)) [] []) }
-{
-    let lists = block_lists(alloc, names)?;
-    let blocks = Blocks {
-        names,
-        units: names.config().units.as_slice().len(),
-        lists: lists.as_slice(),
-    };
-    laid_globals(alloc, &blocks)
-}
-
-/// The slots of the task of each PROGRAM line, in the written order.
-pub fn tasks(
+/// The slots of the task of each PROGRAM line, in the written order, and those of the globals.
+pub fn tasks_and_globals(
     alloc: Global,
     ordered: &Ordered,
     names: &Scoped,
-) -> Result<Items<TaskCode>, AllocError>
+) -> Result<(Items<TaskCode>, TaskCode), AllocError>
     requires same { names.now ≡ ordered.now }
     requires count { length names.now.units < 2 ^ 63 }
-    ensures { IfOk result (λ ts. AreTasksOf names.now names.now.programs ts) }
+    ensures tasks { IfOk result (λ p. AreTasksOf names.now names.now.programs p.0) }
+    ensures globals { IfOk result (λ p. p.1 ≡ laid_task (openings_to 0 names.now [] (entities names.now.globals)) [] []) }
 {
     let lists = block_lists(alloc, names)?;
     let blocks = Blocks {
@@ -209,5 +196,7 @@ pub fn tasks(
         lists: lists.as_slice(),
     };
     let lines = names.config().programs.as_slice();
-    line_tasks(alloc, &blocks, ordered, lines)
+    let tasks = line_tasks(alloc, &blocks, ordered, lines)?;
+    let globals = laid_globals(alloc, &blocks)?;
+    Ok((tasks, globals))
 }

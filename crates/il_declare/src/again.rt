@@ -23,6 +23,7 @@ fn see(alloc: Global, seen: &mut Table<()>, name: &str) -> Result<bool, AllocErr
 }
 
 // The first name that was seen or stands before in the list.
+#[inline(always)]
 fn again_named(
     alloc: Global,
     named: &[Named],

@@ -15,7 +15,7 @@ pub enum DeclareFault {
     #[error("an unknown name")]
     Unknown,
     /// A subrange or an array's bounds that are empty, beyond their base or too long (2.3.3.1).
-    #[error("an empty range")]
+    #[error("an empty subrange")]
     EmptyRange,
     /// An initial value or a size outside its range (2.4.3.2, own rule).
     #[error("an initial value or a size outside its range")]

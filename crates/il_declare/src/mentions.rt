@@ -158,6 +158,7 @@ fn argument_fault(
 }
 
 // What the names of an operand break.
+#[inline(always)]
 fn operand_fault(
     here: &UnitScope,
     access: Access,

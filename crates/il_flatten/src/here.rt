@@ -49,6 +49,7 @@ fn offset_at(tables: &[Table<usize>], at: usize, name: &str) -> Option<usize>
 
 impl Here<'_> {
     /// The variable that a name means, with its offset.
+    #[inline(always)]
     pub fn known(&self, name: &str) -> Option<Known>
         ensures is { result ≡ known self.now.scope.config self.now.scope.unit name.now }
         ensures small { IsSmall result }

@@ -194,6 +194,7 @@ fn element_operand(here: &Here, name: &str, index: &Index) -> Operand
 }
 
 /// What an operand resolves to.
+#[inline(always)]
 pub fn resolve(here: &Here, from: &Reference) -> Resolved
     ensures { result ≡ resolve here.now.scope.config here.now.scope.unit from.now }
 {

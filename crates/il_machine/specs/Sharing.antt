@@ -1,11 +1,11 @@
 -- What a task shares of the globals (own rules).
-use Rattle.std.specs.Prelude.{◌≡◌, ℕ, zero, suc, ◌+◌, ◌-◌, ◌*◌, ◌<◌, ◌==◌, Bool, if◌then◌else◌, List, [], ◌∷◌, map, filter, flat_map, take, drop, length, slice_get, Option, Some}
+use Rattle.std.specs.Prelude.{◌≡◌, ℕ, zero, suc, ◌+◌, ◌-◌, ◌*◌, ◌<◌, ◌==◌, Bool, is_some, if◌then◌else◌, List, [], ◌∷◌, map, filter, flat_map, take, drop, length, slice_get, Option, Some}
 use Rattle.il_spec.specs.declared.tree.Config.{Config}
 use Rattle.il_spec.specs.declared.tree.Step.{Step}
 use Rattle.il_spec.specs.declared.tree.Unit.{Unit as ProgramUnit}
 use Rattle.il_rules.specs.Names.{is_one_of}
 use Rattle.il_rules.specs.Types.{stored_names}
-use Rattle.il_table.specs.NameMap.{Text}
+use Rattle.il_table.specs.NameMap.{NameMap, Text, get}
 use Rattle.il_run.specs.State.{Values}
 use Rattle.il_run.specs.Meaning.{entities}
 use Rattle.il_run.specs.Scan.{program_of as line_program}
@@ -62,6 +62,10 @@ base_name (b ∷ bs) = if b == 91 then [] else b ∷ base_name bs
 -- whether a body stores into a variable of a name
 abbrev pub is_stored : List Step → Text → Bool
 is_stored steps name = is_one_of (flat_map (λ s. stored_names s.instruction) steps) name
+
+-- a table has the names that it stores into
+abbrev pub HasStored : NameMap Bool → List Step → Type 0
+HasStored stored steps = (name : Text) → is_some (get stored name) ≡ is_stored steps name
 
 -- whether it stores into the variable of a cell
 abbrev pub stores_cell : List Step → Cell → Bool

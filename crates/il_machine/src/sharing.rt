@@ -1,14 +1,16 @@
 // The slots of what a task shares of the globals.
 
-ghost use Rattle.std.specs.Prelude.{◌≡◌, ◌≤◌, map, drop, length, bytes_eq, flat_map, IfOk};
+ghost use Rattle.std.specs.Prelude.{◌≡◌, ◌≤◌, ◌||◌, ◌∷◌, [], map, drop, length, flat_map, is_some, IfOk, OnOk};
 ghost use Rattle.il_rules.specs.Names.{is_one_of};
 ghost use Rattle.il_rules.specs.Types.{named_variable, argument_targets, stored_names};
-ghost use Rattle.il_machine.specs.Sharing.{image_count, between, slot_in, base_name, is_stored, stores_cell, transfer, transfers};
+ghost use Rattle.il_table.specs.NameMap.{Text};
+ghost use Rattle.il_table.specs.NameMap as names;
+ghost use Rattle.il_machine.specs.Sharing.{image_count, between, slot_in, base_name, HasStored, stores_cell, transfer, transfers};
 
 use il_code::TaskCode;
 use il_slots::flat::Cell;
-use il_spec::name::Name;
 use il_spec::tree::{Argument, Instruction, Reference, Step};
+use il_table::Table;
 use lift_spec::image::Sizes;
 use lists::Items;
 use std::alloc::{AllocError, Global};
@@ -69,86 +71,105 @@ pub fn slots_in(
 }
 
 // The name of the variable of a path: what stands before the index.
-fn base_name(path: &[u8]) -> &[u8]
+fn base_name(path: &str) -> &str
     ensures { result.now ≡ base_name path.now }
 {
-    'bytes: for at in 0..path.len() {
-        if path[at] == b'[' {
-            let (name, _) = path.split_at(at);
-            return name;
-        }
+    match path.split_once('[') {
+        Some((name, _)) => name,
+        None => path,
     }
-    path
 }
 
-// Whether a name is written so.
-fn is_name(name: &Name, other: &[u8]) -> bool
-    ensures { result ≡ bytes_eq name.now other.now }
+// Adds a name to those that are stored into.
+fn add_name(alloc: Global, stored: &mut Table<bool>, name: &str) -> Result<(), AllocError>
+    ensures { OnOk result ((q : Text) → is_some (names.get stored.new q) ≡ (is_some (names.get stored.old q) || is_one_of (name.now ∷ []) q)) }
 {
-    name.as_str().as_bytes() == other
+    stored.put_new(alloc, name, true)?;
+    Ok(())
 }
 
-// Whether the target of a store is a variable of a name, or an element of it.
-fn is_target(target: &Reference, name: &[u8]) -> bool
-    ensures { result ≡ is_one_of (named_variable target.now) name.now }
+// Adds the variable of the target of a store, or of whose element it is.
+#[tactic(auto, using(crate::proofs::Bases::none_more))]
+fn add_target(alloc: Global, stored: &mut Table<bool>, target: &Reference) -> Result<(), AllocError>
+    ensures { OnOk result ((q : Text) → is_some (names.get stored.new q) ≡ (is_some (names.get stored.old q) || is_one_of (named_variable target.now) q)) }
 {
     match target {
-        Reference::Variable(variable) => is_name(variable, name),
-        Reference::Element(variable, _) => is_name(variable, name),
-        _ => false,
+        Reference::Variable(variable) => add_name(alloc, stored, variable.as_str()),
+        Reference::Element(variable, _) => add_name(alloc, stored, variable.as_str()),
+        _ => Ok(()),
     }
 }
 
-// Whether an argument writes a variable of a name.
-fn is_output(argument: &Argument, name: &[u8]) -> bool
-    ensures { result ≡ is_one_of (argument_targets argument.now) name.now }
+// Adds the variable that an argument writes.
+#[tactic(auto, using(crate::proofs::Bases::none_more))]
+fn add_output(
+    alloc: Global,
+    stored: &mut Table<bool>,
+    argument: &Argument,
+) -> Result<(), AllocError>
+    ensures { OnOk result ((q : Text) → is_some (names.get stored.new q) ≡ (is_some (names.get stored.old q) || is_one_of (argument_targets argument.now) q)) }
 {
     match argument {
-        Argument::Output { target, .. } => is_name(&target.name, name),
-        Argument::Input { .. } => false,
+        Argument::Output { target, .. } => add_name(alloc, stored, target.name.as_str()),
+        Argument::Input { .. } => Ok(()),
     }
 }
 
-// Whether one of some arguments does.
-fn is_an_output(arguments: &[Argument], name: &[u8]) -> bool
-    ensures { result ≡ is_one_of (flat_map argument_targets arguments.now) name.now }
+// Adds those that arguments write.
+fn add_outputs(
+    alloc: Global,
+    stored: &mut Table<bool>,
+    arguments: &[Argument],
+) -> Result<(), AllocError>
+    ensures { OnOk result ((q : Text) → is_some (names.get stored.new q) ≡ (is_some (names.get stored.old q) || is_one_of (flat_map argument_targets arguments.now) q)) }
 {
-    let mut found = false;
     for argument in arguments {
-        let here = is_output(argument, name);
-        found = found || here;
+        add_output(alloc, stored, argument)?;
     }
-    found
+    Ok(())
 }
 
-// Whether an instruction stores into a variable of a name.
-fn stores(instruction: &Instruction, name: &[u8]) -> bool
-    ensures { result ≡ is_one_of (stored_names instruction.now) name.now }
+// Adds those that an instruction stores into.
+#[tactic(auto, using(crate::proofs::Bases::none_more))]
+fn add_stored(
+    alloc: Global,
+    stored: &mut Table<bool>,
+    instruction: &Instruction,
+) -> Result<(), AllocError>
+    ensures { OnOk result ((q : Text) → is_some (names.get stored.new q) ≡ (is_some (names.get stored.old q) || is_one_of (stored_names instruction.now) q)) }
 {
     match instruction {
-        Instruction::Store { target, .. } => is_target(&target.reference, name),
-        Instruction::Call { arguments, .. } => is_an_output(arguments.as_slice(), name),
-        _ => false,
+        Instruction::Store { target, .. } => add_target(alloc, stored, &target.reference),
+        Instruction::Call { arguments, .. } => add_outputs(alloc, stored, arguments.as_slice()),
+        _ => Ok(()),
     }
 }
 
-// Whether a body stores into a variable of a name.
-fn is_stored(steps: &[Step], name: &[u8]) -> bool
-    ensures { result ≡ is_stored steps.now name.now }
+// The names that a body stores into.
+fn stored_by(alloc: Global, steps: &[Step]) -> Result<Table<bool>, AllocError>
+    ensures { IfOk result (λ stored. HasStored stored steps.now) }
 {
-    let mut found = false;
+    let mut stored = Table::new(alloc);
     for step in steps {
-        let here = stores(&step.instruction, name);
-        found = found || here;
+        add_stored(alloc, &mut stored, &step.instruction)?;
     }
-    found
+    Ok(stored)
 }
 
-// Whether it stores into the variable of a cell.
-fn stores_cell(steps: &[Step], cell: &Cell) -> bool
-    ensures { result ≡ stores_cell steps.now cell.now }
+// A body, and the names that it stores into.
+#[derive(Drop)]
+struct Stores<'a> {
+    steps: &'a [Step],
+    names: Table<bool>,
+    ghost all: { HasStored names steps.now },
+}
+
+// Whether a body stores into the variable of a cell.
+#[tactic(auto, using(crate::proofs::Bases::told))]
+fn stores_cell(stores: &Stores, cell: &Cell) -> bool
+    ensures { result ≡ stores_cell stores.now.steps.now cell.now }
 {
-    is_stored(steps, base_name(cell.path.as_str().as_bytes()))
+    stores.names.get(base_name(cell.path.as_str())).is_some()
 }
 
 /// The transfers of what a body stores into, of some variables, from a task's layout to that of the globals.
@@ -161,9 +182,11 @@ pub fn transfers(
 ) -> Result<Items<Transfer>, AllocError>
     ensures { IfOk result (λ ts. ts ≡ transfers steps.now layout.now.cells globals.now.cells cells.now) }
 {
+    let names = stored_by(alloc, steps)?;
+    let stores = Stores { steps, names };
     let mut list = Items::new(alloc);
     'cells: for cell in cells {
-        if stores_cell(steps, cell) {
+        if stores_cell(&stores, cell) {
             list.push(Transfer {
                 from: slot_in(layout, cell),
                 to: slot_in(globals, cell),

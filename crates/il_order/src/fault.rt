@@ -15,7 +15,7 @@ pub enum OrderFault {
     #[error("a chain of uses that is too long")]
     TooDeepCalls,
     /// A task with more than 4096 slots (own rule).
-    #[error("a task with too many slots")]
+    #[error("too many units, instructions or slots")]
     TooManySlots,
 }
 

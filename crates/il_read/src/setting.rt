@@ -5,6 +5,7 @@ ghost use Rattle.std.specs.Char.{is_ascii_digit};
 ghost use Rattle.il_spec.specs.Text.{is_grouped};
 ghost use Rattle.il_spec.specs.Grammar.{SomeName, TheText, TheWord, ADecimal, SpellsSize, SpellsTask, SpellsProgramLine};
 ghost use Rattle.il_read.specs.declared.stop.Stop.TheVariants.{Memory};
+ghost use Rattle.il_read.specs.Lead.{lead_at};
 ghost use Rattle.il_read.specs.Reads.{Reads, Refuses, Stands, Misses};
 ghost use Rattle.il_read.specs.Settings.{AnInterval, PlacedDecimal, FollowsColon, TakesLabel, TakesWord, SpellsSized, SpellsPriority, SpellsSchedule, SpellsTimes, SpellsProgramName, SpellsBound, SpellsWith, PlacedWord, StandsThere, SpellsFloors, SpellsThree};
 
@@ -53,13 +54,14 @@ impl<'t> Source<'t> {
         self.eat_sign(&mut ahead, Sign::Colon)
     }
 
-    /// This reserved word with its place, which may be missing.
-    pub fn eat_placed(&self, tokens: &mut Tokens, keyword: Keyword) -> Option<Place>
+    /// This reserved word with its place, which may be missing, where the tokens begin so.
+    pub fn take_placed(&self, tokens: &mut Tokens, lead: Lead, keyword: Keyword) -> Option<Place>
+        requires { lead ≡ lead_at self.now tokens.old }
         ensures takes { TakesWord self.now keyword tokens.old result tokens.new }
         ensures shorter { length tokens.new ≤ length tokens.old }
     {
         let place = tokens.place();
-        if self.eat_word(tokens, keyword) {
+        if self.take_word(tokens, lead, keyword) {
             return place;
         }
         None

@@ -16,6 +16,7 @@ use il_rules::names::{Audience, Role};
 use il_spec::tree::{Config, UnitKind};
 
 /// What a name means in the unit of a number; none where it is unknown there.
+#[inline(always)]
 pub fn meaning(config: &Config, tables: &Tables, at: usize, name: &str) -> Option<Binding>
     requires { AreTables config.now tables.now }
     ensures { (unit : ProgramUnit) → slice_get config.now.units at ≡ Some unit → result ≡ option_map (binding_of config.now) (meaning config.now unit name.now) }
@@ -27,6 +28,7 @@ pub fn meaning(config: &Config, tables: &Tables, at: usize, name: &str) -> Optio
 }
 
 // What a name means in the unit of a scope.
+#[inline(always)]
 fn meaning_in(config: &Config, tables: &Tables, scope: &Scope, name: &str) -> Option<Binding>
     requires { AreTables config.now tables.now }
     ensures { (unit : ProgramUnit) → IsScope config.now unit scope.now → result ≡ option_map (binding_of config.now) (meaning config.now unit name.now) }
@@ -38,6 +40,7 @@ fn meaning_in(config: &Config, tables: &Tables, scope: &Scope, name: &str) -> Op
 }
 
 // A variable, if it is seen.
+#[inline(always)]
 fn variable_binding(seen: Option<Variable>) -> Option<Binding>
     ensures { result ≡ variable_binding seen }
 {

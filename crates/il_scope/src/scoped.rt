@@ -135,6 +135,7 @@ impl Scoped {
     }
 
     /// What a name means in the unit of a number; none where it is unknown there (2.4.3).
+    #[inline(always)]
     pub fn meaning(&self, at: usize, name: &str) -> Option<Binding>
         ensures { (unit : ProgramUnit) → slice_get self.now.units at ≡ Some unit → result ≡ option_map (binding_of self.now) (meaning self.now unit name.now) }
     {

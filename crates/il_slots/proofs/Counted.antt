@@ -1,7 +1,8 @@
 -- Sizes and offsets are those of the layout.
-use Rattle.std.proofs.Common.{◌≡◌, ℕ, zero, suc, ◌+◌, ◌<◌, get_or, Bool, true, false, List, [], ◌∷◌, ◌++◌, map, length, slice_get, refl, sym, ap, ap₂, ◌∙◌, Option, Some, None, drop, append_assoc, arith, length-append}
+use Rattle.std.proofs.Common.{◌≡◌, ℕ, zero, suc, ◌+◌, ◌-◌, ◌<◌, ◌≤◌, get_or, Bool, true, false, List, [], ◌∷◌, ◌++◌, map, length, slice_get, refl, sym, ap, ap₂, ◌∙◌, Option, Some, None, drop, append_assoc, arith, length-append}
 use Rattle.std.specs.Prelude.{Result, Ok, Err, IfOk, option_map, option_and_then, bytes_eq, if◌then◌else◌}
 use Rattle.std.proofs.lemmas.Option.{same_Some}
+use Rattle.std.proofs.lemmas.Slice.Eq.{bytes_eq-Decides}
 use Rattle.il_spec.specs.declared.tree.Form.{Form}
 use Rattle.il_spec.specs.declared.tree.Form.TheVariants.{Scalar as ScalarForm, Array as ArrayForm, Block as BlockForm}
 use Rattle.il_spec.specs.declared.tree.Unit.{Unit as ProgramUnit}
@@ -21,7 +22,7 @@ use Rattle.il_slots.specs.declared.variables.Variable.{Variable}
 use Rattle.il_slots.specs.declared.offsets.Offsets.{Offsets}
 use Rattle.il_slots.specs.Cells.{form_in, offset_in}
 use Rattle.il_slots.specs.Places.{capped, form_width, entities_width, block_width, unit_entities}
-use Rattle.il_slots.specs.Making.{shown, added, standard_list, standard_number, standard_lists, block_place, own_lists, block_lists, size_or_zero, block_size, variable_size, list_size, sizes_to, with_offset, with_offsets, no_offsets, offsets_of, sizes_of, unit_offsets}
+use Rattle.il_slots.specs.Making.{shown, added, standard_list, standard_number, standard_lists, block_place, own_lists, block_lists, size_or_zero, block_size, variable_size, list_size, sizes_to, with_offset, with_offsets, no_offsets, offsets_of, sizes_of, unit_offsets, all_offsets}
 use Rattle.il_slots.proofs.Declared.{block_is_own, block_is_standard}
 use Rattle.il_slots.proofs.Seen.{added_all}
 
@@ -203,6 +204,21 @@ module _ (c : Config) where
       by_case None (of_own k o v e) at below = cc
       by_case None (of_none o here e) at below = ap (λ es. capped (entities_width (block_width n c) es)) (sym here)
 
+-- sizes that stay the same once stay so
+sizes_stay : (n k m : ℕ) (lists : List (List Variable)) → sizes_to (suc n) m lists ≡ sizes_to n m lists → sizes_to (k + n) m lists ≡ sizes_to n m lists
+sizes_stay n zero m lists e = ap (λ i. sizes_to i m lists) (let z : 0 + n ≡ n = omega arith in z)
+sizes_stay n (suc k) m lists e =
+    ap (λ i. sizes_to i m lists) (let z : suc k + n ≡ suc (k + n) = omega arith in z) ∙ ap (λ ss. map (λ vs. list_size true m ss 0 vs) lists) (sizes_stay n k m lists e) ∙ e
+
+pub sizes_end : (n m : ℕ) (lists : List (List Variable)) (ss next : List ℕ) → n < 16 → ss ≡ sizes_to n m lists → next ≡ map (λ vs. list_size true m ss 0 vs) lists → next ≡ ss → next ≡ sizes_to 16 m lists
+sizes_end n m lists ss next low at made same =
+    let stays : sizes_to (suc n) m lists ≡ sizes_to n m lists = ap (λ ts. map (λ vs. list_size true m ts 0 vs) lists) (sym at) ∙ sym made ∙ same ∙ at in
+    same ∙ at ∙ sym (sizes_stay n (16 - n) m lists stays) ∙ ap (λ k. sizes_to k m lists) (let e : 16 - n + n ≡ 16 = omega (arith, low) in e)
+
+-- `==` of sizes
+pub same_sizes : (first second : List ℕ) (r : Bool) → r ≡ bytes_eq first second → r ≡ true → first ≡ second
+same_sizes first second r is same = (bytes_eq-Decides first second).0 (sym is ∙ same)
+
 -- OFFSETS
 
 -- how far the variable of a name stands from the first, as far as that can be counted
@@ -290,3 +306,25 @@ next_made f xs i ts t after all low made grown rest =
 
 pub sizes_found : (c : Config) (n : ℕ) (lists : List (List Variable)) (ss : List ℕ) → n ≡ length c.units → lists ≡ block_lists c → ss ≡ sizes_to 16 n lists → ss ≡ sizes_of c
 sizes_found c n lists ss count is made = made ∙ ap₂ (sizes_to 16) count is
+
+-- THE LISTS OF STANDARD BLOCKS
+
+drop_front : {A : Type 0} (xs ys : List A) → drop (length xs) (xs ++ ys) ≡ ys
+drop_front [] ys = refl
+drop_front (x ∷ xs) ys = drop_front xs ys
+
+-- they stand behind those of the units
+pub standard_behind : (c : Config) (n : ℕ) (lists : List (List Variable)) → n ≡ length c.units → lists ≡ block_lists c → drop n lists ≡ standard_lists
+standard_behind c n lists count is =
+    ap₂ (λ k ls. drop k ls) (count ∙ sym (length_mapped (λ u. map (shown c) (own_entities u)) c.units)) (is ∙ added_all (own_lists c) standard_lists)
+    ∙ drop_front (own_lists c) standard_lists
+
+pub standard_room : (c : Config) (n : ℕ) (lists : List (List Variable)) → n ≡ length c.units → lists ≡ block_lists c → n ≤ length lists
+standard_room c n lists count is =
+    omega (arith, count, ap length (is ∙ added_all (own_lists c) standard_lists), length-append (own_lists c) standard_lists, length_mapped (λ u. map (shown c) (own_entities u)) c.units)
+
+pub all_are : (c : Config) (n : ℕ) (lists : List (List Variable)) (ss : List ℕ) (old new : List (NameMap ℕ)) → n ≡ length c.units → lists ≡ block_lists c → ss ≡ sizes_of c → old ≡ map (unit_offsets c) c.units
+    → new ≡ added old (map (λ vs. offsets_of n ss vs) (drop n lists)) → new ≡ all_offsets c
+all_are c n lists ss old new count is sized made grown =
+    grown ∙ ap₂ (λ o ls. added o (map (λ vs. offsets_of n ss vs) ls)) made (standard_behind c n lists count is)
+    ∙ ap₂ (λ k ts. added (map (unit_offsets c) c.units) (map (λ vs. offsets_of k ts vs) standard_lists)) count sized

@@ -1,6 +1,6 @@
 // How many slots blocks and variables take.
 
-ghost use Rattle.std.specs.Prelude.{◌≡◌, ◌+◌, ◌<◌, ◌^◌, map, slice_get, length, IfOk, OnOk};
+ghost use Rattle.std.specs.Prelude.{◌≡◌, ◌+◌, ◌<◌, ◌^◌, map, slice_get, length, IsTrue, IfOk, OnOk};
 ghost use Rattle.il_run.specs.Meaning.{width, own_entities};
 ghost use Rattle.il_slots.specs.Making.{shown, own_lists, block_lists, block_place, size_or_zero, block_size, variable_size, list_size, sizes_to};
 ghost use Rattle.il_slots.specs.Places.{capped};
@@ -139,6 +139,14 @@ fn next_sizes(
     Ok(all)
 }
 
+// Whether sizes are the same.
+#[tactic(auto, using(crate::proofs::Counted::same_sizes))]
+fn are_same(first: &[usize], second: &[usize]) -> bool
+    ensures { IsTrue result → first.now ≡ second.now }
+{
+    first == second
+}
+
 /// How many slots each block takes: instances stand no deeper than 17 in one another.
 pub(crate) fn block_sizes(
     alloc: Global,
@@ -150,7 +158,11 @@ pub(crate) fn block_sizes(
 {
     let mut sizes = next_sizes(alloc, false, units, &[], lists)?;
     for _ in 0..16usize {
-        sizes = next_sizes(alloc, true, units, sizes.as_slice(), lists)?;
+        let next = next_sizes(alloc, true, units, sizes.as_slice(), lists)?;
+        if are_same(next.as_slice(), sizes.as_slice()) {
+            return Ok(next);
+        }
+        sizes = next;
     }
     Ok(sizes)
 }

@@ -1,13 +1,12 @@
 // The offsets of all names.
 
-ghost use Rattle.std.specs.Prelude.{◌≡◌, ◌<◌, ◌^◌, length, map, slice_get, Some, IfOk, OnOk};
-ghost use Rattle.il_slots.specs.Making.{shown, added, standard_lists, block_lists, sizes_of, offsets_of, unit_offsets, all_offsets};
+ghost use Rattle.std.specs.Prelude.{◌≡◌, ◌<◌, ◌≤◌, ◌^◌, length, map, drop, slice_get, Some, IfOk, OnOk};
+ghost use Rattle.il_slots.specs.Making.{shown, added, block_lists, sizes_of, offsets_of, unit_offsets, all_offsets};
 ghost use Rattle.il_spec.specs.declared.tree.Unit.{Unit as ProgramUnit};
 ghost use Rattle.il_run.specs.Meaning.{own_entities};
 
 use crate::offsets::offsets_of;
 use crate::sizes::{block_lists, block_sizes};
-use crate::standard::add_lists;
 use crate::variables::{Variable, other_variables};
 use il_scope::Scoped;
 use il_spec::tree::Unit;
@@ -90,19 +89,21 @@ fn add_standard(
     Ok(())
 }
 
-// Adds the offsets of the words of all standard blocks.
-fn add_standards(
+// The same behind the offsets of the units, where the lists of standard blocks stand behind those of the units.
+fn with_standard(
     alloc: Global,
     units: usize,
     sizes: &[usize],
-    tables: &mut Items<Table<usize>>,
-) -> Result<(), AllocError>
-    requires { units < 2 ^ 63 }
-    ensures { OnOk result (tables.new ≡ added tables.old (map (λ vs. offsets_of units sizes.now vs) standard_lists)) }
+    lists: &[Items<Variable>],
+    tables: Items<Table<usize>>,
+) -> Result<Items<Table<usize>>, AllocError>
+    requires few { units < 2 ^ 63 }
+    requires room { units ≤ length lists.now }
+    ensures { IfOk result (λ ts. ts ≡ added tables (map (λ vs. offsets_of units sizes.now vs) (drop units lists.now))) }
 {
-    let mut lists = Items::new(alloc);
-    add_lists(alloc, &mut lists)?;
-    add_standard(alloc, units, sizes, lists.as_slice(), tables)
+    let mut tables = tables;
+    add_standard(alloc, units, sizes, &lists[units..], &mut tables)?;
+    Ok(tables)
 }
 
 /// The offsets of each unit's names, and behind them those of the words of the standard blocks.
@@ -114,7 +115,7 @@ pub fn all_offsets(alloc: Global, names: &Scoped) -> Result<Items<Table<usize>>,
     let units = names.config().units.as_slice().len();
     let lists = block_lists(alloc, names)?;
     let sizes = block_sizes(alloc, units, lists.as_slice())?;
-    let mut tables = units_offsets(alloc, names, sizes.as_slice(), lists.as_slice())?;
-    add_standards(alloc, units, sizes.as_slice(), &mut tables)?;
-    Ok(tables)
+    let tables = units_offsets(alloc, names, sizes.as_slice(), lists.as_slice())?;
+    let all = with_standard(alloc, units, sizes.as_slice(), lists.as_slice(), tables)?;
+    Ok(all)
 }

@@ -14,7 +14,7 @@ grouped_more test inside bs i h = at_drop_more (is_grouped_after test inside) bs
 is_underscore : (b : ℕ) → b ≡ 95 → (b == 95) ≡ true
 is_underscore b e = grind (arith, nat_tests)
 
-is_no_underscore : (b : ℕ) → b ≢ 95 → (b == 95) ≡ false
+pub is_no_underscore : (b : ℕ) → b ≢ 95 → (b == 95) ≡ false
 is_no_underscore b e = grind (arith, nat_tests)
 
 -- behind an underscore that stands behind a byte that passes

@@ -16,7 +16,7 @@ use Rattle.std.specs.Prelude.{bytes_eq, codes}
 use Rattle.il_text.proofs.Places.{in_text, passes_in_text, run_from, run_within, run_some, minus_from, minus_within}
 use Rattle.il_text.proofs.Signs.{sign_is, rank, sign_rank, sign_within}
 
-word_is_word : (b : ℕ) → begins_word b ≡ true → is_word_byte b ≡ true
+pub word_is_word : (b : ℕ) → begins_word b ≡ true → is_word_byte b ≡ true
 word_is_word b h = grind (arith, nat_tests)
 
 digit_is_literal : (b : ℕ) → is_ascii_digit b ≡ true → is_literal_byte b ≡ true

@@ -1,5 +1,7 @@
 mod Results
 mod Grouped
+mod LaneLemmas
+mod Runs
 mod Capped
 mod Numbers
 mod Durations

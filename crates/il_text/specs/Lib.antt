@@ -1,2 +1,3 @@
 pub mod Pieces
 pub mod Refused
+pub mod Lanes

@@ -1,7 +1,11 @@
 // Bytes, and the runs that they make.
 
-ghost use Rattle.std.specs.Prelude.{◌≡◌, ◌≤◌, ◌==◌, length, count_by};
+ghost use Rattle.std.specs.Prelude.{◌≡◌, ◌+◌, ◌≤◌, ◌==◌, length, count_by, IsTrue};
+ghost use Rattle.std.specs.Char.{is_ascii_alphanumeric};
 ghost use Rattle.il_spec.specs.Text.{byte_at, begins_word, is_word_byte, is_literal_byte, run_end, after_minus, line_feed};
+ghost use Rattle.il_text.specs.Lanes.{AllPassBetween};
+
+use crate::lanes::{LANES, alphanumeric_run, feeds};
 
 /// The byte at a place, and 0 behind the text.
 #[inline(always)]
@@ -35,6 +39,32 @@ fn is_literal_byte(byte: u8) -> bool
     is_word_byte(byte) || byte == b'#'
 }
 
+// How many letters and digits are seen at once to stand from `at` on.
+#[inline(always)]
+fn first_run(text: &[u8], at: usize) -> usize
+    requires { at ≤ length text.now }
+    ensures within { at + result ≤ length text.now }
+    ensures pass { AllPassBetween is_ascii_alphanumeric text.now at (at + result) }
+{
+    if text.len() - at >= LANES {
+        alphanumeric_run(text, at)
+    } else {
+        0
+    }
+}
+
+/// Whether letters and digits alone are seen at once to stand from `at` up to `end`.
+#[inline(always)]
+pub(crate) fn is_seen_alphanumeric(text: &[u8], at: usize, end: usize) -> bool
+    requires { at ≤ end × end ≤ length text.now }
+    ensures { IsTrue result → AllPassBetween is_ascii_alphanumeric text.now at end }
+{
+    if end - at <= first_run(text, at) {
+        return true;
+    }
+    false
+}
+
 /// Where the run of word bytes from `at` on ends.
 #[tactic(auto, unfolding(il_spec::specs::Text::run_end))]
 pub(crate) fn word_end(text: &[u8], at: usize) -> usize
@@ -43,7 +73,7 @@ pub(crate) fn word_end(text: &[u8], at: usize) -> usize
     ensures within { result ≤ length text.now }
     ensures longest { result ≡ run_end is_word_byte text.now at }
 {
-    let mut end = at;
+    let mut end = at + first_run(text, at);
     'run: while end < text.len() && is_word_byte(text[end]) {
         end += 1;
     }
@@ -86,8 +116,14 @@ pub(crate) fn line_feeds(bytes: &[u8]) -> usize
     ensures count { result ≡ count_by (λ b. b == line_feed) bytes.now }
 {
     let mut count: usize = 0;
-    for byte in bytes {
-        count += usize::from(*byte == b'\n');
+    let mut at = 0;
+    'sixteens: while bytes.len() - at >= LANES {
+        count += feeds(bytes, at);
+        at += LANES;
+    }
+    'rest: while at < bytes.len() {
+        count += usize::from(bytes[at] == b'\n');
+        at += 1;
     }
     count
 }

@@ -2,9 +2,11 @@
 
 ghost use Rattle.std.specs.Prelude.{◌≡◌, ℕ, ◌+◌, ◌<◌, ◌≤◌, length, false, IsTrue, IsFalse, IfOk, IfErr, IfSome, IfNone, not, ◌&&◌};
 ghost use Rattle.il_spec.specs.Text.{opens_comment, closes_comment, is_text_byte, IsComment};
+ghost use Rattle.il_text.specs.Lanes.{AllPassBetween, is_plain};
 
 use crate::bytes::byte_at;
 use crate::flaw::{Flaw, Misread};
+use crate::lanes::{LANES, plain_run};
 
 /// Whether `(*` stands at a place.
 #[inline(always)]
@@ -63,6 +65,23 @@ fn closing_from(text: &[u8], from: usize) -> Option<usize>
     None
 }
 
+// A place from `from` on up to which bytes stand that may stand anywhere in a comment.
+fn plain_end(text: &[u8], from: usize) -> usize
+    requires { from ≤ length text.now }
+    ensures within { from ≤ result × result ≤ length text.now }
+    ensures plain { AllPassBetween is_plain text.now from result }
+{
+    let mut at = from;
+    'plain: while text.len() - at >= LANES {
+        let run = plain_run(text, at);
+        at += run;
+        if run < LANES {
+            return at;
+        }
+    }
+    at
+}
+
 // The place from `from` on at which something else stands than the inside of a comment.
 fn inside_end(text: &[u8], from: usize) -> usize
     requires { from ≤ length text.now }
@@ -70,7 +89,7 @@ fn inside_end(text: &[u8], from: usize) -> usize
     ensures inside { (k : ℕ) → from ≤ k → k < result → IsTrue (is_text_byte text.now k && (not (opens_comment text.now k) && not (closes_comment text.now k))) }
     ensures stops { result < length text.now → IsFalse (is_text_byte text.now result && (not (opens_comment text.now result) && not (closes_comment text.now result))) }
 {
-    let mut at = from;
+    let mut at = plain_end(text, from);
     'inside: while at < text.len() && is_inside(text, at) {
         at += 1;
     }

@@ -1,6 +1,6 @@
 // Tokens, each by itself (IEC 61131-3:2003, 2.1 and 2.2).
 
-ghost use Rattle.std.specs.Prelude.{◌≡◌, ℕ, ℤ, ◌<◌, ◌≤◌, length, IsTrue, IsFalse, IfOk, IfErr, IfSome, IfNone};
+ghost use Rattle.std.specs.Prelude.{◌≡◌, ℕ, ℤ, ◌<◌, ◌≤◌, length, slice_range, IsTrue, IsFalse, IfOk, IfErr, IfSome, IfNone};
 ghost use Rattle.std.specs.Char.{is_ascii_digit, is_ascii_alphanumeric};
 ghost use Rattle.il_spec.specs.declared.token.Sign.{Sign};
 ghost use Rattle.il_spec.specs.declared.token.Kind.TheVariants.{Word, Number, Typed, Sign as Signed, LineEnd};
@@ -8,7 +8,9 @@ ghost use Rattle.il_spec.specs.declared.tree.Literal.{Literal};
 ghost use Rattle.il_spec.specs.Text.{byte_at, begins_word, after_minus, is_grouped, is_identifier, upper_case, IsLexeme};
 ghost use Rattle.il_text.specs.Pieces.{HasNoLexeme};
 
-use crate::bytes::{after_minus, begins_word, byte_at, literal_end, word_end};
+use crate::bytes::{
+    after_minus, begins_word, byte_at, is_seen_alphanumeric, literal_end, word_end,
+};
 use crate::flaw::Flaw;
 use crate::literal::typed_literal;
 use crate::number::number_of;
@@ -51,6 +53,17 @@ fn is_identifier(word: &[u8]) -> bool
     }
 }
 
+// Whether an identifier stands from `at` up to `end`.
+fn is_identifier_at(text: &[u8], at: usize, end: usize) -> bool
+    requires { at < end × end ≤ length text.now }
+    ensures { result ≡ is_identifier (slice_range text.now at end) }
+{
+    if is_seen_alphanumeric(text, at, end) {
+        return true;
+    }
+    is_identifier(&text[at..end])
+}
+
 // The word or the typed literal at `at`, and where it ends.
 fn word_at(text: &[u8], upper: &[u8], at: usize) -> Result<(Kind, usize), Flaw>
     requires inside { at < length text.now }
@@ -71,7 +84,7 @@ fn word_at(text: &[u8], upper: &[u8], at: usize) -> Result<(Kind, usize), Flaw>
         )?;
         return Ok((Kind::Typed(literal), literal_end));
     }
-    if end - at > LONGEST_WORD || !is_identifier(&text[at..end]) {
+    if end - at > LONGEST_WORD || !is_identifier_at(text, at, end) {
         return Err(Flaw::BadIdentifier);
     }
     Ok((Kind::Word, end))

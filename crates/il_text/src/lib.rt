@@ -14,6 +14,7 @@ mod bytes;
 mod comment;
 mod duration;
 mod flaw;
+mod lanes;
 mod lexeme;
 mod literal;
 mod number;

@@ -32,7 +32,7 @@ pub enum TypeFault {
     #[error("a jump that does not go forward")]
     BackwardJump,
     /// A call with other arguments than are wanted (2.5.1.5).
-    #[error("a wrong number of operands")]
+    #[error("wrong arguments")]
     Arguments,
     /// A global into which two tasks store (own rule).
     #[error("a global that two tasks write")]

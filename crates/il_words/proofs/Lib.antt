@@ -1,2 +1,3 @@
 pub mod Same
 pub mod Lengths
+pub mod First

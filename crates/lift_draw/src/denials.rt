@@ -1,7 +1,5 @@
 // What the interlock denied.
 
-ghost use Rattle.std.specs.Prelude.{◌<◌, ◌≤◌};
-
 use lift_spec::report::{Denial, Rule};
 use std::alloc::{AllocError, Global};
 
@@ -29,35 +27,9 @@ pub struct Denials {
     list: Vec<Denied>,
 }
 
-/// The number of a rule, 1 to 6.
-pub fn number_of(rule: Rule) -> u8
-    ensures { (1 ≤ result) × (result ≤ 6) }
-{
-    match rule {
-        Rule::Reversal => 1,
-        Rule::Unlocked => 2,
-        Rule::AtEnd => 3,
-        Rule::NotLevel => 4,
-        Rule::Crowded => 5,
-        Rule::Fire => 6,
-    }
-}
-
-/// What a rule says.
-pub fn sentence_of(rule: Rule) -> &'static str {
-    match rule {
-        Rule::Reversal => "no reversal of the committed motor at once",
-        Rule::Unlocked => "a motor runs only with LOCKED and no open command",
-        Rule::AtEnd => "up not at TOP, down not at BOTTOM",
-        Rule::NotLevel => "an open command stands only at LEVEL",
-        Rule::Crowded => "fewer than RUNLIMIT other cars are running",
-        Rule::Fire => "no car runs up while FIRE holds",
-    }
-}
-
 /// The place of a car and a rule.
 fn place_of(denial: &Denial) -> usize {
-    usize::from(denial.car).saturating_sub(1) * 8 + usize::from(number_of(denial.rule))
+    usize::from(denial.car).saturating_sub(1) * 8 + usize::from(denial.rule.number())
 }
 
 impl Denied {

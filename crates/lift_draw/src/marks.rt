@@ -1,6 +1,6 @@
 // FIRE, and what the interlock denied.
 
-use crate::denials::{Denied, number_of, sentence_of};
+use crate::denials::Denied;
 use crate::frame::Frame;
 use crate::story::Switch;
 use crate::svg::{Point, close_group, end_path, open_group, put_box, put_words};
@@ -92,9 +92,9 @@ fn put_rounds(text: &mut String, denied: &Denied) -> Result<(), AllocError> {
 /// What was denied, and why.
 fn put_reason(text: &mut String, denied: &Denied) -> Result<(), AllocError> {
     let car = denied.car;
-    let number = number_of(denied.rule);
+    let number = denied.rule.number();
     write!(text, ": CAR {car}, rule {number}: ")?;
-    text.push_str(sentence_of(denied.rule))
+    text.push_str(denied.rule.sentence())
 }
 
 fn put_denied(text: &mut String, frame: Frame, denied: &Denied) -> Result<(), AllocError> {

@@ -9,7 +9,7 @@ use thiserror::Error;
 #[derive(Clone, Copy, Debug, Drop, Error)]
 pub enum StationFault {
     /// The time, RUNLIMIT or a position, or another number of cars.
-    #[error("a field is out of its range")]
+    #[error("a field out of range")]
     FieldOutOfRange,
     /// There is no room for another entry.
     #[error("the journal is full")]

@@ -3,25 +3,14 @@ use Rattle.std.specs.Prelude.{ℕ, List, [], ◌++◌, flat_map, codes, decimal}
 use Rattle.lift_spec.specs.declared.calls.Answer.{Answer}
 use Rattle.lift_spec.specs.declared.calls.Answer.TheVariants.{Done, Stale, NotYours, NoSlot}
 use Rattle.lift_spec.specs.declared.report.Denial.{Denial}
-use Rattle.lift_spec.specs.declared.report.Rule.{Rule}
-use Rattle.lift_spec.specs.declared.report.Rule.TheVariants.{Reversal, Unlocked, AtEnd, NotLevel, Crowded, Fire}
-use Rattle.lift_spec.specs.Settle.{rule_number}
+use Rattle.lift_spec.specs.Settle.{rule_number, rule_sentence}
 use Rattle.lift_spec.specs.Snapshot.{task_name}
 use Rattle.lift_runs.specs.Shown.{Shows}
-
--- what a rule of the interlock demands
-abbrev pub sentence_of : Rule → List ℕ
-sentence_of Reversal = codes "a motor does not reverse at once"
-sentence_of Unlocked = codes "a motor runs only with its door locked and no open command"
-sentence_of AtEnd = codes "no car runs up at the top or down at the bottom"
-sentence_of NotLevel = codes "a door opens only at a level"
-sentence_of Crowded = codes "a motor runs only while fewer than RUNLIMIT other cars run"
-sentence_of Fire = codes "no car runs up while FIRE holds"
 
 -- `round R EVENT CARc rule n: sentence`, where EVENT is `refresh` or `commit`
 unfoldable pub denial_text : List ℕ → ℕ → Denial → List ℕ
 denial_text event round d =
-    codes "round " ++ (decimal round ++ (codes " " ++ (event ++ (codes " CAR" ++ (decimal d.car ++ (codes " rule " ++ (decimal (rule_number d.rule) ++ (codes ": " ++ (sentence_of d.rule ++ codes "\n")))))))))
+    codes "round " ++ (decimal round ++ (codes " " ++ (event ++ (codes " CAR" ++ (decimal d.car ++ (codes " rule " ++ (decimal (rule_number d.rule) ++ (codes ": " ++ (rule_sentence d.rule ++ codes "\n")))))))))
 
 -- `round R commit TASK answer`
 unfoldable pub undone_text : ℕ → ℕ → List ℕ → List ℕ

@@ -1,13 +1,12 @@
 // What `denials` prints.
 
 ghost use Rattle.std.specs.Prelude.{◌≡◌, ◌++◌, [], OnOk, string_bytes};
-ghost use Rattle.lift_watch.specs.Denials.{denial_text, undone_text, answer_text, denials_text, answers_text, sentence_of, denied};
-ghost use Rattle.lift_spec.specs.Settle.{rule_number};
+ghost use Rattle.lift_watch.specs.Denials.{denial_text, undone_text, answer_text, denials_text, answers_text, denied};
 ghost use Rattle.lift_spec.specs.Snapshot.{task_name};
 
 use lift_runs::observer::Observer;
 use lift_spec::calls::Answer;
-use lift_spec::report::{Denial, Report, Rule};
+use lift_spec::report::{Denial, Report};
 use lift_world::World;
 use std::alloc::{AllocError, Global};
 
@@ -48,34 +47,6 @@ impl Observer for Denials {
     }
 }
 
-/// The number by which a rule is known.
-fn number_of(rule: Rule) -> u8
-    ensures { result ≡ rule_number rule }
-{
-    match rule {
-        Rule::Reversal => 1,
-        Rule::Unlocked => 2,
-        Rule::AtEnd => 3,
-        Rule::NotLevel => 4,
-        Rule::Crowded => 5,
-        Rule::Fire => 6,
-    }
-}
-
-/// What a rule demands.
-fn sentence_of(rule: Rule) -> &'static str
-    ensures { result.now ≡ sentence_of rule }
-{
-    match rule {
-        Rule::Reversal => "a motor does not reverse at once",
-        Rule::Unlocked => "a motor runs only with its door locked and no open command",
-        Rule::AtEnd => "no car runs up at the top or down at the bottom",
-        Rule::NotLevel => "a door opens only at a level",
-        Rule::Crowded => "a motor runs only while fewer than RUNLIMIT other cars run",
-        Rule::Fire => "no car runs up while FIRE holds",
-    }
-}
-
 fn put_denials(
     text: &mut String,
     event: &str,
@@ -94,9 +65,9 @@ fn put_denials(
 fn put_denial(text: &mut String, event: &str, round: u16, denial: Denial) -> Result<(), AllocError>
     ensures { OnOk result (string_bytes text.new ≡ string_bytes text.old ++ denial_text event.now round denial) }
 {
-    let rule = number_of(denial.rule);
+    let rule = denial.rule;
     write!(text, "round {} {} CAR{}", round, event, denial.car)?;
-    writeln!(text, " rule {}: {}", rule, sentence_of(denial.rule))
+    writeln!(text, " rule {}: {}", rule.number(), rule.sentence())
 }
 
 fn put_answers(

@@ -5,4 +5,4 @@ pub returns-then-not-alone-clause-takes : goal.returns-then-not-alone-clause-tak
 returns-then-not-alone-clause-takes c = end_out c.args.source.now c.args.last c.args.alone _ c.if-not-alone.true
 
 pub returns-clause-takes : goal.returns-clause-takes
-returns-clause-takes c = end_taken c.args.source.now c.args.last c.args.alone _ _ _ c.if-not-alone.false c.eat_placed.ensures.takes
+returns-clause-takes c = end_taken c.args.source.now c.args.last c.args.alone _ _ _ c.if-not-alone.false c.take_placed.ensures.takes

@@ -1,4 +1,5 @@
-use Rattle.std.proofs.Common.{refl}
+use Rattle.std.proofs.Common.{refl, sym, ap, ◌∙◌}
+use Rattle.il_read.specs.Lead.{lead_at}
 use Rattle.il_read.proofs.Chain.{up}
 use Rattle.il_body.proofs.Entries.{outer_refused}
 use Rattle.il_body.proofs.bodies.outer.Goals as goal
@@ -19,3 +20,8 @@ returns-clause-reads c =
     let none = rw c.in_default.is at c.eat_end.ensures.takes in
     let read = (rw none.0 at c.in_ok-place.ensures.reads).found in
     record { found = (c.in_ok-labels.ensures.labels.names _ _ _ read.0, (read.1, read.2, read.3)) }
+
+pub placed-requires-clause-lead : goal.placed-requires-clause-lead
+placed-requires-clause-lead c =
+    let none = rw c.in_default.is at c.eat_end.ensures.takes in
+    c.lead-lead.ensures ∙ ap (lead_at c.args.source.now) (sym none.0)

@@ -1,6 +1,9 @@
-use Rattle.std.proofs.Common.{sym, ◌∙◌, arith}
-use Rattle.il_machine.proofs.Bases.{stops}
+use Rattle.std.proofs.Common.{Some, None}
+use Rattle.il_machine.proofs.Bases.{base_cut}
 use Rattle.il_machine.proofs.sharing.base_name.Goals as goal
 
-pub returns-then-path-at-eq91 : goal.returns-then-path-at-eq91
-returns-then-path-at-eq91 c = c.split_at.ensures.front ∙ sym (stops c.args.path.now c.bytes.at (omega arith) c.if-path-at-eq91.true) ∙ c.bytes.invariant
+pub returns-in-Some : goal.returns-in-Some
+returns-in-Some c = base_cut c.args.path.now (Some (c.in-Some.name, c.in-Some.field-0-1)) c.in-Some.ensures.cases
+
+pub returns-in-None : goal.returns-in-None
+returns-in-None c = base_cut c.args.path.now None c.in-None.ensures.cases

@@ -1,5 +1,7 @@
-use Rattle.std.proofs.Common.{sym, ◌∙◌, ◌+◌, ap}
-use Rattle.il_spec.specs.Text.{run_end, is_literal_byte}
+use Rattle.std.proofs.Common.{sym, ◌∙◌, ◌+◌, ap, arith}
+use Rattle.il_spec.specs.Text.{byte_at, run_end, is_word_byte, is_literal_byte}
+use Rattle.il_text.proofs.Lexemes.{word_is_word}
+use Rattle.il_text.proofs.Places.{run_some}
 use Rattle.il_text.proofs.Results.{err_anyway}
 use Rattle.il_text.proofs.Literals.{upper_part, typed_lexeme, no_typed_lexeme}
 use Rattle.il_text.proofs.lexeme.word_at.Goals as goal
@@ -17,3 +19,9 @@ pub returns-then-byte_at-eq35-clause-found : goal.returns-then-byte_at-eq35-clau
 returns-then-byte_at-eq35-clause-found c =
     typed_lexeme c.args.text.now c.args.upper.now c.args.at c.word_end-end.result c.literal_end-literal_end.result c.in_ok-literal.literal c.requires.upper c.requires.begins c.word_end-end.ensures.longest
     (sym c.byte_at.ensures ∙ c.if-byte_at-eq35.true) (c.literal_end-literal_end.ensures.longest ∙ ap (run_end is_literal_byte c.args.text.now) c.after_minus.ensures.place) c.in_ok-literal.ensures.found
+
+pub is_identifier_at-requires : goal.is_identifier_at-requires
+is_identifier_at-requires c = (
+  omega (arith, c.word_end-end.ensures.longest, run_some is_word_byte c.args.text.now c.args.at c.requires.inside (word_is_word (byte_at c.args.text.now c.args.at) c.requires.begins)),
+  c.word_end-end.ensures.within,
+)

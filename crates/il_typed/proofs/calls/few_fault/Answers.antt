@@ -1,7 +1,7 @@
 use Rattle.std.proofs.Common.{length, refl, take}
 use Rattle.std.proofs.lemmas.Option.{slice_get_read}
 use Rattle.il_typed.proofs.Arguments.{one_argument}
-use Rattle.il_typed.proofs.calls.arguments_fault.Goals as goal
+use Rattle.il_typed.proofs.calls.few_fault.Goals as goal
 
 pub loop-at-preserved : goal.loop-at-preserved
 loop-at-preserved g c block is =
