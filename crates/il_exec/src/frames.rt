@@ -1,6 +1,6 @@
 // The frames of bodies that run.
 
-ghost use Rattle.std.specs.Prelude.{◌≡◌, ◌≢◌, ◌<◌, ◌∷◌, [], length};
+ghost use Rattle.std.specs.Prelude.{◌≡◌, ◌≢◌, ◌<◌, ◌↔◌, ◌∷◌, [], length, IsTrue};
 ghost use Rattle.il_exec.specs.Going.{top_of, rest_of};
 
 use crate::quick::Quick;
@@ -85,6 +85,13 @@ impl Pairs {
         }
     }
 
+    /// No operation is deferred any more.
+    pub fn clear(&mut self)
+        ensures { self.new ≡ [] }
+    {
+        self.pairs.clear();
+    }
+
     /// A further operation is deferred.
     pub fn push(&mut self, pair: Pair)
         requires { length self.old < 16 }
@@ -141,6 +148,20 @@ impl Frames {
         Frames {
             frames: ArrayVec::new(),
         }
+    }
+
+    /// No frame has called any more.
+    pub fn clear(&mut self)
+        ensures { self.new ≡ [] }
+    {
+        self.frames.clear();
+    }
+
+    /// Whether none has called.
+    pub fn is_empty(&self) -> bool
+        ensures { IsTrue result ↔ (self.now ≡ []) }
+    {
+        self.frames.is_empty()
     }
 
     /// A further frame has called.

@@ -182,10 +182,8 @@ impl Bench {
     fn enter(&mut self, frame: Frame)
         ensures { self.new ≡ going self.old.rows frame [] [] None }
     {
-        if self.scan.callers.pop().is_some() {
-            self.scan.callers = Frames::new();
-        }
-        self.scan.pairs = Pairs::new();
+        self.scan.callers.clear();
+        self.scan.pairs.clear();
         self.scan.running = Some(frame);
         self.scan.result = None;
     }

@@ -1,14 +1,16 @@
 // What the commands of `liftplc` do with a text.
 
+ghost use Rattle.std.specs.Prelude.{◌≢◌, Err};
 ghost use Rattle.lift_command.specs.Loaded.{IsLoaded};
-ghost use Rattle.lift_command.specs.Runs.{IsTextOutcome};
+ghost use Rattle.lift_command.specs.Runs.{IsKnown, IsRefusedOutcome, IsTextOutcome};
 
 use il_machine::Verified;
+use il_shown::ranges_text;
 use il_spec::fault::Refusal;
 use lift_host::files::TextFiles;
-use lift_host::request::Request;
+use lift_host::request::{Request, Showing};
 use lift_host::status::Fault;
-use lift_load::load;
+use lift_load::{load, unbroken};
 use lift_output::outcome::outcome;
 use lift_shell::commands::Commands;
 use lift_show::output::Output;
@@ -31,8 +33,38 @@ impl Commands for Liftplc {
         text: &[u8],
         files: &F,
     ) -> Result<Output, Fault> {
-        let verified = loaded(alloc, text)?;
-        outcome(rt, alloc, request, verified, files)
+        match loaded(alloc, text) {
+            Ok(verified) => outcome(rt, alloc, request, verified, files),
+            Err(refusal) => refused(alloc, request, text, refusal),
+        }
+    }
+}
+
+/// What a request gives of a refused text.
+fn refused(
+    alloc: Global,
+    request: Request<'_>,
+    text: &[u8],
+    refusal: Refusal,
+) -> Result<Output, Fault>
+    ensures is { IsRefusedOutcome request.entry text.now refusal result }
+    ensures unwritten { result ≢ Err Fault.CannotWrite }
+{
+    match request {
+        Request::Show(Showing::Ranges, _) => known(alloc, text, refusal),
+        _ => Err(refusal.into()),
+    }
+}
+
+/// The ranges of a refused text, where no rule of its declarations, types and order is broken.
+fn known(alloc: Global, text: &[u8], refusal: Refusal) -> Result<Output, Fault>
+    ensures is { IsKnown text.now refusal result }
+    ensures unwritten { result ≢ Err Fault.CannotWrite }
+{
+    match unbroken(alloc, text) {
+        Ok(ordered) => Ok(Output::Text(ranges_text(alloc, ordered.names())?)),
+        Err(Refusal::Memory) => Err(Fault::NoMemory),
+        Err(_) => Err(refusal.into()),
     }
 }
 

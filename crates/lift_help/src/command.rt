@@ -1,7 +1,7 @@
 // Help, the version, and what is wrong with words that ask for nothing.
 
 use clap::error::ErrorKind;
-use clap::{Arg, Command};
+use clap::{Arg, ArgAction, Command};
 use lift_explain::explanation;
 use lift_host::request::{FIRE, MOST_ROUNDS, Name, Words, is_option, number_to};
 use std::alloc::{AllocError, Global};
@@ -59,11 +59,44 @@ fn file<'a>(alloc: Global) -> Arg<'a> {
         .help("A configuration in Instruction List")
 }
 
+/// The option `--warn`.
+fn warn<'a>(alloc: Global) -> Arg<'a> {
+    Arg::new(alloc, "warn")
+        .long("warn")
+        .action(ArgAction::SetTrue)
+        .help("Also tells, on standard error, what an accepted FILE declares or stores in vain")
+}
+
 /// The command that checks.
 fn check_command<'a>(alloc: Global) -> Result<Command<'a>, AllocError> {
-    Command::new(alloc, "check")
-        .about("Verifies FILE and shows its tasks and units")
-        .arg(file(alloc))
+    file_command(alloc, "check", "Verifies FILE and shows its tasks and units")?.arg(warn(alloc))
+}
+
+/// The command that shows what the verifier knows.
+fn ranges_command<'a>(alloc: Global) -> Result<Command<'a>, AllocError> {
+    file_command(
+        alloc,
+        "ranges",
+        "Shows the ranges that the verifier finds for each instruction of FILE",
+    )
+}
+
+/// The command that shows where names are.
+fn xref_command<'a>(alloc: Global) -> Result<Command<'a>, AllocError> {
+    file_command(
+        alloc,
+        "xref",
+        "Shows where FILE declares, reads, writes and calls each name",
+    )
+}
+
+/// A command that takes FILE.
+fn file_command<'a>(
+    alloc: Global,
+    name: &'a str,
+    about: &'a str,
+) -> Result<Command<'a>, AllocError> {
+    Command::new(alloc, name).about(about).arg(file(alloc))
 }
 
 /// The argument ROUNDS.
@@ -233,16 +266,26 @@ fn list_of_commands<'a>(alloc: Global) -> Result<Vec<Command<'a>>, AllocError> {
 
 fn add_commands<'a>(alloc: Global, commands: &mut Vec<Command<'a>>) -> Result<(), AllocError> {
     add(commands, check_command(alloc))?;
-    add(commands, sim_command(alloc))?;
-    add_other_commands(alloc, commands)
+    add(commands, ranges_command(alloc))?;
+    add(commands, xref_command(alloc))?;
+    add_simulating_commands(alloc, commands)
 }
 
-/// Adds the commands behind `sim`.
-fn add_other_commands<'a>(
+/// Adds the commands that simulate, and those behind them.
+fn add_simulating_commands<'a>(
     alloc: Global,
     commands: &mut Vec<Command<'a>>,
 ) -> Result<(), AllocError> {
+    add(commands, sim_command(alloc))?;
     add(commands, run_command(alloc))?;
+    add_observing_commands(alloc, commands)
+}
+
+/// Adds the commands that show something of a simulation, and those behind them.
+fn add_observing_commands<'a>(
+    alloc: Global,
+    commands: &mut Vec<Command<'a>>,
+) -> Result<(), AllocError> {
     add(commands, denials_command(alloc))?;
     add(commands, watch_command(alloc))?;
     add_trace_commands(alloc, commands)

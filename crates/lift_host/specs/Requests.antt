@@ -1,10 +1,11 @@
 -- What the words of a command line ask for (own rules).
-use Rattle.std.specs.Prelude.{◌≡◌, ◌⊎◌, ◌≤◌, ◌<◌, ℕ, List, [], ◌∷◌, ◌++◌, length, slice_index, EachIndex, codes, map, slice_get, Option, Some, None, option_map, string_bytes}
+use Rattle.std.specs.Prelude.{◌≡◌, ◌⊎◌, ◌≤◌, ◌<◌, ℕ, Bool, true, false, List, [], ◌∷◌, ◌++◌, length, slice_index, EachIndex, codes, map, slice_get, Option, Some, None, option_map, string_bytes}
 use Rattle.std.specs.Int.{IsInRange}
 use Rattle.std.specs.Str.Parse.{digits_value}
 use Rattle.lift_host.specs.declared.request.Name.{Name}
 use Rattle.lift_host.specs.declared.request.Name.TheVariants as name
 use Rattle.lift_host.specs.declared.request.Following.TheVariants as following
+use Rattle.lift_host.specs.declared.request.Showing.TheVariants as showing
 use Rattle.lift_host.specs.declared.request.Simulating.TheVariants as simulating
 use Rattle.lift_host.specs.declared.request.Words.{Words}
 use Rattle.lift_host.specs.declared.request.Rounds.{Rounds}
@@ -34,6 +35,8 @@ IsOption word = slice_index word 0 ≡ 45
 -- the word of a command
 abbrev pub word_of : Name → List ℕ
 word_of name.Check = codes "check"
+word_of (name.Show showing.Ranges) = codes "ranges"
+word_of (name.Show showing.Xref) = codes "xref"
 word_of (name.Rounds simulating.Sim) = codes "sim"
 word_of (name.Rounds simulating.Run) = codes "run"
 word_of (name.Rounds simulating.Denials) = codes "denials"
@@ -43,13 +46,15 @@ word_of (name.Trace following.Draw) = codes "draw"
 
 -- the command of a request
 abbrev pub command_of : Request → Name
-command_of (request.Check file) = name.Check
+command_of (request.Check checked) = name.Check
+command_of (request.Show command file) = name.Show command
 command_of (request.Rounds command rounds) = name.Rounds command
 command_of (request.Trace command traced) = name.Trace command
 
 -- the name of a request's file
 abbrev pub name_of : Request → List ℕ
-name_of (request.Check file) = file.now
+name_of (request.Check checked) = checked.file.now
+name_of (request.Show command file) = file.now
 name_of (request.Rounds command rounds) = rounds.file.now
 name_of (request.Trace command traced) = traced.file.now
 
@@ -91,15 +96,26 @@ pub record IsFile (words : List (List ℕ)) (file : List ℕ) : Type 0 where
   pub are : words ≡ file ∷ []
   pub plain : IsOption file → ⊥
 
+-- FILE and `--warn`, in one order or the other
+abbrev pub IsFileBesideWarn : List ℕ → List ℕ → List ℕ → Type 0
+IsFileBesideWarn first second file = (IsOption file → ⊥) × (((first ≡ file) × (second ≡ codes "--warn")) ⊎ ((first ≡ codes "--warn") × (second ≡ file)))
+
+-- FILE alone, or with `--warn` beside it
+abbrev pub IsChecked : List (List ℕ) → List ℕ → Bool → Type 0
+IsChecked words file false = IsFile words file
+IsChecked words file true = (first : List ℕ) × (second : List ℕ) × (words ≡ first ∷ second ∷ []) × IsFileBesideWarn first second file
+
 -- FILE and TRACE, and neither is an option
 pub record AreFiles (words : List (List ℕ)) (file trace : List ℕ) : Type 0 where
   pub are : words ≡ file ∷ trace ∷ []
   pub plain_file : IsOption file → ⊥
   pub plain_trace : IsOption trace → ⊥
 
--- what a request takes behind its command: `FILE` for check, `FILE ROUNDS` and more for a simulation, and `FILE TRACE`
+-- what a request takes behind its command: `FILE` and maybe `--warn` for check, `FILE` for what shows something of it, `FILE ROUNDS` and
+-- more for a simulation, and `FILE TRACE`
 abbrev pub Takes : List (List ℕ) → Request → Type 0
-Takes words (request.Check file) = IsFile words file.now
+Takes words (request.Check checked) = IsChecked words checked.file.now checked.warns
+Takes words (request.Show command file) = IsFile words file.now
 Takes words (request.Rounds command rounds) = GiveRounds words rounds
 Takes words (request.Trace command traced) = AreFiles words traced.file.now traced.trace.now
 

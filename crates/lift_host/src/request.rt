@@ -1,7 +1,7 @@
 // What the words ask for.
 
-ghost use Rattle.std.specs.Prelude.{◌≡◌, ◌≤◌, ◌<◌, ◌∷◌, ◌++◌, ◌↔◌, [], ℕ, List, Option, Some, true, false, IfSome, IfOk, IsNone, IsTrue, codes, length, map, option_map, slice_get, string_bytes};
-ghost use Rattle.lift_host.specs.Requests.{IsNumberTo, IsDigits, IsOption, AreNoOptions, IsApart, IsFile, AreFiles, GiveRounds, Takes, Asks, BeginsWithDigit, AreNamesFirst, AreWithoutExplain, command_of, name_of, word_of, words_of};
+ghost use Rattle.std.specs.Prelude.{◌≡◌, ◌≤◌, ◌<◌, ◌∷◌, ◌++◌, ◌↔◌, [], ℕ, Bool, List, Option, Some, true, false, IfSome, IfOk, IsNone, IsTrue, codes, length, map, option_map, slice_get, string_bytes};
+ghost use Rattle.lift_host.specs.Requests.{IsNumberTo, IsDigits, IsOption, AreNoOptions, IsApart, IsFile, IsFileBesideWarn, IsChecked, AreFiles, GiveRounds, Takes, Asks, BeginsWithDigit, AreNamesFirst, AreWithoutExplain, command_of, name_of, word_of, words_of};
 ghost use Rattle.lift_host.specs.declared.request.Name.{Name};
 ghost use Rattle.lift_host.specs.declared.request.Request.{Request};
 ghost use Rattle.lift_host.specs.declared.request.Rounds.{Rounds};
@@ -16,6 +16,18 @@ pub const FIRE: &str = "--fire";
 
 /// The option of every command that has a refusal of a text shown with the text's line and the number's meaning.
 pub const EXPLAIN: &str = "--explain";
+
+/// The option of `check` that has it tell what it warns of.
+pub const WARN: &str = "--warn";
+
+/// A command that shows what is known of a text.
+#[derive(Clone, Copy)]
+pub enum Showing {
+    /// The ranges that the verifier has found for each instruction.
+    Ranges,
+    /// Where each name is declared, read, written and called.
+    Xref,
+}
 
 /// A command over a simulation of so many rounds.
 #[derive(Clone, Copy)]
@@ -43,6 +55,7 @@ pub enum Following {
 #[derive(Clone, Copy)]
 pub enum Name {
     Check,
+    Show(Showing),
     Rounds(Simulating),
     Trace(Following),
 }
@@ -52,6 +65,15 @@ pub enum Name {
 pub struct Words<'w> {
     pub front: &'w [String],
     pub back: &'w [String],
+}
+
+/// What `check` takes.
+#[derive(Clone, Copy)]
+pub struct Checked<'w> {
+    /// The name of the file.
+    pub file: &'w str,
+    /// Whether `--warn` stands beside it.
+    pub warns: bool,
 }
 
 /// What a command takes that simulates.
@@ -77,8 +99,9 @@ pub struct Traced<'w> {
 /// What the words ask for.
 #[derive(Clone, Copy)]
 pub enum Request<'w> {
+    Check(Checked<'w>),
     /// The name of the file.
-    Check(&'w str),
+    Show(Showing, &'w str),
     Rounds(Simulating, Rounds<'w>),
     Trace(Following, Traced<'w>),
 }
@@ -91,6 +114,8 @@ impl Name {
     {
         match word {
             "check" => Some(Name::Check),
+            "ranges" => Some(Name::Show(Showing::Ranges)),
+            "xref" => Some(Name::Show(Showing::Xref)),
             "sim" => Some(Name::Rounds(Simulating::Sim)),
             "run" => Some(Name::Rounds(Simulating::Run)),
             "denials" => Some(Name::Rounds(Simulating::Denials)),
@@ -170,7 +195,8 @@ impl<'w> Request<'w> {
         ensures { result.now ≡ name_of self.entry }
     {
         match self {
-            Request::Check(file) => file,
+            Request::Check(checked) => checked.file,
+            Request::Show(_, file) => file,
             Request::Rounds(_, rounds) => rounds.file,
             Request::Trace(_, traced) => traced.file,
         }
@@ -220,7 +246,8 @@ fn takes(name: Name, rest: &[String]) -> Option<Request<'_>>
     ensures none { IsNone result → (request : Request) → command_of request ≡ name → Takes (map string_bytes rest.now) request → ⊥ }
 {
     match name {
-        Name::Check => Some(Request::Check(file_alone(rest)?)),
+        Name::Check => Some(Request::Check(check_given(rest)?)),
+        Name::Show(command) => Some(Request::Show(command, file_alone(rest)?)),
         Name::Rounds(command) => Some(Request::Rounds(command, rounds_given(rest)?)),
         Name::Trace(command) => Some(Request::Trace(command, trace_given(rest)?)),
     }
@@ -234,6 +261,44 @@ fn file_alone(rest: &[String]) -> Option<&str>
     match rest {
         [file] if !is_option(file) => Some(file),
         _ => None,
+    }
+}
+
+/// Whether a word is the option `--warn`.
+fn is_warn(word: &str) -> bool
+    ensures { IsTrue result ↔ (word.now ≡ codes "--warn") }
+{
+    word == WARN
+}
+
+/// FILE, where it is the one of two words beside which `--warn` stands.
+fn file_beside_warn<'w>(first: &'w str, second: &'w str) -> Option<&'w str>
+    ensures some { IfSome result (λ file. IsFileBesideWarn first.now second.now file.now) }
+    ensures none { IsNone result → (file : List ℕ) → IsFileBesideWarn first.now second.now file → ⊥ }
+{
+    if is_warn(second) && !is_option(first) {
+        return Some(first);
+    }
+    if is_warn(first) && !is_option(second) {
+        return Some(second);
+    }
+    None
+}
+
+/// FILE, where it is the one word or stands beside `--warn`.
+fn check_given(rest: &[String]) -> Option<Checked<'_>>
+    ensures some { IfSome result (λ checked. IsChecked (map string_bytes rest.now) checked.file.now checked.warns) }
+    ensures none { IsNone result → (file : List ℕ) (warns : Bool) → IsChecked (map string_bytes rest.now) file warns → ⊥ }
+{
+    match rest {
+        [first, second] => Some(Checked {
+            file: file_beside_warn(first, second)?,
+            warns: true,
+        }),
+        _ => Some(Checked {
+            file: file_alone(rest)?,
+            warns: false,
+        }),
     }
 }
 

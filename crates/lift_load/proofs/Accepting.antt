@@ -1,6 +1,6 @@
 -- Which texts are accepted.
-use Rattle.std.proofs.Common.{◌≡◌, subst, ℕ, ◌+◌, ◌<◌, List, [], length, arith}
-use Rattle.std.specs.Prelude.{Ok, Err, Result, IsErrAnd}
+use Rattle.std.proofs.Common.{◌≡◌, sym, subst, ℕ, ◌+◌, ◌<◌, List, [], length, arith}
+use Rattle.std.specs.Prelude.{Ok, Err, Result, IfErr, IsErrAnd}
 use Rattle.std.proofs.lemmas.Option.{slice_get_within}
 use Rattle.il_spec.specs.declared.tree.Config.{Config}
 use Rattle.il_spec.specs.declared.tree.Place.{Place}
@@ -9,7 +9,7 @@ use Rattle.il_spec.specs.declared.fault.Refusal.{Refusal}
 use Rattle.il_spec.specs.declared.fault.Refusal.TheVariants.{Fault}
 use Rattle.il_spec.specs.Text.{AreTokens}
 use Rattle.il_spec.specs.Grammar.{AfterLines, SpellsConfig}
-use Rattle.il_rules.specs.Faults.{HasNoFault}
+use Rattle.il_rules.specs.Faults.{HasNoFault, IsRefusedBy}
 use Rattle.il_run.specs.Annotation.{Annotated}
 use Rattle.il_ranges.specs.Lacking.{BreaksRanges, lacks_ranges}
 use Rattle.il_budget.specs.Costs.{IsTooLong}
@@ -34,6 +34,19 @@ names_broken c number line (by_types declared (place, first, at)) a = a.typed nu
 names_broken c number line (by_order declared typed (place, first, at)) a = a.ordered number place first.broken
 names_broken c number line (by_ranges unbroken (place, first, at)) a = lacking c number place first.broken a.annotated
 names_broken c number line (by_budgets unbroken annotated (place, first, at)) a = a.affordable number place first.broken
+
+-- what is named of a phase is broken
+pub breaks : {X : Type 0} (Breaks : ℕ → Place → Type 0) (e : Refusal) (r : Result X Refusal) → IsErrAnd r (λ d. d ≡ e) → IsFault r → IsRefusedBy Breaks e → HasNoFault Breaks → ⊥
+breaks {X} Breaks e (Ok x) same h refused none = absurd h
+breaks {X} Breaks e (Err (Fault number line)) same h refused none = at (subst (IsRefusedBy Breaks) (sym same) refused)
+  where
+    at : IsRefusedBy Breaks (Fault number line) → ⊥
+    at (place, first, lined) = none number place first.broken
+
+-- the same of an answer as it stands
+pub breaks_here : {X : Type 0} (Breaks : ℕ → Place → Type 0) (r : Result X Refusal) → IsFault r → IfErr r (IsRefusedBy Breaks) → HasNoFault Breaks → ⊥
+breaks_here Breaks (Ok x) h refused none = absurd h
+breaks_here Breaks (Err (Fault number line)) h (place, first, lined) none = none number place first.broken
 
 -- a fault that is handed on is a fault
 pub handed_on : {X : Type 0} (Y : Type 0) (e : Refusal) (r : Result X Refusal) → IsErrAnd r (λ d. d ≡ e) → IsFault r → IsFault {A = Y} (Err e)

@@ -36,6 +36,10 @@ module _ (text : List ℕ) (c : Config) (s : SpellsOnly text c) where
   found_by (Ok v) same unbroken annotated affordable = subst (IsAccepted text) (sym same) (accepted_is text c s.spelled unbroken annotated affordable)
   found_by (Err e) same unbroken annotated affordable = tt
 
+  pub found_unbroken : (r : Result Config Refusal) → IfOk r (λ o. o ≡ c) → IfOk r (λ _. IsUnbroken c) → IfOk r (λ o. IsSpelled text o × IsUnbroken o)
+  found_unbroken (Ok o) same unbroken = (subst (IsSpelled text) (sym same) s.spelled, subst IsUnbroken (sym same) unbroken)
+  found_unbroken (Err e) same unbroken = tt
+
   -- no accepted configuration is spelled where one is refused
   pub refused_by : {X : Type 0} (r : Result X Refusal) → IfErr r (IsRefusedFor c) → IsFault r → (d : Config) → IsAccepted text d → ⊥
   refused_by (Ok x) refused fault d a = absurd fault

@@ -5,4 +5,4 @@ mod loader;
 
 pub use il_machine::Verified;
 pub use il_spec::fault::Refusal;
-pub use loader::load;
+pub use loader::{load, unbroken};

@@ -44,6 +44,16 @@ pub fn load(alloc: Global, text: &[u8]) -> Result<Verified, Refusal>
     verified(alloc, config)
 }
 
+/// The configuration that a text spells, of which no rule of declarations, types and order is broken: what `load` comes to before it
+/// looks for ranges.
+pub fn unbroken(alloc: Global, text: &[u8]) -> Result<Ordered, Refusal>
+    ensures found { IfOk result (λ o. IsSpelled text.now o × IsUnbroken o) }
+    ensures none { IsFault result → (c : ConfigOf) → IsSpelled text.now c → IsUnbroken c → ⊥ }
+{
+    let config = parsed(alloc, text)?;
+    in_order(alloc, config)
+}
+
 // The configuration that a text spells. Its tokens are given up before it is verified.
 fn parsed(alloc: Global, text: &[u8]) -> Result<Written, Refusal>
     ensures only { IfOk result (SpellsOnly text.now) }
@@ -108,6 +118,7 @@ fn in_order(alloc: Global, config: Written) -> Result<Ordered, Refusal>
     ensures same { IfOk result (λ o. o ≡ config) }
     ensures unbroken { IfOk result (λ _. IsUnbroken config) }
     ensures refused { IfErr result (IsRefusedFor config) }
+    ensures broken { IsFault result → IsUnbroken config → ⊥ }
 {
     let typed = well_typed(alloc, config)?;
     ordered(alloc, typed)
@@ -119,6 +130,7 @@ fn well_typed(alloc: Global, config: Written) -> Result<Typed, Refusal>
     ensures declared { IfOk result (λ _. HasNoFault (BreaksDeclarations config)) }
     ensures typed { IfOk result (λ _. HasNoFault (Broken Typing config)) }
     ensures refused { IfErr result (IsRefusedFor config) }
+    ensures broken { IsFault result → IsUnbroken config → ⊥ }
 {
     let declared = declare(alloc, config)?;
     typed(alloc, declared)

@@ -1,11 +1,15 @@
 -- What a request gives of a verified configuration (own rules).
-use Rattle.std.specs.Prelude.{◌≡◌, ℕ, ◌+◌, ◌++◌, List, Option, Some, None, option_map, Ok, Err}
+use Rattle.std.specs.Prelude.{◌≡◌, ℕ, ◌+◌, ◌++◌, Bool, true, false, List, Option, Some, None, option_map, Ok, Err, IfOk}
+use Rattle.il_spec.specs.declared.tree.Config.{Config}
+use Rattle.il_shown.specs.Shown.{AreShown}
 use Rattle.il_machine.specs.Scanning.{Program}
 use Rattle.lift_host.specs.declared.files.ReadFault.{ReadFault}
 use Rattle.lift_host.specs.declared.press.Press.{Press}
 use Rattle.lift_host.specs.declared.request.Request.{Request}
 use Rattle.lift_host.specs.declared.request.Rounds.{Rounds}
 use Rattle.lift_host.specs.declared.request.Request.TheVariants as request
+use Rattle.lift_host.specs.declared.request.Showing.{Showing}
+use Rattle.lift_host.specs.declared.request.Showing.TheVariants as showing
 use Rattle.lift_host.specs.declared.request.Following.{Following}
 use Rattle.lift_host.specs.declared.request.Following.TheVariants as following
 use Rattle.lift_host.specs.declared.request.Simulating.{Simulating}
@@ -21,7 +25,7 @@ use Rattle.lift_output.specs.ImageText.{image_text}
 use Rattle.lift_output.specs.Listing.{listing}
 use Rattle.lift_runs.specs.Driven.{IsSimulated}
 use Rattle.lift_runs.specs.Shown.{IsShown}
-use Rattle.lift_show.specs.Outputs.{Outcome, bytes_of}
+use Rattle.lift_show.specs.Outputs.{Outcome, bytes_of, warnings_of}
 use Rattle.lift_spec.specs.declared.event.EventFault.{EventFault}
 use Rattle.lift_spec.specs.declared.journal.Entry.{Entry}
 use Rattle.lift_spec.specs.declared.trace.TraceEvent.{TraceEvent}
@@ -31,6 +35,8 @@ use Rattle.lift_spec.specs.World.{World, opening}
 use Rattle.lift_trace.specs.declared.fault.TraceFault.TheVariants.{BadLine, Truncated}
 use Rattle.lift_trace.specs.Reading.{Reads}
 use Rattle.lift_trace.specs.Written.{text_of_entries}
+use Rattle.lift_xref.specs.Warnings.{warnings_text}
+use Rattle.lift_xref.specs.Xref.{xref_text}
 use Rattle.lift_watch.specs.declared.names.Watched.{Watched}
 use Rattle.lift_watch.specs.Denials.{denied}
 use Rattle.lift_watch.specs.Values.{AreWatched, IsUnknown, header_text, watching}
@@ -38,11 +44,43 @@ use Rattle.lift_workers.specs.Ran.{IsRun}
 
 -- CHECK
 
--- `check` of a verified program prints its listing; memory may be missing.
+-- a program has this text printed; memory may be missing
+abbrev pub IsPrinted : List ℕ → Outcome → Type 0
+IsPrinted text (Ok output) = bytes_of output ≡ text
+IsPrinted text (Err fault.NoMemory) = Unit {0}
+IsPrinted text (Err _) = ⊥
+
+-- `check` of a verified program prints its listing.
 abbrev pub IsCheckOutcome : Program → Outcome → Type 0
-IsCheckOutcome program (Ok output) = bytes_of output ≡ listing program
-IsCheckOutcome program (Err fault.NoMemory) = Unit {0}
-IsCheckOutcome program (Err _) = ⊥
+IsCheckOutcome program = IsPrinted (listing program)
+
+-- what a request warns of: `check` of what is in vain, where that is asked for
+abbrev pub asked_warnings : Bool → Program → Option (List ℕ)
+asked_warnings true program = Some (warnings_text program.config)
+asked_warnings false program = None
+
+abbrev pub wanted_warnings : Request → Program → Option (List ℕ)
+wanted_warnings (request.Check checked) program = asked_warnings checked.warns program
+wanted_warnings (request.Show command file) program = None
+wanted_warnings (request.Rounds command asked) program = None
+wanted_warnings (request.Trace command traced) program = None
+
+-- an output has these warnings
+abbrev pub HasWarnings : Option (List ℕ) → Outcome → Type 0
+HasWarnings warnings outcome = IfOk outcome (λ output. warnings_of output ≡ warnings)
+
+-- WHAT A TEXT SHOWS
+
+-- `ranges` prints what the verifier has found for each instruction; memory may be missing.
+abbrev pub IsRangesOutcome : Config → Outcome → Type 0
+IsRangesOutcome c (Ok output) = AreShown c (bytes_of output)
+IsRangesOutcome c (Err fault.NoMemory) = Unit {0}
+IsRangesOutcome c (Err _) = ⊥
+
+-- `xref` prints where names are declared, read, written and called.
+abbrev pub IsShowOutcome : Showing → Program → Outcome → Type 0
+IsShowOutcome showing.Ranges program = IsRangesOutcome program.config
+IsShowOutcome showing.Xref program = IsPrinted (xref_text program.config)
 
 -- WORDS THAT DRIVE ROUNDS
 
@@ -215,6 +253,7 @@ IsRoundsOutcome simulating.Watch program asked outcome = IsWatchOutcome program 
 
 -- A verified program gives what its command prints.
 abbrev pub IsProgramOutcome : (List ℕ → ℕ → List ℕ → Type 0) → (List ℕ → ℕ → ReadFault → Type 0) → Request → Program → Outcome → Type 0
-IsProgramOutcome reads fails (request.Check file) program outcome = IsCheckOutcome program outcome
+IsProgramOutcome reads fails (request.Check checked) program outcome = IsCheckOutcome program outcome
+IsProgramOutcome reads fails (request.Show command file) program outcome = IsShowOutcome command program outcome
 IsProgramOutcome reads fails (request.Rounds command asked) program outcome = IsRoundsOutcome command program asked outcome
 IsProgramOutcome reads fails (request.Trace command traced) program outcome = IsTraceOutcome reads fails command program traced.trace.now outcome

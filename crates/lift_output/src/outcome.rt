@@ -1,10 +1,10 @@
 // What a request prints over a verified configuration.
 
-ghost use Rattle.std.specs.Prelude.{◌≡◌, ◌≢◌, ◌≤◌, ◌+◌, ℕ, Option, option_map, length, Ok, Err, IfOk, IfErr};
+ghost use Rattle.std.specs.Prelude.{◌≡◌, ◌≢◌, ◌≤◌, ◌+◌, ℕ, Option, None, option_map, length, Ok, Err, IfOk, IfErr};
 ghost use Rattle.lift_spec.specs.Image.{sizes_of};
 ghost use Rattle.lift_spec.specs.World.{opening};
 ghost use Rattle.lift_trace.specs.Reading.{Reads, greatest_trace};
-ghost use Rattle.lift_output.specs.Outcomes.{IsCheckOutcome, IsFire, AreDriven, IsUndriven, IsSimOutcome, IsRunOutcome, IsDenialsOutcome, IsWatchOutcome, IsRoundsOutcome, IsFollowed, IsTraceOutcome, IsProgramOutcome};
+ghost use Rattle.lift_output.specs.Outcomes.{IsCheckOutcome, IsShowOutcome, HasWarnings, asked_warnings, wanted_warnings, IsFire, AreDriven, IsUndriven, IsSimOutcome, IsRunOutcome, IsDenialsOutcome, IsWatchOutcome, IsRoundsOutcome, IsFollowed, IsTraceOutcome, IsProgramOutcome};
 ghost use Rattle.lift_output.specs.Parts.{fault_of_trace, IsTraceUnread, AreFollowed, IsWatched};
 ghost use Rattle.lift_runs.specs.Driven.{ArePressed};
 ghost use Rattle.lift_host.specs.Requests.{words_of};
@@ -13,19 +13,21 @@ ghost use Rattle.lift_spec.specs.EventFaults.{event_fault_number};
 use crate::check::check_text;
 use crate::image::image_text;
 use il_machine::Verified;
+use il_shown::ranges_text;
 use lift_draw::{Stop, drawing};
 use lift_host::files::TextFiles;
 use lift_host::press::{Press, fire_round, presses};
-use lift_host::request::{Following, Named, Request, Rounds, Simulating, Words};
+use lift_host::request::{Following, Named, Request, Rounds, Showing, Simulating, Words};
 use lift_host::status::Fault;
 use lift_runs::replay::{Refused, replay};
 use lift_runs::sim::{Drive, simulate, simulate_before, simulate_on};
-use lift_show::output::Output;
+use lift_show::output::{Output, Warned};
 use lift_spec::trace::TraceEvent;
 use lift_trace::fault::TraceFault;
 use lift_trace::read::{GREATEST_TRACE, read_trace};
 use lift_watch::denials::Denials;
 use lift_watch::watch::Watch;
+use lift_xref::{warnings_text, xref_text};
 use lift_workers::gate::Open;
 use lift_workers::run::{Plan, run};
 use lift_world::World;
@@ -43,10 +45,12 @@ pub fn outcome<F: TextFiles, R: Threads + Wait + Sync>(
     files: &F,
 ) -> Result<Output, Fault>
     ensures is { IsProgramOutcome (F.gives files.now) (F.fails files.now) request.entry verified result }
+    ensures warned { HasWarnings (wanted_warnings request.entry verified) result }
     ensures unwritten { result ≢ Err Fault.CannotWrite }
 {
     match request {
-        Request::Check(_) => checked(alloc, verified),
+        Request::Check(asked) => checked(alloc, verified, asked.warns),
+        Request::Show(command, _) => shown(alloc, verified, command),
         Request::Rounds(command, asked) => rounds_outcome(rt, alloc, verified, command, asked),
         Request::Trace(command, traced) => trace_outcome(
             alloc,
@@ -68,6 +72,7 @@ fn rounds_outcome<R: Threads + Wait + Sync>(
 ) -> Result<Output, Fault>
     ensures is { IsRoundsOutcome command verified asked.entry result }
     ensures unwritten { result ≢ Err Fault.CannotWrite }
+    ensures warned { HasWarnings None result }
 {
     match command {
         Simulating::Sim => simulated(alloc, verified, asked),
@@ -77,11 +82,40 @@ fn rounds_outcome<R: Threads + Wait + Sync>(
     }
 }
 
-fn checked(alloc: Global, verified: Verified) -> Result<Output, Fault>
+fn checked(alloc: Global, verified: Verified, warns: bool) -> Result<Output, Fault>
     ensures is { IsCheckOutcome verified result }
+    ensures warned { HasWarnings (asked_warnings warns verified) result }
     ensures unwritten { result ≢ Err Fault.CannotWrite }
 {
-    let text = check_text(alloc, &verified);
+    let output = listed(alloc, &verified, warns);
+    verified.release();
+    output
+}
+
+/// The tasks and units of a verified configuration, with what is in vain in it, where that is asked for.
+fn listed(alloc: Global, verified: &Verified, warns: bool) -> Result<Output, Fault>
+    ensures is { IsCheckOutcome verified.now result }
+    ensures warned { HasWarnings (asked_warnings warns verified.now) result }
+    ensures unwritten { result ≢ Err Fault.CannotWrite }
+{
+    let text = check_text(alloc, verified)?;
+    if !warns {
+        return Ok(Output::Text(text));
+    }
+    let warnings = warnings_text(alloc, verified.config())?;
+    Ok(Output::Warned(Warned { text, warnings }))
+}
+
+/// What a command shows of a verified configuration.
+fn shown(alloc: Global, verified: Verified, command: Showing) -> Result<Output, Fault>
+    ensures is { IsShowOutcome command verified result }
+    ensures warned { HasWarnings None result }
+    ensures unwritten { result ≢ Err Fault.CannotWrite }
+{
+    let text = match command {
+        Showing::Ranges => ranges_text(alloc, verified.names()),
+        Showing::Xref => xref_text(alloc, verified.config()),
+    };
     verified.release();
     Ok(Output::Text(text?))
 }
@@ -120,6 +154,7 @@ fn drive_of(alloc: Global, asked: Rounds<'_>, floors: u16) -> Result<Driven, Fau
 fn simulated(alloc: Global, verified: Verified, asked: Rounds<'_>) -> Result<Output, Fault>
     ensures is { IsSimOutcome verified asked.entry result }
     ensures unwritten { result ≢ Err Fault.CannotWrite }
+    ensures warned { HasWarnings None result }
 {
     let floors = u16::from(verified.sizes().floors);
     match drive_of(alloc, asked, floors) {
@@ -140,6 +175,7 @@ fn simulated(alloc: Global, verified: Verified, asked: Rounds<'_>) -> Result<Out
 fn denied(alloc: Global, verified: Verified, asked: Rounds<'_>) -> Result<Output, Fault>
     ensures is { IsDenialsOutcome verified asked.entry result }
     ensures unwritten { result ≢ Err Fault.CannotWrite }
+    ensures warned { HasWarnings None result }
 {
     let floors = u16::from(verified.sizes().floors);
     match drive_of(alloc, asked, floors) {
@@ -162,6 +198,7 @@ fn denied(alloc: Global, verified: Verified, asked: Rounds<'_>) -> Result<Output
 fn watched(alloc: Global, verified: Verified, asked: Rounds<'_>) -> Result<Output, Fault>
     ensures is { IsWatchOutcome verified asked.entry result }
     ensures unwritten { result ≢ Err Fault.CannotWrite }
+    ensures warned { HasWarnings None result }
 {
     let floors = u16::from(verified.sizes().floors);
     let Named { names, presses } = asked.presses.names_first();
@@ -193,7 +230,8 @@ fn watched_world(
 ) -> Result<Output, Fault>
     requires opening { world.old.world ≡ opening world.old.program.config }
     requires calls { ArePressed (sizes_of world.old.program.config) drive.presses.now }
-    ensures { IsWatched world.old.program.config (words_of names.entry) drive.entry.presses.now drive.entry.fire rounds result }
+    ensures is { IsWatched world.old.program.config (words_of names.entry) drive.entry.presses.now drive.entry.fire rounds result }
+    ensures warned { HasWarnings None result }
 {
     let mut watch = Watch::of(alloc, world, names)?;
     simulate_on(alloc, world, drive, rounds, &mut watch)?;
@@ -209,6 +247,7 @@ fn ran<R: Threads + Wait + Sync>(
 ) -> Result<Output, Fault>
     ensures is { IsRunOutcome verified asked.entry result }
     ensures unwritten { result ≢ Err Fault.CannotWrite }
+    ensures warned { HasWarnings None result }
 {
     let floors = u16::from(verified.sizes().floors);
     match drive_of(alloc, asked, floors) {
@@ -263,7 +302,8 @@ fn said_after(
 ) -> Result<Output, Fault>
     requires opening { world.old.world ≡ opening world.old.program.config }
     requires few { length events.now ≤ greatest_trace }
-    ensures { AreFollowed command world.old.program events.now result }
+    ensures is { AreFollowed command world.old.program events.now result }
+    ensures warned { HasWarnings None result }
 {
     match command {
         Following::Replay => image_after(alloc, world, events),
@@ -275,7 +315,8 @@ fn said_after(
 fn image_after(alloc: Global, world: &mut World, events: &[TraceEvent]) -> Result<Output, Fault>
     requires opening { world.old.world ≡ opening world.old.program.config }
     requires few { length events.now ≤ greatest_trace }
-    ensures { AreFollowed Following.Replay world.old.program events.now result }
+    ensures is { AreFollowed Following.Replay world.old.program events.now result }
+    ensures warned { HasWarnings None result }
 {
     match replay(world, events) {
         Ok(()) => Ok(Output::Text(image_text(alloc, world)?)),
@@ -287,7 +328,8 @@ fn image_after(alloc: Global, world: &mut World, events: &[TraceEvent]) -> Resul
 fn picture_of(alloc: Global, world: &mut World, events: &[TraceEvent]) -> Result<Output, Fault>
     requires opening { world.old.world ≡ opening world.old.program.config }
     requires few { length events.now ≤ greatest_trace }
-    ensures { AreFollowed Following.Draw world.old.program events.now result }
+    ensures is { AreFollowed Following.Draw world.old.program events.now result }
+    ensures warned { HasWarnings None result }
 {
     match drawing(alloc, world, events) {
         Ok(picture) => Ok(Output::Text(picture)),
@@ -314,7 +356,8 @@ fn followed_text(
     command: Following,
     text: &[u8],
 ) -> Result<Output, Fault>
-    ensures { IsFollowed command verified text.now result }
+    ensures is { IsFollowed command verified text.now result }
+    ensures warned { HasWarnings None result }
 {
     match events_of(alloc, text, verified.sizes().cars) {
         Ok(events) => followed_events(alloc, verified, command, &events),
@@ -332,7 +375,8 @@ fn followed_events(
     events: &[TraceEvent],
 ) -> Result<Output, Fault>
     requires few { length events.now ≤ greatest_trace }
-    ensures { AreFollowed command verified events.now result }
+    ensures is { AreFollowed command verified events.now result }
+    ensures warned { HasWarnings None result }
 {
     let mut world = World::new(alloc, verified)?;
     let output = said_after(alloc, &mut world, command, events);
@@ -349,6 +393,7 @@ fn trace_outcome<F: TextFiles>(
 ) -> Result<Output, Fault>
     ensures is { IsTraceOutcome (F.gives files.now) (F.fails files.now) command verified trace.now result }
     ensures unwritten { result ≢ Err Fault.CannotWrite }
+    ensures warned { HasWarnings None result }
 {
     match files.read(alloc, trace, GREATEST_TRACE + 1) {
         Ok(text) => followed_text(alloc, verified, command, &text),

@@ -30,12 +30,12 @@ cannot_write_only fault.CannotRead e = cc
 cannot_write_only fault.CannotWrite e = refl
 cannot_write_only fault.NoMemory e = cc
 
--- where it is done, the outcome was an output, and it was written
-pub done_of : (M : Outcome → Type 0) (Written : Output → Type 0) (outcome : Outcome) (result : Status)
-    → M outcome → IfOk outcome (λ output. result ≡ status.Done → Written output) → IfErr outcome (λ f. result ≡ status_of f)
-    → result ≡ status.Done → (output : Output) × M (Ok output) × Written output
-done_of M Written (Ok output) result m shown ends e = (output, m, shown e)
-done_of M Written (Err f) result m shown ends e = absurd (never_done f (sym ends ∙ e))
+-- where it is done, the outcome was an output, and it and its warnings were written
+pub done_of : (M : Outcome → Type 0) (Written Warned : Output → Type 0) (outcome : Outcome) (result : Status)
+    → M outcome → IfOk outcome (λ output. result ≡ status.Done → Written output) → IfOk outcome (λ output. result ≡ status.Done → Warned output) → IfErr outcome (λ f. result ≡ status_of f)
+    → result ≡ status.Done → (output : Output) × M (Ok output) × Written output × Warned output
+done_of M Written Warned (Ok output) result m shown warned ends e = (output, m, shown e, warned e)
+done_of M Written Warned (Err f) result m shown warned ends e = absurd (never_done f (sym ends ∙ e))
 
 -- where the output can't be written, the outcome was one, and a front of it was written
 pub front_of : (M : Outcome → Type 0) (Begun : Output → Type 0) (outcome : Outcome) (result : Status)

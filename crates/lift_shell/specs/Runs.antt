@@ -1,5 +1,5 @@
 -- What comes of a run of the program (own rules).
-use Rattle.std.specs.Prelude.{◌≡◌, ◌⊎◌, ◌||◌, ◌++◌, ℕ, List, [], length, nat_lt, Bool, true, Ok, Err, if◌then◌else◌}
+use Rattle.std.specs.Prelude.{◌≡◌, ◌⊎◌, ◌||◌, ◌++◌, ℕ, List, [], length, nat_lt, Bool, true, None, Ok, Err, if◌then◌else◌}
 use Rattle.lift_host.specs.declared.files.ReadFault.{ReadFault}
 use Rattle.lift_host.specs.declared.request.Request.{Request}
 use Rattle.lift_host.specs.declared.status.Fault.{Fault}
@@ -9,7 +9,7 @@ use Rattle.lift_host.specs.Messages.{fault_of_reading, message_of, status_of}
 use Rattle.lift_host.specs.declared.request.Request.TheVariants as request
 use Rattle.lift_host.specs.Requests.{Asks, AreWithoutExplain, name_of}
 use Rattle.lift_show.specs.declared.output.Output.{Output}
-use Rattle.lift_show.specs.Outputs.{Outcome, bytes_of}
+use Rattle.lift_show.specs.Outputs.{Outcome, bytes_of, warnings_of}
 use Rattle.lift_source.specs.Places.{IsShownBelow}
 
 -- the bytes of a file that are read: one more than a text may have
@@ -18,7 +18,7 @@ most_bytes = 262145
 
 -- Words that ask for no file give help, the version, what a number means, or what is wrong with them.
 abbrev pub IsWordsOutcome : Outcome → Type 0
-IsWordsOutcome (Ok output) = Unit {0}
+IsWordsOutcome (Ok output) = warnings_of output ≡ None
 IsWordsOutcome (Err (fault.Misuse text)) = Unit {0}
 IsWordsOutcome (Err fault.NoMemory) = Unit {0}
 IsWordsOutcome (Err _) = ⊥
@@ -42,6 +42,10 @@ pub data IsRunOutcome (reads : List ℕ → ℕ → List ℕ → Type 0) (fails 
 abbrev pub HasWritten : (Outcome → Type 0) → (List ℕ → Type 0) → Type 0
 HasWritten Of Writes = (output : Output) × Of (Ok output) × Writes (bytes_of output)
 
+-- the same, and its warnings
+abbrev pub HasShown : (Outcome → Type 0) → (List ℕ → Type 0) → (Output → Type 0) → Type 0
+HasShown Of Writes Warns = (output : Output) × Of (Ok output) × Writes (bytes_of output) × Warns output
+
 -- BELOW A REFUSAL
 
 -- the bytes of a trace that are read: one more than a trace may have
@@ -50,7 +54,8 @@ most_trace_bytes = 67108865
 
 -- the file to which the number of a refusal belongs, and how many of its bytes are read: numbers from 60 on are a trace's
 abbrev pub source_of : ℕ → Request → List ℕ × ℕ
-source_of number (request.Check file) = (file.now, most_bytes)
+source_of number (request.Check checked) = (checked.file.now, most_bytes)
+source_of number (request.Show command file) = (file.now, most_bytes)
 source_of number (request.Rounds command rounds) = (rounds.file.now, most_bytes)
 source_of number (request.Trace command traced) = if nat_lt number 60 then (traced.file.now, most_bytes) else (traced.trace.now, most_trace_bytes)
 

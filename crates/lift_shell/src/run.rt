@@ -2,7 +2,8 @@
 
 ghost use Rattle.std.specs.Prelude.{◌≡◌, ◌≢◌, ◌⊎◌, ◌||◌, nat_lt, length, Err, IfErr, IfSome, true, false, map, string_bytes};
 ghost use Rattle.std.specs.Io.KnownBytes.{Appends, Keeps};
-ghost use Rattle.lift_shell.specs.Runs.{IsOutcome, IsRunOutcome, IsFileOutcome, IsWordsOutcome, IsBelow, IsBelowRun, IsPlaced, HasWritten, HasTold, source_of};
+ghost use Rattle.lift_shell.specs.Runs.{IsOutcome, IsRunOutcome, IsFileOutcome, IsWordsOutcome, IsBelow, IsBelowRun, IsPlaced, HasWritten, HasShown, HasTold, source_of};
+ghost use Rattle.lift_show.specs.Outputs.{Warns};
 ghost use Rattle.lift_sink.specs.Writes.{Writes, AppendsFront};
 
 use crate::commands::Commands;
@@ -35,9 +36,8 @@ pub fn run<R: Threads + Wait + Sync, F: TextFiles, C: Commands, O: Sink, E: Sink
 ) -> Status
     requires { O.has_failed out.old ≡ false }
 
-    // Where it is done, the standard output has the output of the words, and the standard error nothing.
-    ensures done { result ≡ Status.Done → HasWritten (IsRunOutcome (F.gives files.now) (F.fails files.now) (C.gives commands.now (F.gives files.now) (F.fails files.now)) (map string_bytes words.now)) (Appends (O.contents out.old) (O.contents out.new)) }
-    ensures silent { result ≡ Status.Done → Keeps (E.contents err.old) (E.contents err.new) }
+    // Where it is done, the standard output has the output of the words, and the standard error its warnings, if it may have some.
+    ensures done { result ≡ Status.Done → HasShown (IsRunOutcome (F.gives files.now) (F.fails files.now) (C.gives commands.now (F.gives files.now) (F.fails files.now)) (map string_bytes words.now)) (Appends (O.contents out.old) (O.contents out.new)) (λ output. Warns output (E.contents err.old) (E.contents err.new) (E.has_failed err.new)) }
 
     // Otherwise the standard error has the one message of the words' fault, or of a standard output
     // that failed, and below a refusal that is to be explained its line and what its number means. Unless the standard

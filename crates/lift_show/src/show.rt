@@ -4,13 +4,14 @@ ghost use Rattle.std.specs.Prelude.{◌≡◌, ◌⊎◌, ◌++◌, true, false,
 ghost use Rattle.std.specs.Io.KnownBytes.{Appends, Keeps};
 ghost use Rattle.lift_sink.specs.Writes.{Writes, AppendsFront};
 ghost use Rattle.lift_host.specs.Messages.{message_of, status_of};
-ghost use Rattle.lift_show.specs.Outputs.{bytes_of};
+ghost use Rattle.lift_show.specs.Outputs.{bytes_of, Warns};
 
 use crate::output::Output;
 use lift_host::status::{Fault, Status};
 use lift_sink::sink::{Sink, put_all};
 
-/// Writes the output of the program, or what it says of its fault, with a text below that. A standard error that fails changes nothing.
+/// Writes the output of the program and then its warnings, or what it says of its fault, with a text below that. A standard error that
+/// fails changes nothing.
 pub fn show<O: Sink, E: Sink>(
     outcome: Result<Output, Fault>,
     below: &[u8],
@@ -21,7 +22,7 @@ pub fn show<O: Sink, E: Sink>(
     ensures ends { IfOk outcome (λ _. (result ≡ Status.Done) ⊎ ((result ≡ Status.CannotWrite) × (O.has_failed out.new ≡ true))) }
     ensures shown { IfOk outcome (λ output. result ≡ Status.Done → Appends (O.contents out.old) (O.contents out.new) (bytes_of output)) }
     ensures front { IfOk outcome (λ output. result ≡ Status.CannotWrite → AppendsFront (O.contents out.old) (O.contents out.new) (bytes_of output)) }
-    ensures silent { result ≡ Status.Done → Keeps (E.contents err.old) (E.contents err.new) }
+    ensures warned { IfOk outcome (λ output. result ≡ Status.Done → Warns output (E.contents err.old) (E.contents err.new) (E.has_failed err.new)) }
     ensures cannot_write { IfOk outcome (λ _. result ≡ Status.CannotWrite → Writes (E.contents err.old) (E.contents err.new) (E.has_failed err.new) (message_of Fault.CannotWrite)) }
 
     ensures fault { IfErr outcome (λ fault. result ≡ status_of fault) }
@@ -31,6 +32,7 @@ pub fn show<O: Sink, E: Sink>(
     match outcome {
         Ok(output) => {
             if output.put(out) {
+                output.warn(err);
                 return Status::Done;
             }
             let _ = Fault::CannotWrite.put(err);

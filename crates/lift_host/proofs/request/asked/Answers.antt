@@ -5,21 +5,25 @@ use Rattle.lift_host.specs.declared.request.Following.TheVariants as following
 use Rattle.lift_host.specs.declared.request.Name.{Name}
 use Rattle.lift_host.specs.declared.request.Name.TheVariants as name
 use Rattle.lift_host.specs.declared.request.Request.{Request}
+use Rattle.lift_host.specs.declared.request.Showing.TheVariants as showing
 use Rattle.lift_host.specs.declared.request.Simulating.TheVariants as simulating
 
--- a word's length and first letter tell which command it names
+-- a word's length and first two letters tell which command it names
 key_of : List ℕ → ℕ
-key_of word = 256 * length word + slice_index word 0
+key_of word = 65536 * length word + (256 * slice_index word 0 + slice_index word 1)
 
 named : ℕ → Name
 named key =
-    if key == key_of (codes "check") then name.Check else if key == key_of (codes "sim") then name.Rounds simulating.Sim else if key == key_of (codes "run") then name.Rounds simulating.Run
+    if key == key_of (codes "check") then name.Check else if key == key_of (codes "ranges") then name.Show showing.Ranges else if key == key_of (codes "xref") then name.Show showing.Xref
+    else if key == key_of (codes "sim") then name.Rounds simulating.Sim else if key == key_of (codes "run") then name.Rounds simulating.Run
     else if key == key_of (codes "denials") then name.Rounds simulating.Denials else if key == key_of (codes "watch") then name.Rounds simulating.Watch
     else if key == key_of (codes "replay") then name.Trace following.Replay else name.Trace following.Draw
 
 is_named : (n : Name) → named (key_of (word_of n)) ≡ n
 unfolding named key_of
 is_named name.Check = refl
+is_named (name.Show showing.Ranges) = refl
+is_named (name.Show showing.Xref) = refl
 is_named (name.Rounds simulating.Sim) = refl
 is_named (name.Rounds simulating.Run) = refl
 is_named (name.Rounds simulating.Denials) = refl

@@ -1,7 +1,9 @@
-use Rattle.std.proofs.Common.{◌≡◌, ◌∙◌}
+use Rattle.std.proofs.Common.{◌≡◌, ◌∙◌, sym, subst}
+use Rattle.il_spec.specs.declared.tree.Config.{Config}
 use Rattle.il_rules.specs.Faults.{HasNoFault, IsRefusedBy, Broken, Ordering}
 use Rattle.lift_load.specs.Loading.{IsRefusedFor, IsUnbroken}
 use Rattle.lift_load.proofs.Explaining.{handed_as, if_ok, if_err}
+use Rattle.lift_load.proofs.Accepting.{handed_on, breaks_here}
 use Rattle.lift_load.proofs.Phases.{at_order, unbroken_by}
 use Rattle.lift_load.proofs.loader.in_order.Goals as goal
 
@@ -20,3 +22,10 @@ pub returns-clause-refused : goal.returns-clause-refused
 returns-clause-refused c =
     if_err (IsRefusedBy (Broken Ordering c.in_ok-typed.typed)) (IsRefusedFor c.args.config) c.ordered.result
     (λ e refused. at_order c.args.config c.in_ok-typed.typed e c.in_ok-typed.ensures.same c.in_ok-typed.ensures.declared c.in_ok-typed.ensures.typed refused) c.ordered.ensures.refused
+
+pub returns-in_err-typed-clause-broken : goal.returns-in_err-typed-clause-broken
+returns-in_err-typed-clause-broken c = λ fault. c.in_err-typed.ensures.broken (handed_on Config _ _ c.from_residual.ensures.1 fault)
+
+pub returns-clause-broken : goal.returns-clause-broken
+returns-clause-broken c = λ fault unbroken.
+    breaks_here (Broken Ordering c.in_ok-typed.typed) c.ordered.result fault c.ordered.ensures.refused (subst (λ d. HasNoFault (Broken Ordering d)) (sym c.in_ok-typed.ensures.same) unbroken.ordered)

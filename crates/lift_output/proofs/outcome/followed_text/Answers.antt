@@ -12,7 +12,7 @@ followed_events-requires c = record {
   few = subst (λ (l : List TraceEvent). length l ≤ greatest_trace) (sym c.deref.ensures.value) (few_events c.sizes.result.cars c.args.text.now c.in-Ok.events.items c.in-Ok.ensures.ok);
 }
 
-pub returns-in-Ok : goal.returns-in-Ok
-returns-in-Ok c =
+pub returns-in-Ok-clause-is : goal.returns-in-Ok-clause-is
+returns-in-Ok-clause-is c =
     followed_is c.args.command c.args.verified c.args.text.now c.deref.result.now c.followed_events.result
-    (subst (λ (l : List TraceEvent). Reads (sizes_of c.args.verified.config).cars c.args.text.now (Ok l)) (sym c.deref.ensures.value) (subst (λ (s : Sizes). Reads s.cars c.args.text.now (Ok c.in-Ok.events.items)) c.sizes.ensures c.in-Ok.ensures.ok)) c.followed_events.ensures
+    (subst (λ (l : List TraceEvent). Reads (sizes_of c.args.verified.config).cars c.args.text.now (Ok l)) (sym c.deref.ensures.value) (subst (λ (s : Sizes). Reads s.cars c.args.text.now (Ok c.in-Ok.events.items)) c.sizes.ensures c.in-Ok.ensures.ok)) c.followed_events.ensures.is

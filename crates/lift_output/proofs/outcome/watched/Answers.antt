@@ -21,7 +21,7 @@ returns-in_ok-world-in-Ok-clause-is c =
     watched_is c.args.verified c.args.asked (words_of c.names_first.result.names) c.names_first.result.presses c.names_first.ensures c.in-Ok.driven.presses c.in-Ok.driven.fire c.from-floors.result
     (c.from-floors.ensures ∙ ap (λ (s : Sizes). s.floors) c.sizes.ensures) c.in-Ok.ensures.ok c.watched_world-output.result
     (subst (λ (l : List Press). IsWatched c.args.verified.config (words_of c.names_first.result.names) l c.in-Ok.driven.fire c.args.asked.rounds c.watched_world-output.result) c.as_slice.ensures
-    (subst (λ (p : Program). IsWatched p.config (words_of c.names_first.result.names) c.as_slice.result.now c.in-Ok.driven.fire c.args.asked.rounds c.watched_world-output.result) c.in_ok-world-in-Ok.ensures.same c.watched_world-output.ensures))
+    (subst (λ (p : Program). IsWatched p.config (words_of c.names_first.result.names) c.as_slice.result.now c.in-Ok.driven.fire c.args.asked.rounds c.watched_world-output.result) c.in_ok-world-in-Ok.ensures.same c.watched_world-output.ensures.is))
 
 pub returns-in-Err-clause-is : goal.returns-in-Err-clause-is
 returns-in-Err-clause-is c =

@@ -2,7 +2,7 @@ use Rattle.std.proofs.Common.{◌++◌, IfErr, map, string_bytes, inl, refl, sub
 use Rattle.lift_host.specs.Messages.{message_of}
 use Rattle.std.specs.Io.KnownBytes.{Appends}
 use Rattle.lift_shell.specs.Runs.{IsRunOutcome, IsBelowRun}
-use Rattle.lift_show.specs.Outputs.{bytes_of}
+use Rattle.lift_show.specs.Outputs.{bytes_of, Warns}
 use Rattle.lift_sink.specs.Writes.{Writes, AppendsFront}
 use Rattle.lift_shell.proofs.Ending.{done_of, front_of, told_of}
 use Rattle.lift_shell.proofs.run.run.Goals as goal
@@ -10,7 +10,8 @@ use Rattle.lift_shell.proofs.run.run.Goals as goal
 pub returns-clause-done : goal.returns-clause-done
 returns-clause-done g c =
     done_of (IsRunOutcome (g.F.TextFiles.gives c.args.files.now) (g.F.TextFiles.fails c.args.files.now) (g.C.Commands.gives c.args.commands.now (g.F.TextFiles.gives c.args.files.now) (g.F.TextFiles.fails c.args.files.now)) (map string_bytes c.args.words.now))
-    (λ output. Appends (g.O.Sink.contents c.args.out.now) (g.O.Sink.contents c.show.new.out) (bytes_of output)) c.answer-answer.result.outcome c.show.result c.answer-answer.ensures.is c.show.ensures.shown c.show.ensures.fault
+    (λ output. Appends (g.O.Sink.contents c.args.out.now) (g.O.Sink.contents c.show.new.out) (bytes_of output))
+    (λ output. Warns output (g.E.Sink.contents c.args.err.now) (g.E.Sink.contents c.show.new.err) (g.E.Sink.has_failed c.show.new.err)) c.answer-answer.result.outcome c.show.result c.answer-answer.ensures.is c.show.ensures.shown c.show.ensures.warned c.show.ensures.fault
 
 pub returns-clause-front : goal.returns-clause-front
 returns-clause-front g c =
