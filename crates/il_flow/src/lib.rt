@@ -3,4 +3,5 @@
 
 pub mod carried;
 pub mod join;
+pub mod observer;
 pub mod pass;

@@ -3,7 +3,9 @@
 ghost use Rattle.std.specs.Prelude.{◌≡◌, ℕ, ◌<◌, ◌+◌, ◌^◌, Option, Some, None, option_map, IfOk, length, slice_set, true, false, Bool};
 ghost use Rattle.il_range_laws.specs.Pass.{Moves, Arrived, passed, advance, merged};
 ghost use Rattle.il_flow.specs.Tables.{held, moved, IsAheadOf, IsInTable, target_next, Merges, Comes, IsStepped, IsFresh, IsPassed, IsAheadBelow, IsFineBelow};
+ghost use Rattle.il_flow.specs.Seen.{IsPassedShowing};
 
+use crate::observer::Observer;
 use std::alloc::{AllocError, Global};
 
 /// What a place hands on: to the next place, and to another.
@@ -138,21 +140,24 @@ fn fresh<K: Drop>(alloc: Global, entry: K, count: usize) -> Result<Vec<Option<K>
     Ok(table)
 }
 
-/// Goes over so many places, from the first on, until one is refused.
-pub fn pass<F: Flow>(
+/// Goes over so many places before an observer, from the first on, until one is refused.
+pub fn pass<F: Flow, O: Observer<F::Facts>>(
     alloc: Global,
     flow: &F,
     entry: F::Facts,
     count: usize,
+    observer: &mut O,
 ) -> Result<Option<F::Refused>, AllocError>
     requires room { count < 9223372036854775808 }
     requires own { (place : ℕ) → place < count → F.holds flow.now place }
     requires ahead { IsAheadBelow (F.moves flow.now) count }
     requires fine { IsFineBelow F.join (F.moves flow.now) (F.takes flow.now) entry count }
-    ensures { IfOk result (IsPassed F.join (F.moves flow.now) (F.refuses flow.now) entry count) }
+    ensures passed { IfOk result (IsPassed F.join (F.moves flow.now) (F.refuses flow.now) entry count) }
+    ensures shown { IfOk result (IsPassedShowing F.join (F.moves flow.now) (F.refuses flow.now) entry count (O.shows observer.old) (O.text observer.old) (O.text observer.new)) }
 {
     let mut waiting = fresh(alloc, entry, count)?;
     for place in 0..count {
+        observer.see(place, &waiting[place])?;
         let refused = step(alloc, flow, &mut waiting, place)?;
         if refused.is_some() {
             return Ok(refused);
