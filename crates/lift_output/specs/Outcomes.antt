@@ -35,7 +35,7 @@ use Rattle.lift_spec.specs.World.{World, opening}
 use Rattle.lift_trace.specs.declared.fault.TraceFault.TheVariants.{BadLine, Truncated}
 use Rattle.lift_trace.specs.Reading.{Reads}
 use Rattle.lift_trace.specs.Written.{text_of_entries}
-use Rattle.lift_xref.specs.Warnings.{warnings_text}
+use Rattle.lift_warnings.specs.Warnings.{warnings_text}
 use Rattle.lift_xref.specs.Xref.{xref_text}
 use Rattle.lift_watch.specs.declared.names.Watched.{Watched}
 use Rattle.lift_watch.specs.Denials.{denied}
