@@ -1,0 +1,91 @@
+// The names that declarations give.
+
+ghost use Rattle.std.specs.Prelude.{◌≡◌};
+ghost use Rattle.std.specs.Iterator.{YieldsFirstBy, item_count};
+ghost use Rattle.lift_xref.specs.Names.{declared_names, is_declared, declares, is_block, name_shown, names_left};
+
+use il_spec::tree::{Declaration, Form, Named, Unit};
+
+/// A declared name, its line, and whether it is an instance of a function block.
+#[derive(Clone, Copy)]
+pub struct Declared<'c> {
+    pub name: &'c str,
+    pub line: u32,
+    pub is_instance: bool,
+}
+
+/// The names that are left of declarations.
+#[derive(Clone, Copy)]
+pub struct DeclaredNames<'c> {
+    /// Those of the declaration that is begun.
+    pub names: &'c [Named],
+    /// Whether that one declares instances.
+    pub is_instance: bool,
+    /// The declarations behind it.
+    pub declarations: &'c [Declaration],
+}
+
+/// The names of declarations, in the order of the text.
+pub fn declared_names<'c>(declarations: &'c [Declaration]) -> DeclaredNames<'c>
+    ensures { names_left result ≡ declared_names declarations.now }
+{
+    DeclaredNames {
+        names: &[],
+        is_instance: false,
+        declarations,
+    }
+}
+
+impl<'c> Iterator for DeclaredNames<'c> {
+    type Item = Declared<'c>;
+
+    ghost next_gives = { YieldsFirstBy name_shown names_left };
+
+    ghost remaining = { item_count names_left };
+
+    fn next(&mut self) -> Option<Declared<'c>> {
+        'declarations: loop {
+            if let Some((named, names)) = self.names.split_first() {
+                self.names = names;
+                return Some(Declared {
+                    name: named.name.as_str(),
+                    line: named.place.line,
+                    is_instance: self.is_instance,
+                });
+            }
+            let (declaration, declarations) = self.declarations.split_first()?;
+            self.names = declaration.names.as_slice();
+            self.is_instance = is_block(&declaration.declared.form);
+            self.declarations = declarations;
+        }
+    }
+}
+
+/// Whether a type is a function block (IEC 61131-3:2003, 2.5.2.1).
+pub fn is_block(form: &Form) -> bool
+    ensures { result ≡ is_block form.now }
+{
+    matches!(form, Form::Block(_))
+}
+
+/// Whether declarations give a name.
+pub fn is_declared(declarations: &[Declaration], name: &str) -> bool
+    ensures { result ≡ is_declared declarations.now name.now }
+{
+    'names: for declared in declared_names(declarations) {
+        if declared.name == name {
+            return true;
+        }
+    }
+    false
+}
+
+/// Whether a unit declares a name, an external among them.
+pub fn declares(unit: &Unit, name: &str) -> bool
+    ensures { result ≡ declares unit.now name.now }
+{
+    is_declared(unit.inputs.as_slice(), name)
+        || is_declared(unit.outputs.as_slice(), name)
+        || is_declared(unit.variables.as_slice(), name)
+        || is_declared(unit.externals.as_slice(), name)
+}
