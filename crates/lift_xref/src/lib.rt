@@ -6,4 +6,4 @@ mod seen;
 pub mod uses;
 mod xref;
 
-pub use xref::{uses_global, xref_text};
+pub use xref::{is_global_used, xref_text};

@@ -1,10 +1,10 @@
 // The cross reference of a configuration.
 
-ghost use Rattle.std.specs.Prelude.{◌≡◌, ◌++◌, [], ◌||◌, flat_map, IfOk, OnOk, string_bytes};
-ghost use Rattle.lift_xref.specs.Names.{declared_names};
+ghost use Rattle.std.specs.Prelude.{◌≡◌, ◌++◌, [], ◌||◌, true, flat_map, IfOk, OnOk, string_bytes};
+ghost use Rattle.std.specs.List.{list_any};
+ghost use Rattle.lift_xref.specs.Names.{declared_names, name_shown};
 ghost use Rattle.lift_xref.specs.Uses.{uses};
 ghost use Rattle.lift_xref.specs.Xref.{is_there, mark, behind, parts_text, manner_word, used_part, used_parts, use_line, use_lines, declared_line, declared_lines, other_line, other_lines, other_names, kind_word, heading, unit_text, uses_global, unit_places, global_places, global_line, globals_text, program_line, programs_text, xref_text};
-ghost use Rattle.lift_xref.specs.Names.{name_shown};
 
 use crate::names::{Declared, declared_names, declares, is_declared};
 use crate::seen::Seen;
@@ -52,7 +52,12 @@ fn put_heading(text: &mut String, unit: &Unit) -> Result<(), AllocError>
     ensures { OnOk result (string_bytes text.new ≡ string_bytes text.old ++ heading unit.now) }
 {
     put_kind(text, unit.kind)?;
-    writeln!(text, " {} line {}", unit.name.name.as_str(), unit.place.line)
+    writeln!(
+        text,
+        " {} line {}",
+        unit.name.name.as_str(),
+        unit.place.line
+    )
 }
 
 fn put_kind(text: &mut String, kind: UnitKind) -> Result<(), AllocError>
@@ -117,12 +122,7 @@ fn put_other_line(text: &mut String, steps: &[Step], name: &str) -> Result<(), A
 }
 
 // Where steps use a name, in each manner; `begun` says whether a part stands before.
-fn put_uses(
-    text: &mut String,
-    steps: &[Step],
-    name: &str,
-    begun: bool,
-) -> Result<(), AllocError>
+fn put_uses(text: &mut String, steps: &[Step], name: &str, begun: bool) -> Result<(), AllocError>
     ensures { OnOk result (string_bytes text.new ≡ string_bytes text.old ++ parts_text begun (used_parts (use_lines steps.now name.now))) }
 {
     let begun = put_used(text, steps, name, Manner::Read, begun)?;
@@ -179,11 +179,7 @@ fn put_lines(
     Ok(())
 }
 
-fn put_globals(
-    text: &mut String,
-    units: &[Unit],
-    globals: &[Declaration],
-) -> Result<(), AllocError>
+fn put_globals(text: &mut String, units: &[Unit], globals: &[Declaration]) -> Result<(), AllocError>
     ensures { OnOk result (string_bytes text.new ≡ string_bytes text.old ++ globals_text units.now globals.now) }
 {
     if globals.is_empty() {
@@ -207,11 +203,7 @@ fn put_global_lines(
 }
 
 #[tactic(auto, unfolding(crate::specs::Xref::global_line))]
-fn put_global_line(
-    text: &mut String,
-    units: &[Unit],
-    name: &Declared<'_>,
-) -> Result<(), AllocError>
+fn put_global_line(text: &mut String, units: &[Unit], name: &Declared<'_>) -> Result<(), AllocError>
     ensures { OnOk result (string_bytes text.new ≡ string_bytes text.old ++ global_line units.now (name_shown name.now)) }
 {
     write!(text, "  {}: declared {}", name.name, name.line)?;
@@ -237,7 +229,7 @@ fn put_global_used(
 ) -> Result<(), AllocError>
     ensures { OnOk result (string_bytes text.new ≡ string_bytes text.old ++ behind (mark true) (used_part manner (global_places units.now name.now manner))) }
 {
-    if units.iter().any(|unit| uses_global(manner, name, unit)) {
+    if is_global_used(manner, name, units) {
         put_word(text, manner, true)?;
         put_places(text, units, name, manner)?;
     }
@@ -274,8 +266,20 @@ fn put_unit_places(
     Ok(())
 }
 
-/// Whether a unit lists a name as an external, and uses it in a manner.
-pub fn uses_global(manner: Manner, name: &str, unit: &Unit) -> bool
+/// Whether a unit that lists a global as an external uses it in a manner.
+pub fn is_global_used(manner: Manner, name: &str, units: &[Unit]) -> bool
+    ensures { result ≡ list_any (uses_global manner name.now) units.now }
+{
+    'units: for unit in units {
+        if uses_global(manner, name, unit) {
+            return true;
+        }
+    }
+    false
+}
+
+// Whether a unit lists a name as an external, and uses it in a manner.
+fn uses_global(manner: Manner, name: &str, unit: &Unit) -> bool
     ensures { result ≡ uses_global manner name.now unit.now }
 {
     is_declared(unit.externals.as_slice(), name)
@@ -305,6 +309,16 @@ fn put_program_lines(text: &mut String, programs: &[ProgramLine]) -> Result<(), 
 fn put_program_line(text: &mut String, line: &ProgramLine) -> Result<(), AllocError>
     ensures { OnOk result (string_bytes text.new ≡ string_bytes text.old ++ program_line line.now) }
 {
-    write!(text, "  {} line {}: ", line.name.name.as_str(), line.place.line)?;
-    writeln!(text, "{} with {}", line.program.name.as_str(), line.task.name.as_str())
+    write!(
+        text,
+        "  {} line {}: ",
+        line.name.name.as_str(),
+        line.place.line
+    )?;
+    writeln!(
+        text,
+        "{} with {}",
+        line.program.name.as_str(),
+        line.task.name.as_str()
+    )
 }
