@@ -2,7 +2,7 @@
 use Rattle.std.specs.Prelude.{◌≡◌, ◌⊎◌, ℕ, List, Ok, Err, None}
 use Rattle.il_spec.specs.declared.fault.Refusal.{Refusal}
 use Rattle.il_spec.specs.declared.tree.Config.{Config}
-use Rattle.il_shown.specs.Shown.{AreShown}
+use Rattle.il_shown.specs.Texts.{AreRangesShown}
 use Rattle.il_machine.specs.Scanning.{Program}
 use Rattle.lift_host.specs.declared.files.ReadFault.{ReadFault}
 use Rattle.lift_host.specs.declared.request.Request.{Request}
@@ -18,7 +18,7 @@ use Rattle.lift_command.specs.Loaded.{IsLoaded}
 -- `ranges` shows something of a refused text as well, where that spells a configuration whose declarations, types and order are unbroken.
 -- Memory may be missing.
 abbrev pub IsKnown : List ℕ → Refusal → Outcome → Type 0
-IsKnown text why (Ok output) = (c : Config) × IsSpelled text c × IsUnbroken c × AreShown c (bytes_of output) × (warnings_of output ≡ None)
+IsKnown text why (Ok output) = (c : Config) × IsSpelled text c × IsUnbroken c × AreRangesShown c (bytes_of output) × (warnings_of output ≡ None)
 IsKnown text why (Err f) = (f ≡ fault.NoMemory) ⊎ ((f ≡ fault_of why) × ((c : Config) → IsSpelled text c → IsUnbroken c → ⊥))
 
 -- Of a refused text all other requests tell the fault.

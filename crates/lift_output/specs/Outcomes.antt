@@ -1,7 +1,7 @@
 -- What a request gives of a verified configuration (own rules).
 use Rattle.std.specs.Prelude.{◌≡◌, ℕ, ◌+◌, ◌++◌, Bool, true, false, List, Option, Some, None, option_map, Ok, Err, IfOk}
 use Rattle.il_spec.specs.declared.tree.Config.{Config}
-use Rattle.il_shown.specs.Shown.{AreShown}
+use Rattle.il_shown.specs.Texts.{AreRangesShown}
 use Rattle.il_machine.specs.Scanning.{Program}
 use Rattle.lift_host.specs.declared.files.ReadFault.{ReadFault}
 use Rattle.lift_host.specs.declared.press.Press.{Press}
@@ -73,7 +73,7 @@ HasWarnings warnings outcome = IfOk outcome (λ output. warnings_of output ≡ w
 
 -- `ranges` prints what the verifier has found for each instruction; memory may be missing.
 abbrev pub IsRangesOutcome : Config → Outcome → Type 0
-IsRangesOutcome c (Ok output) = AreShown c (bytes_of output)
+IsRangesOutcome c (Ok output) = AreRangesShown c (bytes_of output)
 IsRangesOutcome c (Err fault.NoMemory) = Unit {0}
 IsRangesOutcome c (Err _) = ⊥
 
