@@ -69,7 +69,12 @@ fn warn<'a>(alloc: Global) -> Arg<'a> {
 
 /// The command that checks.
 fn check_command<'a>(alloc: Global) -> Result<Command<'a>, AllocError> {
-    file_command(alloc, "check", "Verifies FILE and shows its tasks and units")?.arg(warn(alloc))
+    file_command(
+        alloc,
+        "check",
+        "Verifies FILE and shows its tasks and units",
+    )?
+    .arg(warn(alloc))
 }
 
 /// The command that shows what the verifier knows.
