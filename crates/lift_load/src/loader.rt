@@ -50,8 +50,8 @@ pub fn unbroken(alloc: Global, text: &[u8]) -> Result<Ordered, Refusal>
     ensures found { IfOk result (λ o. IsSpelled text.now o × IsUnbroken o) }
     ensures none { IsFault result → (c : ConfigOf) → IsSpelled text.now c → IsUnbroken c → ⊥ }
 {
-    let config = parsed(alloc, text)?;
-    in_order(alloc, config)
+    let written = parsed(alloc, text)?;
+    in_order(alloc, written)
 }
 
 // The configuration that a text spells. Its tokens are given up before it is verified.
