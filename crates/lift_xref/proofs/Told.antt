@@ -7,7 +7,7 @@ use Rattle.il_spec.specs.declared.tree.Step.{Step}
 use Rattle.il_spec.specs.declared.tree.Unit.{Unit as ProgramUnit}
 use Rattle.il_rules.specs.Names.{Spelling}
 use Rattle.lift_xref.specs.Names.{is_declared}
-use Rattle.lift_xref.specs.Uses.{NameUse, uses, is_use, is_used}
+use Rattle.lift_xref.specs.Uses.{uses, is_use, is_used}
 use Rattle.lift_xref.specs.Xref.{is_there, behind, mark, manner_word, used_part, use_line, use_lines, uses_global, unit_places, global_places}
 use Rattle.lift_xref.specs.declared.uses.Manner.{Manner}
 use Rattle.lift_xref.specs.declared.uses.Manner.TheVariants.{Read, Written, Called}

@@ -1,4 +1,4 @@
-use Rattle.std.proofs.Common.{◌≡◌, ◌&&◌, false, take, bytes_eq}
+use Rattle.std.proofs.Common.{◌≡◌, false, take, bytes_eq}
 use Rattle.std.specs.List.{list_any}
 use Rattle.il_spec.specs.declared.tree.ProgramLine.{ProgramLine}
 use Rattle.lift_warnings.proofs.needed.is_run.Given as goal

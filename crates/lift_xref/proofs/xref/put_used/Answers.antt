@@ -1,7 +1,7 @@
 use Rattle.std.proofs.Common.{◌≡◌, ◌++◌, ◌∙◌, sym, ap, true, false, string_bytes, append_assoc, arith, rules, tests}
 use Rattle.std.proofs.lemmas.Grind.{common_steps}
 use Rattle.lift_xref.specs.Uses.{is_used}
-use Rattle.lift_xref.specs.Xref.{is_there, mark, manner_word, use_lines}
+use Rattle.lift_xref.specs.Xref.{mark, manner_word, use_lines}
 use Rattle.lift_xref.proofs.Told.{is_there-use_lines, part-there, part-none, begun-there, begun-none, nothing_more}
 use Rattle.lift_xref.proofs.xref.put_used.Goals as goal
 
