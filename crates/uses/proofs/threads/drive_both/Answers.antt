@@ -1,7 +1,7 @@
 use denote.Param.Send.{sendable}
 use Rattle.std.proofs.Crossing.{crosses}
 use Rattle.lift_station.proofs.Cross.{Station-sync, TaskPass-send}
-use Rattle.two_cars.proofs.drive_both.Goals as goal
+use Rattle.uses.proofs.threads.drive_both.Goals as goal
 
 pub join-first-requires-send-F : goal.join-first-requires-send-F
 join-first-requires-send-F g c κs within = search (sendable, crosses, Station-sync, TaskPass-send) depth 40

@@ -1,5 +1,4 @@
-//! Two cars in threads of their own, over one station: each runs a hundred scans of its program while the other does.
-#![tactic(auto)]
+// A caller with two cars in threads of their own, over one station: each runs a hundred scans of its program while the other does.
 
 ghost use Rattle.std.specs.Prelude.{◌≡◌, ◌+◌, ℕ, IfOk, slice_index_or};
 ghost use Rattle.lift_journal.specs.Pages.{Kept};
@@ -10,28 +9,9 @@ use lift_load::load;
 use lift_spec::report::Report;
 use lift_station::{Blanks, Closed, Naming, Station, TaskPass};
 use std::alloc::{AllocError, Global};
-use std::io;
 use std::marker::Brand;
 use std::sync::Wait;
 use std::thread::{Threads, join};
-
-const TEXT: &[u8] = b"PROGRAM COUNTS
-VAR N : INT (0..9); END_VAR
-LD N
-ADD 1
-MOD 10
-ST N
-END_PROGRAM
-CONFIGURATION SHAFTS
-VAR_GLOBAL CONSTANT CARS : INT := 2; FLOORS : INT := 8; SLOTS : INT := 4; END_VAR
-RESOURCE CABINET ON PLC
-TASK CAR1 (INTERVAL := T#100ms, PRIORITY := 1);
-TASK CAR2 (INTERVAL := T#100ms, PRIORITY := 1);
-PROGRAM P1 WITH CAR1 : COUNTS;
-PROGRAM P2 WITH CAR2 : COUNTS;
-END_RESOURCE
-END_CONFIGURATION
-";
 
 /// How many scans each car runs.
 const SCANS: u32 = 100;
@@ -99,20 +79,10 @@ fn run_in<G: Naming + Send + Sync, R: Threads + Wait + Sync>(
     }
 }
 
-/// Runs both cars of the text.
-fn run<R: Threads + Wait + Sync>(rt: &R, alloc: Global) -> Result<Closed, Refusal>
+/// Runs both cars of a text.
+pub fn run<R: Threads + Wait + Sync>(rt: &R, alloc: Global, text: &[u8]) -> Result<Closed, Refusal>
     ensures { IfOk result (λ c. Kept c.book) }
 {
-    let verified = load(alloc, TEXT)?;
+    let verified = load(alloc, text)?;
     run_in::<Brand, R>(rt, alloc, Blanks::new(), verified)
-}
-
-fn main(rt: HostRuntime) -> io::Result<()> {
-    let Ok(closed) = run(&rt, rt.alloc()) else {
-        return Err(io::ErrorKind::OutOfMemory.into());
-    };
-    let Closed { verified, book } = closed;
-    let entries = book.into_journal();
-    verified.release();
-    println!(rt; "{} entries of two cars", entries.len())
 }

@@ -1,0 +1,38 @@
+// A caller that only loads texts.
+
+ghost use Rattle.std.specs.Prelude.{◌≡◌, ℕ, IfOk, IfErr, IsErrAnd};
+ghost use Rattle.il_machine.specs.Scanning.{Program};
+ghost use Rattle.il_parse.specs.Refused.{IsFault};
+ghost use Rattle.il_spec.specs.declared.fault.Refusal.TheVariants.{Fault};
+ghost use Rattle.il_spec.specs.declared.tree.Config.{Config};
+ghost use Rattle.lift_load.specs.Loading.{IsAccepted, IsExplained, IsRefusedFor, IsSpelled, IsSpelledWith};
+ghost use Rattle.uses.specs.Budgets.{AreBudgets};
+
+use il_machine::Verified;
+use il_spec::fault::Refusal;
+use lift_load::load;
+use std::alloc::{AllocError, Global};
+
+/// The budget of each task of a text, CAR1 to CARn and then GROUP, or why the text is refused.
+pub fn budgets(alloc: Global, text: &[u8]) -> Result<Vec<u32>, Refusal>
+    // the text spells a configuration that breaks no rule, and these are its budgets
+    ensures found { IfOk result (λ budgets. (p : Program) × IsAccepted text.now p.config × AreBudgets p budgets.items) }
+
+    // a refusal is the loader's: no configuration that the text spells is accepted, and its fault is the only one
+    ensures refused { IsFault result → (c : Config) → IsAccepted text.now c → ⊥ }
+    ensures named { IsFault result → (c : Config) → IsSpelled text.now c → IsErrAnd result (IsRefusedFor c) }
+    ensures number { IfErr result (IsExplained text.now) }
+    ensures one { IsFault result → (n l : ℕ) → IsSpelledWith text.now (Fault n l) → IsErrAnd result (λ e. e ≡ Fault n l) }
+{
+    let verified = load(alloc, text)?;
+    let budgets = listed(alloc, &verified);
+    verified.release();
+    Ok(budgets?)
+}
+
+// The budget of each task of a verified configuration.
+fn listed(alloc: Global, verified: &Verified) -> Result<Vec<u32>, AllocError>
+    ensures { IfOk result (λ budgets. AreBudgets verified.now budgets.items) }
+{
+    verified.tasks().map(|task| task.budget).collect(alloc)
+}
