@@ -40,7 +40,7 @@ fn step<R: Print>(rt: &R, alloc: Global, text: &[u8]) -> io::Result<()> {
         return Err(io::ErrorKind::OutOfMemory.into());
     };
     let driven = stepping::drive(&mut world);
-    let seen = stepping::seen(&world);
+    let seen = stepping::read(&world);
     world.release();
     if let Err(fault) = driven {
         return println!(rt; "step: {fault}");
