@@ -1,4 +1,4 @@
-use Rattle.std.proofs.Common.{◌∙◌}
+use Rattle.std.proofs.Common.{refl}
 use Rattle.uses.proofs.Reaching.{behind}
 use Rattle.uses.proofs.stepping.drive.Goals as goal
 
@@ -6,5 +6,5 @@ pub scans-init : goal.scans-init
 scans-init c = (
   behind c.apply-2.new.self.program c.apply-3.new.self.program c.apply-3.ensures.same c.apply-2.new.self.world c.apply-3.new.self.world _ _ c.apply-3.ensures.reached c.apply-3.ensures.well
       c.apply-3.ensures.model,
-  c.apply-3.ensures.same ∙ c.apply-2.ensures.same ∙ c.apply.ensures.same,
+  refl,
 )
