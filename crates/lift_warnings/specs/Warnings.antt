@@ -24,7 +24,7 @@ use Rattle.lift_warnings.specs.declared.never.Origin.TheVariants.{Input, Output,
 
 -- WHAT A NAME IS NEVER
 
--- of what is called, or named where it is to run
+-- of what is called, or declared as an instance
 abbrev pub called_never : Bool → Option Never
 called_never true = None
 called_never false = Some Called
@@ -89,15 +89,11 @@ have_instance name declarations = list_any (λ (d : Declaration). is_block_of na
 abbrev pub has_instance : Config → Spelling → Bool
 has_instance config name = list_any (λ (u : ProgramUnit). have_instance name u.variables) config.units
 
--- whether a PROGRAM line names a program
-abbrev pub is_run : Config → Spelling → Bool
-is_run config name = list_any (λ (l : ProgramLine). bytes_eq l.program.name name) config.programs
-
--- whether a unit is called, declared as an instance, or run, as its kind asks for
+-- whether a unit is called, or declared as an instance, as its kind asks for; a program that no PROGRAM line names is refused
 abbrev pub is_needed : Config → UnitKind → Spelling → Bool
 is_needed config (Function scalar place) name = is_called config name
 is_needed config FunctionBlock name = has_instance config name
-is_needed config Program name = is_run config name
+is_needed config Program name = true
 
 -- the tasks of cars
 abbrev pub car_tasks : List Spelling

@@ -1,19 +1,19 @@
-// Whether something calls, declares or runs a unit.
+// Whether something calls or declares a unit.
 
 ghost use Rattle.std.specs.Prelude.{◌≡◌};
-ghost use Rattle.lift_warnings.specs.Warnings.{is_called, is_block_of, have_instance, has_instance, is_run, is_needed, is_name, is_car_task, drives_car};
+ghost use Rattle.lift_warnings.specs.Warnings.{is_called, is_block_of, have_instance, has_instance, is_needed, is_name, is_car_task, drives_car};
 
 use il_spec::tree::{Config, Declaration, Form, ProgramLine, UnitKind};
 use lift_xref::uses::{Manner, is_used};
 
-/// Whether a unit is called, declared as an instance, or run, as its kind asks for.
+/// Whether a unit is called, or declared as an instance, as its kind asks for. A program is: one that no PROGRAM line names is refused.
 pub fn is_needed(config: &Config, kind: UnitKind, name: &str) -> bool
     ensures { result ≡ is_needed config.now kind name.now }
 {
     match kind {
         UnitKind::Function(_, _) => is_called(config, name),
         UnitKind::FunctionBlock => has_instance(config, name),
-        UnitKind::Program => is_run(config, name),
+        UnitKind::Program => true,
     }
 }
 
@@ -62,19 +62,6 @@ fn is_block_of(name: &str, form: &Form) -> bool
         Form::Block(block) => block.as_str() == name,
         _ => false,
     }
-}
-
-// Whether a PROGRAM line names a program.
-fn is_run(config: &Config, name: &str) -> bool
-    ensures { result ≡ is_run config.now name.now }
-{
-    let lines = config.programs.as_slice();
-    'lines: for line in lines {
-        if line.program.name.as_str() == name {
-            return true;
-        }
-    }
-    false
 }
 
 /// Whether a PROGRAM line gives a program to a car's task.

@@ -24,7 +24,7 @@ pub enum Origin {
     External,
 }
 
-/// Of what is called, or named where it is to run.
+/// Of what is called, or declared as an instance.
 pub fn called_never(called: bool) -> Option<Never>
     ensures { result ≡ called_never called }
 {

@@ -13,7 +13,7 @@ use lift_xref::uses::{Manner, is_used};
 use std::alloc::{AllocError, Global};
 
 /// The warnings of a configuration, a line for each, at the line of what it tells of: of each unit,
-/// in the order of the text, that nothing calls, declares or runs it, which of its names are never
+/// in the order of the text, that nothing calls or declares it, which of its names are never
 /// read, written or used, and which outputs of its car it never stores; then the globals; then the
 /// tasks whose interval or priority is not the first task's (own rule).
 pub fn warnings_text(alloc: Global, config: &Config) -> Result<String, AllocError>
