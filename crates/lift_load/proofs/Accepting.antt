@@ -6,7 +6,7 @@ use Rattle.il_spec.specs.declared.tree.Config.{Config}
 use Rattle.il_spec.specs.declared.tree.Place.{Place}
 use Rattle.il_spec.specs.declared.token.Token.{Token}
 use Rattle.il_spec.specs.declared.fault.Refusal.{Refusal}
-use Rattle.il_spec.specs.declared.fault.Refusal.TheVariants.{Fault}
+use Rattle.il_spec.specs.declared.fault.Refusal.TheVariants.{Fault, Memory}
 use Rattle.il_spec.specs.Text.{AreTokens}
 use Rattle.il_spec.specs.Grammar.{AfterLines, SpellsConfig}
 use Rattle.il_rules.specs.Faults.{HasNoFault, IsRefusedBy}
@@ -42,11 +42,13 @@ breaks {X} Breaks e (Err (Fault number line)) same h refused none = at (subst (I
   where
     at : IsRefusedBy Breaks (Fault number line) → ⊥
     at (place, first, lined) = none number place first.broken
+breaks {X} Breaks e (Err Memory) same h refused none = absurd h
 
 -- the same of an answer as it stands
 pub breaks_here : {X : Type 0} (Breaks : ℕ → Place → Type 0) (r : Result X Refusal) → IsFault r → IfErr r (IsRefusedBy Breaks) → HasNoFault Breaks → ⊥
 breaks_here Breaks (Ok x) h refused none = absurd h
 breaks_here Breaks (Err (Fault number line)) h (place, first, lined) none = none number place first.broken
+breaks_here Breaks (Err Memory) h refused none = absurd h
 
 -- a fault that is handed on is a fault
 pub handed_on : {X : Type 0} (Y : Type 0) (e : Refusal) (r : Result X Refusal) → IsErrAnd r (λ d. d ≡ e) → IsFault r → IsFault {A = Y} (Err e)
