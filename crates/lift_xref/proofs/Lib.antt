@@ -1,2 +1,3 @@
 mod Told
 mod Among
+mod Rows
