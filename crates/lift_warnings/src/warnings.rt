@@ -1,8 +1,8 @@
 // The warnings of a configuration.
 
-ghost use Rattle.std.specs.Prelude.{◌≡◌, ◌++◌, flat_map, codes, IfOk, OnOk, string_bytes};
+ghost use Rattle.std.specs.Prelude.{◌≡◌, ◌++◌, flat_map, IfOk, OnOk, string_bytes};
 ghost use Rattle.lift_xref.specs.Names.{declared_names, name_shown};
-ghost use Rattle.lift_warnings.specs.Warnings.{name_never, name_text, names_text, outputs_text, unstored_text, unstored_line, unit_text, global_never, global_text, are_alike, task_line, task_text, tasks_text, warnings_text};
+ghost use Rattle.lift_warnings.specs.Warnings.{name_never, names_text, outputs_text, unstored_text, unstored_line, unit_text, global_never, global_text, are_alike, task_line, task_text, tasks_text, warnings_text};
 
 use crate::needed::{drives_car, is_needed};
 use crate::never::{Never, Origin, called_never, never_of, put_never, variable_never};

@@ -2,7 +2,7 @@
 
 ghost use Rattle.std.specs.Prelude.{◌≡◌, ◌++◌, ◌∷◌, [], MatchOption};
 ghost use Rattle.std.specs.Iterator.{YieldsFirstBy, item_count};
-ghost use Rattle.lift_xref.specs.Uses.{named_use, index_uses, reference_uses, operand_uses, argument_uses, short_form_uses, use_in, operands_uses, arguments_uses, instruction_uses, uses, is_manner, is_use, is_used, use_shown, index_shown, found_shown, maybe_found_shown, rest_shown, head_shown, uses_left};
+ghost use Rattle.lift_xref.specs.Uses.{named_use, index_uses, operand_uses, argument_uses, short_form_uses, use_in, operands_uses, arguments_uses, instruction_uses, uses, is_manner, is_use, is_used, use_shown, index_shown, found_shown, maybe_found_shown, rest_shown, head_shown, uses_left};
 
 use il_spec::name::Name;
 use il_spec::tree::{Argument, Index, Instruction, Named, Operand, Reference, Step};

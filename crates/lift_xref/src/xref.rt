@@ -1,10 +1,9 @@
 // The cross reference of a configuration.
 
-ghost use Rattle.std.specs.Prelude.{◌≡◌, ◌++◌, [], ◌||◌, true, flat_map, IfOk, OnOk, string_bytes};
+ghost use Rattle.std.specs.Prelude.{◌≡◌, ◌++◌, ◌||◌, true, flat_map, IfOk, OnOk, string_bytes};
 ghost use Rattle.std.specs.List.{list_any};
 ghost use Rattle.lift_xref.specs.Names.{declared_names, name_shown};
-ghost use Rattle.lift_xref.specs.Uses.{uses};
-ghost use Rattle.lift_xref.specs.Xref.{is_there, mark, behind, parts_text, manner_word, used_part, used_parts, use_line, use_lines, declared_line, declared_lines, other_line, other_lines, other_names, kind_word, heading, unit_text, uses_global, unit_places, global_places, global_line, globals_text, program_line, programs_text, xref_text};
+ghost use Rattle.lift_xref.specs.Xref.{is_there, mark, behind, parts_text, manner_word, used_part, used_parts, use_lines, declared_line, declared_lines, other_line, other_lines, kind_word, heading, unit_text, uses_global, unit_places, global_places, global_line, globals_text, program_line, programs_text, xref_text};
 
 use crate::names::{Declared, declared_names, declares, is_declared};
 use crate::seen::Seen;
