@@ -1,5 +1,7 @@
 // What the interlock denied.
 
+ghost use Rattle.std.specs.Prelude.{◌<◌};
+
 use lift_spec::report::{Denial, Rule};
 use std::alloc::{AllocError, Global};
 
