@@ -52,7 +52,10 @@ fn refused(
 {
     match request {
         Request::Show(Showing::Ranges, _) => known(alloc, text, refusal),
-        _ => Err(refusal.into()),
+        Request::Show(Showing::Xref, _)
+        | Request::Check(_)
+        | Request::Rounds(_, _)
+        | Request::Trace(_, _) => Err(refusal.into()),
     }
 }
 
@@ -64,7 +67,7 @@ fn known(alloc: Global, text: &[u8], refusal: Refusal) -> Result<Output, Fault>
     match unbroken(alloc, text) {
         Ok(ordered) => Ok(Output::Text(ranges_text(alloc, ordered.names())?)),
         Err(Refusal::Memory) => Err(Fault::NoMemory),
-        Err(_) => Err(refusal.into()),
+        Err(Refusal::Fault { .. }) => Err(refusal.into()),
     }
 }
 
