@@ -2,7 +2,7 @@
 
 ghost use Rattle.std.specs.Prelude.{◌≡◌, IsSome, Some, None, true, false, pos, nat_abs};
 ghost use Rattle.std.specs.Int.{int_min, int_max};
-ghost use Rattle.il_spec.specs.declared.tree.Arithmetic.TheVariants.{Add, Sub, Mul};
+ghost use Rattle.il_spec.specs.declared.tree.Arithmetic.TheVariants.{Add, Sub, Mul, Div, Mod};
 ghost use Rattle.il_run.specs.Step.{logic, negated_if, truth, content, compared, chosen, integer_equal};
 ghost use Rattle.il_run.specs.declared.value.Value.TheVariants.{Integer};
 ghost use Rattle.il_run.specs.declared.value.Content.{Content as Left};
@@ -88,7 +88,27 @@ pub fn product(elementary: Elementary, left: i64, right: i64) -> i64
     left * right
 }
 
-// What arithmetic gives, in a type that has it. DIV truncates toward zero, and MOD is what it leaves.
+// A quotient in a type that has it. DIV truncates toward zero.
+#[inline(always)]
+pub fn quotient(elementary: Elementary, left: i64, right: i64) -> i64
+    requires { IsSome (computed Div elementary left right) }
+    ensures { computed Div elementary left right ≡ Some (content elementary (Integer result)) }
+{
+    let _elementary = elementary;
+    left / right
+}
+
+// What it leaves, in a type that has it.
+#[inline(always)]
+pub fn remainder(elementary: Elementary, left: i64, right: i64) -> i64
+    requires { IsSome (computed Mod elementary left right) }
+    ensures { computed Mod elementary left right ≡ Some (content elementary (Integer result)) }
+{
+    let _elementary = elementary;
+    left.wrapping_rem(right)
+}
+
+// What arithmetic gives, in a type that has it.
 #[inline(always)]
 fn computed(kind: Arithmetic, elementary: Elementary, left: i64, right: i64) -> Content
     requires { IsSome (computed kind elementary left right) }
@@ -98,8 +118,8 @@ fn computed(kind: Arithmetic, elementary: Elementary, left: i64, right: i64) -> 
         Arithmetic::Add => content(elementary, sum(elementary, left, right)),
         Arithmetic::Sub => content(elementary, difference(elementary, left, right)),
         Arithmetic::Mul => content(elementary, product(elementary, left, right)),
-        Arithmetic::Div => content(elementary, left / right),
-        Arithmetic::Mod => content(elementary, left.wrapping_rem(right)),
+        Arithmetic::Div => content(elementary, quotient(elementary, left, right)),
+        Arithmetic::Mod => content(elementary, remainder(elementary, left, right)),
     }
 }
 
@@ -170,6 +190,16 @@ fn loaded(negated: bool, operand: Content) -> Content
     }
 }
 
+// The absolute value of a number, in a type that has it.
+#[inline(always)]
+pub fn magnitude(elementary: Elementary, number: i64) -> i64
+    requires { IsSome (number_left elementary (pos (nat_abs number))) }
+    ensures { number_left elementary (pos (nat_abs number)) ≡ Some (content elementary (Integer result)) }
+{
+    let _elementary = elementary;
+    number.abs()
+}
+
 // A standard function of the current result alone (2.5.1.5).
 #[inline(always)]
 fn applied_alone(function: StandardFunction, first: Content) -> Content
@@ -177,7 +207,10 @@ fn applied_alone(function: StandardFunction, first: Content) -> Content
     ensures { applied_alone function first ≡ Some result }
 {
     match function {
-        StandardFunction::Absolute => content(first.elementary, number_of(first.value).abs()),
+        StandardFunction::Absolute => content(
+            first.elementary,
+            magnitude(first.elementary, number_of(first.value)),
+        ),
         StandardFunction::Converted(_, to) => content(to, number_of(first.value)),
         _ => unreachable!(),
     }
