@@ -6,6 +6,7 @@ ghost use Rattle.il_rules.specs.Names.{is_program, program_named};
 ghost use Rattle.il_run.specs.Meaning.{entities};
 ghost use Rattle.il_scan_laws.specs.Accepted.{IsAccepted};
 ghost use Rattle.il_code.specs.Laying.{openings_to, laid_task, task_by, program_task};
+ghost use Rattle.il_slots.specs.Making.{block_lists};
 ghost use Rattle.il_slots.specs.Places.{seen_image};
 ghost use Rattle.il_code.specs.Tasks.{IsTaskOf, AreTasksOf};
 
@@ -14,8 +15,7 @@ use crate::laying::{Blocks, Opening};
 use crate::task::TaskCode;
 use il_order::Ordered;
 use il_scope::{Scoped, is_program};
-use il_slots::sizes::block_lists;
-use il_slots::variables::{global_variables, other_variables};
+use il_slots::variables::{Variable, global_variables, other_variables};
 use il_spec::tree::{ProgramLine, Unit};
 use lists::Items;
 use std::alloc::{AllocError, Global};
@@ -178,22 +178,23 @@ fn laid_globals(alloc: Global, blocks: &Blocks) -> Result<TaskCode, AllocError>
     TaskCode::of(alloc, openings.as_slice(), &[], Items::new(alloc))
 }
 
-/// The slots of the task of each PROGRAM line, in the written order, and those of the globals.
+/// The slots of the task of each PROGRAM line, in the written order, and those of the globals, from the variables of all blocks.
 pub fn tasks_and_globals(
     alloc: Global,
     ordered: &Ordered,
     names: &Scoped,
+    lists: &[Items<Variable>],
 ) -> Result<(Items<TaskCode>, TaskCode), AllocError>
     requires same { names.now ≡ ordered.now }
+    requires lists { lists.now ≡ block_lists names.now }
     requires count { length names.now.units < 2 ^ 63 }
     ensures tasks { IfOk result (λ p. AreTasksOf names.now names.now.programs p.0) }
     ensures globals { IfOk result (λ p. p.1 ≡ laid_task (openings_to 0 names.now [] (entities names.now.globals)) [] []) }
 {
-    let lists = block_lists(alloc, names)?;
     let blocks = Blocks {
         names,
         units: names.config().units.as_slice().len(),
-        lists: lists.as_slice(),
+        lists,
     };
     let lines = names.config().programs.as_slice();
     let tasks = line_tasks(alloc, &blocks, ordered, lines)?;

@@ -4,7 +4,7 @@ ghost use Rattle.std.specs.Prelude.{◌≡◌, ◌<◌, ◌^◌, reverse, length
 ghost use Rattle.il_spec.specs.declared.tree.Unit.{Unit as ProgramUnit};
 ghost use Rattle.il_run.specs.Meaning.{entities};
 ghost use Rattle.il_slots.specs.Flattened.{function_by, function_entities};
-ghost use Rattle.il_slots.specs.Making.{IsChecked, all_offsets, shown};
+ghost use Rattle.il_slots.specs.Making.{IsChecked, all_offsets, block_lists, shown};
 ghost use Rattle.il_slots.specs.Program.{program_names};
 ghost use Rattle.il_flatten.specs.Resolving.{fresh_by, fresh_list, first_of, function_code_of};
 ghost use Rattle.il_slots.specs.Whole.{unit_code};
@@ -141,11 +141,16 @@ fn codes(
     Ok(codes)
 }
 
-/// The flat code of each unit, in the written order, linear in the text.
-pub fn unit_codes(alloc: Global, names: &Scoped) -> Result<Items<UnitCode>, AllocError>
-    requires { IsChecked names.now }
+/// The flat code of each unit, in the written order, from the variables of all blocks; linear in the text.
+pub fn unit_codes(
+    alloc: Global,
+    names: &Scoped,
+    lists: &[Items<Variable>],
+) -> Result<Items<UnitCode>, AllocError>
+    requires checked { IsChecked names.now }
+    requires lists { lists.now ≡ block_lists names.now }
     ensures { IfOk result (λ codes. codes ≡ map (unit_code (program_names names.now) names.now) names.now.units) }
 {
-    let tables = all_offsets(alloc, names)?;
+    let tables = all_offsets(alloc, names, lists)?;
     codes(alloc, names, tables.as_slice())
 }

@@ -6,7 +6,7 @@ ghost use Rattle.il_spec.specs.declared.tree.Unit.{Unit as ProgramUnit};
 ghost use Rattle.il_run.specs.Meaning.{own_entities};
 
 use crate::offsets::offsets_of;
-use crate::sizes::{block_lists, block_sizes};
+use crate::sizes::block_sizes;
 use crate::variables::{Variable, other_variables};
 use il_scope::Scoped;
 use il_spec::tree::Unit;
@@ -106,16 +106,20 @@ fn with_standard(
     Ok(tables)
 }
 
-/// The offsets of each unit's names, and behind them those of the words of the standard blocks.
+/// The offsets of each unit's names, and behind them those of the words of the standard blocks, from the variables of all blocks.
 #[tactic(auto, using(crate::proofs::Counted::sizes_found))]
-pub fn all_offsets(alloc: Global, names: &Scoped) -> Result<Items<Table<usize>>, AllocError>
-    requires { length names.now.units < 2 ^ 63 }
+pub fn all_offsets(
+    alloc: Global,
+    names: &Scoped,
+    lists: &[Items<Variable>],
+) -> Result<Items<Table<usize>>, AllocError>
+    requires few { length names.now.units < 2 ^ 63 }
+    requires lists { lists.now ≡ block_lists names.now }
     ensures { IfOk result (λ ts. ts ≡ all_offsets names.now) }
 {
     let units = names.config().units.as_slice().len();
-    let lists = block_lists(alloc, names)?;
-    let sizes = block_sizes(alloc, units, lists.as_slice())?;
-    let tables = units_offsets(alloc, names, sizes.as_slice(), lists.as_slice())?;
-    let all = with_standard(alloc, units, sizes.as_slice(), lists.as_slice(), tables)?;
+    let sizes = block_sizes(alloc, units, lists)?;
+    let tables = units_offsets(alloc, names, sizes.as_slice(), lists)?;
+    let all = with_standard(alloc, units, sizes.as_slice(), lists, tables)?;
     Ok(all)
 }
