@@ -13,4 +13,5 @@ pub mod Steps
 pub mod Stays
 pub mod Tails
 pub mod Pairwise
+pub mod Hopped
 pub mod Nevers
