@@ -452,19 +452,31 @@ pub fn operand(rows: &Rows, base: usize, wanted: Elementary, from: &Operand) -> 
     )
 }
 
-/// What an instruction does to rows.
-pub fn exec(
-    rows: &mut Rows,
-    base: usize,
-    before: Option<Content>,
-    instruction: &Flat,
-) -> Option<Content>
-    requires { is_straight instruction.now ≡ true → IsSome (effect instruction.now rows.old base before) }
-    ensures goes_on { (c : Left) → result ≡ Some c → effect instruction.now rows.old base before ≡ Some (rows.new, c) }
-    ensures other { result ≡ None → (is_straight instruction.now ≡ false) × (rows.new ≡ rows.old) }
-    ensures straight { IsSome result → is_straight instruction.now ≡ true }
+/// Whether an instruction goes on to the next, and needs no more than the rows and the current result.
+#[inline(always)]
+pub fn is_straight(instruction: &Flat) -> bool
+    ensures { result ≡ is_straight instruction.now }
+{
+    match instruction {
+        Flat::Load { .. }
+        | Flat::Store { .. }
+        | Flat::Not
+        | Flat::Operate { .. }
+        | Flat::Apply { .. } => true,
+        _ => false,
+    }
+}
+
+/// What such an instruction does to rows, and the current result that it leaves.
+pub fn exec(rows: &mut Rows, base: usize, before: Option<Content>, instruction: &Flat) -> Content
+    requires straight { is_straight instruction.now ≡ true }
+    requires some { IsSome (effect instruction.now rows.old base before) }
+    ensures { effect instruction.now rows.old base before ≡ Some (rows.new, result) }
 {
     let numbers = rows.numbers.as_mut_slice();
     let flags = rows.flags.as_mut_slice();
-    exec_at(numbers, flags, base, before, instruction)
+    match exec_at(numbers, flags, base, before, instruction) {
+        Some(left) => left,
+        None => unreachable!(),
+    }
 }
