@@ -15,3 +15,4 @@ pub mod Tails
 pub mod Pairwise
 pub mod Hopped
 pub mod Nevers
+pub mod Callers

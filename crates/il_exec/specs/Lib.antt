@@ -3,3 +3,4 @@ pub mod Blocks
 pub mod Going
 pub mod Framing
 pub mod Quick
+pub mod Frames

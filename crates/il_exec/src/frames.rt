@@ -1,7 +1,8 @@
 // The frames of bodies that run.
 
 ghost use Rattle.std.specs.Prelude.{◌≡◌, ◌≢◌, ◌<◌, ◌↔◌, ◌∷◌, [], length, IsTrue};
-ghost use Rattle.il_exec.specs.Going.{top_of, rest_of};
+ghost use Rattle.il_exec.specs.Going.{rest_of};
+ghost use Rattle.il_exec.specs.Frames.{pair_of, frame_of, pairs_of};
 
 use crate::quick::Quick;
 use arrayvec::ArrayVec;
@@ -10,6 +11,7 @@ use il_slots::flat::UnitCode;
 use il_spec::tree::{Elementary, Logic, Operator};
 use lists::Items;
 use std::marker::Model;
+use std::mem;
 
 /// What a task runs: the flat code of the units, the base of the frame of each, and the slot of NOW.
 #[derive(Clone, Copy)]
@@ -45,16 +47,65 @@ pub struct Pair {
     pub left: Content,
 }
 
-impl Default for Pair {
-    fn default() -> Pair {
-        Pair {
+// The same in 16 bytes: the result is a number or a Boolean.
+#[derive(Clone, Copy)]
+struct Kept {
+    operator: Operator,
+    elementary: Elementary,
+    counts: bool,
+    truth: bool,
+    number: i64,
+}
+
+impl Default for Kept {
+    fn default() -> Kept {
+        Kept {
             operator: Operator::Logic {
                 logic: Logic::Conjunction,
                 negated: false,
             },
+            elementary: Elementary::Bool,
+            counts: false,
+            truth: false,
+            number: 0,
+        }
+    }
+}
+
+impl Kept {
+    // A deferred operation in few bytes.
+    #[inline(always)]
+    fn of(pair: Pair) -> Kept
+        ensures { pair_of result ≡ pair }
+    {
+        let (counts, truth, number) = match pair.left.value {
+            Value::Boolean(truth) => (false, truth, 0),
+            Value::Integer(number) => (true, false, number),
+        };
+        Kept {
+            operator: pair.operator,
+            elementary: pair.left.elementary,
+            counts,
+            truth,
+            number,
+        }
+    }
+
+    // The deferred operation.
+    #[inline(always)]
+    fn pair(self) -> Pair
+        ensures { result ≡ pair_of self }
+    {
+        let value = if self.counts {
+            Value::Integer(self.number)
+        } else {
+            Value::Boolean(self.truth)
+        };
+        Pair {
+            operator: self.operator,
             left: Content {
-                elementary: Elementary::Bool,
-                value: Value::Boolean(false),
+                elementary: self.elementary,
+                value,
             },
         }
     }
@@ -63,16 +114,17 @@ impl Default for Pair {
 /// The deferred operations of a frame, at most 16. Contracts see the innermost first.
 #[derive(Drop)]
 pub struct Pairs {
-    pairs: ArrayVec<Pair, 16>,
+    pairs: ArrayVec<Kept, 16>,
 }
 
 impl Model for Pairs {
-    ghost use Rattle.std.specs.Prelude.{List, reverse};
+    ghost use Rattle.std.specs.Prelude.{List, map, reverse};
     ghost use Rattle.il_exec.specs.declared.frames.Pair.{Pair};
+    ghost use Rattle.il_exec.specs.Frames.{pair_of};
 
     ghost Value = { List Pair };
 
-    ghost view = { λ p. reverse p.pairs.items };
+    ghost view = { λ p. map pair_of (reverse p.pairs.items) };
 }
 
 impl Pairs {
@@ -92,12 +144,19 @@ impl Pairs {
         self.pairs.clear();
     }
 
+    /// Whether none is deferred.
+    pub fn is_empty(&self) -> bool
+        ensures { IsTrue result ↔ (self.now ≡ []) }
+    {
+        self.pairs.is_empty()
+    }
+
     /// A further operation is deferred.
     pub fn push(&mut self, pair: Pair)
         requires { length self.old < 16 }
         ensures { self.new ≡ pair ∷ self.old }
     {
-        self.pairs.push(pair);
+        self.pairs.push(Kept::of(pair));
     }
 
     /// The innermost operation is taken.
@@ -105,39 +164,49 @@ impl Pairs {
         requires { self.old ≢ [] }
         ensures { self.old ≡ result ∷ self.new }
     {
-        self.pairs.pop().unwrap()
+        self.pairs.pop().unwrap().pair()
     }
 }
 
-/// A frame that has called, with its deferred operations.
-#[derive(Drop)]
-pub struct Suspended {
-    pub frame: Frame,
-    pub pairs: Pairs,
+impl Default for Pairs {
+    fn default() -> Pairs {
+        Pairs::new()
+    }
 }
 
-impl Default for Suspended {
-    fn default() -> Suspended {
-        Suspended {
+// A frame that has called, and whether operations of it are deferred.
+#[derive(Clone, Copy)]
+struct Caller {
+    frame: Frame,
+    defers: bool,
+}
+
+impl Default for Caller {
+    fn default() -> Caller {
+        Caller {
             frame: Frame::default(),
-            pairs: Pairs::new(),
+            defers: false,
         }
     }
 }
 
-/// The frames that have called, at most 16. Contracts see the one that runs first.
+/// The frames that have called, at most 16, with their deferred operations. Contracts see the one that runs first. The operations of those that have some are kept
+/// apart, so that a call copies none where none is deferred.
 #[derive(Drop)]
 pub struct Frames {
-    frames: ArrayVec<Suspended, 16>,
+    callers: ArrayVec<Caller, 16>,
+    aside: ArrayVec<Pairs, 16>,
 }
 
 impl Model for Frames {
-    ghost use Rattle.std.specs.Prelude.{List, reverse};
-    ghost use Rattle.il_exec.specs.declared.frames.Suspended.{Suspended};
+    ghost use Rattle.std.specs.Prelude.{◌≡◌, List, length, reverse};
+    ghost use Rattle.il_exec.specs.Frames.{Suspended, suspended_of, deferring};
 
     ghost Value = { List Suspended };
 
-    ghost view = { λ f. reverse f.frames.items };
+    ghost view = { λ f. suspended_of (reverse f.callers.items) (reverse f.aside.items) };
+
+    ghost invariant = { λ f. length f.aside.items ≡ deferring (reverse f.callers.items) };
 }
 
 impl Frames {
@@ -146,7 +215,8 @@ impl Frames {
         ensures { result ≡ [] }
     {
         Frames {
-            frames: ArrayVec::new(),
+            callers: ArrayVec::new(),
+            aside: ArrayVec::new(),
         }
     }
 
@@ -154,29 +224,38 @@ impl Frames {
     pub fn clear(&mut self)
         ensures { self.new ≡ [] }
     {
-        self.frames.clear();
+        self.callers.clear();
+        self.aside.clear();
     }
 
-    /// Whether none has called.
-    pub fn is_empty(&self) -> bool
-        ensures { IsTrue result ↔ (self.now ≡ []) }
-    {
-        self.frames.is_empty()
-    }
-
-    /// A further frame has called.
-    pub fn push(&mut self, frame: Suspended)
+    /// A further frame has called, and hands over its deferred operations.
+    pub fn push(&mut self, frame: Frame, pairs: &mut Pairs)
         requires { length self.old < 16 }
-        ensures { self.new ≡ frame ∷ self.old }
+        ensures frames { self.new ≡ record { frame = frame; pairs = pairs.old } ∷ self.old }
+        ensures pairs { pairs.new ≡ [] }
     {
-        self.frames.push(frame);
+        let defers = !pairs.is_empty();
+        self.callers.push(Caller { frame, defers });
+        if defers {
+            self.aside.push(mem::replace(pairs, Pairs::new()));
+        }
     }
 
-    /// The frame below goes on, if there is one.
-    pub fn pop(&mut self) -> Option<Suspended>
-        ensures first { result ≡ top_of self.old }
+    /// The frame below goes on, if there is one, with its deferred operations.
+    pub fn pop(&mut self, pairs: &mut Pairs) -> Option<Frame>
+        ensures first { result ≡ frame_of self.old }
+        ensures pairs { pairs.new ≡ pairs_of self.old }
         ensures rest { self.new ≡ rest_of self.old }
     {
-        self.frames.pop()
+        let Some(caller) = self.callers.pop() else {
+            pairs.clear();
+            return None;
+        };
+        if caller.defers {
+            *pairs = self.aside.pop().unwrap();
+        } else {
+            pairs.clear();
+        }
+        Some(caller.frame)
     }
 }

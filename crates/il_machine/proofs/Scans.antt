@@ -15,7 +15,7 @@ use Rattle.il_slots.specs.Coded.{Code}
 use Rattle.il_slots.specs.Program.{own_cells, seen_cells, program_cells, program_code}
 use Rattle.il_exec.specs.declared.frames.Frame.{Frame as FlatFrame}
 use Rattle.il_exec.specs.declared.frames.Pair.{Pair}
-use Rattle.il_exec.specs.declared.frames.Suspended.{Suspended}
+use Rattle.il_exec.specs.Frames.{Suspended}
 use Rattle.il_exec.specs.Going.{Stored, Runs, runs_in}
 use Rattle.il_exec.specs.Framing.{framed, all_frames, state_by, IsFramedScan, Goes}
 use Rattle.lift_spec.specs.Snapshot.{program_of}
