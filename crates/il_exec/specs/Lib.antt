@@ -4,3 +4,4 @@ pub mod Going
 pub mod Framing
 pub mod Quick
 pub mod Frames
+pub mod Current

@@ -1,9 +1,12 @@
 // The frames of bodies that run.
 
-ghost use Rattle.std.specs.Prelude.{◌≡◌, ◌≢◌, ◌<◌, ◌↔◌, ◌∷◌, [], length, IsTrue};
+ghost use Rattle.std.specs.Prelude.{◌≡◌, ◌≢◌, ◌<◌, ◌↔◌, ◌∷◌, [], length, IsSome, IsTrue, Some};
 ghost use Rattle.il_exec.specs.Going.{rest_of};
-ghost use Rattle.il_exec.specs.Frames.{pair_of, frame_of, pairs_of};
+ghost use Rattle.il_exec.specs.Effect.{with_some};
+ghost use Rattle.il_exec.specs.Current.{left_of};
+ghost use Rattle.il_exec.specs.Frames.{pair_of, operator_of, truth_of, rest_of_pairs, frame_of, pairs_of};
 
+use crate::current::{Current, Kind};
 use crate::quick::Quick;
 use arrayvec::ArrayVec;
 use il_run::value::{Content, Value};
@@ -47,12 +50,12 @@ pub struct Pair {
     pub left: Content,
 }
 
-// The same in 16 bytes: the result is a number or a Boolean.
+// The same in 16 bytes, with the result in parts.
 #[derive(Clone, Copy)]
 struct Kept {
     operator: Operator,
+    kind: Kind,
     elementary: Elementary,
-    counts: bool,
     truth: bool,
     number: i64,
 }
@@ -64,8 +67,8 @@ impl Default for Kept {
                 logic: Logic::Conjunction,
                 negated: false,
             },
+            kind: Kind::Nothing,
             elementary: Elementary::Bool,
-            counts: false,
             truth: false,
             number: 0,
         }
@@ -73,40 +76,42 @@ impl Default for Kept {
 }
 
 impl Kept {
-    // A deferred operation in few bytes.
+    // An operation whose first operand is the current result.
     #[inline(always)]
-    fn of(pair: Pair) -> Kept
-        ensures { pair_of result ≡ pair }
+    fn of(operator: Operator, current: &Current) -> Kept
+        requires { IsSome (left_of current.now) }
+        ensures { with_some (left_of current.now) (λ l. Some (record { operator = operator; left = l })) ≡ Some (pair_of result) }
     {
-        let (counts, truth, number) = match pair.left.value {
-            Value::Boolean(truth) => (false, truth, 0),
-            Value::Integer(number) => (true, false, number),
-        };
         Kept {
-            operator: pair.operator,
-            elementary: pair.left.elementary,
-            counts,
-            truth,
-            number,
+            operator,
+            kind: current.kind,
+            elementary: current.elementary,
+            truth: current.truth,
+            number: current.number,
         }
     }
 
     // The deferred operation.
-    #[inline(always)]
     fn pair(self) -> Pair
         ensures { result ≡ pair_of self }
     {
-        let value = if self.counts {
-            Value::Integer(self.number)
-        } else {
-            Value::Boolean(self.truth)
+        let left = match self.kind {
+            Kind::Number => Content {
+                elementary: self.elementary,
+                value: Value::Integer(self.number),
+            },
+            Kind::Named => Content {
+                elementary: self.elementary,
+                value: Value::Boolean(self.truth),
+            },
+            _ => Content {
+                elementary: Elementary::Bool,
+                value: Value::Boolean(self.truth),
+            },
         };
         Pair {
             operator: self.operator,
-            left: Content {
-                elementary: self.elementary,
-                value,
-            },
+            left,
         }
     }
 }
@@ -156,7 +161,36 @@ impl Pairs {
         requires { length self.old < 16 }
         ensures { self.new ≡ pair ∷ self.old }
     {
-        self.pairs.push(Kept::of(pair));
+        self.defer(pair.operator, &Current::of(Some(pair.left)));
+    }
+
+    /// An operation is deferred whose first operand is the current result.
+    #[inline(always)]
+    pub fn defer(&mut self, operator: Operator, current: &Current)
+        requires room { length self.old < 16 }
+        requires some { IsSome (left_of current.now) }
+        ensures { with_some (left_of current.now) (λ l. Some (record { operator = operator; left = l } ∷ self.old)) ≡ Some self.new }
+    {
+        self.pairs.push(Kept::of(operator, current));
+    }
+
+    /// The operator of the innermost operation.
+    #[inline(always)]
+    pub fn operator(&self) -> Operator
+        requires { self.now ≢ [] }
+        ensures { operator_of self.now ≡ Some result }
+    {
+        self.pairs.as_slice()[self.pairs.len() - 1].operator
+    }
+
+    /// The innermost operation is taken: the Boolean before it.
+    #[inline(always)]
+    pub fn pop_truth(&mut self) -> bool
+        requires { IsSome (truth_of self.old) }
+        ensures truth { truth_of self.old ≡ Some result }
+        ensures rest { self.new ≡ rest_of_pairs self.old }
+    {
+        self.pairs.pop().unwrap().truth
     }
 
     /// The innermost operation is taken.

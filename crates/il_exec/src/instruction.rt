@@ -48,7 +48,7 @@ pub fn negated_if(negated: bool, value: bool) -> bool
 
 // AND, OR and XOR.
 #[inline(always)]
-fn connected(kind: Logic, left: bool, right: bool) -> bool
+pub fn connected(kind: Logic, left: bool, right: bool) -> bool
     ensures { result ≡ logic kind left right }
 {
     match kind {

@@ -2,6 +2,7 @@
 #![tactic(auto)]
 
 pub mod blocks;
+pub mod current;
 pub mod frames;
 pub mod hopping;
 pub mod instruction;
