@@ -6,10 +6,10 @@ ghost use Rattle.il_exec.specs.Effect.{with_some};
 ghost use Rattle.il_exec.specs.Current.{left_of};
 ghost use Rattle.il_exec.specs.Frames.{pair_of, operator_of, truth_of, rest_of_pairs, frame_of, pairs_of};
 
-use crate::current::{Current, Kind};
+use crate::current::{Current, Kind, content_by};
 use crate::quick::Quick;
 use arrayvec::ArrayVec;
-use il_run::value::{Content, Value};
+use il_run::value::Content;
 use il_slots::flat::UnitCode;
 use il_spec::tree::{Elementary, Logic, Operator};
 use lists::Items;
@@ -95,23 +95,9 @@ impl Kept {
     fn pair(self) -> Pair
         ensures { result ≡ pair_of self }
     {
-        let left = match self.kind {
-            Kind::Number => Content {
-                elementary: self.elementary,
-                value: Value::Integer(self.number),
-            },
-            Kind::Named => Content {
-                elementary: self.elementary,
-                value: Value::Boolean(self.truth),
-            },
-            _ => Content {
-                elementary: Elementary::Bool,
-                value: Value::Boolean(self.truth),
-            },
-        };
         Pair {
             operator: self.operator,
-            left,
+            left: content_by(self.kind, self.elementary, self.truth, self.number),
         }
     }
 }
@@ -224,8 +210,8 @@ impl Default for Caller {
     }
 }
 
-/// The frames that have called, at most 16, with their deferred operations. Contracts see the one that runs first. The operations of those that have some are kept
-/// apart, so that a call copies none where none is deferred.
+/// The frames that have called, at most 16, with their deferred operations. Contracts see the one that runs first. The operations
+/// of those that have some are kept apart, so that a call copies none where none is deferred.
 #[derive(Drop)]
 pub struct Frames {
     callers: ArrayVec<Caller, 16>,
