@@ -10,8 +10,9 @@ use Rattle.lift_spec.specs.declared.image.Sizes.{Sizes}
 use Rattle.lift_spec.specs.declared.image.Image.{Image}
 use Rattle.lift_spec.specs.declared.calls.Slot.{Slot}
 use Rattle.lift_spec.specs.Snapshot.{number, waits, from_of, to_of, car_of, elements_of, role_entries}
-use Rattle.il_image.specs.declared.image.Column.TheVariants.{Waits, From, To, Car}
-use Rattle.il_image.specs.Image.{with_slot, filled, call_value, call_values, group_values, position_value, motor_value, cars_values, role_values, image_values}
+use Rattle.lift_calls.specs.Columns.{four, numbers_of, flags_of}
+use Rattle.lift_calls.proofs.Four.{four_long}
+use Rattle.il_image.specs.Image.{with_slot, filled, waits_value, from_value, to_value, car_value, call_values, group_values, position_value, motor_value, cars_values, role_values, image_values}
 
 -- VALUES FROM A SLOT ON
 
@@ -59,16 +60,26 @@ values_regroup a b d e r =
     (map-append (λ (x : Text × Value). x.1) a (b ++ (d ++ e))
     ∙ ap (λ l. map (λ (x : Text × Value). x.1) a ++ l) (map-append (λ (x : Text × Value). x.1) b (d ++ e) ∙ ap (λ l. map (λ (x : Text × Value). x.1) b ++ l) (map-append (λ (x : Text × Value). x.1) d e)))
 
+parts : {A : Type 0} (p : Value → A) (f : Slot → Value) (slots : List Slot) → map p (map f slots) ≡ map (λ s. p (f s)) slots
+parts p f [] = refl
+parts p f (s ∷ slots) = ap (λ l. p (f s) ∷ l) (parts p f slots)
+
 pub calls_long : (slots : List Slot) → length (call_values slots) ≡ 4 * length slots
-calls_long slots =
-    let a = length-map slots (call_value Waits) in
-    let b = length-map slots (call_value From) in
-    let d = length-map slots (call_value To) in
-    let e = length-map slots (call_value Car) in
-    let k = length-append (map (call_value Waits) slots) (map (call_value From) slots ++ (map (call_value To) slots ++ map (call_value Car) slots)) in
-    let m = length-append (map (call_value From) slots) (map (call_value To) slots ++ map (call_value Car) slots) in
-    let n = length-append (map (call_value To) slots) (map (call_value Car) slots) in
-    omega (arith, a, b, d, e, k, m, n)
+calls_long slots = four_long waits_value from_value to_value car_value slots
+
+-- what the rows keep of the columns
+four_map : {A : Type 0} (p : Value → A) (f g h k : Slot → Value) (slots : List Slot) → map p (four f g h k slots) ≡ four (λ s. p (f s)) (λ s. p (g s)) (λ s. p (h s)) (λ s. p (k s)) slots
+four_map p f g h k slots =
+    map-append p (map f slots) (map g slots ++ (map h slots ++ map k slots))
+    ∙ ap₂ (λ a b. a ++ b) (parts p f slots)
+    (map-append p (map g slots) (map h slots ++ map k slots)
+    ∙ ap₂ (λ a b. a ++ b) (parts p g slots) (map-append p (map h slots) (map k slots) ∙ ap₂ (λ a b. a ++ b) (parts p h slots) (parts p k slots)))
+
+pub call_numbers : (slots : List Slot) → map number_part (call_values slots) ≡ numbers_of slots
+call_numbers slots = four_map number_part waits_value from_value to_value car_value slots
+
+pub call_flags : (slots : List Slot) → map flag_part (call_values slots) ≡ flags_of slots
+call_flags slots = four_map flag_part waits_value from_value to_value car_value slots
 
 -- the values of a role
 role_parts : (task : ℕ) (image : Image) (slots : ℕ) → map (λ (e : Text × Value). e.1) (role_entries task image slots) ≡ role_values task image slots
@@ -87,8 +98,8 @@ image_parts sizes task image slots =
     (values_regroup (elements_of (codes "CALLWAITS") 1 (map (λ s. Boolean (waits s)) slots)) (elements_of (codes "CALLFROM") 1 (map (λ s. number (from_of s)) slots)) (elements_of (codes "CALLTO") 1 (map (λ s. number (to_of s)) slots))
     (elements_of (codes "CALLCAR") 1 (map (λ s. number (car_of s)) slots)) (role_entries task image (length slots))
     ∙ ap₂ (λ x y. x ++ y)
-    (ap₂ (λ x y. x ++ y) (element_values (codes "CALLWAITS") 1 (map (call_value Waits) slots))
-    (ap₂ (λ x y. x ++ y) (element_values (codes "CALLFROM") 1 (map (call_value From) slots)) (ap₂ (λ x y. x ++ y) (element_values (codes "CALLTO") 1 (map (call_value To) slots)) (element_values (codes "CALLCAR") 1 (map (call_value Car) slots))))) (role_parts task image (length slots)))
+    (ap₂ (λ x y. x ++ y) (element_values (codes "CALLWAITS") 1 (map waits_value slots))
+    (ap₂ (λ x y. x ++ y) (element_values (codes "CALLFROM") 1 (map from_value slots)) (ap₂ (λ x y. x ++ y) (element_values (codes "CALLTO") 1 (map to_value slots)) (element_values (codes "CALLCAR") 1 (map car_value slots))))) (role_parts task image (length slots)))
 
 -- how many values there are
 pub image_long : (sizes : Sizes) (task : ℕ) (image : Image) (slots : List Slot) → length (image_values sizes task image slots) ≡ 6 + 4 * length slots + length (role_values task image (length slots))
@@ -107,25 +118,6 @@ cars_long image slots =
     let first = length-append (map position_value image.fields.cars) (map motor_value image.outputs ++ replicate slots (number 0)) in
     let rest = length-append (map motor_value image.outputs) (replicate slots (number 0)) in
     omega (arith, a, b, z, first, rest)
-
--- the columns one after another
-pub calls_written : (r r1 r2 r3 r4 : Rows) (at n : ℕ) (slots : List Slot) → n ≡ length slots → r1 ≡ filled r at (map (call_value Waits) slots) → r2 ≡ filled r1 (at + n) (map (call_value From) slots) → r3 ≡ filled r2 (at + 2 * n) (map (call_value To) slots)
-    → r4 ≡ filled r3 (at + 3 * n) (map (call_value Car) slots) → r4 ≡ filled r at (call_values slots)
-calls_written r r1 r2 r3 r4 at n slots is e1 e2 e3 e4 =
-    let a : List Value = map (call_value Waits) slots in
-    let b : List Value = map (call_value From) slots in
-    let d : List Value = map (call_value To) slots in
-    let e : List Value = map (call_value Car) slots in
-    let la = length-map slots (call_value Waits) in
-    let lb = length-map slots (call_value From) in
-    let ld = length-map slots (call_value To) in
-    let p : at + n ≡ at + length a = omega (arith, is, la) in
-    let q : at + 2 * n ≡ at + length a + length b = omega (arith, is, la, lb) in
-    let t : at + 3 * n ≡ at + length a + length b + length d = omega (arith, is, la, lb, ld) in
-    let two : r2 ≡ filled (filled r at a) (at + length a) b = e2 ∙ ap₂ (λ x k. filled x k b) e1 p in
-    let three : r3 ≡ filled (filled (filled r at a) (at + length a) b) (at + length a + length b) d = e3 ∙ ap₂ (λ x k. filled x k d) two q in
-    e4 ∙ ap₂ (λ x k. filled x k e) three t
-    ∙ sym (filled_append r at a (b ++ (d ++ e)) ∙ filled_append (filled r at a) (at + length a) b (d ++ e) ∙ filled_append (filled (filled r at a) (at + length a) b) (at + length a + length b) d e)
 
 -- the parts one after another
 pub image_written : (r r1 r2 r3 : Rows) (at : ℕ) (sizes : Sizes) (task : ℕ) (image : Image) (n : ℕ) (slots : List Slot) → n ≡ length slots → r1 ≡ filled r at (group_values sizes image.fields) → r2 ≡ filled r1 (at + 6) (call_values slots)

@@ -1,5 +1,5 @@
 -- The image in the rows of a task (own rules).
-use Rattle.std.specs.Prelude.{ℕ, zero, suc, ◌+◌, ◌*◌, List, replicate, [], ◌∷◌, ◌++◌, map, set, take, drop, length}
+use Rattle.std.specs.Prelude.{ℕ, zero, suc, ◌+◌, List, replicate, [], ◌∷◌, ◌++◌, map, set, take, drop, length}
 use Rattle.il_run.specs.declared.value.Value.{Value}
 use Rattle.il_run.specs.declared.value.Value.TheVariants.{Boolean, Integer}
 use Rattle.il_slots.specs.Layout.{Rows, rows, number_part, flag_part}
@@ -11,8 +11,7 @@ use Rattle.lift_spec.specs.declared.image.Image.{Image}
 use Rattle.lift_spec.specs.declared.calls.Slot.{Slot}
 use Rattle.lift_spec.specs.Settle.{fields_of, outputs_of}
 use Rattle.lift_spec.specs.Snapshot.{number, motor_number, waits, from_of, to_of, car_of, image_entries}
-use Rattle.il_image.specs.declared.image.Column.{Column}
-use Rattle.il_image.specs.declared.image.Column.TheVariants.{Waits, From, To, Car}
+use Rattle.lift_calls.specs.Columns.{four}
 
 -- rows with a value at a slot
 abbrev pub with_slot : Rows → ℕ → Value → Rows
@@ -27,26 +26,22 @@ filled r at (v ∷ vs) = filled (with_slot r at v) (at + 1) vs
 abbrev pub spliced : {A : Type 0} → List A → ℕ → List A → List A
 spliced xs at ys = take at xs ++ (ys ++ drop (length ys) (drop at xs))
 
--- what a column shows of a call slot
-abbrev pub call_value : Column → Slot → Value
-call_value Waits s = Boolean (waits s)
-call_value From s = number (from_of s)
-call_value To s = number (to_of s)
-call_value Car s = number (car_of s)
+-- what the columns show of a call slot
+abbrev pub waits_value : Slot → Value
+waits_value s = Boolean (waits s)
 
--- rows with what a program sees of a call slot, so far apart from one column to the next
-abbrev pub with_call : Rows → ℕ → ℕ → Slot → Rows
-with_call r at apart s =
-    with_slot (with_slot (with_slot (with_slot r at (call_value Waits s)) (at + apart) (call_value From s)) (at + 2 * apart) (call_value To s)) (at + 3 * apart) (call_value Car s)
+abbrev pub from_value : Slot → Value
+from_value s = number (from_of s)
 
--- with that of slots one behind the other
-abbrev pub with_calls : Rows → ℕ → ℕ → List Slot → Rows
-with_calls r at apart [] = r
-with_calls r at apart (s ∷ ss) = with_calls (with_call r at apart s) (at + 1) apart ss
+abbrev pub to_value : Slot → Value
+to_value s = number (to_of s)
+
+abbrev pub car_value : Slot → Value
+car_value s = number (car_of s)
 
 -- all columns
 abbrev pub call_values : List Slot → List Value
-call_values slots = map (call_value Waits) slots ++ (map (call_value From) slots ++ (map (call_value To) slots ++ map (call_value Car) slots))
+call_values slots = four waits_value from_value to_value car_value slots
 
 -- what each program sees of the group
 abbrev pub group_values : Sizes → Fields → List Value

@@ -1,26 +1,15 @@
 // The image, as a task sees it in its rows.
 
-ghost use Rattle.std.specs.Prelude.{◌≡◌, ◌+◌, ◌*◌, ◌<◌, ◌≤◌, length, map, replicate};
-ghost use Rattle.il_slots.specs.Layout.{rows};
+ghost use Rattle.std.specs.Prelude.{◌≡◌, ◌+◌, ◌*◌, ◌≤◌, length, map, replicate};
 ghost use Rattle.lift_spec.specs.Settle.{fields_of, outputs_of};
 ghost use Rattle.lift_spec.specs.Snapshot.{motor_number, number};
-ghost use Rattle.il_image.specs.Image.{filled, call_value, with_call, call_values, group_values, car_values, position_value, motor_value, cars_values, role_values, image_values};
+ghost use Rattle.il_image.specs.Image.{filled, call_values, group_values, car_values, position_value, motor_value, cars_values, role_values, image_values};
 
-use crate::rows::{put, put_at, put_parts};
+use crate::rows::{put, put_parts};
 use il_exec::rows::Rows;
 use il_run::value::Value;
 use lift_calls::book::CallBook;
-use lift_spec::calls::Slot;
 use lift_spec::image::{CarFields, CarOutputs, Fields, Image, Motor, Sizes};
-
-/// What a program sees of each call slot: CALLWAITS, CALLFROM, CALLTO or CALLCAR.
-#[derive(Clone, Copy)]
-pub enum Column {
-    Waits,
-    From,
-    To,
-    Car,
-}
 
 // The number of a motor.
 fn motor_number(motor: Motor) -> i64
@@ -33,63 +22,14 @@ fn motor_number(motor: Motor) -> i64
     }
 }
 
-// What a column shows of a call slot.
-fn call_value(column: Column, slot: Slot) -> Value
-    ensures { result ≡ call_value column slot }
-{
-    match (column, slot) {
-        (Column::Waits, Slot::Waiting { .. }) => Value::Boolean(true),
-        (Column::Waits, _) => Value::Boolean(false),
-        (Column::From, Slot::Waiting { call, .. }) => Value::Integer(call.from as i64),
-        (Column::From, Slot::Told { call, .. }) => Value::Integer(call.from as i64),
-        (Column::To, Slot::Waiting { call, .. }) => Value::Integer(call.to as i64),
-        (Column::To, Slot::Told { call, .. }) => Value::Integer(call.to as i64),
-        (Column::Car, Slot::Told { car, .. }) => Value::Integer(car as i64),
-        _ => Value::Integer(0),
-    }
-}
-
-// Writes what a program sees of a call slot, so far apart from one column to the next.
-fn write_slot(numbers: &mut [i64], flags: &mut [bool], at: usize, apart: usize, slot: Slot)
-    requires numbers { at + 3 * apart < length numbers.old }
-    requires flags { at + 3 * apart < length flags.old }
-    ensures { rows numbers.new flags.new ≡ with_call (rows numbers.old flags.old) at apart slot }
-{
-    put_at(numbers, flags, at, call_value(Column::Waits, slot));
-    put_at(numbers, flags, at + apart, call_value(Column::From, slot));
-    put_at(numbers, flags, at + 2 * apart, call_value(Column::To, slot));
-    put_at(
-        numbers,
-        flags,
-        at + 3 * apart,
-        call_value(Column::Car, slot),
-    );
-}
-
-// Writes all columns from a slot on, slot after slot.
-fn write_columns(numbers: &mut [i64], flags: &mut [bool], at: usize, calls: &CallBook)
-    requires numbers { at + 4 * length calls.now.slots ≤ length numbers.old }
-    requires flags { at + 4 * length calls.now.slots ≤ length flags.old }
-    ensures { rows numbers.new flags.new ≡ filled (rows numbers.old flags.old) at (call_values calls.now.slots) }
-{
-    let count = usize::from(calls.count());
-    'slots: for index in 0..count {
-        write_slot(numbers, flags, at + index, count, calls.slot_of(index));
-    }
-}
-
 // Writes what a program sees of the calls from a slot on.
 fn write_calls(rows: &mut Rows, at: usize, calls: &CallBook)
     requires numbers { at + 4 * length calls.now.slots ≤ length rows.old.numbers }
     requires flags { at + 4 * length calls.now.slots ≤ length rows.old.flags }
     ensures { rows.new ≡ filled rows.old at (call_values calls.now.slots) }
 {
-    write_columns(
-        rows.numbers.as_mut_slice(),
-        rows.flags.as_mut_slice(),
-        at,
-        calls,
-    );
+    let columns = calls.columns();
+    put_parts(rows, at, columns.numbers(), columns.flags());
 }
 
 // Writes what each program sees of the group from a slot on.

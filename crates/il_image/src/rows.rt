@@ -38,16 +38,6 @@ pub fn put(all: &mut Rows, at: usize, value: Value)
     all.flags[at] = flag_part(value);
 }
 
-/// The same in two rows.
-pub fn put_at(numbers: &mut [i64], flags: &mut [bool], at: usize, value: Value)
-    requires numbers { at < length numbers.old }
-    requires flags { at < length flags.old }
-    ensures { rows numbers.new flags.new ≡ with_slot (rows numbers.old flags.old) at value }
-{
-    numbers[at] = number_part(value);
-    flags[at] = flag_part(value);
-}
-
 // Copies numbers or Booleans into a row from a slot on.
 #[inline(always)]
 fn copy_at<T: Copy>(row: &mut [T], at: usize, some: &[T])

@@ -1,14 +1,17 @@
 -- What a scan's rows hold of its outputs.
-use Rattle.std.proofs.Common.{◌≡◌, ◌<◌, ◌≤◌, ℕ, zero, suc, ◌+◌, ◌-◌, List, [], ◌∷◌, ◌++◌, length, slice_get, refl, sym, ap, ap₂, ◌∙◌, Some, Option, subst, Contains, ℤ, pos, negsuc, ◌≤ℤ◌, nat_abs, codes, append-nil, append_assoc, arith}
+use Rattle.std.proofs.Common.{◌≡◌, ◌<◌, ◌≤◌, ℕ, zero, suc, ◌+◌, ◌-◌, List, [], ◌∷◌, ◌++◌, length, slice_get, get_or, false, refl, sym, ap, ap₂, ◌∙◌, Some, Option, subst, Contains, ℤ, pos, negsuc, ◌≤ℤ◌, nat_abs, codes, append-nil, append_assoc, arith}
 use Rattle.std.specs.Prelude.{option_and_then}
 use Rattle.std.proofs.lemmas.Int.{ints}
 use Rattle.std.proofs.lemmas.List.{length-append, map-append}
+use Rattle.std.proofs.lemmas.Option.{slice_get-get_or}
 use Rattle.il_spec.specs.declared.tree.Config.{Config}
 use Rattle.il_spec.specs.declared.tree.Elementary.TheVariants.{Bool as BoolType}
 use Rattle.il_spec.specs.declared.tree.Scalar.{Scalar}
+use Rattle.il_spec.specs.declared.tree.Subrange.{Subrange}
 use Rattle.il_spec.specs.declared.tree.Unit.{Unit as ProgramUnit}
 use Rattle.il_spec.specs.ElementaryTypes.{plain}
 use Rattle.il_rules.specs.Names.{within}
+use Rattle.il_rules.specs.Declarations.{declared_limits}
 use Rattle.il_run.specs.declared.value.Value.{Value}
 use Rattle.il_run.specs.declared.value.Value.TheVariants.{Boolean, Integer}
 use Rattle.il_table.specs.NameMap.{Text, get}
@@ -23,11 +26,12 @@ use Rattle.il_scan_laws.proofs.Lists.{at_head, in_tail}
 use Rattle.il_scan_laws.proofs.Paths.{value_of, have_first, have_second}
 use Rattle.il_scan_laws.proofs.Starting.{values_are}
 use Rattle.il_slots.specs.declared.flat.Cell.{Cell}
-use Rattle.il_slots.specs.Layout.{cell, Rows, Fits, view}
+use Rattle.il_slots.specs.Layout.{cell, Rows, Fits, view, value_by}
 use Rattle.il_slots.specs.Paths.{slot_at}
 use Rattle.il_slots.specs.Program.{own_cells, program_cells, program_code}
 use Rattle.il_slots.proofs.Paired.{stands_slot}
 use Rattle.il_slots.proofs.Tasks.{cells_once}
+use Rattle.il_exec.specs.Effect.{with_some}
 use Rattle.il_exec.specs.Going.{Stored}
 use Rattle.il_exec.specs.Framing.{state_by}
 use Rattle.lift_spec.specs.Image.{sizes_of}
@@ -45,6 +49,16 @@ use Rattle.il_machine.proofs.Scans.{sound_of, accepted, state_is}
 use Rattle.il_machine.proofs.Sizes.{cars_within, slots_within}
 
 -- NUMBERS
+
+-- a slot of a number keeps it in the row of numbers
+number_here :
+    (cells : List Cell) (r : Rows) (j : ℕ) (q : Cell) (s : Subrange) → slice_get cells j ≡ Some q → j < length r.numbers → j < length r.flags → declared_limits q.scalar ≡ Some s
+    → value_at cells r j ≡ Some (Integer (get_or r.numbers j (pos 0)))
+number_here cells r j q s is in_numbers in_flags limited =
+    ap (λ o. with_some o (λ p. with_some (slice_get r.numbers j) (λ z. with_some (slice_get r.flags j) (λ b. Some (value_by (declared_limits p.scalar) z b))))) is
+    ∙ ap (λ o. with_some o (λ z. with_some (slice_get r.flags j) (λ b. Some (value_by (declared_limits q.scalar) z b)))) (slice_get-get_or r.numbers j (pos 0) in_numbers)
+    ∙ ap (λ o. with_some o (λ b. Some (value_by (declared_limits q.scalar) (get_or r.numbers j (pos 0)) b))) (slice_get-get_or r.flags j false in_flags)
+    ∙ ap (λ l. Some (value_by l (get_or r.numbers j (pos 0)) (get_or r.flags j false))) limited
 
 -- a value of a subrange from 0 on lies in it
 whole_in : (high most : ℤ) → pos 0 ≤ℤ high → high ≤ℤ most → (o : Option Value) (v : Value) → o ≡ Some v → IsOf (within (pos 0) high) v → (pos 0 ≤ℤ whole_of o) × (whole_of o ≤ℤ most)
@@ -142,6 +156,8 @@ pub record StandLast (cells : List Cell) (r : Rows) (values : Values) : Type 0 w
   pub motor : value_at cells r (length cells - 3) ≡ get values (codes "MOTOR")
   pub opens : value_at cells r (length cells - 3 + 1) ≡ get values (codes "OPEN")
   pub serve : value_at cells r (length cells - 3 + 2) ≡ get values (codes "SERVE")
+  pub there : length cells - 3 + 2 < length r.numbers
+  pub number : value_at cells r (length cells - 3 + 2) ≡ Some (Integer (get_or r.numbers (length cells - 3 + 2) (pos 0)))
 
 module _ (c : Config) (runs : IsRunnable c) (k : ℕ) (s : Stored) (scan : IsScanOf c (suc k) s) where
   abbrev driver : ProgramUnit
@@ -174,6 +190,8 @@ module _ (c : Config) (runs : IsRunnable c) (k : ℕ) (s : Stored) (scan : IsSca
   stand_last : (cells : List Cell) (r : Rows) → cells ≡ program_cells c driver → r ≡ s.rows → StandLast cells r car_values
   stand_last cells r cells_is rows_is =
       let long = ap length cells_is ∙ three_last in
+      let fits : Fits (program_cells c driver) s.rows = scan.2.framed.fits in
+      let inside : length before + 2 < length s.rows.numbers = omega (arith, three_last, fits.numbers) in
       let read : (j : ℕ) → value_at cells r (length before + j) ≡ value_at (program_cells c driver) s.rows (length before + j) = λ j. ap₂ (λ xs x. value_at xs x (length before + j)) cells_is rows_is in
       let at0 : length cells - 3 ≡ length before + 0 = omega (arith, long) in
       let at1 : length cells - 3 + 1 ≡ length before + 1 = omega (arith, long) in
@@ -183,6 +201,11 @@ module _ (c : Config) (runs : IsRunnable c) (k : ℕ) (s : Stored) (scan : IsSca
         motor = ap (value_at cells r) at0 ∙ read 0 ∙ output_at 0 (cell (codes "MOTOR") (within (negsuc 0) (pos 1))) refl;
         opens = ap (value_at cells r) at1 ∙ read 1 ∙ output_at 1 (cell (codes "OPEN") (plain BoolType)) refl;
         serve = ap (value_at cells r) at2 ∙ read 2 ∙ output_at 2 (cell (codes "SERVE") (within (pos 0) c.slots.value)) refl;
+        there = omega (arith, at2, inside, ap (λ (x : Rows). length x.numbers) rows_is);
+        number = ap (value_at cells r) at2 ∙ read 2
+            ∙ number_here (program_cells c driver) s.rows (length before + 2) (cell (codes "SERVE") (within (pos 0) c.slots.value)) (record { lower = pos 0; upper = c.slots.value })
+            (ap (λ xs. slice_get xs (length before + 2)) outputs_end ∙ behind_first before (cells_of (outputs c)) 2) inside (omega (arith, three_last, fits.flags)) refl
+            ∙ sym (ap₂ (λ (x : Rows) i. Some (Integer (get_or x.numbers i (pos 0)))) rows_is at2);
       }
 
 pub car_stands : (c : Config) (runs : IsRunnable c) (car : ℕ) (s : Stored) → 1 ≤ car → (scan : IsScanOf c car s) → (cells : List Cell) (r : Rows) → cells ≡ program_cells c scan.0 → r ≡ s.rows → StandLast cells r (state_of (kept_of c car s)).values
@@ -270,6 +293,21 @@ module _ (c : Config) (runs : IsRunnable c) (s : Stored) (scan : IsScanOf c 0 s)
 
     pub assign_low : (k : ℕ) → k < n → (pos 0 ≤ℤ whole_of (value_at cells r (length cells - n + k))) × (whole_of (value_at cells r (length cells - n + k)) ≤ℤ pos 64)
     assign_low k low = assign_in k (omega (arith, low, n_is)) (value_at cells r (length cells - n + k)) (here_at k low)
+
+    -- they are numbers
+    pub assign_read : (k : ℕ) → k < n → (length cells - n + k < length r.numbers) × (value_at cells r (length cells - n + k) ≡ Some (Integer (get_or r.numbers (length cells - n + k) (pos 0))))
+    assign_read k low =
+        let fits : Fits (program_cells c program) s.rows = scan.2.framed.fits in
+        let e = ends_with in
+        let same = ap length cells_is in
+        let below : k < count = omega (arith, low, n_is) in
+        let at : length cells - n + k ≡ length front + k = omega (arith, e, same, n_is) in
+        let inside : length front + k < length s.rows.numbers = omega (arith, e, below, fits.numbers) in (
+          omega (arith, at, inside, ap (λ (x : Rows). length x.numbers) rows_is),
+          ap (value_at cells r) at ∙ ap₂ (λ xs x. value_at xs x (length front + k)) cells_is rows_is
+              ∙ number_here (program_cells c program) s.rows (length front + k) (cell (element_path (codes "ASSIGN") (pos (1 + k))) limits) (record { lower = pos 0; upper = c.cars.value }) (stands k below) inside (omega (arith, e, below, fits.flags)) refl
+              ∙ sym (ap₂ (λ (x : Rows) i. Some (Integer (get_or x.numbers i (pos 0)))) rows_is at),
+        )
 
     -- one more of them
     pub assign_next : (k : ℕ) → k < n → (cars new : List ℕ) (car : ℕ) → car ≡ nat_abs (whole_of (value_at cells r (length cells - n + k))) → new ≡ cars ++ car ∷ []

@@ -1,6 +1,7 @@
 // What a scan leaves of its outputs: the wishes of a car, and the cars that the group assigns.
 
-ghost use Rattle.std.specs.Prelude.{◌≡◌, ◌≤◌, ◌≤ℤ◌, pos, nat_abs, codes};
+ghost use Rattle.std.specs.Prelude.{◌≡◌, ◌<◌, ◌≤◌, ◌≤ℤ◌, pos, nat_abs, codes, length, get_or, Some};
+ghost use Rattle.il_run.specs.declared.value.Value.TheVariants.{Integer};
 ghost use Rattle.il_table.specs.NameMap.{get};
 ghost use Rattle.lift_spec.specs.Image.{sizes_of};
 ghost use Rattle.lift_spec.specs.Snapshot.{whole_of, truth_of, motor_of, wishes_of, assigned};
@@ -57,13 +58,25 @@ fn one_of(number: i64) -> u8
     number as u8
 }
 
+// The number at a slot of these cells that keeps one.
+fn number_at(rows: &Rows, cells: &[Cell], slot: usize) -> i64
+    requires there { slot < length rows.now.numbers }
+    requires number { value_at cells.now rows.now slot ≡ Some (Integer (get_or rows.now.numbers slot (pos 0))) }
+    ensures { result ≡ whole_of (value_at cells.now rows.now slot) }
+{
+    let _cells = cells;
+    rows.numbers[slot]
+}
+
 // The car or the call slot that a slot of rows names, 0 for none.
 fn named_at(rows: &Rows, cells: &[Cell], slot: usize) -> u8
+    requires there { slot < length rows.now.numbers }
+    requires number { value_at cells.now rows.now slot ≡ Some (Integer (get_or rows.now.numbers slot (pos 0))) }
     requires least { pos 0 ≤ℤ whole_of (value_at cells.now rows.now slot) }
     requires most { whole_of (value_at cells.now rows.now slot) ≤ℤ pos 64 }
     ensures { result ≡ nat_abs (whole_of (value_at cells.now rows.now slot)) }
 {
-    one_of(whole_of(value(rows, cells, slot)))
+    one_of(number_at(rows, cells, slot))
 }
 
 impl Bench {

@@ -1,1 +1,2 @@
 pub mod Sets
+pub mod Four

@@ -1,5 +1,5 @@
 -- What the sets say of the slots.
-use Rattle.std.specs.Prelude.{◌≡◌, ℕ, zero, suc, ◌+◌, ◌-◌, ◌/◌, ◌^◌, ◌<◌, ◌≤◌, Bool, true, false, List, [], ◌∷◌, length, get_or, set, replicate, slice_get, Some, None, nat_lt, ◌==◌, refl}
+use Rattle.std.specs.Prelude.{◌≡◌, ℕ, ℤ, Option, zero, suc, ◌+◌, ◌-◌, ◌/◌, ◌^◌, ◌<◌, ◌≤◌, Bool, true, false, List, [], ◌∷◌, length, get_or, set, replicate, slice_get, Some, None, nat_lt, ◌==◌, refl}
 use Rattle.std.specs.Int.{bit_at, w64, trailing_zeros}
 use Rattle.std.proofs.Common.{sym, ◌∙◌, ap, ap₂, subst, inl, inr, arith, eq-eqb, ne_eqb, lt-ltb}
 use Rattle.std.proofs.lemmas.Bool.{cases_eq, cases_Bool, cond-true, cond-false, ltb-true, ltb-false}
@@ -15,6 +15,7 @@ use Rattle.lift_spec.specs.Bits.{flag, IsWithBit}
 use Rattle.lift_spec.specs.Calls.{Calls, greatest_ticket, lowest_free_from, with_slot, enter, enter_into}
 use Rattle.lift_spec.proofs.Bits.{bit_own, bit_other}
 use Rattle.lift_spec.proofs.Interlock.{false_true}
+use Rattle.lift_calls.specs.Columns.{shown_of}
 use Rattle.lift_calls.specs.Sets.{no_call, slot_by, slot_of, slots_of, AreSlots, is_free, is_waiting, is_told, kept_of, IsLowest}
 use Rattle.lift_calls.specs.declared.book.CallBook.TheInside.{Inside}
 
@@ -62,7 +63,7 @@ unfolding slot_of
 reads_told b k e f = cond-false _ _ _ e ∙ cond-false _ _ _ f
 
 -- the ticket that was given last doesn't show in the slots
-pub given_apart : (b : Inside) (ticket : ℕ) → slots_of (record { free = b.free; waiting = b.waiting; told = b.told; tickets = b.tickets; calls = b.calls; cars = b.cars; count = b.count; given = ticket }) ≡ slots_of b
+pub given_apart : (b : Inside) (ticket : ℕ) → slots_of (record { free = b.free; waiting = b.waiting; told = b.told; tickets = b.tickets; calls = b.calls; cars = b.cars; count = b.count; given = ticket; columns = b.columns }) ≡ slots_of b
 unfolding slots_of slot_of
 given_apart b ticket = refl
 
@@ -72,6 +73,29 @@ opens b all =
     (λ k below.
     let within : k < b.count = omega (arith, below, slots_long b) in
     slot_there b k within ∙ reads_free b k (eq-eqb _ 1 (all k ∙ ap flag (lt-ltb k b.count within))) ∙ sym (get_or-replicate b.count k Free Free within))
+
+-- all slots Free are slots, with their columns
+pub opening_slots :
+    (free count : ℕ) (columns : List ℤ × (List Bool × List (Option ℕ))) → count ≤ 64 → ((k : ℕ) → bit_at free k ≡ flag (nat_lt k count)) → columns ≡ shown_of (replicate count Free)
+    → AreSlots (record { free = free; waiting = 0; told = 0; tickets = replicate 64 0; calls = replicate 64 no_call; cars = replicate 64 0; count = count; given = 0; columns = columns })
+opening_slots free count columns few all shown =
+    let b : Inside = record { free = free; waiting = 0; told = 0; tickets = replicate 64 0; calls = replicate 64 no_call; cars = replicate 64 0; count = count; given = 0; columns = columns } in
+    record {
+      few = few;
+      given = omega arith;
+      tickets = length-replicate {A = ℕ} 64 0;
+      calls = length-replicate 64 no_call;
+      cars = length-replicate {A = ℕ} 64 0;
+      sets = λ k below. let one = all k in let none : bit_at 0 k ≡ 0 = bit_at-zero k in omega (arith, one, none);
+      columns = shown ∙ sym (ap shown_of (opens b all));
+    }
+
+-- the ticket that was given last may be another
+pub given_slots :
+    (b : Inside) (ticket : ℕ) → AreSlots b → ticket ≤ greatest_ticket
+    → AreSlots (record { free = b.free; waiting = b.waiting; told = b.told; tickets = b.tickets; calls = b.calls; cars = b.cars; count = b.count; given = ticket; columns = b.columns })
+given_slots b ticket are given =
+    record { few = are.few; given = given; tickets = are.tickets; calls = are.calls; cars = are.cars; sets = are.sets; columns = are.columns ∙ sym (ap shown_of (given_apart b ticket)) }
 
 -- THE LOWEST FREE ONE
 
@@ -141,6 +165,7 @@ pub record IsWithSlot (b b' : Inside) (i : ℕ) (place : Slot) : Type 0 where
   pub cars : b'.cars ≡ set b.cars i (kept_of place).2
   pub count : b'.count ≡ b.count
   pub given : b'.given ≡ b.given
+  pub columns : (slots : List Slot) → b.columns ≡ shown_of slots → b'.columns ≡ shown_of (set slots i place)
 
 -- what bits of a kind say
 slot_says :
@@ -217,15 +242,17 @@ still_slots b b' i place are is =
                 let same : bit_at b'.free k + bit_at b'.waiting k + bit_at b'.told k ≡ bit_at b.free k + bit_at b.waiting k + bit_at b.told k = omega (arith, f, w, t) in
                 same ∙ are.sets k below ∙ ap (λ n. flag (nat_lt k n)) (sym is.count)
           ];
+      columns = is.columns (slots_of b) are.columns ∙ sym (ap shown_of (slots_with b b' i place are is));
     }
 
 -- what a write of the sets and of what is kept beside them gives
 pub written :
-    (b : Inside) (slot index : ℕ) (place : Slot) (free waiting told : ℕ) (f w t : Bool) (kept : ℕ × Call × ℕ) → slot - 1 < b.count → index ≡ slot - 1
+    (b : Inside) (slot index : ℕ) (place : Slot) (free waiting told : ℕ) (f w t : Bool) (kept : ℕ × Call × ℕ) (columns : List ℤ × (List Bool × List (Option ℕ))) → slot - 1 < b.count → index ≡ slot - 1
     → IsWithBit 64 b.free (slot - 1) f free → f ≡ is_free place → IsWithBit 64 b.waiting (slot - 1) w waiting → w ≡ is_waiting place
     → IsWithBit 64 b.told (slot - 1) t told → t ≡ is_told place → kept ≡ kept_of place
-    → IsWithSlot b (record { free = free; waiting = waiting; told = told; tickets = set b.tickets index kept.0; calls = set b.calls index kept.1; cars = set b.cars index kept.2; count = b.count; given = b.given }) (slot - 1) place
-written b slot index place free waiting told f w t kept within at is_f f_is is_w w_is is_t t_is kept_is =
+    → ((slots : List Slot) → b.columns ≡ shown_of slots → columns ≡ shown_of (set slots index place))
+    → IsWithSlot b (record { free = free; waiting = waiting; told = told; tickets = set b.tickets index kept.0; calls = set b.calls index kept.1; cars = set b.cars index kept.2; count = b.count; given = b.given; columns = columns }) (slot - 1) place
+written b slot index place free waiting told f w t kept columns within at is_f f_is is_w w_is is_t t_is kept_is columns_are =
     record {
       within = within;
       free = subst (λ on. IsWithBit 64 b.free (slot - 1) on free) f_is is_f;
@@ -236,6 +263,7 @@ written b slot index place free waiting told f w t kept within at is_f f_is is_w
       cars = ap (λ n. set b.cars n kept.2) at ∙ ap (λ (k : ℕ × Call × ℕ). set b.cars (slot - 1) k.2) kept_is;
       count = refl;
       given = refl;
+      columns = λ slots is. columns_are slots is ∙ ap (λ n. shown_of (set slots n place)) at;
     }
 
 -- a slot that counts from 1 in place of another

@@ -7,6 +7,7 @@ use Rattle.lift_spec.specs.declared.calls.Slot.{Slot}
 use Rattle.lift_spec.specs.declared.calls.Slot.TheVariants.{Free, Waiting, Told}
 use Rattle.lift_spec.specs.Bits.{flag}
 use Rattle.lift_spec.specs.Calls.{greatest_ticket}
+use Rattle.lift_calls.specs.Columns.{shown_of}
 use Rattle.lift_calls.specs.declared.book.CallBook.TheInside.{Inside}
 
 -- what stands where no call is
@@ -25,7 +26,7 @@ slot_of b k = slot_by (bit_at b.free k) (bit_at b.waiting k) (get_or b.tickets k
 unfoldable pub slots_of : Inside → List Slot
 slots_of b = map (slot_of b) (range_with_len 0 b.count)
 
--- the sets are pairwise disjoint, and together those of all slots; a ticket, a call and a car is kept for each
+-- the sets are pairwise disjoint, and together those of all slots; a ticket, a call and a car is kept for each, and what programs see of them
 pub record AreSlots (b : Inside) : Type 0 where
   pub few : b.count ≤ 64
   pub given : b.given ≤ greatest_ticket
@@ -33,6 +34,7 @@ pub record AreSlots (b : Inside) : Type 0 where
   pub calls : length b.calls ≡ 64
   pub cars : length b.cars ≡ 64
   pub sets : (k : ℕ) → k < 64 → bit_at b.free k + bit_at b.waiting k + bit_at b.told k ≡ flag (nat_lt k b.count)
+  pub columns : b.columns ≡ shown_of (slots_of b)
 
 -- whether a slot is of a kind
 abbrev pub is_free : Slot → Bool

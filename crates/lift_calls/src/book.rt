@@ -4,8 +4,10 @@ ghost use Rattle.std.specs.Prelude.{◌≡◌, ◌≢◌, ◌<◌, ◌≤◌, �
 ghost use Rattle.std.specs.Int.{bit_at};
 ghost use Rattle.lift_spec.specs.Bits.{flag, IsWithBit};
 ghost use Rattle.lift_spec.specs.Calls.{opening_calls, greatest_ticket, lowest_free_from, slot_at, with_slot, enter, tell, serve};
+ghost use Rattle.lift_calls.specs.Columns.{shown_of};
 ghost use Rattle.lift_calls.specs.Sets.{is_free, is_waiting, is_told, kept_of, IsLowest};
 
+use crate::columns::Columns;
 use lift_spec::calls::{Answer, Call, Entering, Slot};
 use lift_spec::image::Sizes;
 use lists::Bounded;
@@ -16,7 +18,7 @@ const GREATEST_TICKET: u64 = 9_223_372_036_854_775_807;
 
 /// The call slots of a group, which count from 1, and the last ticket that was given. The free, the
 /// waiting and the told slots are three sets, slot `slot` as bit `slot - 1`, beside the ticket, the
-/// call and the car of each. No call of a book takes memory.
+/// call and the car of each, and what programs see of the slots. No call of a book takes memory.
 #[derive(Drop)]
 pub struct CallBook {
     free: u64,
@@ -27,6 +29,7 @@ pub struct CallBook {
     cars: [u8; 64],
     count: u8,
     given: u64,
+    columns: Columns,
 }
 
 impl Model for CallBook {
@@ -132,6 +135,7 @@ impl CallBook {
             cars: [0; 64],
             count: sizes.slots,
             given: 0,
+            columns: Columns::new(sizes.slots),
         }
     }
 
@@ -148,6 +152,7 @@ impl CallBook {
             cars: self.cars,
             count: self.count,
             given: self.given,
+            columns: self.columns.copied(),
         }
     }
 
@@ -200,6 +205,13 @@ impl CallBook {
         slots
     }
 
+    /// What programs see of the slots, and their tickets.
+    pub fn columns(&self) -> &Columns
+        ensures { result.now ≡ shown_of self.now.slots }
+    {
+        &self.columns
+    }
+
     /// The last ticket that was given, 0 before the first.
     pub fn last_ticket(&self) -> u64
         ensures value { result ≡ self.now.last_ticket }
@@ -232,6 +244,7 @@ impl CallBook {
         self.tickets[index] = ticket;
         self.calls[index] = call;
         self.cars[index] = car;
+        self.columns.set(index, place);
     }
 
     /// Enters a call into the lowest Free slot, under the next ticket: 1 first, then always 1 more.

@@ -2,6 +2,7 @@
 #![tactic(auto)]
 
 pub mod book;
+pub mod columns;
 
 pub use lift_spec::calls::{Answer, Call, Entering, Slot};
 pub use lift_spec::hand::Hand;

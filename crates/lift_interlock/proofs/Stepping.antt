@@ -1,7 +1,8 @@
 -- One car further along the cars.
-use Rattle.std.proofs.Common.{◌≡◌, ℕ, suc, zero, ◌+◌, ◌-◌, ◌*◌, ◌<◌, ◌≤◌, List, [], ◌∷◌, ◌++◌, length, get_or, drop, refl, sym, ap, ◌∙◌, subst, arith, append_assoc, length-append}
+use Rattle.std.proofs.Common.{◌≡◌, ℕ, suc, zero, ◌+◌, ◌-◌, ◌*◌, ◌<◌, ◌≤◌, List, [], ◌∷◌, ◌++◌, length, get_or, take, drop, refl, sym, ap, ap₂, ◌∙◌, subst, arith, append_assoc, length-append}
 use Rattle.std.proofs.Math.Seq.{drop-cons}
-use Rattle.std.specs.Prelude.{Bool, not, ◌==◌, filter, Option, Some, None}
+use Rattle.std.proofs.lemmas.List.{append-nil, take_all, at_drop_all, length-take-le}
+use Rattle.std.specs.Prelude.{Bool, true, false, not, ◌==◌, filter, Option, Some, None}
 use Rattle.lift_spec.specs.declared.image.CarFields.{CarFields}
 use Rattle.lift_spec.specs.declared.image.CarOutputs.{CarOutputs}
 use Rattle.lift_spec.specs.declared.image.Fields.{Fields}
@@ -10,8 +11,8 @@ use Rattle.lift_spec.specs.declared.report.Denial.{Denial}
 use Rattle.lift_spec.specs.Bits.{flag}
 use Rattle.lift_spec.specs.Image.{runs, running_cars, opening_outputs}
 use Rattle.std.specs.Int.{from_bool}
-use Rattle.lift_spec.proofs.Running.{byte_flag, own_counts}
-use Rattle.lift_spec.specs.Settle.{listed, open_denial, running_denial, settled_running, settled_from, joined, denials_of}
+use Rattle.lift_spec.proofs.Running.{byte_flag, own_counts, running_fit}
+use Rattle.lift_spec.specs.Settle.{listed, open_denial, running_denial, settled_running, settled_from, settled_all, able_from, joined, denials_of}
 
 drop_step : {A : Type 0} (xs : List A) (i : ℕ) (none : A) → i < length xs → drop i xs ≡ get_or xs i none ∷ drop (i + 1) xs
 drop_step xs i none h = let e : suc i ≡ i + 1 = omega arith in drop-cons xs i none h ∙ ap (λ n. get_or xs i none ∷ drop n xs) e
@@ -75,3 +76,36 @@ room_stays group able car f o denials new rules i is_rules is_new h =
     let few : length rules ≤ 2 = subst P (sym is_rules) (at_most_two (open_denial o.opens f.level) (running_denial group able car f o)) in
     let long : length new ≡ length denials + length rules = ap length is_new ∙ length-append denials (denials_of car rules) ∙ ap (λ n. length denials + n) (as_many_denials car rules) in
     omega (arith, few, long, h)
+
+-- THE LAST CAR
+
+pub all_outputs :
+    (group : Fields) (cars : List CarFields) (before outputs : List CarOutputs) (i : ℕ) → cars ≡ group.cars → length before ≡ length cars → length outputs ≡ length before → length cars ≤ i
+    → take i outputs ++ (settled_from group (able_from group.fire 1 cars before) (i + 1) (drop i cars) (drop i before)).outputs ≡ (settled_from group (able_from group.fire 1 cars before) 1 cars before).outputs
+    → outputs ≡ (settled_all before group).outputs
+unfolding settled_all
+all_outputs group cars before outputs i cars_are as_many long end is =
+    let able : List ℕ = able_from group.fire 1 cars before in
+    sym (append-nil outputs)
+    ∙ ap₂ (λ a b. a ++ b) (sym (take_all i outputs (omega (arith, long, as_many, end)))) (sym (at_drop_all (λ xs. (settled_from group able (i + 1) xs (drop i before)).outputs) cars i end))
+    ∙ is ∙ ap (λ xs. (settled_from group (able_from group.fire 1 xs before) 1 xs before).outputs) cars_are
+
+pub all_denials :
+    (group : Fields) (cars : List CarFields) (before : List CarOutputs) (denials : List Denial) (i : ℕ) → cars ≡ group.cars → length cars ≤ i
+    → denials ++ (settled_from group (able_from group.fire 1 cars before) (i + 1) (drop i cars) (drop i before)).denials ≡ (settled_from group (able_from group.fire 1 cars before) 1 cars before).denials
+    → denials ≡ (settled_all before group).denials
+unfolding settled_all
+all_denials group cars before denials i cars_are end is =
+    let able : List ℕ = able_from group.fire 1 cars before in
+    sym (append-nil denials) ∙ ap (λ b. denials ++ b) (sym (at_drop_all (λ xs. (settled_from group able (i + 1) xs (drop i before)).denials) cars i end))
+    ∙ is ∙ ap (λ xs. (settled_from group (able_from group.fire 1 xs before) 1 xs before).denials) cars_are
+
+-- how many run, with one more, fits a byte
+flag_small : (holds : Bool) → flag holds ≤ 1
+flag_small true = omega arith
+flag_small false = omega arith
+
+pub running_room :
+    (outputs : List CarOutputs) (i count running own : ℕ) (holds : Bool) → i < count → count ≤ 8 → running ≡ length (running_cars (take i outputs)) → own ≡ from_bool holds → i ≤ length outputs → running + own ≤ 8
+running_room outputs i count running own holds below few is own_is within =
+    omega (arith, below, few, is, running_fit (take i outputs), length-take-le i outputs within, own_is ∙ byte_flag holds, flag_small holds)

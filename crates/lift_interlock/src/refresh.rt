@@ -1,6 +1,6 @@
 // A refresh.
 
-ghost use Rattle.std.specs.Prelude.{◌≡◌, ◌≤◌, ◌+◌, ◌++◌, length};
+ghost use Rattle.std.specs.Prelude.{◌≡◌, ◌≤◌, ◌+◌, ◌++◌, [], length};
 ghost use Rattle.lift_spec.specs.Settle.{denies_running, running_denial, denials_of, settled_all};
 ghost use Rattle.lift_interlock.specs.Beside.{first_cars, settled_beside};
 
@@ -70,25 +70,45 @@ fn add_denials(denials: &mut Bounded<Denial, 16>, car: u8, rules: &[Rule])
     }
 }
 
-/// A refresh: what is left of the outputs of all cars, of which there are at most 8, under new fields of as many (own
-/// rule). Running cars that fail rule 2, 3 or 6 stop, by the first that they fail; of the rest the RUNLIMIT
+// Takes all denials out of a row.
+fn clear(denials: &mut Bounded<Denial, 16>)
+    ensures { denials.new ≡ [] }
+{
+    if denials.len() > 0 {
+        *denials = Bounded::new();
+    }
+}
+
+/// A refresh, in place: what is left of the outputs of all cars, of which there are at most 8, under new fields of as
+/// many (own rule). Running cars that fail rule 2, 3 or 6 stop, by the first that they fail; of the rest the RUNLIMIT
 /// lowest-numbered run on, and the others stop by 5. Open commands stay exactly at a level, otherwise they end by 4.
 #[tactic(auto, unfolding(lift_spec::specs::Settle::settled_all))]
+pub fn settle_each(outputs: &mut Outputs, fields: &Fields, denials: &mut Bounded<Denial, 16>)
+    requires { length outputs.old ≡ length fields.now.cars }
+    ensures outputs { outputs.new ≡ (settled_all outputs.old fields.now).outputs }
+    ensures denials { denials.new ≡ (settled_all outputs.old fields.now).denials }
+{
+    clear(denials);
+    let count = fields.cars.len();
+    let cars = fields.cars.as_slice();
+    let mut running = 0;
+    for index in 0..count {
+        let car = index as u8 + 1;
+        let settled = settle_running(fields, running, cars[index], outputs.as_slice()[index]);
+        running += u8::from(settled.outputs.motor.runs());
+        outputs.set(index, settled.outputs);
+        add_denials(denials, car, settled.denials.as_slice());
+    }
+}
+
+/// The same, beside the outputs before.
 pub fn settle_all(outputs: &Outputs, fields: &Fields) -> AllSettled
     requires { length outputs.now ≡ length fields.now.cars }
     ensures { result ≡ settled_all outputs.now fields.now }
 {
-    let count = fields.cars.len();
-    let cars = fields.cars.as_slice();
-    let before = outputs.as_slice();
-    let mut after = Outputs::new();
+    let mut after = outputs.copied();
     let mut denials = Bounded::new();
-    for index in 0..count {
-        let car = index as u8 + 1;
-        let settled = settle_running(fields, after.running_count(), cars[index], before[index]);
-        after.push(settled.outputs);
-        add_denials(&mut denials, car, settled.denials.as_slice());
-    }
+    settle_each(&mut after, fields, &mut denials);
     AllSettled {
         outputs: after,
         denials,

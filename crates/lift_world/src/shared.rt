@@ -23,7 +23,7 @@ use crate::tickets::Tickets;
 use il_machine::{Begin, FirstRows, Rows, Store, Value, Verified, opening_image, variable};
 use lift_calls::book::CallBook;
 use lift_image::{Bounded, Fields, Image, Motor};
-use lift_interlock::{settle_all, settle_car};
+use lift_interlock::{settle_car, settle_each};
 use lift_spec::calls::Slot;
 use lift_spec::hand::Hand;
 use lift_spec::report::Report;
@@ -177,11 +177,9 @@ fn settle_cars(image: &mut Image, fields: &Fields, report: &mut Report)
     ensures image { image.new ≡ record { fields = fields.now; outputs = (settled_all image.old.outputs fields.now).outputs } }
     ensures report { report.new ≡ record { outputs = (settled_all image.old.outputs fields.now).outputs; denials = (settled_all image.old.outputs fields.now).denials; answers = []; entered = report.old.entered } }
 {
-    let settled = settle_all(&image.outputs, fields);
+    settle_each(&mut image.outputs, fields, &mut report.denials);
     take_fields(&mut image.fields, fields);
-    take_outputs(&mut image.outputs, &settled.outputs);
-    take_outputs(&mut report.outputs, &settled.outputs);
-    report.denials = settled.denials;
+    take_outputs(&mut report.outputs, &image.outputs);
     clear(&mut report.answers);
 }
 

@@ -1,10 +1,9 @@
 // The tickets that the open scan of a task saw.
 
-ghost use Rattle.std.specs.Prelude.{◌≡◌, ℕ, List, Option, Some, None, is_some, map};
+ghost use Rattle.std.specs.Prelude.{◌≡◌, ◌≤◌, ◌++◌, ℕ, List, Option, Some, None, is_some, map, length, drop};
 ghost use Rattle.lift_spec.specs.Calls.{ticket_of};
 
 use lift_calls::book::CallBook;
-use lift_spec::calls::Slot;
 use std::marker::Model;
 
 /// The ticket of each call slot as the open scan of a task saw it, if one is open. Contracts see just that. Between scans the tickets stay
@@ -27,15 +26,13 @@ impl Model for Tickets {
     ghost invariant = { λ t. t.count ≤ 64 };
 }
 
-// The ticket of a slot that isn't Free.
-fn ticket_of(slot: Slot) -> Option<u64>
-    ensures { result ≡ ticket_of slot }
+// Copies tickets to the front of a row.
+fn copy_to_front(row: &mut [Option<u64>], tickets: &[Option<u64>])
+    requires { length tickets.now ≤ length row.old }
+    ensures { row.new ≡ tickets.now ++ drop (length tickets.now) row.old }
 {
-    match slot {
-        Slot::Free => None,
-        Slot::Waiting { ticket, .. } => Some(ticket),
-        Slot::Told { ticket, .. } => Some(ticket),
-    }
+    let (front, _) = row.split_at_mut(tickets.len());
+    front.copy_from_slice(tickets);
 }
 
 impl Tickets {
@@ -62,9 +59,7 @@ impl Tickets {
         ensures { self.new ≡ Some (map ticket_of calls.now.slots) }
     {
         let count = calls.count();
-        'slots: for index in 0..usize::from(count) {
-            self.seen[index] = ticket_of(calls.slot_of(index));
-        }
+        copy_to_front(&mut self.seen, calls.columns().tickets());
         self.count = count;
         self.is_open = true;
     }

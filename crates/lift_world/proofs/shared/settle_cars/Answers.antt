@@ -1,15 +1,16 @@
-use Rattle.std.proofs.Common.{◌∙◌, ap, []}
+use Rattle.std.proofs.Common.{ap, ap₂, [], List}
+use Rattle.lift_spec.specs.declared.image.CarOutputs.{CarOutputs}
 use Rattle.lift_spec.specs.declared.image.Image.{Image}
+use Rattle.lift_spec.specs.declared.report.Denial.{Denial}
 use Rattle.lift_spec.specs.declared.report.Report.{Report}
-use Rattle.lift_spec.specs.Settle.{AllSettled}
 use Rattle.lift_world.proofs.shared.settle_cars.Goals as goal
 
 pub returns-clause-image : goal.returns-clause-image
 returns-clause-image c =
-    let image : AllSettled → Image = λ s. record { fields = c.args.fields.now; outputs = s.outputs } in
-    rw (c.take_fields.ensures, c.take_outputs.ensures) (ap image (c.settled.view_is ∙ c.settle_all-settled.ensures))
+    let image : List CarOutputs → Image = λ outputs. record { fields = c.args.fields.now; outputs = outputs } in
+    rw c.take_fields.ensures (ap image c.settle_each.ensures.outputs)
 
 pub returns-clause-report : goal.returns-clause-report
 returns-clause-report c =
-    let report : AllSettled → Report = λ s. record { outputs = s.outputs; denials = s.denials; answers = []; entered = c.args.report.now.entered } in
-    rw (c.take_outputs-2.ensures, c.clear.ensures) (ap report (c.settled.view_is ∙ c.settle_all-settled.ensures))
+    let report : List CarOutputs → List Denial → Report = λ outputs denials. record { outputs = outputs; denials = denials; answers = []; entered = c.args.report.now.entered } in
+    rw (c.take_outputs.ensures, c.clear.ensures) (ap₂ report c.settle_each.ensures.outputs c.settle_each.ensures.denials)

@@ -1,7 +1,7 @@
 use Rattle.std.proofs.Common.{◌<◌, ◌≤◌, ◌∙◌, [], ◌∷◌, refl, ap, length, arith}
 use Rattle.std.proofs.lemmas.List.{length-append}
 use Rattle.lift_spec.specs.declared.image.Sizes.{Sizes}
-use Rattle.il_machine.proofs.Outgoing.{assign_room, few_slots, assign_low, assign_next, assign_all}
+use Rattle.il_machine.proofs.Outgoing.{assign_room, few_slots, assign_low, assign_read, assign_next, assign_all}
 use Rattle.il_machine.proofs.bench.Bench.assigned.Goals as goal
 
 pub overflow_sub-first : goal.overflow_sub-first
@@ -17,6 +17,16 @@ named_at-requires-clause-least c =
 pub named_at-requires-clause-most : goal.named_at-requires-clause-most
 named_at-requires-clause-most c =
     (assign_low c.args.verified.now.config c.config-config.ensures.runnable c.args.self.now c.requires.scan c.cells-cells.result.now c.rows.result.now c.sizes-count.result.slots (c.cells-cells.ensures ∙ (c.task_code.ensures c.requires.scan.0 c.requires.scan.1.program).cells) c.rows.ensures
+    (ap (λ (z : Sizes). z.slots) c.sizes-count.ensures) c.slots.slot (omega arith)).1
+
+pub named_at-requires-clause-there : goal.named_at-requires-clause-there
+named_at-requires-clause-there c =
+    (assign_read c.args.verified.now.config c.config-config.ensures.runnable c.args.self.now c.requires.scan c.cells-cells.result.now c.rows.result.now c.sizes-count.result.slots (c.cells-cells.ensures ∙ (c.task_code.ensures c.requires.scan.0 c.requires.scan.1.program).cells) c.rows.ensures
+    (ap (λ (z : Sizes). z.slots) c.sizes-count.ensures) c.slots.slot (omega arith)).0
+
+pub named_at-requires-clause-number : goal.named_at-requires-clause-number
+named_at-requires-clause-number c =
+    (assign_read c.args.verified.now.config c.config-config.ensures.runnable c.args.self.now c.requires.scan c.cells-cells.result.now c.rows.result.now c.sizes-count.result.slots (c.cells-cells.ensures ∙ (c.task_code.ensures c.requires.scan.0 c.requires.scan.1.program).cells) c.rows.ensures
     (ap (λ (z : Sizes). z.slots) c.sizes-count.ensures) c.slots.slot (omega arith)).1
 
 pub push-requires : goal.push-requires

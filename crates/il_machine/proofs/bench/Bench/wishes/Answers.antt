@@ -16,6 +16,14 @@ pub named_at-requires-clause-most : goal.named_at-requires-clause-most
 named_at-requires-clause-most c =
     (serve_low c.args.verified.now.config c.config-config.ensures.runnable c.args.car c.args.self.now c.requires.car c.requires.scan _ (car_stands c.args.verified.now.config c.config-config.ensures.runnable c.args.car c.args.self.now c.requires.car c.requires.scan c.cells-cells.result.now c.rows-3.result.now (c.cells-cells.ensures ∙ (c.task_code.ensures c.requires.scan.0 c.requires.scan.1.program).cells) c.rows-3.ensures).serve).1
 
+pub named_at-requires-clause-there : goal.named_at-requires-clause-there
+named_at-requires-clause-there c =
+    (car_stands c.args.verified.now.config c.config-config.ensures.runnable c.args.car c.args.self.now c.requires.car c.requires.scan c.cells-cells.result.now c.rows-3.result.now (c.cells-cells.ensures ∙ (c.task_code.ensures c.requires.scan.0 c.requires.scan.1.program).cells) c.rows-3.ensures).there
+
+pub named_at-requires-clause-number : goal.named_at-requires-clause-number
+named_at-requires-clause-number c =
+    (car_stands c.args.verified.now.config c.config-config.ensures.runnable c.args.car c.args.self.now c.requires.car c.requires.scan c.cells-cells.result.now c.rows-3.result.now (c.cells-cells.ensures ∙ (c.task_code.ensures c.requires.scan.0 c.requires.scan.1.program).cells) c.rows-3.ensures).number
+
 pub returns : goal.returns
 unfolding wishes_of
 returns c =

@@ -3,10 +3,13 @@ use Rattle.lift_spec.specs.declared.calls.Slot.{Slot}
 use Rattle.lift_spec.specs.Calls.{Calls}
 use Rattle.lift_calls.specs.declared.book.CallBook.TheInside.{Inside}
 use Rattle.lift_calls.specs.Sets.{no_call}
-use Rattle.lift_calls.proofs.Sets.{opens}
+use Rattle.lift_calls.proofs.Sets.{opens, opening_slots}
 use Rattle.lift_calls.proofs.book.CallBook.new.Goals as goal
 
 pub returns : goal.returns
 returns c =
-    let opening : Inside = record { free = c.first_slots.result; waiting = 0; told = 0; tickets = replicate 64 0; calls = replicate 64 no_call; cars = replicate 64 0; count = c.args.sizes.slots; given = 0 } in
+    let opening : Inside = record { free = c.first_slots.result; waiting = 0; told = 0; tickets = replicate 64 0; calls = replicate 64 no_call; cars = replicate 64 0; count = c.args.sizes.slots; given = 0; columns = c.new.result } in
     ap (λ (slots : List Slot). let calls : Calls = record { slots = slots; last_ticket = 0 } in calls) (opens opening c.first_slots.ensures)
+
+pub invariant_of-result : goal.invariant_of-result
+invariant_of-result c = opening_slots c.first_slots.result c.args.sizes.slots c.new.result c.requires.slots.1 c.first_slots.ensures c.new.ensures

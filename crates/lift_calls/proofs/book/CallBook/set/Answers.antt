@@ -25,13 +25,13 @@ pub invariant_of-self : goal.invariant_of-self
 invariant_of-self c =
     let within : c.args.slot - 1 < c.self.inside.count = omega (arith, c.requires, ap (λ (calls : Calls). length calls.slots) c.self.view_is, slots_long c.self.inside) in
     still_slots c.self.inside _ (c.args.slot - 1) c.args.place c.self.invariant
-    (written c.self.inside c.args.slot c.from-index.result c.args.place c.with_bit-self-inside.result c.with_bit-self-inside-2.result c.with_bit-self-inside-3.result c.is_free.result c.is_waiting.result c.is_told.result c.kept_of-ticket.result within c.from-index.ensures
-    c.with_bit-self-inside.ensures c.is_free.ensures c.with_bit-self-inside-2.ensures c.is_waiting.ensures c.with_bit-self-inside-3.ensures c.is_told.ensures c.kept_of-ticket.ensures)
+    (written c.self.inside c.args.slot c.from-index.result c.args.place c.with_bit-self-inside.result c.with_bit-self-inside-2.result c.with_bit-self-inside-3.result c.is_free.result c.is_waiting.result c.is_told.result c.kept_of-ticket.result c.set.new.self within c.from-index.ensures
+    c.with_bit-self-inside.ensures c.is_free.ensures c.with_bit-self-inside-2.ensures c.is_waiting.ensures c.with_bit-self-inside-3.ensures c.is_told.ensures c.kept_of-ticket.ensures c.set.ensures)
 
 pub returns-clause-slots : goal.returns-clause-slots
 returns-clause-slots c =
     let within : c.args.slot - 1 < c.self.inside.count = omega (arith, c.requires, ap (λ (calls : Calls). length calls.slots) c.self.view_is, slots_long c.self.inside) in
     slots_with c.self.inside _ (c.args.slot - 1) c.args.place c.self.invariant
-    (written c.self.inside c.args.slot c.from-index.result c.args.place c.with_bit-self-inside.result c.with_bit-self-inside-2.result c.with_bit-self-inside-3.result c.is_free.result c.is_waiting.result c.is_told.result c.kept_of-ticket.result within c.from-index.ensures
-    c.with_bit-self-inside.ensures c.is_free.ensures c.with_bit-self-inside-2.ensures c.is_waiting.ensures c.with_bit-self-inside-3.ensures c.is_told.ensures c.kept_of-ticket.ensures)
+    (written c.self.inside c.args.slot c.from-index.result c.args.place c.with_bit-self-inside.result c.with_bit-self-inside-2.result c.with_bit-self-inside-3.result c.is_free.result c.is_waiting.result c.is_told.result c.kept_of-ticket.result c.set.new.self within c.from-index.ensures
+    c.with_bit-self-inside.ensures c.is_free.ensures c.with_bit-self-inside-2.ensures c.is_waiting.ensures c.with_bit-self-inside-3.ensures c.is_told.ensures c.kept_of-ticket.ensures c.set.ensures)
     ∙ placed _ c.args.slot c.args.place c.requires.0 ∙ ap (λ (calls : Calls). with_slot calls.slots c.args.slot c.args.place) c.self.view_is

@@ -1,14 +1,19 @@
-use Rattle.std.proofs.Common.{◌++◌, ◌∷◌, [], ◌∙◌, sym, ap, map, take, arith}
-use Rattle.std.proofs.lemmas.List.{take_more, take_more_set, map-append}
-use Rattle.std.proofs.lemmas.Option.{get_or_from_slice_get}
+use Rattle.std.proofs.Common.{◌≡◌, ◌∙◌, true, ap, map, length, drop, arith, ◌++◌, ℤ, Bool, Option, Some, ℕ, List}
+use Rattle.std.proofs.lemmas.List.{length-map, take_at}
 use Rattle.lift_spec.specs.Calls.{ticket_of}
+use Rattle.lift_world.specs.Seen.{seen_by}
 use Rattle.lift_world.proofs.tickets.Tickets.open.Goals as goal
 
-pub slots-preserved : goal.slots-preserved
-slots-preserved c =
+pub copy_to_front-requires : goal.copy_to_front-requires
+copy_to_front-requires c =
     let slots = c.args.calls.now.slots in
-    let i = c.slots.index in
-    let slot = c.slot_of.result in
-    take_more_set c.slots.self-inside.seen i c.ticket_of.result (omega arith) ∙ ap (λ t. take i c.slots.self-inside.seen ++ t ∷ []) c.ticket_of.ensures ∙ ap (λ xs. xs ++ ticket_of slot ∷ []) c.slots.invariant
-    ∙ sym (map-append ticket_of (take i slots) (slot ∷ []))
-    ∙ ap (map ticket_of) (sym (take_more slots i slot (omega arith) ∙ ap (λ x. take i slots ++ x ∷ []) (get_or_from_slice_get slots i slot slot c.slot_of.ensures)))
+    let shown : c.tickets.result.now ≡ map ticket_of slots = c.tickets.ensures ∙ ap (λ (s : List ℤ × (List Bool × List (Option ℕ))). s.1.1) c.columns.ensures in
+    omega (arith, ap length shown, length-map slots ticket_of, c.count-count.ensures.few)
+
+pub returns : goal.returns
+returns c =
+    let slots = c.args.calls.now.slots in
+    let shown : c.tickets.result.now ≡ map ticket_of slots = c.tickets.ensures ∙ ap (λ (s : List ℤ × (List Bool × List (Option ℕ))). s.1.1) c.columns.ensures in
+    let long : length c.tickets.result.now ≡ c.count-count.result = omega (arith, ap length shown, length-map slots ticket_of, c.count-count.ensures.value) in
+    ap (seen_by true c.count-count.result) c.copy_to_front.ensures
+    ∙ ap Some (take_at c.tickets.result.now (drop (length c.tickets.result.now) c.self.inside.seen) c.count-count.result long ∙ shown)
