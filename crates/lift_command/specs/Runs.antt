@@ -4,7 +4,7 @@ use Rattle.il_spec.specs.declared.fault.Refusal.{Refusal}
 use Rattle.il_spec.specs.declared.tree.Config.{Config}
 use Rattle.il_shown.specs.Texts.{AreRangesShown}
 use Rattle.il_machine.specs.Scanning.{Program}
-use Rattle.lift_host.specs.declared.files.ReadFault.{ReadFault}
+use Rattle.lift_host.specs.declared.files.Reading.{Reading}
 use Rattle.lift_host.specs.declared.request.Request.{Request}
 use Rattle.lift_host.specs.declared.request.Request.TheVariants as request
 use Rattle.lift_host.specs.declared.request.Showing.TheVariants as showing
@@ -30,6 +30,6 @@ IsRefusedOutcome (request.Rounds command asked) text why outcome = outcome ≡ E
 IsRefusedOutcome (request.Trace command traced) text why outcome = outcome ≡ Err (fault_of why)
 
 -- The text is refused with the fault that the verifier names, or the request is carried out over what it has verified.
-pub data IsTextOutcome (reads : List ℕ → ℕ → List ℕ → Type 0) (fails : List ℕ → ℕ → ReadFault → Type 0) (request : Request) (text : List ℕ) (outcome : Outcome) : Type 0 where
-  refused : (why : Refusal) → IsLoaded text (Err why) → IsRefusedOutcome request text why outcome → IsTextOutcome reads fails request text outcome
-  accepted : (program : Program) → IsLoaded text (Ok program) → IsProgramOutcome reads fails request program outcome → HasWarnings (wanted_warnings request program) outcome → IsTextOutcome reads fails request text outcome
+pub data IsTextOutcome (request : Request) (text : List ℕ) (trace : Reading) (outcome : Outcome) : Type 0 where
+  refused : (why : Refusal) → IsLoaded text (Err why) → IsRefusedOutcome request text why outcome → IsTextOutcome request text trace outcome
+  accepted : (program : Program) → IsLoaded text (Ok program) → IsProgramOutcome request program trace outcome → HasWarnings (wanted_warnings request program) outcome → IsTextOutcome request text trace outcome

@@ -7,7 +7,7 @@ ghost use Rattle.lift_command.specs.Runs.{IsKnown, IsRefusedOutcome, IsTextOutco
 use il_machine::Verified;
 use il_shown::ranges_text;
 use il_spec::fault::Refusal;
-use lift_host::files::TextFiles;
+use lift_host::files::Reading;
 use lift_host::request::{Request, Showing};
 use lift_host::status::Fault;
 use lift_load::{load, unbroken};
@@ -23,18 +23,18 @@ use std::thread::Threads;
 pub struct Liftplc;
 
 impl Commands for Liftplc {
-    ghost gives = { λ _ reads fails request text given. IsTextOutcome reads fails request text given };
+    ghost gives = { λ _. IsTextOutcome };
 
-    fn outcome<R: Threads + Wait + Sync, F: TextFiles>(
+    fn outcome<R: Threads + Wait + Sync>(
         &self,
         rt: &R,
         alloc: Global,
         request: Request<'_>,
         text: &[u8],
-        files: &F,
+        trace: &Reading,
     ) -> Result<Output, Fault> {
         match loaded(alloc, text) {
-            Ok(verified) => outcome(rt, alloc, request, verified, files),
+            Ok(verified) => outcome(rt, alloc, request, verified, trace),
             Err(refusal) => refused(alloc, request, text, refusal),
         }
     }

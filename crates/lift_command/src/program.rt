@@ -2,7 +2,7 @@
 
 ghost use Rattle.std.specs.Prelude.{◌≡◌, ◌⊎◌, true, false, map, string_bytes};
 ghost use Rattle.std.specs.Io.KnownBytes.{Appends, Keeps};
-ghost use Rattle.lift_shell.specs.Runs.{IsRunOutcome, IsBelowRun, HasWritten, HasShown, HasTold};
+ghost use Rattle.lift_shell.specs.Runs.{IsRunAnswer, HasWritten, HasShown, HasTold};
 ghost use Rattle.lift_command.specs.Runs.{IsTextOutcome};
 ghost use Rattle.lift_show.specs.Outputs.{Warns};
 ghost use Rattle.lift_sink.specs.Writes.{Writes, AppendsFront};
@@ -18,7 +18,7 @@ use std::process::ExitCode;
 use std::sync::Wait;
 use std::thread::Threads;
 
-/// Runs `liftplc` on its words, without the program's name. A refusal is explained where that is asked for, or where the words have
+/// Runs `liftplc` on its words, without the program's name. A fault is explained where that is asked for, or where the words have
 /// `--explain`. Only where they ask for `run` it waits for threads.
 pub fn run<R: Threads + Wait + Sync, F: TextFiles, O: Sink, E: Sink>(
     rt: &R,
@@ -32,14 +32,14 @@ pub fn run<R: Threads + Wait + Sync, F: TextFiles, O: Sink, E: Sink>(
     requires { O.has_failed out.old ≡ false }
 
     // Where it is done, the standard output has the output of the words, and the standard error its warnings, if it may have some.
-    ensures done { result ≡ Status.Done → HasShown (IsRunOutcome (F.gives files.now) (F.fails files.now) (IsTextOutcome (F.gives files.now) (F.fails files.now)) (map string_bytes words.now)) (Appends (O.contents out.old) (O.contents out.new)) (λ output. Warns output (E.contents err.old) (E.contents err.new) (E.has_failed err.new)) }
+    ensures done { result ≡ Status.Done → HasShown (IsRunAnswer (F.gives files.now) (F.fails files.now) IsTextOutcome explains (map string_bytes words.now)) (Appends (O.contents out.old) (O.contents out.new)) (λ output. Warns output (E.contents err.old) (E.contents err.new) (E.has_failed err.new)) }
 
     // Otherwise the standard error has the one message of the words' fault, or of a standard output
-    // that failed, and below a refusal that is to be explained its line and what its number means. Unless the standard
-    // output failed, nothing was written there.
-    ensures told { (result ≡ Status.Done) ⊎ HasTold (IsRunOutcome (F.gives files.now) (F.fails files.now) (IsTextOutcome (F.gives files.now) (F.fails files.now)) (map string_bytes words.now)) (IsBelowRun (F.gives files.now) (map string_bytes words.now) explains) (O.has_failed out.new) result (Writes (E.contents err.old) (E.contents err.new) (E.has_failed err.new)) }
+    // that failed, and below a fault that is to be explained what stands there: of a refusal the line of the bytes that were refused. Unless
+    // the standard output failed, nothing was written there.
+    ensures told { (result ≡ Status.Done) ⊎ HasTold (IsRunAnswer (F.gives files.now) (F.fails files.now) IsTextOutcome explains (map string_bytes words.now)) (O.has_failed out.new) result (Writes (E.contents err.old) (E.contents err.new) (E.has_failed err.new)) }
     ensures nothing { (result ≡ Status.Done) ⊎ (((result ≡ Status.CannotWrite) × (O.has_failed out.new ≡ true)) ⊎ Keeps (O.contents out.old) (O.contents out.new)) }
-    ensures front { result ≡ Status.CannotWrite → HasWritten (IsRunOutcome (F.gives files.now) (F.fails files.now) (IsTextOutcome (F.gives files.now) (F.fails files.now)) (map string_bytes words.now)) (AppendsFront (O.contents out.old) (O.contents out.new)) }
+    ensures front { result ≡ Status.CannotWrite → HasWritten (IsRunAnswer (F.gives files.now) (F.fails files.now) IsTextOutcome explains (map string_bytes words.now)) (AppendsFront (O.contents out.old) (O.contents out.new)) }
 {
     lift_shell::run::run(rt, alloc, words, files, &Liftplc, explains, out, err)
 }

@@ -8,7 +8,10 @@ use std::alloc::{AllocError, Global};
 /// Denials of a car by a rule that are no more rounds apart are one.
 const GAP: u64 = 5;
 
-/// A place for each car, of the 8, and each rule.
+/// The index of the stops at the ends of the shaft, behind those of the rules.
+const END_STOP: usize = 7;
+
+/// A place for each car, of the 8, and each rule, and one for its stops at the ends of the shaft.
 const PLACES: usize = 64;
 
 /// What a rule denied to a car, again and again, from a round to a round.
@@ -16,6 +19,8 @@ const PLACES: usize = 64;
 pub struct Denied {
     pub car: u64,
     pub rule: Rule,
+    /// Whether a refresh stopped the running car at the top or the bottom, as it must.
+    pub is_end_stop: bool,
     pub first: u64,
     pub last: u64,
     pub times: u64,
@@ -29,9 +34,14 @@ pub struct Denials {
     list: Vec<Denied>,
 }
 
-/// The place of a car and a rule.
-fn place_of(denial: &Denial) -> usize {
-    usize::from(denial.car).saturating_sub(1) * 8 + usize::from(denial.rule.number())
+/// The place of a car and a rule, or of the car's stops at the ends.
+fn place_of(denial: &Denial, is_end_stop: bool) -> usize {
+    let index = if is_end_stop {
+        END_STOP
+    } else {
+        usize::from(denial.rule.number())
+    };
+    usize::from(denial.car).saturating_sub(1) * 8 + index
 }
 
 impl Denied {
@@ -60,16 +70,30 @@ impl Denials {
         self.list.as_slice()
     }
 
-    /// The denials of a commit or a refresh.
+    /// The denials of a commit.
     pub fn note(&mut self, denials: &[Denial], round: u64) -> Result<(), AllocError> {
         'denials: for denial in denials {
-            self.note_one(denial, round)?;
+            self.note_one(denial, false, round)?;
         }
         Ok(())
     }
 
-    fn note_one(&mut self, denial: &Denial, round: u64) -> Result<(), AllocError> {
-        let place = place_of(denial);
+    /// The denials of a refresh: by rule 3 it stops a car that has come to an end of its shaft.
+    pub fn note_refresh(&mut self, denials: &[Denial], round: u64) -> Result<(), AllocError> {
+        'denials: for denial in denials {
+            let is_end_stop = matches!(denial.rule, Rule::AtEnd);
+            self.note_one(denial, is_end_stop, round)?;
+        }
+        Ok(())
+    }
+
+    fn note_one(
+        &mut self,
+        denial: &Denial,
+        is_end_stop: bool,
+        round: u64,
+    ) -> Result<(), AllocError> {
+        let place = place_of(denial, is_end_stop);
         if place >= PLACES || self.goes_on(place, round) {
             return Ok(());
         }
@@ -77,6 +101,7 @@ impl Denials {
         self.list.push(Denied {
             car: u64::from(denial.car),
             rule: denial.rule,
+            is_end_stop,
             first: round,
             last: round,
             times: 1,

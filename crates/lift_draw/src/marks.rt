@@ -97,8 +97,23 @@ fn put_reason(text: &mut String, denied: &Denied) -> Result<(), AllocError> {
     text.push_str(denied.rule.sentence())
 }
 
+/// A grey tick where a car was stopped at an end of its shaft.
+fn put_tick(text: &mut String, frame: Frame, denied: &Denied) -> Result<(), AllocError> {
+    let x = frame.x(denied.first);
+    let y = frame.band_top(denied.car).saturating_add(5);
+    write!(text, "<path stroke=\"#9e9e9e\" d=\"M{x} {y}v4\"><title>")
+}
+
+fn put_mark(text: &mut String, frame: Frame, denied: &Denied) -> Result<(), AllocError> {
+    if denied.is_end_stop {
+        put_tick(text, frame, denied)
+    } else {
+        put_triangle(text, frame, denied)
+    }
+}
+
 fn put_denied(text: &mut String, frame: Frame, denied: &Denied) -> Result<(), AllocError> {
-    put_triangle(text, frame, denied)?;
+    put_mark(text, frame, denied)?;
     put_rounds(text, denied)?;
     put_reason(text, denied)?;
     text.push_str("</title></path>\n")

@@ -70,7 +70,7 @@ impl Story {
         self.note_fire(fields.fire, round)?;
         self.places.note(fields.cars.as_slice(), round)?;
         self.rides.enter(report.entered.as_slice(), round)?;
-        self.denials.note(report.denials.as_slice(), round)
+        self.denials.note_refresh(report.denials.as_slice(), round)
     }
 
     fn note_fire(&mut self, on: bool, round: u64) -> Result<(), AllocError> {

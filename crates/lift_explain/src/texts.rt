@@ -2,7 +2,7 @@
 
 use crate::Meaning;
 
-pub(crate) const TEXTS: [Meaning; 40] = [
+pub(crate) const TEXTS: [Meaning; 44] = [
     Meaning {
         number: 1,
         text: "1: a byte that has no place in a text\n\nA byte outside 32 to 126 that is no tab, line feed, or carriage return directly before a line feed; or a byte that begins no token, such as `$`, `*`, `=` alone, or `-` without a digit behind it. Named is the line of the byte.\n\n    PROGRAM C\n    LD TRUE\n    ST OPEN $\n    END_PROGRAM\n\nrefused 1 at line 3\n\nRemove the byte; write comments in ASCII.\n\n    PROGRAM C\n    LD TRUE\n    ST OPEN\n    END_PROGRAM\n",
@@ -156,11 +156,27 @@ pub(crate) const TEXTS: [Meaning; 40] = [
         text: "65: a call to its own floor\n\nPress with the same floor twice.\n\nPress for another floor.\n",
     },
     Meaning {
+        number: 70,
+        text: "70: the journal is full\n\nA start, a commit or a refresh of a station whose journal has no room for another entry. It changes nothing, and so do all later ones: motors and doors keep their last command. The room is what the station was opened with, at most 1000000 entries. `liftplc` itself ends with `no memory` where a run can't have its journal.\n\nClose the station in time: close gives the journal. Open the next one with as many entries as the run makes: two for each scan, and one for each refresh.\n",
+    },
+    Meaning {
+        number: 71,
+        text: "71: this scan is not open\n\nA commit at a station of a scan that is not the one its book has open for the task: another task's, another configuration's, one that began with other values, or one whose task has no open scan. It changes nothing.\n\nCommit each scan once, at the station where it was started.\n",
+    },
+    Meaning {
+        number: 72,
+        text: "72: a scan of the task is open\n\nA start at a station where the last scan of the task was started and not committed. It changes nothing.\n\nCommit the scan before the next start. A scan that was dropped without a commit leaves its task at 72.\n",
+    },
+    Meaning {
         number: 80,
         text: "80: a wrong line in a trace\n\nThe line is complete and has none of the forms of the trace's format, which `TRACE.md` shows. An R line has as many cars as CARS says, and has FIRE in format 2 alone. The number of the E line is that of the lines between the first one and it. Nothing may stand behind a right E line, not even a piece without a line feed. A trace of more than 67108864 bytes is 80 at line 1.\n\n    LIFTTRACE 2\n    R 100 1 1 10110\n    S 1\n    C 1\n    E 3\n\nrefused 80 at line 2\n\nThe R line is one of format 1. In format 2 FIRE stands behind RUNLIMIT:\n\n    LIFTTRACE 2\n    R 100 1 0 1 10110\n    S 1\n    C 1\n    E 3\n",
     },
     Meaning {
         number: 81,
         text: "81: a trace that ends too early\n\nThe text ends before its E line is complete. A line without its line feed isn't complete, whatever it says. Reported is the line where the text ends: 1 plus the number of its line feeds.\n\n    LIFTTRACE 2\n    R 100 1 0 1 10110\n    S 1\n    C 1\n\nrefused 81 at line 5\n\nIf a part of the trace was lost, copy the trace again. Otherwise end it with the E line and the number of the lines between:\n\n    LIFTTRACE 2\n    R 100 1 0 1 10110\n    S 1\n    C 1\n    E 3\n",
+    },
+    Meaning {
+        number: 82,
+        text: "82: the trace can't be written\n\nThe sink to which a trace is written took no more; a beginning of the trace is in it. `liftplc` prints `cannot write` for it, and ends with status 3.\n\nGive the trace room: on the disk, or in what reads the pipe.\n",
     },
 ];

@@ -9,7 +9,7 @@ use std::alloc::{AllocError, Global};
 const VERSION: &str = "0.1.0";
 
 const AFTER_HELP: &str = "\
-With every command, --explain shows below a refusal of FILE or TRACE its line and what its number means, as on a terminal.
+With every command, --explain shows below a fault the line of a refused FILE or TRACE and what its number means, or the wrong word or file, as on a terminal.
 
 Exit status:
   0  done
@@ -48,6 +48,8 @@ enum Misuse<'w> {
     Rounds(&'w str),
     /// NUMBER is none of a fault or a refusal.
     Number(&'w str),
+    /// No NAME stands before the calls of `watch`.
+    NoName,
     /// A command or its FILE is missing.
     Missing,
 }
@@ -57,6 +59,14 @@ fn file<'a>(alloc: Global) -> Arg<'a> {
     Arg::new(alloc, "FILE")
         .required(true)
         .help("A configuration in Instruction List")
+}
+
+/// The option `--all`.
+fn all<'a>(alloc: Global) -> Arg<'a> {
+    Arg::new(alloc, "all")
+        .long("all")
+        .action(ArgAction::SetTrue)
+        .help("Also shows each stop at the top or the bottom, which no program can avoid")
 }
 
 /// The option `--warn`.
@@ -150,12 +160,13 @@ fn denials_command<'a>(alloc: Global) -> Result<Command<'a>, AllocError> {
         alloc,
         "denials",
         "Runs FILE as `sim` does and prints what the interlock denied",
-    )
+    )?
+    .arg(all(alloc))
 }
 
 /// The arguments NAME of `watch`, and behind them PRESS.
 fn names<'a>(alloc: Global) -> Arg<'a> {
-    Arg::new(alloc, "NAME").num_args(0..).help(
+    Arg::new(alloc, "NAME").required(true).num_args(1..).help(
         "What is shown behind each round, as NOW, CAR1.POS, CAR1.V or a global; behind the names stand calls, as for `sim`",
     )
 }
@@ -363,6 +374,7 @@ fn misuse_of_places(words: Words<'_>) -> Misuse<'_> {
         return misuse;
     }
     match rounds_of(words) {
+        Some(word) if number_to(MOST_ROUNDS, word).is_some() => Misuse::NoName,
         Some(word) => Misuse::Rounds(word),
         None => Misuse::Missing,
     }
@@ -393,6 +405,7 @@ fn kind_of(misuse: &Misuse<'_>) -> ErrorKind {
         Misuse::Twice => ErrorKind::ArgumentConflict,
         Misuse::Rounds(_) => ErrorKind::ValueValidation,
         Misuse::Number(_) => ErrorKind::ValueValidation,
+        Misuse::NoName => ErrorKind::MissingRequiredArgument,
         Misuse::Missing => ErrorKind::MissingRequiredArgument,
     }
 }
@@ -415,6 +428,10 @@ fn text_of(alloc: Global, misuse: &Misuse<'_>) -> Result<String, AllocError> {
         Misuse::Number(word) => format!(in alloc;
             "invalid value '{word}' for '<NUMBER>': no fault or refusal has it"
         ),
+        Misuse::NoName => String::from_str(
+            alloc,
+            "a NAME is required before the calls, and begins with no digit",
+        ),
         Misuse::Missing => String::from_str(alloc, "a required argument was not provided"),
     }
 }
@@ -425,10 +442,28 @@ fn answer_to(alloc: Global, error: clap::Error) -> Answer {
         return Answer::NoMemory;
     }
     match format!(in alloc; "{error}") {
-        Ok(text) if error.use_stderr() => Answer::Misuse(text),
+        Ok(text) if error.use_stderr() => misuse(alloc, &text),
         Ok(text) => Answer::Help(text),
         Err(_) => Answer::NoMemory,
     }
+}
+
+/// What the parser says of wrong words, without its tip to put `--` before them, which the commands don't take.
+fn misuse(alloc: Global, text: &str) -> Answer {
+    match without_tip(alloc, text) {
+        Ok(text) => Answer::Misuse(text),
+        Err(_) => Answer::NoMemory,
+    }
+}
+
+fn without_tip(alloc: Global, text: &str) -> Result<String, AllocError> {
+    let Some((front, tip)) = text.split_once("  tip: to pass '") else {
+        return String::from_str(alloc, text);
+    };
+    let rest = tip.split_once("\n\n").map_or("", |parts| parts.1);
+    let mut text = String::from_str(alloc, front)?;
+    text.push_str(rest)?;
+    Ok(text)
 }
 
 /// The parser's error.

@@ -1,11 +1,11 @@
--- Words in two parts, at the first that begins with a digit; and words without an option.
+-- Words in two parts, at the first that begins with a digit.
 use Rattle.std.proofs.Common.{arith, ℕ, ◌≡◌, ◌<◌, ◌+◌, inl, inr, List, [], ◌∷◌, ◌++◌, zero, suc, refl, sym, ap, ◌∙◌, subst, map, take, drop, length}
 use Rattle.std.specs.Prelude.{codes, Some, slice_get, String, string_bytes}
 use Rattle.std.specs.Global.{Global}
 use Rattle.std.proofs.lemmas.Bool.{cases_lt}
 use Rattle.std.proofs.lemmas.List.{append_assoc}
 use Rattle.std.proofs.lemmas.Option.{slice_get_within, same_Some}
-use Rattle.lift_host.specs.Requests.{BeginsWithDigit, AreNamesFirst, AreWithoutExplain}
+use Rattle.lift_host.specs.Requests.{BeginsWithDigit, AreNamesFirst}
 use Rattle.lift_host.proofs.Apart.{map_drop, map_take, parted, place_of}
 
 nil : (xs : List (List ℕ)) → xs ++ [] ≡ xs
@@ -93,15 +93,3 @@ module _ (words front back : List (String Global)) (n : ℕ) (e : front ≡ take
       by (x ∷ b) {word} is there =
           let first : string_bytes x ≡ word = same_Some (string_bytes x) word there in
           at word (place_of n (map string_bytes words) word (map string_bytes b) (sym (map_drop n words) ∙ ap (map string_bytes) (sym is) ∙ ap (λ w. w ∷ map string_bytes b) first))
-
--- WITHOUT --explain
-
-pub explain_dropped : (words rest : List (List ℕ)) (word : List ℕ) → word ≡ codes "--explain" → AreWithoutExplain words rest → AreWithoutExplain (words ++ word ∷ []) rest
-explain_dropped [] rest word is are = inl (is, are)
-explain_dropped (w ∷ words) rest word is (inl (here, more)) = inl (here, explain_dropped words rest word is more)
-explain_dropped (w ∷ words) rest word is (inr (other, more, e, are)) = inr (other, more, e, explain_dropped words more word is are)
-
-pub other_kept : (words rest : List (List ℕ)) (word : List ℕ) → (word ≡ codes "--explain" → ⊥) → AreWithoutExplain words rest → AreWithoutExplain (words ++ word ∷ []) (rest ++ word ∷ [])
-other_kept [] rest word other are = inr (other, [], ap (λ ws. ws ++ word ∷ []) are, refl)
-other_kept (w ∷ words) rest word other (inl (here, more)) = inl (here, other_kept words rest word other more)
-other_kept (w ∷ words) rest word other (inr (not, more, e, are)) = inr (not, more ++ word ∷ [], ap (λ ws. ws ++ word ∷ []) e, other_kept words more word other are)

@@ -11,9 +11,11 @@ use Rattle.std.proofs.lemmas.List.Splits.{slice_split_none, slice_split_first, l
 use borrow.Author.Tests.{ne_eqb}
 use Rattle.std.proofs.lemmas.Option.{slice_get-get_or, get_or_from_slice_get, slice_get_within}
 use Rattle.lift_host.specs.Requests.{IsDigits, IsNumberTo}
-use Rattle.lift_host.specs.Presses.{parts_of, IsPressOf, IsPress, AreOfWords, HasNoPress}
+use Rattle.lift_host.specs.Presses.{parts_of, IsPressOf, IsPress, AreOfWords, IsUnpressedWord, IsUnpressed}
 use Rattle.lift_host.specs.Presses.IsPress.{plain, at_panel}
 use Rattle.lift_host.specs.declared.press.Press.{Press}
+use Rattle.lift_host.specs.declared.press.PressFault.{PressFault}
+use Rattle.lift_host.specs.declared.press.PressFault.TheVariants.{Bad, TooMany, NoMemory}
 
 abbrev pub is_colon : ℕ → Bool
 is_colon b = b == 58
@@ -139,14 +141,6 @@ so_far before words i w low e =
     ∙ ap (λ ws. before ++ ws) (sym (map-append string_bytes (take i words) (w ∷ [])))
     ∙ ap (λ ws. before ++ map string_bytes ws) (ap (λ v. take i words ++ v ∷ []) e ∙ sym (take-suc words i w low) ∙ ap (λ n. take n words) (sym (add-one i)))
 
--- a word that is none
-none_at : (rounds floors : ℕ) (words : List (List ℕ)) (n : ℕ) (word : List ℕ) → slice_get words n ≡ Some word → ((p : Press) → IsPress rounds floors word p → ⊥) → (presses : List Press) → AreOfWords rounds floors words presses → ⊥
-none_at rounds floors words n word stands none presses are =
-    let low = slice_get_within words n word stands in
-    let long = are.long in
-    let d : Press = record { round = 0; from = 0; to = 0; panel = 1 } in
-    none (get_or presses n d) (are.each n word (get_or presses n d) stands (slice_get-get_or presses n d (omega (arith, low, long))))
-
 in_front : (xs ys : List (List ℕ)) (k : ℕ) (word : List ℕ) → slice_get xs k ≡ Some word → slice_get (xs ++ ys) k ≡ Some word
 in_front [] ys k word e = let low = slice_get_within [] k word e in absurd (omega (arith, low))
 in_front (x ∷ xs) ys zero word e = e
@@ -157,8 +151,18 @@ in_back [] ys k word e = (k, e)
 in_back (x ∷ xs) ys k word e = let more = in_back xs ys k word e in (suc more.0, more.1)
 
 -- words in two parts, where one has a word that spells no press
-pub none_in_front : (rounds floors : ℕ) (xs ys : List (List ℕ)) → HasNoPress rounds floors xs → (presses : List Press) → AreOfWords rounds floors (xs ++ ys) presses → ⊥
-none_in_front rounds floors xs ys has = none_at rounds floors (xs ++ ys) has.place has.word (in_front xs ys has.place has.word has.stands) has.none
+pub none_in_front : (rounds floors : ℕ) (xs ys : List (List ℕ)) (why : PressFault) → IsUnpressedWord rounds floors xs why → IsUnpressedWord rounds floors (xs ++ ys) why
+none_in_front rounds floors xs ys (Bad word) has = record { place = has.place; stands = in_front xs ys has.place (string_bytes word) has.stands; none = has.none }
+none_in_front rounds floors xs ys TooMany has = has
+none_in_front rounds floors xs ys NoMemory has = tt
 
-pub none_in_back : (rounds floors : ℕ) (xs ys : List (List ℕ)) → HasNoPress rounds floors ys → (presses : List Press) → AreOfWords rounds floors (xs ++ ys) presses → ⊥
-none_in_back rounds floors xs ys has = let at = in_back xs ys has.place has.word has.stands in none_at rounds floors (xs ++ ys) at.0 has.word at.1 has.none
+pub none_in_back : (rounds floors : ℕ) (xs ys : List (List ℕ)) (why : PressFault) → IsUnpressedWord rounds floors ys why → IsUnpressedWord rounds floors (xs ++ ys) why
+none_in_back rounds floors xs ys (Bad word) has = let at = in_back xs ys has.place (string_bytes word) has.stands in record { place = at.0; stands = at.1; none = has.none }
+none_in_back rounds floors xs ys TooMany has = has
+none_in_back rounds floors xs ys NoMemory has = tt
+
+-- more than 1000 are refused before each is looked at
+pub any_unpressed : (rounds floors : ℕ) (words : List (List ℕ)) (why : PressFault) → IsUnpressedWord rounds floors words why → IsUnpressed rounds floors words why
+any_unpressed rounds floors words (Bad word) has = has
+any_unpressed rounds floors words TooMany has = absurd has
+any_unpressed rounds floors words NoMemory has = tt

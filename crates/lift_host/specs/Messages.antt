@@ -1,15 +1,21 @@
 -- What the program says of a fault, and how it then ends (own rules).
-use Rattle.std.specs.Prelude.{ℕ, List, ◌++◌, codes, decimal, string_bytes}
+use Rattle.std.specs.Prelude.{ℕ, List, [], ◌++◌, codes, decimal, string_bytes}
+use Rattle.std.specs.declared.io.ErrorKind.{ErrorKind}
+use Rattle.std.specs.declared.io.ErrorKind.TheVariants.{OutOfMemory, NotFound, IsADirectory, PermissionDenied}
 use Rattle.il_spec.specs.declared.fault.Refusal.{Refusal}
 use Rattle.il_spec.specs.declared.fault.Refusal.TheVariants as refusal
 use Rattle.lift_host.specs.declared.files.ReadFault.{ReadFault}
 use Rattle.lift_host.specs.declared.files.ReadFault.TheVariants as read
+use Rattle.lift_host.specs.declared.files.Cause.{Cause}
+use Rattle.lift_host.specs.declared.files.Cause.TheVariants.{Missing, Folder, Denied, Other}
+use Rattle.lift_host.specs.declared.files.Reading.{Reading}
+use Rattle.lift_host.specs.declared.files.Reading.TheVariants.{Text, Failed}
 use Rattle.lift_host.specs.declared.press.PressFault.{PressFault}
 use Rattle.lift_host.specs.declared.press.PressFault.TheVariants as press
 use Rattle.lift_host.specs.declared.status.Status.{Status}
 use Rattle.lift_host.specs.declared.status.Status.TheVariants as status
 use Rattle.lift_host.specs.declared.status.Fault.{Fault}
-use Rattle.lift_host.specs.declared.status.Fault.TheVariants.{Misuse, Refused, BadPress, BadFire, BadName, CannotRead, CannotWrite, NoMemory}
+use Rattle.lift_host.specs.declared.status.Fault.TheVariants.{Misuse, Refused, BadPress, TooManyPresses, BadFire, BadName, CannotRead, CannotWrite, NoMemory}
 
 -- the exit status
 abbrev pub code_of : Status → ℕ
@@ -23,10 +29,11 @@ code_of status.NoMemory = 4
 abbrev pub status_of : Fault → Status
 status_of (Misuse text) = status.Refused
 status_of (Refused number line) = status.Refused
-status_of BadPress = status.Refused
-status_of BadFire = status.Refused
-status_of BadName = status.Refused
-status_of CannotRead = status.CannotRead
+status_of (BadPress word) = status.Refused
+status_of TooManyPresses = status.Refused
+status_of (BadFire word) = status.Refused
+status_of (BadName word) = status.Refused
+status_of (CannotRead cause) = status.CannotRead
 status_of CannotWrite = status.CannotWrite
 status_of NoMemory = status.NoMemory
 
@@ -34,10 +41,11 @@ status_of NoMemory = status.NoMemory
 abbrev pub message_of : Fault → List ℕ
 message_of (Misuse text) = string_bytes text
 message_of (Refused number line) = codes "refused " ++ (decimal number ++ (codes " at line " ++ (decimal line ++ codes "\n")))
-message_of BadPress = codes "bad press\n"
-message_of BadFire = codes "bad fire\n"
-message_of BadName = codes "bad name\n"
-message_of CannotRead = codes "cannot read\n"
+message_of (BadPress word) = codes "bad press\n"
+message_of TooManyPresses = codes "bad press\n"
+message_of (BadFire word) = codes "bad fire\n"
+message_of (BadName word) = codes "bad name\n"
+message_of (CannotRead cause) = codes "cannot read\n"
 message_of CannotWrite = codes "cannot write\n"
 message_of NoMemory = codes "no memory\n"
 
@@ -46,12 +54,33 @@ abbrev pub fault_of : Refusal → Fault
 fault_of (refusal.Fault number line) = Refused number line
 fault_of refusal.Memory = NoMemory
 
+-- why a file can't be read
+abbrev pub cause_sentence : Cause → List ℕ
+cause_sentence Missing = codes "no file has this name"
+cause_sentence Folder = codes "this is a folder"
+cause_sentence Denied = codes "the file may not be read"
+cause_sentence Other = codes "the file can't be read"
+
+-- the fault of an error of the system
+abbrev pub fault_of_kind : ErrorKind → ReadFault
+fault_of_kind OutOfMemory = read.NoMemory
+fault_of_kind NotFound = read.CannotRead Missing
+fault_of_kind IsADirectory = read.CannotRead Folder
+fault_of_kind PermissionDenied = read.CannotRead Denied
+fault_of_kind _ = read.CannotRead Other
+
+-- the bytes that were read; none where that failed
+abbrev pub text_of : Reading → List ℕ
+text_of (Text text) = text.items
+text_of (Failed why) = []
+
 -- the fault of a file that can't be read
 abbrev pub fault_of_reading : ReadFault → Fault
-fault_of_reading read.CannotRead = CannotRead
+fault_of_reading (read.CannotRead cause) = CannotRead cause
 fault_of_reading read.NoMemory = NoMemory
 
 -- the fault of words that give no presses
 abbrev pub fault_of_press : PressFault → Fault
-fault_of_press press.Bad = BadPress
+fault_of_press (press.Bad word) = BadPress word
+fault_of_press press.TooMany = TooManyPresses
 fault_of_press press.NoMemory = NoMemory

@@ -1,8 +1,10 @@
 -- What the PRESS words of a command line spell (own rules).
-use Rattle.std.specs.Prelude.{◌≡◌, ◌≤◌, ◌==◌, ℕ, List, [], ◌∷◌, length, slice_get, Some}
+use Rattle.std.specs.Prelude.{◌≡◌, ◌≤◌, ◌<◌, ◌==◌, ℕ, List, [], ◌∷◌, length, slice_get, Some, string_bytes}
 use Rattle.std.specs.List.{slice_split}
 use Rattle.lift_host.specs.Requests.{IsNumberTo}
 use Rattle.lift_host.specs.declared.press.Press.{Press}
+use Rattle.lift_host.specs.declared.press.PressFault.{PressFault}
+use Rattle.lift_host.specs.declared.press.PressFault.TheVariants.{Bad, TooMany, NoMemory}
 
 -- the parts of a press: a round of so many, and two different floors of so many
 pub record IsPressOf (rounds floors : ℕ) (first second third : List ℕ) (press : Press) : Type 0 where
@@ -20,10 +22,9 @@ pub data IsPress (rounds floors : ℕ) (word : List ℕ) (press : Press) : Type 
   plain : (first second third : List ℕ) → parts_of word ≡ first ∷ second ∷ third ∷ [] → IsPressOf rounds floors first second third press → press.panel ≡ 1 → IsPress rounds floors word press
   at_panel : (first second third fourth : List ℕ) → parts_of word ≡ first ∷ second ∷ third ∷ fourth ∷ [] → IsPressOf rounds floors first second third press → IsNumberTo 4 fourth press.panel → IsPress rounds floors word press
 
--- one of the words spells no press
-pub record HasNoPress (rounds floors : ℕ) (words : List (List ℕ)) : Type 0 where
+-- this is one of the words, and spells no press
+pub record HasNoPress (rounds floors : ℕ) (words : List (List ℕ)) (word : List ℕ) : Type 0 where
   pub place : ℕ
-  pub word : List ℕ
   pub stands : slice_get words place ≡ Some word
   pub none : (press : Press) → IsPress rounds floors word press → ⊥
 
@@ -36,3 +37,15 @@ pub record AreOfWords (rounds floors : ℕ) (words : List (List ℕ)) (presses :
 pub record ArePresses (rounds floors : ℕ) (words : List (List ℕ)) (presses : List Press) : Type 0 where
   pub few : length words ≤ 1000
   pub of_words : AreOfWords rounds floors words presses
+
+-- What is wrong with words that give no press each: the one that is named spells none. Memory may be missing.
+abbrev pub IsUnpressedWord : ℕ → ℕ → List (List ℕ) → PressFault → Type 0
+IsUnpressedWord rounds floors words (Bad word) = HasNoPress rounds floors words (string_bytes word)
+IsUnpressedWord rounds floors words TooMany = ⊥
+IsUnpressedWord rounds floors words NoMemory = Unit {0}
+
+-- or there are more than 1000
+abbrev pub IsUnpressed : ℕ → ℕ → List (List ℕ) → PressFault → Type 0
+IsUnpressed rounds floors words (Bad word) = HasNoPress rounds floors words (string_bytes word)
+IsUnpressed rounds floors words TooMany = 1000 < length words
+IsUnpressed rounds floors words NoMemory = Unit {0}

@@ -1,11 +1,13 @@
 -- What the words of a command line ask for (own rules).
-use Rattle.std.specs.Prelude.{◌≡◌, ◌⊎◌, ◌≤◌, ◌<◌, ℕ, Bool, true, false, List, [], ◌∷◌, ◌++◌, length, slice_index, EachIndex, codes, map, slice_get, Option, Some, None, option_map, string_bytes}
+use Rattle.std.specs.Prelude.{◌≡◌, ◌⊎◌, ◌≤◌, ◌<◌, ℕ, Bool, true, false, List, [], ◌∷◌, ◌++◌, ◌&&◌, ◌||◌, if◌then◌else◌, length, slice_index, EachIndex, bytes_eq, take, drop, flat_map, codes, map, slice_get, Option, Some, None, option_map, string_bytes}
 use Rattle.std.specs.Int.{IsInRange}
+use Rattle.std.specs.List.{list_any}
 use Rattle.std.specs.Str.Parse.{digits_value}
 use Rattle.lift_host.specs.declared.request.Name.{Name}
 use Rattle.lift_host.specs.declared.request.Name.TheVariants as name
 use Rattle.lift_host.specs.declared.request.Following.TheVariants as following
 use Rattle.lift_host.specs.declared.request.Showing.TheVariants as showing
+use Rattle.lift_host.specs.declared.request.Simulating.{Simulating}
 use Rattle.lift_host.specs.declared.request.Simulating.TheVariants as simulating
 use Rattle.lift_host.specs.declared.request.Words.{Words}
 use Rattle.lift_host.specs.declared.request.Rounds.{Rounds}
@@ -76,6 +78,12 @@ pub record AreNamesFirst (words names presses : List (List ℕ)) : Type 0 where
   pub unnumbered : (k : ℕ) (word : List ℕ) → slice_get names k ≡ Some word → BeginsWithDigit word → ⊥
   pub numbered : (word : List ℕ) → slice_get presses 0 ≡ Some word → BeginsWithDigit word
 
+-- the first word begins with no digit
+pub record BeginWithName (words : List (List ℕ)) : Type 0 where
+  pub name : List ℕ
+  pub stands : slice_get words 0 ≡ Some name
+  pub unnumbered : BeginsWithDigit name → ⊥
+
 -- words without `--fire ROUND`, which may stand anywhere among them, and that ROUND
 abbrev pub IsApart : List (List ℕ) → List (List ℕ) → Option (List ℕ) → Type 0
 IsApart rest positional None = rest ≡ positional
@@ -111,12 +119,19 @@ pub record AreFiles (words : List (List ℕ)) (file trace : List ℕ) : Type 0 w
   pub plain_file : IsOption file → ⊥
   pub plain_trace : IsOption trace → ⊥
 
+-- `watch` needs a name behind ROUNDS
+abbrev pub NeedsName : Simulating → List (List ℕ) → Type 0
+NeedsName simulating.Sim words = Unit {0}
+NeedsName simulating.Run words = Unit {0}
+NeedsName simulating.Denials words = Unit {0}
+NeedsName simulating.Watch words = BeginWithName words
+
 -- what a request takes behind its command: `FILE` and maybe `--warn` for check, `FILE` for what shows something of it, `FILE ROUNDS` and
 -- more for a simulation, and `FILE TRACE`
 abbrev pub Takes : List (List ℕ) → Request → Type 0
 Takes words (request.Check checked) = IsChecked words checked.file.now checked.warns
 Takes words (request.Show command file) = IsFile words file.now
-Takes words (request.Rounds command rounds) = GiveRounds words rounds
+Takes words (request.Rounds command rounds) = GiveRounds words rounds × NeedsName command (words_of rounds.presses)
 Takes words (request.Trace command traced) = AreFiles words traced.file.now traced.trace.now
 
 -- a command, and behind it what it takes
@@ -125,7 +140,40 @@ pub record Asks (words : List (List ℕ)) (request : Request) : Type 0 where
   pub are : words ≡ word_of (command_of request) ∷ rest
   pub takes : Takes rest request
 
--- these are the words but `--explain`
-abbrev pub AreWithoutExplain : List (List ℕ) → List (List ℕ) → Type 0
-AreWithoutExplain [] rest = rest ≡ []
-AreWithoutExplain (word ∷ words) rest = ((word ≡ codes "--explain") × AreWithoutExplain words rest) ⊎ ((word ≡ codes "--explain" → ⊥) × (more : List (List ℕ)) × (rest ≡ word ∷ more) × AreWithoutExplain words more)
+-- WORDS AS THEY ARE READ
+
+-- whether the command, the first word but `--explain`, is one that takes `--all`
+abbrev pub takes_all : List (List ℕ) → Bool
+takes_all [] = false
+takes_all (word ∷ words) = if bytes_eq word (codes "--explain") then takes_all words else bytes_eq word (codes "denials")
+
+-- whether `--explain` is among words
+abbrev pub explains : List (List ℕ) → Bool
+explains words = list_any (λ word. bytes_eq word (codes "--explain")) words
+
+-- whether `--all` is
+abbrev pub names_all : List (List ℕ) → Bool
+names_all words = list_any (λ word. bytes_eq word (codes "--all")) words
+
+-- and belongs to their command
+abbrev pub has_all : List (List ℕ) → Bool
+has_all words = takes_all words && names_all words
+
+-- a word, or for `--fire=ROUND` two
+abbrev pub cut_word : List ℕ → List (List ℕ)
+cut_word word = if bytes_eq (take 7 word) (codes "--fire=") then codes "--fire" ∷ drop 7 word ∷ [] else word ∷ []
+
+-- the words in place of a word: none for `--explain`, and none for `--all` where the command takes it
+abbrev pub plain_word : Bool → List ℕ → List (List ℕ)
+plain_word all word = if bytes_eq word (codes "--explain") || (all && bytes_eq word (codes "--all")) then [] else cut_word word
+
+-- the words as they are read
+abbrev pub plain_words : List (List ℕ) → List (List ℕ)
+plain_words words = flat_map (plain_word (takes_all words)) words
+
+-- a request that shows all
+abbrev pub with_all : Bool → Request → Request
+with_all all (request.Check checked) = request.Check checked
+with_all all (request.Show command file) = request.Show command file
+with_all all (request.Rounds command rounds) = request.Rounds command (record rounds { all = all })
+with_all all (request.Trace command traced) = request.Trace command traced

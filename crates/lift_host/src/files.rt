@@ -1,6 +1,7 @@
 // Where the program reads its files.
 
-ghost use Rattle.std.specs.Prelude.{◌≤◌, ℕ, List, length, IfOk, IfErr, ⊤};
+ghost use Rattle.std.specs.Prelude.{◌≡◌, ◌≤◌, ℕ, List, length, IfOk, IfErr, ⊤};
+ghost use Rattle.lift_host.specs.Messages.{cause_sentence, text_of};
 ghost use Rattle.lift_host.specs.declared.files.ReadFault.{ReadFault};
 
 use std::alloc::{AllocError, Global};
@@ -9,27 +10,55 @@ use std::io;
 use std::io::Read;
 use std::rt::Files;
 
+/// Why a file can't be read.
+#[derive(Clone, Copy)]
+pub enum Cause {
+    /// No file has this name.
+    Missing,
+    /// The name is that of a folder.
+    Folder,
+    /// The process may not read it.
+    Denied,
+    /// Reading failed.
+    Other,
+}
+
+impl Cause {
+    /// What it is, in words.
+    pub fn sentence(self) -> &'static str
+        ensures { result.now ≡ cause_sentence self }
+    {
+        match self {
+            Cause::Missing => "no file has this name",
+            Cause::Folder => "this is a folder",
+            Cause::Denied => "the file may not be read",
+            Cause::Other => "the file can't be read",
+        }
+    }
+}
+
 /// Why a file gives no bytes.
 #[derive(Clone, Copy)]
 pub enum ReadFault {
-    /// It is missing, is a directory, or can't be read.
-    CannotRead,
+    CannotRead(Cause),
     /// An allocation failed.
     NoMemory,
 }
 
 impl From<io::Error> for ReadFault {
-    ghost use Rattle.std.specs.Prelude.{◌≡◌, ◌↔◌};
+    ghost use Rattle.std.specs.Prelude.{◌≡◌};
     ghost use Rattle.std.specs.IoError.{error_kind};
-    ghost use Rattle.std.specs.declared.io.ErrorKind.TheVariants.{OutOfMemory};
-    ghost use Rattle.lift_host.specs.declared.files.ReadFault.TheVariants.{NoMemory};
+    ghost use Rattle.lift_host.specs.Messages.{fault_of_kind};
 
-    ghost from_gives = { λ e f. (f ≡ NoMemory) ↔ (error_kind e ≡ OutOfMemory) };
+    ghost from_gives = { λ e f. f ≡ fault_of_kind (error_kind e) };
 
     fn from(error: io::Error) -> ReadFault {
         match error.kind() {
             io::ErrorKind::OutOfMemory => ReadFault::NoMemory,
-            _ => ReadFault::CannotRead,
+            io::ErrorKind::NotFound => ReadFault::CannotRead(Cause::Missing),
+            io::ErrorKind::IsADirectory => ReadFault::CannotRead(Cause::Folder),
+            io::ErrorKind::PermissionDenied => ReadFault::CannotRead(Cause::Denied),
+            _ => ReadFault::CannotRead(Cause::Other),
         }
     }
 }
@@ -42,6 +71,25 @@ impl From<AllocError> for ReadFault {
 
     fn from(_error: AllocError) -> ReadFault {
         ReadFault::NoMemory
+    }
+}
+
+/// What was read of a file.
+#[derive(Drop)]
+pub enum Reading {
+    Text(Vec<u8>),
+    Failed(ReadFault),
+}
+
+impl Reading {
+    /// The bytes that were read; none where that failed.
+    pub fn text(&self) -> &[u8]
+        ensures { result.now ≡ text_of self.now }
+    {
+        match self {
+            Reading::Text(text) => text,
+            Reading::Failed(_) => &[],
+        }
     }
 }
 

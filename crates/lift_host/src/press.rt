@@ -2,7 +2,7 @@
 
 ghost use Rattle.std.specs.Prelude.{◌≡◌, ◌++◌, ◌∷◌, [], ℕ, List, IfSome, IfErr, IfOk, IsNone, OnOk, map, string_bytes};
 ghost use Rattle.lift_host.specs.Requests.{IsNumberTo, words_of};
-ghost use Rattle.lift_host.specs.Presses.{IsPressOf, IsPress, AreOfWords, ArePresses, HasNoPress, parts_of};
+ghost use Rattle.lift_host.specs.Presses.{IsPressOf, IsPress, AreOfWords, ArePresses, IsUnpressed, IsUnpressedWord, parts_of};
 ghost use Rattle.lift_host.specs.declared.press.Press.{Press};
 
 use crate::request::{Words, number_to};
@@ -26,10 +26,12 @@ pub struct Press {
 }
 
 /// Why words give no presses.
-#[derive(Clone, Copy)]
+#[derive(Drop)]
 pub enum PressFault {
-    /// A word is no press, or there are more than 1000.
-    Bad,
+    /// This word is no press.
+    Bad(String),
+    /// There are more than 1000 words.
+    TooMany,
     /// An allocation failed.
     NoMemory,
 }
@@ -62,10 +64,10 @@ pub fn presses(
     floors: u16,
 ) -> Result<Items<Press>, PressFault>
     ensures ok { IfOk result (ArePresses rounds floors (words_of words.entry)) }
-    ensures err { IfErr result (λ fault. fault ≡ PressFault.Bad → (presses : List Press) → ArePresses rounds floors (words_of words.entry) presses → ⊥) }
+    ensures err { IfErr result (IsUnpressed rounds floors (words_of words.entry)) }
 {
     if words.len() > MOST_PRESSES {
-        return Err(PressFault::Bad);
+        return Err(PressFault::TooMany);
     }
     each_press(alloc, words, rounds, floors)
 }
@@ -78,28 +80,29 @@ fn each_press(
     floors: u16,
 ) -> Result<Items<Press>, PressFault>
     ensures ok { IfOk result (AreOfWords rounds floors (words_of words.entry)) }
-    ensures err { IfErr result (λ fault. fault ≡ PressFault.Bad → (presses : List Press) → AreOfWords rounds floors (words_of words.entry) presses → ⊥) }
+    ensures err { IfErr result (IsUnpressedWord rounds floors (words_of words.entry)) }
 {
     let mut presses = Items::new(alloc);
-    add_presses(&mut presses, words.front, rounds, floors)?;
-    add_presses(&mut presses, words.back, rounds, floors)?;
+    add_presses(alloc, &mut presses, words.front, rounds, floors)?;
+    add_presses(alloc, &mut presses, words.back, rounds, floors)?;
     Ok(presses)
 }
 
 /// Adds a press for each word.
 fn add_presses(
+    alloc: Global,
     presses: &mut Items<Press>,
     words: &[String],
     rounds: u16,
     floors: u16,
 ) -> Result<(), PressFault>
     ensures ok { OnOk result ((before : List (List ℕ)) → AreOfWords rounds floors before presses.old → AreOfWords rounds floors (before ++ map string_bytes words.now) presses.new) }
-    ensures err { IfErr result (λ fault. fault ≡ PressFault.Bad → HasNoPress rounds floors (map string_bytes words.now)) }
+    ensures err { IfErr result (IsUnpressedWord rounds floors (map string_bytes words.now)) }
 {
     'words: for word in words {
         match press_of(word, rounds, floors) {
             Some(press) => presses.push(press)?,
-            None => return Err(PressFault::Bad),
+            None => return Err(PressFault::Bad(String::from_str(alloc, word)?)),
         }
     }
     Ok(())

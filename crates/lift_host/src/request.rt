@@ -1,7 +1,7 @@
 // What the words ask for.
 
-ghost use Rattle.std.specs.Prelude.{◌≡◌, ◌≤◌, ◌<◌, ◌∷◌, ◌++◌, ◌↔◌, [], ℕ, Bool, List, Option, Some, true, false, IfSome, IfOk, IsNone, IsTrue, codes, length, map, option_map, slice_get, string_bytes};
-ghost use Rattle.lift_host.specs.Requests.{IsNumberTo, IsDigits, IsOption, AreNoOptions, IsApart, IsFile, IsFileBesideWarn, IsChecked, AreFiles, GiveRounds, Takes, Asks, BeginsWithDigit, AreNamesFirst, AreWithoutExplain, command_of, name_of, word_of, words_of};
+ghost use Rattle.std.specs.Prelude.{◌≡◌, ◌≤◌, ◌<◌, ◌∷◌, ◌++◌, ◌↔◌, [], ℕ, Bool, List, Option, Some, true, false, IfSome, IfOk, IsNone, IsTrue, OnOk, codes, bytes_eq, flat_map, length, map, option_map, slice_get, string_bytes};
+ghost use Rattle.lift_host.specs.Requests.{IsNumberTo, IsDigits, IsOption, AreNoOptions, IsApart, IsFile, IsFileBesideWarn, IsChecked, AreFiles, GiveRounds, Takes, Asks, BeginsWithDigit, BeginWithName, NeedsName, AreNamesFirst, plain_words, plain_word, cut_word, takes_all, explains, names_all, has_all, with_all, command_of, name_of, word_of, words_of};
 ghost use Rattle.lift_host.specs.declared.request.Name.{Name};
 ghost use Rattle.lift_host.specs.declared.request.Request.{Request};
 ghost use Rattle.lift_host.specs.declared.request.Rounds.{Rounds};
@@ -14,8 +14,14 @@ pub const MOST_ROUNDS: u16 = 50_000;
 /// The option of a simulation whose value is the round from which on fire recall is on.
 pub const FIRE: &str = "--fire";
 
+/// The same option, where its value stands in one word with it.
+const FIRE_IS: &str = "--fire=";
+
+/// The option of `denials` that has it show all denials.
+const ALL: &str = "--all";
+
 /// The option of every command that has a refusal of a text shown with the text's line and the number's meaning.
-pub const EXPLAIN: &str = "--explain";
+const EXPLAIN: &str = "--explain";
 
 /// The option of `check` that has it tell what it warns of.
 pub const WARN: &str = "--warn";
@@ -87,6 +93,8 @@ pub struct Rounds<'w> {
     pub presses: Words<'w>,
     /// The word behind `--fire`, which is to be a round.
     pub fire: Option<&'w str>,
+    /// Whether `denials` is to show all, also the stops at the ends of the shaft.
+    pub all: bool,
 }
 
 /// What a command takes that follows a trace: names of files.
@@ -190,6 +198,16 @@ impl<'w> Words<'w> {
 }
 
 impl<'w> Request<'w> {
+    /// The same, where `denials` is to show all.
+    pub fn with_all(self, all: bool) -> Request<'w>
+        ensures { result ≡ with_all all self.entry }
+    {
+        match self {
+            Request::Rounds(command, rounds) => Request::Rounds(command, Rounds { all, ..rounds }),
+            _ => self,
+        }
+    }
+
     /// The name of its file.
     pub fn file(self) -> &'w str
         ensures { result.now ≡ name_of self.entry }
@@ -248,7 +266,7 @@ fn takes(name: Name, rest: &[String]) -> Option<Request<'_>>
     match name {
         Name::Check => Some(Request::Check(check_given(rest)?)),
         Name::Show(command) => Some(Request::Show(command, file_alone(rest)?)),
-        Name::Rounds(command) => Some(Request::Rounds(command, rounds_given(rest)?)),
+        Name::Rounds(command) => Some(Request::Rounds(command, simulation_given(command, rest)?)),
         Name::Trace(command) => Some(Request::Trace(command, trace_given(rest)?)),
     }
 }
@@ -316,6 +334,7 @@ fn trace_given(rest: &[String]) -> Option<Traced<'_>>
 /// FILE and ROUNDS, and what stands behind them.
 fn rounds_given(rest: &[String]) -> Option<Rounds<'_>>
     ensures some { IfSome result (GiveRounds (map string_bytes rest.now)) }
+    ensures only { IfSome result (λ found. (rounds : Rounds) → GiveRounds (map string_bytes rest.now) rounds → words_of rounds.presses ≡ words_of found.presses) }
     ensures none { IsNone result → (rounds : Rounds) → GiveRounds (map string_bytes rest.now) rounds → ⊥ }
 {
     let WordsApart { positional, fire } = apart(rest)?;
@@ -327,7 +346,43 @@ fn rounds_given(rest: &[String]) -> Option<Rounds<'_>>
         rounds,
         presses,
         fire,
+        all: false,
     })
+}
+
+/// The same, with a name behind ROUNDS where the command needs one.
+fn simulation_given(command: Simulating, rest: &[String]) -> Option<Rounds<'_>>
+    ensures some { IfSome result (λ rounds. GiveRounds (map string_bytes rest.now) rounds × NeedsName command (words_of rounds.presses)) }
+    ensures none { IsNone result → (rounds : Rounds) → GiveRounds (map string_bytes rest.now) rounds → NeedsName command (words_of rounds.presses) → ⊥ }
+{
+    let rounds = rounds_given(rest)?;
+    if has_needed_name(command, rounds.presses) {
+        Some(rounds)
+    } else {
+        None
+    }
+}
+
+/// Whether words begin with a name, where the command needs one.
+fn has_needed_name(command: Simulating, words: Words<'_>) -> bool
+    ensures { IsTrue result ↔ NeedsName command (words_of words.entry) }
+{
+    match command {
+        Simulating::Sim => true,
+        Simulating::Run => true,
+        Simulating::Denials => true,
+        Simulating::Watch => begin_with_name(words),
+    }
+}
+
+/// Whether the first of the words is there and begins with no digit.
+fn begin_with_name(words: Words<'_>) -> bool
+    ensures { IsTrue result ↔ BeginWithName (words_of words.entry) }
+{
+    match words.split_first() {
+        Some((first, _)) => !is_number(first),
+        None => false,
+    }
 }
 
 /// The words behind such a command that stand in places, and the word behind `--fire`.
@@ -392,7 +447,7 @@ fn first_option(words: &[String]) -> usize
 }
 
 /// Whether a word begins with a digit.
-fn is_number(word: &str) -> bool
+pub fn is_number(word: &str) -> bool
     ensures { IsTrue result ↔ BeginsWithDigit word.now }
 {
     matches!(word.as_bytes(), [b'0'..=b'9', ..])
@@ -416,20 +471,136 @@ fn first_number(words: &[String]) -> usize
 
 /// Whether a word is the option `--explain`.
 fn is_explain(word: &str) -> bool
-    ensures { IsTrue result ↔ (word.now ≡ codes "--explain") }
+    ensures { result ≡ bytes_eq word.now (codes "--explain") }
 {
     word == EXPLAIN
 }
 
-/// The words without `--explain`, wherever it stands among them.
-pub fn without_explain(alloc: Global, words: &[String]) -> Result<Vec<String>, AllocError>
-    ensures { IfOk result (λ rest. AreWithoutExplain (map string_bytes words.now) (map string_bytes rest.items)) }
+/// Whether a word is the option `--all`.
+fn is_all(word: &str) -> bool
+    ensures { result ≡ bytes_eq word.now (codes "--all") }
 {
-    let mut rest = Vec::new(alloc);
+    word == ALL
+}
+
+/// The words of a command line as they are read, and the options that may stand anywhere among them.
+#[derive(Drop)]
+pub struct Plain {
+    /// The words without `--explain`, and those of `denials` without `--all`; for `--fire=ROUND` stand two words.
+    pub words: Vec<String>,
+    /// Whether `--explain` was among them.
+    pub explains: bool,
+    /// Whether `--all` was among those of `denials`.
+    pub all: bool,
+}
+
+/// Words as they are read.
+pub fn read_words(alloc: Global, words: &[String]) -> Result<Plain, AllocError>
+    ensures words { IfOk result (λ plain. map string_bytes plain.words.items ≡ plain_words (map string_bytes words.now)) }
+    ensures explains { IfOk result (λ plain. plain.explains ≡ explains (map string_bytes words.now)) }
+    ensures all { IfOk result (λ plain. plain.all ≡ has_all (map string_bytes words.now)) }
+{
+    let takes_all = takes_all(words);
+    Ok(Plain {
+        words: plain_words(alloc, words, takes_all)?,
+        explains: explains(words),
+        all: takes_all && names_all(words),
+    })
+}
+
+/// Whether the command is one that takes `--all`.
+fn takes_all(words: &[String]) -> bool
+    ensures { result ≡ takes_all (map string_bytes words.now) }
+{
     'words: for word in words {
         if !is_explain(word) {
-            rest.push(String::from_str(alloc, word)?)?;
+            return is_denials(word);
         }
     }
-    Ok(rest)
+    false
+}
+
+/// Whether a word is the command `denials`.
+fn is_denials(word: &str) -> bool
+    ensures { result ≡ bytes_eq word.now (codes "denials") }
+{
+    word == "denials"
+}
+
+/// Whether `--explain` is one of the words.
+fn explains(words: &[String]) -> bool
+    ensures { result ≡ explains (map string_bytes words.now) }
+{
+    'words: for word in words {
+        if is_explain(word) {
+            return true;
+        }
+    }
+    false
+}
+
+/// Whether `--all` is one of the words.
+fn names_all(words: &[String]) -> bool
+    ensures { result ≡ names_all (map string_bytes words.now) }
+{
+    'words: for word in words {
+        if is_all(word) {
+            return true;
+        }
+    }
+    false
+}
+
+/// The words in place of each word.
+fn plain_words(alloc: Global, words: &[String], takes_all: bool) -> Result<Vec<String>, AllocError>
+    ensures { IfOk result (λ plain. map string_bytes plain.items ≡ flat_map (plain_word takes_all) (map string_bytes words.now)) }
+{
+    let mut plain = Vec::new(alloc);
+    'words: for word in words {
+        add_plain(alloc, &mut plain, word, takes_all)?;
+    }
+    Ok(plain)
+}
+
+/// Adds the words in place of a word.
+fn add_plain(
+    alloc: Global,
+    plain: &mut Vec<String>,
+    word: &str,
+    takes_all: bool,
+) -> Result<(), AllocError>
+    ensures { OnOk result (map string_bytes plain.new.items ≡ map string_bytes plain.old.items ++ plain_word takes_all word.now) }
+{
+    if is_explain(word) || (takes_all && is_all(word)) {
+        return Ok(());
+    }
+    add_word(alloc, plain, word)
+}
+
+/// The ROUND of `--fire=ROUND`.
+fn round_behind(word: &str) -> Option<&str>
+    ensures some { IfSome result (λ round. word.now ≡ codes "--fire=" ++ round.now) }
+    ensures none { IsNone result → (round : List ℕ) → word.now ≡ codes "--fire=" ++ round → ⊥ }
+{
+    word.strip_prefix(FIRE_IS)
+}
+
+/// Adds a word; two for `--fire=ROUND`.
+fn add_word(alloc: Global, plain: &mut Vec<String>, word: &str) -> Result<(), AllocError>
+    ensures { OnOk result (map string_bytes plain.new.items ≡ map string_bytes plain.old.items ++ cut_word word.now) }
+{
+    match round_behind(word) {
+        Some(round) => {
+            push_word(alloc, plain, FIRE)?;
+            push_word(alloc, plain, round)
+        }
+        None => push_word(alloc, plain, word),
+    }
+}
+
+fn push_word(alloc: Global, plain: &mut Vec<String>, word: &str) -> Result<(), AllocError>
+    ensures { OnOk result (map string_bytes plain.new.items ≡ map string_bytes plain.old.items ++ word.now ∷ []) }
+{
+    plain.push(String::from_str(alloc, word)?)?;
+    Ok(())
 }

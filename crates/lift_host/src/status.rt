@@ -4,7 +4,7 @@ ghost use Rattle.std.specs.Prelude.{◌≡◌, ◌++◌, true, OnOk, OnErr, deci
 ghost use Rattle.std.specs.Io.KnownBytes.{Appends};
 ghost use Rattle.lift_host.specs.Messages.{message_of, status_of, code_of};
 
-use crate::files::ReadFault;
+use crate::files::{Cause, ReadFault};
 use crate::press::PressFault;
 use il_spec::fault::Refusal;
 use itoa::Buffer;
@@ -33,13 +33,15 @@ pub enum Fault {
     Misuse(String),
     /// The text is refused with the number at the line, counted from 1.
     Refused { number: u16, line: u32 },
-    /// A PRESS word is wrong.
-    BadPress,
-    /// ROUND of `--fire` is no round of the simulation.
-    BadFire,
-    /// A NAME of `watch` names nothing that has a value.
-    BadName,
-    CannotRead,
+    /// This word is no PRESS.
+    BadPress(String),
+    /// There are more than 1000 words for presses.
+    TooManyPresses,
+    /// This ROUND of `--fire` is no round of the simulation.
+    BadFire(String),
+    /// This NAME of `watch` names nothing that has a value.
+    BadName(String),
+    CannotRead(Cause),
     CannotWrite,
     NoMemory,
 }
@@ -79,7 +81,7 @@ impl From<ReadFault> for Fault {
 
     fn from(fault: ReadFault) -> Fault {
         match fault {
-            ReadFault::CannotRead => Fault::CannotRead,
+            ReadFault::CannotRead(cause) => Fault::CannotRead(cause),
             ReadFault::NoMemory => Fault::NoMemory,
         }
     }
@@ -92,7 +94,8 @@ impl From<PressFault> for Fault {
 
     fn from(fault: PressFault) -> Fault {
         match fault {
-            PressFault::Bad => Fault::BadPress,
+            PressFault::Bad(word) => Fault::BadPress(word),
+            PressFault::TooMany => Fault::TooManyPresses,
             PressFault::NoMemory => Fault::NoMemory,
         }
     }
@@ -117,10 +120,11 @@ impl Fault {
         match self {
             Fault::Misuse(_) => Status::Refused,
             Fault::Refused { .. } => Status::Refused,
-            Fault::BadPress => Status::Refused,
-            Fault::BadFire => Status::Refused,
-            Fault::BadName => Status::Refused,
-            Fault::CannotRead => Status::CannotRead,
+            Fault::BadPress(_) => Status::Refused,
+            Fault::TooManyPresses => Status::Refused,
+            Fault::BadFire(_) => Status::Refused,
+            Fault::BadName(_) => Status::Refused,
+            Fault::CannotRead(_) => Status::CannotRead,
             Fault::CannotWrite => Status::CannotWrite,
             Fault::NoMemory => Status::NoMemory,
         }
@@ -134,10 +138,11 @@ impl Fault {
         match self {
             Fault::Misuse(text) => put_all(sink, text.as_bytes()),
             Fault::Refused { number, line } => put_refusal(sink, *number, *line),
-            Fault::BadPress => put_all(sink, b"bad press\n"),
-            Fault::BadFire => put_all(sink, b"bad fire\n"),
-            Fault::BadName => put_all(sink, b"bad name\n"),
-            Fault::CannotRead => put_all(sink, b"cannot read\n"),
+            Fault::BadPress(_) => put_all(sink, b"bad press\n"),
+            Fault::TooManyPresses => put_all(sink, b"bad press\n"),
+            Fault::BadFire(_) => put_all(sink, b"bad fire\n"),
+            Fault::BadName(_) => put_all(sink, b"bad name\n"),
+            Fault::CannotRead(_) => put_all(sink, b"cannot read\n"),
             Fault::CannotWrite => put_all(sink, b"cannot write\n"),
             Fault::NoMemory => put_all(sink, b"no memory\n"),
         }

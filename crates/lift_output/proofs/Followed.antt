@@ -15,8 +15,9 @@ followed_is command p text events (Ok output) reads is = record { events = event
 followed_is command p text events (Err (fault.Refused number line)) reads is = event (record { events = events; reads = reads; index = is.0; why = is.1; refused = is.2; numbered = is.3; lined = is.4 })
 followed_is command p text events (Err fault.NoMemory) reads is = tt
 followed_is command p text events (Err (fault.Misuse words)) reads is = absurd is
-followed_is command p text events (Err fault.BadPress) reads is = absurd is
-followed_is command p text events (Err fault.BadFire) reads is = absurd is
-followed_is command p text events (Err fault.BadName) reads is = absurd is
-followed_is command p text events (Err fault.CannotRead) reads is = absurd is
+followed_is command p text events (Err (fault.BadPress word)) reads is = absurd is
+followed_is command p text events (Err fault.TooManyPresses) reads is = absurd is
+followed_is command p text events (Err (fault.BadFire word)) reads is = absurd is
+followed_is command p text events (Err (fault.BadName word)) reads is = absurd is
+followed_is command p text events (Err (fault.CannotRead cause)) reads is = absurd is
 followed_is command p text events (Err fault.CannotWrite) reads is = absurd is

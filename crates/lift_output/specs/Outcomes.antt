@@ -1,9 +1,10 @@
 -- What a request gives of a verified configuration (own rules).
-use Rattle.std.specs.Prelude.{◌≡◌, ℕ, ◌+◌, ◌++◌, Bool, true, false, List, Option, Some, None, option_map, Ok, Err, IfOk}
+use Rattle.std.specs.Prelude.{◌≡◌, ◌<◌, ℕ, ◌+◌, ◌++◌, Bool, true, false, List, length, map, Option, Some, None, option_map, Ok, Err, IfOk, string_bytes}
 use Rattle.il_spec.specs.declared.tree.Config.{Config}
 use Rattle.il_shown.specs.Texts.{AreRangesShown}
 use Rattle.il_machine.specs.Scanning.{Program}
-use Rattle.lift_host.specs.declared.files.ReadFault.{ReadFault}
+use Rattle.lift_host.specs.declared.files.Reading.{Reading}
+use Rattle.lift_host.specs.declared.files.Reading.TheVariants.{Text, Failed}
 use Rattle.lift_host.specs.declared.press.Press.{Press}
 use Rattle.lift_host.specs.declared.request.Request.{Request}
 use Rattle.lift_host.specs.declared.request.Rounds.{Rounds}
@@ -17,7 +18,7 @@ use Rattle.lift_host.specs.declared.request.Simulating.TheVariants as simulating
 use Rattle.lift_host.specs.declared.status.Fault.{Fault}
 use Rattle.lift_host.specs.declared.status.Fault.TheVariants as fault
 use Rattle.lift_host.specs.Messages.{fault_of_reading}
-use Rattle.lift_host.specs.Presses.{ArePresses}
+use Rattle.lift_host.specs.Presses.{ArePresses, HasNoPress}
 use Rattle.lift_host.specs.declared.request.Words.{Words}
 use Rattle.lift_host.specs.Requests.{AreNamesFirst, IsNumberTo, words_of}
 use Rattle.lift_journal.specs.Rounds.{TakesAll, IsRefusedAt, is_fire_in}
@@ -39,6 +40,7 @@ use Rattle.lift_warnings.specs.Warnings.{warnings_text}
 use Rattle.lift_xref.specs.Xref.{xref_text}
 use Rattle.lift_watch.specs.declared.names.Watched.{Watched}
 use Rattle.lift_watch.specs.Denials.{denied}
+use Rattle.lift_watch.specs.Names.{upper_case}
 use Rattle.lift_watch.specs.Values.{AreWatched, IsUnknown, header_text, watching}
 use Rattle.lift_workers.specs.Ran.{IsRun}
 
@@ -100,10 +102,17 @@ pub record AreDriven (floors : ℕ) (asked : Rounds) (presses : List Press) (fir
   pub spelled : ArePresses asked.rounds floors (words_of asked.presses) presses
   pub from_round : IsFire asked.rounds (fire_word asked) first
 
--- One of them is bad, the presses first; memory may be missing.
+-- the word behind `--fire` is named, and is no round; memory may be missing
+abbrev pub IsNoFire : ℕ → Option (List ℕ) → Fault → Type 0
+IsNoFire rounds word (fault.BadFire named) = (word ≡ Some (string_bytes named)) × ((first : Option ℕ) → IsFire rounds word first → ⊥)
+IsNoFire rounds word fault.NoMemory = Unit {0}
+IsNoFire rounds word _ = ⊥
+
+-- One of them is bad, the presses first, and is named; memory may be missing.
 abbrev pub IsUndriven : ℕ → Rounds → Fault → Type 0
-IsUndriven floors asked fault.BadPress = (presses : List Press) → ArePresses asked.rounds floors (words_of asked.presses) presses → ⊥
-IsUndriven floors asked fault.BadFire = ((presses : List Press) × ArePresses asked.rounds floors (words_of asked.presses) presses) × ((first : Option ℕ) → IsFire asked.rounds (fire_word asked) first → ⊥)
+IsUndriven floors asked (fault.BadPress word) = HasNoPress asked.rounds floors (words_of asked.presses) (string_bytes word)
+IsUndriven floors asked fault.TooManyPresses = 1000 < length (words_of asked.presses)
+IsUndriven floors asked (fault.BadFire word) = ((presses : List Press) × ArePresses asked.rounds floors (words_of asked.presses) presses) × IsNoFire asked.rounds (fire_word asked) (fault.BadFire word)
 IsUndriven floors asked fault.NoMemory = Unit {0}
 IsUndriven floors asked _ = ⊥
 
@@ -144,13 +153,14 @@ IsRunOutcome program asked (Err why) = IsUndriven (sizes_of program.config).floo
 
 -- DENIALS
 
--- The lines are those of a simulation of the program from its opening, with the presses and the FIRE of the words.
+-- The lines are those of a simulation of the program from its opening, with the presses and the FIRE of the words; the stops at the ends of
+-- the shaft are among them where all are asked for.
 pub record IsDenialsOf (program : Program) (asked : Rounds) (text : List ℕ) : Type 0 where
   pub presses : List Press
   pub first : Option ℕ
   pub driven : AreDriven (sizes_of program.config).floors asked presses first
   pub entries : List Entry
-  pub shown : IsShown denied program.config presses first asked.rounds entries text
+  pub shown : IsShown (denied asked.all) program.config presses first asked.rounds entries text
 
 -- `denials` prints them, where its further words are presses and the word behind `--fire` is a round.
 abbrev pub IsDenialsOutcome : Program → Rounds → Outcome → Type 0
@@ -159,28 +169,28 @@ IsDenialsOutcome program asked (Err why) = IsUndriven (sizes_of program.config).
 
 -- WATCH
 
--- The words behind ROUNDS are names, which have values as the program opens, and then presses. The lines are that of the names, and
+-- The words behind ROUNDS are names in any letter case, which have values as the program opens, and then presses. The lines are that of the names, and
 -- those of a simulation.
 pub record IsWatchOf (program : Program) (asked : Rounds) (text : List ℕ) : Type 0 where
   pub names : List (List ℕ)
   pub behind : Words
   pub split : AreNamesFirst (words_of asked.presses) names (words_of behind)
   pub watched : List Watched
-  pub known : AreWatched (opening program.config) names watched
+  pub known : AreWatched (opening program.config) (map upper_case names) watched
   pub presses : List Press
   pub first : Option ℕ
   pub driven : AreDriven (sizes_of program.config).floors (record asked { presses = behind }) presses first
   pub entries : List Entry
   pub rows : List ℕ
   pub shown : IsShown (watching watched) program.config presses first asked.rounds entries rows
-  pub lines : text ≡ header_text names ++ rows
+  pub lines : text ≡ header_text (map upper_case names) ++ rows
 
--- The words are names and then presses, and one of the names has no value as the program opens.
-pub record HasUnknown (program : Program) (asked : Rounds) : Type 0 where
+-- The words are names and then presses, and this name, in upper case, has no value as the program opens.
+pub record HasUnknown (program : Program) (asked : Rounds) (word : List ℕ) : Type 0 where
   pub names : List (List ℕ)
   pub behind : Words
   pub split : AreNamesFirst (words_of asked.presses) names (words_of behind)
-  pub unknown : IsUnknown (opening program.config) names
+  pub unknown : IsUnknown (opening program.config) (map upper_case names) word
 
 -- or they are no presses, or the word behind `--fire` is no round
 pub record IsUnwatched (program : Program) (asked : Rounds) (why : Fault) : Type 0 where
@@ -192,14 +202,10 @@ pub record IsUnwatched (program : Program) (asked : Rounds) (why : Fault) : Type
 -- `watch` prints them, or says what is wrong with the words.
 abbrev pub IsWatchOutcome : Program → Rounds → Outcome → Type 0
 IsWatchOutcome program asked (Ok output) = IsWatchOf program asked (bytes_of output)
-IsWatchOutcome program asked (Err fault.BadName) = HasUnknown program asked
+IsWatchOutcome program asked (Err (fault.BadName word)) = HasUnknown program asked (string_bytes word)
 IsWatchOutcome program asked (Err why) = IsUnwatched program asked why
 
 -- TRACES
-
--- the bytes of a trace that are read: one more than a trace may have
-abbrev pub most_trace_bytes : ℕ
-most_trace_bytes = 67108865
 
 -- what a command says of a world behind a trace: `replay` prints its image, `draw` some picture
 abbrev pub Says : Following → Program → World → List ℕ → Type 0
@@ -237,10 +243,10 @@ IsFollowed command program trace (Err (fault.Refused number line)) = IsTraceRefu
 IsFollowed command program trace (Err fault.NoMemory) = Unit {0}
 IsFollowed command program trace (Err _) = ⊥
 
--- the file of a trace can't be read, or it is followed
-pub data IsTraceOutcome (reads : List ℕ → ℕ → List ℕ → Type 0) (fails : List ℕ → ℕ → ReadFault → Type 0) (command : Following) (program : Program) (trace : List ℕ) (outcome : Outcome) : Type 0 where
-  unread : (why : ReadFault) → fails trace most_trace_bytes why → outcome ≡ Err (fault_of_reading why) → IsTraceOutcome reads fails command program trace outcome
-  read : (text : List ℕ) → reads trace most_trace_bytes text → IsFollowed command program text outcome → IsTraceOutcome reads fails command program trace outcome
+-- what was read of a trace is followed, or reading failed
+abbrev pub IsTraceOutcome : Following → Program → Reading → Outcome → Type 0
+IsTraceOutcome command program (Text text) outcome = IsFollowed command program text.items outcome
+IsTraceOutcome command program (Failed why) outcome = outcome ≡ Err (fault_of_reading why)
 
 -- REQUESTS
 
@@ -252,8 +258,8 @@ IsRoundsOutcome simulating.Denials program asked outcome = IsDenialsOutcome prog
 IsRoundsOutcome simulating.Watch program asked outcome = IsWatchOutcome program asked outcome
 
 -- A verified program gives what its command prints.
-abbrev pub IsProgramOutcome : (List ℕ → ℕ → List ℕ → Type 0) → (List ℕ → ℕ → ReadFault → Type 0) → Request → Program → Outcome → Type 0
-IsProgramOutcome reads fails (request.Check checked) program outcome = IsCheckOutcome program outcome
-IsProgramOutcome reads fails (request.Show command file) program outcome = IsShowOutcome command program outcome
-IsProgramOutcome reads fails (request.Rounds command asked) program outcome = IsRoundsOutcome command program asked outcome
-IsProgramOutcome reads fails (request.Trace command traced) program outcome = IsTraceOutcome reads fails command program traced.trace.now outcome
+abbrev pub IsProgramOutcome : Request → Program → Reading → Outcome → Type 0
+IsProgramOutcome (request.Check checked) program trace outcome = IsCheckOutcome program outcome
+IsProgramOutcome (request.Show command file) program trace outcome = IsShowOutcome command program outcome
+IsProgramOutcome (request.Rounds command asked) program trace outcome = IsRoundsOutcome command program asked outcome
+IsProgramOutcome (request.Trace command traced) program trace outcome = IsTraceOutcome command program trace outcome

@@ -1,5 +1,5 @@
 -- What parts of a request's outcome are; no public contract but these crate's own functions names them (own rules).
-use Rattle.std.specs.Prelude.{◌≡◌, ◌⊎◌, ℕ, ◌+◌, ◌++◌, List, Option, Ok, Err}
+use Rattle.std.specs.Prelude.{◌≡◌, ◌⊎◌, ℕ, ◌+◌, ◌++◌, List, Option, Ok, Err, string_bytes}
 use Rattle.il_machine.specs.Scanning.{Program}
 use Rattle.il_spec.specs.declared.tree.Config.{Config}
 use Rattle.lift_host.specs.declared.press.Press.{Press}
@@ -45,6 +45,6 @@ AreFollowed command program events (Err _) = ⊥
 abbrev pub IsWatched : Config → List (List ℕ) → List Press → Option ℕ → ℕ → Outcome → Type 0
 IsWatched c names presses first rounds (Ok output) =
     (watched : List Watched) × AreWatched (opening c) names watched × (entries : List Entry) × (rows : List ℕ) × IsShown (watching watched) c presses first rounds entries rows × (bytes_of output ≡ header_text names ++ rows)
-IsWatched c names presses first rounds (Err fault.BadName) = IsUnknown (opening c) names
+IsWatched c names presses first rounds (Err (fault.BadName word)) = IsUnknown (opening c) names (string_bytes word)
 IsWatched c names presses first rounds (Err fault.NoMemory) = Unit {0}
 IsWatched c names presses first rounds (Err _) = ⊥

@@ -1,13 +1,14 @@
 // What a request prints over a verified configuration.
 
-ghost use Rattle.std.specs.Prelude.{◌≡◌, ◌≢◌, ◌≤◌, ◌+◌, ℕ, Option, None, option_map, length, Ok, Err, IfOk, IfErr};
+ghost use Rattle.std.specs.Prelude.{◌≡◌, ◌≢◌, ◌≤◌, ◌+◌, ℕ, Option, None, option_map, length, Ok, Err, IfOk, IfErr, map, string_bytes};
 ghost use Rattle.lift_spec.specs.Image.{sizes_of};
 ghost use Rattle.lift_spec.specs.World.{opening};
 ghost use Rattle.lift_trace.specs.Reading.{Reads, greatest_trace};
-ghost use Rattle.lift_output.specs.Outcomes.{IsCheckOutcome, IsShowOutcome, HasWarnings, asked_warnings, wanted_warnings, IsFire, AreDriven, IsUndriven, IsSimOutcome, IsRunOutcome, IsDenialsOutcome, IsWatchOutcome, IsRoundsOutcome, IsFollowed, IsTraceOutcome, IsProgramOutcome};
+ghost use Rattle.lift_output.specs.Outcomes.{IsCheckOutcome, IsShowOutcome, HasWarnings, asked_warnings, wanted_warnings, IsFire, IsNoFire, AreDriven, IsUndriven, IsSimOutcome, IsRunOutcome, IsDenialsOutcome, IsWatchOutcome, IsRoundsOutcome, IsFollowed, IsTraceOutcome, IsProgramOutcome};
 ghost use Rattle.lift_output.specs.Parts.{fault_of_trace, IsTraceUnread, AreFollowed, IsWatched};
 ghost use Rattle.lift_runs.specs.Driven.{ArePressed};
 ghost use Rattle.lift_host.specs.Requests.{words_of};
+ghost use Rattle.lift_watch.specs.Names.{upper_case};
 ghost use Rattle.lift_spec.specs.EventFaults.{event_fault_number};
 
 use crate::check::check_text;
@@ -15,7 +16,7 @@ use crate::image::image_text;
 use il_machine::Verified;
 use il_shown::ranges_text;
 use lift_draw::{Stop, drawing};
-use lift_host::files::TextFiles;
+use lift_host::files::Reading;
 use lift_host::press::{Press, fire_round, presses};
 use lift_host::request::{Following, Named, Request, Rounds, Showing, Simulating, Words};
 use lift_host::status::Fault;
@@ -24,9 +25,10 @@ use lift_runs::sim::{Drive, simulate, simulate_before, simulate_on};
 use lift_show::output::{Output, Warned};
 use lift_spec::trace::TraceEvent;
 use lift_trace::fault::TraceFault;
-use lift_trace::read::{GREATEST_TRACE, read_trace};
+use lift_trace::read::read_trace;
 use lift_warnings::warnings_text;
 use lift_watch::denials::Denials;
+use lift_watch::names::upper_names;
 use lift_watch::watch::Watch;
 use lift_workers::gate::Open;
 use lift_workers::run::{Plan, run};
@@ -38,14 +40,14 @@ use std::sync::Wait;
 use std::thread::Threads;
 
 /// What a request prints over a verified configuration, or why it prints nothing. `run` alone starts threads and waits for them.
-pub fn outcome<F: TextFiles, R: Threads + Wait + Sync>(
+pub fn outcome<R: Threads + Wait + Sync>(
     rt: &R,
     alloc: Global,
     request: Request<'_>,
     verified: Verified,
-    files: &F,
+    trace: &Reading,
 ) -> Result<Output, Fault>
-    ensures is { IsProgramOutcome (F.gives files.now) (F.fails files.now) request.entry verified result }
+    ensures is { IsProgramOutcome request.entry verified trace.now result }
     ensures warned { HasWarnings (wanted_warnings request.entry verified) result }
     ensures unwritten { result ≢ Err Fault.CannotWrite }
 {
@@ -53,13 +55,7 @@ pub fn outcome<F: TextFiles, R: Threads + Wait + Sync>(
         Request::Check(asked) => checked(alloc, verified, asked.warns),
         Request::Show(command, _) => shown(alloc, verified, command),
         Request::Rounds(command, asked) => rounds_outcome(rt, alloc, verified, command, asked),
-        Request::Trace(command, traced) => trace_outcome(
-            alloc,
-            verified,
-            command,
-            traced.trace,
-            files,
-        ),
+        Request::Trace(command, _) => trace_outcome(alloc, verified, command, trace),
     }
 }
 
@@ -129,15 +125,15 @@ struct Driven {
 }
 
 /// The round that a word spells from which on FIRE holds.
-fn fire_of(word: Option<&str>, rounds: u16) -> Result<Option<u16>, Fault>
+fn fire_of(alloc: Global, word: Option<&str>, rounds: u16) -> Result<Option<u16>, Fault>
     ensures ok { IfOk result (IsFire rounds (option_map (λ w. w.now) word.entry)) }
-    ensures err { IfErr result (λ fault. (fault ≡ Fault.BadFire) × ((first : Option ℕ) → IsFire rounds (option_map (λ w. w.now) word.entry) first → ⊥)) }
+    ensures err { IfErr result (IsNoFire rounds (option_map (λ w. w.now) word.entry)) }
 {
     match word {
         None => Ok(None),
         Some(word) => match fire_round(word, rounds) {
             Some(first) => Ok(Some(first)),
-            None => Err(Fault::BadFire),
+            None => Err(Fault::BadFire(String::from_str(alloc, word)?)),
         },
     }
 }
@@ -148,7 +144,7 @@ fn drive_of(alloc: Global, asked: Rounds<'_>, floors: u16) -> Result<Driven, Fau
     ensures err { IfErr result (IsUndriven floors asked.entry) }
 {
     let presses = presses(alloc, asked.presses, asked.rounds, floors)?;
-    let fire = fire_of(asked.fire, asked.rounds)?;
+    let fire = fire_of(alloc, asked.fire, asked.rounds)?;
     Ok(Driven { presses, fire })
 }
 
@@ -185,7 +181,7 @@ fn denied(alloc: Global, verified: Verified, asked: Rounds<'_>) -> Result<Output
                 presses: driven.presses.as_slice(),
                 fire: driven.fire,
             };
-            let mut denials = Denials::new(alloc);
+            let mut denials = Denials::new(alloc, asked.all);
             simulate_before(alloc, verified, drive, asked.rounds, &mut denials)?;
             Ok(Output::Text(denials.text))
         }
@@ -210,7 +206,7 @@ fn watched(alloc: Global, verified: Verified, asked: Rounds<'_>) -> Result<Outpu
                 fire: driven.fire,
             };
             let mut world = World::new(alloc, verified)?;
-            let output = watched_world(alloc, &mut world, names, drive, asked.rounds);
+            let output = watched_names(alloc, &mut world, names, drive, asked.rounds);
             world.release();
             output
         }
@@ -221,8 +217,8 @@ fn watched(alloc: Global, verified: Verified, asked: Rounds<'_>) -> Result<Outpu
     }
 }
 
-/// The values of names behind each of so many rounds of a world that opens.
-fn watched_world(
+/// The values of names, in upper case, behind each of so many rounds of a world that opens.
+fn watched_names(
     alloc: Global,
     world: &mut World,
     names: Words<'_>,
@@ -231,7 +227,24 @@ fn watched_world(
 ) -> Result<Output, Fault>
     requires opening { world.old.world ≡ opening world.old.program.config }
     requires calls { ArePressed (sizes_of world.old.program.config) drive.presses.now }
-    ensures is { IsWatched world.old.program.config (words_of names.entry) drive.entry.presses.now drive.entry.fire rounds result }
+    ensures is { IsWatched world.old.program.config (map upper_case (words_of names.entry)) drive.entry.presses.now drive.entry.fire rounds result }
+    ensures warned { HasWarnings None result }
+{
+    let names = upper_names(alloc, names)?;
+    watched_world(alloc, world, &names, drive, rounds)
+}
+
+/// The values of names behind each of so many rounds of a world that opens.
+fn watched_world(
+    alloc: Global,
+    world: &mut World,
+    names: &[String],
+    drive: Drive<'_>,
+    rounds: u16,
+) -> Result<Output, Fault>
+    requires opening { world.old.world ≡ opening world.old.program.config }
+    requires calls { ArePressed (sizes_of world.old.program.config) drive.presses.now }
+    ensures is { IsWatched world.old.program.config (map string_bytes names.now) drive.entry.presses.now drive.entry.fire rounds result }
     ensures warned { HasWarnings None result }
 {
     let mut watch = Watch::of(alloc, world, names)?;
@@ -385,22 +398,21 @@ fn followed_events(
     output
 }
 
-fn trace_outcome<F: TextFiles>(
+fn trace_outcome(
     alloc: Global,
     verified: Verified,
     command: Following,
-    trace: &str,
-    files: &F,
+    trace: &Reading,
 ) -> Result<Output, Fault>
-    ensures is { IsTraceOutcome (F.gives files.now) (F.fails files.now) command verified trace.now result }
+    ensures is { IsTraceOutcome command verified trace.now result }
     ensures unwritten { result ≢ Err Fault.CannotWrite }
     ensures warned { HasWarnings None result }
 {
-    match files.read(alloc, trace, GREATEST_TRACE + 1) {
-        Ok(text) => followed_text(alloc, verified, command, &text),
-        Err(fault) => {
+    match trace {
+        Reading::Text(text) => followed_text(alloc, verified, command, text),
+        Reading::Failed(why) => {
             verified.release();
-            Err(fault.into())
+            Err((*why).into())
         }
     }
 }

@@ -3,6 +3,7 @@ use Rattle.std.specs.Prelude.{◌≡◌, ℕ, List, take, Option, Some, None, st
 use Rattle.std.specs.List.{find}
 use Rattle.lift_host.specs.declared.files.ReadFault.{ReadFault}
 use Rattle.lift_host.specs.declared.files.ReadFault.TheVariants.{CannotRead, NoMemory}
+use Rattle.lift_host.specs.declared.files.Cause.TheVariants.{Missing}
 use Rattle.lift_shelf.specs.declared.shelf.Stored.{Stored}
 
 -- the first file of a name
@@ -14,8 +15,8 @@ abbrev pub GivesBytes : Option Stored → ℕ → List ℕ → Type 0
 GivesBytes None limit text = ⊥
 GivesBytes (Some file) limit text = text ≡ take limit file.bytes.items
 
--- one that isn't there can't be read; memory may be missing for any
+-- one that isn't there is missing; memory may be missing for any
 abbrev pub FailsFor : Option Stored → ReadFault → Type 0
-FailsFor None CannotRead = Unit {0}
-FailsFor (Some file) CannotRead = ⊥
+FailsFor None (CannotRead cause) = cause ≡ Missing
+FailsFor (Some file) (CannotRead cause) = ⊥
 FailsFor file NoMemory = Unit {0}

@@ -6,7 +6,7 @@ ghost use Rattle.lift_host.specs.declared.files.ReadFault.{ReadFault};
 ghost use Rattle.lift_shelf.specs.Stored.{file_named, GivesBytes, FailsFor};
 
 use crate::escape::add_bytes;
-use lift_host::files::{ReadFault, TextFiles};
+use lift_host::files::{Cause, ReadFault, TextFiles};
 use std::alloc::{AllocError, Global};
 use std::{io, str};
 
@@ -110,7 +110,7 @@ impl TextFiles for Shelf {
     ghost fails = { λ shelf name _ fault. FailsFor (file_named shelf.files.items name) fault };
 
     fn read(&self, alloc: Global, name: &str, limit: usize) -> Result<Vec<u8>, ReadFault> {
-        let file = self.named(name).ok_or(ReadFault::CannotRead)?;
+        let file = self.named(name).ok_or(ReadFault::CannotRead(Cause::Missing))?;
         if file.is_broken {
             return Err(ReadFault::NoMemory);
         }

@@ -1,20 +1,97 @@
 -- What comes of a run of the program (own rules).
-use Rattle.std.specs.Prelude.{◌≡◌, ◌⊎◌, ◌||◌, ◌++◌, ℕ, List, [], length, nat_lt, Bool, true, None, Ok, Err, if◌then◌else◌}
+use Rattle.std.specs.Prelude.{IsTrue, ◌≡◌, ◌⊎◌, ◌↔◌, ◌||◌, ◌++◌, ℕ, List, [], nat_lt, Bool, true, false, None, Ok, Err, if◌then◌else◌, codes, string_bytes}
 use Rattle.lift_host.specs.declared.files.ReadFault.{ReadFault}
+use Rattle.lift_host.specs.declared.files.ReadFault.TheVariants as failure
+use Rattle.lift_host.specs.declared.files.Reading.{Reading}
+use Rattle.lift_host.specs.declared.files.Reading.TheVariants.{Text, Failed}
 use Rattle.lift_host.specs.declared.request.Request.{Request}
+use Rattle.lift_host.specs.declared.request.Request.TheVariants as request
+use Rattle.lift_host.specs.declared.request.Simulating.TheVariants as simulating
 use Rattle.lift_host.specs.declared.status.Fault.{Fault}
 use Rattle.lift_host.specs.declared.status.Fault.TheVariants as fault
 use Rattle.lift_host.specs.declared.status.Status.{Status}
-use Rattle.lift_host.specs.Messages.{fault_of_reading, message_of, status_of}
-use Rattle.lift_host.specs.declared.request.Request.TheVariants as request
-use Rattle.lift_host.specs.Requests.{Asks, AreWithoutExplain, name_of}
+use Rattle.lift_host.specs.Messages.{fault_of_reading, message_of, status_of, text_of, cause_sentence}
+use Rattle.lift_host.specs.Requests.{Asks, BeginsWithDigit, name_of, plain_words, explains, has_all, with_all}
 use Rattle.lift_show.specs.declared.output.Output.{Output}
 use Rattle.lift_show.specs.Outputs.{Outcome, bytes_of, warnings_of}
+use Rattle.lift_source.specs.Notices.{word_notice, file_notice, plain_notice}
 use Rattle.lift_source.specs.Places.{IsShownBelow}
 
 -- the bytes of a file that are read: one more than a text may have
 abbrev pub most_bytes : ℕ
 most_bytes = 262145
+
+-- the bytes of a trace that are read: one more than a trace may have
+abbrev pub most_trace_bytes : ℕ
+most_trace_bytes = 67108865
+
+-- BELOW A FAULT
+
+-- the file to which the number of a refusal belongs, and what was read of it: numbers from 60 on are a trace's
+abbrev pub source_of : ℕ → Request → List ℕ → Reading → List ℕ × List ℕ
+source_of number (request.Check checked) text trace = (checked.file.now, text)
+source_of number (request.Show command file) text trace = (file.now, text)
+source_of number (request.Rounds command rounds) text trace = (rounds.file.now, text)
+source_of number (request.Trace command traced) text trace = if nat_lt number 60 then (traced.file.now, text) else (traced.trace.now, text_of trace)
+
+-- the name of a request's trace
+abbrev pub trace_name : Request → List ℕ
+trace_name (request.Check checked) = checked.file.now
+trace_name (request.Show command file) = file.now
+trace_name (request.Rounds command rounds) = rounds.file.now
+trace_name (request.Trace command traced) = traced.trace.now
+
+-- a word of `watch` that stands behind a press and begins with no digit, as a name does
+abbrev pub IsLateName : Request → List ℕ → Type 0
+IsLateName (request.Check checked) word = ⊥
+IsLateName (request.Show command file) word = ⊥
+IsLateName (request.Rounds simulating.Sim rounds) word = ⊥
+IsLateName (request.Rounds simulating.Run rounds) word = ⊥
+IsLateName (request.Rounds simulating.Denials rounds) word = ⊥
+IsLateName (request.Rounds simulating.Watch rounds) word = BeginsWithDigit word → ⊥
+IsLateName (request.Trace command traced) word = ⊥
+
+-- what is wrong with a word that is no press
+abbrev pub press_sentence : Bool → List ℕ
+press_sentence true = codes "the names of `watch` stand before the presses"
+press_sentence false = codes "no press: ROUND:FROM:TO or ROUND:FROM:TO:PANEL, a round of the run, two floors of the group, a panel from 1 to 4"
+
+abbrev pub fire_sentence : List ℕ
+fire_sentence = codes "no round of the run"
+
+abbrev pub name_sentence : List ℕ
+name_sentence = codes "no field, variable of a task or global has this name"
+
+abbrev pub too_many_sentence : List ℕ
+too_many_sentence = codes "there are more than 1000 presses"
+
+-- What stands below a fault: of a refusal its line, as it was read, and what the number means; of the others the word or the file and what
+-- is wrong with it.
+abbrev pub IsFaultBelow : Request → List ℕ → Reading → Fault → List ℕ → Type 0
+IsFaultBelow request text trace (fault.Misuse said) below = below ≡ []
+IsFaultBelow request text trace (fault.Refused number line) below = IsShownBelow (source_of number request text trace).0 (source_of number request text trace).1 number line below
+IsFaultBelow request text trace (fault.BadPress word) below = (late : Bool) × (IsTrue late ↔ IsLateName request (string_bytes word)) × (below ≡ word_notice (string_bytes word) (press_sentence late))
+IsFaultBelow request text trace fault.TooManyPresses below = below ≡ plain_notice too_many_sentence
+IsFaultBelow request text trace (fault.BadFire word) below = below ≡ word_notice (string_bytes word) fire_sentence
+IsFaultBelow request text trace (fault.BadName word) below = below ≡ word_notice (string_bytes word) name_sentence
+IsFaultBelow request text trace (fault.CannotRead cause) below = below ≡ file_notice (trace_name request) (cause_sentence cause)
+IsFaultBelow request text trace fault.CannotWrite below = below ≡ []
+IsFaultBelow request text trace fault.NoMemory below = below ≡ []
+
+-- it stands there only where it is wanted, and not where memory is missing
+abbrev pub IsWanted : Bool → List ℕ → Type 0 → Type 0
+IsWanted wanted below Is = (below ≡ []) ⊎ ((wanted ≡ true) × Is)
+
+abbrev pub IsBelow : Bool → Request → List ℕ → Reading → Outcome → List ℕ → Type 0
+IsBelow wanted request text trace (Ok output) below = below ≡ []
+IsBelow wanted request text trace (Err f) below = IsWanted wanted below (IsFaultBelow request text trace f below)
+
+-- below a FILE that can't be read, its name and why
+abbrev pub IsUnreadBelow : List ℕ → ReadFault → List ℕ → Type 0
+IsUnreadBelow name (failure.CannotRead cause) below = below ≡ file_notice name (cause_sentence cause)
+IsUnreadBelow name failure.NoMemory below = below ≡ []
+
+-- OUTCOMES
 
 -- Words that ask for no file give help, the version, what a number means, or what is wrong with them.
 abbrev pub IsWordsOutcome : Outcome → Type 0
@@ -23,61 +100,41 @@ IsWordsOutcome (Err (fault.Misuse text)) = Unit {0}
 IsWordsOutcome (Err fault.NoMemory) = Unit {0}
 IsWordsOutcome (Err _) = ⊥
 
--- A request has the outcome that its command gives of the text of its file; the file may have none.
-pub data IsFileOutcome (reads : List ℕ → ℕ → List ℕ → Type 0) (fails : List ℕ → ℕ → ReadFault → Type 0) (gives : Request → List ℕ → Outcome → Type 0) (request : Request) (outcome : Outcome) : Type 0 where
-  unread : (why : ReadFault) → fails (name_of request) most_bytes why → outcome ≡ Err (fault_of_reading why) → IsFileOutcome reads fails gives request outcome
-  read : (text : List ℕ) → reads (name_of request) most_bytes text → gives request text outcome → IsFileOutcome reads fails gives request outcome
+-- what may be read of the trace of a request; another request has none
+abbrev pub IsTraceRead : (List ℕ → ℕ → List ℕ → Type 0) → (List ℕ → ℕ → ReadFault → Type 0) → Request → Reading → Type 0
+IsTraceRead reads fails (request.Check checked) trace = Unit {0}
+IsTraceRead reads fails (request.Show command file) trace = Unit {0}
+IsTraceRead reads fails (request.Rounds command rounds) trace = Unit {0}
+IsTraceRead reads fails (request.Trace command traced) (Text text) = reads traced.trace.now most_trace_bytes text.items
+IsTraceRead reads fails (request.Trace command traced) (Failed why) = fails traced.trace.now most_trace_bytes why
 
--- Words have the outcome of their request, where they ask for one.
-pub data IsOutcome (reads : List ℕ → ℕ → List ℕ → Type 0) (fails : List ℕ → ℕ → ReadFault → Type 0) (gives : Request → List ℕ → Outcome → Type 0) (words : List (List ℕ)) (outcome : Outcome) : Type 0 where
-  unasked : ((request : Request) → Asks words request → ⊥) → IsWordsOutcome outcome → IsOutcome reads fails gives words outcome
-  asked : (request : Request) → Asks words request → IsFileOutcome reads fails gives request outcome → IsOutcome reads fails gives words outcome
+-- A request has the outcome that its command gives of the text of its file and of its trace, each read once; what stands below its fault is
+-- of these readings. The file may have no text.
+pub data IsFileAnswer (reads : List ℕ → ℕ → List ℕ → Type 0) (fails : List ℕ → ℕ → ReadFault → Type 0) (gives : Request → List ℕ → Reading → Outcome → Type 0) (wanted : Bool) (request : Request) (outcome : Outcome) (below : List ℕ) : Type 0 where
+  unread : (why : ReadFault) → fails (name_of request) most_bytes why → outcome ≡ Err (fault_of_reading why) → IsWanted wanted below (IsUnreadBelow (name_of request) why below) → IsFileAnswer reads fails gives wanted request outcome below
+  read : (text : List ℕ) → reads (name_of request) most_bytes text → (trace : Reading) → IsTraceRead reads fails request trace → gives request text trace outcome → IsBelow wanted request text trace outcome below
+      → IsFileAnswer reads fails gives wanted request outcome below
 
--- The words but `--explain` have that outcome. Memory for them may be missing.
-pub data IsRunOutcome (reads : List ℕ → ℕ → List ℕ → Type 0) (fails : List ℕ → ℕ → ReadFault → Type 0) (gives : Request → List ℕ → Outcome → Type 0) (words : List (List ℕ)) (outcome : Outcome) : Type 0 where
-  unread : outcome ≡ Err fault.NoMemory → IsRunOutcome reads fails gives words outcome
-  plain : (rest : List (List ℕ)) → AreWithoutExplain words rest → IsOutcome reads fails gives rest outcome → IsRunOutcome reads fails gives words outcome
+-- Words have the answer of their request, where they ask for one.
+pub data IsAnswer (reads : List ℕ → ℕ → List ℕ → Type 0) (fails : List ℕ → ℕ → ReadFault → Type 0) (gives : Request → List ℕ → Reading → Outcome → Type 0) (wanted : Bool) (words : List (List ℕ)) (all : Bool) (outcome : Outcome) (below : List ℕ) : Type 0 where
+  unasked : ((request : Request) → Asks words request → ⊥) → IsWordsOutcome outcome → below ≡ [] → IsAnswer reads fails gives wanted words all outcome below
+  asked : (request : Request) → Asks words request → IsFileAnswer reads fails gives wanted (with_all all request) outcome below → IsAnswer reads fails gives wanted words all outcome below
 
--- an output of these outcomes was written
-abbrev pub HasWritten : (Outcome → Type 0) → (List ℕ → Type 0) → Type 0
-HasWritten Of Writes = (output : Output) × Of (Ok output) × Writes (bytes_of output)
+-- The words as they are read have that answer, explained where `--explain` stands among them, or always. Memory for them may be missing.
+pub data IsRunAnswer (reads : List ℕ → ℕ → List ℕ → Type 0) (fails : List ℕ → ℕ → ReadFault → Type 0) (gives : Request → List ℕ → Reading → Outcome → Type 0) (always : Bool) (words : List (List ℕ)) (outcome : Outcome) (below : List ℕ) : Type 0 where
+  unread : outcome ≡ Err fault.NoMemory → below ≡ [] → IsRunAnswer reads fails gives always words outcome below
+  plain : IsAnswer reads fails gives (always || explains words) (plain_words words) (has_all words) outcome below → IsRunAnswer reads fails gives always words outcome below
+
+-- an output of these answers was written
+abbrev pub HasWritten : (Outcome → List ℕ → Type 0) → (List ℕ → Type 0) → Type 0
+HasWritten Of Writes = (output : Output) × (below : List ℕ) × Of (Ok output) below × Writes (bytes_of output)
 
 -- the same, and its warnings
-abbrev pub HasShown : (Outcome → Type 0) → (List ℕ → Type 0) → (Output → Type 0) → Type 0
-HasShown Of Writes Warns = (output : Output) × Of (Ok output) × Writes (bytes_of output) × Warns output
+abbrev pub HasShown : (Outcome → List ℕ → Type 0) → (List ℕ → Type 0) → (Output → Type 0) → Type 0
+HasShown Of Writes Warns = (output : Output) × (below : List ℕ) × Of (Ok output) below × Writes (bytes_of output) × Warns output
 
--- BELOW A REFUSAL
-
--- the bytes of a trace that are read: one more than a trace may have
-abbrev pub most_trace_bytes : ℕ
-most_trace_bytes = 67108865
-
--- the file to which the number of a refusal belongs, and how many of its bytes are read: numbers from 60 on are a trace's
-abbrev pub source_of : ℕ → Request → List ℕ × ℕ
-source_of number (request.Check checked) = (checked.file.now, most_bytes)
-source_of number (request.Show command file) = (file.now, most_bytes)
-source_of number (request.Rounds command rounds) = (rounds.file.now, most_bytes)
-source_of number (request.Trace command traced) = if nat_lt number 60 then (traced.file.now, most_bytes) else (traced.trace.now, most_trace_bytes)
-
--- below the refusal of a request stand its line of that file, and what the number means
-abbrev pub IsPlaced : (List ℕ → ℕ → List ℕ → Type 0) → Request → ℕ → ℕ → List ℕ → Type 0
-IsPlaced reads request number line below = (text : List ℕ) × reads (source_of number request).0 (source_of number request).1 text × IsShownBelow (source_of number request).0 text number line below
-
--- the same by the words, and by the fault; below others stands nothing
-abbrev pub IsPlacedBy : (List ℕ → ℕ → List ℕ → Type 0) → List (List ℕ) → Fault → List ℕ → Type 0
-IsPlacedBy reads words (fault.Refused number line) below = (request : Request) × Asks words request × IsPlaced reads request number line below
-IsPlacedBy reads words _ below = ⊥
-
--- it stands there only where it is wanted, and not where memory is missing, or the file can't be read any more
-abbrev pub IsBelow : (List ℕ → ℕ → List ℕ → Type 0) → List (List ℕ) → Bool → Fault → List ℕ → Type 0
-IsBelow reads words explains f below = (below ≡ []) ⊎ ((explains ≡ true) × IsPlacedBy reads words f below)
-
--- of all words: it is wanted where `--explain` stands among them, or always
-abbrev pub IsBelowRun : (List ℕ → ℕ → List ℕ → Type 0) → List (List ℕ) → Bool → Fault → List ℕ → Type 0
-IsBelowRun reads words always f below = (below ≡ []) ⊎ ((rest : List (List ℕ)) × AreWithoutExplain words rest × IsBelow reads rest (always || nat_lt (length rest) (length words)) f below)
-
--- a fault of these outcomes, or that of a standard output that failed, ends with this status, and its message was written, with nothing
--- or with what may stand below it
-abbrev pub HasTold : (Outcome → Type 0) → (Fault → List ℕ → Type 0) → Bool → Status → (List ℕ → Type 0) → Type 0
-HasTold Of Below has_failed status Writes =
-    (f : Fault) × (Of (Err f) ⊎ ((f ≡ fault.CannotWrite) × (has_failed ≡ true))) × (status_of f ≡ status) × (below : List ℕ) × Below f below × Writes (message_of f ++ below)
+-- a fault of these answers ends with this status, and its message was written, with what stands below it; or that of a standard output that
+-- failed, with nothing below
+abbrev pub HasTold : (Outcome → List ℕ → Type 0) → Bool → Status → (List ℕ → Type 0) → Type 0
+HasTold Of has_failed status Writes =
+    (f : Fault) × (below : List ℕ) × (Of (Err f) below ⊎ ((f ≡ fault.CannotWrite) × (has_failed ≡ true) × (below ≡ []))) × (status_of f ≡ status) × Writes (message_of f ++ below)

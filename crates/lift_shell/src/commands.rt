@@ -2,12 +2,12 @@
 
 ghost use Rattle.std.specs.Prelude.{◌≡◌, ◌≢◌, ℕ, List, Err};
 ghost use Rattle.std.specs.Thread.{IsSync};
-ghost use Rattle.lift_host.specs.declared.files.ReadFault.{ReadFault};
+ghost use Rattle.lift_host.specs.declared.files.Reading.{Reading};
 ghost use Rattle.lift_host.specs.declared.request.Request.{Request};
 ghost use Rattle.lift_host.specs.declared.status.Fault.TheVariants.{CannotWrite};
 ghost use Rattle.lift_show.specs.Outputs.{Outcome};
 
-use lift_host::files::TextFiles;
+use lift_host::files::Reading;
 use lift_host::request::Request;
 use lift_host::status::Fault;
 use lift_show::output::Output;
@@ -15,22 +15,22 @@ use std::alloc::Global;
 use std::sync::Wait;
 use std::thread::Threads;
 
-/// The commands of a program, each over the text of its file; `replay` reads a second file.
+/// The commands of a program, each over the text of its file; `replay` and `draw` follow a trace.
 pub trait Commands {
-    // What a request may give of a text, where files give this or fail so.
-    ghost gives: { Self → (List ℕ → ℕ → List ℕ → Type 0) → (List ℕ → ℕ → ReadFault → Type 0) → Request → List ℕ → Outcome → Type 0 };
+    // What a request may give of a text, where this was read of its trace.
+    ghost gives: { Self → Request → List ℕ → Reading → Outcome → Type 0 };
 
-    /// What the request prints, or why it prints nothing. Commands write nothing themselves. A command that starts threads and waits
-    /// for them does so by `rt`.
-    fn outcome<R: Threads + Wait + Sync, F: TextFiles>(
+    /// What the request prints, or why it prints nothing. Commands read and write nothing themselves; of a request without a trace `trace`
+    /// is empty. A command that starts threads and waits for them does so by `rt`.
+    fn outcome<R: Threads + Wait + Sync>(
         &self,
         rt: &R,
         alloc: Global,
         request: Request<'_>,
         text: &[u8],
-        files: &F,
+        trace: &Reading,
     ) -> Result<Output, Fault>
         requires { IsSync R.row }
-        ensures gives { gives self.now (F.gives files.now) (F.fails files.now) request.entry text.now result }
+        ensures gives { gives self.now request.entry text.now trace.now result }
         ensures unwritten { result ≢ Err CannotWrite };
 }

@@ -1,29 +1,33 @@
 // The program, over its words.
 
-ghost use Rattle.std.specs.Prelude.{◌≡◌, ◌≢◌, ◌⊎◌, ◌||◌, nat_lt, length, Err, IfErr, IfSome, true, false, map, string_bytes};
+ghost use Rattle.std.specs.Prelude.{◌≡◌, ◌≢◌, ◌⊎◌, ◌↔◌, [], Bool, Err, IfOk, IfErr, IsTrue, true, false, map, string_bytes};
 ghost use Rattle.std.specs.Io.KnownBytes.{Appends, Keeps};
-ghost use Rattle.lift_shell.specs.Runs.{IsOutcome, IsRunOutcome, IsFileOutcome, IsWordsOutcome, IsBelow, IsBelowRun, IsPlaced, HasWritten, HasShown, HasTold, source_of};
+ghost use Rattle.lift_host.specs.Requests.{name_of};
+ghost use Rattle.lift_shell.specs.Runs.{IsFileAnswer, IsAnswer, IsRunAnswer, IsWordsOutcome, IsTraceRead, IsBelow, IsFaultBelow, IsWanted, IsUnreadBelow, IsLateName, HasWritten, HasShown, HasTold, source_of, trace_name, press_sentence};
 ghost use Rattle.lift_show.specs.Outputs.{Warns};
 ghost use Rattle.lift_sink.specs.Writes.{Writes, AppendsFront};
+ghost use Rattle.lift_source.specs.Notices.{word_notice};
+ghost use Rattle.lift_source.specs.Places.{IsShownBelow};
 
 use crate::commands::Commands;
 use lift_help::command::{Answer, answer_of};
-use lift_host::files::TextFiles;
-use lift_host::request::{Request, asked, without_explain};
+use lift_host::files::{ReadFault, Reading, TextFiles};
+use lift_host::request::{Request, Simulating, asked, is_number, read_words};
 use lift_host::status::{Fault, Status};
 use lift_show::output::Output;
 use lift_show::show::show;
 use lift_sink::sink::Sink;
+use lift_source::notice::{file_notice, plain_notice, word_notice};
 use lift_source::place::below;
 use lift_trace::read::GREATEST_TRACE;
-use std::alloc::Global;
+use std::alloc::{AllocError, Global};
 use std::sync::Wait;
 use std::thread::Threads;
 
 /// The most bytes of FILE that are read: one more than a text may have.
 const MOST_BYTES: usize = 262_145;
 
-/// Runs the program on its words, without its name. A refusal is explained, where it is told to do so, or where the words have `--explain`.
+/// Runs the program on its words, without its name. A fault is explained, where it is told to do so, or where the words have `--explain`.
 pub fn run<R: Threads + Wait + Sync, F: TextFiles, C: Commands, O: Sink, E: Sink>(
     rt: &R,
     alloc: Global,
@@ -37,14 +41,14 @@ pub fn run<R: Threads + Wait + Sync, F: TextFiles, C: Commands, O: Sink, E: Sink
     requires { O.has_failed out.old ≡ false }
 
     // Where it is done, the standard output has the output of the words, and the standard error its warnings, if it may have some.
-    ensures done { result ≡ Status.Done → HasShown (IsRunOutcome (F.gives files.now) (F.fails files.now) (C.gives commands.now (F.gives files.now) (F.fails files.now)) (map string_bytes words.now)) (Appends (O.contents out.old) (O.contents out.new)) (λ output. Warns output (E.contents err.old) (E.contents err.new) (E.has_failed err.new)) }
+    ensures done { result ≡ Status.Done → HasShown (IsRunAnswer (F.gives files.now) (F.fails files.now) (C.gives commands.now) explains (map string_bytes words.now)) (Appends (O.contents out.old) (O.contents out.new)) (λ output. Warns output (E.contents err.old) (E.contents err.new) (E.has_failed err.new)) }
 
     // Otherwise the standard error has the one message of the words' fault, or of a standard output
-    // that failed, and below a refusal that is to be explained its line and what its number means. Unless the standard
-    // output failed, nothing was written there.
-    ensures told { (result ≡ Status.Done) ⊎ HasTold (IsRunOutcome (F.gives files.now) (F.fails files.now) (C.gives commands.now (F.gives files.now) (F.fails files.now)) (map string_bytes words.now)) (IsBelowRun (F.gives files.now) (map string_bytes words.now) explains) (O.has_failed out.new) result (Writes (E.contents err.old) (E.contents err.new) (E.has_failed err.new)) }
+    // that failed, and below a fault that is to be explained what stands there: of a refusal the line of the bytes that were refused. Unless
+    // the standard output failed, nothing was written there.
+    ensures told { (result ≡ Status.Done) ⊎ HasTold (IsRunAnswer (F.gives files.now) (F.fails files.now) (C.gives commands.now) explains (map string_bytes words.now)) (O.has_failed out.new) result (Writes (E.contents err.old) (E.contents err.new) (E.has_failed err.new)) }
     ensures nothing { (result ≡ Status.Done) ⊎ (((result ≡ Status.CannotWrite) × (O.has_failed out.new ≡ true)) ⊎ Keeps (O.contents out.old) (O.contents out.new)) }
-    ensures front { result ≡ Status.CannotWrite → HasWritten (IsRunOutcome (F.gives files.now) (F.fails files.now) (C.gives commands.now (F.gives files.now) (F.fails files.now)) (map string_bytes words.now)) (AppendsFront (O.contents out.old) (O.contents out.new)) }
+    ensures front { result ≡ Status.CannotWrite → HasWritten (IsRunAnswer (F.gives files.now) (F.fails files.now) (C.gives commands.now) explains (map string_bytes words.now)) (AppendsFront (O.contents out.old) (O.contents out.new)) }
 {
     let answer = answer(rt, alloc, words, files, commands, explains);
     show(answer.outcome, &answer.below, out, err)
@@ -66,14 +70,13 @@ fn answer<R: Threads + Wait + Sync, F: TextFiles, C: Commands>(
     commands: &C,
     explains: bool,
 ) -> Answered
-    ensures is { IsRunOutcome (F.gives files.now) (F.fails files.now) (C.gives commands.now (F.gives files.now) (F.fails files.now)) (map string_bytes words.now) result.outcome }
+    ensures is { IsRunAnswer (F.gives files.now) (F.fails files.now) (C.gives commands.now) explains (map string_bytes words.now) result.outcome result.below.items }
     ensures unwritten { result.outcome ≢ Err Fault.CannotWrite }
-    ensures below { IfErr result.outcome (λ fault. IsBelowRun (F.gives files.now) (map string_bytes words.now) explains fault result.below.items) }
 {
-    match without_explain(alloc, words) {
-        Ok(rest) => {
-            let explains = is_explained(explains, words, &rest);
-            plain_answer(rt, alloc, &rest, files, commands, explains)
+    match read_words(alloc, words) {
+        Ok(plain) => {
+            let wanted = explains || plain.explains;
+            plain_answer(rt, alloc, &plain.words, plain.all, files, commands, wanted)
         }
         Err(_) => Answered {
             outcome: Err(Fault::NoMemory),
@@ -82,124 +85,25 @@ fn answer<R: Threads + Wait + Sync, F: TextFiles, C: Commands>(
     }
 }
 
-/// The answer to words without `--explain`.
+/// The answer to words as they are read.
 fn plain_answer<R: Threads + Wait + Sync, F: TextFiles, C: Commands>(
     rt: &R,
     alloc: Global,
     words: &[String],
+    all: bool,
     files: &F,
     commands: &C,
-    explains: bool,
+    wanted: bool,
 ) -> Answered
-    ensures is { IsOutcome (F.gives files.now) (F.fails files.now) (C.gives commands.now (F.gives files.now) (F.fails files.now)) (map string_bytes words.now) result.outcome }
+    ensures is { IsAnswer (F.gives files.now) (F.fails files.now) (C.gives commands.now) wanted (map string_bytes words.now) all result.outcome result.below.items }
     ensures unwritten { result.outcome ≢ Err Fault.CannotWrite }
-    ensures below { IfErr result.outcome (λ fault. IsBelow (F.gives files.now) (map string_bytes words.now) explains fault result.below.items) }
-{
-    let outcome = outcome(rt, alloc, words, files, commands);
-    let below = below_of(alloc, words, files, explains, &outcome);
-    Answered { outcome, below }
-}
-
-/// What stands below the fault of words: of a refusal, where it is to be explained.
-fn below_of<F: TextFiles>(
-    alloc: Global,
-    words: &[String],
-    files: &F,
-    explains: bool,
-    outcome: &Result<Output, Fault>,
-) -> Vec<u8>
-    ensures { IfErr outcome.now (λ fault. IsBelow (F.gives files.now) (map string_bytes words.now) explains fault result.items) }
-{
-    match outcome {
-        Err(Fault::Refused { number, line }) if explains => {
-            below_refusal(alloc, words, files, *number, *line)
-        }
-        _ => Vec::new(alloc),
-    }
-}
-
-/// Whether refusals are to be explained: always, or since words have `--explain`, which the rest lacks.
-fn is_explained(always: bool, words: &[String], rest: &[String]) -> bool
-    ensures { result ≡ (always || nat_lt (length rest.now) (length words.now)) }
-{
-    always || rest.len() < words.len()
-}
-
-/// What stands below a refusal; nothing where memory is missing or the file can't be read.
-fn below_refusal<F: TextFiles>(
-    alloc: Global,
-    words: &[String],
-    files: &F,
-    number: u16,
-    line: u32,
-) -> Vec<u8>
-    ensures { IsBelow (F.gives files.now) (map string_bytes words.now) true (Fault.Refused number line) result.items }
-{
-    let Some(request) = asked(words) else {
-        return Vec::new(alloc);
-    };
-    match placed(alloc, request, files, number, line) {
-        Some(below) => below,
-        None => Vec::new(alloc),
-    }
-}
-
-/// The line of a refusal in its file, and what its number means.
-fn placed<F: TextFiles>(
-    alloc: Global,
-    request: Request<'_>,
-    files: &F,
-    number: u16,
-    line: u32,
-) -> Option<Vec<u8>>
-    ensures { IfSome result (λ below. IsPlaced (F.gives files.now) request.entry number line below.items) }
-{
-    let source = source_of(number, request);
-    let text = files.read(alloc, source.name, source.limit).ok()?;
-    below(alloc, source.name, &text, number, line).ok()
-}
-
-/// A file, and how many of its bytes are read.
-#[derive(Clone, Copy)]
-struct Source<'w> {
-    name: &'w str,
-    limit: usize,
-}
-
-/// The least number that a trace is refused with, or one of its events.
-const LEAST_OF_TRACE: u16 = 60;
-
-/// The file to which the number of a refusal belongs.
-fn source_of<'w>(number: u16, request: Request<'w>) -> Source<'w>
-    ensures name { result.name.now ≡ (source_of number request.entry).0 }
-    ensures limit { result.limit ≡ (source_of number request.entry).1 }
-{
-    match request {
-        Request::Trace(_, traced) if number >= LEAST_OF_TRACE => Source {
-            name: traced.trace,
-            limit: GREATEST_TRACE + 1,
-        },
-        _ => Source {
-            name: request.file(),
-            limit: MOST_BYTES,
-        },
-    }
-}
-
-/// What the words make the program print, or why it prints nothing.
-fn outcome<R: Threads + Wait + Sync, F: TextFiles, C: Commands>(
-    rt: &R,
-    alloc: Global,
-    words: &[String],
-    files: &F,
-    commands: &C,
-) -> Result<Output, Fault>
-    ensures is { IsOutcome (F.gives files.now) (F.fails files.now) (C.gives commands.now (F.gives files.now) (F.fails files.now)) (map string_bytes words.now) result }
-    ensures unwritten { result ≢ Err Fault.CannotWrite }
 {
     match asked(words) {
-        Some(request) => outcome_of_file(rt, alloc, request, files, commands),
-        None => outcome_of_words(alloc, words),
+        Some(request) => file_answer(rt, alloc, request.with_all(all), files, commands, wanted),
+        None => Answered {
+            outcome: outcome_of_words(alloc, words),
+            below: Vec::new(alloc),
+        },
     }
 }
 
@@ -215,17 +119,225 @@ fn outcome_of_words(alloc: Global, words: &[String]) -> Result<Output, Fault>
     }
 }
 
-/// The outcome of a request.
-fn outcome_of_file<R: Threads + Wait + Sync, F: TextFiles, C: Commands>(
+/// The answer to a request.
+fn file_answer<R: Threads + Wait + Sync, F: TextFiles, C: Commands>(
     rt: &R,
     alloc: Global,
     request: Request<'_>,
     files: &F,
     commands: &C,
-) -> Result<Output, Fault>
-    ensures is { IsFileOutcome (F.gives files.now) (F.fails files.now) (C.gives commands.now (F.gives files.now) (F.fails files.now)) request.entry result }
-    ensures unwritten { result ≢ Err Fault.CannotWrite }
+    wanted: bool,
+) -> Answered
+    ensures is { IsFileAnswer (F.gives files.now) (F.fails files.now) (C.gives commands.now) wanted request.entry result.outcome result.below.items }
+    ensures unwritten { result.outcome ≢ Err Fault.CannotWrite }
 {
-    let text = files.read(alloc, request.file(), MOST_BYTES)?;
-    commands.outcome(rt, alloc, request, &text, files)
+    match files.read(alloc, request.file(), MOST_BYTES) {
+        Ok(text) => {
+            let trace = trace_of(alloc, request, files);
+            text_answer(rt, alloc, request, &text, &trace, commands, wanted)
+        }
+        Err(why) => Answered {
+            below: unread_below(alloc, request.file(), why, wanted),
+            outcome: Err(why.into()),
+        },
+    }
+}
+
+/// What is read of the trace of a request, which another has none of.
+fn trace_of<F: TextFiles>(alloc: Global, request: Request<'_>, files: &F) -> Reading
+    ensures { IsTraceRead (F.gives files.now) (F.fails files.now) request.entry result }
+{
+    match request {
+        Request::Trace(_, traced) => match files.read(alloc, traced.trace, GREATEST_TRACE + 1) {
+            Ok(text) => Reading::Text(text),
+            Err(why) => Reading::Failed(why),
+        },
+        _ => Reading::Text(Vec::new(alloc)),
+    }
+}
+
+/// The answer to a request over what was read.
+fn text_answer<R: Threads + Wait + Sync, C: Commands>(
+    rt: &R,
+    alloc: Global,
+    request: Request<'_>,
+    text: &[u8],
+    trace: &Reading,
+    commands: &C,
+    wanted: bool,
+) -> Answered
+    ensures gives { C.gives commands.now request.entry text.now trace.now result.outcome }
+    ensures below { IsBelow wanted request.entry text.now trace.now result.outcome result.below.items }
+    ensures unwritten { result.outcome ≢ Err Fault.CannotWrite }
+{
+    let outcome = commands.outcome(rt, alloc, request, text, trace);
+    let below = below_of(alloc, request, text, trace, &outcome, wanted);
+    Answered { outcome, below }
+}
+
+/// What stands below an outcome, where that is wanted.
+fn below_of(
+    alloc: Global,
+    request: Request<'_>,
+    text: &[u8],
+    trace: &Reading,
+    outcome: &Result<Output, Fault>,
+    wanted: bool,
+) -> Vec<u8>
+    ensures { IsBelow wanted request.entry text.now trace.now outcome.now result.items }
+{
+    match outcome {
+        Ok(_) => Vec::new(alloc),
+        Err(fault) => {
+            if wanted {
+                or_nothing(alloc, fault_below(alloc, request, text, trace, fault))
+            } else {
+                Vec::new(alloc)
+            }
+        }
+    }
+}
+
+/// A text, or nothing where memory for it was missing.
+fn or_nothing(alloc: Global, text: Result<Vec<u8>, AllocError>) -> Vec<u8>
+    ensures made { IfOk text (λ made. result.items ≡ made.items) }
+    ensures nothing { IfErr text (λ _. result.items ≡ []) }
+{
+    match text {
+        Ok(text) => text,
+        Err(_) => Vec::new(alloc),
+    }
+}
+
+/// What stands below a fault.
+fn fault_below(
+    alloc: Global,
+    request: Request<'_>,
+    text: &[u8],
+    trace: &Reading,
+    fault: &Fault,
+) -> Result<Vec<u8>, AllocError>
+    ensures { IfOk result (λ below. IsFaultBelow request.entry text.now trace.now fault.now below.items) }
+{
+    match fault {
+        Fault::Misuse(_) => Ok(Vec::new(alloc)),
+        Fault::Refused { number, line } => refusal_below(
+            alloc, request, text, trace, *number, *line,
+        ),
+        Fault::BadPress(word) => press_below(alloc, request, word),
+        Fault::TooManyPresses => plain_notice(alloc, TOO_MANY),
+        Fault::BadFire(word) => word_notice(alloc, word, NO_ROUND),
+        Fault::BadName(word) => word_notice(alloc, word, NO_NAME),
+        Fault::CannotRead(cause) => file_notice(alloc, trace_name(request), cause.sentence()),
+        Fault::CannotWrite => Ok(Vec::new(alloc)),
+        Fault::NoMemory => Ok(Vec::new(alloc)),
+    }
+}
+
+const TOO_MANY: &str = "there are more than 1000 presses";
+
+const NO_ROUND: &str = "no round of the run";
+
+const NO_NAME: &str = "no field, variable of a task or global has this name";
+
+const NO_PRESS: &str =
+    "no press: ROUND:FROM:TO or ROUND:FROM:TO:PANEL, a round of the run, two floors of the group, a panel from 1 to 4";
+
+const LATE_NAME: &str = "the names of `watch` stand before the presses";
+
+/// The line of a refusal in what was read, and what its number means.
+fn refusal_below(
+    alloc: Global,
+    request: Request<'_>,
+    text: &[u8],
+    trace: &Reading,
+    number: u16,
+    line: u32,
+) -> Result<Vec<u8>, AllocError>
+    ensures { IfOk result (λ below. IsShownBelow (source_of number request.entry text.now trace.now).0 (source_of number request.entry text.now trace.now).1 number line below.items) }
+{
+    let source = source_of(number, request, text, trace);
+    below(alloc, source.name, source.text, number, line)
+}
+
+/// What is wrong with a word that is no press.
+fn press_below(alloc: Global, request: Request<'_>, word: &str) -> Result<Vec<u8>, AllocError>
+    ensures { IfOk result (λ below. (late : Bool) × (IsTrue late ↔ IsLateName request.entry word.now) × (below.items ≡ word_notice word.now (press_sentence late))) }
+{
+    let late = is_late_name(request, word);
+    word_notice(alloc, word, press_sentence(late))
+}
+
+fn press_sentence(late: bool) -> &'static str
+    ensures { result.now ≡ press_sentence late }
+{
+    if late { LATE_NAME } else { NO_PRESS }
+}
+
+/// Whether a word among the presses looks like a name of `watch`.
+fn is_late_name(request: Request<'_>, word: &str) -> bool
+    ensures { IsTrue result ↔ IsLateName request.entry word.now }
+{
+    match request {
+        Request::Rounds(Simulating::Watch, _) => !is_number(word),
+        _ => false,
+    }
+}
+
+/// What stands below a FILE that can't be read, where that is wanted.
+fn unread_below(alloc: Global, name: &str, why: ReadFault, wanted: bool) -> Vec<u8>
+    ensures { IsWanted wanted result.items (IsUnreadBelow name.now why result.items) }
+{
+    match why {
+        ReadFault::CannotRead(cause) => {
+            if wanted {
+                or_nothing(alloc, file_notice(alloc, name, cause.sentence()))
+            } else {
+                Vec::new(alloc)
+            }
+        }
+        ReadFault::NoMemory => Vec::new(alloc),
+    }
+}
+
+/// A file, and what was read of it.
+#[derive(Clone, Copy)]
+struct Source<'w> {
+    name: &'w str,
+    text: &'w [u8],
+}
+
+/// The least number that a trace is refused with, or one of its events.
+const LEAST_OF_TRACE: u16 = 60;
+
+/// The file to which the number of a refusal belongs.
+fn source_of<'w>(
+    number: u16,
+    request: Request<'w>,
+    text: &'w [u8],
+    trace: &'w Reading,
+) -> Source<'w>
+    ensures name { result.name.now ≡ (source_of number request.entry text.now trace.now).0 }
+    ensures text { result.text.now ≡ (source_of number request.entry text.now trace.now).1 }
+{
+    match request {
+        Request::Trace(_, traced) if number >= LEAST_OF_TRACE => Source {
+            name: traced.trace,
+            text: trace.text(),
+        },
+        _ => Source {
+            name: request.file(),
+            text,
+        },
+    }
+}
+
+/// The name of the trace of a request.
+fn trace_name(request: Request<'_>) -> &str
+    ensures { result.now ≡ trace_name request.entry }
+{
+    match request {
+        Request::Trace(_, traced) => traced.trace,
+        _ => request.file(),
+    }
 }

@@ -26,6 +26,7 @@ pub fn below(
     put_place(&mut below, name, line)?;
     let source = line_at(text, line.saturating_sub(1)).unwrap_or(b"");
     put_quoted(&mut below, source)?;
+    below.extend_from_slice(b"\n")?;
     put_meaning(&mut below, number)?;
     Ok(below)
 }
@@ -51,12 +52,11 @@ fn shown(byte: u8) -> u8
     }
 }
 
-/// The first bytes of a line, and a line feed.
-fn put_quoted(to: &mut Vec<u8>, line: &[u8]) -> Result<(), AllocError>
-    ensures { OnOk result (to.new.items ≡ to.old.items ++ (quoted line.now ++ codes "\n")) }
+/// The first bytes of a line or a word.
+pub(crate) fn put_quoted(to: &mut Vec<u8>, line: &[u8]) -> Result<(), AllocError>
+    ensures { OnOk result (to.new.items ≡ to.old.items ++ quoted line.now) }
 {
     put_shown(to, &line[..line.len().min(MOST_BYTES)])?;
-    to.extend_from_slice(b"\n")?;
     Ok(())
 }
 

@@ -1,5 +1,6 @@
 -- What the names of `watch` stand for (own rules).
-use Rattle.std.specs.Prelude.{◌≡◌, ℕ, ◌≤◌, List, ◌∷◌, ◌++◌, codes}
+use Rattle.std.specs.Prelude.{◌≡◌, ℕ, ◌≤◌, List, ◌∷◌, ◌++◌, codes, map}
+use Rattle.std.specs.Char.{to_ascii_uppercase}
 use Rattle.lift_spec.specs.Snapshot.{task_name}
 use Rattle.lift_watch.specs.declared.names.CarName.{CarName}
 use Rattle.lift_watch.specs.declared.names.CarName.TheVariants.{Pos, Level, Top, Bottom, Locked, Opened, Motor, Open}
@@ -7,6 +8,10 @@ use Rattle.lift_watch.specs.declared.names.Shared.{Shared as SharedName}
 use Rattle.lift_watch.specs.declared.names.Shared.TheVariants.{Now, RunLimit, Fire}
 use Rattle.lift_watch.specs.declared.names.Watched.{Watched}
 use Rattle.lift_watch.specs.declared.names.Watched.TheVariants.{Shared, Car, Variable, Global}
+
+-- a name in upper case, as the language reads it (2.1.1)
+abbrev pub upper_case : List ℕ → List ℕ
+upper_case name = map to_ascii_uppercase name
 
 -- the words of the image that all tasks share
 abbrev pub word_of_shared : SharedName → List ℕ

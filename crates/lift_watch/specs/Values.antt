@@ -1,9 +1,11 @@
 -- What `watch` prints (own rules).
-use Rattle.std.specs.Prelude.{◌≡◌, ℕ, zero, suc, true, false, List, [], ◌∷◌, ◌++◌, flat_map, slice_get, Option, Some, None, option_map, option_and_then, pos, codes, decimal}
+use Rattle.std.specs.Prelude.{◌≡◌, ℕ, zero, suc, true, false, List, [], ◌∷◌, ◌++◌, flat_map, slice_get, Option, Some, None, option_map, option_and_then, pos, codes, decimal, string_bytes}
 use Rattle.std.specs.Fmt.{signed_decimal}
 use Rattle.il_run.specs.declared.value.Value.{Value}
 use Rattle.il_run.specs.declared.value.Value.TheVariants.{Boolean, Integer}
 use Rattle.il_table.specs.NameMap as values
+use Rattle.lift_host.specs.declared.status.Fault.{Fault}
+use Rattle.lift_host.specs.declared.status.Fault.TheVariants.{BadName, NoMemory}
 use Rattle.lift_spec.specs.declared.image.CarFields.{CarFields}
 use Rattle.lift_spec.specs.declared.image.CarOutputs.{CarOutputs}
 use Rattle.lift_spec.specs.declared.image.Fields.{Fields}
@@ -82,11 +84,16 @@ AreWatched w [] (it ∷ watched) = ⊥
 AreWatched w (name ∷ names) [] = ⊥
 AreWatched w (name ∷ names) (it ∷ watched) = IsReadAs name it × (value_of it w ≡ None → ⊥) × AreWatched w names watched
 
--- one of the names has no value in the world
-pub record IsUnknown (w : World) (names : List (List ℕ)) : Type 0 where
+-- this is one of the names, and has no value in the world
+pub record IsUnknown (w : World) (names : List (List ℕ)) (name : List ℕ) : Type 0 where
   pub place : ℕ
-  pub name : List ℕ
   pub stands : slice_get names place ≡ Some name
   pub it : Watched
   pub read : IsReadAs name it
   pub none : value_of it w ≡ None
+
+-- Names can't be watched: the one that is named has no value. Memory may be missing.
+abbrev pub IsUnnamed : World → List (List ℕ) → Fault → Type 0
+IsUnnamed w names (BadName name) = IsUnknown w names (string_bytes name)
+IsUnnamed w names NoMemory = Unit {0}
+IsUnnamed w names _ = ⊥

@@ -1,28 +1,32 @@
 // What `denials` prints.
 
 ghost use Rattle.std.specs.Prelude.{◌≡◌, ◌++◌, [], OnOk, string_bytes};
-ghost use Rattle.lift_watch.specs.Denials.{denial_text, undone_text, answer_text, denials_text, answers_text, denied};
+ghost use Rattle.lift_watch.specs.Denials.{denial_text, refresh_denial_text, refresh_text, is_end_stop, undone_text, answer_text, denials_text, answers_text, denied};
 ghost use Rattle.lift_spec.specs.Snapshot.{task_name};
 
 use lift_runs::observer::Observer;
 use lift_spec::calls::Answer;
-use lift_spec::report::{Denial, Report};
+use lift_spec::report::{Denial, Report, Rule};
 use lift_world::World;
 use std::alloc::{AllocError, Global};
 
 /// Writes a line for each wish, or running motor, that the interlock denies, and for each tell or serve that is not done.
 #[derive(Drop)]
 pub struct Denials {
+    /// Whether also the stops at the ends of the shaft are shown, which no program can avoid.
+    pub all: bool,
     /// The lines so far.
     pub text: String,
 }
 
 impl Denials {
     /// Nothing was seen yet.
-    pub fn new(alloc: Global) -> Denials
-        ensures { string_bytes result.text ≡ [] }
+    pub fn new(alloc: Global, all: bool) -> Denials
+        ensures all { result.all ≡ all }
+        ensures text { string_bytes result.text ≡ [] }
     {
         Denials {
+            all,
             text: String::new(alloc),
         }
     }
@@ -31,14 +35,14 @@ impl Denials {
 impl Observer for Denials {
     ghost text = { λ d. string_bytes d.text };
 
-    ghost shows = { λ _. denied };
+    ghost shows = { λ d. denied d.all };
 
     fn refreshed(&mut self, round: u16, report: &Report) -> Result<(), AllocError> {
-        put_denials(&mut self.text, "refresh", round, report.denials.as_slice())
+        put_refresh(&mut self.text, self.all, round, report.denials.as_slice())
     }
 
     fn committed(&mut self, round: u16, task: u8, report: &Report) -> Result<(), AllocError> {
-        put_denials(&mut self.text, "commit", round, report.denials.as_slice())?;
+        put_denials(&mut self.text, round, report.denials.as_slice())?;
         put_answers(&mut self.text, round, task, report.answers.as_slice())
     }
 
@@ -47,16 +51,56 @@ impl Observer for Denials {
     }
 }
 
-fn put_denials(
+/// The denials of a refresh.
+fn put_refresh(
     text: &mut String,
-    event: &str,
+    all: bool,
     round: u16,
     denials: &[Denial],
 ) -> Result<(), AllocError>
-    ensures { OnOk result (string_bytes text.new ≡ string_bytes text.old ++ denials_text event.now round denials.now) }
+    ensures { OnOk result (string_bytes text.new ≡ string_bytes text.old ++ refresh_text all round denials.now) }
 {
     'denials: for denial in denials {
-        put_denial(text, event, round, *denial)?;
+        put_refresh_denial(text, all, round, *denial)?;
+    }
+    Ok(())
+}
+
+fn put_refresh_denial(
+    text: &mut String,
+    all: bool,
+    round: u16,
+    denial: Denial,
+) -> Result<(), AllocError>
+    ensures { OnOk result (string_bytes text.new ≡ string_bytes text.old ++ refresh_denial_text all round denial) }
+{
+    if all || !is_end_stop(denial.rule) {
+        put_denial(text, "refresh", round, denial)
+    } else {
+        Ok(())
+    }
+}
+
+/// Whether a rule stops a running car at an end of its shaft.
+fn is_end_stop(rule: Rule) -> bool
+    ensures { result ≡ is_end_stop rule }
+{
+    match rule {
+        Rule::Reversal => false,
+        Rule::Unlocked => false,
+        Rule::AtEnd => true,
+        Rule::NotLevel => false,
+        Rule::Crowded => false,
+        Rule::Fire => false,
+    }
+}
+
+/// The denials of a commit.
+fn put_denials(text: &mut String, round: u16, denials: &[Denial]) -> Result<(), AllocError>
+    ensures { OnOk result (string_bytes text.new ≡ string_bytes text.old ++ denials_text round denials.now) }
+{
+    'denials: for denial in denials {
+        put_denial(text, "commit", round, *denial)?;
     }
     Ok(())
 }

@@ -1,10 +1,14 @@
 // What the names of `watch` stand for.
 
-ghost use Rattle.std.specs.Prelude.{◌≡◌, ◌≤◌, ◌<◌, ◌∷◌, ◌++◌, [], ℕ, List, IfSome, IsNone};
+ghost use Rattle.std.specs.Prelude.{◌≡◌, ◌≤◌, ◌<◌, ◌∷◌, ◌++◌, [], ℕ, List, IfSome, IfOk, OnOk, IsNone, map, string_bytes};
+ghost use Rattle.lift_host.specs.Requests.{words_of};
 ghost use Rattle.lift_spec.specs.Snapshot.{task_name};
-ghost use Rattle.lift_watch.specs.Names.{word_of_shared, word_of_car_name, IsReadIn, IsReadAs, IsInTask};
+ghost use Rattle.lift_watch.specs.Names.{upper_case, word_of_shared, word_of_car_name, IsReadIn, IsReadAs, IsInTask};
 ghost use Rattle.lift_watch.specs.declared.names.Shared.{Shared};
 ghost use Rattle.lift_watch.specs.declared.names.CarName.{CarName};
+
+use lift_host::request::Words;
+use std::alloc::{AllocError, Global};
 
 /// A name of the image that all tasks share.
 #[derive(Clone, Copy)]
@@ -81,6 +85,25 @@ impl CarName {
             _ => None,
         }
     }
+}
+
+/// Names in upper case, as the language reads them.
+pub fn upper_names(alloc: Global, names: Words<'_>) -> Result<Vec<String>, AllocError>
+    ensures { IfOk result (λ upper. map string_bytes upper.items ≡ map upper_case (words_of names.entry)) }
+{
+    let mut upper = Vec::new(alloc);
+    add_upper(alloc, &mut upper, names.front)?;
+    add_upper(alloc, &mut upper, names.back)?;
+    Ok(upper)
+}
+
+fn add_upper(alloc: Global, upper: &mut Vec<String>, names: &[String]) -> Result<(), AllocError>
+    ensures { OnOk result (map string_bytes upper.new.items ≡ map string_bytes upper.old.items ++ map upper_case (map string_bytes names.now)) }
+{
+    'names: for name in names {
+        upper.push(name.to_ascii_uppercase(alloc)?)?;
+    }
+    Ok(())
 }
 
 /// What a name stands for: a name of the image, otherwise a variable of the task whose name stands before its first period, and

@@ -1,14 +1,11 @@
 // What `watch` prints.
 
-ghost use Rattle.std.specs.Prelude.{◌≡◌, ◌⊎◌, ◌++◌, [], ℕ, List, None, flat_map, IfOk, IfErr, OnOk, map, string_bytes, codes};
-ghost use Rattle.lift_host.specs.Requests.{words_of};
-ghost use Rattle.lift_host.specs.declared.status.Fault.TheVariants.{BadName, NoMemory};
+ghost use Rattle.std.specs.Prelude.{◌≡◌, ◌++◌, [], None, flat_map, IfOk, IfErr, OnOk, map, string_bytes, codes};
 ghost use Rattle.lift_spec.specs.Snapshot.{motor_number};
-ghost use Rattle.lift_watch.specs.Values.{shared_value, value_in_car, car_value_in, value_of, value_text, names_text, values_text, row_text, header_text, AreWatched, IsUnknown};
+ghost use Rattle.lift_watch.specs.Values.{shared_value, value_in_car, car_value_in, value_of, value_text, names_text, values_text, row_text, header_text, AreWatched, IsUnnamed};
 
 use crate::names::{CarName, Shared, Watched, read};
 use il_machine::Value;
-use lift_host::request::Words;
 use lift_host::status::Fault;
 use lift_image::{CarFields, CarOutputs, Fields, Image, Motor};
 use lift_runs::observer::Observer;
@@ -28,10 +25,10 @@ pub struct Watch<'n> {
 
 impl<'n> Watch<'n> {
     /// Of these names, which have values in the world. The line of the names is written.
-    pub fn of(alloc: Global, world: &World, names: Words<'n>) -> Result<Watch<'n>, Fault>
-        ensures known { IfOk result (λ watch. AreWatched world.now.world (words_of names.entry) watch.watched) }
-        ensures header { IfOk result (λ watch. string_bytes watch.text ≡ header_text (words_of names.entry)) }
-        ensures unknown { IfErr result (λ fault. (fault ≡ NoMemory) ⊎ ((fault ≡ BadName) × IsUnknown world.now.world (words_of names.entry))) }
+    pub fn of(alloc: Global, world: &World, names: &'n [String]) -> Result<Watch<'n>, Fault>
+        ensures known { IfOk result (λ watch. AreWatched world.now.world (map string_bytes names.now) watch.watched) }
+        ensures header { IfOk result (λ watch. string_bytes watch.text ≡ header_text (map string_bytes names.now)) }
+        ensures unknown { IfErr result (IsUnnamed world.now.world (map string_bytes names.now)) }
     {
         let watched = watched_of(alloc, world, names)?;
         let text = header(alloc, names)?;
@@ -60,47 +57,32 @@ impl Observer for Watch<'_> {
     }
 }
 
-/// What names stand for.
+/// What names stand for, where each has a value.
 fn watched_of<'n>(
     alloc: Global,
     world: &World,
-    names: Words<'n>,
+    names: &'n [String],
 ) -> Result<Items<Watched<'n>>, Fault>
-    ensures known { IfOk result (λ watched. AreWatched world.now.world (words_of names.entry) watched) }
-    ensures unknown { IfErr result (λ fault. (fault ≡ NoMemory) ⊎ ((fault ≡ BadName) × IsUnknown world.now.world (words_of names.entry))) }
+    ensures known { IfOk result (λ watched. AreWatched world.now.world (map string_bytes names.now) watched) }
+    ensures unknown { IfErr result (IsUnnamed world.now.world (map string_bytes names.now)) }
 {
     let mut watched = Items::new(alloc);
-    add_names(&mut watched, world, names.front)?;
-    add_names(&mut watched, world, names.back)?;
-    Ok(watched)
-}
-
-/// Adds what names stand for, where each has a value.
-fn add_names<'n>(
-    watched: &mut Items<Watched<'n>>,
-    world: &World,
-    names: &'n [String],
-) -> Result<(), Fault>
-    ensures known { OnOk result ((before : List (List ℕ)) → AreWatched world.now.world before watched.old → AreWatched world.now.world (before ++ map string_bytes names.now) watched.new) }
-    ensures unknown { IfErr result (λ fault. (fault ≡ NoMemory) ⊎ ((fault ≡ BadName) × IsUnknown world.now.world (map string_bytes names.now))) }
-{
     'names: for name in names {
         let it = read(name);
         if value_of(world, it).is_none() {
-            return Err(Fault::BadName);
+            return Err(Fault::BadName(String::from_str(alloc, name)?));
         }
         watched.push(it)?;
     }
-    Ok(())
+    Ok(watched)
 }
 
 /// The line of the names.
-fn header(alloc: Global, names: Words<'_>) -> Result<String, AllocError>
-    ensures { IfOk result (λ text. string_bytes text ≡ header_text (words_of names.entry)) }
+fn header(alloc: Global, names: &[String]) -> Result<String, AllocError>
+    ensures { IfOk result (λ text. string_bytes text ≡ header_text (map string_bytes names.now)) }
 {
     let mut text = String::from_str(alloc, "ROUND")?;
-    put_names(&mut text, names.front)?;
-    put_names(&mut text, names.back)?;
+    put_names(&mut text, names)?;
     text.push_str("\n")?;
     Ok(text)
 }

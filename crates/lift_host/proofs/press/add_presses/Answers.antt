@@ -1,17 +1,18 @@
-use Rattle.std.proofs.Common.{refl, sym, ◌++◌, ◌+◌, ◌∷◌, [], map, take, subst}
+use Rattle.std.proofs.Common.{refl, sym, ◌≡◌, ◌∙◌, ◌++◌, ◌+◌, ◌∷◌, [], map, take, subst}
 use Rattle.std.specs.Prelude.{string_bytes}
-use Rattle.lift_host.specs.Presses.{IsPress, AreOfWords}
+use Rattle.lift_host.specs.Presses.{IsPress, AreOfWords, HasNoPress}
 use Rattle.lift_host.proofs.Apart.{stands}
 use Rattle.lift_host.proofs.Parts.{one_more, so_far}
 use Rattle.lift_host.proofs.press.add_presses.Goals as goal
 
 pub returns-in-None-clause-err : goal.returns-in-None-clause-err
-returns-in-None-clause-err c = λ _. record {
-  place = c.words.word-index;
-  word = c.deref.result.now;
-  stands = stands c.args.words.now c.words.word-index c.word-item.result c.deref.result.now c.words-test.true c.word-item.is c.deref.ensures;
-  none = c.in-None.ensures.none refl;
-}
+returns-in-None-clause-err c =
+    let named : string_bytes c.in_ok-from_str-in-None.field-0 ≡ c.deref.result.now = c.in_ok-from_str-in-None.ensures.ok ∙ c.deref-in-None.ensures ∙ sym c.deref.ensures in
+    subst (HasNoPress c.args.rounds c.args.floors (map string_bytes c.args.words.now)) (sym named) (record {
+      place = c.words.word-index;
+      stands = stands c.args.words.now c.words.word-index c.word-item.result c.deref.result.now c.words-test.true c.word-item.is c.deref.ensures;
+      none = c.in-None.ensures.none refl;
+    })
 
 pub words-preserved : goal.words-preserved
 words-preserved c = λ before are.

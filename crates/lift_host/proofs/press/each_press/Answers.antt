@@ -1,23 +1,18 @@
-use Rattle.std.proofs.Common.{rules, [], map, ◌++◌, List, ◌≡◌}
+use Rattle.std.proofs.Common.{rules, [], map}
 use Rattle.std.specs.Prelude.{string_bytes}
-use Rattle.lift_host.specs.Presses.{AreOfWords}
-use Rattle.lift_host.specs.declared.press.Press.{Press}
-use Rattle.lift_host.specs.declared.press.PressFault.TheVariants.{Bad}
 use Rattle.lift_host.proofs.Parts.{none_in_front, none_in_back, of_none}
 use Rattle.lift_host.proofs.press.each_press.Goals as goal
 
 pub returns-in_err-add_presses-clause-err : goal.returns-in_err-add_presses-clause-err
 returns-in_err-add_presses-clause-err c =
     let e = c.from_residual.ensures in
-    let h : c.in_err-add_presses.field-0.0 ≡ Bad → (presses : List Press) → AreOfWords c.args.rounds c.args.floors (map string_bytes c.args.words.front.now ++ map string_bytes c.args.words.back.now) presses → ⊥
-    = λ bad. none_in_front c.args.rounds c.args.floors (map string_bytes c.args.words.front.now) (map string_bytes c.args.words.back.now) (c.in_err-add_presses.ensures.err bad) in
+    let h = none_in_front c.args.rounds c.args.floors (map string_bytes c.args.words.front.now) (map string_bytes c.args.words.back.now) c.in_err-add_presses.field-0.0 c.in_err-add_presses.ensures.err in
     search (rules, e, h)
 
 pub returns-in_err-add_presses-2-clause-err : goal.returns-in_err-add_presses-2-clause-err
 returns-in_err-add_presses-2-clause-err c =
     let e = c.from_residual-in_err-add_presses-2.ensures in
-    let h : c.in_err-add_presses-2.field-0.0 ≡ Bad → (presses : List Press) → AreOfWords c.args.rounds c.args.floors (map string_bytes c.args.words.front.now ++ map string_bytes c.args.words.back.now) presses → ⊥
-    = λ bad. none_in_back c.args.rounds c.args.floors (map string_bytes c.args.words.front.now) (map string_bytes c.args.words.back.now) (c.in_err-add_presses-2.ensures.err bad) in
+    let h = none_in_back c.args.rounds c.args.floors (map string_bytes c.args.words.front.now) (map string_bytes c.args.words.back.now) c.in_err-add_presses-2.field-0.0 c.in_err-add_presses-2.ensures.err in
     search (rules, e, h)
 
 pub returns-clause-ok : goal.returns-clause-ok

@@ -1,4 +1,5 @@
-use Rattle.std.proofs.Common.{ap, ◌∙◌, ◌∷◌}
+use Rattle.std.proofs.Common.{ap, sym, ◌∙◌, ◌∷◌, ◌≡◌, ℕ, List}
+use Rattle.std.specs.Prelude.{option_map}
 use Rattle.lift_host.specs.Requests.{words_of}
 use Rattle.lift_host.proofs.request.rounds_given.Goals as goal
 
@@ -11,3 +12,12 @@ returns-clause-some c = record {
   is_rounds = c.in_ok-rounds-2.ensures.some;
   plain = c.in_ok-positional.ensures.plain;
 }
+
+cut : {x y : List ℕ} {xs ys : List (List ℕ)} → x ∷ xs ≡ y ∷ ys → xs ≡ ys
+cut e = cc
+
+pub returns-clause-only : goal.returns-clause-only
+returns-clause-only c = λ rounds given.
+    let one = c.in_ok-positional.ensures.only given.positional (option_map (λ value. value.now) rounds.fire) given.apart given.plain in
+    let mine = c.in_ok-file.ensures.some ∙ ap (λ ws. c.in_ok-file.file.now ∷ ws) c.in_ok-rounds.ensures.some in
+    cut (cut (sym given.parts ∙ one ∙ mine))

@@ -1,5 +1,5 @@
-use Rattle.std.proofs.Common.{◌≡◌, ℕ, Bool, List}
-use Rattle.lift_host.specs.Requests.{IsFile, IsChecked, AreFiles, GiveRounds, Takes, command_of}
+use Rattle.std.proofs.Common.{◌≡◌, ℕ, Bool, List, subst}
+use Rattle.lift_host.specs.Requests.{IsFile, IsChecked, AreFiles, GiveRounds, NeedsName, Takes, command_of, words_of}
 use Rattle.lift_host.specs.declared.request.Following.{Following}
 use Rattle.lift_host.specs.declared.request.Name.TheVariants as name
 use Rattle.lift_host.specs.declared.request.Request.{Request}
@@ -20,10 +20,10 @@ no_file words command none (request.Show other file) is takes = none file.now ta
 no_file words command none (request.Rounds other rounds) is takes = cc
 no_file words command none (request.Trace other traced) is takes = cc
 
-no_rounds : (words : List (List ℕ)) (command : Simulating) → ((rounds : Rounds) → GiveRounds words rounds → ⊥) → (r : Request) → command_of r ≡ name.Rounds command → Takes words r → ⊥
+no_rounds : (words : List (List ℕ)) (command : Simulating) → ((rounds : Rounds) → GiveRounds words rounds → NeedsName command (words_of rounds.presses) → ⊥) → (r : Request) → command_of r ≡ name.Rounds command → Takes words r → ⊥
 no_rounds words command none (request.Check checked) is takes = cc
 no_rounds words command none (request.Show other file) is takes = cc
-no_rounds words command none (request.Rounds other rounds) is takes = none rounds takes
+no_rounds words command none (request.Rounds other rounds) is takes = let same : other ≡ command = cc in none rounds takes.0 (subst (λ k. NeedsName k (words_of rounds.presses)) same takes.1)
 no_rounds words command none (request.Trace other traced) is takes = cc
 
 no_trace : (words : List (List ℕ)) (command : Following) → ((file trace : List ℕ) → AreFiles words file trace → ⊥) → (r : Request) → command_of r ≡ name.Trace command → Takes words r → ⊥

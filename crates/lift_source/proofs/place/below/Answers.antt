@@ -16,6 +16,8 @@ returns c =
       is_meaning = c.in_ok-put_meaning.ensures.1;
       is =
           c.in_ok-put_meaning.ensures.2
-          ∙ ap (λ l. l ++ meaning) (c.in_ok-put_quoted.ensures ∙ ap (λ l. l ++ (quoted source ++ 10 ∷ [])) (c.in_ok-put_place.ensures ∙ ap (λ l. l ++ place) c.new-below.ensures.items))
+          ∙ ap (λ l. l ++ meaning)
+          (c.in_ok-extend_from_slice.ensures.items ∙ ap (λ l. l ++ 10 ∷ []) (c.in_ok-put_quoted.ensures ∙ ap (λ l. l ++ quoted source) (c.in_ok-put_place.ensures ∙ ap (λ l. l ++ place) c.new-below.ensures.items))
+          ∙ append_assoc place (quoted source) (10 ∷ []))
           ∙ append_assoc place (quoted source ++ 10 ∷ []) meaning;
     }
