@@ -442,14 +442,14 @@ fn answer_to(alloc: Global, error: clap::Error) -> Answer {
         return Answer::NoMemory;
     }
     match format!(in alloc; "{error}") {
-        Ok(text) if error.use_stderr() => misuse(alloc, &text),
+        Ok(text) if error.use_stderr() => answer_to_misuse(alloc, &text),
         Ok(text) => Answer::Help(text),
         Err(_) => Answer::NoMemory,
     }
 }
 
 /// What the parser says of wrong words, without its tip to put `--` before them, which the commands don't take.
-fn misuse(alloc: Global, text: &str) -> Answer {
+fn answer_to_misuse(alloc: Global, text: &str) -> Answer {
     match without_tip(alloc, text) {
         Ok(text) => Answer::Misuse(text),
         Err(_) => Answer::NoMemory,
