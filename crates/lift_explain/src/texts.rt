@@ -157,7 +157,7 @@ pub(crate) const TEXTS: [Meaning; 44] = [
     },
     Meaning {
         number: 70,
-        text: "70: the journal is full\n\nA start, a commit or a refresh of a station whose journal has no room for another entry. It changes nothing, and so do all later ones: motors and doors keep their last command. The room is what the station was opened with, at most 1000000 entries. `liftplc` itself ends with `no memory` where a run can't have its journal.\n\nClose the station in time: close gives the journal. Open the next one with as many entries as the run makes: two for each scan, and one for each refresh.\n",
+        text: "70: the journal is full\n\nA start, a commit or a refresh of a station whose journal has no room for another entry. It changes nothing, and so do all later ones: motors and doors keep their last command. The room is what the station was opened with. `liftplc` itself ends with `no memory` where a run can't have its journal.\n\nClose the station in time: close gives the journal. Open the next one with as many entries as the run makes: two for each scan, and one for each refresh.\n",
     },
     Meaning {
         number: 71,
