@@ -1,6 +1,6 @@
 // The program, over its words.
 
-ghost use Rattle.std.specs.Prelude.{◌≡◌, ◌≢◌, ◌⊎◌, ◌↔◌, [], Bool, Err, IfOk, IfErr, IsTrue, true, false, map, string_bytes};
+ghost use Rattle.std.specs.Prelude.{◌≡◌, ◌≢◌, ◌⊎◌, ◌||◌, ◌↔◌, [], Bool, Err, IfOk, IfErr, IsTrue, true, false, map, string_bytes};
 ghost use Rattle.std.specs.Io.KnownBytes.{Appends, Keeps};
 ghost use Rattle.lift_host.specs.Requests.{name_of};
 ghost use Rattle.lift_shell.specs.Runs.{IsFileAnswer, IsAnswer, IsRunAnswer, IsWordsOutcome, IsTraceRead, IsBelow, IsFaultBelow, IsWanted, IsUnreadBelow, IsLateName, HasWritten, HasShown, HasTold, source_of, trace_name, press_sentence};
@@ -75,7 +75,7 @@ fn answer<R: Threads + Wait + Sync, F: TextFiles, C: Commands>(
 {
     match read_words(alloc, words) {
         Ok(plain) => {
-            let wanted = explains || plain.explains;
+            let wanted = is_wanted(explains, plain.explains);
             plain_answer(rt, alloc, &plain.words, plain.all, files, commands, wanted)
         }
         Err(_) => Answered {
@@ -83,6 +83,13 @@ fn answer<R: Threads + Wait + Sync, F: TextFiles, C: Commands>(
             below: Vec::new(alloc),
         },
     }
+}
+
+/// Whether faults are to be explained: always, or where the words say so.
+fn is_wanted(always: bool, said: bool) -> bool
+    ensures { result ≡ (always || said) }
+{
+    always || said
 }
 
 /// The answer to words as they are read.
