@@ -79,7 +79,7 @@ fn name_never(origin: Origin, steps: &[Step], name: &Declared<'_>) -> Option<Nev
     }
     let read = is_used(Manner::Read, name.name, steps);
     let written = is_used(Manner::Written, name.name, steps);
-    never_of(origin, read, written)
+    never_of(origin, name.has_initial, read, written)
 }
 
 // What the program of a car does not store.
@@ -127,7 +127,7 @@ fn global_never(units: &[Unit], name: &Declared<'_>) -> Option<Never>
 {
     let read = is_global_used(Manner::Read, name.name, units);
     let written = is_global_used(Manner::Written, name.name, units);
-    variable_never(read, written)
+    variable_never(name.has_initial, read, written)
 }
 
 fn put_tasks(text: &mut String, tasks: &[Task]) -> Result<(), AllocError>

@@ -6,12 +6,14 @@ ghost use Rattle.lift_xref.specs.Names.{declared_names, is_declared, declares, i
 
 use il_spec::tree::{Declaration, Form, Named, Unit};
 
-/// A declared name, its line, and whether it is an instance of a function block.
+/// A declared name, its line, whether it is an instance of a function block, and whether it has an
+/// initial value.
 #[derive(Clone, Copy)]
 pub struct Declared<'c> {
     pub name: &'c str,
     pub line: u32,
     pub is_instance: bool,
+    pub has_initial: bool,
 }
 
 /// The names that are left of declarations.
@@ -21,6 +23,8 @@ pub struct DeclaredNames<'c> {
     pub names: &'c [Named],
     /// Whether that one declares instances.
     pub is_instance: bool,
+    /// Whether that one has an initial value.
+    pub has_initial: bool,
     /// The declarations behind it.
     pub declarations: &'c [Declaration],
 }
@@ -32,6 +36,7 @@ pub fn declared_names<'c>(declarations: &'c [Declaration]) -> DeclaredNames<'c>
     DeclaredNames {
         names: &[],
         is_instance: false,
+        has_initial: false,
         declarations,
     }
 }
@@ -51,11 +56,13 @@ impl<'c> Iterator for DeclaredNames<'c> {
                     name: named.name.as_str(),
                     line: named.place.line,
                     is_instance: self.is_instance,
+                    has_initial: self.has_initial,
                 });
             }
             let (declaration, declarations) = self.declarations.split_first()?;
             self.names = declaration.names.as_slice();
             self.is_instance = is_block(&declaration.declared.form);
+            self.has_initial = declaration.initial.is_some();
             self.declarations = declarations;
         }
     }
