@@ -1,10 +1,13 @@
 // The names that declarations give.
 
-ghost use Rattle.std.specs.Prelude.{◌≡◌};
+ghost use Rattle.std.specs.Prelude.{◌≡◌, ◌||◌, List, ℕ, is_some, IfOk, OnOk};
 ghost use Rattle.std.specs.Iterator.{YieldsFirstBy, item_count};
+ghost use Rattle.il_table.specs.NameMap.{get};
 ghost use Rattle.lift_xref.specs.Names.{declared_names, is_declared, declares, is_block, name_shown, names_left};
 
 use il_spec::tree::{Declaration, Form, Named, Unit};
+use il_table::Table;
+use std::alloc::{AllocError, Global};
 
 /// A declared name, its line, whether it is an instance of a function block, and whether it has an
 /// initial value.
@@ -75,24 +78,28 @@ pub fn is_block(form: &Form) -> bool
     matches!(form, Form::Block(_))
 }
 
-/// Whether declarations give a name.
-pub fn is_declared(declarations: &[Declaration], name: &str) -> bool
-    ensures { result ≡ is_declared declarations.now name.now }
+/// The names that a unit declares, externals among them, each with an entry.
+pub fn name_table(alloc: Global, unit: &Unit) -> Result<Table<bool>, AllocError>
+    ensures { IfOk result (λ table. (name : List ℕ) → is_some (get table name) ≡ declares unit.now name) }
 {
-    'names: for declared in declared_names(declarations) {
-        if declared.name == name {
-            return true;
-        }
-    }
-    false
+    let mut table = Table::new(alloc);
+    put_names(alloc, &mut table, unit.inputs.as_slice())?;
+    put_names(alloc, &mut table, unit.outputs.as_slice())?;
+    put_names(alloc, &mut table, unit.variables.as_slice())?;
+    put_names(alloc, &mut table, unit.externals.as_slice())?;
+    Ok(table)
 }
 
-/// Whether a unit declares a name, an external among them.
-pub fn declares(unit: &Unit, name: &str) -> bool
-    ensures { result ≡ declares unit.now name.now }
+// Puts the names that declarations give into a table.
+fn put_names(
+    alloc: Global,
+    table: &mut Table<bool>,
+    declarations: &[Declaration],
+) -> Result<(), AllocError>
+    ensures { OnOk result ((name : List ℕ) → is_some (get table.new name) ≡ (is_some (get table.old name) || is_declared declarations.now name)) }
 {
-    is_declared(unit.inputs.as_slice(), name)
-        || is_declared(unit.outputs.as_slice(), name)
-        || is_declared(unit.variables.as_slice(), name)
-        || is_declared(unit.externals.as_slice(), name)
+    'names: for declared in declared_names(declarations) {
+        table.put(alloc, declared.name, true)?;
+    }
+    Ok(())
 }
