@@ -1,18 +1,17 @@
 -- Texts by name and manner: what is pushed in one manner leaves the others.
-use Rattle.std.proofs.Common.{◌≡◌, ℕ, Bool, true, false, ◌||◌, ◌&&◌, if◌then◌else◌, List, [], ◌∷◌, ◌++◌, flat_map, refl, sym, ap, ◌∙◌, subst, append_assoc, take, length, get_or, ◌+◌, ◌<◌, ◌≤◌}
+use Rattle.std.proofs.Common.{◌≡◌, ℕ, Bool, true, false, if◌then◌else◌, List, [], ◌∷◌, ◌++◌, flat_map, refl, sym, ap, ◌∙◌, subst, append_assoc, take, length, get_or, ◌+◌, ◌<◌}
 use Rattle.std.proofs.lemmas.List.{append-nil, take_more}
 use Rattle.std.proofs.lemmas.Grind.{flat_map-append}
 use Rattle.std.specs.Prelude.{bytes_eq, codes, decimal, is_some}
-use Rattle.std.specs.List.{list_any}
 use Rattle.il_spec.specs.declared.tree.Step.{Step}
 use Rattle.il_spec.specs.declared.tree.Unit.{Unit as ProgramUnit}
 use Rattle.il_table.specs.NameMap.{NameMap, get, insert}
 use Rattle.il_rules.specs.Names.{Spelling}
-use Rattle.lift_xref.specs.Names.{DeclaredName, is_declared}
+use Rattle.lift_xref.specs.Names.{is_declared}
 use Rattle.lift_xref.specs.Uses.{NameUse, is_use, use_shown}
 use Rattle.lift_xref.specs.Xref.{behind, use_line, use_lines, unit_places, global_places}
-use Rattle.lift_xref.specs.Texts.{IsSound, text_of, piece_at}
-use Rattle.lift_xref.specs.Lines.{line_of, AreSound, piece_for, ArePushed, HaveUses, unit_lines, places_at}
+use Rattle.lift_xref.specs.Texts.{text_of, piece_at}
+use Rattle.lift_xref.specs.Lines.{line_of, piece_for, ArePushed, HaveUses, unit_lines, places_at}
 use Rattle.lift_xref.specs.declared.uses.Manner.{Manner}
 use Rattle.lift_xref.specs.declared.uses.Manner.TheVariants.{Read, Written, Called}
 use Rattle.lift_xref.specs.declared.uses.Use.{Use}

@@ -1,5 +1,5 @@
 -- Which names were seen: those in a table, and those that are left.
-use Rattle.std.proofs.Common.{◌≡◌, ℕ, Bool, true, false, ◌||◌, if◌then◌else◌, cond, List, [], ◌∷◌, ◌++◌, Option, Some, None, refl, sym, ap, ◌∙◌, subst}
+use Rattle.std.proofs.Common.{◌≡◌, Bool, true, false, ◌||◌, if◌then◌else◌, cond, List, [], ◌∷◌, ◌++◌, Option, Some, refl, sym, ap, ◌∙◌}
 use Rattle.std.proofs.lemmas.Map.Text.{is_eq-slice_cmp}
 use Rattle.std.specs.Prelude.{bytes_eq, is_some}
 use Rattle.std.specs.List.{list_any}
@@ -10,7 +10,7 @@ use Rattle.il_rules.specs.Names.{Spelling, is_one_of}
 use Rattle.lift_xref.specs.Names.{DeclaredName, is_declared, declares}
 use Rattle.lift_xref.specs.Uses.{NameUse}
 use Rattle.lift_xref.specs.Xref.{other_names}
-use Rattle.lift_xref.proofs.Bytes.{same_bytes, bytes_same, bytes_swap}
+use Rattle.lift_xref.proofs.Bytes.{same_bytes, bytes_swap}
 
 -- ONE MORE NAME
 

@@ -1,7 +1,7 @@
 -- Where a text of pieces is there.
 use Rattle.std.proofs.Common.{◌≡◌, ℕ, Bool, true, false, ◌||◌, ◌&&◌, if◌then◌else◌, List, [], ◌∷◌, ◌++◌, flat_map, length, not, ◌==◌, refl, ap, ◌∙◌, arith}
 use Rattle.std.proofs.lemmas.Bool.Decides.{nat_tests}
-use Rattle.std.specs.Prelude.{codes, decimal}
+use Rattle.std.specs.Prelude.{decimal}
 use Rattle.std.specs.List.{list_any}
 use Rattle.il_spec.specs.declared.tree.Step.{Step}
 use Rattle.il_spec.specs.declared.tree.Unit.{Unit as ProgramUnit}
@@ -10,7 +10,6 @@ use Rattle.lift_xref.specs.Names.{is_declared}
 use Rattle.lift_xref.specs.Uses.{uses, is_use, is_used}
 use Rattle.lift_xref.specs.Xref.{is_there, behind, use_line, use_lines, uses_global, unit_places, global_places}
 use Rattle.lift_xref.specs.declared.uses.Manner.{Manner}
-use Rattle.lift_xref.specs.declared.uses.Manner.TheVariants.{Read, Written, Called}
 
 is_there-append : (a b : List ℕ) → is_there (a ++ b) ≡ (is_there a || is_there b)
 is_there-append [] b = refl

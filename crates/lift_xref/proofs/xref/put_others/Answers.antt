@@ -1,8 +1,8 @@
-use Rattle.std.proofs.Common.{◌≡◌, ◌++◌, ◌∷◌, [], flat_map, sym, ap, ◌∙◌, append_assoc, string_bytes}
+use Rattle.std.proofs.Common.{◌++◌, flat_map, sym, ap, ◌∙◌, append_assoc, string_bytes}
 use Rattle.std.proofs.lemmas.List.{append-nil}
 use Rattle.std.specs.Prelude.{is_some}
 use Rattle.lift_xref.specs.Uses.{uses, use_shown, uses_left}
-use Rattle.lift_xref.specs.Xref.{other_line, other_names}
+use Rattle.lift_xref.specs.Xref.{other_line}
 use Rattle.lift_xref.proofs.Seen.{unseen, unseen_first, unseen_seen, unseen_new}
 use Rattle.lift_xref.proofs.xref.put_others.Goals as goal
 

@@ -1,4 +1,4 @@
-use Rattle.std.proofs.Common.{◌≡◌, length, sym, ap, ◌∙◌, Option, None, ℕ, arith}
+use Rattle.std.proofs.Common.{◌≡◌, length, sym, ap, ◌∙◌, None, arith}
 use Rattle.il_table.specs.NameMap.{get, insert}
 use Rattle.lift_xref.specs.Texts.{IsSound, text_of}
 use Rattle.lift_xref.proofs.Numbered.{new_texts, new_numbers, new_found}
