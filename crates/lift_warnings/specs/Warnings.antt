@@ -29,29 +29,36 @@ abbrev pub called_never : Bool → Option Never
 called_never true = None
 called_never false = Some Called
 
--- of a variable or a global, by whether it is read, and whether it is written
-abbrev pub variable_never : Bool → Bool → Option Never
-variable_never true true = None
-variable_never true false = Some Written
-variable_never false true = Some Read
-variable_never false false = Some Used
+-- of a variable or a global, by whether it has an initial value, whether it is read, and whether it is written: an initial
+-- value that is read and never written is a constant
+abbrev pub variable_never : Bool → Bool → Bool → Option Never
+variable_never has_initial true true = None
+variable_never has_initial true false = if has_initial then None else Some Written
+variable_never has_initial false true = Some Read
+variable_never has_initial false false = Some Used
 
--- of a name that is no instance, by the list that declares it: an input comes from the caller, an output goes
--- to it, and an external is written and read elsewhere too
-abbrev pub never_of : Origin → Bool → Bool → Option Never
-never_of Input read written = if read then None else Some Read
-never_of Output read written = if written then None else variable_never read false
-never_of Variable read written = variable_never read written
-never_of External read written = if read || written then None else Some Used
+-- of an output, which goes to the caller: an initial value that is never written tells the caller nothing
+abbrev pub output_never : Bool → Bool → Option Never
+output_never read true = None
+output_never true false = Some Written
+output_never false false = Some Used
+
+-- of a name that is no instance, by the list that declares it, and whether it has an initial value: an input comes from the
+-- caller, and an external is written and read elsewhere too
+abbrev pub never_of : Origin → Bool → Bool → Bool → Option Never
+never_of Input has_initial read written = if read then None else Some Read
+never_of Output has_initial read written = output_never read written
+never_of Variable has_initial read written = variable_never has_initial read written
+never_of External has_initial read written = if read || written then None else Some Used
 
 -- of a declared name, by the steps of its unit
 abbrev pub name_never : Origin → List Step → DeclaredName → Option Never
 name_never origin steps n =
-    if n.is_instance then called_never (is_used IsCalled n.name steps) else never_of origin (is_used IsRead n.name steps) (is_used IsWritten n.name steps)
+    if n.is_instance then called_never (is_used IsCalled n.name steps) else never_of origin n.has_initial (is_used IsRead n.name steps) (is_used IsWritten n.name steps)
 
 -- of a global, by all units that list it
 abbrev pub global_never : List ProgramUnit → DeclaredName → Option Never
-global_never units n = variable_never (list_any (uses_global IsRead n.name) units) (list_any (uses_global IsWritten n.name) units)
+global_never units n = variable_never n.has_initial (list_any (uses_global IsRead n.name) units) (list_any (uses_global IsWritten n.name) units)
 
 -- the word of it
 abbrev pub never_word : Never → List ℕ

@@ -1,66 +1,121 @@
 // Whether something calls or declares a unit.
 
-ghost use Rattle.std.specs.Prelude.{◌≡◌};
+ghost use Rattle.std.specs.Prelude.{◌≡◌, ◌||◌, List, ℕ, is_some, IfOk, OnOk};
+ghost use Rattle.std.specs.List.{list_any};
+ghost use Rattle.il_spec.specs.declared.tree.Unit.{Unit as ProgramUnit};
+ghost use Rattle.il_table.specs.NameMap.{get};
+ghost use Rattle.lift_xref.specs.Uses.{is_use, is_used, use_shown};
+ghost use Rattle.lift_xref.specs.declared.uses.Manner.TheVariants.{Called as IsCalled};
 ghost use Rattle.lift_warnings.specs.Warnings.{is_called, is_block_of, have_instance, has_instance, is_needed, is_name, is_car_task, drives_car};
 
-use il_spec::tree::{Config, Declaration, Form, ProgramLine, UnitKind};
-use lift_xref::uses::{Manner, is_used};
+use il_spec::tree::{Config, Declaration, Form, ProgramLine, Step, Unit, UnitKind};
+use il_table::Table;
+use lift_xref::uses::{Manner, Use, uses};
+use std::alloc::{AllocError, Global};
 
-/// Whether a unit is called, or declared as an instance, as its kind asks for. A program is: one that no PROGRAM line names is refused.
-pub fn is_needed(config: &Config, kind: UnitKind, name: &str) -> bool
-    ensures { result ≡ is_needed config.now kind name.now }
-{
-    match kind {
-        UnitKind::Function(_, _) => is_called(config, name),
-        UnitKind::FunctionBlock => has_instance(config, name),
-        UnitKind::Program => true,
-    }
+/// A configuration, with the names that its bodies call, and those of the function blocks of
+/// which its units declare an instance.
+#[derive(Drop)]
+pub struct Needed<'c> {
+    pub config: &'c Config,
+    called: Table<bool>,
+    declared: Table<bool>,
+    ghost calls: { (name : List ℕ) → is_some (get called name) ≡ is_called config.now name },
+    ghost instances: { (name : List ℕ) → is_some (get declared name) ≡ has_instance config.now name },
 }
 
-// Whether a body calls a function.
-fn is_called(config: &Config, name: &str) -> bool
-    ensures { result ≡ is_called config.now name.now }
-{
-    let units = config.units.as_slice();
-    'units: for unit in units {
-        if is_used(Manner::Called, name, unit.body.steps.as_slice()) {
-            return true;
+impl<'c> Needed<'c> {
+    /// What a configuration calls and declares, in one pass over its units.
+    pub fn of(alloc: Global, config: &'c Config) -> Result<Needed<'c>, AllocError>
+        ensures { IfOk result (λ needed. needed.config.now ≡ config.now) }
+    {
+        let called = called_names(alloc, config.units.as_slice())?;
+        let declared = blocks_of_instances(alloc, config.units.as_slice())?;
+        Ok(Needed {
+            config,
+            called,
+            declared,
+        })
+    }
+
+    /// Whether a unit is called, or declared as an instance, as its kind asks for. A program is:
+    /// one that no PROGRAM line names is refused.
+    pub fn has(&self, kind: UnitKind, name: &str) -> bool
+        ensures { result ≡ is_needed self.now.config.now kind name.now }
+    {
+        match kind {
+            UnitKind::Function(_, _) => self.called.get(name).is_some(),
+            UnitKind::FunctionBlock => self.declared.get(name).is_some(),
+            UnitKind::Program => true,
         }
     }
-    false
 }
 
-// Whether a unit declares an instance of a function block.
-fn has_instance(config: &Config, name: &str) -> bool
-    ensures { result ≡ has_instance config.now name.now }
+// The names that bodies call.
+fn called_names(alloc: Global, units: &[Unit]) -> Result<Table<bool>, AllocError>
+    ensures { IfOk result (λ table. (name : List ℕ) → is_some (get table name) ≡ list_any (λ (u : ProgramUnit). is_used IsCalled name u.body.steps) units.now) }
 {
-    let units = config.units.as_slice();
+    let mut table = Table::new(alloc);
     'units: for unit in units {
-        if have_instance(name, unit.variables.as_slice()) {
-            return true;
-        }
+        put_called(alloc, &mut table, unit.body.steps.as_slice())?;
     }
-    false
+    Ok(table)
 }
 
-// Whether declarations have an instance of a function block.
-fn have_instance(name: &str, declarations: &[Declaration]) -> bool
-    ensures { result ≡ have_instance name.now declarations.now }
+// Puts the names that steps call into a table.
+fn put_called(alloc: Global, table: &mut Table<bool>, steps: &[Step]) -> Result<(), AllocError>
+    ensures { OnOk result ((name : List ℕ) → is_some (get table.new name) ≡ (is_some (get table.old name) || is_used IsCalled name steps.now)) }
+{
+    'uses: for used in uses(steps) {
+        put_use(alloc, table, &used)?;
+    }
+    Ok(())
+}
+
+// Puts the name of a use into a table, if it is called.
+fn put_use(alloc: Global, table: &mut Table<bool>, used: &Use<'_>) -> Result<(), AllocError>
+    ensures { OnOk result ((name : List ℕ) → is_some (get table.new name) ≡ (is_some (get table.old name) || is_use IsCalled name (use_shown used.now))) }
+{
+    match used.manner {
+        Manner::Read => Ok(()),
+        Manner::Written => Ok(()),
+        Manner::Called => table.put(alloc, used.name, true),
+    }
+}
+
+// The function blocks of which units declare an instance.
+fn blocks_of_instances(alloc: Global, units: &[Unit]) -> Result<Table<bool>, AllocError>
+    ensures { IfOk result (λ table. (name : List ℕ) → is_some (get table name) ≡ list_any (λ (u : ProgramUnit). have_instance name u.variables) units.now) }
+{
+    let mut table = Table::new(alloc);
+    'units: for unit in units {
+        put_blocks(alloc, &mut table, unit.variables.as_slice())?;
+    }
+    Ok(table)
+}
+
+// Puts the function blocks of which declarations have an instance into a table.
+fn put_blocks(
+    alloc: Global,
+    table: &mut Table<bool>,
+    declarations: &[Declaration],
+) -> Result<(), AllocError>
+    ensures { OnOk result ((name : List ℕ) → is_some (get table.new name) ≡ (is_some (get table.old name) || have_instance name declarations.now)) }
 {
     'declarations: for declaration in declarations {
-        if is_block_of(name, &declaration.declared.form) {
-            return true;
-        }
+        put_block(alloc, table, &declaration.declared.form)?;
     }
-    false
+    Ok(())
 }
 
-fn is_block_of(name: &str, form: &Form) -> bool
-    ensures { result ≡ is_block_of name.now form.now }
+// Puts a type into a table, if it is a function block.
+fn put_block(alloc: Global, table: &mut Table<bool>, form: &Form) -> Result<(), AllocError>
+    ensures { OnOk result ((name : List ℕ) → is_some (get table.new name) ≡ (is_some (get table.old name) || is_block_of name form.now)) }
 {
     match form {
-        Form::Block(block) => block.as_str() == name,
-        _ => false,
+        Form::Scalar(_) => Ok(()),
+        Form::Array { .. } => Ok(()),
+        Form::Block(block) => table.put(alloc, block.as_str(), true),
     }
 }
 

@@ -1,7 +1,7 @@
 // What a name is never.
 
 ghost use Rattle.std.specs.Prelude.{◌≡◌, ◌++◌, OnOk, string_bytes};
-ghost use Rattle.lift_warnings.specs.Warnings.{called_never, variable_never, never_of, never_line, never_text};
+ghost use Rattle.lift_warnings.specs.Warnings.{called_never, variable_never, output_never, never_of, never_line, never_text};
 
 use std::alloc::AllocError;
 
@@ -31,33 +31,44 @@ pub fn called_never(called: bool) -> Option<Never>
     if called { None } else { Some(Never::Called) }
 }
 
-/// Of a variable or a global.
-pub fn variable_never(read: bool, written: bool) -> Option<Never>
-    ensures { result ≡ variable_never read written }
+/// Of a variable or a global. An initial value that is read and never written is a constant.
+pub fn variable_never(has_initial: bool, read: bool, written: bool) -> Option<Never>
+    ensures { result ≡ variable_never has_initial read written }
 {
     match (read, written) {
         (true, true) => None,
-        (true, false) => Some(Never::Written),
+        (true, false) => {
+            if has_initial {
+                None
+            } else {
+                Some(Never::Written)
+            }
+        }
         (false, true) => Some(Never::Read),
         (false, false) => Some(Never::Used),
     }
 }
 
-/// Of a name that is no instance. An input comes from the caller, an output goes to it, and an
-/// external is read and written elsewhere too.
-pub fn never_of(origin: Origin, read: bool, written: bool) -> Option<Never>
-    ensures { result ≡ never_of origin read written }
+// Of an output, which goes to the caller.
+fn output_never(read: bool, written: bool) -> Option<Never>
+    ensures { result ≡ output_never read written }
+{
+    match (read, written) {
+        (_, true) => None,
+        (true, false) => Some(Never::Written),
+        (false, false) => Some(Never::Used),
+    }
+}
+
+/// Of a name that is no instance. An input comes from the caller, and an external is read and
+/// written elsewhere too.
+pub fn never_of(origin: Origin, has_initial: bool, read: bool, written: bool) -> Option<Never>
+    ensures { result ≡ never_of origin has_initial read written }
 {
     match origin {
         Origin::Input => { if read { None } else { Some(Never::Read) } }
-        Origin::Output => {
-            if written {
-                None
-            } else {
-                variable_never(read, false)
-            }
-        }
-        Origin::Variable => variable_never(read, written),
+        Origin::Output => output_never(read, written),
+        Origin::Variable => variable_never(has_initial, read, written),
         Origin::External => {
             if read || written {
                 None

@@ -4,12 +4,13 @@ ghost use Rattle.std.specs.Prelude.{◌≡◌, ◌++◌, flat_map, IfOk, OnOk, s
 ghost use Rattle.lift_xref.specs.Names.{declared_names, name_shown};
 ghost use Rattle.lift_warnings.specs.Warnings.{name_never, names_text, outputs_text, unstored_text, unstored_line, unit_text, global_never, global_text, are_alike, task_line, task_text, tasks_text, warnings_text};
 
-use crate::needed::{drives_car, is_needed};
+use crate::needed::{Needed, drives_car};
 use crate::never::{Never, Origin, called_never, never_of, put_never, variable_never};
-use il_spec::tree::{Config, Declaration, Step, Task, Unit, UnitKind};
-use lift_xref::is_global_used;
+use il_spec::tree::{Config, Declaration, Task, Unit, UnitKind};
+use lift_xref::global_uses::GlobalUses;
 use lift_xref::names::{Declared, declared_names};
-use lift_xref::uses::{Manner, is_used};
+use lift_xref::unit_uses::UnitUses;
+use lift_xref::uses::Manner;
 use std::alloc::{AllocError, Global};
 
 /// The warnings of a configuration, a line for each, at the line of what it tells of: of each unit,
@@ -20,8 +21,9 @@ pub fn warnings_text(alloc: Global, config: &Config) -> Result<String, AllocErro
     ensures { IfOk result (λ t. string_bytes t ≡ warnings_text config.now) }
 {
     let mut text = String::new(alloc);
-    put_units(&mut text, config)?;
+    put_units(alloc, &mut text, config)?;
     put_globals(
+        alloc,
         &mut text,
         config.units.as_slice(),
         config.globals.as_slice(),
@@ -30,77 +32,101 @@ pub fn warnings_text(alloc: Global, config: &Config) -> Result<String, AllocErro
     Ok(text)
 }
 
-fn put_units(text: &mut String, config: &Config) -> Result<(), AllocError>
+fn put_units(alloc: Global, text: &mut String, config: &Config) -> Result<(), AllocError>
     ensures { OnOk result (string_bytes text.new ≡ string_bytes text.old ++ flat_map (unit_text config.now) config.now.units) }
 {
-    let units = config.units.as_slice();
+    let needed = Needed::of(alloc, config)?;
+    put_each_unit(alloc, text, &needed)
+}
+
+fn put_each_unit(alloc: Global, text: &mut String, needed: &Needed<'_>) -> Result<(), AllocError>
+    ensures { OnOk result (string_bytes text.new ≡ string_bytes text.old ++ flat_map (unit_text needed.now.config.now) needed.now.config.now.units) }
+{
+    let units = needed.config.units.as_slice();
     'units: for unit in units {
-        put_unit(text, config, unit)?;
+        put_unit(alloc, text, needed, unit)?;
     }
     Ok(())
 }
 
-fn put_unit(text: &mut String, config: &Config, unit: &Unit) -> Result<(), AllocError>
-    ensures { OnOk result (string_bytes text.new ≡ string_bytes text.old ++ unit_text config.now unit.now) }
+fn put_unit(
+    alloc: Global,
+    text: &mut String,
+    needed: &Needed<'_>,
+    unit: &Unit,
+) -> Result<(), AllocError>
+    ensures { OnOk result (string_bytes text.new ≡ string_bytes text.old ++ unit_text needed.now.config.now unit.now) }
 {
-    let steps = unit.body.steps.as_slice();
+    let uses = UnitUses::of(alloc, unit)?;
+    put_unit_uses(text, needed, &uses)
+}
+
+fn put_unit_uses(
+    text: &mut String,
+    needed: &Needed<'_>,
+    uses: &UnitUses<'_>,
+) -> Result<(), AllocError>
+    ensures { OnOk result (string_bytes text.new ≡ string_bytes text.old ++ unit_text needed.now.config.now uses.now.unit.now) }
+{
+    let unit = uses.unit;
     let name = unit.name.name.as_str();
-    let needed = is_needed(config, unit.kind, name);
-    put_never(text, unit.place.line, name, called_never(needed))?;
-    put_names(text, Origin::Input, steps, unit.inputs.as_slice())?;
-    put_names(text, Origin::Output, steps, unit.outputs.as_slice())?;
-    put_names(text, Origin::Variable, steps, unit.variables.as_slice())?;
-    put_names(text, Origin::External, steps, unit.externals.as_slice())?;
-    put_outputs(text, config, unit)
+    let has_use = needed.has(unit.kind, name);
+    put_never(text, unit.place.line, name, called_never(has_use))?;
+    put_names(text, Origin::Input, uses, unit.inputs.as_slice())?;
+    put_names(text, Origin::Output, uses, unit.outputs.as_slice())?;
+    put_names(text, Origin::Variable, uses, unit.variables.as_slice())?;
+    put_names(text, Origin::External, uses, unit.externals.as_slice())?;
+    put_outputs(text, needed.config, uses)
 }
 
 // The names that declarations give.
 fn put_names(
     text: &mut String,
     origin: Origin,
-    steps: &[Step],
+    uses: &UnitUses<'_>,
     declarations: &[Declaration],
 ) -> Result<(), AllocError>
-    ensures { OnOk result (string_bytes text.new ≡ string_bytes text.old ++ names_text origin steps.now declarations.now) }
+    ensures { OnOk result (string_bytes text.new ≡ string_bytes text.old ++ names_text origin uses.now.unit.now.body.steps declarations.now) }
 {
     'names: for name in declared_names(declarations) {
-        let never = name_never(origin, steps, &name);
+        let never = name_never(origin, uses, &name);
         put_never(text, name.line, name.name, never)?;
     }
     Ok(())
 }
 
-// What a declared name is never, by the steps of its unit.
-fn name_never(origin: Origin, steps: &[Step], name: &Declared<'_>) -> Option<Never>
-    ensures { result ≡ name_never origin steps.now (name_shown name.now) }
+// What a declared name is never, by the body of its unit.
+fn name_never(origin: Origin, uses: &UnitUses<'_>, name: &Declared<'_>) -> Option<Never>
+    ensures { result ≡ name_never origin uses.now.unit.now.body.steps (name_shown name.now) }
 {
     if name.is_instance {
-        return called_never(is_used(Manner::Called, name.name, steps));
+        return called_never(uses.is_used(Manner::Called, name.name));
     }
-    let read = is_used(Manner::Read, name.name, steps);
-    let written = is_used(Manner::Written, name.name, steps);
-    never_of(origin, read, written)
+    let read = uses.is_used(Manner::Read, name.name);
+    let written = uses.is_used(Manner::Written, name.name);
+    never_of(origin, name.has_initial, read, written)
 }
 
 // What the program of a car does not store.
-fn put_outputs(text: &mut String, config: &Config, unit: &Unit) -> Result<(), AllocError>
-    ensures { OnOk result (string_bytes text.new ≡ string_bytes text.old ++ outputs_text config.now unit.now) }
+fn put_outputs(text: &mut String, config: &Config, uses: &UnitUses<'_>) -> Result<(), AllocError>
+    ensures { OnOk result (string_bytes text.new ≡ string_bytes text.old ++ outputs_text config.now uses.now.unit.now) }
 {
+    let unit = uses.unit;
     let programs = config.programs.as_slice();
     if matches!(unit.kind, UnitKind::Program) && drives_car(programs, unit.name.name.as_str()) {
-        put_unstored(text, unit, "MOTOR")?;
-        put_unstored(text, unit, "OPEN")?;
+        put_unstored(text, uses, "MOTOR")?;
+        put_unstored(text, uses, "OPEN")?;
     }
     Ok(())
 }
 
-fn put_unstored(text: &mut String, unit: &Unit, name: &str) -> Result<(), AllocError>
-    ensures { OnOk result (string_bytes text.new ≡ string_bytes text.old ++ unstored_text unit.now name.now) }
+fn put_unstored(text: &mut String, uses: &UnitUses<'_>, name: &str) -> Result<(), AllocError>
+    ensures { OnOk result (string_bytes text.new ≡ string_bytes text.old ++ unstored_text uses.now.unit.now name.now) }
 {
-    if is_used(Manner::Written, name, unit.body.steps.as_slice()) {
+    if uses.is_used(Manner::Written, name) {
         return Ok(());
     }
-    put_unstored_line(text, unit, name)
+    put_unstored_line(text, uses.unit, name)
 }
 
 #[tactic(auto, unfolding(crate::specs::Warnings::unstored_line))]
@@ -111,23 +137,42 @@ fn put_unstored_line(text: &mut String, unit: &Unit, name: &str) -> Result<(), A
     writeln!(text, "{} never stores {}", unit.name.name.as_str(), name)
 }
 
-fn put_globals(text: &mut String, units: &[Unit], globals: &[Declaration]) -> Result<(), AllocError>
+fn put_globals(
+    alloc: Global,
+    text: &mut String,
+    units: &[Unit],
+    globals: &[Declaration],
+) -> Result<(), AllocError>
     ensures { OnOk result (string_bytes text.new ≡ string_bytes text.old ++ flat_map (global_text units.now) (declared_names globals.now)) }
 {
+    if globals.is_empty() {
+        return Ok(());
+    }
+    let uses = GlobalUses::of(alloc, units)?;
+    put_each_global(text, &uses, globals)
+}
+
+fn put_each_global(
+    text: &mut String,
+    uses: &GlobalUses<'_>,
+    globals: &[Declaration],
+) -> Result<(), AllocError>
+    ensures { OnOk result (string_bytes text.new ≡ string_bytes text.old ++ flat_map (global_text uses.now.units.now) (declared_names globals.now)) }
+{
     'names: for name in declared_names(globals) {
-        let never = global_never(units, &name);
+        let never = global_never(uses, &name);
         put_never(text, name.line, name.name, never)?;
     }
     Ok(())
 }
 
 // What a global is never, by all units that list it.
-fn global_never(units: &[Unit], name: &Declared<'_>) -> Option<Never>
-    ensures { result ≡ global_never units.now (name_shown name.now) }
+fn global_never(uses: &GlobalUses<'_>, name: &Declared<'_>) -> Option<Never>
+    ensures { result ≡ global_never uses.now.units.now (name_shown name.now) }
 {
-    let read = is_global_used(Manner::Read, name.name, units);
-    let written = is_global_used(Manner::Written, name.name, units);
-    variable_never(read, written)
+    let read = uses.is_used(Manner::Read, name.name);
+    let written = uses.is_used(Manner::Written, name.name);
+    variable_never(name.has_initial, read, written)
 }
 
 fn put_tasks(text: &mut String, tasks: &[Task]) -> Result<(), AllocError>

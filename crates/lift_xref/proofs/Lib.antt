@@ -1,3 +1,6 @@
 mod Told
-mod Among
 mod Rows
+mod Bytes
+pub mod Seen
+mod Numbered
+mod Pushes

@@ -48,7 +48,7 @@ row_parts : name_line (codes "N") (codes " declared 2" ∷ used_part Read (codes
 row_parts = refl
 
 -- a declared name that is never used
-row_unused : declared_line [] (record { name = codes "N"; line = 2; is_instance = false }) ≡ codes "  N: declared " ++ (decimal 2 ++ codes "\n")
+row_unused : declared_line [] (record { name = codes "N"; line = 2; is_instance = false; has_initial = false }) ≡ codes "  N: declared " ++ (decimal 2 ++ codes "\n")
 unfolding declared_line
 row_unused = first_of (search (rules, append_assoc, append-nil), grind (arith, common_steps))
 

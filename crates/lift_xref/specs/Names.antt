@@ -1,5 +1,5 @@
 -- The names that declarations give (own rules).
-use Rattle.std.specs.Prelude.{ℕ, Bool, true, false, ◌||◌, List, ◌++◌, map, flat_map, bytes_eq}
+use Rattle.std.specs.Prelude.{ℕ, Bool, true, false, ◌||◌, List, ◌++◌, map, flat_map, bytes_eq, is_some}
 use Rattle.std.specs.List.{list_any}
 use Rattle.il_spec.specs.declared.tree.Unit.{Unit as ProgramUnit}
 use Rattle.il_spec.specs.declared.tree.Declaration.{Declaration}
@@ -10,11 +10,12 @@ use Rattle.il_rules.specs.Names.{Spelling}
 use Rattle.lift_xref.specs.declared.names.Declared.{Declared}
 use Rattle.lift_xref.specs.declared.names.DeclaredNames.{DeclaredNames}
 
--- a declared name, its line, and whether it is an instance of a function block
+-- a declared name, its line, whether it is an instance of a function block, and whether it has an initial value
 pub record DeclaredName : Type 0 where
   pub name : Spelling
   pub line : ℕ
   pub is_instance : Bool
+  pub has_initial : Bool
 
 -- whether a type is a function block (2.5.2.1)
 abbrev pub is_block : Form → Bool
@@ -23,12 +24,12 @@ is_block (OfArray bounds element) = false
 is_block (OfBlock name) = true
 
 -- a name of a declaration
-abbrev pub declared_name : Bool → Named → DeclaredName
-declared_name is_instance n = record { name = n.name; line = n.place.line; is_instance = is_instance }
+abbrev pub declared_name : Bool → Bool → Named → DeclaredName
+declared_name is_instance has_initial n = record { name = n.name; line = n.place.line; is_instance = is_instance; has_initial = has_initial }
 
--- the names of a declaration (2.4.3)
+-- the names of a declaration, each with its type and its initial value (2.4.3)
 abbrev pub declaration_names : Declaration → List DeclaredName
-declaration_names d = map (declared_name (is_block d.declared.form)) d.names
+declaration_names d = map (declared_name (is_block d.declared.form) (is_some d.initial)) d.names
 
 -- the names of declarations, in the order of the text
 abbrev pub declared_names : List Declaration → List DeclaredName
@@ -44,8 +45,8 @@ declares unit name = is_declared unit.inputs name || is_declared unit.outputs na
 
 -- what is shown of a declared name
 abbrev pub name_shown : Declared → DeclaredName
-name_shown n = record { name = n.name.now; line = n.line; is_instance = n.is_instance }
+name_shown n = record { name = n.name.now; line = n.line; is_instance = n.is_instance; has_initial = n.has_initial }
 
 -- the names that are left of declarations: those of the one that is begun, and those of the others
 abbrev pub names_left : DeclaredNames → List DeclaredName
-names_left l = map (declared_name l.is_instance) l.names.now ++ declared_names l.declarations.now
+names_left l = map (declared_name l.is_instance l.has_initial) l.names.now ++ declared_names l.declarations.now

@@ -1,9 +1,12 @@
 //! The names of a configuration: where each is declared, read, written and called.
 #![tactic(auto)]
 
+pub mod global_uses;
+mod lines;
 pub mod names;
-mod seen;
+mod texts;
+pub mod unit_uses;
 pub mod uses;
 mod xref;
 
-pub use xref::{is_global_used, xref_text};
+pub use xref::xref_text;

@@ -1,17 +1,22 @@
 // The names that declarations give.
 
-ghost use Rattle.std.specs.Prelude.{◌≡◌};
+ghost use Rattle.std.specs.Prelude.{◌≡◌, ◌||◌, List, ℕ, is_some, IfOk, OnOk};
 ghost use Rattle.std.specs.Iterator.{YieldsFirstBy, item_count};
+ghost use Rattle.il_table.specs.NameMap.{get};
 ghost use Rattle.lift_xref.specs.Names.{declared_names, is_declared, declares, is_block, name_shown, names_left};
 
 use il_spec::tree::{Declaration, Form, Named, Unit};
+use il_table::Table;
+use std::alloc::{AllocError, Global};
 
-/// A declared name, its line, and whether it is an instance of a function block.
+/// A declared name, its line, whether it is an instance of a function block, and whether it has an
+/// initial value.
 #[derive(Clone, Copy)]
 pub struct Declared<'c> {
     pub name: &'c str,
     pub line: u32,
     pub is_instance: bool,
+    pub has_initial: bool,
 }
 
 /// The names that are left of declarations.
@@ -21,6 +26,8 @@ pub struct DeclaredNames<'c> {
     pub names: &'c [Named],
     /// Whether that one declares instances.
     pub is_instance: bool,
+    /// Whether that one has an initial value.
+    pub has_initial: bool,
     /// The declarations behind it.
     pub declarations: &'c [Declaration],
 }
@@ -32,6 +39,7 @@ pub fn declared_names<'c>(declarations: &'c [Declaration]) -> DeclaredNames<'c>
     DeclaredNames {
         names: &[],
         is_instance: false,
+        has_initial: false,
         declarations,
     }
 }
@@ -51,11 +59,13 @@ impl<'c> Iterator for DeclaredNames<'c> {
                     name: named.name.as_str(),
                     line: named.place.line,
                     is_instance: self.is_instance,
+                    has_initial: self.has_initial,
                 });
             }
             let (declaration, declarations) = self.declarations.split_first()?;
             self.names = declaration.names.as_slice();
             self.is_instance = is_block(&declaration.declared.form);
+            self.has_initial = declaration.initial.is_some();
             self.declarations = declarations;
         }
     }
@@ -68,24 +78,28 @@ pub fn is_block(form: &Form) -> bool
     matches!(form, Form::Block(_))
 }
 
-/// Whether declarations give a name.
-pub fn is_declared(declarations: &[Declaration], name: &str) -> bool
-    ensures { result ≡ is_declared declarations.now name.now }
+/// The names that a unit declares, externals among them, each with an entry.
+pub fn name_table(alloc: Global, unit: &Unit) -> Result<Table<bool>, AllocError>
+    ensures { IfOk result (λ table. (name : List ℕ) → is_some (get table name) ≡ declares unit.now name) }
 {
-    'names: for declared in declared_names(declarations) {
-        if declared.name == name {
-            return true;
-        }
-    }
-    false
+    let mut table = Table::new(alloc);
+    put_names(alloc, &mut table, unit.inputs.as_slice())?;
+    put_names(alloc, &mut table, unit.outputs.as_slice())?;
+    put_names(alloc, &mut table, unit.variables.as_slice())?;
+    put_names(alloc, &mut table, unit.externals.as_slice())?;
+    Ok(table)
 }
 
-/// Whether a unit declares a name, an external among them.
-pub fn declares(unit: &Unit, name: &str) -> bool
-    ensures { result ≡ declares unit.now name.now }
+// Puts the names that declarations give into a table.
+fn put_names(
+    alloc: Global,
+    table: &mut Table<bool>,
+    declarations: &[Declaration],
+) -> Result<(), AllocError>
+    ensures { OnOk result ((name : List ℕ) → is_some (get table.new name) ≡ (is_some (get table.old name) || is_declared declarations.now name)) }
 {
-    is_declared(unit.inputs.as_slice(), name)
-        || is_declared(unit.outputs.as_slice(), name)
-        || is_declared(unit.variables.as_slice(), name)
-        || is_declared(unit.externals.as_slice(), name)
+    'names: for declared in declared_names(declarations) {
+        table.put(alloc, declared.name, true)?;
+    }
+    Ok(())
 }

@@ -2,7 +2,7 @@
 
 ghost use Rattle.std.specs.Prelude.{◌≡◌, ◌++◌, ◌∷◌, [], MatchOption};
 ghost use Rattle.std.specs.Iterator.{YieldsFirstBy, item_count};
-ghost use Rattle.lift_xref.specs.Uses.{named_use, index_uses, operand_uses, argument_uses, short_form_uses, use_in, operands_uses, arguments_uses, instruction_uses, uses, is_manner, is_use, is_used, use_shown, index_shown, found_shown, maybe_found_shown, rest_shown, head_shown, uses_left};
+ghost use Rattle.lift_xref.specs.Uses.{named_use, index_uses, operand_uses, argument_uses, short_form_uses, use_in, operands_uses, arguments_uses, instruction_uses, uses, use_shown, index_shown, found_shown, maybe_found_shown, rest_shown, head_shown, uses_left};
 
 use il_spec::name::Name;
 use il_spec::tree::{Argument, Index, Instruction, Named, Operand, Reference, Step};
@@ -260,35 +260,5 @@ fn use_in<'c>(manner: Manner, line: u32, name: &'c Name) -> Use<'c>
         name: name.as_str(),
         line,
         manner,
-    }
-}
-
-/// Whether steps use a name in a manner.
-pub fn is_used(manner: Manner, name: &str, steps: &[Step]) -> bool
-    ensures { result ≡ is_used manner name.now steps.now }
-{
-    'uses: for used in uses(steps) {
-        if is_use(manner, name, &used) {
-            return true;
-        }
-    }
-    false
-}
-
-/// Whether a use is one of a name in a manner.
-pub fn is_use(manner: Manner, name: &str, used: &Use<'_>) -> bool
-    ensures { result ≡ is_use manner name.now (use_shown used.now) }
-{
-    is_manner(manner, used.manner) && used.name == name
-}
-
-// Whether two manners are the same.
-fn is_manner(manner: Manner, other: Manner) -> bool
-    ensures { result ≡ is_manner manner other }
-{
-    match manner {
-        Manner::Read => matches!(other, Manner::Read),
-        Manner::Written => matches!(other, Manner::Written),
-        Manner::Called => matches!(other, Manner::Called),
     }
 }

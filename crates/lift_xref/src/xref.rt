@@ -1,14 +1,14 @@
 // The cross reference of a configuration.
 
 ghost use Rattle.std.specs.Prelude.{◌≡◌, ◌++◌, ◌||◌, true, flat_map, IfOk, OnOk, string_bytes};
-ghost use Rattle.std.specs.List.{list_any};
 ghost use Rattle.lift_xref.specs.Names.{declared_names, name_shown};
-ghost use Rattle.lift_xref.specs.Xref.{is_there, mark, behind, parts_text, manner_word, used_part, used_parts, use_lines, declared_line, declared_lines, other_line, other_lines, kind_word, heading, unit_text, uses_global, unit_places, global_places, global_line, globals_text, program_line, programs_text, xref_text};
+ghost use Rattle.lift_xref.specs.Xref.{is_there, mark, behind, parts_text, manner_word, used_part, used_parts, use_lines, declared_line, declared_lines, other_line, other_lines, kind_word, heading, unit_text, global_places, global_line, globals_text, program_line, programs_text, xref_text};
 
-use crate::names::{Declared, declared_names, declares, is_declared};
-use crate::seen::Seen;
-use crate::uses::{Manner, is_use, is_used, uses};
-use il_spec::tree::{Config, Declaration, ProgramLine, Step, Unit, UnitKind};
+use crate::global_uses::GlobalUses;
+use crate::names::{Declared, declared_names, name_table};
+use crate::unit_uses::UnitUses;
+use crate::uses::{Manner, uses};
+use il_spec::tree::{Config, Declaration, ProgramLine, Unit, UnitKind};
 use std::alloc::{AllocError, Global};
 
 /// The cross reference: of each unit, in the order of the text, the names that it declares and the
@@ -20,7 +20,7 @@ pub fn xref_text(alloc: Global, config: &Config) -> Result<String, AllocError>
     let mut text = String::new(alloc);
     let units = config.units.as_slice();
     put_units(alloc, &mut text, units)?;
-    put_globals(&mut text, units, config.globals.as_slice())?;
+    put_globals(alloc, &mut text, units, config.globals.as_slice())?;
     put_programs(&mut text, config.programs.as_slice())?;
     Ok(text)
 }
@@ -37,13 +37,20 @@ fn put_units(alloc: Global, text: &mut String, units: &[Unit]) -> Result<(), All
 fn put_unit(alloc: Global, text: &mut String, unit: &Unit) -> Result<(), AllocError>
     ensures { OnOk result (string_bytes text.new ≡ string_bytes text.old ++ unit_text unit.now) }
 {
-    let steps = unit.body.steps.as_slice();
+    let uses = UnitUses::of(alloc, unit)?;
+    put_unit_uses(alloc, text, &uses)
+}
+
+fn put_unit_uses(alloc: Global, text: &mut String, uses: &UnitUses<'_>) -> Result<(), AllocError>
+    ensures { OnOk result (string_bytes text.new ≡ string_bytes text.old ++ unit_text uses.now.unit.now) }
+{
+    let unit = uses.unit;
     put_heading(text, unit)?;
-    put_declared(text, steps, unit.inputs.as_slice())?;
-    put_declared(text, steps, unit.outputs.as_slice())?;
-    put_declared(text, steps, unit.variables.as_slice())?;
-    put_declared(text, steps, unit.externals.as_slice())?;
-    put_others(alloc, text, unit)
+    put_declared(text, uses, unit.inputs.as_slice())?;
+    put_declared(text, uses, unit.outputs.as_slice())?;
+    put_declared(text, uses, unit.variables.as_slice())?;
+    put_declared(text, uses, unit.externals.as_slice())?;
+    put_others(alloc, text, uses)
 }
 
 #[tactic(auto, unfolding(crate::specs::Xref::heading))]
@@ -72,13 +79,13 @@ fn put_kind(text: &mut String, kind: UnitKind) -> Result<(), AllocError>
 // The names that declarations give.
 fn put_declared(
     text: &mut String,
-    steps: &[Step],
+    uses: &UnitUses<'_>,
     declarations: &[Declaration],
 ) -> Result<(), AllocError>
-    ensures { OnOk result (string_bytes text.new ≡ string_bytes text.old ++ declared_lines steps.now declarations.now) }
+    ensures { OnOk result (string_bytes text.new ≡ string_bytes text.old ++ declared_lines uses.now.unit.now.body.steps declarations.now) }
 {
     'names: for name in declared_names(declarations) {
-        put_declared_line(text, steps, &name)?;
+        put_declared_line(text, uses, &name)?;
     }
     Ok(())
 }
@@ -86,66 +93,79 @@ fn put_declared(
 #[tactic(auto, unfolding(crate::specs::Xref::declared_line))]
 fn put_declared_line(
     text: &mut String,
-    steps: &[Step],
+    uses: &UnitUses<'_>,
     name: &Declared<'_>,
 ) -> Result<(), AllocError>
-    ensures { OnOk result (string_bytes text.new ≡ string_bytes text.old ++ declared_line steps.now (name_shown name.now)) }
+    ensures { OnOk result (string_bytes text.new ≡ string_bytes text.old ++ declared_line uses.now.unit.now.body.steps (name_shown name.now)) }
 {
     write!(text, "  {}: declared {}", name.name, name.line)?;
-    put_uses(text, steps, name.name, true)?;
+    put_uses(text, uses, name.name, true)?;
     text.push_str("\n")
 }
 
 // The names that a unit uses and does not declare, each at its first use.
-fn put_others(alloc: Global, text: &mut String, unit: &Unit) -> Result<(), AllocError>
-    ensures { OnOk result (string_bytes text.new ≡ string_bytes text.old ++ other_lines unit.now) }
+fn put_others(alloc: Global, text: &mut String, unit: &UnitUses<'_>) -> Result<(), AllocError>
+    ensures { OnOk result (string_bytes text.new ≡ string_bytes text.old ++ other_lines unit.now.unit.now) }
 {
-    let steps = unit.body.steps.as_slice();
-    let mut seen = Seen::new(alloc);
-    'uses: for used in uses(steps) {
-        if !declares(unit, used.name) && !seen.has(used.name) {
-            put_other_line(text, steps, used.name)?;
-            seen.add(used.name)?;
+    let mut seen = name_table(alloc, unit.unit)?;
+    'uses: for used in uses(unit.unit.body.steps.as_slice()) {
+        if seen.get(used.name).is_none() {
+            put_other_line(text, unit, used.name)?;
+            seen.put(alloc, used.name, true)?;
         }
     }
     Ok(())
 }
 
 #[tactic(auto, unfolding(crate::specs::Xref::other_line))]
-fn put_other_line(text: &mut String, steps: &[Step], name: &str) -> Result<(), AllocError>
-    ensures { OnOk result (string_bytes text.new ≡ string_bytes text.old ++ other_line steps.now name.now) }
+fn put_other_line(text: &mut String, uses: &UnitUses<'_>, name: &str) -> Result<(), AllocError>
+    ensures { OnOk result (string_bytes text.new ≡ string_bytes text.old ++ other_line uses.now.unit.now.body.steps name.now) }
 {
     write!(text, "  {}", name)?;
-    put_uses(text, steps, name, false)?;
+    put_uses(text, uses, name, false)?;
     text.push_str("\n")
 }
 
-// Where steps use a name, in each manner; `begun` says whether a part stands before.
-fn put_uses(text: &mut String, steps: &[Step], name: &str, begun: bool) -> Result<(), AllocError>
-    ensures { OnOk result (string_bytes text.new ≡ string_bytes text.old ++ parts_text begun (used_parts (use_lines steps.now name.now))) }
+// Where a unit uses a name, in each manner; `begun` says whether a part stands before.
+fn put_uses(
+    text: &mut String,
+    uses: &UnitUses<'_>,
+    name: &str,
+    begun: bool,
+) -> Result<(), AllocError>
+    ensures { OnOk result (string_bytes text.new ≡ string_bytes text.old ++ parts_text begun (used_parts (use_lines uses.now.unit.now.body.steps name.now))) }
 {
-    let begun = put_used(text, steps, name, Manner::Read, begun)?;
-    let begun = put_used(text, steps, name, Manner::Written, begun)?;
-    put_used(text, steps, name, Manner::Called, begun)?;
+    let begun = put_used(text, Manner::Read, uses.lines(Manner::Read, name), begun)?;
+    let begun = put_used(
+        text,
+        Manner::Written,
+        uses.lines(Manner::Written, name),
+        begun,
+    )?;
+    put_used(
+        text,
+        Manner::Called,
+        uses.lines(Manner::Called, name),
+        begun,
+    )?;
     Ok(())
 }
 
-// Where steps use a name in one manner, and whether a part stands before the next.
+// Where a name is used in one manner, and whether a part stands before the next.
 fn put_used(
     text: &mut String,
-    steps: &[Step],
-    name: &str,
     manner: Manner,
+    places: &str,
     begun: bool,
 ) -> Result<bool, AllocError>
-    ensures text { OnOk result (string_bytes text.new ≡ string_bytes text.old ++ behind (mark begun) (used_part manner (use_lines steps.now name.now manner))) }
-    ensures begun { IfOk result (λ b. b ≡ (begun || is_there (used_part manner (use_lines steps.now name.now manner)))) }
+    ensures text { OnOk result (string_bytes text.new ≡ string_bytes text.old ++ behind (mark begun) (used_part manner places.now)) }
+    ensures begun { IfOk result (λ b. b ≡ (begun || is_there (used_part manner places.now))) }
 {
-    if !is_used(manner, name, steps) {
+    if places.is_empty() {
         return Ok(begun);
     }
     put_word(text, manner, begun)?;
-    put_lines(text, steps, name, manner)?;
+    text.push_str(places)?;
     Ok(true)
 }
 
@@ -161,128 +181,77 @@ fn put_word(text: &mut String, manner: Manner, begun: bool) -> Result<(), AllocE
     }
 }
 
-// The lines in which steps use a name in a manner.
-fn put_lines(
+fn put_globals(
+    alloc: Global,
     text: &mut String,
-    steps: &[Step],
-    name: &str,
-    manner: Manner,
+    units: &[Unit],
+    globals: &[Declaration],
 ) -> Result<(), AllocError>
-    ensures { OnOk result (string_bytes text.new ≡ string_bytes text.old ++ use_lines steps.now name.now manner) }
-{
-    'uses: for used in uses(steps) {
-        if is_use(manner, name, &used) {
-            write!(text, " {}", used.line)?;
-        }
-    }
-    Ok(())
-}
-
-fn put_globals(text: &mut String, units: &[Unit], globals: &[Declaration]) -> Result<(), AllocError>
     ensures { OnOk result (string_bytes text.new ≡ string_bytes text.old ++ globals_text units.now globals.now) }
 {
     if globals.is_empty() {
         return Ok(());
     }
     text.push_str("GLOBALS\n")?;
-    put_global_lines(text, units, globals)
+    put_global_parts(alloc, text, units, globals)
 }
 
-fn put_global_lines(
+fn put_global_parts(
+    alloc: Global,
     text: &mut String,
     units: &[Unit],
     globals: &[Declaration],
 ) -> Result<(), AllocError>
     ensures { OnOk result (string_bytes text.new ≡ string_bytes text.old ++ flat_map (global_line units.now) (declared_names globals.now)) }
 {
+    let uses = GlobalUses::of(alloc, units)?;
+    put_global_lines(text, &uses, globals)
+}
+
+fn put_global_lines(
+    text: &mut String,
+    uses: &GlobalUses<'_>,
+    globals: &[Declaration],
+) -> Result<(), AllocError>
+    ensures { OnOk result (string_bytes text.new ≡ string_bytes text.old ++ flat_map (global_line uses.now.units.now) (declared_names globals.now)) }
+{
     'names: for name in declared_names(globals) {
-        put_global_line(text, units, &name)?;
+        put_global_line(text, uses, &name)?;
     }
     Ok(())
 }
 
 #[tactic(auto, unfolding(crate::specs::Xref::global_line))]
-fn put_global_line(text: &mut String, units: &[Unit], name: &Declared<'_>) -> Result<(), AllocError>
-    ensures { OnOk result (string_bytes text.new ≡ string_bytes text.old ++ global_line units.now (name_shown name.now)) }
+fn put_global_line(
+    text: &mut String,
+    uses: &GlobalUses<'_>,
+    name: &Declared<'_>,
+) -> Result<(), AllocError>
+    ensures { OnOk result (string_bytes text.new ≡ string_bytes text.old ++ global_line uses.now.units.now (name_shown name.now)) }
 {
     write!(text, "  {}: declared {}", name.name, name.line)?;
-    put_global_uses(text, units, name.name)?;
+    put_global_uses(text, uses, name.name)?;
     text.push_str("\n")
 }
 
 // Where units use a global, in each manner, behind the line where it is declared.
-fn put_global_uses(text: &mut String, units: &[Unit], name: &str) -> Result<(), AllocError>
-    ensures { OnOk result (string_bytes text.new ≡ string_bytes text.old ++ parts_text true (used_parts (global_places units.now name.now))) }
+fn put_global_uses(text: &mut String, uses: &GlobalUses<'_>, name: &str) -> Result<(), AllocError>
+    ensures { OnOk result (string_bytes text.new ≡ string_bytes text.old ++ parts_text true (used_parts (global_places uses.now.units.now name.now))) }
 {
-    put_global_used(text, units, name, Manner::Read)?;
-    put_global_used(text, units, name, Manner::Written)?;
-    put_global_used(text, units, name, Manner::Called)
-}
-
-// Where units use a global in one manner.
-fn put_global_used(
-    text: &mut String,
-    units: &[Unit],
-    name: &str,
-    manner: Manner,
-) -> Result<(), AllocError>
-    ensures { OnOk result (string_bytes text.new ≡ string_bytes text.old ++ behind (mark true) (used_part manner (global_places units.now name.now manner))) }
-{
-    if is_global_used(manner, name, units) {
-        put_word(text, manner, true)?;
-        put_places(text, units, name, manner)?;
-    }
+    let begun = put_used(text, Manner::Read, uses.places(Manner::Read, name), true)?;
+    let begun = put_used(
+        text,
+        Manner::Written,
+        uses.places(Manner::Written, name),
+        begun,
+    )?;
+    put_used(
+        text,
+        Manner::Called,
+        uses.places(Manner::Called, name),
+        begun,
+    )?;
     Ok(())
-}
-
-// The units that use a global in a manner, each with the lines.
-fn put_places(
-    text: &mut String,
-    units: &[Unit],
-    name: &str,
-    manner: Manner,
-) -> Result<(), AllocError>
-    ensures { OnOk result (string_bytes text.new ≡ string_bytes text.old ++ global_places units.now name.now manner) }
-{
-    'units: for unit in units {
-        put_unit_places(text, unit, name, manner)?;
-    }
-    Ok(())
-}
-
-fn put_unit_places(
-    text: &mut String,
-    unit: &Unit,
-    name: &str,
-    manner: Manner,
-) -> Result<(), AllocError>
-    ensures { OnOk result (string_bytes text.new ≡ string_bytes text.old ++ unit_places manner name.now unit.now) }
-{
-    if uses_global(manner, name, unit) {
-        write!(text, " {}", unit.name.name.as_str())?;
-        put_lines(text, unit.body.steps.as_slice(), name, manner)?;
-    }
-    Ok(())
-}
-
-/// Whether a unit that lists a global as an external uses it in a manner.
-pub fn is_global_used(manner: Manner, name: &str, units: &[Unit]) -> bool
-    ensures { result ≡ list_any (uses_global manner name.now) units.now }
-{
-    'units: for unit in units {
-        if uses_global(manner, name, unit) {
-            return true;
-        }
-    }
-    false
-}
-
-// Whether a unit lists a name as an external, and uses it in a manner.
-fn uses_global(manner: Manner, name: &str, unit: &Unit) -> bool
-    ensures { result ≡ uses_global manner name.now unit.now }
-{
-    is_declared(unit.externals.as_slice(), name)
-        && is_used(manner, name, unit.body.steps.as_slice())
 }
 
 fn put_programs(text: &mut String, programs: &[ProgramLine]) -> Result<(), AllocError>
