@@ -4,6 +4,8 @@ pub mod Distinct
 pub mod Using
 pub mod Reaching
 pub mod Ways
+pub mod Dead
+pub mod Places
 pub mod Searching
 pub mod Chaining
 pub mod Counting

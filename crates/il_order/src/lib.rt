@@ -4,6 +4,7 @@
 mod answer;
 mod chains;
 mod container;
+mod dead_ends;
 mod fault;
 mod relation;
 mod slots;
