@@ -5,6 +5,7 @@ pub mod Using
 pub mod Reaching
 pub mod Ways
 pub mod Dead
+pub mod Cutting
 pub mod Places
 pub mod Searching
 pub mod Chaining

@@ -6,6 +6,7 @@ mod chains;
 mod container;
 mod dead_ends;
 mod fault;
+mod limits;
 mod relation;
 mod slots;
 mod uses;
