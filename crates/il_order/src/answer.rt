@@ -6,11 +6,14 @@ ghost use Rattle.il_found.specs.Least.{IsLeast, earlier_of, fault_of};
 ghost use Rattle.il_order.specs.Breaks as breaks;
 ghost use Rattle.il_order.specs.Instances.{needed};
 ghost use Rattle.il_order.specs.Breaks.{RecursionsBreak, UnitsBreak, LinesBreak, GlobalsBreak, SlotsBreak, precedes};
+ghost use Rattle.il_order.specs.Bounded.{AreLimits};
 ghost use Rattle.il_order.specs.Chained.{AreDead, is_long};
+ghost use Rattle.il_order.specs.Related.{closed};
 
 use crate::chains::is_long;
 use crate::dead_ends::{DeadEnds, no_ends};
 use crate::fault::OrderFault;
+use crate::limits::{Limits, limits_of};
 use crate::relation::{Relation, closed, holds};
 use crate::slots::{MOST, counts, is_over, unit_counts, with_variables};
 use crate::uses::{are_named, uses};
@@ -67,14 +70,17 @@ fn units_fault(
     uses: &Relation,
     reached: &Relation,
 ) -> Result<Option<Found<OrderFault>>, AllocError>
+    requires count { length uses.now ≡ length names.now.units }
+    requires reached { reached.now ≡ closed (length uses.now) uses.now (length uses.now) }
     ensures { IfOk result (λ found. IsLeast found (UnitsBreak names.now uses.now reached.now)) }
 {
     let units = names.config().units.as_slice();
+    let limits = limits_of(alloc, uses, reached, units.len())?;
     let mut ends = no_ends(alloc, units.len())?;
     let mut found = recursive_fault(names, reached);
     for at in 0..units.len() {
         let unit = &units[at];
-        found = with_chain(alloc, uses, &mut ends, at, unit.place, found)?;
+        found = with_chain(alloc, uses, &limits, &mut ends, at, unit.place, found)?;
     }
     Ok(found)
 }
@@ -97,12 +103,15 @@ fn recursive_fault(names: &Scoped, reached: &Relation) -> Option<Found<OrderFaul
 fn with_chain(
     alloc: Global,
     uses: &Relation,
+    limits: &Limits,
     ends: &mut DeadEnds,
     at: usize,
     place: Place,
     found: Option<Found<OrderFault>>,
 ) -> Result<Option<Found<OrderFault>>, AllocError>
     requires unit { at < length ends.old.items }
+    requires count { length ends.old.items ≡ length uses.now }
+    requires limits { AreLimits (length uses.now) uses.now limits.now }
     requires dead { AreDead (length ends.old.items) uses.now ends.old.items }
     ensures units { IfOk result (λ _. length ends.new.items ≡ length ends.old.items) }
     ensures dead { IfOk result (λ _. AreDead (length ends.old.items) uses.now ends.new.items) }
@@ -111,7 +120,7 @@ fn with_chain(
     if !precedes(place, &found) {
         return Ok(found);
     }
-    let long = is_long(alloc, uses, ends, at)?;
+    let long = is_long(alloc, uses, limits, ends, at)?;
     Ok(earlier(found, fault_if(long, OrderFault::TooDeepCalls, place)))
 }
 

@@ -3,9 +3,11 @@
 ghost use Rattle.std.specs.Prelude.{◌≡◌, ◌+◌, ◌<◌, ◌≤◌, ◌++◌, ◌∷◌, IfOk, IfSome, None, [], true, false, length, slice_set, get_or};
 ghost use Rattle.il_order.specs.Related.{holds};
 ghost use Rattle.il_order.specs.Used.{is_among};
-ghost use Rattle.il_order.specs.Chained.{is_long, leads_on, is_shut, without, AreAmong, AreDead};
+ghost use Rattle.il_order.specs.Chained.{is_long, leads_on, is_shut, AreAmong, AreDead};
+ghost use Rattle.il_order.specs.Bounded.{AreLimits};
 
 use crate::dead_ends::{DeadEnd, DeadEnds, merge, met, note, without};
+use crate::limits::{Limits, cut_off};
 use crate::relation::{Relation, holds};
 use crate::uses::is_among;
 use arrayvec::ArrayVec;
@@ -22,17 +24,20 @@ type Way = ArrayVec<usize, LONGEST>;
 pub fn is_long(
     alloc: Global,
     uses: &Relation,
+    limits: &Limits,
     ends: &mut DeadEnds,
     unit: usize,
 ) -> Result<bool, AllocError>
     requires unit { unit < length ends.old.items }
+    requires count { length ends.old.items ≡ length uses.now }
+    requires limits { AreLimits (length uses.now) uses.now limits.now }
     requires dead { AreDead (length ends.old.items) uses.now ends.old.items }
     ensures units { IfOk result (λ _. length ends.new.items ≡ length ends.old.items) }
     ensures dead { IfOk result (λ _. AreDead (length ends.old.items) uses.now ends.new.items) }
     ensures is { IfOk result (λ long. long ≡ is_long (length ends.old.items) uses.now unit) }
 {
     let mut way = ArrayVec::new();
-    let shut = leads_on(alloc, uses, ends, LONGEST, &mut way, unit)?;
+    let shut = leads_on(alloc, uses, limits, ends, LONGEST, &mut way, unit)?;
     Ok(shut.is_none())
 }
 
@@ -40,6 +45,7 @@ pub fn is_long(
 fn leads_on(
     alloc: Global,
     uses: &Relation,
+    limits: &Limits,
     ends: &mut DeadEnds,
     left: usize,
     way: &mut Way,
@@ -47,6 +53,9 @@ fn leads_on(
 ) -> Result<Option<Items<usize>>, AllocError>
     requires room { length way.old.items + left ≤ 16 }
     requires unit { from < length ends.old.items }
+    requires away { is_among way.old.items from ≡ false }
+    requires count { length ends.old.items ≡ length uses.now }
+    requires limits { AreLimits (length uses.now) uses.now limits.now }
     requires dead { AreDead (length ends.old.items) uses.now ends.old.items }
     ensures same { IfOk result (λ _. way.new.items ≡ way.old.items) }
     ensures units { IfOk result (λ _. length ends.new.items ≡ length ends.old.items) }
@@ -58,13 +67,16 @@ fn leads_on(
     if left == 0 {
         return Ok(None);
     }
+    if let Some(others) = cut_off(alloc, uses, limits, left, way.as_slice(), from)? {
+        return Ok(Some(shut(alloc, ends, left, from, others)?));
+    }
     way.push(from);
     let mut reason = Items::new(alloc);
     let mut found = false;
     let count = ends.len();
     for to in 0..count {
         if !found && !is_shut(uses, ends, left - 1, way.as_slice(), from, to, &mut reason)? {
-            match leads_on(alloc, uses, ends, left - 1, way, to)? {
+            match leads_on(alloc, uses, limits, ends, left - 1, way, to)? {
                 None => found = true,
                 Some(more) => merge(&mut reason, more.as_slice())?,
             }
@@ -72,25 +84,24 @@ fn leads_on(
     }
     way.pop();
     if found {
-        Ok(None)
-    } else {
-        Ok(Some(shut(alloc, ends, left, from, &reason)?))
+        return Ok(None);
     }
+    let others = without(alloc, from, reason.as_slice())?;
+    Ok(Some(shut(alloc, ends, left, from, others)?))
 }
 
-// Notes that no chain of so many uses leads from a unit, and gives the units on the way that suffice for it.
+// Notes that no chain of so many uses leads from a unit with these on the way.
 fn shut(
     alloc: Global,
     ends: &mut DeadEnds,
     left: usize,
     from: usize,
-    reason: &Items<usize>,
+    others: Items<usize>,
 ) -> Result<Items<usize>, AllocError>
     requires { from < length ends.old.items }
-    ensures others { IfOk result (λ r. r ≡ without from reason.now) }
-    ensures noted { IfOk result (λ _. (d : _) → ends.new.items ≡ slice_set ends.old.items from (get_or ends.old.items from d ++ record { left = left; on_way = without from reason.now } ∷ [])) }
+    ensures same { IfOk result (λ r. r ≡ others) }
+    ensures noted { IfOk result (λ _. (d : _) → ends.new.items ≡ slice_set ends.old.items from (get_or ends.old.items from d ++ record { left = left; on_way = others } ∷ [])) }
 {
-    let others = without(alloc, from, reason.as_slice())?;
     let on_way = others.try_copy(alloc)?;
     note(ends, from, DeadEnd { left, on_way })?;
     Ok(others)
