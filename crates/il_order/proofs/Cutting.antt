@@ -6,7 +6,7 @@ use Rattle.std.proofs.lemmas.Bool.{cases_lt, ltb-true}
 use Rattle.il_order.specs.Related.{any_below, is_entry, is_set, holds, closed, tabulate}
 use Rattle.il_order.specs.Used.{is_among}
 use Rattle.il_order.specs.Chained.{leads_on, AreAmong}
-use Rattle.il_order.specs.Bounded.{count_below, AreLimits, users_left, used_left, others_left, is_left, uses_made, is_used_by_few, reached_of, named_of}
+use Rattle.il_order.specs.Bounded.{count_below, AreLimits, users_left, used_left, others_left, is_left, uses_many, is_used_by_few, reached_of, named_of}
 use Rattle.il_order.specs.declared.limits.Limits.{Limits}
 use Rattle.il_order.proofs.Tabled.{or_left, or_right, from_or, and_both, from_and, not_both, tabulated, some_below, below_some}
 use Rattle.il_order.proofs.Closing.{at_first, transitive}
@@ -206,19 +206,19 @@ off_part part way from are off = by_test (is_among part from) refl
     by_test true is = absurd (not_both (is_among way from) (are from is) off)
 
 -- users of many, and what the others use, are a cover
-pub cover_is : (n most : ℕ) (uses : List (List Bool)) (users used : List Bool) → users ≡ tabulate n (λ u. nat_lt most (uses_made n uses u)) → used ≡ tabulate n (λ u. is_used_by_few n uses most u)
+pub cover_is : (n most : ℕ) (uses : List (List Bool)) (made : List ℕ) (users used : List Bool) → users ≡ tabulate n (λ u. uses_many made most u) → used ≡ tabulate n (λ u. is_used_by_few n uses made most u)
     → (u v : ℕ) → u < n → v < n → holds uses u v ≡ true → (is_set users u || is_set used v) ≡ true
-cover_is n most uses users used users_are used_are u v lu lv e = by_test (nat_lt most (uses_made n uses u)) refl
+cover_is n most uses made users used users_are used_are u v lu lv e = by_test (uses_many made most u) refl
   where
-    user : is_set users u ≡ nat_lt most (uses_made n uses u)
-    user = ap (λ row. is_set row u) users_are ∙ ap is_entry (tabulated (λ x. nat_lt most (uses_made n uses x)) n u lu)
+    user : is_set users u ≡ uses_many made most u
+    user = ap (λ row. is_set row u) users_are ∙ ap is_entry (tabulated (λ x. uses_many made most x) n u lu)
 
-    by_test : (t : Bool) → nat_lt most (uses_made n uses u) ≡ t → (is_set users u || is_set used v) ≡ true
+    by_test : (t : Bool) → uses_many made most u ≡ t → (is_set users u || is_set used v) ≡ true
     by_test true is = or_left (is_set users u) (is_set used v) (user ∙ is)
     by_test false is =
         or_right (is_set users u) (is_set used v)
-        (ap (λ row. is_set row v) used_are ∙ ap is_entry (tabulated (λ x. is_used_by_few n uses most x) n v lv)
-        ∙ below_some (λ w. holds uses w v && not (nat_lt most (uses_made n uses w))) n u lu (and_both (holds uses u v) (not (nat_lt most (uses_made n uses u))) e (not_of (nat_lt most (uses_made n uses u)) is)))
+        (ap (λ row. is_set row v) used_are ∙ ap is_entry (tabulated (λ x. is_used_by_few n uses made most x) n v lv)
+        ∙ below_some (λ w. holds uses w v && not (uses_many made most w)) n u lu (and_both (holds uses u v) (not (uses_many made most u)) e (not_of (uses_many made most u) is)))
 
 -- with a part of the way
 pub cut_at : (n : ℕ) (uses : List (List Bool)) (limits : Limits) → AreLimits n uses limits → (from : ℕ) → from < n → (way part arg : List ℕ) (left count : ℕ) (r : Bool) → is_among way from ≡ false → AreAmong part way → arg ≡ part → count ≡ n

@@ -2,6 +2,7 @@
 use Rattle.std.specs.Prelude.{◌≡◌, ℕ, zero, suc, ◌+◌, ◌<◌, nat_eq, nat_lt, Bool, true, ◌&&◌, ◌||◌, not, if◌then◌else◌, List, [], ◌∷◌}
 use Rattle.il_order.specs.Related.{tabulate, any_below, is_set, holds, closed}
 use Rattle.il_order.specs.Used.{is_among}
+use Rattle.il_order.specs.Counted.{number_at}
 use Rattle.il_order.specs.declared.limits.Limits.{Limits}
 
 -- how many numbers below a bound pass a test
@@ -13,9 +14,13 @@ count_below (suc n) test = count_below n test + (if test n then 1 else 0)
 abbrev pub uses_made : ℕ → List (List Bool) → ℕ → ℕ
 uses_made count uses from = count_below count (λ to. holds uses from to)
 
--- whether one that doesn't use more than so many uses a unit
-abbrev pub is_used_by_few : ℕ → List (List Bool) → ℕ → ℕ → Bool
-is_used_by_few count uses most to = any_below count (λ from. holds uses from to && not (nat_lt most (uses_made count uses from)))
+-- whether a unit uses more than so many, by a list of how many each uses
+abbrev pub uses_many : List ℕ → ℕ → ℕ → Bool
+uses_many made most unit = nat_lt most (number_at made unit)
+
+-- whether one that doesn't uses a unit
+abbrev pub is_used_by_few : ℕ → List (List Bool) → List ℕ → ℕ → ℕ → Bool
+is_used_by_few count uses made most to = any_below count (λ from. holds uses from to && not (uses_many made most from))
 
 -- the reached units are known, and of each use the user or the used one is in the cover
 pub record AreLimits (count : ℕ) (uses : List (List Bool)) (limits : Limits) : Type 0 where

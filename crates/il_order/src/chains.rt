@@ -14,8 +14,8 @@ use arrayvec::ArrayVec;
 use lists::Items;
 use std::alloc::{AllocError, Global};
 
-// The most units of a chain of uses (own rule).
-const LONGEST: usize = 16;
+/// The most units of a chain of uses (own rule).
+pub const LONGEST: usize = 16;
 
 // The units on the way of a search.
 type Way = ArrayVec<usize, LONGEST>;

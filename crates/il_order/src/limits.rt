@@ -7,9 +7,11 @@ ghost use Rattle.std.specs.Prelude.{◌≡◌, ◌+◌, ◌<◌, ◌||◌, nat_l
 ghost use Rattle.il_order.specs.Related.{tabulate, closed};
 ghost use Rattle.il_order.specs.Used.{is_among};
 ghost use Rattle.il_order.specs.Chained.{AreAmong, leads_on};
-ghost use Rattle.il_order.specs.Bounded.{AreLimits, is_left, users_left, used_left, others_left, uses_made, is_used_by_few, reached_of, named_of};
+ghost use Rattle.il_order.specs.Bounded.{AreLimits, is_left, users_left, used_left, others_left, uses_made, uses_many, is_used_by_few, reached_of, named_of};
 
+use crate::chains::LONGEST;
 use crate::relation::{Relation, copied, holds, is_set};
+use crate::slots::number_at;
 use crate::uses::is_among;
 use lists::Items;
 use std::alloc::{AllocError, Global};
@@ -35,40 +37,25 @@ pub fn limits_of(
     requires { reached.now ≡ closed count uses.now count }
     ensures { IfOk result (λ l. AreLimits count uses.now l) }
 {
-    let most = smallest(uses, count);
+    let numbers = all_made(alloc, uses, count)?;
+    let made = numbers.as_slice();
+    let most = smallest(uses, count, made);
     Ok(Limits {
         reached: copied(alloc, reached)?,
-        users: many_users(alloc, uses, count, most)?,
-        used: used_by_few(alloc, uses, count, most)?,
+        users: many_users(alloc, count, made, most)?,
+        used: used_by_few(alloc, uses, count, made, most)?,
     })
 }
 
-// From how many uses on a user is in the smallest of such covers.
-fn smallest(uses: &Relation, count: usize) -> usize {
-    let mut best = 0;
-    let mut least = usize::MAX;
-    for most in 0..count {
-        let size = size(uses, count, most);
-        if size < least {
-            least = size;
-            best = most;
-        }
-    }
-    best
-}
-
-// How many a cover names.
-fn size(uses: &Relation, count: usize, most: usize) -> usize {
-    let mut size: usize = 0;
+// How many each unit uses.
+fn all_made(alloc: Global, uses: &Relation, count: usize) -> Result<Items<usize>, AllocError>
+    ensures { IfOk result (λ r. r ≡ tabulate count (λ u. uses_made count uses.now u)) }
+{
+    let mut all = Items::new(alloc);
     for unit in 0..count {
-        if most < uses_made(uses, count, unit) {
-            size = size.saturating_add(1);
-        }
-        if is_used_by_few(uses, count, most, unit) {
-            size = size.saturating_add(1);
-        }
+        all.push(uses_made(uses, count, unit))?;
     }
-    size
+    Ok(all)
 }
 
 // How many a unit uses.
@@ -84,13 +71,48 @@ fn uses_made(uses: &Relation, count: usize, from: usize) -> usize
     made
 }
 
-// Whether one that doesn't use more than so many uses a unit.
-fn is_used_by_few(uses: &Relation, count: usize, most: usize, to: usize) -> bool
-    ensures { result ≡ is_used_by_few count uses.now most to }
+// The bound of the smallest of such covers. One that is of use has fewer than 17 names, so those that it doesn't name use no more.
+fn smallest(uses: &Relation, count: usize, made: &[usize]) -> usize {
+    let mut best = 0;
+    let mut least = usize::MAX;
+    for most in 0..LONGEST {
+        let size = size(uses, count, made, most);
+        if size < least {
+            least = size;
+            best = most;
+        }
+    }
+    best
+}
+
+// How many a cover names.
+fn size(uses: &Relation, count: usize, made: &[usize], most: usize) -> usize {
+    let mut size: usize = 0;
+    for unit in 0..count {
+        if uses_many(made, most, unit) {
+            size = size.saturating_add(1);
+        }
+        if is_used_by_few(uses, count, made, most, unit) {
+            size = size.saturating_add(1);
+        }
+    }
+    size
+}
+
+// Whether a unit uses more than so many.
+fn uses_many(made: &[usize], most: usize, unit: usize) -> bool
+    ensures { result ≡ uses_many made.now most unit }
+{
+    most < number_at(made, unit)
+}
+
+// Whether one that doesn't uses a unit.
+fn is_used_by_few(uses: &Relation, count: usize, made: &[usize], most: usize, to: usize) -> bool
+    ensures { result ≡ is_used_by_few count uses.now made.now most to }
 {
     let mut found = false;
     for from in 0..count {
-        found = found || (holds(uses, from, to) && !(most < uses_made(uses, count, from)));
+        found = found || (holds(uses, from, to) && !uses_many(made, most, from));
     }
     found
 }
@@ -98,15 +120,15 @@ fn is_used_by_few(uses: &Relation, count: usize, most: usize, to: usize) -> bool
 // The units that use more than so many.
 fn many_users(
     alloc: Global,
-    uses: &Relation,
     count: usize,
+    made: &[usize],
     most: usize,
 ) -> Result<Items<bool>, AllocError>
-    ensures { IfOk result (λ r. r ≡ tabulate count (λ u. nat_lt most (uses_made count uses.now u))) }
+    ensures { IfOk result (λ r. r ≡ tabulate count (λ u. uses_many made.now most u)) }
 {
     let mut row = Items::new(alloc);
     for unit in 0..count {
-        row.push(most < uses_made(uses, count, unit))?;
+        row.push(uses_many(made, most, unit))?;
     }
     Ok(row)
 }
@@ -116,13 +138,14 @@ fn used_by_few(
     alloc: Global,
     uses: &Relation,
     count: usize,
+    made: &[usize],
     most: usize,
 ) -> Result<Items<bool>, AllocError>
-    ensures { IfOk result (λ r. r ≡ tabulate count (λ u. is_used_by_few count uses.now most u)) }
+    ensures { IfOk result (λ r. r ≡ tabulate count (λ u. is_used_by_few count uses.now made.now most u)) }
 {
     let mut row = Items::new(alloc);
     for unit in 0..count {
-        row.push(is_used_by_few(uses, count, most, unit))?;
+        row.push(is_used_by_few(uses, count, made, most, unit))?;
     }
     Ok(row)
 }
