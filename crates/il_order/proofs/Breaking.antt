@@ -18,7 +18,6 @@ use Rattle.il_scope.specs.Views.{program_number}
 use Rattle.il_scope.proofs.Laws.{program_found, program_there}
 use Rattle.il_order.specs.Related.{closed}
 use Rattle.il_order.specs.Used.{uses}
-use Rattle.il_order.specs.Chained.{chains}
 use Rattle.il_order.specs.Counted.{counts, counts_of, unit_counts, units_listed, all_listed, with_variables, is_over, is_over_of, task_count, with_declared}
 use Rattle.il_order.specs.declared.variables.Variables.{Variables}
 use Rattle.il_order.specs.Breaks.{reached, UnitsBreak, LinesBreak, GlobalsBreak, SlotsBreak, AllUnitsBreak}
@@ -32,8 +31,8 @@ use Rattle.il_order.proofs.Tasks.{functions, are_functions, most_slots, task_is}
 
 module _ (c : Config) (apart : AreDistinct c) where
   units_up : (n : ℕ) (p : Place) → AllUnitsBreak c n p → BreaksOrder c n p
-  units_up n p (at, u, low, there, inl (is, number, place)) = of_recursive number (recursive u (in_place c.units at u there) (reach_to c at at u u there there is) place)
-  units_up n p (at, u, low, there, inr (is, number, place)) =
+  units_up n p (inl (at, u, low, there, (is, number, place))) = of_recursive number (recursive u (in_place c.units at u there) (reach_to c at at u u there there is) place)
+  units_up n p (inr (at, u, low, there, (is, number, place))) =
       let w = long_to c apart at u there is in of_long_chain number (long_chain u w.chain (in_place c.units at u there) w.is_chain w.once w.long place)
 
   over_is : (at : ℕ) (P : ProgramUnit) (there : slice_get c.units at ≡ Some P) → nat_lt 4096 (task_count c (reached c) (counts c (suc (length c.units + 1))) at (length c.units)) ≡ true
@@ -67,9 +66,9 @@ module _ (c : Config) (apart : AreDistinct c) where
 
   down : (n : ℕ) (p : Place) → BreaksOrder c n p → Either (AllUnitsBreak c) (SlotsBreak c) n p
   down n p (of_recursive number (recursive u among way place)) =
-      let r = place_in c.units u among in inl (r.0, u, slice_get_within c.units r.0 u r.1, r.1, inl (reach_from c apart r.0 r.0 u u r.1 r.1 way, number, place))
+      let r = place_in c.units u among in inl (inl (r.0, u, slice_get_within c.units r.0 u r.1, r.1, (reach_from c apart r.0 r.0 u u r.1 r.1 way, number, place)))
   down n p (of_long_chain number (long_chain u chain among is_chain once long place)) =
-      let r = place_in c.units u among in inl (r.0, u, slice_get_within c.units r.0 u r.1, r.1, inr (long_from c apart r.0 u chain r.1 is_chain once long, number, place))
+      let r = place_in c.units u among in inl (inr (r.0, u, slice_get_within c.units r.0 u r.1, r.1, (long_from c apart r.0 u chain r.1 is_chain once long, number, place)))
   down n p (too_many_slots number (of_task line program fs among named are over place)) =
       let l = place_in c.programs line among in
       let r = found_at c (program_number c line.program.name) (program_named c line.program.name) program (program_found c line.program.name) named in
@@ -113,14 +112,8 @@ pub reached_is : (c : Config) (count : ℕ) (used r : List (List Bool)) → coun
 reached_is c count used r counting using closing = closing ∙ ap (λ u. closed count u count) using ∙ ap (λ n. closed n (uses c true) n) counting
 
 -- all of order
-pub order_least : (c : Config) → HasNoFault (BreaksDeclarations c) → (count : ℕ) (used r long : List (List Bool)) (units slots found : Option NumberedFault)
-    → count ≡ length c.units → used ≡ uses c true → r ≡ closed count used count → long ≡ chains count used r 16
-    → IsLeast units (UnitsBreak c r long (length c.units)) → IsLeast slots (SlotsBreak c) → found ≡ earlier_of units slots → IsLeast found (λ n p. BreaksOrder c n p)
-order_least c declared count used r long units slots found counting using closing chaining a b is =
-    least_order c declared units slots found is (subst (λ x. IsLeast units (UnitsBreak c (reached c) x (length c.units))) chain (subst (λ x. IsLeast units (UnitsBreak c x long (length c.units))) reach a)) b
-  where
-    reach : r ≡ reached c
-    reach = reached_is c count used r counting using closing
-
-    chain : long ≡ chains (length c.units) (uses c true) (reached c) 16
-    chain = chaining ∙ ap (λ u. chains count u r 16) using ∙ ap (λ n. chains n (uses c true) r 16) counting ∙ ap (λ x. chains (length c.units) (uses c true) x 16) reach
+pub order_least : (c : Config) → HasNoFault (BreaksDeclarations c) → (count : ℕ) (used r : List (List Bool)) (units slots found : Option NumberedFault)
+    → count ≡ length c.units → used ≡ uses c true → r ≡ closed count used count
+    → IsLeast units (UnitsBreak c used r) → IsLeast slots (SlotsBreak c) → found ≡ earlier_of units slots → IsLeast found (λ n p. BreaksOrder c n p)
+order_least c declared count used r units slots found counting using closing a b is =
+    least_order c declared units slots found is (subst (λ x. IsLeast units (UnitsBreak c x (reached c))) using (subst (λ x. IsLeast units (UnitsBreak c used x)) (reached_is c count used r counting using closing) a)) b

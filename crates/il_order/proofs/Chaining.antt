@@ -9,10 +9,8 @@ use Rattle.std.proofs.lemmas.List.Quantifiers.{all_pairs_push}
 use Rattle.il_spec.specs.declared.tree.Config.{Config}
 use Rattle.il_spec.specs.declared.tree.Unit.{Unit as ProgramUnit}
 use Rattle.il_rules.specs.Order.{IsChain, NamesNoneTwice}
-use Rattle.il_order.specs.Related.{holds}
 use Rattle.il_order.specs.Used.{uses, is_among}
-use Rattle.il_order.specs.Chained.{chains}
-use Rattle.il_order.specs.Breaks.{reached}
+use Rattle.il_order.specs.Chained.{is_long}
 use Rattle.il_order.proofs.Tabled.{from_or, or_left, or_right}
 use Rattle.il_order.proofs.Distinct.{AreDistinct}
 use Rattle.il_order.proofs.Using.{held_to, held_from}
@@ -129,16 +127,16 @@ module _ (c : Config) where
     alone : (U : ProgramUnit) → NamesNoneTwice (U ∷ [])
     alone U = λ i j d low high. absurd (omega (arith, low, high))
 
-    pub long_to : (u : ℕ) (U : ProgramUnit) → slice_get c.units u ≡ Some U → holds (chains (length c.units) (uses c true) (reached c) 16) 16 u ≡ true → IsLong U
+    pub long_to : (u : ℕ) (U : ProgramUnit) → slice_get c.units u ≡ Some U → is_long (length c.units) (uses c true) u ≡ true → IsLong U
     long_to u U here e =
-        let way = chain_to (length c.units) (uses c true) 16 u (slice_get_within c.units u U here) e in
+        let way = chain_to (length c.units) (uses c true) u e in
         let r = units_of way.0 u U here way.1 in
         let long = as_many way.0 r.0 r.2 in
         let sixteen = way.2 in
         record { chain = r.0; is_chain = r.1; once = once_to way.0 r.0 (u ∷ []) (U ∷ []) (here, tt) r.2 (alone U) way.3; long = omega (arith, long, sixteen) }
 
-    pub long_from : (u : ℕ) (U : ProgramUnit) (chain : List ProgramUnit) → slice_get c.units u ≡ Some U → IsChain c U chain → NamesNoneTwice (U ∷ chain) → 16 < length (U ∷ chain) → holds (chains (length c.units) (uses c true) (reached c) 16) 16 u ≡ true
+    pub long_from : (u : ℕ) (U : ProgramUnit) (chain : List ProgramUnit) → slice_get c.units u ≡ Some U → IsChain c U chain → NamesNoneTwice (U ∷ chain) → 16 < length (U ∷ chain) → is_long (length c.units) (uses c true) u ≡ true
     long_from u U chain here is once long =
         let r = numbers_of chain u U here is in
         let same = as_many r.0 chain r.2 in
-        chain_from (length c.units) (uses c true) 16 u r.0 (slice_get_within c.units u U here) r.1 (once_from r.0 chain (u ∷ []) (U ∷ []) (here, tt) r.2 once) (omega (arith, same, long))
+        chain_from (length c.units) (uses c true) u r.0 r.1 (once_from r.0 chain (u ∷ []) (U ∷ []) (here, tt) r.2 once) (omega (arith, same, long))

@@ -4,6 +4,9 @@ pub mod Distinct
 pub mod Using
 pub mod Reaching
 pub mod Ways
+pub mod Dead
+pub mod Cutting
+pub mod Places
 pub mod Searching
 pub mod Chaining
 pub mod Counting

@@ -1,24 +1,33 @@
 -- What breaks the rules of order and of slots, as the code looks for it.
-use Rattle.std.specs.Prelude.{◌≡◌, ℕ, ◌+◌, suc, Bool, true, nat_lt, List, length, Some}
+use Rattle.std.specs.Prelude.{◌≡◌, ℕ, ◌+◌, suc, Bool, true, nat_lt, List, length, Option, None, Some}
 use Rattle.il_spec.specs.declared.tree.Config.{Config}
 use Rattle.il_spec.specs.declared.tree.Place.{Place}
-use Rattle.il_found.specs.Least.{When, Either, Below}
+use Rattle.il_found.specs.Least.{NumberedFault, fault_at, is_before, When, Either, Below}
 use Rattle.il_order.specs.Related.{holds, closed}
 use Rattle.il_order.specs.Used.{uses}
-use Rattle.il_order.specs.Chained.{chains}
+use Rattle.il_order.specs.Chained.{is_long}
 use Rattle.il_order.specs.Counted.{with_declared, counts, is_over}
 
 -- the relation of the units that reach which
 abbrev pub reached : Config → List (List Bool)
 reached config = closed (length config.units) (uses config true) (length config.units)
 
--- a unit that reaches itself, or has a chain that is too long
-abbrev pub UnitBreaks : List (List Bool) → List (List Bool) → ℕ → Place → ℕ → Place → Type 0
-UnitBreaks reached chains at place = Either (When (holds reached at at ≡ true) 36 place) (When (holds chains 16 at ≡ true) 46 place)
+-- units below an index that reach themselves
+abbrev pub RecursionsBreak : Config → List (List Bool) → ℕ → ℕ → Place → Type 0
+RecursionsBreak config reached = Below (λ at unit. When (holds reached at at ≡ true) 36 unit.place) config.units
 
--- those below an index
-abbrev pub UnitsBreak : Config → List (List Bool) → List (List Bool) → ℕ → ℕ → Place → Type 0
-UnitsBreak config reached chains = Below (λ at unit. UnitBreaks reached chains at unit.place) config.units
+-- units below an index with a chain that is too long
+abbrev pub ChainsBreak : Config → List (List Bool) → ℕ → ℕ → Place → Type 0
+ChainsBreak config uses = Below (λ at unit. When (is_long (length config.units) uses at ≡ true) 46 unit.place) config.units
+
+-- all of units
+abbrev pub UnitsBreak : Config → List (List Bool) → List (List Bool) → ℕ → Place → Type 0
+UnitsBreak config uses reached = Either (RecursionsBreak config reached (length config.units)) (ChainsBreak config uses (length config.units))
+
+-- whether a chain that is too long, from a unit at a place, would be named before a fault
+abbrev pub precedes : Place → Option NumberedFault → Bool
+precedes place None = true
+precedes place (Some f) = is_before (fault_at 46 place) f
 
 -- PROGRAM lines below an index with too many slots
 abbrev pub LinesBreak : Config → List (List Bool) → List ℕ → ℕ → ℕ → Place → Type 0
@@ -36,4 +45,4 @@ SlotsBreak config = Either (LinesBreak config (reached config) (counts config (s
 
 -- all of order
 abbrev pub AllUnitsBreak : Config → ℕ → Place → Type 0
-AllUnitsBreak config = UnitsBreak config (reached config) (chains (length config.units) (uses config true) (reached config) 16) (length config.units)
+AllUnitsBreak config = UnitsBreak config (uses config true) (reached config)

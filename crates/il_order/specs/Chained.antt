@@ -1,34 +1,41 @@
--- Chains of uses that name no unit twice.
-use Rattle.std.specs.Prelude.{ℕ, zero, suc, ◌+◌, nat_eq, nat_lt, Bool, true, ◌&&◌, ◌||◌, not, if◌then◌else◌, List, [], ◌∷◌, ◌++◌}
-use Rattle.il_order.specs.Related.{tabulate, any_below, holds}
+-- Chains of uses that name no unit twice, and what keeps them from going on.
+use Rattle.std.specs.Prelude.{◌≡◌, ℕ, zero, suc, ◌≤◌, nat_eq, Bool, true, false, ◌&&◌, ◌||◌, not, if◌then◌else◌, List, [], ◌∷◌, ◌++◌, Some, slice_get}
+use Rattle.il_order.specs.Related.{any_below, holds}
 use Rattle.il_order.specs.Used.{is_among}
+use Rattle.il_order.specs.declared.dead_ends.DeadEnd.{DeadEnd}
 
--- Here `chains` holds of a number of uses and a unit where a chain of so many leads from the unit.
+-- whether so many uses lead on from a unit, to none on the way to it and to none twice
+abbrev pub leads_on : ℕ → List (List Bool) → ℕ → List ℕ → ℕ → Bool
+leads_on count uses zero before from = true
+leads_on count uses (suc left) before from = any_below count (λ to. holds uses from to && not (is_among (before ++ from ∷ []) to) && leads_on count uses left (before ++ from ∷ []) to)
 
--- whether a way goes on from a unit to another that is not on it, and from which a chain of the uses that are left leads
-abbrev pub goes_on : List (List Bool) → List (List Bool) → ℕ → List ℕ → ℕ → ℕ → Bool
-goes_on uses chains left way from to = holds uses from to && not (is_among way to) && holds chains left to
+-- whether a chain of more than 16 units, itself counted, leads from a unit
+unfoldable pub is_long : ℕ → List (List Bool) → ℕ → Bool
+is_long count uses unit = leads_on count uses 16 [] unit
 
--- whether so many uses lead on from a unit, to none on the way to it; from where nothing leads back, no chain meets the way
-abbrev pub leads_on : ℕ → List (List Bool) → List (List Bool) → List (List Bool) → ℕ → List ℕ → ℕ → Bool
-leads_on count uses reached chains zero before from = true
-leads_on count uses reached chains (suc left) before from =
-    any_below count (λ to. goes_on uses chains left (before ++ from ∷ []) from to && (not (holds reached to from) || leads_on count uses reached chains left (before ++ from ∷ []) to))
+-- whether each number of a list is one of another
+abbrev pub are_among : List ℕ → List ℕ → Bool
+are_among [] way = true
+are_among (n ∷ ns) way = is_among way n && are_among ns way
 
--- how many numbers below a bound pass a test
-abbrev pub count_below : ℕ → (ℕ → Bool) → ℕ
-count_below zero test = 0
-count_below (suc n) test = count_below n test + (if test n then 1 else 0)
+-- the numbers of one list, and behind them those of another that are not among them
+abbrev pub merged : List ℕ → List ℕ → List ℕ
+merged first [] = first
+merged first (n ∷ ns) = merged (if is_among first n then first else first ++ n ∷ []) ns
 
--- how many others a unit reaches
-abbrev pub others : ℕ → List (List Bool) → ℕ → ℕ
-others count reached from = count_below count (λ to. holds reached from to && not (nat_eq to from))
+-- the numbers of a list but one
+abbrev pub without : ℕ → List ℕ → List ℕ
+without one [] = []
+without one (n ∷ ns) = if nat_eq n one then without one ns else n ∷ without one ns
 
--- whether a chain of one use more leads from a unit: one of these does, it reaches enough others, and the uses are found
-abbrev pub has_longer : ℕ → List (List Bool) → List (List Bool) → List (List Bool) → ℕ → ℕ → Bool
-has_longer count uses reached chains length from = holds chains length from && nat_lt length (others count reached from) && leads_on count uses reached chains (suc length) [] from
+-- each number of a list is one of another
+abbrev pub AreAmong : List ℕ → List ℕ → Type 0
+AreAmong numbers way = (k : ℕ) → is_among numbers k ≡ true → is_among way k ≡ true
 
--- the units from which a chain leads, for each number of uses up to one
-abbrev pub chains : ℕ → List (List Bool) → List (List Bool) → ℕ → List (List Bool)
-chains count uses reached zero = tabulate count (λ _. true) ∷ []
-chains count uses reached (suc length) = chains count uses reached length ++ tabulate count (λ from. has_longer count uses reached (chains count uses reached length) length from) ∷ []
+-- whether no way goes on to a unit: it is one of those on the way, or with them so many uses don't lead on from it
+abbrev pub is_shut : ℕ → List (List Bool) → ℕ → List ℕ → ℕ → Bool
+is_shut count uses left way to = is_among way to || not (leads_on count uses left way to)
+
+-- dead ends of each unit, as they are
+abbrev pub AreDead : ℕ → List (List Bool) → List (List DeadEnd) → Type 0
+AreDead count uses ends = (u : ℕ) (row : List DeadEnd) (i : ℕ) (e : DeadEnd) → slice_get ends u ≡ Some row → slice_get row i ≡ Some e → leads_on count uses e.left e.on_way u ≡ false

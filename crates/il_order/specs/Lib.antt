@@ -1,3 +1,4 @@
+pub mod Bounded
 pub mod Breaks
 pub mod Chained
 pub mod Counted

@@ -1,19 +1,24 @@
 // The rules of order and of slots in a configuration.
 
-ghost use Rattle.std.specs.Prelude.{◌≡◌, IfOk, length};
+ghost use Rattle.std.specs.Prelude.{◌≡◌, ◌<◌, IfOk, length};
 ghost use Rattle.il_rules.specs.Faults.{HasNoFault, BreaksDeclarations, BreaksOrder};
-ghost use Rattle.il_found.specs.Least.{IsLeast};
+ghost use Rattle.il_found.specs.Least.{IsLeast, earlier_of, fault_of};
 ghost use Rattle.il_order.specs.Breaks as breaks;
 ghost use Rattle.il_order.specs.Instances.{needed};
-ghost use Rattle.il_order.specs.Breaks.{UnitBreaks, UnitsBreak, AllUnitsBreak, LinesBreak, GlobalsBreak, SlotsBreak};
+ghost use Rattle.il_order.specs.Breaks.{RecursionsBreak, UnitsBreak, LinesBreak, GlobalsBreak, SlotsBreak, precedes};
+ghost use Rattle.il_order.specs.Bounded.{AreLimits};
+ghost use Rattle.il_order.specs.Chained.{AreDead, is_long};
+ghost use Rattle.il_order.specs.Related.{closed};
 
-use crate::chains::{LONGEST, chains};
+use crate::chains::is_long;
+use crate::dead_ends::{DeadEnds, no_ends};
 use crate::fault::OrderFault;
+use crate::limits::{Limits, limits_of};
 use crate::relation::{Relation, closed, holds};
 use crate::slots::{MOST, counts, is_over, unit_counts, with_variables};
 use crate::uses::{are_named, uses};
 use crate::variables::{all_listed, units_listed};
-use il_found::{Found, earlier, fault_if};
+use il_found::{Found, PhaseFault, earlier, fault_if};
 use il_scope::Scoped;
 use il_spec::tree::Place;
 use lists::Items;
@@ -37,8 +42,7 @@ pub fn order_fault(alloc: Global, names: &Scoped) -> Result<Checked, AllocError>
     let count = names.config().units.as_slice().len();
     let uses = uses(alloc, names, true)?;
     let reached = closed(alloc, &uses, count)?;
-    let chains = chains(alloc, &uses, &reached, count)?;
-    let units = units_fault(names, &reached, &chains);
+    let units = units_fault(alloc, names, &uses, &reached)?;
     let slots = slots_fault(alloc, names, &reached)?;
     Ok(Checked {
         fault: earlier(units, slots),
@@ -60,31 +64,81 @@ pub fn needed(alloc: Global, names: &Scoped, reached: Relation) -> Result<Relati
 }
 
 // The first unit that reaches itself, or has a chain of uses that is too long.
-fn units_fault(names: &Scoped, reached: &Relation, chains: &Relation) -> Option<Found<OrderFault>>
-    ensures { IsLeast result (UnitsBreak names.now reached.now chains.now (length names.now.units)) }
+fn units_fault(
+    alloc: Global,
+    names: &Scoped,
+    uses: &Relation,
+    reached: &Relation,
+) -> Result<Option<Found<OrderFault>>, AllocError>
+    requires count { length uses.now ≡ length names.now.units }
+    requires reached { reached.now ≡ closed (length uses.now) uses.now (length uses.now) }
+    ensures { IfOk result (λ found. IsLeast found (UnitsBreak names.now uses.now reached.now)) }
+{
+    let units = names.config().units.as_slice();
+    let limits = limits_of(alloc, uses, reached, units.len())?;
+    let mut ends = no_ends(alloc, units.len())?;
+    let mut found = recursive_fault(names, reached);
+    for at in 0..units.len() {
+        let unit = &units[at];
+        found = with_chain(alloc, uses, &limits, &mut ends, at, unit.place, found)?;
+    }
+    Ok(found)
+}
+
+// The first unit that reaches itself.
+fn recursive_fault(names: &Scoped, reached: &Relation) -> Option<Found<OrderFault>>
+    ensures { IsLeast result (RecursionsBreak names.now reached.now (length names.now.units)) }
 {
     let units = names.config().units.as_slice();
     let mut found = None;
     for at in 0..units.len() {
         let unit = &units[at];
-        let here = unit_fault(reached, chains, at, unit.place);
+        let here = fault_if(holds(reached, at, at), OrderFault::Recursive, unit.place);
         found = earlier(found, here);
     }
     found
 }
 
-// Whether a unit does.
-fn unit_fault(
-    reached: &Relation,
-    chains: &Relation,
+// The first of what was found and of a unit's chain that is too long. Such a chain is searched only where it would be the first.
+fn with_chain(
+    alloc: Global,
+    uses: &Relation,
+    limits: &Limits,
+    ends: &mut DeadEnds,
     at: usize,
     place: Place,
-) -> Option<Found<OrderFault>>
-    ensures { IsLeast result (UnitBreaks reached.now chains.now at place) }
+    found: Option<Found<OrderFault>>,
+) -> Result<Option<Found<OrderFault>>, AllocError>
+    requires unit { at < length ends.old.items }
+    requires count { length ends.old.items ≡ length uses.now }
+    requires limits { AreLimits (length uses.now) uses.now limits.now }
+    requires dead { AreDead (length ends.old.items) uses.now ends.old.items }
+    ensures units { IfOk result (λ _. length ends.new.items ≡ length ends.old.items) }
+    ensures dead { IfOk result (λ _. AreDead (length ends.old.items) uses.now ends.new.items) }
+    ensures first { IfOk result (λ r. r ≡ earlier_of found (fault_of (is_long (length ends.old.items) uses.now at) 46 place)) }
 {
-    let recursive = fault_if(holds(reached, at, at), OrderFault::Recursive, place);
-    let long = fault_if(holds(chains, LONGEST, at), OrderFault::TooDeepCalls, place);
-    earlier(recursive, long)
+    if !precedes(place, &found) {
+        return Ok(found);
+    }
+    let long = is_long(alloc, uses, limits, ends, at)?;
+    Ok(earlier(found, fault_if(long, OrderFault::TooDeepCalls, place)))
+}
+
+// Whether a chain that is too long, from a unit at this place, would be named before a fault.
+fn precedes(place: Place, found: &Option<Found<OrderFault>>) -> bool
+    ensures { result ≡ precedes place found.now }
+{
+    match found {
+        None => true,
+        Some(fault) => {
+            let there = fault.place().offset;
+            if place.offset == there {
+                OrderFault::TooDeepCalls.number() < fault.number()
+            } else {
+                place.offset < there
+            }
+        }
+    }
 }
 
 // The first task, or the globals, with too many slots.

@@ -1,9 +1,13 @@
 // Chains of uses that name no unit twice.
 
-ghost use Rattle.std.specs.Prelude.{◌≡◌, ◌+◌, ◌≤◌, IfOk, [], true, length};
-ghost use Rattle.il_order.specs.Related.{tabulate};
-ghost use Rattle.il_order.specs.Chained.{goes_on, leads_on, others, has_longer, chains};
+ghost use Rattle.std.specs.Prelude.{◌≡◌, ◌+◌, ◌<◌, ◌≤◌, ◌++◌, ◌∷◌, IfOk, IfSome, None, [], true, false, length, slice_set, get_or};
+ghost use Rattle.il_order.specs.Related.{holds};
+ghost use Rattle.il_order.specs.Used.{is_among};
+ghost use Rattle.il_order.specs.Chained.{is_long, leads_on, is_shut, AreAmong, AreDead};
+ghost use Rattle.il_order.specs.Bounded.{AreLimits};
 
+use crate::dead_ends::{DeadEnd, DeadEnds, merge, met, note, without};
+use crate::limits::{Limits, cut_off};
 use crate::relation::{Relation, holds};
 use crate::uses::is_among;
 use arrayvec::ArrayVec;
@@ -13,127 +17,124 @@ use std::alloc::{AllocError, Global};
 /// The most units of a chain of uses (own rule).
 pub const LONGEST: usize = 16;
 
-/// The units on the way of a search.
+// The units on the way of a search.
 type Way = ArrayVec<usize, LONGEST>;
 
-/// The units from which a chain of uses leads, for each number of uses up to 16.
-pub fn chains(
+/// Whether a chain of more than 16 units, itself counted, that names none twice leads from a unit. Dead ends that are found are noted.
+pub fn is_long(
     alloc: Global,
     uses: &Relation,
-    reached: &Relation,
-    count: usize,
-) -> Result<Relation, AllocError>
-    ensures { IfOk result (λ c. c ≡ chains count uses.now reached.now 16) }
-{
-    let mut chains = Items::new(alloc);
-    chains.push(all_set(alloc, count)?)?;
-    for length in 0..LONGEST {
-        let longer = longer(alloc, uses, reached, &chains, count, length)?;
-        chains.push(longer)?;
-    }
-    Ok(chains)
-}
-
-// A row with all entries set: no use is a chain from each unit.
-fn all_set(alloc: Global, count: usize) -> Result<Items<bool>, AllocError>
-    ensures { IfOk result (λ r. r ≡ tabulate count (λ _. true)) }
-{
-    let mut row = Items::new(alloc);
-    for _at in 0..count {
-        row.push(true)?;
-    }
-    Ok(row)
-}
-
-// The units from which a chain of one use more leads.
-fn longer(
-    alloc: Global,
-    uses: &Relation,
-    reached: &Relation,
-    chains: &Relation,
-    count: usize,
-    length: usize,
-) -> Result<Items<bool>, AllocError>
-    requires { length ≤ 15 }
-    ensures { IfOk result (λ r. r ≡ tabulate count (λ from. has_longer count uses.now reached.now chains.now length from)) }
-{
-    let mut row = Items::new(alloc);
-    for from in 0..count {
-        row.push(has_longer(uses, reached, chains, count, length, from))?;
-    }
-    Ok(row)
-}
-
-// Whether such a chain leads from a unit. No search is made where one use less is too many, or too few units are reached.
-fn has_longer(
-    uses: &Relation,
-    reached: &Relation,
-    chains: &Relation,
-    count: usize,
-    length: usize,
-    from: usize,
-) -> bool
-    requires { length ≤ 15 }
-    ensures { result ≡ has_longer count uses.now reached.now chains.now length from }
+    limits: &Limits,
+    ends: &mut DeadEnds,
+    unit: usize,
+) -> Result<bool, AllocError>
+    requires unit { unit < length ends.old.items }
+    requires count { length ends.old.items ≡ length uses.now }
+    requires limits { AreLimits (length uses.now) uses.now limits.now }
+    requires dead { AreDead (length ends.old.items) uses.now ends.old.items }
+    ensures units { IfOk result (λ _. length ends.new.items ≡ length ends.old.items) }
+    ensures dead { IfOk result (λ _. AreDead (length ends.old.items) uses.now ends.new.items) }
+    ensures is { IfOk result (λ long. long ≡ is_long (length ends.old.items) uses.now unit) }
 {
     let mut way = ArrayVec::new();
-    holds(chains, length, from)
-        && length < others(reached, count, from)
-        && leads_on(uses, reached, chains, count, length + 1, &mut way, from)
+    let shut = leads_on(alloc, uses, limits, ends, LONGEST, &mut way, unit)?;
+    Ok(shut.is_none())
 }
 
-// How many others a unit reaches.
-fn others(reached: &Relation, count: usize, from: usize) -> usize
-    ensures { result ≡ others count reached.now from }
-{
-    let mut others = 0;
-    for to in 0..count {
-        if holds(reached, from, to) && to != from {
-            others += 1;
-        }
-    }
-    others
-}
-
-// Whether so many uses lead on from a unit to none on the way to it. Where nothing leads back, the rows tell; else each way is tried.
+// Whether so many uses lead on from a unit, to none on the way to it. If not, some of the units on the way suffice for that.
 fn leads_on(
+    alloc: Global,
     uses: &Relation,
-    reached: &Relation,
-    chains: &Relation,
-    count: usize,
+    limits: &Limits,
+    ends: &mut DeadEnds,
     left: usize,
     way: &mut Way,
     from: usize,
-) -> bool
-    requires { length way.old.items + left ≤ 16 }
-    ensures same { way.new.items ≡ way.old.items }
-    ensures found { result ≡ leads_on count uses.now reached.now chains.now left way.old.items from }
+) -> Result<Option<Items<usize>>, AllocError>
+    requires room { length way.old.items + left ≤ 16 }
+    requires unit { from < length ends.old.items }
+    requires away { is_among way.old.items from ≡ false }
+    requires count { length ends.old.items ≡ length uses.now }
+    requires limits { AreLimits (length uses.now) uses.now limits.now }
+    requires dead { AreDead (length ends.old.items) uses.now ends.old.items }
+    ensures same { IfOk result (λ _. way.new.items ≡ way.old.items) }
+    ensures units { IfOk result (λ _. length ends.new.items ≡ length ends.old.items) }
+    ensures dead { IfOk result (λ _. AreDead (length ends.old.items) uses.now ends.new.items) }
+    ensures found { IfOk result (λ o. o ≡ None → leads_on (length ends.old.items) uses.now left way.old.items from ≡ true) }
+    ensures among { IfOk result (λ o. IfSome o (λ reason. AreAmong reason way.old.items)) }
+    ensures none { IfOk result (λ o. IfSome o (λ reason. leads_on (length ends.old.items) uses.now left reason from ≡ false)) }
 {
     if left == 0 {
-        return true;
+        return Ok(None);
+    }
+    if let Some(others) = cut_off(alloc, uses, limits, left, way.as_slice(), from)? {
+        return Ok(Some(shut(alloc, ends, left, from, others)?));
     }
     way.push(from);
+    let mut reason = Items::new(alloc);
     let mut found = false;
+    let count = ends.len();
     for to in 0..count {
-        if !found && goes_on(uses, chains, left - 1, way.as_slice(), from, to) {
-            found = !holds(reached, to, from)
-                || leads_on(uses, reached, chains, count, left - 1, way, to);
+        if !found && !is_shut(uses, ends, left - 1, way.as_slice(), from, to, &mut reason)? {
+            match leads_on(alloc, uses, limits, ends, left - 1, way, to)? {
+                None => found = true,
+                Some(more) => merge(&mut reason, more.as_slice())?,
+            }
         }
     }
     way.pop();
-    found
+    if found {
+        return Ok(None);
+    }
+    let others = without(alloc, from, reason.as_slice())?;
+    Ok(Some(shut(alloc, ends, left, from, others)?))
 }
 
-// Whether a way goes on to a unit that is not on it, from which a chain of the uses that are left leads.
-fn goes_on(
+// Notes that no chain of so many uses leads from a unit with these on the way.
+fn shut(
+    alloc: Global,
+    ends: &mut DeadEnds,
+    left: usize,
+    from: usize,
+    others: Items<usize>,
+) -> Result<Items<usize>, AllocError>
+    requires { from < length ends.old.items }
+    ensures same { IfOk result (λ r. r ≡ others) }
+    ensures noted { IfOk result (λ _. (d : _) → ends.new.items ≡ slice_set ends.old.items from (get_or ends.old.items from d ++ record { left = left; on_way = others } ∷ [])) }
+{
+    let on_way = others.try_copy(alloc)?;
+    note(ends, from, DeadEnd { left, on_way })?;
+    Ok(others)
+}
+
+// Whether a unit doesn't use another, or is known not to lead on there. The units on the way that suffice for it are added to the reason.
+fn is_shut(
     uses: &Relation,
-    chains: &Relation,
+    ends: &DeadEnds,
     left: usize,
     way: &[usize],
     from: usize,
     to: usize,
-) -> bool
-    ensures { result ≡ goes_on uses.now chains.now left way.now from to }
+    reason: &mut Items<usize>,
+) -> Result<bool, AllocError>
+    requires unit { to < length ends.now.items }
+    requires dead { AreDead (length ends.now.items) uses.now ends.now.items }
+    ensures more { IfOk result (λ _. AreAmong reason.old reason.new) }
+    ensures among { IfOk result (λ _. AreAmong reason.old way.now → AreAmong reason.new way.now) }
+    ensures shut { IfOk result (λ b. b ≡ true → holds uses.now from to ≡ true → is_shut (length ends.now.items) uses.now left reason.new to ≡ true) }
+    ensures open { IfOk result (λ b. b ≡ false → holds uses.now from to ≡ true × (is_among way.now to ≡ false)) }
 {
-    holds(uses, from, to) && !is_among(way, to) && holds(chains, left, to)
+    if !holds(uses, from, to) {
+        return Ok(true);
+    }
+    let known = ends[to].as_slice();
+    if let Some(at) = met(known, left, way) {
+        merge(reason, known[at].on_way.as_slice())?;
+        return Ok(true);
+    }
+    let again = is_among(way, to);
+    if again {
+        merge(reason, &[to])?;
+    }
+    Ok(again)
 }

@@ -4,7 +4,9 @@
 mod answer;
 mod chains;
 mod container;
+mod dead_ends;
 mod fault;
+mod limits;
 mod relation;
 mod slots;
 mod uses;

@@ -9,8 +9,8 @@ use std::alloc::{AllocError, Global};
 /// Which units are related to which: a row for each unit, counted from 0, with an entry for each unit.
 pub type Relation = Items<Items<bool>>;
 
-// Whether an entry of a row is set.
-fn is_set(row: &Items<bool>, at: usize) -> bool
+/// Whether an entry of a row is set.
+pub fn is_set(row: &Items<bool>, at: usize) -> bool
     ensures { result ≡ is_set row.now at }
 {
     match row.as_slice().get(at) {
@@ -40,8 +40,8 @@ pub fn closed(alloc: Global, relation: &Relation, count: usize) -> Result<Relati
     Ok(closed)
 }
 
-// The relation, on memory of its own.
-fn copied(alloc: Global, relation: &Relation) -> Result<Relation, AllocError>
+/// The relation, on memory of its own.
+pub fn copied(alloc: Global, relation: &Relation) -> Result<Relation, AllocError>
     ensures { IfOk result (λ r. r ≡ relation.now) }
 {
     let mut rows = Items::new(alloc);

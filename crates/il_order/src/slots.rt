@@ -111,7 +111,7 @@ fn block_count(counted: &Items<usize>, block: Option<BlockType>) -> usize
     match block {
         None => 0,
         Some(BlockType::Standard(standard)) => standard_slots(standard),
-        Some(BlockType::Own(number)) => number_at(counted, number),
+        Some(BlockType::Own(number)) => number_at(counted.as_slice(), number),
     }
 }
 
@@ -129,11 +129,11 @@ fn standard_slots(block: StandardBlock) -> usize
     }
 }
 
-// A number of a list.
-fn number_at(counted: &Items<usize>, at: usize) -> usize
+/// A number of a list.
+pub fn number_at(counted: &[usize], at: usize) -> usize
     ensures { result ≡ number_at counted.now at }
 {
-    match counted.as_slice().get(at) {
+    match counted.get(at) {
         Some(number) => *number,
         None => 0,
     }
@@ -160,7 +160,7 @@ fn task_count(names: &Scoped, reached: &Relation, counted: &Items<usize>, progra
     ensures { result ≡ task_count names.now reached.now counted.now program (length names.now.units) }
 {
     let count = names.config().units.as_slice().len();
-    let mut total = number_at(counted, program);
+    let mut total = number_at(counted.as_slice(), program);
     for at in 0..count {
         total = sum(total, function_count(names, reached, counted, program, at));
     }
@@ -179,7 +179,7 @@ fn function_count(
 {
     let reaches = holds(reached, program, at);
     if reaches && is_function_at(names, at) {
-        sum(number_at(counted, at), 1)
+        sum(number_at(counted.as_slice(), at), 1)
     } else {
         0
     }

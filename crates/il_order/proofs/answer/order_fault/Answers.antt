@@ -4,8 +4,8 @@ use Rattle.il_order.proofs.answer.order_fault.Goals as goal
 
 pub returns-clause-fault : goal.returns-clause-fault
 returns-clause-fault c =
-    order_least c.args.names.now c.requires (length c.as_slice-count.result.now) c.in_ok-uses.uses c.in_ok-reached.reached c.in_ok-chains.chains c.units_fault-units.result c.in_ok-slots.slots c.earlier.result
-    (ap length (c.as_slice-count.ensures ∙ ap (λ k. k.units) c.config.ensures)) c.in_ok-uses.ensures c.in_ok-reached.ensures c.in_ok-chains.ensures c.units_fault-units.ensures c.in_ok-slots.ensures c.earlier.ensures
+    order_least c.args.names.now c.requires (length c.as_slice-count.result.now) c.in_ok-uses.uses c.in_ok-reached.reached c.in_ok-units.units c.in_ok-slots.slots c.earlier.result
+    (ap length (c.as_slice-count.ensures ∙ ap (λ k. k.units) c.config.ensures)) c.in_ok-uses.ensures c.in_ok-reached.ensures c.in_ok-units.ensures c.in_ok-slots.ensures c.earlier.ensures
 
 pub returns-clause-reached : goal.returns-clause-reached
 returns-clause-reached c =

@@ -1,13 +1,17 @@
-use Rattle.std.proofs.Common.{◌≡◌, ◌-◌, ◌&&◌, ◌||◌, ◌∷◌, [], ◌++◌}
-use Rattle.std.specs.Prelude.{not}
-use Rattle.il_order.specs.Related.{any_below, holds}
-use Rattle.il_order.specs.Chained.{goes_on, leads_on}
+use Rattle.std.proofs.Common.{◌≡◌, ℕ, ◌-◌, ◌<◌, ◌∷◌, [], ◌++◌, true, false, length}
+use Rattle.il_order.specs.Related.{holds}
+use Rattle.il_order.specs.Chained.{leads_on, is_shut, AreAmong, AreDead}
 use Rattle.il_order.proofs.chains.+leads_on.Given as goal
 
 abbrev pub invariant-loop-to : goal.invariant-loop-to
 invariant-loop-to l = record {
   way : l.way.items ≡ l.fn.way.items ++ l.from ∷ [];
-  found : l.found ≡ any_below l.to (λ k. goes_on l.uses l.chains (l.left - 1) (l.fn.way.items ++ l.from ∷ []) l.from k && (not (holds l.reached k l.from) || leads_on l.count l.uses l.reached l.chains (l.left - 1) (l.fn.way.items ++ l.from ∷ []) k));
+  units : length l.ends.items ≡ l.count;
+  same : l.count ≡ length l.fn.ends.items;
+  dead : AreDead (length l.fn.ends.items) l.uses l.ends.items;
+  among : AreAmong l.reason (l.fn.way.items ++ l.from ∷ []);
+  found : l.found ≡ true → leads_on (length l.fn.ends.items) l.uses l.left l.fn.way.items l.from ≡ true;
+  shut : l.found ≡ false → (k : ℕ) → k < l.to → holds l.uses l.from k ≡ true → is_shut (length l.fn.ends.items) l.uses (l.left - 1) l.reason k ≡ true;
 }
 
 abbrev pub decreases-leads_on : goal.decreases-leads_on
