@@ -110,7 +110,9 @@ impl TextFiles for Shelf {
     ghost fails = { λ shelf name _ fault. FailsFor (file_named shelf.files.items name) fault };
 
     fn read(&self, alloc: Global, name: &str, limit: usize) -> Result<Vec<u8>, ReadFault> {
-        let file = self.named(name).ok_or(ReadFault::CannotRead(Cause::Missing))?;
+        let file = self
+            .named(name)
+            .ok_or(ReadFault::CannotRead(Cause::Missing))?;
         if file.is_broken {
             return Err(ReadFault::NoMemory);
         }
