@@ -69,11 +69,12 @@ pub fn without(alloc: Global, one: usize, numbers: &[usize]) -> Result<Items<usi
     Ok(others)
 }
 
-/// The place of a dead end that is met with these units on the way.
+/// The place of a dead end that is met with these units on the way. Newer ones are looked at first.
 pub fn met(ends: &[DeadEnd], left: usize, way: &[usize]) -> Option<usize>
     ensures { IfSome result (λ i. i < length ends.now × ((d : _) → ((get_or ends.now i d).left ≤ left) × (are_among (get_or ends.now i d).on_way way.now ≡ true))) }
 {
-    for at in 0..ends.len() {
+    for newer in 0..ends.len() {
+        let at = ends.len() - 1 - newer;
         let end = &ends[at];
         if end.left <= left && are_among(end.on_way.as_slice(), way) {
             return Some(at);

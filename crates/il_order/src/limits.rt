@@ -167,6 +167,9 @@ pub fn cut_off(
     ensures none { IfOk result (λ o. IfSome o (λ r. leads_on (length uses.now) uses.now left r from ≡ false)) }
 {
     let count = uses.as_slice().len();
+    if !is_cut_off(limits, count, left, way, from) {
+        return Ok(None);
+    }
     let none = Items::new(alloc);
     if is_cut_off(limits, count, left, none.as_slice(), from) {
         return Ok(Some(none));
