@@ -73,7 +73,8 @@ blank_within text i j (inr h) =
 pub no_blank_at_end : (text : List ℕ) (i j : ℕ) → length text ≤ i → IsBlank text i j → ⊥
 no_blank_at_end text i j past h = let within = blank_within text i j h in omega arith
 
-space_is_no_comment : (text : List ℕ) (i : ℕ) → (byte_at text i == space || byte_at text i == tab) ≡ true → opens_comment text i ≡ true → ⊥
+-- a space or a tab opens no comment
+pub space_is_no_comment : (text : List ℕ) (i : ℕ) → (byte_at text i == space || byte_at text i == tab) ≡ true → opens_comment text i ≡ true → ⊥
 space_is_no_comment text i h o =
     let r : 5 ≡ 4 = ap rank (sym (opened text i o).0) ∙ space_rank (byte_at text i) h in
     omega (arith, r)

@@ -6,7 +6,7 @@ use Rattle.il_text.proofs.Lexemes.{lexeme_unique, lexeme_within}
 use Rattle.il_text.proofs.Blanks.{no_lexeme_at_blank, blank_unique, no_blank_at_end}
 
 -- blanks reach up to one place only where none begins
-gap_unique : (text : List ℕ) (es fs : List ℕ) (i j m : ℕ) → AreBlanks text es i j → AreBlanks text fs i m
+pub gap_unique : (text : List ℕ) (es fs : List ℕ) (i j m : ℕ) → AreBlanks text es i j → AreBlanks text fs i m
     → ((k : ℕ) → IsBlank text j k → ⊥) → ((k : ℕ) → IsBlank text m k → ⊥) → j ≡ m
 gap_unique text [] [] i j m h g a b = sym h ∙ g
 gap_unique text [] (f ∷ fs) i j m h g a b = absurd (a f (subst (λ x. IsBlank text x f) h g.0))
@@ -35,7 +35,7 @@ token_is : (t u : Token) → t.kind ≡ u.kind → t.start ≡ u.start → t.end
 token_is t u a b c d = λ i. record { kind = a i; start = b i; end = c i; line = d i }
 
 -- the first tokens from one place on are one
-token_unique : (text : List ℕ) (at : ℕ) (t u : Token) → IsToken text at t → IsToken text at u → t ≡ u
+pub token_unique : (text : List ℕ) (at : ℕ) (t u : Token) → IsToken text at t → IsToken text at u → t ≡ u
 token_unique text at t u h g =
     let start = starts_unique text at t u h g in
     let moved : IsLexeme text u.kind t.start u.end = rw start g.lexeme in

@@ -13,3 +13,7 @@ pub mod Blanks
 pub mod Cut
 pub mod Names
 pub mod Steps
+pub mod ErrorLaws
+pub mod FirstError
+mod ErrorRows
+mod Exists

@@ -1,3 +1,4 @@
 pub mod Pieces
 pub mod Refused
+pub mod LexicalErrors
 pub mod Lanes

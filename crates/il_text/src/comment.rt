@@ -3,9 +3,10 @@
 ghost use Rattle.std.specs.Prelude.{◌≡◌, ℕ, ◌+◌, ◌<◌, ◌≤◌, length, false, IsTrue, IsFalse, IfOk, IfErr, IfSome, IfNone, not, ◌&&◌};
 ghost use Rattle.il_spec.specs.Text.{opens_comment, closes_comment, is_text_byte, IsComment};
 ghost use Rattle.il_text.specs.Lanes.{AllPassBetween, is_plain};
+ghost use Rattle.il_text.specs.LexicalErrors.{IsInsideEnd, IsCommentError};
 
 use crate::bytes::byte_at;
-use crate::flaw::{Flaw, Misread};
+use crate::error::{LexicalError, Misread};
 use crate::lanes::{LANES, plain_run};
 
 /// Whether `(*` stands at a place.
@@ -98,21 +99,24 @@ fn inside_end(text: &[u8], from: usize) -> usize
 
 // What is wrong with a comment that opens at `at`, where something else than its inside or its end stands at `stop`.
 fn misread_at(text: &[u8], at: usize, stop: usize) -> Misread
-    requires { at ≤ stop × stop ≤ length text.now }
-    ensures { at ≤ result.at × result.at ≤ length text.now }
+    requires within { at ≤ stop × stop ≤ length text.now }
+    requires stop { IsInsideEnd text.now (at + 2) stop }
+    requires open { IsFalse (closes_comment text.now stop) }
+    ensures place { at ≤ result.at × result.at ≤ length text.now }
+    ensures error { IsCommentError text.now at result.error result.at }
 {
     if closing_from(text, stop).is_none() {
         return Misread {
-            flaw: Flaw::OpenComment,
+            error: LexicalError::OpenComment,
             at,
         };
     }
-    let flaw = if opens_comment(text, stop) {
-        Flaw::OpenComment
+    let error = if opens_comment(text, stop) {
+        LexicalError::OpenComment
     } else {
-        Flaw::BadByte
+        LexicalError::BadByte
     };
-    Misread { flaw, at: stop }
+    Misread { error, at: stop }
 }
 
 /// Where the comment that opens at `at` ends.
@@ -123,6 +127,7 @@ pub(crate) fn comment_end(text: &[u8], at: usize) -> Result<usize, Misread>
     ensures found { IfOk result (λ end. IsComment text.now at end) }
     ensures place { IfErr result (λ m. at ≤ m.at × m.at ≤ length text.now) }
     ensures refused { IfErr result (λ m. (end : ℕ) → IsComment text.now at end → ⊥) }
+    ensures error { IfErr result (λ m. IsCommentError text.now at m.error m.at) }
 {
     let stop = inside_end(text, at + 2);
     if closes_comment(text, stop) {

@@ -8,8 +8,9 @@ ghost use Rattle.il_spec.specs.declared.tree.Elementary.TheVariants.{Time};
 ghost use Rattle.il_spec.specs.ElementaryTypes.{IsValueOf};
 ghost use Rattle.il_spec.specs.Text.{parts_value};
 ghost use Rattle.il_text.specs.Pieces.{upper_duration_value};
+ghost use Rattle.il_text.specs.LexicalErrors.{form_or_size};
 
-use crate::flaw::Flaw;
+use crate::error::LexicalError;
 
 // The longest duration, in milliseconds (own rule).
 const LONGEST_DURATION: u64 = 2_147_483_647;
@@ -81,13 +82,14 @@ fn part_of<'a>(bytes: &'a [u8], unit: &[u8], milliseconds: u64) -> Part<'a>
 }
 
 /// The milliseconds of a duration in upper case.
-pub(crate) fn duration_of(bytes: &[u8]) -> Result<i64, Flaw>
+pub(crate) fn duration_of(bytes: &[u8]) -> Result<i64, LexicalError>
     ensures found { IfOk result (λ v. option_map pos (upper_duration_value bytes.now) ≡ Some v) }
     ensures small { IfOk result (λ v. IsValueOf Time v) }
     ensures refused { IfErr result (λ _. (v : ℤ) → option_map pos (upper_duration_value bytes.now) ≡ Some v → IsValueOf Time v → ⊥) }
+    ensures error { IfErr result (λ f. f ≡ form_or_size (upper_duration_value bytes.now)) }
 {
     if bytes.is_empty() {
-        return Err(Flaw::BadNumber);
+        return Err(LexicalError::BadNumber);
     }
     let days = part_of(bytes, b"D", 86_400_000);
     let hours = part_of(days.rest, b"H", 3_600_000);
@@ -95,7 +97,7 @@ pub(crate) fn duration_of(bytes: &[u8]) -> Result<i64, Flaw>
     let seconds = part_of(minutes.rest, b"S", 1_000);
     let rest = part_of(seconds.rest, b"MS", 1);
     if !rest.rest.is_empty() {
-        return Err(Flaw::BadNumber);
+        return Err(LexicalError::BadNumber);
     }
     let whole = days.milliseconds
         + hours.milliseconds
@@ -105,6 +107,6 @@ pub(crate) fn duration_of(bytes: &[u8]) -> Result<i64, Flaw>
     if whole <= LONGEST_DURATION {
         Ok(whole as i64)
     } else {
-        Err(Flaw::NumberTooLarge)
+        Err(LexicalError::NumberTooLarge)
     }
 }

@@ -5,13 +5,14 @@ ghost use Rattle.std.specs.Char.{is_ascii_digit, is_ascii_alphanumeric};
 ghost use Rattle.il_spec.specs.declared.token.Sign.{Sign};
 ghost use Rattle.il_spec.specs.declared.token.Kind.TheVariants.{Word, Number, Typed, Sign as Signed, LineEnd};
 ghost use Rattle.il_spec.specs.declared.tree.Literal.{Literal};
-ghost use Rattle.il_spec.specs.Text.{byte_at, begins_word, after_minus, is_grouped, is_identifier, upper_case, IsLexeme};
+ghost use Rattle.il_spec.specs.Text.{byte_at, begins_word, after_minus, is_grouped, is_identifier, upper_case, IsLexeme, run_end, is_literal_byte, number_value};
 ghost use Rattle.il_text.specs.Pieces.{HasNoLexeme};
+ghost use Rattle.il_text.specs.LexicalErrors.{form_or_size, lexeme_error};
 
 use crate::bytes::{
     after_minus, begins_word, byte_at, is_seen_alphanumeric, literal_end, word_end,
 };
-use crate::flaw::Flaw;
+use crate::error::LexicalError;
 use crate::literal::typed_literal;
 use crate::number::number_of;
 use crate::sign::sign_of;
@@ -65,13 +66,14 @@ fn is_identifier_at(text: &[u8], at: usize, end: usize) -> bool
 }
 
 // The word or the typed literal at `at`, and where it ends.
-fn word_at(text: &[u8], upper: &[u8], at: usize) -> Result<(Kind, usize), Flaw>
+fn word_at(text: &[u8], upper: &[u8], at: usize) -> Result<(Kind, usize), LexicalError>
     requires inside { at < length text.now }
     requires begins { IsTrue (begins_word (byte_at text.now at)) }
     requires upper { upper.now ≡ upper_case text.now }
     ensures found { IfOk result (λ r. IsLexeme text.now r.0 at r.1) }
     ensures no_word { IfErr result (λ _. (j : ℕ) → IsLexeme text.now Word at j → ⊥) }
     ensures no_literal { IfErr result (λ _. (l : Literal) (j : ℕ) → IsLexeme text.now (Typed l) at j → ⊥) }
+    ensures error { IfErr result (λ f. f ≡ lexeme_error text.now at) }
 {
     let end = word_end(text, at);
     if byte_at(text, end) == b'#' {
@@ -85,17 +87,18 @@ fn word_at(text: &[u8], upper: &[u8], at: usize) -> Result<(Kind, usize), Flaw>
         return Ok((Kind::Typed(literal), literal_end));
     }
     if end - at > LONGEST_WORD || !is_identifier_at(text, at, end) {
-        return Err(Flaw::BadIdentifier);
+        return Err(LexicalError::BadIdentifier);
     }
     Ok((Kind::Word, end))
 }
 
 // The number at `at`, and where it ends.
-fn number_at(text: &[u8], at: usize) -> Result<(Kind, usize), Flaw>
+fn number_at(text: &[u8], at: usize) -> Result<(Kind, usize), LexicalError>
     requires inside { at < length text.now }
     requires begins { IsTrue (is_ascii_digit (byte_at text.now (after_minus text.now at))) }
     ensures found { IfOk result (λ r. IsLexeme text.now r.0 at r.1) }
     ensures none { IfErr result (λ _. (v : ℤ) (j : ℕ) → IsLexeme text.now (Number v) at j → ⊥) }
+    ensures error { IfErr result (λ f. f ≡ form_or_size (number_value (slice_range text.now at (run_end is_literal_byte text.now (after_minus text.now at))))) }
 {
     let end = literal_end(text, after_minus(text, at));
     let value = number_of(&text[at..end])?;
@@ -122,11 +125,12 @@ fn sign_at(text: &[u8], at: usize) -> Option<(Kind, usize)>
 }
 
 /// The token at `at`, and where it ends.
-pub(crate) fn lexeme_at(text: &[u8], upper: &[u8], at: usize) -> Result<(Kind, usize), Flaw>
+pub(crate) fn lexeme_at(text: &[u8], upper: &[u8], at: usize) -> Result<(Kind, usize), LexicalError>
     requires inside { at < length text.now }
     requires upper { upper.now ≡ upper_case text.now }
     ensures found { IfOk result (λ r. IsLexeme text.now r.0 at r.1) }
     ensures none { IfErr result (λ _. HasNoLexeme text.now at) }
+    ensures error { IfErr result (λ f. f ≡ lexeme_error text.now at) }
 {
     if begins_word(byte_at(text, at)) {
         return word_at(text, upper, at);
@@ -136,6 +140,6 @@ pub(crate) fn lexeme_at(text: &[u8], upper: &[u8], at: usize) -> Result<(Kind, u
     }
     match sign_at(text, at) {
         Some(found) => Ok(found),
-        None => Err(Flaw::BadByte),
+        None => Err(LexicalError::BadByte),
     }
 }

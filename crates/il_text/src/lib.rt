@@ -1,19 +1,21 @@
 //! The lexer: the bytes of a text, cut into tokens (IEC 61131-3:2003, 2.1 and 2.2).
 #![tactic(auto)]
 
-ghost use Rattle.std.specs.Prelude.{◌≡◌, ℕ, ◌<◌, ◌≤◌, List, length, IfOk, IfErr, Err};
+ghost use Rattle.std.specs.Prelude.{◌≡◌, ℕ, ◌<◌, ◌≤◌, ◌⊎◌, List, length, IfOk, IfErr, Err};
 ghost use Rattle.std.specs.List.{All};
 ghost use Rattle.std.specs.Str.{IsUtf8};
-ghost use Rattle.il_spec.specs.declared.fault.Refusal.TheVariants.{Fault};
+ghost use Rattle.il_spec.specs.declared.fault.Refusal.{Refusal};
+ghost use Rattle.il_spec.specs.declared.fault.Refusal.TheVariants.{Fault, Memory};
 ghost use Rattle.il_spec.specs.declared.token.Token.{Token};
 ghost use Rattle.il_spec.specs.declared.token.Kind.TheVariants.{Word};
-ghost use Rattle.il_spec.specs.Text.{IsToken, AreTokens, HasNoTokens, name_of};
+ghost use Rattle.il_spec.specs.Text.{IsToken, AreTokens, HasNoTokens, name_of, line_at};
+ghost use Rattle.il_text.specs.LexicalErrors.{number_of_error, IsFirstError, IsFaultOfText};
 ghost use Rattle.il_text.specs.Refused.{IsFault, IsFaultOfBytes, IsMemoryOrFaultOfBytes};
 
 mod bytes;
 mod comment;
 mod duration;
-mod flaw;
+mod error;
 mod lanes;
 mod lexeme;
 mod literal;
@@ -22,7 +24,7 @@ mod piece;
 mod sign;
 
 use crate::bytes::line_feeds;
-use crate::flaw::{Misread, TEXT_TOO_LONG};
+use crate::error::{Misread, TEXT_TOO_LONG};
 use crate::piece::{Piece, piece_at};
 pub use il_spec::fault::Refusal;
 pub use il_spec::token::{Kind, Sign, Token};
@@ -37,10 +39,12 @@ fn refusal(text: &[u8], at: usize, line: u32, misread: Misread) -> Refusal
     requires within { misread.at ≤ length text.now }
     requires short { length text.now ≤ 262144 }
     requires few { line ≤ 262145 }
-    ensures { IsFaultOfBytes result }
+    requires is_line { line ≡ line_at text.now at }
+    ensures number { IsFaultOfBytes result }
+    ensures exactly { result ≡ Fault (number_of_error misread.error) (line_at text.now misread.at) }
 {
     Refusal::Fault {
-        number: misread.flaw.number(),
+        number: misread.error.number(),
         line: line + line_feeds(&text[at..misread.at]) as u32,
     }
 }
@@ -60,6 +64,7 @@ pub fn tokens(alloc: Global, text: &[u8]) -> Result<Vec<Token>, Refusal>
     ensures too_long { 262144 < length text.now → result ≡ Err (Fault 6 1) }
     ensures number { IfErr result (λ e. length text.now ≤ 262144 → IsMemoryOrFaultOfBytes e) }
     ensures refused { IsFault result → length text.now ≤ 262144 → HasNoTokens text.now }
+    ensures fault { IfErr result (λ e. (e ≡ Memory) ⊎ IsFaultOfText text.now e) }
 {
     if text.len() > LONGEST_TEXT {
         return Err(Refusal::Fault {
@@ -104,4 +109,11 @@ pub fn tokens_stand_within()
 /// A word is text, and so is the name that it is in upper case.
 pub fn words_are_text()
     ensures { (text : List ℕ) (at : ℕ) (t : Token) → IsToken text at t → t.kind ≡ Word → IsUtf8 (name_of text t) }
+{}
+
+/// A text has one fault of its bytes at most; its first lexical error is there where it has no tokens, and only there.
+pub fn one_fault_of_bytes()
+    ensures once { (text : List ℕ) (e f : Refusal) → IsFaultOfText text e → IsFaultOfText text f → e ≡ f }
+    ensures none { (text : List ℕ) (ts : List Token) (number line : ℕ) → AreTokens text 0 ts → IsFirstError text number line → ⊥ }
+    ensures some { (text : List ℕ) → HasNoTokens text → (number : ℕ) × ((line : ℕ) × IsFirstError text number line) }
 {}

@@ -5,9 +5,10 @@ ghost use Rattle.il_spec.specs.declared.tree.Elementary.TheVariants.{Time};
 ghost use Rattle.il_spec.specs.declared.tree.Literal.{Literal};
 ghost use Rattle.il_spec.specs.ElementaryTypes.{IsValueOf};
 ghost use Rattle.il_spec.specs.Text.{entry_of, whole_type_words, duration_words, IsTyped, upper_case};
+ghost use Rattle.il_text.specs.LexicalErrors.{typed_error};
 
 use crate::duration::duration_of;
-use crate::flaw::Flaw;
+use crate::error::LexicalError;
 use crate::number::number_of;
 use il_spec::tree::{Elementary, Literal};
 
@@ -60,15 +61,20 @@ fn is_value_of(elementary: Elementary, value: i64) -> bool
 }
 
 /// The literal of a word in upper case, `#`, and these bytes, which are given in upper case too.
-pub(crate) fn typed_literal(word: &[u8], bytes: &[u8], upper: &[u8]) -> Result<Literal, Flaw>
+pub(crate) fn typed_literal(
+    word: &[u8],
+    bytes: &[u8],
+    upper: &[u8],
+) -> Result<Literal, LexicalError>
     requires { upper.now ≡ upper_case bytes.now }
     ensures found { IfOk result (λ l. IsTyped word.now bytes.now l) }
     ensures refused { IfErr result (λ _. (l : Literal) → IsTyped word.now bytes.now l → ⊥) }
+    ensures error { IfErr result (λ f. f ≡ typed_error word.now bytes.now) }
 {
     if let Some(elementary) = whole_type(word) {
         let value = number_of(bytes)?;
         if !is_value_of(elementary, value) {
-            return Err(Flaw::NumberTooLarge);
+            return Err(LexicalError::NumberTooLarge);
         }
         return Ok(Literal::Whole(elementary, value));
     }
@@ -76,5 +82,5 @@ pub(crate) fn typed_literal(word: &[u8], bytes: &[u8], upper: &[u8]) -> Result<L
         let value = duration_of(upper)?;
         return Ok(Literal::Time(value));
     }
-    Err(Flaw::BadNumber)
+    Err(LexicalError::BadNumber)
 }

@@ -3,10 +3,11 @@
 ghost use Rattle.std.specs.Prelude.{◌≡◌, ◌<◌, ◌≤◌, length, IfOk, IfErr};
 ghost use Rattle.il_spec.specs.Text.{upper_case};
 ghost use Rattle.il_text.specs.Pieces.{IsPiece, HasNoPiece};
+ghost use Rattle.il_text.specs.LexicalErrors.{IsErrorAt};
 
 use crate::bytes::byte_at;
 use crate::comment::{comment_end, opens_comment};
-use crate::flaw::Misread;
+use crate::error::Misread;
 use crate::lexeme::lexeme_at;
 use il_spec::token::Kind;
 
@@ -26,6 +27,7 @@ pub(crate) fn piece_at(text: &[u8], upper: &[u8], at: usize) -> Result<(Piece, u
     ensures found { IfOk result (λ r. IsPiece text.now r.0 at r.1) }
     ensures place { IfErr result (λ m. at ≤ m.at × m.at ≤ length text.now) }
     ensures none { IfErr result (λ _. HasNoPiece text.now at) }
+    ensures error { IfErr result (λ m. IsErrorAt text.now at m.error m.at) }
 {
     let first = byte_at(text, at);
     if first == b' ' || first == b'\t' {
@@ -37,6 +39,6 @@ pub(crate) fn piece_at(text: &[u8], upper: &[u8], at: usize) -> Result<(Piece, u
     }
     match lexeme_at(text, upper, at) {
         Ok((kind, end)) => Ok((Piece::Token(kind), end)),
-        Err(flaw) => Err(Misread { flaw, at }),
+        Err(error) => Err(Misread { error, at }),
     }
 }

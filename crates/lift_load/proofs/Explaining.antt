@@ -1,14 +1,18 @@
 -- What each phase's refusal says of the text.
-use Rattle.std.proofs.Common.{◌≡◌, ℕ, ◌<◌, ◌≤◌, List, length, arith, sym, subst, ap, inl, inr, Result, Ok, Err}
+use Rattle.std.proofs.Common.{◌≡◌, ◌⊎◌, ◌∙◌, ℕ, ◌<◌, ◌≤◌, List, length, arith, sym, subst, ap, inl, inr, Result, Ok, Err}
 use Rattle.std.specs.Prelude.{IsErrAnd, IfOk, IfErr}
 use Rattle.std.proofs.lemmas.Bool.{cases_lt}
 use Rattle.il_spec.specs.declared.fault.Refusal.{Refusal}
 use Rattle.il_spec.specs.declared.fault.Refusal.TheVariants.{Fault, Memory}
 use Rattle.il_spec.specs.declared.tree.Config.{Config}
-use Rattle.il_spec.specs.Text.{HasNoTokens}
+use Rattle.il_spec.specs.declared.token.Token.{Token}
+use Rattle.il_spec.specs.Text.{AreTokens, HasNoTokens}
 use Rattle.il_text.specs.Refused.{IsMemoryOrFaultOfBytes}
+use Rattle.il_text.specs.LexicalErrors.{IsFaultOfText}
+use Rattle.il_text.proofs.FirstError.{one_fault, no_first}
 use Rattle.il_parse.specs.Refused.{IsFault, IsOfParser}
-use Rattle.lift_load.specs.Loading.{IsSpelled, IsRefusedFor, SpellsNone, IsNumberOfText, of_text, of_tree, IsExplained}
+use Rattle.lift_load.specs.Loading.{IsSpelled, IsRefusedFor, SpellsNone, HasTokens, IsNumberOfBytes, of_bytes, of_grammar, of_tree, IsExplained, ReportsFaultOfText}
+use Rattle.lift_load.proofs.TreeNumbers.{late_fault}
 
 -- a refusal that is handed on is of the same kind
 pub handed_as : {X : Type 0} (P : Refusal → Type 0) (e : Refusal) (r : Result X Refusal) → IsErrAnd r (λ d. d ≡ e) → P e → IfErr r P
@@ -26,26 +30,30 @@ if_err P Q (Err e) goes is = goes e is
 
 -- a fault of the tree
 pub explained_by_tree : (text : List ℕ) (c : Config) (e : Refusal) → IsSpelled text c → IsRefusedFor c e → IsExplained text e
-explained_by_tree text c (Fault number line) spelled refused = of_tree (c, spelled, refused)
+explained_by_tree text c (Fault number line) spelled refused = of_tree (late_fault c number line refused) (c, spelled, refused)
 explained_by_tree text c Memory spelled refused = tt
 
 -- a fault of the parser
-pub explained_by_parser : (text : List ℕ) (e : Refusal) → IsOfParser e → (IsFault {A = Config} (Err e) → SpellsNone text) → IsExplained text e
-explained_by_parser text (Fault number line) (inl is) none = of_text (inr (omega (arith, is), omega (arith, is))) (none tt)
-explained_by_parser text (Fault number line) (inr (inl is)) none = of_text (inr (omega (arith, is), omega (arith, is))) (none tt)
-explained_by_parser text (Fault number line) (inr (inr is)) none = of_text (inr (omega (arith, is), omega (arith, is))) (none tt)
-explained_by_parser text Memory is none = tt
+pub explained_by_parser : (text : List ℕ) (e : Refusal) → IsOfParser e → HasTokens text → (IsFault {A = Config} (Err e) → SpellsNone text) → IsExplained text e
+explained_by_parser text (Fault number line) (inl is) has none = of_grammar (omega (arith, is), omega (arith, is)) has (none tt)
+explained_by_parser text (Fault number line) (inr (inl is)) has none = of_grammar (omega (arith, is), omega (arith, is)) has (none tt)
+explained_by_parser text (Fault number line) (inr (inr is)) has none = of_grammar (omega (arith, is), omega (arith, is)) has (none tt)
+explained_by_parser text Memory is has none = tt
 
 -- a fault of the bytes, or a text that is too long
 pub explained_by_tokens : {A : Type 0} (text : List ℕ) (e : Refusal) → (262144 < length text → ◌≡◌ {A = Result A Refusal} (Err e) (Err (Fault 6 1))) → (length text ≤ 262144 → IsMemoryOrFaultOfBytes e)
-    → (IsFault {A = Config} (Err e) → length text ≤ 262144 → HasNoTokens text) → IsExplained text e
-explained_by_tokens text Memory long bytes none = tt
-explained_by_tokens {A} text (Fault number line) long bytes none = of_text low (λ c s. none tt s.limits.bytes s.spelled.0 s.spelled.1)
+    → (IsFault {A = Config} (Err e) → length text ≤ 262144 → HasNoTokens text) → (e ≡ Memory) ⊎ IsFaultOfText text e → IsExplained text e
+explained_by_tokens text Memory long bytes none fault = tt
+explained_by_tokens {A} text (Fault number line) long bytes none fault = of_bytes low (that fault) (λ c s. none tt s.limits.bytes s.spelled.0 s.spelled.1)
   where
-    low : IsNumberOfText number
+    that : (Fault number line ≡ Memory) ⊎ IsFaultOfText text (Fault number line) → IsFaultOfText text (Fault number line)
+    that (inl bad) = absurd cc
+    that (inr is) = is
+
+    low : IsNumberOfBytes number
     low = elim (cases_lt 262144 (length text)) [
-      | inl over ↦ let is : number ≡ 6 = number_of (long over) in inl (omega (arith, is), omega (arith, is))
-      | inr within ↦ let is = bytes within in inl (is.0, omega (arith, is.1))
+      | inl over ↦ let is : number ≡ 6 = number_of (long over) in (omega (arith, is), omega (arith, is))
+      | inr within ↦ let is = bytes within in (is.0, omega (arith, is.1))
     ]
       where
         number_of : ◌≡◌ {A = Result A Refusal} (Err (Fault number line)) (Err (Fault 6 1)) → number ≡ 6
@@ -54,3 +62,24 @@ explained_by_tokens {A} text (Fault number line) long bytes none = of_text low (
             number_in : Result A Refusal → ℕ
             number_in (Err (Fault n l)) = n
             number_in _ = 0
+
+-- THE FAULT OF THE BYTES
+
+-- a text that has tokens has no fault of its bytes
+pub no_fault_of_bytes : (text : List ℕ) (ts : List Token) (n l : ℕ) → length text ≤ 262144 → AreTokens text 0 ts → IsFaultOfText text (Fault n l) → ⊥
+no_fault_of_bytes text ts n l short cut (inl h) = omega (arith, short, h.0)
+no_fault_of_bytes text ts n l short cut (inr h) = no_first text ts n l cut h.1
+
+pub no_fault_of_spelled : (text : List ℕ) (c : Config) (n l : ℕ) → IsSpelled text c → IsFaultOfText text (Fault n l) → ⊥
+no_fault_of_spelled text c n l s fault = no_fault_of_bytes text s.spelled.0 n l s.limits.bytes s.spelled.1 fault
+
+-- what the lexer answers
+pub reported_by_tokens : {X : Type 0} (text : List ℕ) (e : Refusal) (r : Result X Refusal) → IsErrAnd r (λ d. d ≡ e) → (e ≡ Memory) ⊎ IsFaultOfText text e → ReportsFaultOfText text r
+reported_by_tokens {X} text e (Ok x) same is n l fault = absurd same
+reported_by_tokens {X} text e (Err d) same (inl memory) n l fault = inr (same ∙ memory)
+reported_by_tokens {X} text e (Err d) same (inr is) n l fault = inl (same ∙ one_fault text e (Fault n l) is fault)
+
+-- what is handed on
+pub handed_report : {X : Type 0} (text : List ℕ) (e : Refusal) (r : Result X Refusal) → IsErrAnd r (λ d. d ≡ e) → ((n l : ℕ) → IsFaultOfText text (Fault n l) → (e ≡ Fault n l) ⊎ (e ≡ Memory)) → ReportsFaultOfText text r
+handed_report {X} text e (Ok x) same reports n l fault = absurd same
+handed_report {X} text e (Err d) same reports n l fault = subst (λ b. (b ≡ Fault n l) ⊎ (b ≡ Memory)) (sym same) (reports n l fault)

@@ -1,3 +1,4 @@
+pub mod TreeNumbers
 pub mod Explaining
 pub mod Accepting
 pub mod Phases

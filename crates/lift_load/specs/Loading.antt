@@ -1,9 +1,12 @@
 -- Which texts are accepted (own rules).
-use Rattle.std.specs.Prelude.{◌≡◌, ◌⊎◌, ℕ, ◌≤◌, List}
+use Rattle.std.specs.Prelude.{◌≡◌, ◌⊎◌, ℕ, ◌≤◌, List, length, Result, IsErrAnd}
 use Rattle.il_spec.specs.declared.fault.Refusal.{Refusal}
 use Rattle.il_spec.specs.declared.fault.Refusal.TheVariants.{Fault, Memory}
 use Rattle.il_spec.specs.declared.tree.Config.{Config}
+use Rattle.il_spec.specs.declared.token.Token.{Token}
+use Rattle.il_spec.specs.Text.{AreTokens}
 use Rattle.il_spec.specs.Grammar.{Spells, IsWithinLimits}
+use Rattle.il_text.specs.LexicalErrors.{IsFaultOfText}
 use Rattle.il_rules.specs.Faults.{IsRefusedBy, BreaksDeclarations, Typing, Ordering, HasNoFault, Broken}
 use Rattle.il_run.specs.Annotation.{Annotated}
 use Rattle.il_ranges.specs.Lacking.{BreaksRanges}
@@ -51,16 +54,30 @@ IsSpelledWith text refusal = (c : Config) × IsSpelled text c × IsRefusedFor c 
 abbrev pub SpellsNone : List ℕ → Type 0
 SpellsNone text = (c : Config) → IsSpelled text c → ⊥
 
--- the numbers of a text that spells no configuration within the limits: of its bytes and tokens, and of the grammar and its limits
-abbrev pub IsNumberOfText : ℕ → Type 0
-IsNumberOfText number = ((1 ≤ number) × (number ≤ 6)) ⊎ ((10 ≤ number) × (number ≤ 12))
+-- the text is not too long, and it has tokens
+abbrev pub HasTokens : List ℕ → Type 0
+HasTokens text = (length text ≤ 262144) × ((ts : List Token) × AreTokens text 0 ts)
 
--- What a fault says of the text: by such a number that it spells no configuration, and by any other that it spells one whose fault this is.
+-- the numbers of the faults of a text's bytes
+abbrev pub IsNumberOfBytes : ℕ → Type 0
+IsNumberOfBytes number = (1 ≤ number) × (number ≤ 6)
+
+-- the numbers of what the grammar and its limits refuse
+abbrev pub IsNumberOfGrammar : ℕ → Type 0
+IsNumberOfGrammar number = (10 ≤ number) × (number ≤ 12)
+
+-- What a fault says of the text: from 1 to 6 that it is the fault of the text's bytes, by its number and its line; from 10 to 12 that the
+-- text has tokens, but spells no configuration within the limits; and otherwise, from 12 on, that it spells one whose fault this is.
 pub data Explains (text : List ℕ) (number line : ℕ) : Type 0 where
-  of_text : IsNumberOfText number → SpellsNone text → Explains text number line
-  of_tree : IsSpelledWith text (Fault number line) → Explains text number line
+  of_bytes : IsNumberOfBytes number → IsFaultOfText text (Fault number line) → SpellsNone text → Explains text number line
+  of_grammar : IsNumberOfGrammar number → HasTokens text → SpellsNone text → Explains text number line
+  of_tree : 12 ≤ number → IsSpelledWith text (Fault number line) → Explains text number line
 
 -- the same of a refusal; out of memory says nothing
 abbrev pub IsExplained : List ℕ → Refusal → Type 0
 IsExplained text (Fault number line) = Explains text number line
 IsExplained text Memory = Unit {0}
+
+-- where the bytes of the text have a fault, the answer is this fault, or memory ran out
+abbrev pub ReportsFaultOfText : {X : Type 0} → List ℕ → Result X Refusal → Type 0
+ReportsFaultOfText text answer = (number line : ℕ) → IsFaultOfText text (Fault number line) → IsErrAnd answer (λ e. (e ≡ Fault number line) ⊎ (e ≡ Memory))

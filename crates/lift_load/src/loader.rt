@@ -9,7 +9,7 @@ ghost use Rattle.il_run.specs.Annotation.{Annotated};
 ghost use Rattle.il_parse.specs.Refused.{IsFault};
 ghost use Rattle.il_budget.specs.Costs.{IsTooLong, cost_of};
 ghost use Rattle.lift_run_laws.specs.Runs.{RunsWell};
-ghost use Rattle.lift_load.specs.Loading.{IsSpelled, SpellsOnly, SpellsNone, IsUnbroken, IsAccepted, IsRefusedFor, IsSpelledWith, IsExplained};
+ghost use Rattle.lift_load.specs.Loading.{IsSpelled, SpellsOnly, SpellsNone, IsUnbroken, IsAccepted, IsRefusedFor, IsSpelledWith, IsExplained, ReportsFaultOfText};
 
 use il_budget::budget;
 use il_code::{Code, code};
@@ -37,6 +37,9 @@ pub fn load(alloc: Global, text: &[u8]) -> Result<Verified, Refusal>
     ensures named { IsFault result → (c : ConfigOf) → IsSpelled text.now c → IsErrAnd result (IsRefusedFor c) }
     ensures number { IfErr result (IsExplained text.now) }
 
+    // A text whose bytes have a fault is refused with this fault and no other.
+    ensures bytes { ReportsFaultOfText text.now result }
+
     // A text that spells a configuration has no other fault.
     ensures one { IsFault result → (n l : ℕ) → IsSpelledWith text.now (Fault n l) → IsErrAnd result (λ e. e ≡ Fault n l) }
 {
@@ -49,6 +52,8 @@ pub fn load(alloc: Global, text: &[u8]) -> Result<Verified, Refusal>
 pub fn unbroken(alloc: Global, text: &[u8]) -> Result<Ordered, Refusal>
     ensures found { IfOk result (λ o. IsSpelled text.now o × IsUnbroken o) }
     ensures none { IsFault result → (c : ConfigOf) → IsSpelled text.now c → IsUnbroken c → ⊥ }
+    ensures number { IfErr result (IsExplained text.now) }
+    ensures bytes { ReportsFaultOfText text.now result }
 {
     let written = parsed(alloc, text)?;
     in_order(alloc, written)
@@ -61,6 +66,7 @@ fn parsed(alloc: Global, text: &[u8]) -> Result<Written, Refusal>
     ensures nested { IfOk result IsNested }
     ensures none { IsFault result → SpellsNone text.now }
     ensures number { IfErr result (IsExplained text.now) }
+    ensures bytes { ReportsFaultOfText text.now result }
 {
     let tokens = tokens(alloc, text)?;
     let config = parse(alloc, text, &tokens)?;

@@ -1,3 +1,6 @@
+use Rattle.std.proofs.Common.{inr}
+use Rattle.il_text.proofs.FirstError.{fault_is, done_token, done_blank}
+use Rattle.il_text.specs.LexicalErrors.{AreTokensTo}
 use Rattle.std.proofs.Common.{◌+◌, arith, sym, ap, subst, ◌∙◌}
 use Rattle.il_spec.specs.declared.token.Token.{Token}
 use Rattle.il_spec.specs.Text.{line_at}
@@ -17,6 +20,15 @@ pieces-preserved c = record {
   line =
       ap (λ n. n + c.line_feeds.result) c.pieces.invariant.line ∙ ap (λ n. line_at c.args.text.now c.pieces.at + n) c.line_feeds.ensures.count
       ∙ sym (line_on c.args.text.now c.pieces.at c.in-Ok.read.1 (omega (arith, c.in-Ok.ensures.within.0)));
+  done = elim c.match-piece.branch [
+    | in-Token+in_ok-push w ↦
+        let t : Token = record { kind = w.in-Token.kind; start = c.pieces.at; end = c.in-Ok.read.1; line = c.pieces.line } in
+        let lexeme = subst (λ p. IsPiece c.args.text.now p c.pieces.at c.in-Ok.read.1) w.in-Token.is c.in-Ok.ensures.found in
+        subst (λ items. AreTokensTo c.args.text.now 0 items c.in-Ok.read.1) (sym (ap (λ v. v.items) w.found-is ∙ w.in_ok-push.ensures.items)) (done_token c.args.text.now t c.pieces.found.items lexeme c.pieces.invariant.line c.pieces.invariant.done)
+    | in_default w ↦
+        let blank = subst (λ p. IsPiece c.args.text.now p c.pieces.at c.in-Ok.read.1) w.in_default.is c.in-Ok.ensures.found in
+        rw w.found-is (done_blank c.args.text.now c.pieces.at c.in-Ok.read.1 c.pieces.found.items blank c.pieces.invariant.done)
+  ];
   read = elim c.match-piece.branch [
     | in-Token+in_ok-push w ↦
         let t : Token = record { kind = w.in-Token.kind; start = c.pieces.at; end = c.in-Ok.read.1; line = c.pieces.line } in
@@ -34,3 +46,8 @@ returns-clause-found c = read_all c.args.text.now c.pieces.at c.pieces.found.ite
 pub returns-clause-only : goal.returns-clause-only
 returns-clause-only c = λ ts h.
     cut c.args.text.now ts c.pieces.found.items h (read_all c.args.text.now c.pieces.at c.pieces.found.items (omega (arith, c.pieces.invariant.within, c.pieces-test.false)) c.pieces.invariant.read)
+
+pub returns-in-Err-clause-fault : goal.returns-in-Err-clause-fault
+returns-in-Err-clause-fault c =
+    inr (fault_is c.args.text.now c.pieces.found.items c.pieces.at c.in-Err.misread.error c.in-Err.misread.at c.refusal.result c.pieces.invariant.done c.pieces-test.true
+    c.if-text-gt-LONGEST_TEXT.false c.in-Err.ensures.none c.in-Err.ensures.error c.refusal.ensures.exactly)

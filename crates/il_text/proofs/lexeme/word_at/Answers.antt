@@ -1,3 +1,5 @@
+use Rattle.std.proofs.Common.{rules}
+use Rattle.il_text.proofs.ErrorLaws.{literal_error}
 use Rattle.std.proofs.Common.{sym, ◌∙◌, ◌+◌, ap, arith}
 use Rattle.il_spec.specs.Text.{byte_at, run_end, is_word_byte, is_literal_byte}
 use Rattle.il_text.proofs.Lexemes.{word_is_word}
@@ -25,3 +27,11 @@ is_identifier_at-requires c = (
   omega (arith, c.word_end-end.ensures.longest, run_some is_word_byte c.args.text.now c.args.at c.requires.inside (word_is_word (byte_at c.args.text.now c.args.at) c.requires.begins)),
   c.word_end-end.ensures.within,
 )
+
+pub returns-in_err-literal-clause-error : goal.returns-in_err-literal-clause-error
+returns-in_err-literal-clause-error c =
+    let same =
+    literal_error c.args.text.now c.args.upper.now c.args.at c.word_end-end.result c.literal_end-literal_end.result c.requires.upper c.requires.begins c.word_end-end.ensures.longest
+    (sym c.byte_at.ensures ∙ c.if-byte_at-eq35.true) (c.literal_end-literal_end.ensures.longest ∙ ap (run_end is_literal_byte c.args.text.now) c.after_minus.ensures.place) in
+    let error = c.in_err-literal.ensures.error ∙ same in
+    search rules

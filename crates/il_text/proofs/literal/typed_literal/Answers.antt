@@ -1,3 +1,6 @@
+use Rattle.std.proofs.Common.{rules}
+use Rattle.il_text.specs.LexicalErrors.{form_or_size}
+use Rattle.il_text.proofs.ErrorLaws.{typed_duration}
 use Rattle.std.proofs.Common.{sym, ◌∙◌, ap, subst, pos, Some}
 use Rattle.std.specs.Prelude.{option_map, ◌≤ℤ◌}
 use Rattle.il_text.specs.Pieces.{upper_duration_value}
@@ -27,3 +30,9 @@ returns-then-begins_duration-clause-found c =
       ap (option_map pos) (sym (duration_upper c.args.bytes.now) ∙ ap upper_duration_value (sym c.requires)) ∙ c.in_ok-value-2.ensures.found ∙ ap Some (sym same),
       subst (λ v. (pos 0 ≤ℤ v) × (v ≤ℤ pos 2147483647)) (sym same) c.in_ok-value-2.ensures.small,
     )
+
+pub returns-in_err-value-2-clause-error : goal.returns-in_err-value-2-clause-error
+returns-in_err-value-2-clause-error c =
+    let same = typed_duration c.args.word.now c.args.bytes.now (c.begins_duration.ensures.yes c.if-begins_duration.true) in
+    let error = c.in_err-value-2.ensures.error ∙ ap form_or_size (ap upper_duration_value c.requires ∙ duration_upper c.args.bytes.now) ∙ sym same in
+    search rules

@@ -1,3 +1,4 @@
+use Rattle.il_text.specs.LexicalErrors.{form_or_size}
 use Rattle.std.proofs.Common.{sym, ◌∙◌, ap}
 use Rattle.std.proofs.lemmas.List.{take_rest}
 use Rattle.il_spec.specs.Text.{based_value}
@@ -42,3 +43,22 @@ pub returns-else-starts_with-3-clause-refused : goal.returns-else-starts_with-3-
 returns-else-starts_with-3-clause-refused c =
     if_err c.based_value-else-starts_with-3.result _ _
     (λ _ h n e. h n (sym (of_ten c.args.bytes.now (sym c.if-starts_with.ensures.value) (sym c.if-starts_with-2.ensures.value) (sym c.if-starts_with-3.ensures.value)) ∙ e)) c.based_value-else-starts_with-3.ensures.refused
+
+pub returns-then-starts_with-clause-error : goal.returns-then-starts_with-clause-error
+returns-then-starts_with-clause-error c =
+    if_err c.based_value.result _ _ (λ _ h. h ∙ ap form_or_size (ap (based_value 2) (take_rest c.args.bytes.now 2) ∙ sym (of_two c.args.bytes.now (sym c.if-starts_with.ensures.value)))) c.based_value.ensures.error
+
+pub returns-then-starts_with-2-clause-error : goal.returns-then-starts_with-2-clause-error
+returns-then-starts_with-2-clause-error c =
+    if_err c.based_value-then-starts_with-2.result _ _
+    (λ _ h. h ∙ ap form_or_size (ap (based_value 8) (take_rest c.args.bytes.now 2) ∙ sym (of_eight c.args.bytes.now (sym c.if-starts_with.ensures.value) (sym c.if-starts_with-2.ensures.value)))) c.based_value-then-starts_with-2.ensures.error
+
+pub returns-then-starts_with-3-clause-error : goal.returns-then-starts_with-3-clause-error
+returns-then-starts_with-3-clause-error c =
+    if_err c.based_value-then-starts_with-3.result _ _
+    (λ _ h. h ∙ ap form_or_size (ap (based_value 16) (take_rest c.args.bytes.now 3) ∙ sym (of_sixteen c.args.bytes.now (sym c.if-starts_with.ensures.value) (sym c.if-starts_with-2.ensures.value) (sym c.if-starts_with-3.ensures.value)))) c.based_value-then-starts_with-3.ensures.error
+
+pub returns-else-starts_with-3-clause-error : goal.returns-else-starts_with-3-clause-error
+returns-else-starts_with-3-clause-error c =
+    if_err c.based_value-else-starts_with-3.result _ _
+    (λ _ h. h ∙ ap form_or_size (sym (of_ten c.args.bytes.now (sym c.if-starts_with.ensures.value) (sym c.if-starts_with-2.ensures.value) (sym c.if-starts_with-3.ensures.value)))) c.based_value-else-starts_with-3.ensures.error

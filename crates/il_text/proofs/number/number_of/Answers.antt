@@ -1,8 +1,11 @@
-use Rattle.std.proofs.Common.{sym, ◌∙◌, ap, pos, Some, arith}
+use Rattle.std.proofs.Common.{rules}
+use Rattle.il_text.specs.LexicalErrors.{form_or_size}
+use Rattle.il_text.proofs.ErrorLaws.{form_map}
+use Rattle.std.proofs.Common.{sym, ◌∙◌, ap, pos, Some, arith, drop}
 use Rattle.std.specs.Prelude.{option_map, neg_ℤ}
 use Rattle.std.proofs.lemmas.Int.{ints}
 use Rattle.std.proofs.lemmas.List.{take_rest}
-use Rattle.il_spec.specs.Text.{based_value}
+use Rattle.il_spec.specs.Text.{based_value, magnitude}
 use Rattle.il_text.proofs.Results.{err_anyway}
 use Rattle.il_text.proofs.Numbers.{negative, positive, negative_large, positive_large}
 use Rattle.il_text.proofs.number.number_of.Goals as goal
@@ -28,3 +31,15 @@ returns-clause-found c =
     positive c.args.bytes.now (λ e. c.if-byte_at-eq45.false (c.byte_at.ensures ∙ e))
     ∙ ap (option_map pos) c.in_ok-value-2.ensures.found
     ∙ ap Some (omega (arith, ints, c.from-2.ensures))
+
+pub returns-in_err-value-clause-error : goal.returns-in_err-value-clause-error
+returns-in_err-value-clause-error c =
+    let same = ap form_or_size (ap (based_value 10) (take_rest c.args.bytes.now 1)) ∙ sym (ap form_or_size (negative c.args.bytes.now (sym c.byte_at.ensures ∙ c.if-byte_at-eq45.true)) ∙ form_map (λ n. neg_ℤ (pos n)) (based_value 10 (drop 1 c.args.bytes.now))) in
+    let error = c.in_err-value.ensures.error ∙ same in
+    search rules
+
+pub returns-in_err-value-2-clause-error : goal.returns-in_err-value-2-clause-error
+returns-in_err-value-2-clause-error c =
+    let same = sym (ap form_or_size (positive c.args.bytes.now (λ e. c.if-byte_at-eq45.false (c.byte_at.ensures ∙ e))) ∙ form_map pos (magnitude c.args.bytes.now)) in
+    let error = c.in_err-value-2.ensures.error ∙ same in
+    search rules

@@ -1,6 +1,6 @@
 use Rattle.il_spec.specs.declared.tree.Config.{Config}
 use Rattle.lift_load.specs.Loading.{IsExplained}
-use Rattle.lift_load.proofs.Explaining.{handed_as}
+use Rattle.lift_load.proofs.Explaining.{handed_as, handed_report, no_fault_of_spelled}
 use Rattle.lift_load.proofs.Accepting.{handed_on}
 use Rattle.lift_load.proofs.Phases.{found_by, runs_by, refused_by, named_by, explained_by}
 use Rattle.lift_load.proofs.OneFault.{one_by}
@@ -19,6 +19,9 @@ returns-in_err-config-clause-number c = handed_as (IsExplained c.args.text.now) 
 
 pub returns-in_err-config-clause-one : goal.returns-in_err-config-clause-one
 returns-in_err-config-clause-one c = λ fault n l w. absurd (c.in_err-config.ensures.none (handed_on Config _ _ c.from_residual.ensures.1 fault) w.0 w.1)
+
+pub returns-in_err-config-clause-bytes : goal.returns-in_err-config-clause-bytes
+returns-in_err-config-clause-bytes c = handed_report c.args.text.now _ _ c.from_residual.ensures.1 c.in_err-config.ensures.bytes
 
 -- THE CONFIGURATION
 
@@ -39,3 +42,6 @@ returns-clause-number c = explained_by c.args.text.now c.in_ok-config.config c.i
 
 pub returns-clause-one : goal.returns-clause-one
 returns-clause-one c = one_by c.args.text.now c.in_ok-config.config c.in_ok-config.ensures.only c.verified.result c.verified.ensures.refused
+
+pub returns-clause-bytes : goal.returns-clause-bytes
+returns-clause-bytes c = λ n l fault. absurd (no_fault_of_spelled c.args.text.now c.in_ok-config.config n l c.in_ok-config.ensures.only.spelled fault)

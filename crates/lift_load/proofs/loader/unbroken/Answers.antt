@@ -1,9 +1,9 @@
-use Rattle.std.proofs.Common.{sym, subst}
+use Rattle.std.proofs.Common.{subst}
 use Rattle.il_spec.specs.declared.tree.Config.{Config}
-use Rattle.lift_load.specs.Loading.{IsSpelled, IsUnbroken}
-use Rattle.lift_load.proofs.Explaining.{if_ok}
+use Rattle.lift_load.specs.Loading.{IsUnbroken, IsExplained}
+use Rattle.lift_load.proofs.Explaining.{handed_as, handed_report, no_fault_of_spelled}
 use Rattle.lift_load.proofs.Accepting.{handed_on}
-use Rattle.lift_load.proofs.Phases.{found_unbroken}
+use Rattle.lift_load.proofs.Phases.{found_unbroken, explained_by}
 use Rattle.lift_load.proofs.loader.unbroken.Goals as goal
 
 pub returns-in_err-written-clause-none : goal.returns-in_err-written-clause-none
@@ -14,3 +14,15 @@ returns-clause-found c = found_unbroken c.args.text.now c.in_ok-written.written 
 
 pub returns-clause-none : goal.returns-clause-none
 returns-clause-none c = λ fault d spelled unbroken. c.in_order.ensures.broken fault (subst IsUnbroken (c.in_ok-written.ensures.only.only d spelled) unbroken)
+
+pub returns-in_err-written-clause-number : goal.returns-in_err-written-clause-number
+returns-in_err-written-clause-number c = handed_as (IsExplained c.args.text.now) _ _ c.from_residual.ensures.1 c.in_err-written.ensures.number
+
+pub returns-clause-number : goal.returns-clause-number
+returns-clause-number c = explained_by c.args.text.now c.in_ok-written.written c.in_ok-written.ensures.only c.in_order.result c.in_order.ensures.refused
+
+pub returns-in_err-written-clause-bytes : goal.returns-in_err-written-clause-bytes
+returns-in_err-written-clause-bytes c = handed_report c.args.text.now _ _ c.from_residual.ensures.1 c.in_err-written.ensures.bytes
+
+pub returns-clause-bytes : goal.returns-clause-bytes
+returns-clause-bytes c = λ n l fault. absurd (no_fault_of_spelled c.args.text.now c.in_ok-written.written n l c.in_ok-written.ensures.only.spelled fault)

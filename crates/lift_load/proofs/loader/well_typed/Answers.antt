@@ -1,6 +1,6 @@
 use Rattle.std.proofs.Common.{◌≡◌, ◌∙◌, sym, subst}
 use Rattle.il_rules.specs.Faults.{HasNoFault, IsRefusedBy, BreaksDeclarations, Broken, Typing}
-use Rattle.lift_load.specs.Loading.{IsRefusedFor, IsUnbroken, by_declarations}
+use Rattle.lift_load.specs.Loading.{IsRefusedFor, by_declarations}
 use Rattle.lift_load.proofs.Explaining.{handed_as, if_ok, if_err}
 use Rattle.lift_load.proofs.Accepting.{breaks, breaks_here}
 use Rattle.lift_load.proofs.Phases.{at_types}

@@ -1,13 +1,14 @@
 // What can be wrong with the bytes of a text.
 
-ghost use Rattle.std.specs.Prelude.{◌≤◌};
+ghost use Rattle.std.specs.Prelude.{◌≡◌, ◌≤◌};
+ghost use Rattle.il_text.specs.LexicalErrors.{number_of_error};
 
 /// The number of the fault of a text that is too long.
 pub(crate) const TEXT_TOO_LONG: u16 = 6;
 
 /// Why the bytes at a place are no token and no blank.
 #[derive(Clone, Copy)]
-pub(crate) enum Flaw {
+pub(crate) enum LexicalError {
     /// A byte that begins no token, or one in a comment that no text has.
     BadByte,
     /// `(*` that no `*)` closes, or that stands in a comment.
@@ -20,25 +21,26 @@ pub(crate) enum Flaw {
     BadIdentifier,
 }
 
-/// A flaw and its place.
+/// A lexical error and its place.
 #[derive(Clone, Copy)]
 pub(crate) struct Misread {
-    pub(crate) flaw: Flaw,
+    pub(crate) error: LexicalError,
     pub(crate) at: usize,
 }
 
-impl Flaw {
+impl LexicalError {
     /// The fault's number.
     pub(crate) fn number(self) -> u16
         ensures low { 1 ≤ result }
         ensures high { result ≤ 5 }
+        ensures number { result ≡ number_of_error self }
     {
         match self {
-            Flaw::BadByte => 1,
-            Flaw::OpenComment => 2,
-            Flaw::BadNumber => 3,
-            Flaw::NumberTooLarge => 4,
-            Flaw::BadIdentifier => 5,
+            LexicalError::BadByte => 1,
+            LexicalError::OpenComment => 2,
+            LexicalError::BadNumber => 3,
+            LexicalError::NumberTooLarge => 4,
+            LexicalError::BadIdentifier => 5,
         }
     }
 }
