@@ -7,10 +7,10 @@ use Rattle.il_parse.specs.Refused.{IsFault}
 use Rattle.il_machine.specs.Scanning.{Program}
 use Rattle.lift_run_laws.specs.Runs.{RunsWell}
 use Rattle.il_budget.specs.Costs.{cost_of}
-use Rattle.lift_load.specs.Loading.{IsSpelled, IsSpelledWith, IsAccepted, IsRefusedFor, IsExplained}
+use Rattle.lift_load.specs.Loading.{IsSpelled, IsSpelledWith, IsAccepted, IsRefusedFor, IsExplained, ReportsFaultOfText}
 
--- Either a program that the text spells, that breaks no rule and that runs well, or a refusal: up to 12 of a text that spells no
--- configuration, otherwise the first fault of the one that it spells, which has no other.
+-- Either a program that the text spells, that breaks no rule and that runs well, or a refusal: from 1 to 6 the fault of the text's bytes, from 10
+-- to 12 of a text that has tokens but spells no configuration, otherwise the first fault of the one that it spells. But for 10 to 12 it has no other.
 pub record IsLoaded (text : List ℕ) (answer : Result Program Refusal) : Type 0 where
   pub found : IfOk answer (λ v. IsAccepted text v.config)
   pub costs : IfOk answer (λ v. v.costs ≡ map (cost_of v.config) v.config.units)
@@ -19,3 +19,4 @@ pub record IsLoaded (text : List ℕ) (answer : Result Program Refusal) : Type 0
   pub named : IsFault answer → (c : Config) → IsSpelled text c → IsErrAnd answer (IsRefusedFor c)
   pub number : IfErr answer (IsExplained text)
   pub one : IsFault answer → (n l : ℕ) → IsSpelledWith text (Fault n l) → IsErrAnd answer (λ e. e ≡ Fault n l)
+  pub bytes : ReportsFaultOfText text answer

@@ -9,4 +9,5 @@ returns c = record {
   named = c.load.ensures.named;
   number = c.load.ensures.number;
   one = c.load.ensures.one;
+  bytes = c.load.ensures.bytes;
 }
