@@ -4,13 +4,13 @@
 ghost use Rattle.std.specs.Prelude.{◌≡◌, OnOk, OnErr};
 ghost use Rattle.il_table.specs.NameMap as map;
 
-use indexmap::IndexMap;
 use std::alloc::{AllocError, Global};
+use std::collections::BTreeMap;
 use std::marker::Model;
 
-/// A table: an entry for each of some names, in the order in which they were first put in. Contracts see the finite map.
+/// A table: an entry for each of some names, sorted, so that no choice of names makes a search slow. Contracts see the finite map.
 pub struct Table<X: Copy> {
-    map: IndexMap<String, X>,
+    map: BTreeMap<String, X>,
 }
 
 // Written by hand, since who drops a type whose drop is derived proves the drop of each type inside again.
@@ -37,7 +37,7 @@ impl<X: Copy> Table<X> {
         ensures { result ≡ map.empty }
     {
         Table {
-            map: IndexMap::new(alloc),
+            map: BTreeMap::new(alloc),
         }
     }
 
