@@ -6,6 +6,7 @@ use Rattle.lift_spec.specs.declared.calls.Call.{Call}
 use Rattle.lift_spec.specs.declared.calls.Slot.{Slot}
 use Rattle.lift_spec.specs.declared.calls.Slot.TheVariants.{Free, Waiting, Told}
 use Rattle.lift_spec.specs.declared.calls.Answer.{Answer}
+use Rattle.lift_spec.specs.declared.report.Answered.{Answered}
 use Rattle.lift_spec.specs.declared.calls.Answer.TheVariants.{Done, Stale, NotYours}
 use Rattle.lift_spec.specs.declared.report.EnteredCall.{EnteredCall}
 use Rattle.lift_spec.specs.Calls.{ticket_of, Calls, IsCall, SlotInRange, greatest_ticket, with_slot, slot_at, told_at, tell, served_at, serve, slot_for_next, lowest_free_from, entered_at, Entered, enter_all}
@@ -116,7 +117,7 @@ tell_with_holds sizes calls slot car None h one most = h
 tell_with_holds sizes calls slot car (Some ticket) h one most = tell_holds sizes calls slot ticket car h one most
 
 -- all tells of a group's commit, of cars of the group
-pub tell_all_holds : (sizes : Sizes) (tickets : List (Option ℕ)) (cars : List ℕ) (calls : Calls) (answers : List Answer) (slot : ℕ) → CallsHold sizes calls → All (λ car. car ≤ sizes.cars) cars → CallsHold sizes (tell_all calls answers slot tickets cars).0
+pub tell_all_holds : (sizes : Sizes) (tickets : List (Option ℕ)) (cars : List ℕ) (calls : Calls) (answers : List Answered) (slot : ℕ) → CallsHold sizes calls → All (λ car. car ≤ sizes.cars) cars → CallsHold sizes (tell_all calls answers slot tickets cars).0
 tell_all_holds sizes [] cars calls answers slot h most = h
 tell_all_holds sizes (ticket ∷ tickets) [] calls answers slot h most = h
 tell_all_holds sizes (ticket ∷ tickets) (zero ∷ cars) calls answers slot h most = tell_all_holds sizes tickets cars calls answers (slot + 1) h (All-tail (λ car. car ≤ sizes.cars) zero cars most)

@@ -8,6 +8,7 @@ use Rattle.lift_spec.specs.declared.calls.Call.{Call}
 use Rattle.lift_spec.specs.declared.image.Wishes.{Wishes}
 use Rattle.lift_spec.specs.declared.calls.Answer.{Answer}
 use Rattle.lift_spec.specs.declared.calls.Answer.TheVariants.{Stale}
+use Rattle.lift_spec.specs.declared.report.Answered.{Answered}
 use Rattle.lift_spec.specs.declared.report.Report.{Report}
 use Rattle.lift_spec.specs.declared.event.Event.{Event}
 use Rattle.lift_spec.specs.declared.event.Event.TheVariants.{Start, Instruction, Commit, Refresh, Press, Gather}
@@ -156,20 +157,20 @@ serve_with calls slot car (Some None) = (calls, Stale)
 serve_with calls slot car (Some (Some ticket)) = serve calls slot ticket car
 
 -- each ASSIGN that isn't 0 is a tell, in the order of the slots, under the ticket of the snapshot
-abbrev pub tell_all : Calls → List Answer → ℕ → List (Option ℕ) → List ℕ → Calls × List Answer
+abbrev pub tell_all : Calls → List Answered → ℕ → List (Option ℕ) → List ℕ → Calls × List Answered
 tell_all calls answers slot [] cars = (calls, answers)
 tell_all calls answers slot (ticket ∷ tickets) [] = (calls, answers)
 tell_all calls answers slot (ticket ∷ tickets) (zero ∷ cars) = tell_all calls answers (slot + 1) tickets cars
 tell_all calls answers slot (ticket ∷ tickets) (suc car ∷ cars) =
     let told = tell_with calls slot (suc car) ticket in
-    tell_all told.0 (answers ++ told.1 ∷ []) (slot + 1) tickets cars
+    tell_all told.0 (answers ++ record { slot = slot; ticket = ticket; car = suc car; answer = told.1 } ∷ []) (slot + 1) tickets cars
 
 -- a SERVE that isn't 0 is a serve, under the ticket of the snapshot
-abbrev pub serve_wish : Calls → ℕ → List (Option ℕ) → ℕ → Calls × List Answer
+abbrev pub serve_wish : Calls → ℕ → List (Option ℕ) → ℕ → Calls × List Answered
 serve_wish calls car tickets zero = (calls, [])
 serve_wish calls car tickets (suc slot) =
     let served = serve_with calls (suc slot) car (slice_get tickets slot) in
-    (served.0, served.1 ∷ [])
+    (served.0, record { slot = suc slot; ticket = flat (slice_get tickets slot); car = car; answer = served.1 } ∷ [])
 
 -- the task between scans, with what the scan left of its variables
 abbrev pub closed_tasks : Group → ℕ → TaskState → Values → List (Option TaskState)

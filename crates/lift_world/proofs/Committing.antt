@@ -11,7 +11,7 @@ use Rattle.lift_spec.specs.declared.image.Fields.{Fields}
 use Rattle.lift_spec.specs.declared.image.CarOutputs.{CarOutputs}
 use Rattle.lift_spec.specs.declared.image.Wishes.{Wishes}
 use Rattle.lift_spec.specs.declared.calls.Call.{Call}
-use Rattle.lift_spec.specs.declared.calls.Answer.{Answer}
+use Rattle.lift_spec.specs.declared.report.Answered.{Answered}
 use Rattle.lift_spec.specs.declared.report.Report.{Report}
 use Rattle.lift_spec.specs.Calls.{Calls, Entered, enter_all}
 use Rattle.lift_spec.specs.Settle.{Settled, AllSettled, settled_car, settled_all, with_outputs, denials_of}
@@ -28,7 +28,7 @@ pub refresh_group : (c : Config) (i : Image) (k : Calls) (g : Values) (seats : L
 unfolding refreshed_group
 refresh_group c i k g seats fields hand settled entered settles enters = ap₂ (refreshed_as (group_by c i k g seats) fields) (sym settles) enters
 
-module _ (c : Config) (i : Image) (k : Calls) (g : Values) (seats : List (Option Seat)) (s : Seat) (tickets : List (Option ℕ)) (values : Values) (v : Rows) (calls : Calls) (after : Values) (answers : List Answer) where
+module _ (c : Config) (i : Image) (k : Calls) (g : Values) (seats : List (Option Seat)) (s : Seat) (tickets : List (Option ℕ)) (values : Values) (v : Rows) (calls : Calls) (after : Values) (answers : List Answered) where
   -- the tasks once one is between scans
   abbrev closed : ℕ → List (Option Seat)
   closed t = slice_set seats t (Some (record { variables = v; tickets = None }))
@@ -44,7 +44,7 @@ module _ (c : Config) (i : Image) (k : Calls) (g : Values) (seats : List (Option
       ∙ ap (λ x. left (calls, answers) x (restricted (variables_in c 0 s.variables) values)) (sym writes) ∙ ap (left (calls, answers) after) (sym keeps)
       ∙ ap (λ ts. (record { image = i; calls = calls; globals = after; tasks = ts }, record { outputs = i.outputs; denials = []; answers = answers; entered = [] })) (sym (task_put c seats 0 (record { variables = v; tickets = None })))
     where
-      left : Calls × List Answer → Values → Values → Group × Report
+      left : Calls × List Answered → Values → Values → Group × Report
       left told globals variables = (
         record { image = i; calls = told.0; globals = globals; tasks = slice_set (tasks_in c 0 seats) 0 (Some (record { variables = variables; tickets = None })) },
         record { outputs = i.outputs; denials = []; answers = told.1; entered = [] },
@@ -69,7 +69,7 @@ module _ (c : Config) (i : Image) (k : Calls) (g : Values) (seats : List (Option
       outputs : List CarOutputs
       outputs = with_outputs i.outputs (suc n) settled.outputs
 
-      left : Calls × List Answer → Values → Values → Group × Report
+      left : Calls × List Answered → Values → Values → Group × Report
       left served globals variables = (
         record { image = record { fields = i.fields; outputs = outputs }; calls = served.0; globals = globals; tasks = slice_set (tasks_in c 0 seats) (suc n) (Some (record { variables = variables; tickets = None })) },
         record { outputs = outputs; denials = denials_of (suc n) settled.denials; answers = served.1; entered = [] },

@@ -6,6 +6,7 @@ use Rattle.lift_spec.specs.declared.calls.Call.{Call}
 use Rattle.lift_spec.specs.declared.calls.Slot.{Slot}
 use Rattle.lift_spec.specs.declared.calls.Slot.TheVariants.{Free, Waiting, Told}
 use Rattle.lift_spec.specs.declared.calls.Answer.{Answer}
+use Rattle.lift_spec.specs.declared.report.Answered.{Answered}
 use Rattle.lift_spec.specs.World.{tell_with, tell_all}
 use Rattle.lift_spec.specs.declared.calls.Entering.{Entering}
 use Rattle.lift_spec.specs.declared.calls.Entering.TheVariants.{Done as EntersAt, Kept}
@@ -22,16 +23,16 @@ denials_map car (r ∷ rules) = ap (λ l. record { car = car; rule = r } ∷ l) 
 -- TELLS
 
 -- car 0 is none
-pub tells_none : (calls : Calls) (answers : List Answer) (slot : ℕ) (ticket : Option ℕ) (car : ℕ) → car ≡ 0 → (tickets : List (Option ℕ)) (cars : List ℕ) → tell_all calls answers slot (ticket ∷ tickets) (car ∷ cars) ≡ tell_all calls answers (slot + 1) tickets cars
+pub tells_none : (calls : Calls) (answers : List Answered) (slot : ℕ) (ticket : Option ℕ) (car : ℕ) → car ≡ 0 → (tickets : List (Option ℕ)) (cars : List ℕ) → tell_all calls answers slot (ticket ∷ tickets) (car ∷ cars) ≡ tell_all calls answers (slot + 1) tickets cars
 tells_none calls answers slot ticket zero none tickets cars = refl
 tells_none calls answers slot ticket (suc n) none tickets cars = absurd (omega (arith, none))
 
 -- what is told is answered
-pub tells_one : (calls after : Calls) (answers more : List Answer) (slot : ℕ) (ticket : Option ℕ) (car : ℕ) (answer : Answer) → 1 ≤ car → tell_with calls slot car ticket ≡ (after, answer) → more ≡ answers ++ answer ∷ []
+pub tells_one : (calls after : Calls) (answers more : List Answered) (slot : ℕ) (ticket : Option ℕ) (car : ℕ) (answer : Answer) → 1 ≤ car → tell_with calls slot car ticket ≡ (after, answer) → more ≡ answers ++ record { slot = slot; ticket = ticket; car = car; answer = answer } ∷ []
     → (tickets : List (Option ℕ)) (cars : List ℕ) → tell_all calls answers slot (ticket ∷ tickets) (car ∷ cars) ≡ tell_all after more (slot + 1) tickets cars
 tells_one calls after answers more slot ticket zero answer some told is tickets cars = absurd (omega (arith, some))
 tells_one calls after answers more slot ticket (suc n) answer some told is tickets cars =
-    ap (λ (t : Calls × Answer). tell_all t.0 (answers ++ t.1 ∷ []) (slot + 1) tickets cars) told ∙ ap (λ l. tell_all after l (slot + 1) tickets cars) (sym is)
+    ap (λ (t : Calls × Answer). tell_all t.0 (answers ++ record { slot = slot; ticket = ticket; car = suc n; answer = t.1 } ∷ []) (slot + 1) tickets cars) told ∙ ap (λ l. tell_all after l (slot + 1) tickets cars) (sym is)
 
 -- FREE SLOTS
 

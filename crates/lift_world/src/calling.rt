@@ -9,7 +9,7 @@ use lift_calls::book::CallBook;
 use lift_image::Bounded;
 use lift_spec::calls::{Answer, Entering};
 use lift_spec::hand::Hand;
-use lift_spec::report::{Denial, EnteredCall, Rule};
+use lift_spec::report::{Answered, Denial, EnteredCall, Rule};
 
 /// Takes all items out of a row.
 pub fn clear<T: Drop + Default, const N: usize>(row: &mut Bounded<T, N>)
@@ -37,17 +37,20 @@ pub fn serve(
     car: u8,
     tickets: &[Option<u64>],
     slot: u8,
-    answers: &mut Bounded<Answer, 64>,
+    answers: &mut Bounded<Answered, 64>,
 )
     ensures { serve_wish calls.old car tickets.now slot ≡ (calls.new, answers.new) }
 {
     clear(answers);
     if slot > 0 {
-        let answer = match tickets.get(usize::from(slot - 1)) {
-            Some(Some(ticket)) => calls.serve(slot, *ticket, car),
-            _ => Answer::Stale,
-        };
-        answers.push(answer);
+        let ticket = tickets.get(usize::from(slot - 1)).copied().flatten();
+        let answer = served(calls, slot, ticket, car);
+        answers.push(Answered {
+            slot,
+            ticket,
+            car,
+            answer,
+        });
     }
 }
 
@@ -67,7 +70,7 @@ fn tell(
     slot: u8,
     ticket: Option<u64>,
     car: u8,
-    answers: &mut Bounded<Answer, 64>,
+    answers: &mut Bounded<Answered, 64>,
 )
     requires { length answers.old < 64 }
     ensures told { (tickets : List (Option ℕ)) (cars : List ℕ) → tell_all calls.old answers.old slot (ticket ∷ tickets) (car ∷ cars) ≡ tell_all calls.new answers.new (slot + 1) tickets cars }
@@ -77,7 +80,12 @@ fn tell(
         return;
     }
     let answer = told(calls, slot, ticket, car);
-    answers.push(answer);
+    answers.push(Answered {
+        slot,
+        ticket,
+        car,
+        answer,
+    });
 }
 
 /// Tells each call to the car that GROUP assigned to its slot, in the order of the slots, under the tickets that its scan saw.
@@ -85,7 +93,7 @@ pub fn tell_all(
     calls: &mut CallBook,
     tickets: &[Option<u64>],
     cars: &[u8],
-    answers: &mut Bounded<Answer, 64>,
+    answers: &mut Bounded<Answered, 64>,
 )
     requires few { length tickets.now ≤ 64 }
     requires each { length cars.now ≡ length tickets.now }
