@@ -10,7 +10,7 @@ use Rattle.lift_spec.specs.declared.report.Answered.{Answered}
 use Rattle.lift_spec.specs.declared.calls.Answer.TheVariants.{Done, Stale, NotYours}
 use Rattle.lift_spec.specs.declared.report.EnteredCall.{EnteredCall}
 use Rattle.lift_spec.specs.Calls.{ticket_of, Calls, IsCall, SlotInRange, greatest_ticket, with_slot, slot_at, told_at, tell, served_at, serve, slot_for_next, lowest_free_from, entered_at, Entered, enter_all}
-use Rattle.lift_spec.specs.World.{tell_with, serve_with, tell_all, serve_wish}
+use Rattle.lift_spec.specs.World.{flat, tell_with, serve_with, tell_all, serve_wish}
 use Rattle.lift_run_laws.specs.Holding.{ticket_at, TicketsHold, IsSetOf}
 use Rattle.lift_run_laws.proofs.Lists.{false_true, length_set, all_set, all_get, same_or_other}
 
@@ -141,16 +141,15 @@ served_holds sizes calls slot ticket car (Some Free) h = h
 served_holds sizes calls slot ticket car (Some (Waiting other call)) h = h
 served_holds sizes calls slot ticket car (Some (Told other call told)) h = served_by sizes calls slot (other == ticket) (told == car) h
 
-serve_with_holds : (sizes : Sizes) (calls : Calls) (slot car : ℕ) (o : Option (Option ℕ)) → CallsHold sizes calls → CallsHold sizes (serve_with calls slot car o).0
+serve_with_holds : (sizes : Sizes) (calls : Calls) (slot car : ℕ) (o : Option ℕ) → CallsHold sizes calls → CallsHold sizes (serve_with calls slot car o).0
 unfolding serve
 serve_with_holds sizes calls slot car None h = h
-serve_with_holds sizes calls slot car (Some None) h = h
-serve_with_holds sizes calls slot car (Some (Some ticket)) h = served_holds sizes calls slot ticket car (slot_at calls.slots slot) h
+serve_with_holds sizes calls slot car (Some ticket) h = served_holds sizes calls slot ticket car (slot_at calls.slots slot) h
 
 -- what a car serves
 pub serve_wish_holds : (sizes : Sizes) (calls : Calls) (car : ℕ) (tickets : List (Option ℕ)) (wish : ℕ) → CallsHold sizes calls → CallsHold sizes (serve_wish calls car tickets wish).0
 serve_wish_holds sizes calls car tickets zero h = h
-serve_wish_holds sizes calls car tickets (suc slot) h = serve_with_holds sizes calls (suc slot) car (slice_get tickets slot) h
+serve_wish_holds sizes calls car tickets (suc slot) h = serve_with_holds sizes calls (suc slot) car (flat (slice_get tickets slot)) h
 
 -- ENTERING
 

@@ -3,5 +3,5 @@
 
 pub mod observer;
 pub mod replay;
-mod scan;
+pub mod scan;
 pub mod sim;

@@ -67,7 +67,7 @@ fn press_all(world: &mut World, presses: &[Press], round: u16, report: &mut Repo
 }
 
 /// What the desk has from each floor is gathered.
-fn gather_all(world: &mut World, report: &mut Report)
+pub fn gather_all(world: &mut World, report: &mut Report)
     ensures taken { Happen world.old.program.config world.old.world (map GatherOf (floors_rising world.old.program.config)) world.new.world }
     ensures same { world.new.program ≡ world.old.program }
 {

@@ -151,10 +151,9 @@ tell_with calls slot car None = (calls, Stale)
 tell_with calls slot car (Some ticket) = tell calls slot ticket car
 
 -- what a car serves: the slot of its wish, under the ticket that its scan saw (own rule)
-abbrev pub serve_with : Calls → ℕ → ℕ → Option (Option ℕ) → Calls × Answer
+abbrev pub serve_with : Calls → ℕ → ℕ → Option ℕ → Calls × Answer
 serve_with calls slot car None = (calls, Stale)
-serve_with calls slot car (Some None) = (calls, Stale)
-serve_with calls slot car (Some (Some ticket)) = serve calls slot ticket car
+serve_with calls slot car (Some ticket) = serve calls slot ticket car
 
 -- each ASSIGN that isn't 0 is a tell, in the order of the slots, under the ticket of the snapshot
 abbrev pub tell_all : Calls → List Answered → ℕ → List (Option ℕ) → List ℕ → Calls × List Answered
@@ -169,8 +168,9 @@ tell_all calls answers slot (ticket ∷ tickets) (suc car ∷ cars) =
 abbrev pub serve_wish : Calls → ℕ → List (Option ℕ) → ℕ → Calls × List Answered
 serve_wish calls car tickets zero = (calls, [])
 serve_wish calls car tickets (suc slot) =
-    let served = serve_with calls (suc slot) car (slice_get tickets slot) in
-    (served.0, record { slot = suc slot; ticket = flat (slice_get tickets slot); car = car; answer = served.1 } ∷ [])
+    let ticket = flat (slice_get tickets slot) in
+    let served = serve_with calls (suc slot) car ticket in
+    (served.0, record { slot = suc slot; ticket = ticket; car = car; answer = served.1 } ∷ [])
 
 -- the task between scans, with what the scan left of its variables
 abbrev pub closed_tasks : Group → ℕ → TaskState → Values → List (Option TaskState)

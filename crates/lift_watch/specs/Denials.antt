@@ -2,6 +2,7 @@
 use Rattle.std.specs.Prelude.{ℕ, Bool, true, false, ◌||◌, not, if◌then◌else◌, List, [], ◌++◌, flat_map, codes, decimal}
 use Rattle.lift_spec.specs.declared.calls.Answer.{Answer}
 use Rattle.lift_spec.specs.declared.calls.Answer.TheVariants.{Done, Stale, NotYours, NoSlot}
+use Rattle.lift_spec.specs.declared.report.Answered.{Answered}
 use Rattle.lift_spec.specs.declared.report.Denial.{Denial}
 use Rattle.lift_spec.specs.declared.report.Rule.{Rule}
 use Rattle.lift_spec.specs.declared.report.Rule.TheVariants.{Reversal, Unlocked, AtEnd, NotLevel, Crowded, Fire}
@@ -14,16 +15,16 @@ unfoldable pub denial_text : List ℕ → ℕ → Denial → List ℕ
 denial_text event round d =
     codes "round " ++ (decimal round ++ (codes " " ++ (event ++ (codes " CAR" ++ (decimal d.car ++ (codes " rule " ++ (decimal (rule_number d.rule) ++ (codes ": " ++ (rule_sentence d.rule ++ codes "\n")))))))))
 
--- `round R commit TASK answer`
-unfoldable pub undone_text : ℕ → ℕ → List ℕ → List ℕ
-undone_text round task answer = codes "round " ++ (decimal round ++ (codes " commit " ++ (task_name task ++ (codes " " ++ (answer ++ codes "\n")))))
+-- `round R commit TASK slot S answer`
+unfoldable pub undone_text : ℕ → ℕ → ℕ → List ℕ → List ℕ
+undone_text round task slot answer = codes "round " ++ (decimal round ++ (codes " commit " ++ (task_name task ++ (codes " slot " ++ (decimal slot ++ (codes " " ++ (answer ++ codes "\n")))))))
 
--- what a tell or a serve was answered that was not done
-abbrev pub answer_text : ℕ → ℕ → Answer → List ℕ
-answer_text round task Done = []
-answer_text round task Stale = undone_text round task (codes "stale")
-answer_text round task NotYours = undone_text round task (codes "not yours")
-answer_text round task NoSlot = undone_text round task (codes "no slot")
+-- what the tell or the serve of a slot was answered that was not done
+abbrev pub answer_text : ℕ → ℕ → ℕ → Answer → List ℕ
+answer_text round task slot Done = []
+answer_text round task slot Stale = undone_text round task slot (codes "stale")
+answer_text round task slot NotYours = undone_text round task slot (codes "not yours")
+answer_text round task slot NoSlot = undone_text round task slot (codes "no slot")
 
 -- whether a rule stops a running car at an end of its shaft
 abbrev pub is_end_stop : Rule → Bool
@@ -47,8 +48,8 @@ abbrev pub denials_text : ℕ → List Denial → List ℕ
 denials_text round denials = flat_map (denial_text (codes "commit") round) denials
 
 -- the answers of a commit that were not done, in the order of its report
-abbrev pub answers_text : ℕ → ℕ → List Answer → List ℕ
-answers_text round task answers = flat_map (answer_text round task) answers
+abbrev pub answers_text : ℕ → ℕ → List Answered → List ℕ
+answers_text round task answers = flat_map (λ (a : Answered). answer_text round task a.slot a.answer) answers
 
 -- of each refresh its denials, and of each commit its denials and then its answers
 abbrev pub denied : Bool → Shows

@@ -6,7 +6,7 @@ ghost use Rattle.lift_spec.specs.Snapshot.{task_name};
 
 use lift_runs::observer::Observer;
 use lift_spec::calls::Answer;
-use lift_spec::report::{Denial, Report, Rule};
+use lift_spec::report::{Answered, Denial, Report, Rule};
 use lift_world::World;
 use std::alloc::{AllocError, Global};
 
@@ -118,35 +118,47 @@ fn put_answers(
     text: &mut String,
     round: u16,
     task: u8,
-    answers: &[Answer],
+    answers: &[Answered],
 ) -> Result<(), AllocError>
     ensures { OnOk result (string_bytes text.new ≡ string_bytes text.old ++ answers_text round task answers.now) }
 {
     'answers: for answer in answers {
-        put_answer(text, round, task, *answer)?;
+        put_answer(text, round, task, answer.slot, answer.answer)?;
     }
     Ok(())
 }
 
-fn put_answer(text: &mut String, round: u16, task: u8, answer: Answer) -> Result<(), AllocError>
-    ensures { OnOk result (string_bytes text.new ≡ string_bytes text.old ++ answer_text round task answer) }
+fn put_answer(
+    text: &mut String,
+    round: u16,
+    task: u8,
+    slot: u8,
+    answer: Answer,
+) -> Result<(), AllocError>
+    ensures { OnOk result (string_bytes text.new ≡ string_bytes text.old ++ answer_text round task slot answer) }
 {
     match answer {
         Answer::Done => Ok(()),
-        Answer::Stale => put_undone(text, round, task, "stale"),
-        Answer::NotYours => put_undone(text, round, task, "not yours"),
-        Answer::NoSlot => put_undone(text, round, task, "no slot"),
+        Answer::Stale => put_undone(text, round, task, slot, "stale"),
+        Answer::NotYours => put_undone(text, round, task, slot, "not yours"),
+        Answer::NoSlot => put_undone(text, round, task, slot, "no slot"),
     }
 }
 
-/// `round R commit TASK answer`.
+/// `round R commit TASK slot S answer`.
 #[tactic(auto, unfolding(crate::specs::Denials::undone_text))]
-fn put_undone(text: &mut String, round: u16, task: u8, answer: &str) -> Result<(), AllocError>
-    ensures { OnOk result (string_bytes text.new ≡ string_bytes text.old ++ undone_text round task answer.now) }
+fn put_undone(
+    text: &mut String,
+    round: u16,
+    task: u8,
+    slot: u8,
+    answer: &str,
+) -> Result<(), AllocError>
+    ensures { OnOk result (string_bytes text.new ≡ string_bytes text.old ++ undone_text round task slot answer.now) }
 {
     write!(text, "round {} commit ", round)?;
     put_task(text, task)?;
-    writeln!(text, " {}", answer)
+    writeln!(text, " slot {} {}", slot, answer)
 }
 
 /// The name of a task: 0 is GROUP, k is CARk.

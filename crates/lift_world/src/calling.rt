@@ -1,9 +1,9 @@
 // What events do to the calls, and the rows of a report.
 
-ghost use Rattle.std.specs.Prelude.{◌≡◌, ℕ, List, Option, ◌≤◌, ◌<◌, ◌+◌, ◌∷◌, [], length};
+ghost use Rattle.std.specs.Prelude.{◌≡◌, ℕ, List, Option, ◌≤◌, ◌<◌, ◌+◌, ◌-◌, ◌∷◌, [], length, slice_get};
 ghost use Rattle.lift_spec.specs.Calls.{enter_all};
 ghost use Rattle.lift_spec.specs.Settle.{denials_of};
-ghost use Rattle.lift_spec.specs.World.{serve_wish, tell_with, tell_all};
+ghost use Rattle.lift_spec.specs.World.{flat, serve_with, serve_wish, tell_with, tell_all};
 
 use lift_calls::book::CallBook;
 use lift_image::Bounded;
@@ -31,6 +31,27 @@ pub fn report_denials(denials: &mut Bounded<Denial, 16>, car: u8, rules: &[Rule]
     }
 }
 
+// The ticket that a scan saw in a slot; none where the slot was free, or where there is no such slot.
+fn ticket_in(tickets: &[Option<u64>], slot: u8) -> Option<u64>
+    requires { 1 ≤ slot }
+    ensures { result ≡ flat (slice_get tickets.now (slot - 1)) }
+{
+    match tickets.get(usize::from(slot - 1)) {
+        Some(ticket) => *ticket,
+        None => None,
+    }
+}
+
+// A car serves the call in a slot, under the ticket that its scan saw.
+fn served(calls: &mut CallBook, slot: u8, ticket: Option<u64>, car: u8) -> Answer
+    ensures { serve_with calls.old slot car ticket ≡ (calls.new, result) }
+{
+    match ticket {
+        Some(ticket) => calls.serve(slot, ticket, car),
+        None => Answer::Stale,
+    }
+}
+
 /// What a car serves: the call in the slot of its wish, under the ticket that its scan saw.
 pub fn serve(
     calls: &mut CallBook,
@@ -43,7 +64,7 @@ pub fn serve(
 {
     clear(answers);
     if slot > 0 {
-        let ticket = tickets.get(usize::from(slot - 1)).copied().flatten();
+        let ticket = ticket_in(tickets, slot);
         let answer = served(calls, slot, ticket, car);
         answers.push(Answered {
             slot,

@@ -162,7 +162,13 @@ fn stale_tickets_and_told_cars(rt: HostRuntime) -> Result<(), Fail> {
         call: Call { from: 1, to: 2 },
     };
     assert!(rt; played.slot == Some(waits));
-    assert!(rt; played.report.answers.as_slice() == [Answer::Stale].as_slice());
+    let stale = Answered {
+        slot: 1,
+        ticket: Some(1),
+        car: 1,
+        answer: Answer::Stale,
+    };
+    assert!(rt; played.report.answers.as_slice() == [stale].as_slice());
     Ok(())
 }
 

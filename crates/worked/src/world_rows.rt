@@ -27,7 +27,7 @@ struct WorldRow {
     replies: &'static [Reply],
     outputs: &'static [CarOutputs],
     denials: &'static [Denial],
-    answers: &'static [Answer],
+    answers: &'static [Answered],
     slots: &'static [Slot],
 }
 
@@ -297,7 +297,12 @@ static ROWS: [WorldRow; 6] = [
         ],
         outputs: &[STILL],
         denials: &[],
-        answers: &[Answer::Stale],
+        answers: &[Answered {
+            slot: 1,
+            ticket: Some(1),
+            car: 1,
+            answer: Answer::Stale,
+        }],
         slots: &[Slot::Waiting {
             ticket: 2,
             call: Call { from: 5, to: 4 },

@@ -1,0 +1,7 @@
+//! One round of a group, under fields that come from outside.
+#![tactic(auto)]
+
+pub mod notice;
+mod rounds;
+
+pub use rounds::{round, tasks_in};

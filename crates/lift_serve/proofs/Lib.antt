@@ -1,0 +1,6 @@
+pub mod Saying
+pub mod Doing
+pub mod Tracing
+pub mod Serving
+pub mod Lines
+pub mod Ending

@@ -1,0 +1,142 @@
+-- Lines, one behind the other, from a reader.
+use Rattle.std.proofs.Common.{◌≡◌, ℕ, Bool, true, false, List, [], ◌∷◌, ◌++◌, append-nil, Option, Some, None, refl, sym, ap, ◌∙◌, subst}
+use Rattle.std.specs.Io.KnownBytes.{Appends, Consumes}
+use Rattle.std.proofs.lemmas.List.{append_assoc}
+use Rattle.il_spec.specs.declared.tree.Config.{Config}
+use Rattle.il_machine.specs.Scanning.{Program}
+use Rattle.lift_spec.specs.World.{World}
+use Rattle.lift_sink.specs.Writes.{AppendsFront}
+use Rattle.lift_sink.proofs.Known.{appends_more}
+use Rattle.lift_trace.specs.Reading.{IsOneLine}
+use Rattle.lift_trace.specs.Text.{text_of_lines}
+use Rattle.lift_trace.proofs.Texts.{text_append}
+use Rattle.lift_serve.specs.declared.input.Came.{Came}
+use Rattle.lift_serve.specs.declared.input.Came.TheVariants.{Whole, Ended, TooLong, Failed}
+use Rattle.lift_serve.specs.declared.said.Said.{Said}
+use Rattle.lift_serve.specs.declared.said.Said.TheVariants.{Round, Press, End}
+use Rattle.lift_serve.specs.declared.serve.Stop.TheVariants.{Line, Input, Lines}
+use Rattle.lift_serve.specs.declared.server.ServeFault.{ServeFault}
+use Rattle.lift_serve.specs.Coming.{LineComes}
+use Rattle.lift_serve.specs.Serving.{Hears, Serves, Unheard, IsServed, IsStopped, is_end}
+use Rattle.lift_serve.proofs.Serving.{serves_next, unheard_behind}
+
+pub consumes_more : (a b d : Option (List ℕ)) (x y : List ℕ) → Consumes a b x → Consumes b d y → Consumes a d (x ++ y)
+consumes_more None b d x y p q = tt
+consumes_more (Some xs) None d x y p q = absurd p
+consumes_more (Some xs) (Some ys) None x y p q = absurd q
+consumes_more (Some xs) (Some ys) (Some zs) x y p q = p ∙ ap (λ l. x ++ l) q ∙ sym (append_assoc x y zs)
+
+taken_more : (a b d : Option (List ℕ)) (lines : List (List ℕ)) (line : List ℕ) → Consumes a b (text_of_lines lines) → Consumes b d (line ++ 10 ∷ []) → Consumes a d (text_of_lines (lines ++ line ∷ []))
+taken_more a b d lines line before here =
+    let all : text_of_lines (lines ++ line ∷ []) ≡ text_of_lines lines ++ (line ++ 10 ∷ []) = text_append lines (line ∷ []) ∙ ap (λ l. text_of_lines lines ++ l) (append-nil (line ++ 10 ∷ [])) in
+    subst (Consumes a d) (sym all) (consumes_more a b d (text_of_lines lines) (line ++ 10 ∷ []) before here)
+
+-- what the lines so far left
+abbrev pub SoFar : Config → World → ℕ → World → ℕ → Option (List ℕ) → Option (List ℕ) → Option (List ℕ) → Option (List ℕ) → Option (List ℕ) → Option (List ℕ) → Type 0
+SoFar c w a m b r0 r o0 o t0 t = (lines : List (List ℕ)) × (text : List ℕ) × (events : List ℕ) × Serves c lines w a m b text events × Consumes r0 r (text_of_lines lines) × Appends o0 o text × Appends t0 t events
+
+-- what the next one left
+abbrev pub IsHeard : Config → List ℕ → World → World → ℕ → ℕ → Option (List ℕ) → Option (List ℕ) → Option (List ℕ) → Option (List ℕ) → Bool → Type 0
+IsHeard c line m v b d o p t u ended = (said : Said) × (text : List ℕ) × (events : List ℕ) × Hears c line said m v b d text events × Appends o p text × Appends t u events × (ended ≡ is_end said)
+
+end_of : (said : Said) → true ≡ is_end said → said ≡ End
+end_of (Round fields) is = absurd (cc)
+end_of (Press call) is = absurd (cc)
+end_of End is = refl
+
+module _ (p : Program) (w m : World) (a b : ℕ) (r0 r o0 o t0 t : Option (List ℕ)) (before : SoFar p.config w a m b r0 r o0 o t0 t) where
+  module _ (q : Program) (same : q ≡ p) (line other : List ℕ) (is : other ≡ line) (s p1 u : Option (List ℕ)) (comes : Consumes r s (line ++ 10 ∷ [])) where
+    hears_here : (said : Said) (v : World) (d : ℕ) (text events : List ℕ) → Hears q.config other said m v b d text events → Hears p.config line said m v b d text events
+    hears_here said v d text events hears = subst (λ (x : Program). Hears x.config line said m v b d text events) same (subst (λ l. Hears q.config l said m v b d text events) is hears)
+
+    pub so_far_next : (v : World) (d : ℕ) (ended : Bool) → ended ≡ false → IsHeard q.config other m v b d o p1 t u ended → SoFar p.config w a v d r0 s o0 p1 t0 u
+    so_far_next v d ended not_so (said, first, one, hears, out, trace, end) = (
+      before.0 ++ line ∷ [],
+      before.1 ++ first,
+      before.2 ++ one,
+      serves_next p.config before.0 line said w m v a b d before.1 before.2 first one before.3 (hears_here said v d first one hears) (sym end ∙ not_so),
+      taken_more r0 r s before.0 line before.4 comes,
+      appends_more o0 o p1 before.1 first before.5 out,
+      appends_more t0 t u before.2 one before.6 trace,
+    )
+
+    pub served : (v : World) (d : ℕ) (ended : Bool) → true ≡ ended → IsHeard q.config other m v b d o p1 t u ended → IsServed p.config w a v d (Consumes r0 s) (Appends o0 p1) (Appends t0 u)
+    served v d ended so (said, first, one, hears, out, trace, end) =
+        let heard = hears_here said v d first one hears in
+        record {
+          lines = before.0;
+          last = line;
+          taken = taken_more r0 r s before.0 line before.4 comes;
+          behind = m;
+          many = b;
+          text = before.1;
+          events = before.2;
+          serves = before.3;
+          answer = first;
+          ends = one;
+          hears = subst (λ x. Hears p.config line x m v b d first one) (end_of said (so ∙ end)) heard;
+          answered = appends_more o0 o p1 before.1 first before.5 out;
+          traced = appends_more t0 t u before.2 one before.6 trace;
+        }
+
+    pub stopped_line : (f : ServeFault) → IsOneLine line → Unheard q.config other m b (Appends o p1) (AppendsFront o p1) (Appends t u) (AppendsFront t u) f
+        → IsStopped p.config w a (Consumes r0 s) (Appends o0 p1) (AppendsFront o0 p1) (Appends t0 u) (AppendsFront t0 u) (Line f)
+    stopped_line f one unheard =
+        let here = subst (λ (x : Program). Unheard x.config line m b (Appends o p1) (AppendsFront o p1) (Appends t u) (AppendsFront t u) f) same (subst (λ l. Unheard q.config l m b (Appends o p1) (AppendsFront o p1) (Appends t u) (AppendsFront t u) f) is unheard) in
+        record {
+          lines = before.0;
+          v = m;
+          next = b;
+          text = before.1;
+          events = before.2;
+          serves = before.3;
+          why = (line, one, consumes_more r0 r s (text_of_lines before.0) (line ++ 10 ∷ []) before.4 comes, unheard_behind p.config line m b f o0 o p1 t0 t u before.1 before.2 before.5 before.6 here);
+        }
+
+  no_more : (x y : Option (List ℕ)) (text : List ℕ) → Appends x y text → Appends x y (text ++ [])
+  no_more x y text grown = subst (Appends x y) (sym (append-nil text)) grown
+
+  pub stopped_input : (came : Came) (line : List ℕ) (s : Option (List ℕ)) → (came ≡ Whole → ⊥) → LineComes came r s line → IsStopped p.config w a (Consumes r0 s) (Appends o0 o) (AppendsFront o0 o) (Appends t0 t) (AppendsFront t0 t) (Input came)
+  stopped_input Whole line s other comes = absurd (other refl)
+  stopped_input Ended line s other (one, taken, end) =
+      record {
+        lines = before.0;
+        v = m;
+        next = b;
+        text = before.1;
+        events = before.2;
+        serves = before.3;
+        why = (line, one, consumes_more r0 r s (text_of_lines before.0) line before.4 taken, no_more o0 o before.1 before.5, no_more t0 t before.2 before.6);
+      }
+  stopped_input TooLong line s other (one, long, (more, no_feed, taken)) =
+      record {
+        lines = before.0;
+        v = m;
+        next = b;
+        text = before.1;
+        events = before.2;
+        serves = before.3;
+        why = (line, more, one, long, no_feed, consumes_more r0 r s (text_of_lines before.0) _ before.4 taken, no_more o0 o before.1 before.5, no_more t0 t before.2 before.6);
+      }
+  stopped_input Failed line s other (one, taken) =
+      record {
+        lines = before.0;
+        v = m;
+        next = b;
+        text = before.1;
+        events = before.2;
+        serves = before.3;
+        why = (line, one, consumes_more r0 r s (text_of_lines before.0) line before.4 taken, no_more o0 o before.1 before.5, no_more t0 t before.2 before.6);
+      }
+
+  pub stopped_lines : IsStopped p.config w a (Consumes r0 r) (Appends o0 o) (AppendsFront o0 o) (Appends t0 t) (AppendsFront t0 t) Lines
+  stopped_lines =
+      record {
+        lines = before.0;
+        v = m;
+        next = b;
+        text = before.1;
+        events = before.2;
+        serves = before.3;
+        why = (subst (Consumes r0 r) (sym (append-nil (text_of_lines before.0))) before.4, no_more o0 o before.1 before.5, no_more t0 t before.2 before.6);
+      }

@@ -1,0 +1,64 @@
+-- What is traced of a line.
+use Rattle.std.proofs.Common.{◌≡◌, ℕ, zero, suc, ◌+◌, ◌*◌, List, [], ◌∷◌, ◌++◌, map, flat_map, length, append-nil, length-append, refl, sym, ap, ◌∙◌, arith}
+use Rattle.std.proofs.lemmas.List.{append_assoc}
+use Rattle.il_spec.specs.declared.tree.Config.{Config}
+use Rattle.lift_spec.specs.declared.image.Fields.{Fields}
+use Rattle.lift_spec.specs.declared.trace.TraceEvent.TheVariants.{Gather, Refresh, Press as Pressed}
+use Rattle.lift_spec.specs.Image.{sizes_of}
+use Rattle.lift_trace.specs.declared.format.Format.TheVariants.{Two}
+use Rattle.lift_trace.specs.Text.{line_of}
+use Rattle.lift_trace.specs.Writing.{events_text}
+use Rattle.lift_trace.proofs.Writes.{events_append}
+use Rattle.lift_journal.specs.Rounds.{counting_from, floors_rising, tasks_in_order}
+use Rattle.lift_serve.specs.declared.said.Said.{Said}
+use Rattle.lift_serve.specs.declared.said.Said.TheVariants.{Round, Press, End}
+use Rattle.lift_serve.specs.Saying.{Says, events_of, scan_events}
+use Rattle.lift_serve.specs.Serving.{record_text, traced_text}
+
+counting_next : (first k : ℕ) → counting_from first (k + 1) ≡ counting_from first k ++ (first + k) ∷ []
+counting_next first zero = let same : first ≡ first + 0 = omega arith in ap (λ n. n ∷ []) same
+counting_next first (suc k) =
+    let next : suc k + 1 ≡ suc (k + 1) = omega arith in
+    let last : (first + 1) + k ≡ first + suc k = omega arith in
+    ap (counting_from first) next ∙ ap (λ l. first ∷ l) (counting_next (first + 1) k) ∙ ap (λ n. first ∷ (counting_from (first + 1) k ++ n ∷ [])) last
+
+gathers_append : (xs ys : List ℕ) → map Gather (xs ++ ys) ≡ map Gather xs ++ map Gather ys
+gathers_append [] ys = refl
+gathers_append (x ∷ xs) ys = ap (λ l. Gather x ∷ l) (gathers_append xs ys)
+
+-- one floor more
+pub gathers_next : (k : ℕ) → events_text (map Gather (counting_from 1 k)) ++ events_text (Gather (k + 1) ∷ []) ≡ events_text (map Gather (counting_from 1 (k + 1)))
+gathers_next k =
+    let floor : 1 + k ≡ k + 1 = omega arith in
+    sym (ap (λ l. events_text (map Gather l)) (counting_next 1 k ∙ ap (λ n. counting_from 1 k ++ n ∷ []) floor) ∙ ap events_text (gathers_append (counting_from 1 k) ((k + 1) ∷ [])) ∙ events_append (map Gather (counting_from 1 k)) (Gather (k + 1) ∷ []))
+
+counting_length : (first k : ℕ) → length (counting_from first k) ≡ k
+counting_length first zero = refl
+counting_length first (suc k) = ap suc (counting_length (first + 1) k)
+
+gathers_length : (floors : List ℕ) → length (map Gather floors) ≡ length floors
+gathers_length [] = refl
+gathers_length (floor ∷ floors) = ap suc (gathers_length floors)
+
+scans_length : (tasks : List ℕ) → length (flat_map scan_events tasks) ≡ 2 * length tasks
+scans_length [] = refl
+scans_length (t ∷ tasks) = let rest = scans_length tasks in omega (arith, rest)
+
+-- how many events a round has
+pub round_length : (c : Config) (fields : Fields) → length (events_of c (Round fields)) ≡ (sizes_of c).floors + (1 + 2 * length (tasks_in_order c))
+round_length c fields =
+    let both = length-append (map Gather (floors_rising c)) (Refresh fields ∷ flat_map scan_events (tasks_in_order c)) in
+    let gathers = gathers_length (floors_rising c) ∙ counting_length 1 (sizes_of c).floors in
+    let scans = scans_length (tasks_in_order c) in
+    omega (arith, both, gathers, scans)
+
+-- the texts of the group and the line are what is traced
+pub record_is : (c : Config) (line gathers scans : List ℕ) (count : ℕ) (said : Said) → Says c line said → gathers ≡ events_text (map Gather (floors_rising c)) → scans ≡ events_text (flat_map scan_events (tasks_in_order c))
+    → record_text gathers scans line count said ≡ traced_text c said count
+record_is c line gathers scans count (Round fields) says g s =
+    let floors = map Gather (floors_rising c) in
+    let each = flat_map scan_events (tasks_in_order c) in
+    ap (λ l. l ++ (line ++ (10 ∷ scans))) g ∙ ap (λ l. events_text floors ++ (line ++ (10 ∷ l))) s ∙ ap (λ l. events_text floors ++ (l ++ (10 ∷ events_text each))) says.spelled
+    ∙ ap (λ l. events_text floors ++ l) (sym (append_assoc (line_of Two (Refresh fields)) (10 ∷ []) (events_text each))) ∙ sym (events_append floors (Refresh fields ∷ each))
+record_is c line gathers scans count (Press call) says g s = ap (λ l. l ++ 10 ∷ []) says.spelled ∙ sym (append-nil (line_of Two (Pressed call) ++ 10 ∷ []))
+record_is c line gathers scans count End says g s = refl

@@ -1,0 +1,43 @@
+-- A group from its opening to the end of its lines (own rules).
+use Rattle.std.specs.Prelude.{◌≡◌, ℕ, Bool, false, List, [], ◌∷◌, ◌++◌, Option}
+use Rattle.std.specs.Io.KnownBytes.{Appends}
+use Rattle.il_spec.specs.declared.tree.Config.{Config}
+use Rattle.lift_spec.specs.World.{World, opening}
+use Rattle.lift_sink.specs.Writes.{AppendsFront}
+use Rattle.lift_trace.specs.declared.format.Format.TheVariants.{Two}
+use Rattle.lift_trace.specs.Text.{first_line}
+use Rattle.lift_serve.specs.declared.group.Halt.{Halt}
+use Rattle.lift_serve.specs.declared.group.Halt.TheVariants as halt
+use Rattle.lift_serve.specs.declared.serve.Stop.{Stop as StopOf}
+use Rattle.lift_serve.specs.declared.serve.Stop.TheVariants as stop
+use Rattle.lift_serve.specs.declared.server.ServeFault.TheVariants as fault
+use Rattle.lift_serve.specs.Serving.{IsServed, IsStopped, stop_line}
+
+-- the head of a trace
+abbrev pub head : List ℕ
+head = first_line Two ++ 10 ∷ []
+
+-- the bytes are written, or the output failed and has a front of them
+abbrev pub Ends : Option (List ℕ) → Option (List ℕ) → Bool → List ℕ → Type 0
+Ends old new failed bytes = AppendsFront old new bytes × (failed ≡ false → Appends old new bytes)
+
+-- the stop was written, unless it was the output that had failed
+abbrev pub IsHaltWritten : StopOf → Option (List ℕ) → Option (List ℕ) → Bool → List ℕ → Type 0
+IsHaltWritten (stop.Line fault.Output) old new failed text = new ≡ old
+IsHaltWritten (stop.Line fault.WrongLine) old new failed text = Ends old new failed text
+IsHaltWritten (stop.Line fault.Trace) old new failed text = Ends old new failed text
+IsHaltWritten (stop.Line fault.Memory) old new failed text = Ends old new failed text
+IsHaltWritten (stop.Line fault.Full) old new failed text = Ends old new failed text
+IsHaltWritten (stop.Input c) old new failed text = Ends old new failed text
+IsHaltWritten stop.Lines old new failed text = Ends old new failed text
+
+-- It came to its end: from the opening on each line that the reader gave was answered, and the trace is whole.
+abbrev pub IsEnded : Config → (List ℕ → Type 0) → (List ℕ → Type 0) → (List ℕ → Type 0) → Type 0
+IsEnded c Taken Out Trace = (v : World) × (next : ℕ) × IsServed c (opening c) 0 v next Taken Out (λ events. Trace (head ++ events))
+
+-- It came to no end. Where a line was not answered, or none came, the stop is the last line that was written, behind the answers; only an output that failed before has
+-- a front of the answer.
+abbrev pub IsHalted : Config → (List ℕ → Type 0) → Option (List ℕ) → Option (List ℕ) → Bool → (List ℕ → Type 0) → (List ℕ → Type 0) → Halt → Type 0
+IsHalted c Taken old new failed Trace TraceFront halt.Memory = Taken [] × (new ≡ old) × Trace []
+IsHalted c Taken old new failed Trace TraceFront halt.Head = Taken [] × (new ≡ old) × TraceFront head
+IsHalted c Taken old new failed Trace TraceFront (halt.Stop s) = IsStopped c (opening c) 0 Taken (λ text. Ends old new failed (text ++ stop_line c)) (λ text. AppendsFront old new text) (λ events. Trace (head ++ events)) (λ events. TraceFront (head ++ events)) s

@@ -1,0 +1,5 @@
+pub mod Saying
+pub mod Serving
+pub mod Answers
+pub mod Coming
+pub mod Ending

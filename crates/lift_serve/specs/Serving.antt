@@ -1,0 +1,113 @@
+-- A group behind lines, and what each line leaves (own rules).
+use Rattle.std.specs.Prelude.{◌≡◌, ◌≢◌, ℕ, ◌+◌, Bool, true, false, List, [], ◌∷◌, ◌++◌, length, map, flat_map, string_bytes}
+use Rattle.il_spec.specs.declared.tree.Config.{Config}
+use Rattle.lift_spec.specs.declared.trace.TraceEvent.TheVariants as traced
+use Rattle.lift_spec.specs.World.{World, opening_group}
+use Rattle.lift_trace.specs.Text.{last_line, text_of_lines}
+use Rattle.lift_trace.specs.Writing.{events_text}
+use Rattle.lift_journal.specs.Rounds.{floors_rising, tasks_in_order}
+use Rattle.lift_journal.proofs.Taking.{IsClosed}
+use Rattle.lift_serve.specs.declared.said.Said.{Said}
+use Rattle.lift_serve.specs.declared.said.Said.TheVariants.{Round, Press, End}
+use Rattle.lift_serve.specs.declared.server.Server.{Server}
+use Rattle.lift_serve.specs.declared.server.ServeFault.{ServeFault}
+use Rattle.lift_serve.specs.declared.server.ServeFault.TheVariants as fault
+use Rattle.lift_trace.specs.Reading.{IsOneLine}
+use Rattle.lift_serve.specs.declared.serve.Stop.{Stop}
+use Rattle.lift_serve.specs.declared.serve.Stop.TheVariants.{Line, Input, Lines}
+use Rattle.lift_serve.specs.declared.input.Came.TheVariants.{Whole, Ended, TooLong, Failed}
+use Rattle.lift_serve.specs.Coming.{greatest_line}
+use Rattle.lift_serve.specs.Saying.{Says, events_of, scan_events}
+use Rattle.lift_serve.specs.Answers.{outputs_line, Acts}
+
+-- the stop: every motor still, every door shut, as the group opens
+abbrev pub stop_line : Config → List ℕ
+stop_line c = outputs_line (opening_group c).image.outputs
+
+-- what holds of every server: no scan is open, and it has the texts of its group
+pub record IsServer (s : Server) : Type 0 where
+  pub closed : IsClosed s.world.world
+  pub tasks : s.tasks.items ≡ tasks_in_order s.world.program.config
+  pub gathers : string_bytes s.gathers ≡ events_text (map traced.Gather (floors_rising s.world.program.config))
+  pub scans : string_bytes s.scans ≡ events_text (flat_map scan_events (tasks_in_order s.world.program.config))
+
+-- THE BLACK BOX
+
+-- The lines that are traced of it, behind so many events. The end has the last line of a trace.
+abbrev pub traced_text : Config → Said → ℕ → List ℕ
+traced_text c (Round fields) count = events_text (events_of c (Round fields))
+traced_text c (Press call) count = events_text (events_of c (Press call))
+traced_text c End count = last_line count ++ 10 ∷ []
+
+-- the same by the texts of the group, and by its line
+abbrev pub record_text : List ℕ → List ℕ → List ℕ → ℕ → Said → List ℕ
+record_text gathers scans line count (Round fields) = gathers ++ (line ++ (10 ∷ scans))
+record_text gathers scans line count (Press call) = line ++ 10 ∷ []
+record_text gathers scans line count End = last_line count ++ 10 ∷ []
+
+-- A LINE
+
+-- whether it is the end
+abbrev pub is_end : Said → Bool
+is_end (Round fields) = false
+is_end (Press call) = false
+is_end End = true
+
+-- A line says this, which leads from a world to another and is answered so. So much is traced of it, behind so many events, and so many are then traced.
+pub record Hears (c : Config) (line : List ℕ) (said : Said) (w v : World) (count next : ℕ) (text events : List ℕ) : Type 0 where
+  pub says : Says c line said
+  pub acts : Acts c said w v text
+  pub traced : events ≡ traced_text c said count
+  pub counted : next ≡ count + length (events_of c said)
+
+-- Why a line isn't answered, by what the answers and the trace grew, in whole or by a front: it says nothing that the group takes; the trace failed, and nothing was answered; the answer
+-- failed, behind all that is traced of the line; memory is missing, or no further event can be counted.
+abbrev pub Unheard : Config → List ℕ → World → ℕ → (List ℕ → Type 0) → (List ℕ → Type 0) → (List ℕ → Type 0) → (List ℕ → Type 0) → ServeFault → Type 0
+Unheard c line w count Out OutFront Trace TraceFront fault.WrongLine = ((said : Said) → Says c line said → ⊥) × Out [] × Trace []
+Unheard c line w count Out OutFront Trace TraceFront fault.Trace = (said : Said) × Says c line said × Out [] × TraceFront (traced_text c said count)
+Unheard c line w count Out OutFront Trace TraceFront fault.Output = (said : Said) × (v : World) × (text : List ℕ) × Says c line said × Acts c said w v text × OutFront text × Trace (traced_text c said count)
+Unheard c line w count Out OutFront Trace TraceFront fault.Memory = (said : Said) × Says c line said × Out [] × TraceFront (traced_text c said count)
+Unheard c line w count Out OutFront Trace TraceFront fault.Full = (said : Said) × Says c line said × Out [] × Trace []
+
+-- ALL LINES
+
+-- Lines lead from a world to another, each of them as it says, which is not the end; they are answered so, one behind the other, and so much is traced of them.
+abbrev pub Serves : Config → List (List ℕ) → World → ℕ → World → ℕ → List ℕ → List ℕ → Type 0
+Serves c [] w count v next text events = (w ≡ v) × (count ≡ next) × (text ≡ []) × (events ≡ [])
+Serves c (line ∷ lines) w count v next text events =
+    (said : Said) × (m : World) × (k : ℕ) × (first : List ℕ) × (one : List ℕ) × (rest : List ℕ) × (others : List ℕ) × Hears c line said w m count k first one × (is_end said ≡ false) × Serves c lines m k v next rest others × (text ≡ first ++ rest) × (events ≡ one ++ others)
+
+-- Why serving stopped: the next line was whole and was not answered; none came whole, and nothing of it was traced or answered; or the lines were too many.
+abbrev pub IsStoppedBy : Config → World → ℕ → (List ℕ → Type 0) → (List ℕ → Type 0) → (List ℕ → Type 0) → (List ℕ → Type 0) → (List ℕ → Type 0) → Stop → Type 0
+IsStoppedBy c w count Taken Out OutFront Trace TraceFront (Line fault) = (line : List ℕ) × IsOneLine line × Taken (line ++ 10 ∷ []) × Unheard c line w count Out OutFront Trace TraceFront fault
+IsStoppedBy c w count Taken Out OutFront Trace TraceFront (Input Whole) = ⊥
+IsStoppedBy c w count Taken Out OutFront Trace TraceFront (Input Ended) = (line : List ℕ) × IsOneLine line × Taken line × Out [] × Trace []
+IsStoppedBy c w count Taken Out OutFront Trace TraceFront (Input TooLong) = (line : List ℕ) × (more : ℕ) × IsOneLine line × (length line ≡ greatest_line) × (more ≢ 10) × Taken (line ++ more ∷ []) × Out [] × Trace []
+IsStoppedBy c w count Taken Out OutFront Trace TraceFront (Input Failed) = (line : List ℕ) × IsOneLine line × Taken line × Out [] × Trace []
+IsStoppedBy c w count Taken Out OutFront Trace TraceFront Lines = Taken [] × Out [] × Trace []
+
+-- The end was said: the reader gave these lines and then one that says it, and no other of them does.
+pub record IsServed (c : Config) (w : World) (count : ℕ) (v : World) (next : ℕ) (Taken Out Trace : List ℕ → Type 0) : Type 0 where
+  pub lines : List (List ℕ)
+  pub last : List ℕ
+  pub taken : Taken (text_of_lines (lines ++ last ∷ []))
+  pub behind : World
+  pub many : ℕ
+  pub text : List ℕ
+  pub events : List ℕ
+  pub serves : Serves c lines w count behind many text events
+  pub answer : List ℕ
+  pub ends : List ℕ
+  pub hears : Hears c last End behind v many next answer ends
+  pub answered : Out (text ++ answer)
+  pub traced : Trace (events ++ ends)
+
+-- Serving stopped, behind lines that were answered and traced.
+pub record IsStopped (c : Config) (w : World) (count : ℕ) (Taken Out OutFront Trace TraceFront : List ℕ → Type 0) (stop : Stop) : Type 0 where
+  pub lines : List (List ℕ)
+  pub v : World
+  pub next : ℕ
+  pub text : List ℕ
+  pub events : List ℕ
+  pub serves : Serves c lines w count v next text events
+  pub why : IsStoppedBy c v next (λ l. Taken (text_of_lines lines ++ l)) (λ l. Out (text ++ l)) (λ l. OutFront (text ++ l)) (λ l. Trace (events ++ l)) (λ l. TraceFront (events ++ l)) stop

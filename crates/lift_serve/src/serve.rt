@@ -1,0 +1,49 @@
+// Lines, one behind the other.
+
+ghost use Rattle.std.specs.Prelude.{◌≡◌, ◌≤◌, ◌++◌, ◌∷◌, [], ℕ, List, OnOk, IfErr, vec_capacity};
+ghost use Rattle.std.specs.Io.KnownBytes.{Appends, Consumes};
+ghost use Rattle.lift_sink.specs.Writes.{AppendsFront};
+ghost use Rattle.lift_serve.specs.Serving.{IsServer, IsServed, IsStopped, Serves};
+
+use crate::input::{Came, next_line};
+use crate::server::{ServeFault, Server};
+use lift_sink::sink::Sink;
+use std::io::Read;
+
+/// Why serving ends before the end was said.
+#[derive(Clone, Copy)]
+pub enum Stop {
+    /// A whole line was not answered.
+    Line(ServeFault),
+    /// No whole line came.
+    Input(Came),
+    /// There are as many lines as can be counted.
+    Lines,
+}
+
+/// Answers each line of a reader before it reads the next, up to the end.
+pub fn serve<R: Read, O: Sink, T: Sink>(
+    server: &mut Server,
+    line: &mut Vec<u8>,
+    reader: &mut R,
+    out: &mut O,
+    trace: &mut T,
+) -> Result<(), Stop>
+    requires server { IsServer server.old }
+    requires room { 128 ≤ vec_capacity line.old }
+    ensures served { OnOk result (IsServed server.old.world.program.config server.old.world.world server.old.count server.new.world.world server.new.count (Consumes (R.remaining reader.old) (R.remaining reader.new)) (Appends (O.contents out.old) (O.contents out.new)) (Appends (T.contents trace.old) (T.contents trace.new))) }
+    ensures stopped { IfErr result (λ stop. IsStopped server.old.world.program.config server.old.world.world server.old.count (Consumes (R.remaining reader.old) (R.remaining reader.new)) (Appends (O.contents out.old) (O.contents out.new)) (AppendsFront (O.contents out.old) (O.contents out.new)) (Appends (T.contents trace.old) (T.contents trace.new)) (AppendsFront (T.contents trace.old) (T.contents trace.new)) stop) }
+{
+    'lines: for _number in 0..u64::MAX {
+        let came = next_line(reader, line);
+        match came {
+            Came::Whole => match server.hear(line, out, trace) {
+                Ok(false) => {}
+                Ok(true) => return Ok(()),
+                Err(fault) => return Err(Stop::Line(fault)),
+            },
+            _ => return Err(Stop::Input(came)),
+        }
+    }
+    Err(Stop::Lines)
+}

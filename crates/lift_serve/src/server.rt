@@ -1,0 +1,268 @@
+// A group behind lines.
+
+ghost use Rattle.std.specs.Prelude.{◌≡◌, ◌≢◌, ◌⊎◌, ◌++◌, ◌+◌, ◌∷◌, [], ℕ, List, Bool, true, length, OnOk, OnErr, IfOk, IfErr, string_bytes, map, flat_map};
+ghost use Rattle.std.specs.Io.KnownBytes.{Appends};
+ghost use Rattle.lift_spec.specs.World.{opening};
+ghost use Rattle.lift_spec.specs.declared.trace.TraceEvent.TheVariants.{Gather};
+ghost use Rattle.lift_spec.specs.Image.{sizes_of, FieldsInRange, Obeys};
+ghost use Rattle.lift_sink.specs.Writes.{AppendsFront};
+ghost use Rattle.lift_trace.specs.Text.{last_line};
+ghost use Rattle.lift_trace.specs.Writing.{events_text};
+ghost use Rattle.lift_journal.specs.Rounds.{counting_from, tasks_in_order};
+ghost use Rattle.lift_serve.specs.Saying.{scan_events, events_of, said_line, Says, IsTaken};
+ghost use Rattle.lift_serve.specs.Answers.{Acts};
+ghost use Rattle.lift_serve.specs.Serving.{IsServer, Hears, Unheard, traced_text, record_text, is_end};
+ghost use Rattle.lift_serve.specs.declared.said.Said.{Said as SaidOf};
+
+use crate::round::act;
+use crate::said::{Said, read_said};
+use il_machine::Verified;
+use il_spec::fault::Refusal;
+use itoa::Buffer;
+use lift_runs::sim::tasks_of;
+use lift_sink::sink::{Sink, put_all};
+use lift_spec::report::Report;
+use lift_world::World;
+use std::alloc::{AllocError, Global};
+
+/// Why serving stops.
+#[derive(Clone, Copy)]
+pub enum ServeFault {
+    /// The line says nothing that the group takes.
+    WrongLine,
+    /// The trace can't be written.
+    Trace,
+    /// The answer can't be written.
+    Output,
+    /// An allocation failed.
+    Memory,
+    /// There are as many events as can be counted.
+    Full,
+}
+
+/// A group, with what is traced of each of its rounds, and room for an answer and for what is traced of a line.
+#[derive(Drop)]
+pub struct Server {
+    pub world: World,
+    pub tasks: Vec<u8>,
+    pub gathers: String,
+    pub scans: String,
+    pub answer: String,
+    pub traced: Vec<u8>,
+    pub report: Report,
+    pub count: u64,
+}
+
+/// The lines that are traced of the gatherings of a round.
+#[tactic(auto, unfolding(lift_trace::specs::Text::line_of))]
+fn gathers_text(alloc: Global, floors: u8) -> Result<String, AllocError>
+    ensures { IfOk result (λ text. string_bytes text ≡ events_text (map Gather (counting_from 1 floors))) }
+{
+    let mut text = String::new(alloc);
+    'floors: for below in 0..floors {
+        put_gather(&mut text, below + 1)?;
+    }
+    Ok(text)
+}
+
+#[tactic(auto, unfolding(lift_trace::specs::Text::line_of))]
+fn put_gather(text: &mut String, floor: u8) -> Result<(), AllocError>
+    ensures { OnOk result (string_bytes text.new ≡ string_bytes text.old ++ events_text (Gather floor ∷ [])) }
+{
+    writeln!(text, "G {}", floor)
+}
+
+#[tactic(auto, unfolding(lift_trace::specs::Text::line_of))]
+fn put_scan(text: &mut String, task: u8) -> Result<(), AllocError>
+    ensures { OnOk result (string_bytes text.new ≡ string_bytes text.old ++ events_text (scan_events task)) }
+{
+    writeln!(text, "S {}", task)?;
+    writeln!(text, "C {}", task)
+}
+
+/// The lines that are traced of a scan of each of some tasks.
+fn scans_text(alloc: Global, tasks: &[u8]) -> Result<String, AllocError>
+    ensures { IfOk result (λ text. string_bytes text ≡ events_text (flat_map scan_events tasks.now)) }
+{
+    let mut text = String::new(alloc);
+    'tasks: for task in tasks {
+        put_scan(&mut text, *task)?;
+    }
+    Ok(text)
+}
+
+fn put_line(traced: &mut Vec<u8>, line: &[u8]) -> Result<(), AllocError>
+    ensures { OnOk result (traced.new.items ≡ traced.old.items ++ (line.now ++ 10 ∷ [])) }
+{
+    traced.extend_from_slice(line)?;
+    Ok(traced.push(b'\n')?)
+}
+
+#[tactic(auto, unfolding(lift_trace::specs::Text::last_line))]
+fn put_end(traced: &mut Vec<u8>, count: u64) -> Result<(), AllocError>
+    ensures { OnOk result (traced.new.items ≡ traced.old.items ++ (last_line count ++ 10 ∷ [])) }
+{
+    let mut buffer = Buffer::new();
+    traced.extend_from_slice(b"E ")?;
+    traced.extend_from_slice(buffer.format(count).as_bytes())?;
+    Ok(traced.push(b'\n')?)
+}
+
+/// What is traced of a line, by the texts of its group.
+fn put_said(
+    traced: &mut Vec<u8>,
+    gathers: &[u8],
+    scans: &[u8],
+    line: &[u8],
+    count: u64,
+    said: &Said,
+) -> Result<(), AllocError>
+    requires empty { traced.old.items ≡ [] }
+    ensures text { OnOk result (traced.new.items ≡ record_text gathers.now scans.now line.now count said.now) }
+{
+    match said {
+        Said::Round(_) => {
+            traced.extend_from_slice(gathers)?;
+            put_line(traced, line)?;
+            traced.extend_from_slice(scans)
+        }
+        Said::Press(_) => put_line(traced, line),
+        Said::End => put_end(traced, count),
+    }
+}
+
+impl Server {
+    /// A group that opens.
+    pub fn new(alloc: Global, verified: Verified) -> Result<Server, Refusal>
+        ensures server { IfOk result IsServer }
+        ensures opening { IfOk result (λ s. (s.world.program ≡ verified) × (s.world.world ≡ opening verified.config) × (s.count ≡ 0)) }
+    {
+        let _config = verified.config();
+        let tasks = tasks_of(alloc, &verified)?;
+        let gathers = gathers_text(alloc, verified.sizes().floors)?;
+        let scans = scans_text(alloc, &tasks)?;
+        let answer = String::with_capacity(alloc, 8192)?;
+        let traced = Vec::with_capacity(alloc, 4096)?;
+        let world = World::new(alloc, verified)?;
+        Ok(Server {
+            world,
+            tasks,
+            gathers,
+            scans,
+            answer,
+            traced,
+            report: Report::new(),
+            count: 0,
+        })
+    }
+
+    /// How many events are traced of it.
+    fn events_in(&self, said: &Said) -> u64
+        requires { IsServer self.now }
+        ensures { result ≡ length (events_of self.now.world.program.config said.now) }
+    {
+        let _config = self.world.verified().config();
+        match said {
+            Said::Round(_) => {
+                u64::from(self.world.sizes().floors) + (1 + 2 * self.tasks.len() as u64)
+            }
+            Said::Press(_) => 1,
+            Said::End => 0,
+        }
+    }
+
+    /// What a line says is traced.
+    fn trace_said<T: Sink>(
+        &mut self,
+        line: &[u8],
+        said: &Said,
+        trace: &mut T,
+    ) -> Result<(), ServeFault>
+        requires server { IsServer self.old }
+        requires says { Says self.old.world.program.config line.now said.now }
+        ensures traced { OnOk result (Appends (T.contents trace.old) (T.contents trace.new) (traced_text self.old.world.program.config said.now self.old.count)) }
+        ensures counted { OnOk result (self.new.count ≡ self.old.count + length (events_of self.old.world.program.config said.now)) }
+        ensures fault { IfErr result (λ fault. ((fault ≡ ServeFault.Full) × Appends (T.contents trace.old) (T.contents trace.new) []) ⊎ (((fault ≡ ServeFault.Memory) ⊎ (fault ≡ ServeFault.Trace)) × AppendsFront (T.contents trace.old) (T.contents trace.new) (traced_text self.old.world.program.config said.now self.old.count))) }
+        ensures same { self.new.world ≡ self.old.world }
+        ensures server { IsServer self.new }
+    {
+        let Some(count) = self.count.checked_add(self.events_in(said)) else {
+            return Err(ServeFault::Full);
+        };
+        self.traced.clear();
+        let gathers = self.gathers.as_bytes();
+        let scans = self.scans.as_bytes();
+        if put_said(&mut self.traced, gathers, scans, line, self.count, said).is_err() {
+            return Err(ServeFault::Memory);
+        }
+        if put_all(trace, &self.traced).is_err() {
+            return Err(ServeFault::Trace);
+        }
+        self.count = count;
+        Ok(())
+    }
+
+    /// What is said is done, and answered.
+    fn answer_said<O: Sink>(&mut self, said: Said, out: &mut O) -> Result<(), ServeFault>
+        requires server { IsServer self.old }
+        requires taken { IsTaken self.old.world.program.config said }
+        ensures answered { OnOk result ((text : List ℕ) × Acts self.old.world.program.config said self.old.world.world self.new.world.world text × Appends (O.contents out.old) (O.contents out.new) text) }
+        ensures fault { IfErr result (λ fault. ((fault ≡ ServeFault.Memory) × Appends (O.contents out.old) (O.contents out.new) []) ⊎ ((fault ≡ ServeFault.Output) × ((text : List ℕ) × Acts self.old.world.program.config said self.old.world.world self.new.world.world text × AppendsFront (O.contents out.old) (O.contents out.new) text))) }
+        ensures same { self.new.world.program ≡ self.old.world.program }
+        ensures count { self.new.count ≡ self.old.count }
+        ensures server { OnOk result (IsServer self.new) }
+    {
+        self.answer.clear();
+        let acted = act(
+            &mut self.world,
+            &self.tasks,
+            said,
+            &mut self.answer,
+            &mut self.report,
+        );
+        if acted.is_err() {
+            return Err(ServeFault::Memory);
+        }
+        if put_all(out, self.answer.as_bytes()).is_err() {
+            return Err(ServeFault::Output);
+        }
+        Ok(())
+    }
+
+    /// A line: what it says is traced, done and answered. The answer is whether it is the end.
+    pub fn hear<O: Sink, T: Sink>(
+        &mut self,
+        line: &[u8],
+        out: &mut O,
+        trace: &mut T,
+    ) -> Result<bool, ServeFault>
+        requires { IsServer self.old }
+        ensures heard { IfOk result (λ ended. (said : SaidOf) × (text : List ℕ) × (events : List ℕ) × Hears self.old.world.program.config line.now said self.old.world.world self.new.world.world self.old.count self.new.count text events × Appends (O.contents out.old) (O.contents out.new) text × Appends (T.contents trace.old) (T.contents trace.new) events × (ended ≡ is_end said)) }
+        ensures unheard { IfErr result (λ fault. Unheard self.old.world.program.config line.now self.old.world.world self.old.count (Appends (O.contents out.old) (O.contents out.new)) (AppendsFront (O.contents out.old) (O.contents out.new)) (Appends (T.contents trace.old) (T.contents trace.new)) (AppendsFront (T.contents trace.old) (T.contents trace.new)) fault) }
+        ensures same { self.new.world.program ≡ self.old.world.program }
+        ensures server { OnOk result (IsServer self.new) }
+        ensures ranges { OnOk result (FieldsInRange (sizes_of self.old.world.program.config) self.new.world.world.group.image.fields) }
+        ensures obeys { OnOk result (Obeys self.new.world.world.group.image) }
+    {
+        let Some(said) = read_said(&self.world, line) else {
+            return Err(ServeFault::WrongLine);
+        };
+        let ended = is_last(&said);
+        self.trace_said(line, &said, trace)?;
+        if let Err(fault) = self.answer_said(said, out) {
+            return Err(fault);
+        }
+        let _image = self.world.image();
+        Ok(ended)
+    }
+}
+
+/// Whether it is the end.
+fn is_last(said: &Said) -> bool
+    ensures { result ≡ is_end said.now }
+{
+    match said {
+        Said::Round(_) | Said::Press(_) => false,
+        Said::End => true,
+    }
+}
