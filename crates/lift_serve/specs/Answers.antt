@@ -1,114 +1,83 @@
 -- What a line is answered (own rules).
-use Rattle.std.specs.Prelude.{◌≡◌, ℕ, List, [], ◌∷◌, ◌++◌, map, flat_map, codes, decimal, Ok}
+use Rattle.std.specs.Prelude.{◌≡◌, ℕ, List, [], ◌∷◌, ◌++◌, flat_map, codes, decimal, Ok}
 use Rattle.std.specs.Fmt.{signed_decimal}
 use Rattle.il_spec.specs.declared.tree.Config.{Config}
 use Rattle.lift_spec.specs.declared.calls.Call.{Call}
-use Rattle.lift_spec.specs.declared.calls.Slot.{Slot}
-use Rattle.lift_spec.specs.declared.calls.Slot.TheVariants.{Free, Waiting, Told}
 use Rattle.lift_spec.specs.declared.event.Event.TheVariants as event
 use Rattle.lift_spec.specs.declared.image.CarOutputs.{CarOutputs}
-use Rattle.lift_spec.specs.declared.image.Fields.{Fields}
 use Rattle.lift_spec.specs.declared.report.Denial.{Denial}
 use Rattle.lift_spec.specs.declared.report.EnteredCall.{EnteredCall}
-use Rattle.lift_spec.specs.declared.report.Report.{Report}
+use Rattle.lift_spec.specs.EventFaults.{event_fault_number}
 use Rattle.lift_spec.specs.Replies.{Reply, Started, More, End, Committed, Refreshed, New, Already, Gathered, Held, Refused}
 use Rattle.lift_spec.specs.Settle.{rule_number}
 use Rattle.lift_spec.specs.Snapshot.{motor_number}
-use Rattle.lift_spec.specs.World.{World, happens}
+use Rattle.lift_spec.specs.World.{World, happens, opening_group}
 use Rattle.lift_trace.specs.Text.{flag}
-use Rattle.lift_journal.specs.Rounds.{Happen, floors_rising, tasks_in_order}
-use Rattle.lift_runs.specs.Shown.{ScansReporting}
+use Rattle.lift_round.specs.declared.notice.Notice.{Notice}
+use Rattle.lift_round.specs.declared.notice.Notice.TheVariants.{Entered, Denied, Told, Served}
+use Rattle.lift_round.specs.Rounds.{IsRoundOf}
 use Rattle.lift_serve.specs.declared.said.Said.{Said}
 use Rattle.lift_serve.specs.declared.said.Said.TheVariants as said
 
 -- LINES
 
--- `T ticket slot from to`: a call was entered
+-- `entered TICKET SLOT FROM TO`
 unfoldable pub entered_line : EnteredCall → List ℕ
-entered_line e = codes "T " ++ (decimal e.ticket ++ (codes " " ++ (decimal e.slot ++ (codes " " ++ (decimal e.call.from ++ (codes " " ++ (decimal e.call.to ++ codes "\n")))))))
+entered_line e = codes "entered " ++ (decimal e.ticket ++ (codes " " ++ (decimal e.slot ++ (codes " " ++ (decimal e.call.from ++ (codes " " ++ (decimal e.call.to ++ codes "\n")))))))
 
--- `D car rule`: a wish, or a running motor, was denied
-unfoldable pub denial_line : Denial → List ℕ
-denial_line d = codes "D " ++ (decimal d.car ++ (codes " " ++ (decimal (rule_number d.rule) ++ codes "\n")))
+-- `denied CAR RULE`
+unfoldable pub denied_line : Denial → List ℕ
+denied_line d = codes "denied " ++ (decimal d.car ++ (codes " " ++ (decimal (rule_number d.rule) ++ codes "\n")))
 
--- `A ticket car`: a call was told
+-- `told TICKET CAR`
 unfoldable pub told_line : ℕ → ℕ → List ℕ
-told_line ticket car = codes "A " ++ (decimal ticket ++ (codes " " ++ (decimal car ++ codes "\n")))
+told_line ticket car = codes "told " ++ (decimal ticket ++ (codes " " ++ (decimal car ++ codes "\n")))
 
--- `F ticket car`: a call was served
+-- `served TICKET CAR`
 unfoldable pub served_line : ℕ → ℕ → List ℕ
-served_line ticket car = codes "F " ++ (decimal ticket ++ (codes " " ++ (decimal car ++ codes "\n")))
+served_line ticket car = codes "served " ++ (decimal ticket ++ (codes " " ++ (decimal car ++ codes "\n")))
+
+-- a notice's line
+abbrev pub notice_line : Notice → List ℕ
+notice_line (Entered e) = entered_line e
+notice_line (Denied d) = denied_line d
+notice_line (Told ticket car) = told_line ticket car
+notice_line (Served ticket car) = served_line ticket car
 
 -- ` motor open`: 1 is up, -1 is down; 1 is an open command
 unfoldable pub output_part : CarOutputs → List ℕ
 output_part o = codes " " ++ (signed_decimal (motor_number o.motor) ++ (codes " " ++ (flag o.opens ∷ [])))
 
--- `O` and the outputs of all cars
+-- `outputs` and the outputs of all cars
 abbrev pub outputs_line : List CarOutputs → List ℕ
-outputs_line outputs = codes "O" ++ (flat_map output_part outputs ++ codes "\n")
+outputs_line outputs = codes "outputs" ++ (flat_map output_part outputs ++ codes "\n")
 
--- whether a pressed call was new on the desk
+-- the stop: every motor still and no open command, as the group opens
+abbrev pub stop_line : Config → List ℕ
+stop_line c = outputs_line (opening_group c).image.outputs
+
+-- what a press is answered
 abbrev pub press_word : Reply → List ℕ
 press_word New = codes "new"
-press_word Started = codes "already"
-press_word More = codes "already"
-press_word End = codes "already"
-press_word (Committed r) = codes "already"
-press_word (Refreshed r) = codes "already"
 press_word Already = codes "already"
-press_word (Gathered mask) = codes "already"
-press_word Held = codes "already"
-press_word (Refused fault) = codes "already"
+press_word (Refused fault) = codes "refused " ++ decimal (event_fault_number fault)
+press_word Started = []
+press_word More = []
+press_word End = []
+press_word (Committed r) = []
+press_word (Refreshed r) = []
+press_word (Gathered mask) = []
+press_word Held = []
 
--- `P from to new` or `P from to already`
+-- `press FROM TO new`, `press FROM TO already` or `press FROM TO refused NUMBER`
 unfoldable pub press_line : Call → Reply → List ℕ
-press_line call reply = codes "P " ++ (decimal call.from ++ (codes " " ++ (decimal call.to ++ (codes " " ++ (press_word reply ++ codes "\n")))))
+press_line call reply = codes "press " ++ (decimal call.from ++ (codes " " ++ (decimal call.to ++ (codes " " ++ (press_word reply ++ codes "\n")))))
 
 -- WHAT IS ANSWERED
 
--- of a refresh: each call that it entered, and then each denial, in the order of its report
-abbrev pub refresh_text : Report → List ℕ
-refresh_text report = flat_map entered_line report.entered ++ flat_map denial_line report.denials
-
--- what a commit made of a slot: it was told to a car, or it was served
-abbrev pub change_text : Slot → Slot → List ℕ
-change_text Free after = []
-change_text (Waiting ticket call) Free = []
-change_text (Waiting ticket call) (Waiting other called) = []
-change_text (Waiting ticket call) (Told other called car) = told_line other car
-change_text (Told ticket call car) Free = served_line ticket car
-change_text (Told ticket call car) (Waiting other called) = []
-change_text (Told ticket call car) (Told other called another) = []
-
--- what a commit made of the slots, in their order
-abbrev pub changes_text : List Slot → List Slot → List ℕ
-changes_text [] after = []
-changes_text (s ∷ before) [] = []
-changes_text (s ∷ before) (n ∷ after) = change_text s n ++ changes_text before after
-
--- of a task's scan between two worlds: each denial of its commit, and then each slot that it told or served
-abbrev pub scan_text : World → World → Report → List ℕ
-scan_text w v report = flat_map denial_line report.denials ++ changes_text w.group.calls.slots v.group.calls.slots
-
--- a whole scan of each of some tasks, one behind the other, and what is answered of them
-abbrev pub ScansTold : Config → List ℕ → World → World → List ℕ → Type 0
-ScansTold c [] w v text = (w ≡ v) × (text ≡ [])
-ScansTold c (t ∷ tasks) w v text = (m : World) × (report : Report) × (rest : List ℕ) × ScansReporting c t w m report × ScansTold c tasks m v rest × (text ≡ scan_text w m report ++ rest)
-
--- A round: each floor is gathered, rising, the image is refreshed with the fields, and each task makes a whole scan, CAR1 to CARn and then GROUP. The answer tells of
--- the refresh and of each scan, in the order in which they came, and ends with the outputs of all cars.
-pub record IsRoundTold (c : Config) (fields : Fields) (w v : World) (text : List ℕ) : Type 0 where
-  pub gathered : World
-  pub desk : Happen c w (map event.Gather (floors_rising c)) gathered
-  pub refreshed : World
-  pub report : Report
-  pub refresh : happens c gathered (event.Refresh fields) ≡ Ok (refreshed, Refreshed report)
-  pub told : List ℕ
-  pub scans : ScansTold c (tasks_in_order c) refreshed v told
-  pub is : text ≡ refresh_text report ++ (told ++ outputs_line v.group.image.outputs)
-
--- What is said leads from a world to another, and is answered so. A press puts a call on the desk; the end is answered nothing.
+-- What is said leads from a world to another, and is answered so: a round by its notices, a line for each, and the outputs that it leaves, a press
+-- by what became of it, and the end by the stop.
 abbrev pub Acts : Config → Said → World → World → List ℕ → Type 0
-Acts c (said.Round fields) w v text = IsRoundTold c fields w v text
+Acts c (said.Round fields) w v text = (notices : List Notice) × IsRoundOf c fields w v notices × (text ≡ flat_map notice_line notices ++ outputs_line v.group.image.outputs)
 Acts c (said.Press call) w v text = (reply : Reply) × (happens c w (event.Press call) ≡ Ok (v, reply)) × (text ≡ press_line call reply)
-Acts c said.End w v text = (w ≡ v) × (text ≡ [])
+Acts c said.End w v text = (w ≡ v) × (text ≡ stop_line c)

@@ -11,7 +11,8 @@ use Rattle.lift_serve.specs.declared.group.Halt.TheVariants as halt
 use Rattle.lift_serve.specs.declared.serve.Stop.{Stop as StopOf}
 use Rattle.lift_serve.specs.declared.serve.Stop.TheVariants as stop
 use Rattle.lift_serve.specs.declared.server.ServeFault.TheVariants as fault
-use Rattle.lift_serve.specs.Serving.{IsServed, IsStopped, stop_line}
+use Rattle.lift_serve.specs.Answers.{stop_line}
+use Rattle.lift_serve.specs.Serving.{IsServed, IsStopped}
 
 -- the head of a trace
 abbrev pub head : List ℕ
@@ -24,7 +25,7 @@ Ends old new failed bytes = AppendsFront old new bytes × (failed ≡ false → 
 -- the stop was written, unless it was the output that had failed
 abbrev pub IsHaltWritten : StopOf → Option (List ℕ) → Option (List ℕ) → Bool → List ℕ → Type 0
 IsHaltWritten (stop.Line fault.Output) old new failed text = new ≡ old
-IsHaltWritten (stop.Line fault.WrongLine) old new failed text = Ends old new failed text
+IsHaltWritten (stop.Line (fault.WrongLine why)) old new failed text = Ends old new failed text
 IsHaltWritten (stop.Line fault.Trace) old new failed text = Ends old new failed text
 IsHaltWritten (stop.Line fault.Memory) old new failed text = Ends old new failed text
 IsHaltWritten (stop.Line fault.Full) old new failed text = Ends old new failed text
@@ -39,5 +40,5 @@ IsEnded c Taken Out Trace = (v : World) × (next : ℕ) × IsServed c (opening c
 -- a front of the answer.
 abbrev pub IsHalted : Config → (List ℕ → Type 0) → Option (List ℕ) → Option (List ℕ) → Bool → (List ℕ → Type 0) → (List ℕ → Type 0) → Halt → Type 0
 IsHalted c Taken old new failed Trace TraceFront halt.Memory = Taken [] × (new ≡ old) × Trace []
-IsHalted c Taken old new failed Trace TraceFront halt.Head = Taken [] × (new ≡ old) × TraceFront head
-IsHalted c Taken old new failed Trace TraceFront (halt.Stop s) = IsStopped c (opening c) 0 Taken (λ text. Ends old new failed (text ++ stop_line c)) (λ text. AppendsFront old new text) (λ events. Trace (head ++ events)) (λ events. TraceFront (head ++ events)) s
+IsHalted c Taken old new failed Trace TraceFront halt.Head = Taken [] × Ends old new failed (stop_line c) × TraceFront head
+IsHalted c Taken old new failed Trace TraceFront (halt.Stop s) = IsStopped c (opening c) 0 Taken (λ text. Ends old new failed (text ++ stop_line c)) (λ text. AppendsFront old new text) (λ events. Trace (head ++ events)) (λ events. TraceFront (head ++ events)) s.stop s.line

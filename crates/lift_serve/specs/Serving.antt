@@ -1,8 +1,9 @@
 -- A group behind lines, and what each line leaves (own rules).
-use Rattle.std.specs.Prelude.{◌≡◌, ◌≢◌, ℕ, ◌+◌, Bool, true, false, List, [], ◌∷◌, ◌++◌, length, map, flat_map, string_bytes}
+use Rattle.std.specs.Prelude.{◌≡◌, ◌≢◌, ℕ, ◌+◌, Bool, true, false, if◌then◌else◌, List, [], ◌∷◌, ◌++◌, length, map, flat_map, string_bytes}
 use Rattle.il_spec.specs.declared.tree.Config.{Config}
 use Rattle.lift_spec.specs.declared.trace.TraceEvent.TheVariants as traced
-use Rattle.lift_spec.specs.World.{World, opening_group}
+use Rattle.lift_spec.specs.declared.image.Sizes.{Sizes}
+use Rattle.lift_spec.specs.World.{World}
 use Rattle.lift_trace.specs.Text.{last_line, text_of_lines}
 use Rattle.lift_trace.specs.Writing.{events_text}
 use Rattle.lift_journal.specs.Rounds.{floors_rising, tasks_in_order}
@@ -17,19 +18,16 @@ use Rattle.lift_serve.specs.declared.serve.Stop.{Stop}
 use Rattle.lift_serve.specs.declared.serve.Stop.TheVariants.{Line, Input, Lines}
 use Rattle.lift_serve.specs.declared.input.Came.TheVariants.{Whole, Ended, TooLong, Failed}
 use Rattle.lift_serve.specs.Coming.{greatest_line}
-use Rattle.lift_serve.specs.Saying.{Says, events_of, scan_events}
-use Rattle.lift_serve.specs.Answers.{outputs_line, Acts}
+use Rattle.lift_serve.specs.Saying.{Says, SaysNothing, events_of, scan_events, is_call}
+use Rattle.lift_serve.specs.Answers.{stop_line, Acts}
 
--- the stop: every motor still, every door shut, as the group opens
-abbrev pub stop_line : Config → List ℕ
-stop_line c = outputs_line (opening_group c).image.outputs
-
--- what holds of every server: no scan is open, and it has the texts of its group
+-- what holds of every server: no scan is open, and it has the tasks and the texts of its group
 pub record IsServer (s : Server) : Type 0 where
   pub closed : IsClosed s.world.world
-  pub tasks : s.tasks.items ≡ tasks_in_order s.world.program.config
+  pub tasks : s.tasks ≡ tasks_in_order s.world.program.config
   pub gathers : string_bytes s.gathers ≡ events_text (map traced.Gather (floors_rising s.world.program.config))
   pub scans : string_bytes s.scans ≡ events_text (flat_map scan_events (tasks_in_order s.world.program.config))
+  pub stop : string_bytes s.stop ≡ stop_line s.world.program.config
 
 -- THE BLACK BOX
 
@@ -40,10 +38,10 @@ traced_text c (Press call) count = events_text (events_of c (Press call))
 traced_text c End count = last_line count ++ 10 ∷ []
 
 -- the same by the texts of the group, and by its line
-abbrev pub record_text : List ℕ → List ℕ → List ℕ → ℕ → Said → List ℕ
-record_text gathers scans line count (Round fields) = gathers ++ (line ++ (10 ∷ scans))
-record_text gathers scans line count (Press call) = line ++ 10 ∷ []
-record_text gathers scans line count End = last_line count ++ 10 ∷ []
+abbrev pub record_text : List ℕ → List ℕ → List ℕ → ℕ → Sizes → Said → List ℕ
+record_text gathers scans line count sizes (Round fields) = gathers ++ (line ++ (10 ∷ scans))
+record_text gathers scans line count sizes (Press call) = if is_call sizes call then line ++ 10 ∷ [] else []
+record_text gathers scans line count sizes End = last_line count ++ 10 ∷ []
 
 -- A LINE
 
@@ -60,10 +58,10 @@ pub record Hears (c : Config) (line : List ℕ) (said : Said) (w v : World) (cou
   pub traced : events ≡ traced_text c said count
   pub counted : next ≡ count + length (events_of c said)
 
--- Why a line isn't answered, by what the answers and the trace grew, in whole or by a front: it says nothing that the group takes; the trace failed, and nothing was answered; the answer
+-- Why a line isn't answered, by what the answers and the trace grew, in whole or by a front: it says nothing to the group; the trace failed, and nothing was answered; the answer
 -- failed, behind all that is traced of the line; memory is missing, or no further event can be counted.
 abbrev pub Unheard : Config → List ℕ → World → ℕ → (List ℕ → Type 0) → (List ℕ → Type 0) → (List ℕ → Type 0) → (List ℕ → Type 0) → ServeFault → Type 0
-Unheard c line w count Out OutFront Trace TraceFront fault.WrongLine = ((said : Said) → Says c line said → ⊥) × Out [] × Trace []
+Unheard c line w count Out OutFront Trace TraceFront (fault.WrongLine why) = SaysNothing c line why × Out [] × Trace []
 Unheard c line w count Out OutFront Trace TraceFront fault.Trace = (said : Said) × Says c line said × Out [] × TraceFront (traced_text c said count)
 Unheard c line w count Out OutFront Trace TraceFront fault.Output = (said : Said) × (v : World) × (text : List ℕ) × Says c line said × Acts c said w v text × OutFront text × Trace (traced_text c said count)
 Unheard c line w count Out OutFront Trace TraceFront fault.Memory = (said : Said) × Says c line said × Out [] × TraceFront (traced_text c said count)
@@ -102,9 +100,10 @@ pub record IsServed (c : Config) (w : World) (count : ℕ) (v : World) (next : �
   pub answered : Out (text ++ answer)
   pub traced : Trace (events ++ ends)
 
--- Serving stopped, behind lines that were answered and traced.
-pub record IsStopped (c : Config) (w : World) (count : ℕ) (Taken Out OutFront Trace TraceFront : List ℕ → Type 0) (stop : Stop) : Type 0 where
+-- Serving stopped, behind lines that were answered and traced, at the line of this number.
+pub record IsStopped (c : Config) (w : World) (count : ℕ) (Taken Out OutFront Trace TraceFront : List ℕ → Type 0) (stop : Stop) (number : ℕ) : Type 0 where
   pub lines : List (List ℕ)
+  pub place : number ≡ length lines + 1
   pub v : World
   pub next : ℕ
   pub text : List ℕ

@@ -4,10 +4,11 @@ ghost use Rattle.std.specs.Prelude.{◌≡◌, ◌++◌, ◌∷◌, [], OnOk, st
 ghost use Rattle.lift_spec.specs.Snapshot.{motor_number};
 ghost use Rattle.lift_spec.specs.Replies.{reply_with};
 ghost use Rattle.lift_trace.specs.Text.{flag};
-ghost use Rattle.lift_serve.specs.Answers.{entered_line, denial_line, told_line, served_line, output_part, outputs_line, press_word, press_line, refresh_text, change_text, changes_text};
+ghost use Rattle.lift_serve.specs.Answers.{entered_line, denied_line, told_line, served_line, notice_line, output_part, outputs_line, press_line, press_word};
 
 use lift_image::{CarOutputs, Motor};
-use lift_spec::calls::{Call, Slot};
+use lift_round::notice::Notice;
+use lift_spec::calls::Call;
 use lift_spec::event::Reply;
 use lift_spec::report::{Denial, EnteredCall, Report};
 use std::alloc::AllocError;
@@ -55,7 +56,7 @@ fn put_each(text: &mut String, outputs: &[CarOutputs]) -> Result<(), AllocError>
 pub fn put_outputs(text: &mut String, outputs: &[CarOutputs]) -> Result<(), AllocError>
     ensures { OnOk result (string_bytes text.new ≡ string_bytes text.old ++ outputs_line outputs.now) }
 {
-    text.push_str("O")?;
+    text.push_str("outputs")?;
     put_each(text, outputs)?;
     text.push_str("\n")
 }
@@ -65,97 +66,62 @@ fn put_entered(text: &mut String, entered: EnteredCall) -> Result<(), AllocError
     ensures { OnOk result (string_bytes text.new ≡ string_bytes text.old ++ entered_line entered) }
 {
     let call = entered.call;
-    write!(text, "T {} {}", entered.ticket, entered.slot)?;
+    write!(text, "entered {} {}", entered.ticket, entered.slot)?;
     writeln!(text, " {} {}", call.from, call.to)
 }
 
-#[tactic(auto, unfolding(crate::specs::Answers::denial_line))]
-fn put_denial(text: &mut String, denial: Denial) -> Result<(), AllocError>
-    ensures { OnOk result (string_bytes text.new ≡ string_bytes text.old ++ denial_line denial) }
+#[tactic(auto, unfolding(crate::specs::Answers::denied_line))]
+fn put_denied(text: &mut String, denial: Denial) -> Result<(), AllocError>
+    ensures { OnOk result (string_bytes text.new ≡ string_bytes text.old ++ denied_line denial) }
 {
     let rule = denial.rule;
-    writeln!(text, "D {} {}", denial.car, rule.number())
-}
-
-fn put_all_entered(text: &mut String, entered: &[EnteredCall]) -> Result<(), AllocError>
-    ensures { OnOk result (string_bytes text.new ≡ string_bytes text.old ++ flat_map entered_line entered.now) }
-{
-    'calls: for call in entered {
-        put_entered(text, *call)?;
-    }
-    Ok(())
-}
-
-/// Denials, in their order.
-pub fn put_denials(text: &mut String, denials: &[Denial]) -> Result<(), AllocError>
-    ensures { OnOk result (string_bytes text.new ≡ string_bytes text.old ++ flat_map denial_line denials.now) }
-{
-    'denials: for denial in denials {
-        put_denial(text, *denial)?;
-    }
-    Ok(())
-}
-
-/// What is answered of a refresh.
-pub fn put_refresh(text: &mut String, report: &Report) -> Result<(), AllocError>
-    ensures { OnOk result (string_bytes text.new ≡ string_bytes text.old ++ refresh_text report.now) }
-{
-    put_all_entered(text, report.entered.as_slice())?;
-    put_denials(text, report.denials.as_slice())
+    writeln!(text, "denied {} {}", denial.car, rule.number())
 }
 
 #[tactic(auto, unfolding(crate::specs::Answers::told_line))]
 fn put_told(text: &mut String, ticket: u64, car: u8) -> Result<(), AllocError>
     ensures { OnOk result (string_bytes text.new ≡ string_bytes text.old ++ told_line ticket car) }
 {
-    writeln!(text, "A {} {}", ticket, car)
+    writeln!(text, "told {} {}", ticket, car)
 }
 
 #[tactic(auto, unfolding(crate::specs::Answers::served_line))]
 fn put_served(text: &mut String, ticket: u64, car: u8) -> Result<(), AllocError>
     ensures { OnOk result (string_bytes text.new ≡ string_bytes text.old ++ served_line ticket car) }
 {
-    writeln!(text, "F {} {}", ticket, car)
+    writeln!(text, "served {} {}", ticket, car)
 }
 
-fn put_change(text: &mut String, before: Slot, after: Slot) -> Result<(), AllocError>
-    ensures { OnOk result (string_bytes text.new ≡ string_bytes text.old ++ change_text before after) }
+fn put_notice(text: &mut String, notice: Notice) -> Result<(), AllocError>
+    ensures { OnOk result (string_bytes text.new ≡ string_bytes text.old ++ notice_line notice) }
 {
-    match before {
-        Slot::Free => Ok(()),
-        Slot::Waiting { .. } => match after {
-            Slot::Told { ticket, car, .. } => put_told(text, ticket, car),
-            Slot::Free | Slot::Waiting { .. } => Ok(()),
-        },
-        Slot::Told { ticket, car, .. } => match after {
-            Slot::Free => put_served(text, ticket, car),
-            Slot::Waiting { .. } | Slot::Told { .. } => Ok(()),
-        },
+    match notice {
+        Notice::Entered(entered) => put_entered(text, entered),
+        Notice::Denied(denial) => put_denied(text, denial),
+        Notice::Told { ticket, car } => put_told(text, ticket, car),
+        Notice::Served { ticket, car } => put_served(text, ticket, car),
     }
 }
 
-/// What became of the slots, in their order.
-pub fn put_changes(text: &mut String, before: &[Slot], after: &[Slot]) -> Result<(), AllocError>
-    ensures { OnOk result (string_bytes text.new ≡ string_bytes text.old ++ changes_text before.now after.now) }
+/// A line for each notice, in their order.
+pub fn put_notices(text: &mut String, notices: &[Notice]) -> Result<(), AllocError>
+    ensures { OnOk result (string_bytes text.new ≡ string_bytes text.old ++ flat_map notice_line notices.now) }
 {
-    let mut rest = after;
-    'slots: for slot in before {
-        let Some((next, behind)) = rest.split_first() else {
-            return Ok(());
-        };
-        put_change(text, *slot, *next)?;
-        rest = behind;
+    'notices: for notice in notices {
+        put_notice(text, *notice)?;
     }
     Ok(())
 }
 
-/// new or already.
-fn word_of(reply: Reply, report: &Report) -> &'static str
-    ensures { result.now ≡ press_word (reply_with reply report.now) }
+/// What became of a press.
+fn put_word(text: &mut String, reply: Reply, report: &Report) -> Result<(), AllocError>
+    ensures { OnOk result (string_bytes text.new ≡ string_bytes text.old ++ press_word (reply_with reply report.now)) }
 {
     match reply {
-        Reply::New => "new",
-        _ => "already",
+        Reply::New => text.push_str("new"),
+        Reply::Already => text.push_str("already"),
+        Reply::Refused(fault) => write!(text, "refused {}", fault.number()),
+        _ => Ok(()),
     }
 }
 
@@ -169,7 +135,7 @@ pub fn put_press(
 ) -> Result<(), AllocError>
     ensures { OnOk result (string_bytes text.new ≡ string_bytes text.old ++ press_line call (reply_with reply report.now)) }
 {
-    let word = word_of(reply, report);
-    write!(text, "P {} {}", call.from, call.to)?;
-    writeln!(text, " {}", word)
+    write!(text, "press {} {} ", call.from, call.to)?;
+    put_word(text, reply, report)?;
+    text.push_str("\n")
 }

@@ -1,19 +1,15 @@
 // A group from its opening to the end of its lines.
 
-ghost use Rattle.std.specs.Prelude.{◌≡◌, ◌⊎◌, ◌++◌, ◌∷◌, [], OnOk, IfOk, IfErr, string_bytes};
+ghost use Rattle.std.specs.Prelude.{◌≡◌, OnOk, IfErr};
 ghost use Rattle.std.specs.Io.KnownBytes.{Appends, Consumes};
-ghost use Rattle.lift_spec.specs.World.{opening};
 ghost use Rattle.lift_sink.specs.Writes.{AppendsFront};
-ghost use Rattle.lift_serve.specs.Answers.{outputs_line};
 ghost use Rattle.lift_serve.specs.Ending.{IsEnded, IsHalted, IsHaltWritten};
 
-use crate::answer::put_outputs;
-use crate::serve::{Stop, serve};
+use crate::serve::{Stop, Stopped, serve};
 use crate::server::{ServeFault, Server};
 use il_machine::Verified;
 use lift_sink::sink::{Sink, put_all};
-use lift_world::World;
-use std::alloc::{AllocError, Global};
+use std::alloc::Global;
 use std::io::Read;
 
 /// Why a group didn't come to its end.
@@ -24,10 +20,10 @@ pub enum Halt {
     /// The head of the trace can't be written.
     Head,
     /// A line was not answered, or none came.
-    Stop(Stop),
+    Stop(Stopped),
 }
 
-/// Serves a group from its opening to the end of its lines. Where it stops before, the stop is written.
+/// Serves a group from its opening to the end of its lines. Where it stops before, the stop is the last line that is written.
 pub fn serve_group<R: Read, O: Sink, T: Sink>(
     alloc: Global,
     verified: Verified,
@@ -41,31 +37,20 @@ pub fn serve_group<R: Read, O: Sink, T: Sink>(
     let Ok(mut server) = Server::new(alloc, verified) else {
         return Err(Halt::Memory);
     };
-    let Ok(stop_text) = stop_of(alloc, &server.world) else {
-        return Err(Halt::Memory);
-    };
     let Ok(mut line) = Vec::with_capacity(alloc, 128) else {
         return Err(Halt::Memory);
     };
     if put_all(trace, b"LIFTTRACE 2\n").is_err() {
+        let _written = put_all(out, server.stop.as_bytes());
         return Err(Halt::Head);
     }
     match serve(&mut server, &mut line, reader, out, trace) {
         Ok(()) => Ok(()),
-        Err(stop) => {
-            write_stop(stop, stop_text.as_bytes(), out);
-            Err(Halt::Stop(stop))
+        Err(stopped) => {
+            write_stop(stopped.stop, server.stop.as_bytes(), out);
+            Err(Halt::Stop(stopped))
         }
     }
-}
-
-/// The outputs of a world, as a line.
-fn stop_of(alloc: Global, world: &World) -> Result<String, AllocError>
-    ensures { IfOk result (λ text. string_bytes text ≡ outputs_line world.now.world.group.image.outputs) }
-{
-    let mut text = String::new(alloc);
-    put_outputs(&mut text, world.image().outputs.as_slice())?;
-    Ok(text)
 }
 
 /// Writes the stop, unless it was the output that failed.

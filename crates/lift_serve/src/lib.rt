@@ -1,10 +1,10 @@
 //! A lift group behind lines: what a line says, what it does, and what it is answered.
 #![tactic(auto)]
 
+pub mod act;
 pub mod answer;
 pub mod group;
 pub mod input;
-pub mod round;
 pub mod said;
 pub mod serve;
 pub mod server;

@@ -1,9 +1,8 @@
 // What a line that comes in says.
 
-ghost use Rattle.std.specs.Prelude.{◌≡◌, ◌↔◌, IsTrue, IfSome, IfNone, codes};
-ghost use Rattle.lift_spec.specs.Image.{sizes_of, FieldsInRange};
-ghost use Rattle.lift_spec.specs.Calls.{IsCall};
-ghost use Rattle.lift_serve.specs.Saying.{IsTaken, said_line, Says};
+ghost use Rattle.std.specs.Prelude.{◌≡◌, ◌↔◌, IsTrue, IfOk, IfErr, IfSome, IfNone, codes};
+ghost use Rattle.lift_spec.specs.Image.{sizes_of};
+ghost use Rattle.lift_serve.specs.Saying.{IsSpelled, IsTaken, said_line, Says, SaysNothing, is_call};
 ghost use Rattle.lift_serve.specs.declared.said.Said.{Said as SaidOf};
 
 use lift_image::{Fields, Sizes, in_range, is_floor};
@@ -21,35 +20,44 @@ pub enum Said {
     End,
 }
 
-/// Whether a call is one of the group.
-fn is_call(call: Call, sizes: Sizes) -> bool
-    ensures { IsTrue result ↔ IsCall sizes call }
+/// Why a line says nothing to the group.
+#[derive(Clone, Copy)]
+pub enum WrongLine {
+    /// It is none of the three.
+    NoLine,
+    /// The fields of its round are out of range.
+    OutOfRange,
+}
+
+/// Whether a press is of two floors of the group; another is refused.
+pub fn is_call(call: Call, sizes: Sizes) -> bool
+    ensures { result ≡ is_call sizes call }
 {
     is_floor(call.from, sizes) && is_floor(call.to, sizes) && call.from != call.to
 }
 
-/// Whether the group takes it.
+/// Whether the fields of a round lie in their ranges.
 fn is_taken(world: &World, said: &Said) -> bool
     ensures { IsTrue result ↔ IsTaken world.now.program.config said.now }
 {
-    let sizes = world.sizes();
     match said {
-        Said::Round(fields) => in_range(fields, sizes),
-        Said::Press(call) => is_call(*call, sizes),
-        Said::End => true,
+        Said::Round(fields) => in_range(fields, world.sizes()),
+        Said::Press(_) | Said::End => true,
     }
 }
 
 /// What a line, without its line feed, says to the group.
-pub fn read_said(world: &World, line: &[u8]) -> Option<Said>
-    ensures found { IfSome result (λ said. Says world.now.program.config line.now said) }
-    ensures none { IfNone result ((said : SaidOf) → Says world.now.program.config line.now said → ⊥) }
+pub fn read_said(world: &World, line: &[u8]) -> Result<Said, WrongLine>
+    ensures found { IfOk result (λ said. Says world.now.program.config line.now said) }
+    ensures wrong { IfErr result (λ why. SaysNothing world.now.program.config line.now why) }
 {
-    let said = spelled(world, line)?;
+    let Some(said) = spelled(world, line) else {
+        return Err(WrongLine::NoLine);
+    };
     if !is_taken(world, &said) {
-        return None;
+        return Err(WrongLine::OutOfRange);
     }
-    Some(said)
+    Ok(said)
 }
 
 fn is_end(line: &[u8]) -> bool
@@ -58,12 +66,11 @@ fn is_end(line: &[u8]) -> bool
     line == b"E".as_slice()
 }
 
-/// What a line spells, whether or not the group takes it.
+/// What a line spells, whether or not its fields are in range.
 fn spelled(world: &World, line: &[u8]) -> Option<Said>
-    ensures found { IfSome result (λ said. (line.now ≡ said_line said) × ((other : SaidOf) → IsTaken world.now.program.config other → line.now ≡ said_line other → other ≡ said)) }
-    ensures none { IfNone result ((other : SaidOf) → IsTaken world.now.program.config other → line.now ≡ said_line other → ⊥) }
+    ensures found { IfSome result (λ said. IsSpelled world.now.program.config said × (line.now ≡ said_line said)) }
+    ensures none { IfNone result ((said : SaidOf) → IsSpelled world.now.program.config said → line.now ≡ said_line said → ⊥) }
 {
-    let _config = world.verified().config();
     if is_end(line) {
         return Some(Said::End);
     }

@@ -1,9 +1,9 @@
 // Lines, one behind the other.
 
-ghost use Rattle.std.specs.Prelude.{◌≡◌, ◌≤◌, ◌++◌, ◌∷◌, [], ℕ, List, OnOk, IfErr, vec_capacity};
+ghost use Rattle.std.specs.Prelude.{◌≡◌, ◌≤◌, OnOk, IfErr, vec_capacity};
 ghost use Rattle.std.specs.Io.KnownBytes.{Appends, Consumes};
 ghost use Rattle.lift_sink.specs.Writes.{AppendsFront};
-ghost use Rattle.lift_serve.specs.Serving.{IsServer, IsServed, IsStopped, Serves};
+ghost use Rattle.lift_serve.specs.Serving.{IsServer, IsServed, IsStopped};
 
 use crate::input::{Came, next_line};
 use crate::server::{ServeFault, Server};
@@ -21,6 +21,13 @@ pub enum Stop {
     Lines,
 }
 
+/// Why serving ends before the end was said, and at which line; they count from 1.
+#[derive(Clone, Copy)]
+pub struct Stopped {
+    pub stop: Stop,
+    pub line: u64,
+}
+
 /// Answers each line of a reader before it reads the next, up to the end.
 pub fn serve<R: Read, O: Sink, T: Sink>(
     server: &mut Server,
@@ -28,22 +35,33 @@ pub fn serve<R: Read, O: Sink, T: Sink>(
     reader: &mut R,
     out: &mut O,
     trace: &mut T,
-) -> Result<(), Stop>
+) -> Result<(), Stopped>
     requires server { IsServer server.old }
     requires room { 128 ≤ vec_capacity line.old }
     ensures served { OnOk result (IsServed server.old.world.program.config server.old.world.world server.old.count server.new.world.world server.new.count (Consumes (R.remaining reader.old) (R.remaining reader.new)) (Appends (O.contents out.old) (O.contents out.new)) (Appends (T.contents trace.old) (T.contents trace.new))) }
-    ensures stopped { IfErr result (λ stop. IsStopped server.old.world.program.config server.old.world.world server.old.count (Consumes (R.remaining reader.old) (R.remaining reader.new)) (Appends (O.contents out.old) (O.contents out.new)) (AppendsFront (O.contents out.old) (O.contents out.new)) (Appends (T.contents trace.old) (T.contents trace.new)) (AppendsFront (T.contents trace.old) (T.contents trace.new)) stop) }
+    ensures stopped { IfErr result (λ s. IsStopped server.old.world.program.config server.old.world.world server.old.count (Consumes (R.remaining reader.old) (R.remaining reader.new)) (Appends (O.contents out.old) (O.contents out.new)) (AppendsFront (O.contents out.old) (O.contents out.new)) (Appends (T.contents trace.old) (T.contents trace.new)) (AppendsFront (T.contents trace.old) (T.contents trace.new)) s.stop s.line) }
+    ensures stop { server.new.stop ≡ server.old.stop }
 {
-    'lines: for _number in 0..u64::MAX {
+    'lines: for before in 0..u64::MAX {
+        let number = before + 1;
         let came = next_line(reader, line);
         match came {
             Came::Whole => match server.hear(line, out, trace) {
                 Ok(false) => {}
                 Ok(true) => return Ok(()),
-                Err(fault) => return Err(Stop::Line(fault)),
+                Err(fault) => return Err(Stopped {
+                    stop: Stop::Line(fault),
+                    line: number,
+                }),
             },
-            _ => return Err(Stop::Input(came)),
+            _ => return Err(Stopped {
+                stop: Stop::Input(came),
+                line: number,
+            }),
         }
     }
-    Err(Stop::Lines)
+    Err(Stopped {
+        stop: Stop::Lines,
+        line: u64::MAX,
+    })
 }

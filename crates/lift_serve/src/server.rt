@@ -9,17 +9,19 @@ ghost use Rattle.lift_sink.specs.Writes.{AppendsFront};
 ghost use Rattle.lift_trace.specs.Text.{last_line};
 ghost use Rattle.lift_trace.specs.Writing.{events_text};
 ghost use Rattle.lift_journal.specs.Rounds.{counting_from, tasks_in_order};
-ghost use Rattle.lift_serve.specs.Saying.{scan_events, events_of, said_line, Says, IsTaken};
-ghost use Rattle.lift_serve.specs.Answers.{Acts};
+ghost use Rattle.lift_serve.specs.Saying.{scan_events, events_of, Says, IsTaken};
+ghost use Rattle.lift_serve.specs.Answers.{Acts, outputs_line};
 ghost use Rattle.lift_serve.specs.Serving.{IsServer, Hears, Unheard, traced_text, record_text, is_end};
 ghost use Rattle.lift_serve.specs.declared.said.Said.{Said as SaidOf};
 
-use crate::round::act;
-use crate::said::{Said, read_said};
+use crate::act::{Scratch, act};
+use crate::answer::put_outputs;
+use crate::said::{Said, WrongLine, is_call, read_said};
 use il_machine::Verified;
 use il_spec::fault::Refusal;
 use itoa::Buffer;
-use lift_runs::sim::tasks_of;
+use lift_image::{Bounded, Sizes};
+use lift_round::tasks_in;
 use lift_sink::sink::{Sink, put_all};
 use lift_spec::report::Report;
 use lift_world::World;
@@ -28,8 +30,8 @@ use std::alloc::{AllocError, Global};
 /// Why serving stops.
 #[derive(Clone, Copy)]
 pub enum ServeFault {
-    /// The line says nothing that the group takes.
-    WrongLine,
+    /// The line says nothing to the group.
+    WrongLine(WrongLine),
     /// The trace can't be written.
     Trace,
     /// The answer can't be written.
@@ -40,16 +42,18 @@ pub enum ServeFault {
     Full,
 }
 
-/// A group, with what is traced of each of its rounds, and room for an answer and for what is traced of a line.
+/// A group behind lines: with what is traced of each of its rounds, with the stop, and with room for an answer and for what is traced of a
+/// line.
 #[derive(Drop)]
 pub struct Server {
     pub world: World,
-    pub tasks: Vec<u8>,
+    pub tasks: Bounded<u8, 9>,
     pub gathers: String,
     pub scans: String,
+    pub stop: String,
     pub answer: String,
     pub traced: Vec<u8>,
-    pub report: Report,
+    pub scratch: Scratch,
     pub count: u64,
 }
 
@@ -115,10 +119,11 @@ fn put_said(
     scans: &[u8],
     line: &[u8],
     count: u64,
+    sizes: Sizes,
     said: &Said,
 ) -> Result<(), AllocError>
     requires empty { traced.old.items ≡ [] }
-    ensures text { OnOk result (traced.new.items ≡ record_text gathers.now scans.now line.now count said.now) }
+    ensures text { OnOk result (traced.new.items ≡ record_text gathers.now scans.now line.now count sizes said.now) }
 {
     match said {
         Said::Round(_) => {
@@ -126,7 +131,8 @@ fn put_said(
             put_line(traced, line)?;
             traced.extend_from_slice(scans)
         }
-        Said::Press(_) => put_line(traced, line),
+        Said::Press(call) if is_call(*call, sizes) => put_line(traced, line),
+        Said::Press(_) => Ok(()),
         Said::End => put_end(traced, count),
     }
 }
@@ -138,20 +144,25 @@ impl Server {
         ensures opening { IfOk result (λ s. (s.world.program ≡ verified) × (s.world.world ≡ opening verified.config) × (s.count ≡ 0)) }
     {
         let _config = verified.config();
-        let tasks = tasks_of(alloc, &verified)?;
+        let tasks = tasks_in(&verified);
         let gathers = gathers_text(alloc, verified.sizes().floors)?;
-        let scans = scans_text(alloc, &tasks)?;
+        let scans = scans_text(alloc, tasks.as_slice())?;
         let answer = String::with_capacity(alloc, 8192)?;
         let traced = Vec::with_capacity(alloc, 4096)?;
         let world = World::new(alloc, verified)?;
+        let stop = stop_of(alloc, &world)?;
         Ok(Server {
             world,
             tasks,
             gathers,
             scans,
+            stop,
             answer,
             traced,
-            report: Report::new(),
+            scratch: Scratch {
+                notices: Bounded::new(),
+                report: Report::new(),
+            },
             count: 0,
         })
     }
@@ -166,7 +177,8 @@ impl Server {
             Said::Round(_) => {
                 u64::from(self.world.sizes().floors) + (1 + 2 * self.tasks.len() as u64)
             }
-            Said::Press(_) => 1,
+            Said::Press(call) if is_call(*call, self.world.sizes()) => 1,
+            Said::Press(_) => 0,
             Said::End => 0,
         }
     }
@@ -192,7 +204,19 @@ impl Server {
         self.traced.clear();
         let gathers = self.gathers.as_bytes();
         let scans = self.scans.as_bytes();
-        if put_said(&mut self.traced, gathers, scans, line, self.count, said).is_err() {
+        let sizes = self.world.sizes();
+        let count_before = self.count;
+        if put_said(
+            &mut self.traced,
+            gathers,
+            scans,
+            line,
+            count_before,
+            sizes,
+            said,
+        )
+        .is_err()
+        {
             return Err(ServeFault::Memory);
         }
         if put_all(trace, &self.traced).is_err() {
@@ -215,10 +239,11 @@ impl Server {
         self.answer.clear();
         let acted = act(
             &mut self.world,
-            &self.tasks,
+            self.tasks.as_slice(),
             said,
+            self.stop.as_str(),
             &mut self.answer,
-            &mut self.report,
+            &mut self.scratch,
         );
         if acted.is_err() {
             return Err(ServeFault::Memory);
@@ -244,8 +269,9 @@ impl Server {
         ensures ranges { OnOk result (FieldsInRange (sizes_of self.old.world.program.config) self.new.world.world.group.image.fields) }
         ensures obeys { OnOk result (Obeys self.new.world.world.group.image) }
     {
-        let Some(said) = read_said(&self.world, line) else {
-            return Err(ServeFault::WrongLine);
+        let said = match read_said(&self.world, line) {
+            Ok(said) => said,
+            Err(why) => return Err(ServeFault::WrongLine(why)),
         };
         let ended = is_last(&said);
         self.trace_said(line, &said, trace)?;
@@ -255,6 +281,15 @@ impl Server {
         let _image = self.world.image();
         Ok(ended)
     }
+}
+
+/// The outputs of a world, as a line.
+fn stop_of(alloc: Global, world: &World) -> Result<String, AllocError>
+    ensures { IfOk result (λ text. string_bytes text ≡ outputs_line world.now.world.group.image.outputs) }
+{
+    let mut text = String::new(alloc);
+    put_outputs(&mut text, world.image().outputs.as_slice())?;
+    Ok(text)
 }
 
 /// Whether it is the end.
