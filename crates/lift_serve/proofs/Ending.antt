@@ -3,31 +3,24 @@ use Rattle.std.proofs.Common.{◌≡◌, ℕ, Bool, List, [], ◌++◌, Option, 
 use Rattle.std.specs.Io.KnownBytes.{Appends, Consumes}
 use Rattle.il_spec.specs.declared.tree.Config.{Config}
 use Rattle.il_machine.specs.Scanning.{Program}
-use Rattle.lift_spec.specs.World.{World, opening, opening_group}
+use Rattle.lift_spec.specs.World.{World, opening}
 use Rattle.lift_sink.specs.Writes.{AppendsFront}
 use Rattle.lift_sink.proofs.Known.{appends_more}
 use Rattle.lift_trace.specs.Text.{text_of_lines}
 use Rattle.lift_serve.specs.declared.group.Halt.TheVariants as halt
 use Rattle.lift_serve.specs.declared.input.Came.TheVariants.{Whole, Ended, TooLong, Failed}
 use Rattle.lift_serve.specs.declared.serve.Stop.{Stop}
+use Rattle.lift_serve.specs.declared.serve.Stopped.{Stopped}
 use Rattle.lift_serve.specs.declared.serve.Stop.TheVariants.{Line, Input, Lines}
 use Rattle.lift_serve.specs.declared.server.ServeFault.TheVariants as fault
-use Rattle.lift_serve.specs.Answers.{outputs_line}
+use Rattle.lift_serve.specs.Answers.{stop_line}
 use Rattle.lift_serve.specs.Ending.{head, Ends, IsHaltWritten, IsEnded, IsHalted}
-use Rattle.lift_serve.specs.Serving.{IsServed, IsStopped, IsStoppedBy, traced_text, stop_line}
+use Rattle.lift_serve.specs.Serving.{IsServed, IsStopped, IsStoppedBy, traced_text}
 use Rattle.lift_serve.proofs.Serving.{front_behind}
 
 pub consumes_none : (a : Option (List ℕ)) → Consumes a a []
 consumes_none None = tt
 consumes_none (Some xs) = refl
-
-opens : (c : Config) → (opening c).group.image.outputs ≡ (opening_group c).image.outputs
-unfolding opening
-opens c = refl
-
--- the outputs as the group opens are the stop
-pub stop_is : (c : Config) (w : World) (text : List ℕ) → w ≡ opening c → text ≡ outputs_line w.group.image.outputs → text ≡ stop_line c
-stop_is c w text opened is = is ∙ ap (λ (x : World). outputs_line x.group.image.outputs) opened ∙ ap outputs_line (opens c)
 
 pub ended : (p q : Program) (w : World) (a : ℕ) (v : World) (next : ℕ) (Taken Out : List ℕ → Type 0) (t0 t1 t2 : Option (List ℕ)) → (q ≡ p) × (w ≡ opening p.config) × (a ≡ 0) → Appends t0 t1 head → IsServed q.config w a v next Taken Out (Appends t1 t2)
     → IsEnded p.config Taken Out (Appends t0 t2)
@@ -60,7 +53,7 @@ ends_behind a b d failed x y first (front, whole) = (front_behind a b d x y firs
 module _ (c : Config) (v : World) (next : ℕ) (Taken : List ℕ → Type 0) (o0 o o1 : Option (List ℕ)) (failed : Bool) (t0 t1 t2 : Option (List ℕ)) (text events still : List ℕ) (grown : Appends t0 t1 head) where
   why : (stop : Stop) → IsHaltWritten stop o o1 failed still → IsStoppedBy c v next Taken (λ l. Appends o0 o (text ++ l)) (λ l. AppendsFront o0 o (text ++ l)) (λ l. Appends t1 t2 (events ++ l)) (λ l. AppendsFront t1 t2 (events ++ l)) stop
       → IsStoppedBy c v next Taken (λ l. Ends o0 o1 failed ((text ++ l) ++ still)) (λ l. AppendsFront o0 o1 (text ++ l)) (λ l. Appends t0 t2 (head ++ (events ++ l))) (λ l. AppendsFront t0 t2 (head ++ (events ++ l))) stop
-  why (Line fault.WrongLine) written (line, one, taken, (none, out, trace)) = (line, one, taken, (none, ends_behind o0 o o1 failed (text ++ []) still out written, appends_more t0 t1 t2 head (events ++ []) grown trace))
+  why (Line (fault.WrongLine w)) written (line, one, taken, (none, out, trace)) = (line, one, taken, (none, ends_behind o0 o o1 failed (text ++ []) still out written, appends_more t0 t1 t2 head (events ++ []) grown trace))
   why (Line fault.Trace) written (line, one, taken, (said, says, out, front)) = (line, one, taken, (said, says, ends_behind o0 o o1 failed (text ++ []) still out written, front_behind t0 t1 t2 head (events ++ traced_text c said next) grown front))
   why (Line fault.Output) written (line, one, taken, (said, m, answer, says, acts, out, trace)) = (line, one, taken, (said, m, answer, says, acts, subst (λ x. AppendsFront o0 x (text ++ answer)) (sym written) out, appends_more t0 t1 t2 head (events ++ traced_text c said next) grown trace))
   why (Line fault.Memory) written (line, one, taken, (said, says, out, front)) = (line, one, taken, (said, says, ends_behind o0 o o1 failed (text ++ []) still out written, front_behind t0 t1 t2 head (events ++ traced_text c said next) grown front))
@@ -71,19 +64,20 @@ module _ (c : Config) (v : World) (next : ℕ) (Taken : List ℕ → Type 0) (o0
   why (Input Failed) written (line, one, taken, out, trace) = (line, one, taken, ends_behind o0 o o1 failed (text ++ []) still out written, appends_more t0 t1 t2 head (events ++ []) grown trace)
   why Lines written (taken, out, trace) = (taken, ends_behind o0 o o1 failed (text ++ []) still out written, appends_more t0 t1 t2 head (events ++ []) grown trace)
 
-pub halted : (p q : Program) (w : World) (a : ℕ) (Taken : List ℕ → Type 0) (o0 o o1 : Option (List ℕ)) (failed : Bool) (t0 t1 t2 : Option (List ℕ)) (still : List ℕ) (stop : Stop) → (q ≡ p) × (w ≡ opening p.config) × (a ≡ 0) → Appends t0 t1 head → still ≡ stop_line p.config
-    → IsHaltWritten stop o o1 failed still → IsStopped q.config w a Taken (Appends o0 o) (AppendsFront o0 o) (Appends t1 t2) (AppendsFront t1 t2) stop → IsHalted p.config Taken o0 o1 failed (Appends t0 t2) (AppendsFront t0 t2) (halt.Stop stop)
-halted p q w a Taken o0 o o1 failed t0 t1 t2 still stop opened grown is written s =
-    let one = subst (λ (x : Program). IsStopped x.config w a Taken (Appends o0 o) (AppendsFront o0 o) (Appends t1 t2) (AppendsFront t1 t2) stop) opened.0 s in
-    let two = subst (λ (x : World). IsStopped p.config x a Taken (Appends o0 o) (AppendsFront o0 o) (Appends t1 t2) (AppendsFront t1 t2) stop) opened.1 one in
-    let all = subst (λ n. IsStopped p.config (opening p.config) n Taken (Appends o0 o) (AppendsFront o0 o) (Appends t1 t2) (AppendsFront t1 t2) stop) opened.2 two in
-    let wrote = subst (IsHaltWritten stop o o1 failed) is written in
+pub halted : (p q : Program) (w : World) (a : ℕ) (Taken : List ℕ → Type 0) (o0 o o1 : Option (List ℕ)) (failed : Bool) (t0 t1 t2 : Option (List ℕ)) (still : List ℕ) (s : Stopped) → (q ≡ p) × (w ≡ opening p.config) × (a ≡ 0) → Appends t0 t1 head → still ≡ stop_line p.config
+    → IsHaltWritten s.stop o o1 failed still → IsStopped q.config w a Taken (Appends o0 o) (AppendsFront o0 o) (Appends t1 t2) (AppendsFront t1 t2) s.stop s.line → IsHalted p.config Taken o0 o1 failed (Appends t0 t2) (AppendsFront t0 t2) (halt.Stop s)
+halted p q w a Taken o0 o o1 failed t0 t1 t2 still s opened grown is written stopped =
+    let one = subst (λ (x : Program). IsStopped x.config w a Taken (Appends o0 o) (AppendsFront o0 o) (Appends t1 t2) (AppendsFront t1 t2) s.stop s.line) opened.0 stopped in
+    let two = subst (λ (x : World). IsStopped p.config x a Taken (Appends o0 o) (AppendsFront o0 o) (Appends t1 t2) (AppendsFront t1 t2) s.stop s.line) opened.1 one in
+    let all = subst (λ n. IsStopped p.config (opening p.config) n Taken (Appends o0 o) (AppendsFront o0 o) (Appends t1 t2) (AppendsFront t1 t2) s.stop s.line) opened.2 two in
+    let wrote = subst (IsHaltWritten s.stop o o1 failed) is written in
     record {
       lines = all.lines;
+      place = all.place;
       v = all.v;
       next = all.next;
       text = all.text;
       events = all.events;
       serves = all.serves;
-      why = why p.config all.v all.next (λ l. Taken (text_of_lines all.lines ++ l)) o0 o o1 failed t0 t1 t2 all.text all.events (stop_line p.config) grown stop wrote all.why;
+      why = why p.config all.v all.next (λ l. Taken (text_of_lines all.lines ++ l)) o0 o o1 failed t0 t1 t2 all.text all.events (stop_line p.config) grown s.stop wrote all.why;
     }

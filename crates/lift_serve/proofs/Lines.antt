@@ -1,5 +1,5 @@
 -- Lines, one behind the other, from a reader.
-use Rattle.std.proofs.Common.{◌≡◌, ℕ, Bool, true, false, List, [], ◌∷◌, ◌++◌, append-nil, Option, Some, None, refl, sym, ap, ◌∙◌, subst}
+use Rattle.std.proofs.Common.{◌≡◌, ℕ, ◌+◌, Bool, true, false, List, [], ◌∷◌, ◌++◌, length, length-append, append-nil, Option, Some, None, refl, sym, ap, ◌∙◌, subst}
 use Rattle.std.specs.Io.KnownBytes.{Appends, Consumes}
 use Rattle.std.proofs.lemmas.List.{append_assoc}
 use Rattle.il_spec.specs.declared.tree.Config.{Config}
@@ -32,8 +32,9 @@ taken_more a b d lines line before here =
     subst (Consumes a d) (sym all) (consumes_more a b d (text_of_lines lines) (line ++ 10 ∷ []) before here)
 
 -- what the lines so far left
-abbrev pub SoFar : Config → World → ℕ → World → ℕ → Option (List ℕ) → Option (List ℕ) → Option (List ℕ) → Option (List ℕ) → Option (List ℕ) → Option (List ℕ) → Type 0
-SoFar c w a m b r0 r o0 o t0 t = (lines : List (List ℕ)) × (text : List ℕ) × (events : List ℕ) × Serves c lines w a m b text events × Consumes r0 r (text_of_lines lines) × Appends o0 o text × Appends t0 t events
+abbrev pub SoFar : Config → World → ℕ → World → ℕ → ℕ → Option (List ℕ) → Option (List ℕ) → Option (List ℕ) → Option (List ℕ) → Option (List ℕ) → Option (List ℕ) → Type 0
+SoFar c w a m b n r0 r o0 o t0 t =
+    (lines : List (List ℕ)) × (text : List ℕ) × (events : List ℕ) × Serves c lines w a m b text events × Consumes r0 r (text_of_lines lines) × Appends o0 o text × Appends t0 t events × (length lines ≡ n)
 
 -- what the next one left
 abbrev pub IsHeard : Config → List ℕ → World → World → ℕ → ℕ → Option (List ℕ) → Option (List ℕ) → Option (List ℕ) → Option (List ℕ) → Bool → Type 0
@@ -44,12 +45,12 @@ end_of (Round fields) is = absurd (cc)
 end_of (Press call) is = absurd (cc)
 end_of End is = refl
 
-module _ (p : Program) (w m : World) (a b : ℕ) (r0 r o0 o t0 t : Option (List ℕ)) (before : SoFar p.config w a m b r0 r o0 o t0 t) where
+module _ (p : Program) (w m : World) (a b n : ℕ) (r0 r o0 o t0 t : Option (List ℕ)) (before : SoFar p.config w a m b n r0 r o0 o t0 t) where
   module _ (q : Program) (same : q ≡ p) (line other : List ℕ) (is : other ≡ line) (s p1 u : Option (List ℕ)) (comes : Consumes r s (line ++ 10 ∷ [])) where
     hears_here : (said : Said) (v : World) (d : ℕ) (text events : List ℕ) → Hears q.config other said m v b d text events → Hears p.config line said m v b d text events
     hears_here said v d text events hears = subst (λ (x : Program). Hears x.config line said m v b d text events) same (subst (λ l. Hears q.config l said m v b d text events) is hears)
 
-    pub so_far_next : (v : World) (d : ℕ) (ended : Bool) → ended ≡ false → IsHeard q.config other m v b d o p1 t u ended → SoFar p.config w a v d r0 s o0 p1 t0 u
+    pub so_far_next : (v : World) (d : ℕ) (ended : Bool) → ended ≡ false → IsHeard q.config other m v b d o p1 t u ended → SoFar p.config w a v d (n + 1) r0 s o0 p1 t0 u
     so_far_next v d ended not_so (said, first, one, hears, out, trace, end) = (
       before.0 ++ line ∷ [],
       before.1 ++ first,
@@ -58,6 +59,7 @@ module _ (p : Program) (w m : World) (a b : ℕ) (r0 r o0 o t0 t : Option (List 
       taken_more r0 r s before.0 line before.4 comes,
       appends_more o0 o p1 before.1 first before.5 out,
       appends_more t0 t u before.2 one before.6 trace,
+      length-append before.0 (line ∷ []) ∙ ap (λ k. k + 1) before.7,
     )
 
     pub served : (v : World) (d : ℕ) (ended : Bool) → true ≡ ended → IsHeard q.config other m v b d o p1 t u ended → IsServed p.config w a v d (Consumes r0 s) (Appends o0 p1) (Appends t0 u)
@@ -80,11 +82,12 @@ module _ (p : Program) (w m : World) (a b : ℕ) (r0 r o0 o t0 t : Option (List 
         }
 
     pub stopped_line : (f : ServeFault) → IsOneLine line → Unheard q.config other m b (Appends o p1) (AppendsFront o p1) (Appends t u) (AppendsFront t u) f
-        → IsStopped p.config w a (Consumes r0 s) (Appends o0 p1) (AppendsFront o0 p1) (Appends t0 u) (AppendsFront t0 u) (Line f)
+        → IsStopped p.config w a (Consumes r0 s) (Appends o0 p1) (AppendsFront o0 p1) (Appends t0 u) (AppendsFront t0 u) (Line f) (n + 1)
     stopped_line f one unheard =
         let here = subst (λ (x : Program). Unheard x.config line m b (Appends o p1) (AppendsFront o p1) (Appends t u) (AppendsFront t u) f) same (subst (λ l. Unheard q.config l m b (Appends o p1) (AppendsFront o p1) (Appends t u) (AppendsFront t u) f) is unheard) in
         record {
           lines = before.0;
+          place = ap (λ k. k + 1) (sym before.7);
           v = m;
           next = b;
           text = before.1;
@@ -96,11 +99,12 @@ module _ (p : Program) (w m : World) (a b : ℕ) (r0 r o0 o t0 t : Option (List 
   no_more : (x y : Option (List ℕ)) (text : List ℕ) → Appends x y text → Appends x y (text ++ [])
   no_more x y text grown = subst (Appends x y) (sym (append-nil text)) grown
 
-  pub stopped_input : (came : Came) (line : List ℕ) (s : Option (List ℕ)) → (came ≡ Whole → ⊥) → LineComes came r s line → IsStopped p.config w a (Consumes r0 s) (Appends o0 o) (AppendsFront o0 o) (Appends t0 t) (AppendsFront t0 t) (Input came)
+  pub stopped_input : (came : Came) (line : List ℕ) (s : Option (List ℕ)) → (came ≡ Whole → ⊥) → LineComes came r s line → IsStopped p.config w a (Consumes r0 s) (Appends o0 o) (AppendsFront o0 o) (Appends t0 t) (AppendsFront t0 t) (Input came) (n + 1)
   stopped_input Whole line s other comes = absurd (other refl)
   stopped_input Ended line s other (one, taken, end) =
       record {
         lines = before.0;
+        place = ap (λ k. k + 1) (sym before.7);
         v = m;
         next = b;
         text = before.1;
@@ -111,6 +115,7 @@ module _ (p : Program) (w m : World) (a b : ℕ) (r0 r o0 o t0 t : Option (List 
   stopped_input TooLong line s other (one, long, (more, no_feed, taken)) =
       record {
         lines = before.0;
+        place = ap (λ k. k + 1) (sym before.7);
         v = m;
         next = b;
         text = before.1;
@@ -121,6 +126,7 @@ module _ (p : Program) (w m : World) (a b : ℕ) (r0 r o0 o t0 t : Option (List 
   stopped_input Failed line s other (one, taken) =
       record {
         lines = before.0;
+        place = ap (λ k. k + 1) (sym before.7);
         v = m;
         next = b;
         text = before.1;
@@ -129,10 +135,11 @@ module _ (p : Program) (w m : World) (a b : ℕ) (r0 r o0 o t0 t : Option (List 
         why = (line, one, consumes_more r0 r s (text_of_lines before.0) line before.4 taken, no_more o0 o before.1 before.5, no_more t0 t before.2 before.6);
       }
 
-  pub stopped_lines : IsStopped p.config w a (Consumes r0 r) (Appends o0 o) (AppendsFront o0 o) (Appends t0 t) (AppendsFront t0 t) Lines
+  pub stopped_lines : IsStopped p.config w a (Consumes r0 r) (Appends o0 o) (AppendsFront o0 o) (Appends t0 t) (AppendsFront t0 t) Lines (n + 1)
   stopped_lines =
       record {
         lines = before.0;
+        place = ap (λ k. k + 1) (sym before.7);
         v = m;
         next = b;
         text = before.1;

@@ -62,7 +62,7 @@ front_behind a b d x y first (front, rest, grown, is) = (x ++ front, rest, appen
 pub unheard_behind : (c : Config) (line : List ℕ) (w : World) (count : ℕ) (f : ServeFault) (o p q t u v : Option (List ℕ)) (text events : List ℕ) → Appends o p text → Appends t u events
     → Unheard c line w count (Appends p q) (AppendsFront p q) (Appends u v) (AppendsFront u v) f
     → Unheard c line w count (λ l. Appends o q (text ++ l)) (λ l. AppendsFront o q (text ++ l)) (λ l. Appends t v (events ++ l)) (λ l. AppendsFront t v (events ++ l)) f
-unheard_behind c line w count fault.WrongLine o p q t u v text events out trace (none, x, y) = (none, appends_more o p q text [] out x, appends_more t u v events [] trace y)
+unheard_behind c line w count (fault.WrongLine why) o p q t u v text events out trace (none, x, y) = (none, appends_more o p q text [] out x, appends_more t u v events [] trace y)
 unheard_behind c line w count fault.Trace o p q t u v text events out trace (said, says, x, y) = (said, says, appends_more o p q text [] out x, front_behind t u v events _ trace y)
 unheard_behind c line w count fault.Output o p q t u v text events out trace (said, m, answer, says, acts, x, y) = (said, m, answer, says, acts, front_behind o p q text answer out x, appends_more t u v events _ trace y)
 unheard_behind c line w count fault.Memory o p q t u v text events out trace (said, says, x, y) = (said, says, appends_more o p q text [] out x, front_behind t u v events _ trace y)

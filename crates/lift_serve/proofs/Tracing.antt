@@ -1,8 +1,9 @@
 -- What is traced of a line.
-use Rattle.std.proofs.Common.{◌≡◌, ℕ, zero, suc, ◌+◌, ◌*◌, List, [], ◌∷◌, ◌++◌, map, flat_map, length, append-nil, length-append, refl, sym, ap, ◌∙◌, arith}
+use Rattle.std.proofs.Common.{◌≡◌, ℕ, zero, suc, ◌+◌, ◌*◌, Bool, true, false, if◌then◌else◌, List, [], ◌∷◌, ◌++◌, map, flat_map, length, append-nil, length-append, refl, sym, ap, ◌∙◌, arith}
 use Rattle.std.proofs.lemmas.List.{append_assoc}
 use Rattle.il_spec.specs.declared.tree.Config.{Config}
 use Rattle.lift_spec.specs.declared.image.Fields.{Fields}
+use Rattle.lift_spec.specs.declared.image.Sizes.{Sizes}
 use Rattle.lift_spec.specs.declared.trace.TraceEvent.TheVariants.{Gather, Refresh, Press as Pressed}
 use Rattle.lift_spec.specs.Image.{sizes_of}
 use Rattle.lift_trace.specs.declared.format.Format.TheVariants.{Two}
@@ -12,7 +13,7 @@ use Rattle.lift_trace.proofs.Writes.{events_append}
 use Rattle.lift_journal.specs.Rounds.{counting_from, floors_rising, tasks_in_order}
 use Rattle.lift_serve.specs.declared.said.Said.{Said}
 use Rattle.lift_serve.specs.declared.said.Said.TheVariants.{Round, Press, End}
-use Rattle.lift_serve.specs.Saying.{Says, events_of, scan_events}
+use Rattle.lift_serve.specs.Saying.{Says, events_of, scan_events, is_call}
 use Rattle.lift_serve.specs.Serving.{record_text, traced_text}
 
 counting_next : (first k : ℕ) → counting_from first (k + 1) ≡ counting_from first k ++ (first + k) ∷ []
@@ -53,12 +54,16 @@ round_length c fields =
     omega (arith, both, gathers, scans)
 
 -- the texts of the group and the line are what is traced
-pub record_is : (c : Config) (line gathers scans : List ℕ) (count : ℕ) (said : Said) → Says c line said → gathers ≡ events_text (map Gather (floors_rising c)) → scans ≡ events_text (flat_map scan_events (tasks_in_order c))
-    → record_text gathers scans line count said ≡ traced_text c said count
-record_is c line gathers scans count (Round fields) says g s =
+pub record_is : (c : Config) (line gathers scans : List ℕ) (count : ℕ) (sizes : Sizes) (said : Said) → sizes ≡ sizes_of c → Says c line said → gathers ≡ events_text (map Gather (floors_rising c)) → scans ≡ events_text (flat_map scan_events (tasks_in_order c))
+    → record_text gathers scans line count sizes said ≡ traced_text c said count
+record_is c line gathers scans count sizes (Round fields) of says g s =
     let floors = map Gather (floors_rising c) in
     let each = flat_map scan_events (tasks_in_order c) in
     ap (λ l. l ++ (line ++ (10 ∷ scans))) g ∙ ap (λ l. events_text floors ++ (line ++ (10 ∷ l))) s ∙ ap (λ l. events_text floors ++ (l ++ (10 ∷ events_text each))) says.spelled
     ∙ ap (λ l. events_text floors ++ l) (sym (append_assoc (line_of Two (Refresh fields)) (10 ∷ []) (events_text each))) ∙ sym (events_append floors (Refresh fields ∷ each))
-record_is c line gathers scans count (Press call) says g s = ap (λ l. l ++ 10 ∷ []) says.spelled ∙ sym (append-nil (line_of Two (Pressed call) ++ 10 ∷ []))
-record_is c line gathers scans count End says g s = refl
+record_is c line gathers scans count sizes (Press call) of says g s = ap (λ (z : Sizes). if is_call z call then line ++ 10 ∷ [] else []) of ∙ by (is_call (sizes_of c) call)
+  where
+    by : (b : Bool) → (if b then line ++ 10 ∷ [] else []) ≡ events_text (if b then Pressed call ∷ [] else [])
+    by true = ap (λ l. l ++ 10 ∷ []) says.spelled ∙ sym (append-nil (line_of Two (Pressed call) ++ 10 ∷ []))
+    by false = refl
+record_is c line gathers scans count sizes End of says g s = refl

@@ -3,7 +3,7 @@
 ghost use Rattle.std.specs.Prelude.{◌≡◌, OnOk, IfErr};
 ghost use Rattle.std.specs.Io.KnownBytes.{Appends, Consumes};
 ghost use Rattle.lift_sink.specs.Writes.{AppendsFront};
-ghost use Rattle.lift_serve.specs.Ending.{IsEnded, IsHalted, IsHaltWritten};
+ghost use Rattle.lift_serve.specs.Ending.{Ends, IsEnded, IsHalted, IsHaltWritten};
 
 use crate::serve::{Stop, Stopped, serve};
 use crate::server::{ServeFault, Server};
@@ -41,7 +41,7 @@ pub fn serve_group<R: Read, O: Sink, T: Sink>(
         return Err(Halt::Memory);
     };
     if put_all(trace, b"LIFTTRACE 2\n").is_err() {
-        let _written = put_all(out, server.stop.as_bytes());
+        put_stop(server.stop.as_bytes(), out);
         return Err(Halt::Head);
     }
     match serve(&mut server, &mut line, reader, out, trace) {
@@ -59,8 +59,13 @@ fn write_stop<O: Sink>(stop: Stop, text: &[u8], out: &mut O)
 {
     match stop {
         Stop::Line(ServeFault::Output) => {}
-        _ => {
-            let _written = put_all(out, text);
-        }
+        _ => put_stop(text, out),
     }
+}
+
+/// Writes the stop.
+fn put_stop<O: Sink>(text: &[u8], out: &mut O)
+    ensures { Ends (O.contents out.old) (O.contents out.new) (O.has_failed out.new) text.now }
+{
+    let _written = put_all(out, text);
 }

@@ -196,6 +196,7 @@ impl Server {
         ensures counted { OnOk result (self.new.count ≡ self.old.count + length (events_of self.old.world.program.config said.now)) }
         ensures fault { IfErr result (λ fault. ((fault ≡ ServeFault.Full) × Appends (T.contents trace.old) (T.contents trace.new) []) ⊎ (((fault ≡ ServeFault.Memory) ⊎ (fault ≡ ServeFault.Trace)) × AppendsFront (T.contents trace.old) (T.contents trace.new) (traced_text self.old.world.program.config said.now self.old.count))) }
         ensures same { self.new.world ≡ self.old.world }
+        ensures stop { self.new.stop ≡ self.old.stop }
         ensures server { IsServer self.new }
     {
         let Some(count) = self.count.checked_add(self.events_in(said)) else {
@@ -234,6 +235,7 @@ impl Server {
         ensures fault { IfErr result (λ fault. ((fault ≡ ServeFault.Memory) × Appends (O.contents out.old) (O.contents out.new) []) ⊎ ((fault ≡ ServeFault.Output) × ((text : List ℕ) × Acts self.old.world.program.config said self.old.world.world self.new.world.world text × AppendsFront (O.contents out.old) (O.contents out.new) text))) }
         ensures same { self.new.world.program ≡ self.old.world.program }
         ensures count { self.new.count ≡ self.old.count }
+        ensures stop { self.new.stop ≡ self.old.stop }
         ensures server { OnOk result (IsServer self.new) }
     {
         self.answer.clear();
@@ -265,6 +267,7 @@ impl Server {
         ensures heard { IfOk result (λ ended. (said : SaidOf) × (text : List ℕ) × (events : List ℕ) × Hears self.old.world.program.config line.now said self.old.world.world self.new.world.world self.old.count self.new.count text events × Appends (O.contents out.old) (O.contents out.new) text × Appends (T.contents trace.old) (T.contents trace.new) events × (ended ≡ is_end said)) }
         ensures unheard { IfErr result (λ fault. Unheard self.old.world.program.config line.now self.old.world.world self.old.count (Appends (O.contents out.old) (O.contents out.new)) (AppendsFront (O.contents out.old) (O.contents out.new)) (Appends (T.contents trace.old) (T.contents trace.new)) (AppendsFront (T.contents trace.old) (T.contents trace.new)) fault) }
         ensures same { self.new.world.program ≡ self.old.world.program }
+        ensures stop { self.new.stop ≡ self.old.stop }
         ensures server { OnOk result (IsServer self.new) }
         ensures ranges { OnOk result (FieldsInRange (sizes_of self.old.world.program.config) self.new.world.world.group.image.fields) }
         ensures obeys { OnOk result (Obeys self.new.world.world.group.image) }

@@ -2,4 +2,4 @@ use Rattle.lift_serve.proofs.Saying.{round_test}
 use Rattle.lift_serve.proofs.said.is_taken.Goals as goal
 
 pub returns-in-Round : goal.returns-in-Round
-returns-in-Round c = round_test c.args.world.now.program.config c.args.said.now c.in-Round.fields c.sizes-sizes.result c.in_range.result c.in-Round.is c.sizes-sizes.ensures c.in_range.ensures
+returns-in-Round c = round_test c.args.world.now.program.config c.args.said.now c.in-Round.fields c.sizes.result c.in_range.result c.in-Round.is c.sizes.ensures c.in_range.ensures

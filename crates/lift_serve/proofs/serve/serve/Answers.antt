@@ -4,29 +4,30 @@ use Rattle.lift_serve.proofs.serve.serve.Goals as goal
 
 pub returns-in-Ok-true-clause-served : goal.returns-in-Ok-true-clause-served
 returns-in-Ok-true-clause-served g c =
-    served c.args.server.now.world.program c.args.server.now.world.world c.lines.server.world.world c.args.server.now.count c.lines.server.count (g.R.Read.remaining c.args.reader.now) (g.R.Read.remaining c.lines.reader) (g.O.Sink.contents c.args.out.now) (g.O.Sink.contents c.lines.out) (g.T.Sink.contents c.args.trace.now) (g.T.Sink.contents c.lines.trace) c.lines.invariant.served
+    served c.args.server.now.world.program c.args.server.now.world.world c.lines.server.world.world c.args.server.now.count c.lines.server.count c.lines.before (g.R.Read.remaining c.args.reader.now) (g.R.Read.remaining c.lines.reader) (g.O.Sink.contents c.args.out.now) (g.O.Sink.contents c.lines.out) (g.T.Sink.contents c.args.trace.now) (g.T.Sink.contents c.lines.trace) c.lines.invariant.served
     c.lines.server.world.program c.lines.invariant.same c.next_line-came.new.line.items c.deref.result.now c.deref.ensures.value (g.R.Read.remaining c.next_line-came.new.reader) (g.O.Sink.contents c.hear.new.out) (g.T.Sink.contents c.hear.new.trace) c.in-Whole.ensures.comes.1 c.hear.new.self.world.world c.hear.new.self.count c.in-Ok-true.field-0 (sym c.in-Ok-true.field-0-test) c.in-Ok-true.ensures.heard
 
 pub returns-in-Err-clause-stopped : goal.returns-in-Err-clause-stopped
 returns-in-Err-clause-stopped g c =
-    stopped_line c.args.server.now.world.program c.args.server.now.world.world c.lines.server.world.world c.args.server.now.count c.lines.server.count (g.R.Read.remaining c.args.reader.now) (g.R.Read.remaining c.lines.reader) (g.O.Sink.contents c.args.out.now) (g.O.Sink.contents c.lines.out) (g.T.Sink.contents c.args.trace.now) (g.T.Sink.contents c.lines.trace) c.lines.invariant.served
+    stopped_line c.args.server.now.world.program c.args.server.now.world.world c.lines.server.world.world c.args.server.now.count c.lines.server.count c.lines.before (g.R.Read.remaining c.args.reader.now) (g.R.Read.remaining c.lines.reader) (g.O.Sink.contents c.args.out.now) (g.O.Sink.contents c.lines.out) (g.T.Sink.contents c.args.trace.now) (g.T.Sink.contents c.lines.trace) c.lines.invariant.served
     c.lines.server.world.program c.lines.invariant.same c.next_line-came.new.line.items c.deref.result.now c.deref.ensures.value (g.R.Read.remaining c.next_line-came.new.reader) (g.O.Sink.contents c.hear.new.out) (g.T.Sink.contents c.hear.new.trace) c.in-Whole.ensures.comes.1 c.in-Err.fault c.in-Whole.ensures.comes.0 c.in-Err.ensures.unheard
 
 pub returns-in_default-clause-stopped : goal.returns-in_default-clause-stopped
 returns-in_default-clause-stopped g c =
-    stopped_input c.args.server.now.world.program c.args.server.now.world.world c.lines.server.world.world c.args.server.now.count c.lines.server.count (g.R.Read.remaining c.args.reader.now) (g.R.Read.remaining c.lines.reader) (g.O.Sink.contents c.args.out.now) (g.O.Sink.contents c.lines.out) (g.T.Sink.contents c.args.trace.now) (g.T.Sink.contents c.lines.trace) c.lines.invariant.served
+    stopped_input c.args.server.now.world.program c.args.server.now.world.world c.lines.server.world.world c.args.server.now.count c.lines.server.count c.lines.before (g.R.Read.remaining c.args.reader.now) (g.R.Read.remaining c.lines.reader) (g.O.Sink.contents c.args.out.now) (g.O.Sink.contents c.lines.out) (g.T.Sink.contents c.args.trace.now) (g.T.Sink.contents c.lines.trace) c.lines.invariant.served
     c.next_line-came.result c.next_line-came.new.line.items (g.R.Read.remaining c.next_line-came.new.reader) c.in_default.not-Whole c.next_line-came.ensures.comes
 
 pub lines-preserved : goal.lines-preserved
 lines-preserved g c =
     record {
-      served = so_far_next c.args.server.now.world.program c.args.server.now.world.world c.lines.server.world.world c.args.server.now.count c.lines.server.count (g.R.Read.remaining c.args.reader.now) (g.R.Read.remaining c.lines.reader) (g.O.Sink.contents c.args.out.now) (g.O.Sink.contents c.lines.out) (g.T.Sink.contents c.args.trace.now) (g.T.Sink.contents c.lines.trace) c.lines.invariant.served
+      served = so_far_next c.args.server.now.world.program c.args.server.now.world.world c.lines.server.world.world c.args.server.now.count c.lines.server.count c.lines.before (g.R.Read.remaining c.args.reader.now) (g.R.Read.remaining c.lines.reader) (g.O.Sink.contents c.args.out.now) (g.O.Sink.contents c.lines.out) (g.T.Sink.contents c.args.trace.now) (g.T.Sink.contents c.lines.trace) c.lines.invariant.served
           c.lines.server.world.program c.lines.invariant.same c.next_line-came.new.line.items c.deref.result.now c.deref.ensures.value (g.R.Read.remaining c.next_line-came.new.reader) (g.O.Sink.contents c.hear.new.out) (g.T.Sink.contents c.hear.new.trace) c.in-Whole.ensures.comes.1 c.hear.new.self.world.world c.hear.new.self.count c.in-Ok-false.field-0 c.in-Ok-false.field-0-test c.in-Ok-false.ensures.heard;
       server = c.in-Ok-false.ensures.server;
       same = c.hear.ensures.same ∙ c.lines.invariant.same;
+      stop = c.hear.ensures.stop ∙ c.lines.invariant.stop;
       room = c.next_line-came.ensures.room;
     }
 
 pub returns-clause-stopped : goal.returns-clause-stopped
 returns-clause-stopped g c =
-    stopped_lines c.args.server.now.world.program c.args.server.now.world.world c.lines.server.world.world c.args.server.now.count c.lines.server.count (g.R.Read.remaining c.args.reader.now) (g.R.Read.remaining c.lines.reader) (g.O.Sink.contents c.args.out.now) (g.O.Sink.contents c.lines.out) (g.T.Sink.contents c.args.trace.now) (g.T.Sink.contents c.lines.trace) c.lines.invariant.served
+    stopped_lines c.args.server.now.world.program c.args.server.now.world.world c.lines.server.world.world c.args.server.now.count c.lines.server.count c.lines.before (g.R.Read.remaining c.args.reader.now) (g.R.Read.remaining c.lines.reader) (g.O.Sink.contents c.args.out.now) (g.O.Sink.contents c.lines.out) (g.T.Sink.contents c.args.trace.now) (g.T.Sink.contents c.lines.trace) c.lines.invariant.served

@@ -1,4 +1,4 @@
-use Rattle.std.proofs.Common.{◌≡◌, ◌≤◌, ℕ, List, vec_capacity}
+use Rattle.std.proofs.Common.{◌≡◌, ◌≤◌, ℕ, List, length, vec_capacity}
 use Rattle.std.specs.Io.KnownBytes.{Appends, Consumes}
 use Rattle.lift_trace.specs.Text.{text_of_lines}
 use Rattle.lift_serve.specs.Serving.{IsServer, Serves}
@@ -8,7 +8,8 @@ use Rattle.lift_serve.proofs.serve.serve.Given as goal
 abbrev pub invariant-lines : goal.invariant-lines
 invariant-lines g l = record {
   served : (lines : List (List ℕ)) × (text : List ℕ) × (events : List ℕ) × Serves l.initial.server.world.program.config lines l.initial.server.world.world l.initial.server.count l.server.world.world l.server.count text events
-      × Consumes (g.R.Read.remaining l.initial.reader) (g.R.Read.remaining l.reader) (text_of_lines lines) × Appends (g.O.Sink.contents l.initial.out) (g.O.Sink.contents l.out) text × Appends (g.T.Sink.contents l.initial.trace) (g.T.Sink.contents l.trace) events;
+      × Consumes (g.R.Read.remaining l.initial.reader) (g.R.Read.remaining l.reader) (text_of_lines lines) × Appends (g.O.Sink.contents l.initial.out) (g.O.Sink.contents l.out) text × Appends (g.T.Sink.contents l.initial.trace) (g.T.Sink.contents l.trace) events × (length lines ≡ l.before);
+  stop : l.server.stop ≡ l.initial.server.stop;
   server : IsServer l.server;
   same : l.server.world.program ≡ l.initial.server.world.program;
   room : 128 ≤ vec_capacity l.line;
