@@ -4,3 +4,4 @@ pub mod Tracing
 pub mod Serving
 pub mod Lines
 pub mod Ending
+pub mod Replaying
