@@ -1,6 +1,6 @@
 -- Words of a command line apart, by the first place of an option.
 use Rattle.std.proofs.Common.{arith, ℕ, ◌≡◌, ◌<◌, ◌+◌, inl, inr, get_or, List, [], ◌∷◌, ◌++◌, zero, suc, refl, sym, ap, ◌∙◌, subst, map, take, drop, length}
-use Rattle.std.specs.Prelude.{codes, Option, Some, None, option_map, slice_get, String, string_bytes}
+use Rattle.std.specs.Prelude.{Option, Some, None, option_map, slice_get, String, string_bytes}
 use Rattle.std.proofs.lemmas.Bool.{cases_lt}
 use Rattle.std.specs.Global.{Global}
 use Rattle.std.proofs.lemmas.List.{map-append, take-append-drop, length-map}

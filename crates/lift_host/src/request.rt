@@ -225,10 +225,22 @@ impl<'w> Request<'w> {
     {
         match self {
             Request::Rounds(command, rounds) => {
-                Request::Rounds(command, Rounds { all: flag, ..rounds })
+                Request::Rounds(
+                    command,
+                    Rounds {
+                        all: flag,
+                        ..rounds
+                    },
+                )
             }
             Request::Trace(command, traced) => {
-                Request::Trace(command, Traced { cut: flag, ..traced })
+                Request::Trace(
+                    command,
+                    Traced {
+                        cut: flag,
+                        ..traced
+                    },
+                )
             }
             _ => self,
         }

@@ -37,6 +37,6 @@ returns-clause-some c =
 pub returns-clause-only : goal.returns-clause-only
 returns-clause-only c = λ positional value apart none.
     let found = with_value _ c.in-Some.rest.now c.in_ok-value.value.now c.in_ok-value.back.now positional value c.in_ok-value.ensures.cases.0
-        (there c.args.option.now c.args.words.now c.split_at.result.0.now c.split_at.result.1.now c.first_of.result c.in-Some.field-0-0.now c.in-Some.rest.now c.split_at.ensures.front c.split_at.ensures.back c.in-Some.ensures.cases.0
-        c.first_of.ensures.before c.first_of.ensures.at positional value apart none) in
+    (there c.args.option.now c.args.words.now c.split_at.result.0.now c.split_at.result.1.now c.first_of.result c.in-Some.field-0-0.now c.in-Some.rest.now c.split_at.ensures.front c.split_at.ensures.back c.in-Some.ensures.cases.0
+    c.first_of.ensures.before c.first_of.ensures.at positional value apart none) in
     (found.0, found.1 ∙ ap Some (sym c.deref-2.ensures))
