@@ -3,7 +3,8 @@
 use clap::error::ErrorKind;
 use clap::{Arg, ArgAction, Command};
 use lift_explain::explanation;
-use lift_host::request::{FIRE, MOST_ROUNDS, Name, Words, is_option, number_to};
+use lift_host::request::{FIRE, MOST_ROUNDS, Name, TRACE, Words, is_option, number_to};
+use lift_host::serving::{SYNC, is_serve};
 use std::alloc::{AllocError, Global};
 
 const VERSION: &str = "0.1.0";
@@ -25,6 +26,12 @@ const EXPLAIN: &str = "explain";
 /// The greatest number of a fault.
 const MOST_NUMBER: u16 = 99;
 
+/// The option `--fire`, as it is shown.
+const FIRE_SHOWN: &str = "--fire <ROUND>";
+
+/// The option `--trace`, as it is shown.
+const TRACE_SHOWN: &str = "--trace <TRACE>";
+
 /// What words say that ask for nothing.
 #[derive(Drop)]
 pub enum Answer {
@@ -40,10 +47,12 @@ pub enum Answer {
 enum Misuse<'w> {
     /// A word begins with `-`.
     Option(&'w str),
-    /// No ROUND stands behind `--fire`.
-    NoRound,
-    /// `--fire` stands twice.
-    Twice,
+    /// No value stands behind an option that needs one.
+    NoValue(&'static str),
+    /// An option stands twice.
+    Twice(&'static str),
+    /// `--sync` stands without `--trace`.
+    SyncAlone,
     /// ROUNDS is no decimal in its range.
     Rounds(&'w str),
     /// NUMBER is none of a fault or a refusal.
@@ -212,6 +221,14 @@ fn trace<'a>(alloc: Global) -> Arg<'a> {
         .help("A trace that `sim` or `run` printed")
 }
 
+/// The flag `--cut`.
+fn cut<'a>(alloc: Global) -> Arg<'a> {
+    Arg::new(alloc, "cut")
+        .long("cut")
+        .action(ArgAction::SetTrue)
+        .help("Takes a trace that was cut off, up to its last whole line")
+}
+
 /// The command that replays.
 fn replay_command<'a>(alloc: Global) -> Result<Command<'a>, AllocError> {
     trace_command(
@@ -239,7 +256,35 @@ fn trace_command<'a>(
     Command::new(alloc, name)
         .about(about)
         .arg(file(alloc))?
-        .arg(trace(alloc))
+        .arg(trace(alloc))?
+        .arg(cut(alloc))
+}
+
+/// The option `--trace`.
+fn written_trace<'a>(alloc: Global) -> Arg<'a> {
+    Arg::new(alloc, "trace")
+        .long("trace")
+        .value_name("TRACE")
+        .help("Writes each event to TRACE, a new file, before it happens")
+}
+
+/// The flag `--sync`.
+fn sync<'a>(alloc: Global) -> Arg<'a> {
+    Arg::new(alloc, "sync")
+        .long("sync")
+        .action(ArgAction::SetTrue)
+        .help("With --trace: has the disk write each line before it is answered")
+}
+
+/// The command that serves a plant.
+fn serve_command<'a>(alloc: Global) -> Result<Command<'a>, AllocError> {
+    file_command(
+        alloc,
+        "serve",
+        "Runs FILE behind lines: fields in, outputs back; docs/SERVE.md has the lines",
+    )?
+    .arg(written_trace(alloc))?
+    .arg(sync(alloc))
 }
 
 /// The command that explains.
@@ -307,13 +352,19 @@ fn add_observing_commands<'a>(
     add_trace_commands(alloc, commands)
 }
 
-/// Adds the commands over a trace, and `explain`.
+/// Adds the commands over a trace, and those behind them.
 fn add_trace_commands<'a>(
     alloc: Global,
     commands: &mut Vec<Command<'a>>,
 ) -> Result<(), AllocError> {
     add(commands, replay_command(alloc))?;
     add(commands, draw_command(alloc))?;
+    add_last_commands(alloc, commands)
+}
+
+/// Adds `serve` and `explain`.
+fn add_last_commands<'a>(alloc: Global, commands: &mut Vec<Command<'a>>) -> Result<(), AllocError> {
+    add(commands, serve_command(alloc))?;
     add(commands, explain_command(alloc))
 }
 
@@ -331,6 +382,7 @@ fn misuse_of(words: &[String]) -> Misuse<'_> {
     match words {
         [command, number] if command.as_str() == EXPLAIN => Misuse::Number(number),
         [command, rest @ ..] if takes_rounds(command) => misuse_of_rounds(rest),
+        [command, rest @ ..] if is_serve(command) => misuse_of_serve(rest),
         _ => first_option(words).unwrap_or(Misuse::Missing),
     }
 }
@@ -356,16 +408,77 @@ fn misuse_of_rounds(words: &[String]) -> Misuse<'_> {
     };
     let (front, rest) = words.split_at(place);
     match rest {
-        [_, value, ..] if is_option(value) => Misuse::NoRound,
-        [_, _, back @ ..] if back.iter().any(|word| is_fire(word)) => Misuse::Twice,
+        [_, value, ..] if is_option(value) => Misuse::NoValue(FIRE_SHOWN),
+        [_, _, back @ ..] if back.iter().any(|word| is_fire(word)) => Misuse::Twice(FIRE_SHOWN),
         [_, _, back @ ..] => misuse_of_places(Words { front, back }),
-        _ => Misuse::NoRound,
+        _ => Misuse::NoValue(FIRE_SHOWN),
     }
 }
 
 /// Whether a word is the option `--fire`.
 fn is_fire(word: &str) -> bool {
     word == FIRE
+}
+
+/// What is wrong with words behind `serve`.
+fn misuse_of_serve(words: &[String]) -> Misuse<'_> {
+    let Some(place) = words.iter().position(|word| is_trace(word)) else {
+        return misuse_without_trace(words);
+    };
+    let (front, rest) = words.split_at(place);
+    match rest {
+        [_, value, ..] if is_option(value) => Misuse::NoValue(TRACE_SHOWN),
+        [_, _, back @ ..] if back.iter().any(|word| is_trace(word)) => Misuse::Twice(TRACE_SHOWN),
+        [_, _, back @ ..] => misuse_beside_trace(Words { front, back }),
+        _ => Misuse::NoValue(TRACE_SHOWN),
+    }
+}
+
+/// Whether a word is the option `--trace`.
+fn is_trace(word: &str) -> bool {
+    word == TRACE
+}
+
+/// Whether a word is the flag `--sync`.
+fn is_sync(word: &str) -> bool {
+    word == SYNC
+}
+
+/// The first word that begins with `-`, but is not `--sync`.
+fn first_but_sync(words: &[String]) -> Option<Misuse<'_>> {
+    let word = words.iter().find(|word| is_option(word) && !is_sync(word))?;
+    Some(Misuse::Option(word))
+}
+
+/// What is wrong with words behind `serve` that have no `--trace`.
+fn misuse_without_trace(words: &[String]) -> Misuse<'_> {
+    match first_but_sync(words) {
+        Some(misuse) => misuse,
+        None if words.iter().any(|word| is_sync(word)) => Misuse::SyncAlone,
+        None => Misuse::Missing,
+    }
+}
+
+/// What is wrong with the words beside `--trace` and its value.
+fn misuse_beside_trace(words: Words<'_>) -> Misuse<'_> {
+    if let Some(misuse) = first_but_sync(words.front).or_else(|| first_but_sync(words.back)) {
+        return misuse;
+    }
+    if has_sync_twice(words) {
+        return Misuse::Twice(SYNC);
+    }
+    Misuse::Missing
+}
+
+/// Whether `--sync` stands twice among words.
+fn has_sync_twice(words: Words<'_>) -> bool {
+    words
+        .front
+        .iter()
+        .chain(words.back.iter())
+        .filter(|word| is_sync(word))
+        .nth(1)
+        .is_some()
 }
 
 /// What is wrong with words behind such a command that have no `--fire`.
@@ -401,8 +514,9 @@ fn error_of(
 fn kind_of(misuse: &Misuse<'_>) -> ErrorKind {
     match misuse {
         Misuse::Option(_) => ErrorKind::UnknownArgument,
-        Misuse::NoRound => ErrorKind::InvalidValue,
-        Misuse::Twice => ErrorKind::ArgumentConflict,
+        Misuse::NoValue(_) => ErrorKind::InvalidValue,
+        Misuse::Twice(_) => ErrorKind::ArgumentConflict,
+        Misuse::SyncAlone => ErrorKind::MissingRequiredArgument,
         Misuse::Rounds(_) => ErrorKind::ValueValidation,
         Misuse::Number(_) => ErrorKind::ValueValidation,
         Misuse::NoName => ErrorKind::MissingRequiredArgument,
@@ -414,13 +528,15 @@ fn kind_of(misuse: &Misuse<'_>) -> ErrorKind {
 fn text_of(alloc: Global, misuse: &Misuse<'_>) -> Result<String, AllocError> {
     match misuse {
         Misuse::Option(word) => format!(in alloc; "unexpected argument '{word}' found"),
-        Misuse::NoRound => String::from_str(
-            alloc,
-            "a value is required for '--fire <ROUND>' but none was supplied",
+        Misuse::NoValue(option) => format!(in alloc;
+            "a value is required for '{option}' but none was supplied"
         ),
-        Misuse::Twice => String::from_str(
+        Misuse::Twice(option) => format!(in alloc;
+            "the argument '{option}' cannot be used multiple times"
+        ),
+        Misuse::SyncAlone => String::from_str(
             alloc,
-            "the argument '--fire <ROUND>' cannot be used multiple times",
+            "'--sync' stands only beside '--trace <TRACE>'",
         ),
         Misuse::Rounds(word) => format!(in alloc;
             "invalid value '{word}' for '<ROUNDS>': not a decimal from 1 to {MOST_ROUNDS}"

@@ -1,6 +1,6 @@
 -- Words in two parts, at the first that begins with a digit.
 use Rattle.std.proofs.Common.{arith, ℕ, ◌≡◌, ◌<◌, ◌+◌, inl, inr, List, [], ◌∷◌, ◌++◌, zero, suc, refl, sym, ap, ◌∙◌, subst, map, take, drop, length}
-use Rattle.std.specs.Prelude.{codes, Some, slice_get, String, string_bytes}
+use Rattle.std.specs.Prelude.{Some, slice_get, String, string_bytes}
 use Rattle.std.specs.Global.{Global}
 use Rattle.std.proofs.lemmas.Bool.{cases_lt}
 use Rattle.std.proofs.lemmas.List.{append_assoc}

@@ -1,3 +1,4 @@
 pub mod Messages
 pub mod Requests
 pub mod Presses
+pub mod Servings

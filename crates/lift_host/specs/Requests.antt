@@ -1,5 +1,5 @@
 -- What the words of a command line ask for (own rules).
-use Rattle.std.specs.Prelude.{◌≡◌, ◌⊎◌, ◌≤◌, ◌<◌, ℕ, Bool, true, false, List, [], ◌∷◌, ◌++◌, ◌&&◌, ◌||◌, if◌then◌else◌, length, slice_index, EachIndex, bytes_eq, take, drop, flat_map, codes, map, slice_get, Option, Some, None, option_map, string_bytes}
+use Rattle.std.specs.Prelude.{◌≡◌, ◌⊎◌, ◌≤◌, ◌<◌, ℕ, Bool, true, false, List, [], ◌∷◌, ◌++◌, ◌||◌, if◌then◌else◌, length, slice_index, EachIndex, bytes_eq, take, drop, flat_map, codes, map, slice_get, Option, Some, None, option_map, string_bytes}
 use Rattle.std.specs.Int.{IsInRange}
 use Rattle.std.specs.List.{list_any}
 use Rattle.std.specs.Str.Parse.{digits_value}
@@ -60,9 +60,17 @@ name_of (request.Show command file) = file.now
 name_of (request.Rounds command rounds) = rounds.file.now
 name_of (request.Trace command traced) = traced.file.now
 
+-- none of the words is such a word
+abbrev pub AreNone : (List ℕ → Type 0) → List (List ℕ) → Type 0
+AreNone Is words = (k : ℕ) (word : List ℕ) → slice_get words k ≡ Some word → Is word → ⊥
+
 -- no word is an option
 abbrev pub AreNoOptions : List (List ℕ) → Type 0
-AreNoOptions words = (k : ℕ) (word : List ℕ) → slice_get words k ≡ Some word → IsOption word → ⊥
+AreNoOptions words = AreNone IsOption words
+
+-- no word is this option
+abbrev pub LeaveOut : List ℕ → List (List ℕ) → Type 0
+LeaveOut option words = AreNone (λ word. word ≡ option) words
 
 -- the words of two parts, one behind the other
 abbrev pub words_of : Words → List (List ℕ)
@@ -84,17 +92,17 @@ pub record BeginWithName (words : List (List ℕ)) : Type 0 where
   pub stands : slice_get words 0 ≡ Some name
   pub unnumbered : BeginsWithDigit name → ⊥
 
--- words without `--fire ROUND`, which may stand anywhere among them, and that ROUND
-abbrev pub IsApart : List (List ℕ) → List (List ℕ) → Option (List ℕ) → Type 0
-IsApart rest positional None = rest ≡ positional
-IsApart rest positional (Some value) =
-    (before : List (List ℕ)) × (after : List (List ℕ)) × (rest ≡ before ++ codes "--fire" ∷ value ∷ after) × (positional ≡ before ++ after) × (IsOption value → ⊥)
+-- words without an option and the value behind it, which may stand anywhere among them, and that value
+abbrev pub IsApart : List ℕ → List (List ℕ) → List (List ℕ) → Option (List ℕ) → Type 0
+IsApart option rest positional None = rest ≡ positional
+IsApart option rest positional (Some value) =
+    (before : List (List ℕ)) × (after : List (List ℕ)) × (rest ≡ before ++ option ∷ value ∷ after) × (positional ≡ before ++ after) × (IsOption value → ⊥)
 
 -- FILE and ROUNDS, with any words behind them, and `--fire ROUND` anywhere among them; no other word is an option
 pub record GiveRounds (words : List (List ℕ)) (rounds : Rounds) : Type 0 where
   pub positional : List (List ℕ)
   pub text : List ℕ
-  pub apart : IsApart words positional (option_map (λ value. value.now) rounds.fire)
+  pub apart : IsApart (codes "--fire") words positional (option_map (λ value. value.now) rounds.fire)
   pub parts : positional ≡ rounds.file.now ∷ text ∷ words_of rounds.presses
   pub is_rounds : IsRounds text rounds.rounds
   pub plain : AreNoOptions positional
@@ -104,14 +112,14 @@ pub record IsFile (words : List (List ℕ)) (file : List ℕ) : Type 0 where
   pub are : words ≡ file ∷ []
   pub plain : IsOption file → ⊥
 
--- FILE and `--warn`, in one order or the other
-abbrev pub IsFileBesideWarn : List ℕ → List ℕ → List ℕ → Type 0
-IsFileBesideWarn first second file = (IsOption file → ⊥) × (((first ≡ file) × (second ≡ codes "--warn")) ⊎ ((first ≡ codes "--warn") × (second ≡ file)))
+-- FILE and an option, in one order or the other
+abbrev pub IsFileBeside : List ℕ → List ℕ → List ℕ → List ℕ → Type 0
+IsFileBeside option first second file = (IsOption file → ⊥) × (((first ≡ file) × (second ≡ option)) ⊎ ((first ≡ option) × (second ≡ file)))
 
--- FILE alone, or with `--warn` beside it
-abbrev pub IsChecked : List (List ℕ) → List ℕ → Bool → Type 0
-IsChecked words file false = IsFile words file
-IsChecked words file true = (first : List ℕ) × (second : List ℕ) × (words ≡ first ∷ second ∷ []) × IsFileBesideWarn first second file
+-- FILE alone, or with an option beside it
+abbrev pub IsFileWith : List ℕ → List (List ℕ) → List ℕ → Bool → Type 0
+IsFileWith option words file false = IsFile words file
+IsFileWith option words file true = (first : List ℕ) × (second : List ℕ) × (words ≡ first ∷ second ∷ []) × IsFileBeside option first second file
 
 -- FILE and TRACE, and neither is an option
 pub record AreFiles (words : List (List ℕ)) (file trace : List ℕ) : Type 0 where
@@ -129,7 +137,7 @@ NeedsName simulating.Watch words = BeginWithName words
 -- what a request takes behind its command: `FILE` and maybe `--warn` for check, `FILE` for what shows something of it, `FILE ROUNDS` and
 -- more for a simulation, and `FILE TRACE`
 abbrev pub Takes : List (List ℕ) → Request → Type 0
-Takes words (request.Check checked) = IsChecked words checked.file.now checked.warns
+Takes words (request.Check checked) = IsFileWith (codes "--warn") words checked.file.now checked.warns
 Takes words (request.Show command file) = IsFile words file.now
 Takes words (request.Rounds command rounds) = GiveRounds words rounds × NeedsName command (words_of rounds.presses)
 Takes words (request.Trace command traced) = AreFiles words traced.file.now traced.trace.now
@@ -142,38 +150,53 @@ pub record Asks (words : List (List ℕ)) (request : Request) : Type 0 where
 
 -- WORDS AS THEY ARE READ
 
--- whether the command, the first word but `--explain`, is one that takes `--all`
-abbrev pub takes_all : List (List ℕ) → Bool
-takes_all [] = false
-takes_all (word ∷ words) = if bytes_eq word (codes "--explain") then takes_all words else bytes_eq word (codes "denials")
+-- the flag of a command's own: `--all` of `denials`, `--cut` of `replay` and `draw`
+abbrev pub flag_of : List ℕ → Option (List ℕ)
+flag_of command =
+    if bytes_eq command (codes "denials") then Some (codes "--all")
+    else if bytes_eq command (codes "replay") || bytes_eq command (codes "draw") then Some (codes "--cut")
+    else None
+
+-- the flag of the command of words: this is the first word but `--explain`
+abbrev pub own_flag : List (List ℕ) → Option (List ℕ)
+own_flag [] = None
+own_flag (word ∷ words) = if bytes_eq word (codes "--explain") then own_flag words else flag_of word
 
 -- whether `--explain` is among words
 abbrev pub explains : List (List ℕ) → Bool
 explains words = list_any (λ word. bytes_eq word (codes "--explain")) words
 
--- whether `--all` is
-abbrev pub names_all : List (List ℕ) → Bool
-names_all words = list_any (λ word. bytes_eq word (codes "--all")) words
+-- whether a word is the flag, where there is one
+abbrev pub is_flag : Option (List ℕ) → List ℕ → Bool
+is_flag None word = false
+is_flag (Some flag) word = bytes_eq word flag
 
--- and belongs to their command
-abbrev pub has_all : List (List ℕ) → Bool
-has_all words = takes_all words && names_all words
+-- whether a flag is among words
+abbrev pub names_flag : Option (List ℕ) → List (List ℕ) → Bool
+names_flag flag words = list_any (is_flag flag) words
 
--- a word, or for `--fire=ROUND` two
+-- whether the flag of their command is
+abbrev pub has_flag : List (List ℕ) → Bool
+has_flag words = names_flag (own_flag words) words
+
+-- a word, or for `--fire=ROUND` and `--trace=TRACE` two
 abbrev pub cut_word : List ℕ → List (List ℕ)
-cut_word word = if bytes_eq (take 7 word) (codes "--fire=") then codes "--fire" ∷ drop 7 word ∷ [] else word ∷ []
+cut_word word =
+    if bytes_eq (take 7 word) (codes "--fire=") then codes "--fire" ∷ drop 7 word ∷ []
+    else if bytes_eq (take 8 word) (codes "--trace=") then codes "--trace" ∷ drop 8 word ∷ []
+    else word ∷ []
 
--- the words in place of a word: none for `--explain`, and none for `--all` where the command takes it
-abbrev pub plain_word : Bool → List ℕ → List (List ℕ)
-plain_word all word = if bytes_eq word (codes "--explain") || (all && bytes_eq word (codes "--all")) then [] else cut_word word
+-- the words in place of a word: none for `--explain`, and none for the flag of the command
+abbrev pub plain_word : Option (List ℕ) → List ℕ → List (List ℕ)
+plain_word flag word = if bytes_eq word (codes "--explain") || is_flag flag word then [] else cut_word word
 
 -- the words as they are read
 abbrev pub plain_words : List (List ℕ) → List (List ℕ)
-plain_words words = flat_map (plain_word (takes_all words)) words
+plain_words words = flat_map (plain_word (own_flag words)) words
 
--- a request that shows all
-abbrev pub with_all : Bool → Request → Request
-with_all all (request.Check checked) = request.Check checked
-with_all all (request.Show command file) = request.Show command file
-with_all all (request.Rounds command rounds) = request.Rounds command (record rounds { all = all })
-with_all all (request.Trace command traced) = request.Trace command traced
+-- a request whose command's flag stands among the words, or not
+abbrev pub with_flag : Bool → Request → Request
+with_flag flag (request.Check checked) = request.Check checked
+with_flag flag (request.Show command file) = request.Show command file
+with_flag flag (request.Rounds command rounds) = request.Rounds command (record rounds { all = flag })
+with_flag flag (request.Trace command traced) = request.Trace command (record traced { cut = flag })

@@ -5,4 +5,5 @@
 pub mod files;
 pub mod press;
 pub mod request;
+pub mod serving;
 pub mod status;

@@ -1,7 +1,7 @@
 // What the words ask for.
 
-ghost use Rattle.std.specs.Prelude.{◌≡◌, ◌≤◌, ◌<◌, ◌∷◌, ◌++◌, ◌↔◌, [], ℕ, Bool, List, Option, Some, true, false, IfSome, IfOk, IsNone, IsTrue, OnOk, codes, bytes_eq, flat_map, length, map, option_map, slice_get, string_bytes};
-ghost use Rattle.lift_host.specs.Requests.{IsNumberTo, IsDigits, IsOption, AreNoOptions, IsApart, IsFile, IsFileBesideWarn, IsChecked, AreFiles, GiveRounds, Takes, Asks, BeginsWithDigit, BeginWithName, NeedsName, AreNamesFirst, plain_words, plain_word, cut_word, takes_all, explains, names_all, has_all, with_all, command_of, name_of, word_of, words_of};
+ghost use Rattle.std.specs.Prelude.{◌≡◌, ◌≤◌, ◌<◌, ◌∷◌, ◌++◌, ◌↔◌, [], ℕ, Bool, List, Option, Some, true, false, IfSome, IfOk, IsNone, IsTrue, MatchOption, OnOk, codes, bytes_eq, flat_map, length, map, option_map, slice_get, string_bytes};
+ghost use Rattle.lift_host.specs.Requests.{IsNumberTo, IsDigits, IsOption, AreNoOptions, LeaveOut, IsApart, IsFile, IsFileBeside, IsFileWith, AreFiles, GiveRounds, Takes, Asks, BeginsWithDigit, BeginWithName, NeedsName, AreNamesFirst, plain_words, plain_word, cut_word, flag_of, own_flag, is_flag, explains, names_flag, has_flag, with_flag, command_of, name_of, word_of, words_of};
 ghost use Rattle.lift_host.specs.declared.request.Name.{Name};
 ghost use Rattle.lift_host.specs.declared.request.Request.{Request};
 ghost use Rattle.lift_host.specs.declared.request.Rounds.{Rounds};
@@ -17,8 +17,17 @@ pub const FIRE: &str = "--fire";
 /// The same option, where its value stands in one word with it.
 const FIRE_IS: &str = "--fire=";
 
-/// The option of `denials` that has it show all denials.
+/// The option of `serve` whose value is the name of the trace that it writes.
+pub const TRACE: &str = "--trace";
+
+/// The same option, where its value stands in one word with it.
+const TRACE_IS: &str = "--trace=";
+
+/// The flag of `denials` that has it show all denials.
 const ALL: &str = "--all";
+
+/// The flag of `replay` and `draw` that has them take a trace up to its last whole line.
+const CUT: &str = "--cut";
 
 /// The option of every command that has a refusal of a text shown with the text's line and the number's meaning.
 const EXPLAIN: &str = "--explain";
@@ -102,6 +111,8 @@ pub struct Rounds<'w> {
 pub struct Traced<'w> {
     pub file: &'w str,
     pub trace: &'w str,
+    /// Whether the trace may be cut off, and is taken up to its last whole line.
+    pub cut: bool,
 }
 
 /// What the words ask for.
@@ -136,6 +147,16 @@ impl Name {
 }
 
 impl<'w> Words<'w> {
+    /// Words in one part.
+    pub fn of(words: &'w [String]) -> Words<'w>
+        ensures { words_of result ≡ map string_bytes words.now }
+    {
+        Words {
+            front: words,
+            back: &[],
+        }
+    }
+
     /// How many they are.
     pub fn len(self) -> usize
         ensures { result ≡ length (words_of self.entry) }
@@ -198,12 +219,29 @@ impl<'w> Words<'w> {
 }
 
 impl<'w> Request<'w> {
-    /// The same, where `denials` is to show all.
-    pub fn with_all(self, all: bool) -> Request<'w>
-        ensures { result ≡ with_all all self.entry }
+    /// The same, with the flag of its command's own or without: `denials` is to show all, a trace may be cut off.
+    pub fn with_flag(self, flag: bool) -> Request<'w>
+        ensures { result ≡ with_flag flag self.entry }
     {
         match self {
-            Request::Rounds(command, rounds) => Request::Rounds(command, Rounds { all, ..rounds }),
+            Request::Rounds(command, rounds) => {
+                Request::Rounds(
+                    command,
+                    Rounds {
+                        all: flag,
+                        ..rounds
+                    },
+                )
+            }
+            Request::Trace(command, traced) => {
+                Request::Trace(
+                    command,
+                    Traced {
+                        cut: flag,
+                        ..traced
+                    },
+                )
+            }
             _ => self,
         }
     }
@@ -282,42 +320,69 @@ fn file_alone(rest: &[String]) -> Option<&str>
     }
 }
 
-/// Whether a word is the option `--warn`.
-fn is_warn(word: &str) -> bool
-    ensures { IsTrue result ↔ (word.now ≡ codes "--warn") }
-{
-    word == WARN
+/// FILE, and whether an option stands beside it.
+#[derive(Clone, Copy)]
+pub(crate) struct FileWith<'w> {
+    pub(crate) file: &'w str,
+    pub(crate) has_option: bool,
 }
 
-/// FILE, where it is the one of two words beside which `--warn` stands.
-fn file_beside_warn<'w>(first: &'w str, second: &'w str) -> Option<&'w str>
-    ensures some { IfSome result (λ file. IsFileBesideWarn first.now second.now file.now) }
-    ensures none { IsNone result → (file : List ℕ) → IsFileBesideWarn first.now second.now file → ⊥ }
+/// FILE, where it is the one of two words beside which the option stands.
+fn file_beside<'w>(option: &str, first: &'w str, second: &'w str) -> Option<&'w str>
+    ensures some { IfSome result (λ file. IsFileBeside option.now first.now second.now file.now) }
+    ensures none { IsNone result → (file : List ℕ) → IsFileBeside option.now first.now second.now file → ⊥ }
 {
-    if is_warn(second) && !is_option(first) {
+    if second == option && !is_option(first) {
         return Some(first);
     }
-    if is_warn(first) && !is_option(second) {
+    if first == option && !is_option(second) {
         return Some(second);
     }
     None
 }
 
+/// FILE, where it is the one word or the option stands beside it.
+pub(crate) fn file_with<'w>(option: &str, words: Words<'w>) -> Option<FileWith<'w>>
+    ensures some { IfSome result (λ found. IsFileWith option.now (words_of words.entry) found.file.now found.has_option) }
+    ensures none { IsNone result → (file : List ℕ) (has_option : Bool) → IsFileWith option.now (words_of words.entry) file has_option → ⊥ }
+{
+    let (first, rest) = words.split_first()?;
+    let Some((second, rest)) = rest.split_first() else {
+        return file_without_option(first);
+    };
+    if rest.split_first().is_some() {
+        return None;
+    }
+    Some(FileWith {
+        file: file_beside(option, first, second)?,
+        has_option: true,
+    })
+}
+
+/// FILE, where the one word is no option.
+fn file_without_option(word: &str) -> Option<FileWith<'_>>
+    ensures some { IfSome result (λ found. (found.file.now ≡ word.now) × (found.has_option ≡ false) × (IsOption word.now → ⊥)) }
+    ensures none { IsNone result → IsOption word.now }
+{
+    if is_option(word) {
+        return None;
+    }
+    Some(FileWith {
+        file: word,
+        has_option: false,
+    })
+}
+
 /// FILE, where it is the one word or stands beside `--warn`.
 fn check_given(rest: &[String]) -> Option<Checked<'_>>
-    ensures some { IfSome result (λ checked. IsChecked (map string_bytes rest.now) checked.file.now checked.warns) }
-    ensures none { IsNone result → (file : List ℕ) (warns : Bool) → IsChecked (map string_bytes rest.now) file warns → ⊥ }
+    ensures some { IfSome result (λ checked. IsFileWith (codes "--warn") (map string_bytes rest.now) checked.file.now checked.warns) }
+    ensures none { IsNone result → (file : List ℕ) (warns : Bool) → IsFileWith (codes "--warn") (map string_bytes rest.now) file warns → ⊥ }
 {
-    match rest {
-        [first, second] => Some(Checked {
-            file: file_beside_warn(first, second)?,
-            warns: true,
-        }),
-        _ => Some(Checked {
-            file: file_alone(rest)?,
-            warns: false,
-        }),
-    }
+    let FileWith { file, has_option } = file_with(WARN, Words::of(rest))?;
+    Some(Checked {
+        file,
+        warns: has_option,
+    })
 }
 
 /// FILE and TRACE, where they are the two words.
@@ -326,7 +391,11 @@ fn trace_given(rest: &[String]) -> Option<Traced<'_>>
     ensures none { IsNone result → (file trace : List ℕ) → AreFiles (map string_bytes rest.now) file trace → ⊥ }
 {
     match rest {
-        [file, trace] if !is_option(file) && !is_option(trace) => Some(Traced { file, trace }),
+        [file, trace] if !is_option(file) && !is_option(trace) => Some(Traced {
+            file,
+            trace,
+            cut: false,
+        }),
         _ => None,
     }
 }
@@ -337,7 +406,7 @@ fn rounds_given(rest: &[String]) -> Option<Rounds<'_>>
     ensures only { IfSome result (λ found. (rounds : Rounds) → GiveRounds (map string_bytes rest.now) rounds → words_of rounds.presses ≡ words_of found.presses) }
     ensures none { IsNone result → (rounds : Rounds) → GiveRounds (map string_bytes rest.now) rounds → ⊥ }
 {
-    let WordsApart { positional, fire } = apart(rest)?;
+    let WordsApart { positional, value } = fire_apart(rest)?;
     let (file, behind) = positional.split_first()?;
     let (rounds, presses) = behind.split_first()?;
     let rounds = number_to(MOST_ROUNDS, rounds)?;
@@ -345,7 +414,7 @@ fn rounds_given(rest: &[String]) -> Option<Rounds<'_>>
         file,
         rounds,
         presses,
-        fire,
+        fire: value,
         all: false,
     })
 }
@@ -385,41 +454,71 @@ fn begin_with_name(words: Words<'_>) -> bool
     }
 }
 
-/// The words behind such a command that stand in places, and the word behind `--fire`.
-struct WordsApart<'w> {
-    positional: Words<'w>,
-    fire: Option<&'w str>,
+/// Words without an option and the value behind it, and that value.
+#[derive(Clone, Copy)]
+pub(crate) struct WordsApart<'w> {
+    pub(crate) positional: Words<'w>,
+    pub(crate) value: Option<&'w str>,
 }
 
 /// The words behind such a command apart, where they have no other option and a word behind `--fire`.
-fn apart(rest: &[String]) -> Option<WordsApart<'_>>
-    ensures some { IfSome result (λ apart. IsApart (map string_bytes rest.now) (words_of apart.positional) (option_map (λ value. value.now) apart.fire)) }
+fn fire_apart(rest: &[String]) -> Option<WordsApart<'_>>
+    ensures some { IfSome result (λ apart. IsApart (codes "--fire") (map string_bytes rest.now) (words_of apart.positional) (option_map (λ value. value.now) apart.value)) }
     ensures plain { IfSome result (λ apart. AreNoOptions (words_of apart.positional)) }
-    ensures only { IfSome result (λ apart. (positional : List (List ℕ)) (fire : Option (List ℕ)) → IsApart (map string_bytes rest.now) positional fire → AreNoOptions positional → positional ≡ words_of apart.positional) }
-    ensures none { IsNone result → (positional : List (List ℕ)) (fire : Option (List ℕ)) → IsApart (map string_bytes rest.now) positional fire → AreNoOptions positional → ⊥ }
+    ensures only { IfSome result (λ apart. (positional : List (List ℕ)) (value : Option (List ℕ)) → IsApart (codes "--fire") (map string_bytes rest.now) positional value → AreNoOptions positional → positional ≡ words_of apart.positional) }
+    ensures none { IsNone result → (positional : List (List ℕ)) (value : Option (List ℕ)) → IsApart (codes "--fire") (map string_bytes rest.now) positional value → AreNoOptions positional → ⊥ }
 {
-    let (front, rest) = rest.split_at(first_option(rest));
-    let Some((option, rest)) = rest.split_first() else {
+    let parts = apart(FIRE, rest)?;
+    if has_option(parts.positional.front) || has_option(parts.positional.back) {
+        return None;
+    }
+    Some(parts)
+}
+
+/// Words apart at the first place of an option, where a value stands behind it that is none.
+pub(crate) fn apart<'w>(option: &str, words: &'w [String]) -> Option<WordsApart<'w>>
+    ensures some { IfSome result (λ apart. IsApart option.now (map string_bytes words.now) (words_of apart.positional) (option_map (λ value. value.now) apart.value)) }
+    ensures only { IfSome result (λ apart. (positional : List (List ℕ)) (value : Option (List ℕ)) → IsApart option.now (map string_bytes words.now) positional value → LeaveOut option.now positional → (positional ≡ words_of apart.positional) × (value ≡ option_map (λ value. value.now) apart.value)) }
+    ensures none { IsNone result → (positional : List (List ℕ)) (value : Option (List ℕ)) → IsApart option.now (map string_bytes words.now) positional value → LeaveOut option.now positional → ⊥ }
+{
+    let (front, rest) = words.split_at(first_of(option, words));
+    let Some((_, rest)) = rest.split_first() else {
         return Some(WordsApart {
             positional: Words { front, back: rest },
-            fire: None,
+            value: None,
         });
     };
     let (value, back) = rest.split_first()?;
-    if !is_fire(option) || is_option(value) || has_option(back) {
+    if is_option(value) {
         return None;
     }
     Some(WordsApart {
         positional: Words { front, back },
-        fire: Some(value),
+        value: Some(value),
     })
 }
 
-/// Whether a word is the option `--fire`.
-fn is_fire(word: &str) -> bool
-    ensures { IsTrue result ↔ (word.now ≡ codes "--fire") }
+/// Whether two words are the same.
+fn is_same(word: &str, other: &str) -> bool
+    ensures { IsTrue result ↔ (word.now ≡ other.now) }
 {
-    word == FIRE
+    word == other
+}
+
+/// How many words stand before the first that is the option.
+fn first_of(option: &str, words: &[String]) -> usize
+    ensures within { result ≤ length words.now }
+    ensures before { (k : ℕ) (word : List ℕ) → k < result → slice_get (map string_bytes words.now) k ≡ Some word → word ≡ option.now → ⊥ }
+    ensures at { (word : List ℕ) → slice_get (map string_bytes words.now) result ≡ Some word → word ≡ option.now }
+{
+    let mut place = 0;
+    'words: for word in words {
+        if is_same(word, option) {
+            return place;
+        }
+        place += 1;
+    }
+    place
 }
 
 /// Whether one of the words is an option.
@@ -476,55 +575,63 @@ fn is_explain(word: &str) -> bool
     word == EXPLAIN
 }
 
-/// Whether a word is the option `--all`.
-fn is_all(word: &str) -> bool
-    ensures { result ≡ bytes_eq word.now (codes "--all") }
-{
-    word == ALL
-}
-
-/// The words of a command line as they are read, and the options that may stand anywhere among them.
+/// The words of a command line as they are read, and the flags that may stand anywhere among them.
 #[derive(Drop)]
 pub struct Plain {
-    /// The words without `--explain`, and those of `denials` without `--all`; for `--fire=ROUND` stand two words.
+    /// The words without `--explain` and the flag of their command; for `--fire=ROUND` and `--trace=TRACE` stand two words.
     pub words: Vec<String>,
     /// Whether `--explain` was among them.
     pub explains: bool,
-    /// Whether `--all` was among those of `denials`.
-    pub all: bool,
+    /// Whether the flag of their command was: `--all` of `denials`, `--cut` of `replay` and `draw`.
+    pub flag: bool,
 }
 
 /// Words as they are read.
 pub fn read_words(alloc: Global, words: &[String]) -> Result<Plain, AllocError>
     ensures words { IfOk result (λ plain. map string_bytes plain.words.items ≡ plain_words (map string_bytes words.now)) }
     ensures explains { IfOk result (λ plain. plain.explains ≡ explains (map string_bytes words.now)) }
-    ensures all { IfOk result (λ plain. plain.all ≡ has_all (map string_bytes words.now)) }
+    ensures flag { IfOk result (λ plain. plain.flag ≡ has_flag (map string_bytes words.now)) }
 {
-    let takes_all = takes_all(words);
+    let flag = own_flag(words);
     Ok(Plain {
-        words: plain_words(alloc, words, takes_all)?,
+        words: plain_words(alloc, words, flag)?,
         explains: explains(words),
-        all: takes_all && names_all(words),
+        flag: names_flag(flag, words),
     })
 }
 
-/// Whether the command is one that takes `--all`.
-fn takes_all(words: &[String]) -> bool
-    ensures { result ≡ takes_all (map string_bytes words.now) }
+/// The flag of the words' command.
+fn own_flag(words: &[String]) -> Option<&'static str>
+    ensures { option_map (λ flag. flag.now) result ≡ own_flag (map string_bytes words.now) }
 {
     'words: for word in words {
         if !is_explain(word) {
-            return is_denials(word);
+            return flag_of(word);
         }
     }
-    false
+    None
 }
 
-/// Whether a word is the command `denials`.
-fn is_denials(word: &str) -> bool
-    ensures { result ≡ bytes_eq word.now (codes "denials") }
+/// The flag of a command's own.
+fn flag_of(command: &str) -> Option<&'static str>
+    ensures { option_map (λ flag. flag.now) result ≡ flag_of command.now }
 {
-    word == "denials"
+    match command {
+        "denials" => Some(ALL),
+        "replay" => Some(CUT),
+        "draw" => Some(CUT),
+        _ => None,
+    }
+}
+
+/// Whether a word is the flag, where there is one.
+fn is_flag(flag: Option<&str>, word: &str) -> bool
+    ensures { result ≡ is_flag (option_map (λ flag. flag.now) flag.entry) word.now }
+{
+    match flag {
+        Some(flag) => word == flag,
+        None => false,
+    }
 }
 
 /// Whether `--explain` is one of the words.
@@ -539,12 +646,12 @@ fn explains(words: &[String]) -> bool
     false
 }
 
-/// Whether `--all` is one of the words.
-fn names_all(words: &[String]) -> bool
-    ensures { result ≡ names_all (map string_bytes words.now) }
+/// Whether the flag is one of the words.
+fn names_flag(flag: Option<&str>, words: &[String]) -> bool
+    ensures { result ≡ names_flag (option_map (λ flag. flag.now) flag.entry) (map string_bytes words.now) }
 {
     'words: for word in words {
-        if is_all(word) {
+        if is_flag(flag, word) {
             return true;
         }
     }
@@ -552,12 +659,16 @@ fn names_all(words: &[String]) -> bool
 }
 
 /// The words in place of each word.
-fn plain_words(alloc: Global, words: &[String], takes_all: bool) -> Result<Vec<String>, AllocError>
-    ensures { IfOk result (λ plain. map string_bytes plain.items ≡ flat_map (plain_word takes_all) (map string_bytes words.now)) }
+fn plain_words(
+    alloc: Global,
+    words: &[String],
+    flag: Option<&str>,
+) -> Result<Vec<String>, AllocError>
+    ensures { IfOk result (λ plain. map string_bytes plain.items ≡ flat_map (plain_word (option_map (λ flag. flag.now) flag.entry)) (map string_bytes words.now)) }
 {
     let mut plain = Vec::new(alloc);
     'words: for word in words {
-        add_plain(alloc, &mut plain, word, takes_all)?;
+        add_plain(alloc, &mut plain, word, flag)?;
     }
     Ok(plain)
 }
@@ -567,14 +678,21 @@ fn add_plain(
     alloc: Global,
     plain: &mut Vec<String>,
     word: &str,
-    takes_all: bool,
+    flag: Option<&str>,
 ) -> Result<(), AllocError>
-    ensures { OnOk result (map string_bytes plain.new.items ≡ map string_bytes plain.old.items ++ plain_word takes_all word.now) }
+    ensures { OnOk result (map string_bytes plain.new.items ≡ map string_bytes plain.old.items ++ plain_word (option_map (λ flag. flag.now) flag.entry) word.now) }
 {
-    if is_explain(word) || (takes_all && is_all(word)) {
+    if is_explain(word) || is_flag(flag, word) {
         return Ok(());
     }
     add_word(alloc, plain, word)
+}
+
+/// An option and its value.
+#[derive(Clone, Copy)]
+struct Valued<'w> {
+    option: &'static str,
+    value: &'w str,
 }
 
 /// The ROUND of `--fire=ROUND`.
@@ -585,14 +703,39 @@ fn round_behind(word: &str) -> Option<&str>
     word.strip_prefix(FIRE_IS)
 }
 
-/// Adds a word; two for `--fire=ROUND`.
+/// The TRACE of `--trace=TRACE`.
+fn trace_behind(word: &str) -> Option<&str>
+    ensures some { IfSome result (λ trace. word.now ≡ codes "--trace=" ++ trace.now) }
+    ensures none { IsNone result → (trace : List ℕ) → word.now ≡ codes "--trace=" ++ trace → ⊥ }
+{
+    word.strip_prefix(TRACE_IS)
+}
+
+/// The option and the value that stand in one word.
+fn value_within(word: &str) -> Option<Valued<'_>>
+    ensures { MatchOption result (cut_word word.now ≡ word.now ∷ []) (λ valued. cut_word word.now ≡ valued.option.now ∷ valued.value.now ∷ []) }
+{
+    if let Some(round) = round_behind(word) {
+        return Some(Valued {
+            option: FIRE,
+            value: round,
+        });
+    }
+    let trace = trace_behind(word)?;
+    Some(Valued {
+        option: TRACE,
+        value: trace,
+    })
+}
+
+/// Adds a word; two for an option with its value.
 fn add_word(alloc: Global, plain: &mut Vec<String>, word: &str) -> Result<(), AllocError>
     ensures { OnOk result (map string_bytes plain.new.items ≡ map string_bytes plain.old.items ++ cut_word word.now) }
 {
-    match round_behind(word) {
-        Some(round) => {
-            push_word(alloc, plain, FIRE)?;
-            push_word(alloc, plain, round)
+    match value_within(word) {
+        Some(valued) => {
+            push_word(alloc, plain, valued.option)?;
+            push_word(alloc, plain, valued.value)
         }
         None => push_word(alloc, plain, word),
     }

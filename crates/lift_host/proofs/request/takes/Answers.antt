@@ -1,5 +1,6 @@
 use Rattle.std.proofs.Common.{◌≡◌, ℕ, Bool, List, subst}
-use Rattle.lift_host.specs.Requests.{IsFile, IsChecked, AreFiles, GiveRounds, NeedsName, Takes, command_of, words_of}
+use Rattle.std.specs.Prelude.{codes}
+use Rattle.lift_host.specs.Requests.{IsFile, IsFileWith, AreFiles, GiveRounds, NeedsName, Takes, command_of, words_of}
 use Rattle.lift_host.specs.declared.request.Following.{Following}
 use Rattle.lift_host.specs.declared.request.Name.TheVariants as name
 use Rattle.lift_host.specs.declared.request.Request.{Request}
@@ -8,7 +9,7 @@ use Rattle.lift_host.specs.declared.request.Rounds.{Rounds}
 use Rattle.lift_host.specs.declared.request.Showing.{Showing}
 use Rattle.lift_host.specs.declared.request.Simulating.{Simulating}
 
-no_check : (words : List (List ℕ)) → ((file : List ℕ) (warns : Bool) → IsChecked words file warns → ⊥) → (r : Request) → command_of r ≡ name.Check → Takes words r → ⊥
+no_check : (words : List (List ℕ)) → ((file : List ℕ) (warns : Bool) → IsFileWith (codes "--warn") words file warns → ⊥) → (r : Request) → command_of r ≡ name.Check → Takes words r → ⊥
 no_check words none (request.Check checked) is takes = none checked.file.now checked.warns takes
 no_check words none (request.Show command file) is takes = cc
 no_check words none (request.Rounds command rounds) is takes = cc

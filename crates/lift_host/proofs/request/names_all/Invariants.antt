@@ -1,7 +1,0 @@
-use Rattle.std.proofs.Common.{◌≡◌, drop, map, string_bytes}
-use Rattle.lift_host.specs.Requests.{names_all}
-use Rattle.lift_host.proofs.request.names_all.Given as goal
-
--- the words that are left tell
-abbrev pub invariant-words : goal.invariant-words
-invariant-words l = names_all (map string_bytes l.words) ≡ names_all (map string_bytes (drop l.word-index l.words))
