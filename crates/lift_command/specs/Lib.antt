@@ -1,2 +1,3 @@
 pub mod Loaded
 pub mod Runs
+pub mod Servings

@@ -8,7 +8,7 @@ ghost use Rattle.lift_spec.specs.Image.{sizes_of, FieldsInRange, Obeys};
 ghost use Rattle.lift_sink.specs.Writes.{AppendsFront};
 ghost use Rattle.lift_trace.specs.Text.{last_line};
 ghost use Rattle.lift_trace.specs.Writing.{events_text};
-ghost use Rattle.lift_journal.specs.Rounds.{counting_from, tasks_in_order};
+ghost use Rattle.lift_journal.specs.Rounds.{TakesAll, counting_from};
 ghost use Rattle.lift_serve.specs.Saying.{scan_events, events_of, Says, IsTaken};
 ghost use Rattle.lift_serve.specs.Answers.{Acts, outputs_line};
 ghost use Rattle.lift_serve.specs.Serving.{IsServer, Hears, Unheard, traced_text, record_text, is_end};
@@ -131,8 +131,13 @@ fn put_said(
             put_line(traced, line)?;
             traced.extend_from_slice(scans)
         }
-        Said::Press(call) if is_call(*call, sizes) => put_line(traced, line),
-        Said::Press(_) => Ok(()),
+        Said::Press(call) => {
+            if is_call(*call, sizes) {
+                put_line(traced, line)
+            } else {
+                Ok(())
+            }
+        }
         Said::End => put_end(traced, count),
     }
 }
@@ -177,8 +182,7 @@ impl Server {
             Said::Round(_) => {
                 u64::from(self.world.sizes().floors) + (1 + 2 * self.tasks.len() as u64)
             }
-            Said::Press(call) if is_call(*call, self.world.sizes()) => 1,
-            Said::Press(_) => 0,
+            Said::Press(call) => u64::from(is_call(*call, self.world.sizes())),
             Said::End => 0,
         }
     }
@@ -269,6 +273,8 @@ impl Server {
         ensures same { self.new.world.program ≡ self.old.world.program }
         ensures stop { self.new.stop ≡ self.old.stop }
         ensures server { OnOk result (IsServer self.new) }
+        // the events that are traced of the line lead to the world behind it
+        ensures replays { OnOk result ((said : SaidOf) × Says self.old.world.program.config line.now said × TakesAll self.old.world.program.config self.old.world.world (events_of self.old.world.program.config said) self.new.world.world) }
         ensures ranges { OnOk result (FieldsInRange (sizes_of self.old.world.program.config) self.new.world.world.group.image.fields) }
         ensures obeys { OnOk result (Obeys self.new.world.world.group.image) }
     {

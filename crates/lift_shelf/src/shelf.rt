@@ -70,6 +70,14 @@ impl Shelf {
         Ok(())
     }
 
+    /// The bytes of a file; none where it is missing.
+    pub fn bytes(&self, name: &str) -> &[u8] {
+        match self.named(name) {
+            Some(file) => file.bytes.as_slice(),
+            None => &[],
+        }
+    }
+
     /// Adds all bytes of another file.
     pub fn include(&mut self, name: &str) -> io::Result<()> {
         let other = match self.named(name) {

@@ -46,7 +46,7 @@ pub fn show<O: Sink, E: Sink>(
 }
 
 /// Writes what the program says of a fault, and a text below that.
-fn tell<E: Sink>(fault: &Fault, below: &[u8], err: &mut E)
+pub fn tell<E: Sink>(fault: &Fault, below: &[u8], err: &mut E)
     ensures { Writes (E.contents err.old) (E.contents err.new) (E.has_failed err.new) (message_of fault.now ++ below.now) }
 {
     if fault.put(err).is_ok() {

@@ -1,15 +1,20 @@
 // The cases, and the transcript of their runs.
 
-use lift_command::program::tried;
+use lift_command::program::{Outcome, tried};
 use lift_shelf::line::{Line, line_of};
 use lift_shelf::shelf::Shelf;
 use lift_shelf::words::words_of;
-use lift_shell::entry::Outcome;
-use std::alloc::{AllocError, Global};
+use std::alloc::Global;
 use std::io::Write;
 use std::sync::Wait;
 use std::thread::Threads;
 use std::{io, str};
+
+/// The file that is the standard input of a run.
+const INPUT: &str = "input";
+
+/// The file that has the trace which the last run of `serve` wrote, if it wrote one.
+const TRACE: &str = "traced";
 
 /// What the lines so far have made: the files, and how many bytes the standard output of the next
 /// run takes.
@@ -70,10 +75,15 @@ impl Cases {
         &mut self,
         rt: &R,
         line: &str,
-    ) -> Result<Outcome, AllocError> {
+    ) -> io::Result<Outcome> {
         let words = words_of(self.alloc, line)?;
-        let left = tried(rt, self.alloc, &words, &self.shelf, self.limit);
+        let input = self.shelf.bytes(INPUT);
+        let left = tried(rt, self.alloc, &words, &self.shelf, input, self.limit);
         self.limit = usize::MAX;
+        if let Some(bytes) = left.trace.bytes() {
+            self.shelf.begin(TRACE, false)?;
+            self.shelf.add(bytes)?;
+        }
         Ok(left)
     }
 }

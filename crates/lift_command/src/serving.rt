@@ -1,0 +1,231 @@
+// `serve`: a configuration behind lines.
+
+ghost use Rattle.std.specs.Prelude.{◌≡◌, OnOk};
+ghost use Rattle.std.specs.Io.KnownBytes.{Consumes};
+ghost use Rattle.lift_sink.specs.Writes.{Writes};
+ghost use Rattle.lift_command.specs.Servings.{IsNew, IsServeAnswer, IsTextAnswer, IsLoadedAnswer, IsRefusalBelow, IsRefusedAnswer, IsUnreadAnswer, fault_of_halt, fault_of_input, fault_of_line, fault_of_stop, fault_of_wrong, shown_line};
+
+use il_machine::Verified;
+use lift_host::files::{Cause, ReadFault, TextFiles};
+use lift_host::serving::{Serving, Tracing};
+use lift_host::status::{Fault, Status};
+use lift_load::load;
+use lift_serve::group::{Halt, serve_group};
+use lift_serve::input::Came;
+use lift_serve::said::WrongLine;
+use lift_serve::serve::Stop;
+use lift_serve::server::ServeFault;
+use lift_shell::run::{MOST_BYTES, or_nothing, unread_below};
+use lift_show::show::tell;
+use lift_sink::sink::{Sink, SinkFault};
+use lift_source::place::below;
+use std::alloc::Global;
+use std::io::Read;
+
+/// Where events are written as they come. Until it is created, what is put there is lost.
+pub trait TraceSink: Sink {
+    /// Creates the trace of a name, which must not be there. With `sync` each piece waits for the disk.
+    fn create(&mut self, name: &str, sync: bool) -> Result<(), SinkFault>
+        ensures { OnOk result (IsNew (Self.contents self.new)) };
+}
+
+/// Serves the configuration of FILE: each line of the input is answered before the next is read, and its events are written to the trace, if one
+/// is wanted, before anything of it happens. Where serving ends otherwise than by `E`, the stop is the last line that is written, unless the
+/// output failed, and the standard error has the one message. Of a FILE that is refused no line is read or written.
+pub fn serve<F: TextFiles, T: TraceSink, I: Read, O: Sink, E: Sink>(
+    alloc: Global,
+    serving: Serving<'_>,
+    files: &F,
+    explains: bool,
+    trace: &mut T,
+    input: &mut I,
+    out: &mut O,
+    err: &mut E,
+) -> Status
+    ensures { IsServeAnswer (F.gives files.now) (F.fails files.now) explains serving.entry (Consumes (I.remaining input.old) (I.remaining input.new)) (O.contents out.old) (O.contents out.new) (O.has_failed out.new) (T.contents trace.old) (T.contents trace.new) (Writes (E.contents err.old) (E.contents err.new) (E.has_failed err.new)) (E.contents err.new ≡ E.contents err.old) result }
+{
+    match files.read(alloc, serving.file, MOST_BYTES) {
+        Ok(text) => serve_text(
+            alloc, serving, &text, explains, trace, input, out, err,
+        ),
+        Err(why) => tell_unread(alloc, serving.file, why, explains, err),
+    }
+}
+
+/// Says that FILE can't be read.
+fn tell_unread<E: Sink>(
+    alloc: Global,
+    name: &str,
+    why: ReadFault,
+    explains: bool,
+    err: &mut E,
+) -> Status
+    ensures { IsUnreadAnswer explains name.now why (Writes (E.contents err.old) (E.contents err.new) (E.has_failed err.new)) result }
+{
+    let below = unread_below(alloc, name, why, explains);
+    let fault = Fault::from(why);
+    tell(&fault, &below, err);
+    fault.status()
+}
+
+/// Serves what was read of FILE, or says why it is refused.
+fn serve_text<T: TraceSink, I: Read, O: Sink, E: Sink>(
+    alloc: Global,
+    serving: Serving<'_>,
+    text: &[u8],
+    explains: bool,
+    trace: &mut T,
+    input: &mut I,
+    out: &mut O,
+    err: &mut E,
+) -> Status
+    ensures { IsTextAnswer explains serving.entry text.now (Consumes (I.remaining input.old) (I.remaining input.new)) (O.contents out.old) (O.contents out.new) (O.has_failed out.new) (T.contents trace.old) (T.contents trace.new) (Writes (E.contents err.old) (E.contents err.new) (E.has_failed err.new)) (E.contents err.new ≡ E.contents err.old) result }
+{
+    match load(alloc, text) {
+        Ok(verified) => serve_loaded(
+            alloc,
+            verified,
+            serving.trace,
+            trace,
+            input,
+            out,
+            err,
+        ),
+        Err(refusal) => tell_refused(
+            alloc,
+            serving.file,
+            text,
+            refusal.into(),
+            explains,
+            err,
+        ),
+    }
+}
+
+/// Says why FILE is refused.
+fn tell_refused<E: Sink>(
+    alloc: Global,
+    name: &str,
+    text: &[u8],
+    fault: Fault,
+    explains: bool,
+    err: &mut E,
+) -> Status
+    ensures { IsRefusedAnswer explains name.now text.now fault (Writes (E.contents err.old) (E.contents err.new) (E.has_failed err.new)) result }
+{
+    let below = refusal_below(alloc, name, text, &fault, explains);
+    tell(&fault, &below, err);
+    fault.status()
+}
+
+/// What stands below a refusal of FILE, where that is wanted.
+fn refusal_below(alloc: Global, name: &str, text: &[u8], fault: &Fault, wanted: bool) -> Vec<u8>
+    ensures { IsRefusalBelow wanted name.now text.now fault.now result.items }
+{
+    match fault {
+        Fault::Refused { number, line } => {
+            if wanted {
+                or_nothing(alloc, below(alloc, name, text, *number, *line))
+            } else {
+                Vec::new(alloc)
+            }
+        }
+        _ => Vec::new(alloc),
+    }
+}
+
+/// Serves a configuration, once its trace is created, if one is wanted.
+fn serve_loaded<T: TraceSink, I: Read, O: Sink, E: Sink>(
+    alloc: Global,
+    verified: Verified,
+    tracing: Option<Tracing<'_>>,
+    trace: &mut T,
+    input: &mut I,
+    out: &mut O,
+    err: &mut E,
+) -> Status
+    ensures { IsLoadedAnswer verified.config tracing.entry (Consumes (I.remaining input.old) (I.remaining input.new)) (O.contents out.old) (O.contents out.new) (O.has_failed out.new) (T.contents trace.old) (T.contents trace.new) (Writes (E.contents err.old) (E.contents err.new) (E.has_failed err.new)) (E.contents err.new ≡ E.contents err.old) result }
+{
+    if let Some(tracing) = tracing {
+        if trace.create(tracing.name, tracing.sync).is_err() {
+            verified.release();
+            tell(&Fault::CannotWrite, b"", err);
+            return Status::CannotWrite;
+        }
+    }
+    match serve_group(alloc, verified, input, out, trace) {
+        Ok(()) => Status::Done,
+        Err(halt) => {
+            let fault = fault_of_halt(halt);
+            tell(&fault, b"", err);
+            fault.status()
+        }
+    }
+}
+
+/// The fault of a group that came to no end.
+fn fault_of_halt(halt: Halt) -> Fault
+    ensures { result ≡ fault_of_halt halt }
+{
+    match halt {
+        Halt::Memory => Fault::NoMemory,
+        Halt::Head => Fault::CannotWrite,
+        Halt::Stop(stopped) => fault_of_stop(stopped.stop, shown_line(stopped.line)),
+    }
+}
+
+/// The number of a line, as far as numbers of lines go.
+fn shown_line(line: u64) -> u32
+    ensures { result ≡ shown_line line }
+{
+    if line < 4_294_967_295 {
+        line as u32
+    } else {
+        4_294_967_295
+    }
+}
+
+fn fault_of_stop(stop: Stop, line: u32) -> Fault
+    ensures { result ≡ fault_of_stop stop line }
+{
+    match stop {
+        Stop::Line(fault) => fault_of_line(fault, line),
+        Stop::Input(came) => fault_of_input(came, line),
+        Stop::Lines => Fault::Refused { number: 70, line },
+    }
+}
+
+/// The fault of a whole line that was not answered.
+fn fault_of_line(fault: ServeFault, line: u32) -> Fault
+    ensures { result ≡ fault_of_line fault line }
+{
+    match fault {
+        ServeFault::WrongLine(why) => fault_of_wrong(why, line),
+        ServeFault::Trace => Fault::CannotWrite,
+        ServeFault::Output => Fault::CannotWrite,
+        ServeFault::Memory => Fault::NoMemory,
+        ServeFault::Full => Fault::Refused { number: 70, line },
+    }
+}
+
+/// The fault of a line that says nothing to the group.
+fn fault_of_wrong(why: WrongLine, line: u32) -> Fault
+    ensures { result ≡ fault_of_wrong why line }
+{
+    match why {
+        WrongLine::NoLine => Fault::Refused { number: 80, line },
+        WrongLine::OutOfRange => Fault::Refused { number: 60, line },
+    }
+}
+
+/// The fault of a line that did not come whole.
+fn fault_of_input(came: Came, line: u32) -> Fault
+    ensures { result ≡ fault_of_input came line }
+{
+    match came {
+        Came::Whole => Fault::Refused { number: 81, line },
+        Came::Ended => Fault::Refused { number: 81, line },
+        Came::TooLong => Fault::Refused { number: 80, line },
+        Came::Failed => Fault::CannotRead(Cause::Other),
+    }
+}
