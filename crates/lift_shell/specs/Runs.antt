@@ -11,11 +11,12 @@ use Rattle.lift_host.specs.declared.status.Fault.{Fault}
 use Rattle.lift_host.specs.declared.status.Fault.TheVariants as fault
 use Rattle.lift_host.specs.declared.status.Status.{Status}
 use Rattle.lift_host.specs.Messages.{fault_of_reading, message_of, status_of, text_of, cause_sentence}
-use Rattle.lift_host.specs.Requests.{Asks, BeginsWithDigit, name_of, plain_words, explains, has_all, with_all}
+use Rattle.lift_host.specs.Requests.{Asks, BeginsWithDigit, name_of, plain_words, explains, has_flag, with_flag}
 use Rattle.lift_show.specs.declared.output.Output.{Output}
 use Rattle.lift_show.specs.Outputs.{Outcome, bytes_of, warnings_of}
 use Rattle.lift_source.specs.Notices.{word_notice, file_notice, plain_notice}
 use Rattle.lift_source.specs.Places.{IsShownBelow}
+use Rattle.lift_shell.specs.Cuts.{completed}
 
 -- the bytes of a file that are read: one more than a text may have
 abbrev pub most_bytes : ℕ
@@ -100,13 +101,21 @@ IsWordsOutcome (Err (fault.Misuse text)) = Unit {0}
 IsWordsOutcome (Err fault.NoMemory) = Unit {0}
 IsWordsOutcome (Err _) = ⊥
 
+-- what may be read of a trace: the text that its file gives, or of one that may be cut off what this is up to its last whole line
+abbrev pub IsTraceText : (List ℕ → Type 0) → Bool → List ℕ → Type 0
+IsTraceText reads cut text = (given : List ℕ) × reads given × (text ≡ (if cut then completed given else given))
+
+-- why it may not be read; memory for the end of one that may be cut off may be missing
+abbrev pub IsTraceFault : (ReadFault → Type 0) → Bool → ReadFault → Type 0
+IsTraceFault fails cut why = fails why ⊎ ((cut ≡ true) × (why ≡ failure.NoMemory))
+
 -- what may be read of the trace of a request; another request has none
 abbrev pub IsTraceRead : (List ℕ → ℕ → List ℕ → Type 0) → (List ℕ → ℕ → ReadFault → Type 0) → Request → Reading → Type 0
 IsTraceRead reads fails (request.Check checked) trace = Unit {0}
 IsTraceRead reads fails (request.Show command file) trace = Unit {0}
 IsTraceRead reads fails (request.Rounds command rounds) trace = Unit {0}
-IsTraceRead reads fails (request.Trace command traced) (Text text) = reads traced.trace.now most_trace_bytes text.items
-IsTraceRead reads fails (request.Trace command traced) (Failed why) = fails traced.trace.now most_trace_bytes why
+IsTraceRead reads fails (request.Trace command traced) (Text text) = IsTraceText (reads traced.trace.now most_trace_bytes) traced.cut text.items
+IsTraceRead reads fails (request.Trace command traced) (Failed why) = IsTraceFault (fails traced.trace.now most_trace_bytes) traced.cut why
 
 -- A request has the outcome that its command gives of the text of its file and of its trace, each read once; what stands below its fault is
 -- of these readings. The file may have no text.
@@ -116,14 +125,14 @@ pub data IsFileAnswer (reads : List ℕ → ℕ → List ℕ → Type 0) (fails 
       → IsFileAnswer reads fails gives wanted request outcome below
 
 -- Words have the answer of their request, where they ask for one.
-pub data IsAnswer (reads : List ℕ → ℕ → List ℕ → Type 0) (fails : List ℕ → ℕ → ReadFault → Type 0) (gives : Request → List ℕ → Reading → Outcome → Type 0) (wanted : Bool) (words : List (List ℕ)) (all : Bool) (outcome : Outcome) (below : List ℕ) : Type 0 where
-  unasked : ((request : Request) → Asks words request → ⊥) → IsWordsOutcome outcome → below ≡ [] → IsAnswer reads fails gives wanted words all outcome below
-  asked : (request : Request) → Asks words request → IsFileAnswer reads fails gives wanted (with_all all request) outcome below → IsAnswer reads fails gives wanted words all outcome below
+pub data IsAnswer (reads : List ℕ → ℕ → List ℕ → Type 0) (fails : List ℕ → ℕ → ReadFault → Type 0) (gives : Request → List ℕ → Reading → Outcome → Type 0) (wanted : Bool) (words : List (List ℕ)) (flag : Bool) (outcome : Outcome) (below : List ℕ) : Type 0 where
+  unasked : ((request : Request) → Asks words request → ⊥) → IsWordsOutcome outcome → below ≡ [] → IsAnswer reads fails gives wanted words flag outcome below
+  asked : (request : Request) → Asks words request → IsFileAnswer reads fails gives wanted (with_flag flag request) outcome below → IsAnswer reads fails gives wanted words flag outcome below
 
 -- The words as they are read have that answer, explained where `--explain` stands among them, or always. Memory for them may be missing.
 pub data IsRunAnswer (reads : List ℕ → ℕ → List ℕ → Type 0) (fails : List ℕ → ℕ → ReadFault → Type 0) (gives : Request → List ℕ → Reading → Outcome → Type 0) (always : Bool) (words : List (List ℕ)) (outcome : Outcome) (below : List ℕ) : Type 0 where
   unread : outcome ≡ Err fault.NoMemory → below ≡ [] → IsRunAnswer reads fails gives always words outcome below
-  plain : IsAnswer reads fails gives (always || explains words) (plain_words words) (has_all words) outcome below → IsRunAnswer reads fails gives always words outcome below
+  plain : IsAnswer reads fails gives (always || explains words) (plain_words words) (has_flag words) outcome below → IsRunAnswer reads fails gives always words outcome below
 
 -- an output of these answers was written
 abbrev pub HasWritten : (Outcome → List ℕ → Type 0) → (List ℕ → Type 0) → Type 0

@@ -2,5 +2,6 @@
 #![tactic(auto)]
 
 pub mod commands;
+mod cut;
 pub mod entry;
 pub mod run;

@@ -3,16 +3,17 @@
 ghost use Rattle.std.specs.Prelude.{◌≡◌, ◌≢◌, ◌⊎◌, ◌||◌, ◌↔◌, [], Bool, Err, IfOk, IfErr, IsTrue, true, false, map, string_bytes};
 ghost use Rattle.std.specs.Io.KnownBytes.{Appends, Keeps};
 ghost use Rattle.lift_host.specs.Requests.{name_of};
-ghost use Rattle.lift_shell.specs.Runs.{IsFileAnswer, IsAnswer, IsRunAnswer, IsWordsOutcome, IsTraceRead, IsBelow, IsFaultBelow, IsWanted, IsUnreadBelow, IsLateName, HasWritten, HasShown, HasTold, source_of, trace_name, press_sentence};
+ghost use Rattle.lift_shell.specs.Runs.{IsFileAnswer, IsAnswer, IsRunAnswer, IsWordsOutcome, IsTraceRead, IsTraceText, IsTraceFault, IsBelow, IsFaultBelow, IsWanted, IsUnreadBelow, IsLateName, HasWritten, HasShown, HasTold, most_trace_bytes, source_of, trace_name, press_sentence};
 ghost use Rattle.lift_show.specs.Outputs.{Warns};
 ghost use Rattle.lift_sink.specs.Writes.{Writes, AppendsFront};
 ghost use Rattle.lift_source.specs.Notices.{word_notice};
 ghost use Rattle.lift_source.specs.Places.{IsShownBelow};
 
 use crate::commands::Commands;
+use crate::cut::complete;
 use lift_help::command::{Answer, answer_of};
 use lift_host::files::{ReadFault, Reading, TextFiles};
-use lift_host::request::{Request, Simulating, asked, is_number, read_words};
+use lift_host::request::{Request, Simulating, Traced, asked, is_number, read_words};
 use lift_host::status::{Fault, Status};
 use lift_show::output::Output;
 use lift_show::show::show;
@@ -76,7 +77,7 @@ fn answer<R: Threads + Wait + Sync, F: TextFiles, C: Commands>(
     match read_words(alloc, words) {
         Ok(plain) => {
             let wanted = is_wanted(explains, plain.explains);
-            plain_answer(rt, alloc, &plain.words, plain.all, files, commands, wanted)
+            plain_answer(rt, alloc, &plain.words, plain.flag, files, commands, wanted)
         }
         Err(_) => Answered {
             outcome: Err(Fault::NoMemory),
@@ -97,16 +98,16 @@ fn plain_answer<R: Threads + Wait + Sync, F: TextFiles, C: Commands>(
     rt: &R,
     alloc: Global,
     words: &[String],
-    all: bool,
+    flag: bool,
     files: &F,
     commands: &C,
     wanted: bool,
 ) -> Answered
-    ensures is { IsAnswer (F.gives files.now) (F.fails files.now) (C.gives commands.now) wanted (map string_bytes words.now) all result.outcome result.below.items }
+    ensures is { IsAnswer (F.gives files.now) (F.fails files.now) (C.gives commands.now) wanted (map string_bytes words.now) flag result.outcome result.below.items }
     ensures unwritten { result.outcome ≢ Err Fault.CannotWrite }
 {
     match asked(words) {
-        Some(request) => file_answer(rt, alloc, request.with_all(all), files, commands, wanted),
+        Some(request) => file_answer(rt, alloc, request.with_flag(flag), files, commands, wanted),
         None => Answered {
             outcome: outcome_of_words(alloc, words),
             below: Vec::new(alloc),
@@ -155,12 +156,28 @@ fn trace_of<F: TextFiles>(alloc: Global, request: Request<'_>, files: &F) -> Rea
     ensures { IsTraceRead (F.gives files.now) (F.fails files.now) request.entry result }
 {
     match request {
-        Request::Trace(_, traced) => match files.read(alloc, traced.trace, GREATEST_TRACE + 1) {
+        Request::Trace(_, traced) => match read_trace(alloc, traced, files) {
             Ok(text) => Reading::Text(text),
             Err(why) => Reading::Failed(why),
         },
         _ => Reading::Text(Vec::new(alloc)),
     }
+}
+
+/// What is read of a trace, up to its last whole line where it may be cut off.
+fn read_trace<F: TextFiles>(
+    alloc: Global,
+    traced: Traced<'_>,
+    files: &F,
+) -> Result<Vec<u8>, ReadFault>
+    ensures ok { IfOk result (λ text. IsTraceText (F.gives files.now traced.entry.trace.now most_trace_bytes) traced.entry.cut text.items) }
+    ensures err { IfErr result (IsTraceFault (F.fails files.now traced.entry.trace.now most_trace_bytes) traced.entry.cut) }
+{
+    let mut text = files.read(alloc, traced.trace, GREATEST_TRACE + 1)?;
+    if traced.cut {
+        complete(&mut text)?;
+    }
+    Ok(text)
 }
 
 /// The answer to a request over what was read.

@@ -1,0 +1,34 @@
+-- A trace that was cut off, up to its last whole line (own rule).
+use Rattle.std.specs.Prelude.{ℕ, ◌+◌, ◌-◌, Bool, List, [], ◌∷◌, ◌++◌, ◌==◌, ◌||◌, if◌then◌else◌, length, take, drop, slice_index, count_by, codes, decimal}
+
+abbrev pub is_feed : ℕ → Bool
+is_feed byte = byte == 10
+
+-- how many bytes the whole lines of a text take: those up to and with its last line feed
+abbrev pub whole_length : List ℕ → ℕ
+whole_length [] = 0
+whole_length (byte ∷ bytes) = if whole_length bytes == 0 then if is_feed byte then 1 else 0 else 1 + whole_length bytes
+
+-- the whole lines of a text
+abbrev pub whole_lines : List ℕ → List ℕ
+whole_lines text = take (whole_length text) text
+
+-- the last one of whole lines
+abbrev pub last_line : List ℕ → List ℕ
+last_line lines = drop (whole_length (take (length lines - 1) lines)) lines
+
+-- whole lines that no end is put behind: there are none, or the last one begins with E
+abbrev pub have_end : List ℕ → Bool
+have_end lines = length lines == 0 || slice_index (last_line lines) 0 == 69
+
+-- the end of a trace with so many lines before it, of which the first is its head
+abbrev pub end_line : ℕ → List ℕ
+end_line lines = codes "E " ++ decimal (lines - 1) ++ codes "\n"
+
+-- whole lines, with an end
+abbrev pub ended : List ℕ → List ℕ
+ended lines = if have_end lines then lines else lines ++ end_line (count_by is_feed lines)
+
+-- a text up to its last whole line, with an end
+abbrev pub completed : List ℕ → List ℕ
+completed text = ended (whole_lines text)
