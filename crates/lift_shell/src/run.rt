@@ -26,7 +26,7 @@ use std::sync::Wait;
 use std::thread::Threads;
 
 /// The most bytes of FILE that are read: one more than a text may have.
-const MOST_BYTES: usize = 262_145;
+pub const MOST_BYTES: usize = 262_145;
 
 /// Runs the program on its words, without its name. A fault is explained, where it is told to do so, or where the words have `--explain`.
 pub fn run<R: Threads + Wait + Sync, F: TextFiles, C: Commands, O: Sink, E: Sink>(
@@ -223,7 +223,7 @@ fn below_of(
 }
 
 /// A text, or nothing where memory for it was missing.
-fn or_nothing(alloc: Global, text: Result<Vec<u8>, AllocError>) -> Vec<u8>
+pub fn or_nothing(alloc: Global, text: Result<Vec<u8>, AllocError>) -> Vec<u8>
     ensures made { IfOk text (λ made. result.items ≡ made.items) }
     ensures nothing { IfErr text (λ _. result.items ≡ []) }
 {
@@ -309,7 +309,7 @@ fn is_late_name(request: Request<'_>, word: &str) -> bool
 }
 
 /// What stands below a FILE that can't be read, where that is wanted.
-fn unread_below(alloc: Global, name: &str, why: ReadFault, wanted: bool) -> Vec<u8>
+pub fn unread_below(alloc: Global, name: &str, why: ReadFault, wanted: bool) -> Vec<u8>
     ensures { IsWanted wanted result.items (IsUnreadBelow name.now why result.items) }
 {
     match why {
