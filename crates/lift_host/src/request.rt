@@ -475,7 +475,7 @@ fn fire_apart(rest: &[String]) -> Option<WordsApart<'_>>
     Some(parts)
 }
 
-/// Words apart at the first place of an option, where a value stands behind it that is none.
+/// Words apart at the first place of an option, where a value stands behind it that begins with no `-`.
 pub(crate) fn apart<'w>(option: &str, words: &'w [String]) -> Option<WordsApart<'w>>
     ensures some { IfSome result (λ apart. IsApart option.now (map string_bytes words.now) (words_of apart.positional) (option_map (λ value. value.now) apart.value)) }
     ensures only { IfSome result (λ apart. (positional : List (List ℕ)) (value : Option (List ℕ)) → IsApart option.now (map string_bytes words.now) positional value → LeaveOut option.now positional → (positional ≡ words_of apart.positional) × (value ≡ option_map (λ value. value.now) apart.value)) }
@@ -618,8 +618,7 @@ fn flag_of(command: &str) -> Option<&'static str>
 {
     match command {
         "denials" => Some(ALL),
-        "replay" => Some(CUT),
-        "draw" => Some(CUT),
+        "replay" | "draw" => Some(CUT),
         _ => None,
     }
 }

@@ -26,7 +26,7 @@ pub struct Tracing<'w> {
 }
 
 /// What words ask `serve` for, if they do: of words as `read_words` leaves them.
-pub fn asked_to_serve<'w>(words: &'w [String]) -> Option<Serving<'w>>
+pub fn asked_to_serve(words: &[String]) -> Option<Serving<'_>>
     ensures found { IfSome result (Serves (map string_bytes words.now)) }
     ensures none { IsNone result → (serving : Serving) → Serves (map string_bytes words.now) serving → ⊥ }
 {

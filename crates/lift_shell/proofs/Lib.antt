@@ -1,1 +1,2 @@
+pub mod Cutting
 pub mod Ending
