@@ -185,7 +185,8 @@ static void enter(unsigned long ticket, int slot, int from, int to) {
 static int take_round(void) {
     char *line, more;
     unsigned long ticket;
-    int a, b, c, notices = 0, part = ENTERED, last_slot = 0, last_car = 0;
+    int a, b, c, notices = 0, part = ENTERED, last_slot = 0;
+    int last_car = 0, last_served = 0, scanned = 0; /* cars rise in what the refresh denies, and again in what the scans deny and serve */
     while ((line = hear_in_time())) {
         if (!strncmp(line, "outputs", 7)) {
             take_outputs(line);
@@ -199,12 +200,14 @@ static int take_round(void) {
             counts[ENTERED]++;
         } else if (sscanf(line, "denied %d %d%c", &a, &b, &more) == 2) {
             if (part == TOLD || a < 1 || a > cars || b < 1 || b > 6) wrong("`%s`", line);
-            part = DENIED;
+            if ((a < last_car && scanned++) || a <= last_served) wrong("`%s` out of turn", line);
+            part = DENIED, last_car = a;
             counts[DENIED]++;
         } else if (sscanf(line, "served %lu %d%c", &ticket, &a, &more) == 2) {
             int s = slot_of(ticket);
-            if (part == TOLD || book[s].car != a || a <= last_car) wrong("`%s`", line);
-            part = SERVED, last_car = a;
+            if (part == TOLD || book[s].car != a) wrong("`%s`", line);
+            if ((a < last_car && scanned) || a <= last_served) wrong("`%s` out of turn", line);
+            part = SERVED, last_car = last_served = a, scanned = 1;
             book[s] = (struct slot){0};
             counts[SERVED]++;
         } else if (sscanf(line, "told %lu %d%c", &ticket, &a, &more) == 2) {
