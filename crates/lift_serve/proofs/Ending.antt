@@ -17,6 +17,7 @@ use Rattle.lift_serve.specs.Answers.{stop_line}
 use Rattle.lift_serve.specs.Ending.{head, Ends, IsHaltWritten, IsEnded, IsHalted}
 use Rattle.lift_serve.specs.Serving.{IsServed, IsStopped, IsStoppedBy, traced_text}
 use Rattle.lift_serve.proofs.Serving.{front_behind}
+use Rattle.lift_serve.proofs.Replaying.{served_taken}
 
 pub consumes_none : (a : Option (List ℕ)) → Consumes a a []
 consumes_none None = tt
@@ -27,7 +28,9 @@ pub ended : (p q : Program) (w : World) (a : ℕ) (v : World) (next : ℕ) (Take
 ended p q w a v next Taken Out t0 t1 t2 opened grown s =
     let one = subst (λ (x : Program). IsServed x.config w a v next Taken Out (Appends t1 t2)) opened.0 s in
     let two = subst (λ (x : World). IsServed p.config x a v next Taken Out (Appends t1 t2)) opened.1 one in
-    let all = subst (λ n. IsServed p.config (opening p.config) n v next Taken Out (Appends t1 t2)) opened.2 two in (
+    let all = subst (λ n. IsServed p.config (opening p.config) n v next Taken Out (Appends t1 t2)) opened.2 two in
+    let whole = appends_more t0 t1 t2 head (all.events ++ all.ends) grown all.traced in
+    let taken = served_taken p.config (opening p.config) v next Taken Out (Appends t1 t2) all in (
       v,
       next,
       record {
@@ -43,8 +46,9 @@ ended p q w a v next Taken Out t0 t1 t2 opened grown s =
         ends = all.ends;
         hears = all.hears;
         answered = all.answered;
-        traced = appends_more t0 t1 t2 head (all.events ++ all.ends) grown all.traced;
+        traced = whole;
       },
+      (taken.0, taken.1, subst (Appends t0 t2) taken.2 whole),
     )
 
 ends_behind : (a b d : Option (List ℕ)) (failed : Bool) (x y : List ℕ) → Appends a b x → Ends b d failed y → Ends a d failed (x ++ y)

@@ -3,5 +3,5 @@ pub mod Doing
 pub mod Tracing
 pub mod Serving
 pub mod Lines
-pub mod Ending
 pub mod Replaying
+pub mod Ending

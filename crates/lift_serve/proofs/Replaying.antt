@@ -1,5 +1,5 @@
 -- What is traced of a line leads to the same world.
-use Rattle.std.proofs.Common.{◌≡◌, ℕ, Bool, true, false, List, [], ◌∷◌, ◌++◌, map, flat_map, if◌then◌else◌, Result, Ok, Err, refl, sym, ap, ◌∙◌, subst}
+use Rattle.std.proofs.Common.{◌≡◌, ℕ, ◌+◌, length, length-append, append-nil, add-zero, zero-add, arith, Bool, true, false, List, [], ◌∷◌, ◌++◌, map, flat_map, if◌then◌else◌, Result, Ok, Err, refl, sym, ap, ◌∙◌, subst}
 use Rattle.std.specs.Prelude.{◌&&◌, not, ◌==◌}
 use Rattle.il_spec.specs.declared.tree.Config.{Config}
 use Rattle.lift_spec.specs.declared.calls.Call.{Call}
@@ -13,6 +13,11 @@ use Rattle.lift_spec.specs.Hands.{has_call}
 use Rattle.lift_spec.specs.declared.image.Fields.{Fields}
 use Rattle.lift_spec.specs.World.{World, Halt, Next, happens, run, and_then, presses, presses_floors, presses_new}
 use Rattle.lift_run_laws.proofs.Following.{follow, before}
+use Rattle.lift_trace.specs.declared.format.Format.TheVariants.{Two}
+use Rattle.lift_trace.specs.Text.{last_line, line_of, text_of, text_of_lines}
+use Rattle.lift_trace.specs.Writing.{events_text}
+use Rattle.lift_trace.proofs.Texts.{text_append}
+use Rattle.lift_trace.proofs.Writes.{events_append}
 use Rattle.lift_journal.specs.Journal.{AreAccepted, IsAccepted}
 use Rattle.lift_journal.specs.Rounds.{Happen, Takes, TakesAll, Scans, floors_rising, tasks_in_order}
 use Rattle.lift_journal.proofs.Taking.{happen_one}
@@ -23,6 +28,8 @@ use Rattle.lift_serve.specs.declared.said.Said.{Said}
 use Rattle.lift_serve.specs.declared.said.Said.TheVariants.{Round, Press, End}
 use Rattle.lift_serve.specs.Saying.{events_of, scan_events, is_call}
 use Rattle.lift_serve.specs.Answers.{Acts}
+use Rattle.lift_serve.specs.Ending.{head}
+use Rattle.lift_serve.specs.Serving.{IsServed, Serves, is_end, traced_text}
 
 -- THE FIRST OF SOME EVENTS
 
@@ -125,3 +132,41 @@ pub acts_taken : (c : Config) (said : Said) (w v : World) (text : List ℕ) → 
 acts_taken c (Round fields) w v text (notices, round, is) = round_taken c fields w v notices round
 acts_taken c (Press call) w v text (reply, is, so) = press_taken c w v call reply is
 acts_taken c End w v text (same, is) = same
+
+-- ALL LINES
+
+-- what is traced of a line that isn't the end
+line_traced : (c : Config) (said : Said) (count : ℕ) → is_end said ≡ false → traced_text c said count ≡ events_text (events_of c said)
+line_traced c (Round fields) count goes = refl
+line_traced c (Press call) count goes = refl
+line_traced c End count goes = absurd (cc)
+
+-- what is traced of lines are events, which lead to the same world
+pub serves_taken : (c : Config) (lines : List (List ℕ)) (w v : World) (count next : ℕ) (text events : List ℕ) → Serves c lines w count v next text events → (es : List TraceEvent) × (events ≡ events_text es) × (next ≡ count + length es) × TakesAll c w es v
+serves_taken c [] w v count next text events (same, counted, no_text, none) = ([], none, sym counted ∙ sym (add-zero count), same)
+serves_taken c (line ∷ lines) w v count next text events (said, m, k, first, one, rest, others, hears, goes, serves, is, are) =
+    let more = serves_taken c lines m v k next rest others serves in
+    let here = events_of c said in
+    let both = length-append here more.0 in
+    let counted = hears.counted in
+    let follows = more.2 in (
+      here ++ more.0,
+      are ∙ ap (λ l. l ++ others) (hears.traced ∙ line_traced c said count goes) ∙ ap (λ l. events_text here ++ l) more.1 ∙ sym (events_append here more.0),
+      omega (arith, both, counted, follows),
+      joined c here more.0 w m v (acts_taken c said w m first hears.acts) more.3,
+    )
+
+-- the same of all lines up to the end: behind the head it is the trace of those events
+pub served_taken : (c : Config) (w v : World) (next : ℕ) (Taken Out Trace : List ℕ → Type 0) → (s : IsServed c w 0 v next Taken Out Trace) → (es : List TraceEvent) × TakesAll c w es v × (head ++ (s.events ++ s.ends) ≡ text_of Two es)
+served_taken c w v next Taken Out Trace s =
+    let before = serves_taken c s.lines w s.behind 0 s.many s.text s.events s.serves in
+    let es = before.0 in
+    let many : s.many ≡ length es = before.2 ∙ zero-add (length es) in
+    let last : s.ends ≡ last_line (length es) ++ 10 ∷ [] = s.hears.traced ∙ ap (λ n. last_line n ++ 10 ∷ []) many in
+    let ends : events_text es ++ (last_line (length es) ++ 10 ∷ []) ≡ text_of_lines (map (line_of Two) es ++ last_line (length es) ∷ []) =
+    ap (λ l. events_text es ++ l) (sym (append-nil (last_line (length es) ++ 10 ∷ []))) ∙ sym (text_append (map (line_of Two) es) (last_line (length es) ∷ []))
+    in (
+      es,
+      subst (λ x. TakesAll c w es x) s.hears.acts.0 before.3,
+      ap (λ l. head ++ l) (ap (λ l. l ++ s.ends) before.1 ∙ ap (λ l. events_text es ++ l) last ∙ ends),
+    )

@@ -5,7 +5,9 @@ use Rattle.il_spec.specs.declared.tree.Config.{Config}
 use Rattle.lift_spec.specs.World.{World, opening}
 use Rattle.lift_sink.specs.Writes.{AppendsFront}
 use Rattle.lift_trace.specs.declared.format.Format.TheVariants.{Two}
-use Rattle.lift_trace.specs.Text.{first_line}
+use Rattle.lift_spec.specs.declared.trace.TraceEvent.{TraceEvent}
+use Rattle.lift_journal.specs.Rounds.{TakesAll}
+use Rattle.lift_trace.specs.Text.{first_line, text_of}
 use Rattle.lift_serve.specs.declared.group.Halt.{Halt}
 use Rattle.lift_serve.specs.declared.group.Halt.TheVariants as halt
 use Rattle.lift_serve.specs.declared.serve.Stop.{Stop as StopOf}
@@ -32,9 +34,11 @@ IsHaltWritten (stop.Line fault.Full) old new failed text = Ends old new failed t
 IsHaltWritten (stop.Input c) old new failed text = Ends old new failed text
 IsHaltWritten stop.Lines old new failed text = Ends old new failed text
 
--- It came to its end: from the opening on each line that the reader gave was answered, and the trace is whole.
+-- It came to its end: from the opening on each line that the reader gave was answered, and the trace is whole: it is that of events which lead to the world behind
+-- them, so that a replay of it does.
 abbrev pub IsEnded : Config → (List ℕ → Type 0) → (List ℕ → Type 0) → (List ℕ → Type 0) → Type 0
-IsEnded c Taken Out Trace = (v : World) × (next : ℕ) × IsServed c (opening c) 0 v next Taken Out (λ events. Trace (head ++ events))
+IsEnded c Taken Out Trace =
+    (v : World) × (next : ℕ) × IsServed c (opening c) 0 v next Taken Out (λ events. Trace (head ++ events)) × ((events : List TraceEvent) × TakesAll c (opening c) events v × Trace (text_of Two events))
 
 -- It came to no end. Where a line was not answered, or none came, the stop is the last line that was written, behind the answers; only an output that failed before has
 -- a front of the answer.
