@@ -1,5 +1,5 @@
 -- What is done in a round.
-use Rattle.std.proofs.Common.{◌≡◌, ℕ, zero, suc, ◌+◌, ◌≤◌, List, [], ◌∷◌, ◌++◌, take, drop, length, map, Some, refl, sym, ap, ◌∙◌, subst, arith}
+use Rattle.std.proofs.Common.{◌≡◌, ℕ, ◌+◌, List, [], ◌∷◌, ◌++◌, take, Some, refl, sym, ap, ◌∙◌, subst}
 use Rattle.std.specs.Prelude.{slice_get}
 use Rattle.std.proofs.lemmas.List.{append_assoc}
 use Rattle.il_spec.specs.declared.tree.Config.{Config}
@@ -9,7 +9,7 @@ use Rattle.lift_runs.specs.Shown.{ScansReporting}
 use Rattle.lift_runs.proofs.Driving.{take_next}
 use Rattle.lift_round.specs.declared.notice.Notice.{Notice}
 use Rattle.lift_round.specs.Notices.{commit_notices}
-use Rattle.lift_round.specs.Rounds.{ScansNoticed, most_of_scans}
+use Rattle.lift_round.specs.Rounds.{ScansNoticed}
 
 nil : (xs : List Notice) → xs ++ [] ≡ xs
 nil [] = refl

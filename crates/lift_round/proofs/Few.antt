@@ -1,5 +1,5 @@
 -- How many notices a round has at most.
-use Rattle.std.proofs.Common.{◌≡◌, ℕ, zero, suc, ◌+◌, ◌*◌, ◌≤◌, Bool, true, false, List, [], ◌∷◌, ◌++◌, map, flat_map, filter, take, drop, length, length-append, Option, Some, None, Ok, Err, refl, sym, ap, ◌∙◌, subst, arith, if◌then◌else◌}
+use Rattle.std.proofs.Common.{◌≡◌, ℕ, zero, suc, ◌+◌, ◌*◌, ◌≤◌, Bool, true, false, List, [], ◌∷◌, ◌++◌, filter, drop, length, length-append, Option, Some, None, Ok, Err, refl, sym, ap, ◌∙◌, subst, arith, if◌then◌else◌}
 use Rattle.std.specs.Prelude.{slice_get}
 use Rattle.il_spec.specs.declared.tree.Config.{Config}
 use Rattle.il_run.specs.State.{Values, State}
@@ -7,7 +7,6 @@ use Rattle.il_run.specs.Scan.{has_ended}
 use Rattle.lift_spec.specs.declared.event.Event.TheVariants.{Commit}
 use Rattle.lift_spec.specs.declared.image.Image.{Image}
 use Rattle.lift_spec.specs.declared.image.Motor.{Motor}
-use Rattle.lift_spec.specs.declared.report.Answered.{Answered}
 use Rattle.lift_spec.specs.declared.report.Report.{Report}
 use Rattle.lift_spec.specs.declared.report.Rule.{Rule}
 use Rattle.lift_spec.specs.Calls.{Calls}
@@ -18,8 +17,6 @@ use Rattle.lift_spec.specs.Snapshot.{has_task, wishes_of}
 use Rattle.lift_spec.specs.World.{World, Group, TaskState, Next, happens, task_at, scan_at, committed_group, commits, commits_scan, commits_ended, serve_wish, tickets_or_none}
 use Rattle.lift_journal.specs.Rounds.{counting_from, tasks_in_order}
 use Rattle.lift_runs.specs.Shown.{ScansReporting}
-use Rattle.lift_round.specs.declared.notice.Notice.{Notice}
-use Rattle.lift_round.specs.Notices.{commit_notices, answered_notices}
 use Rattle.lift_round.specs.Rounds.{most_of_scans}
 
 -- A COMMIT
@@ -127,11 +124,9 @@ filtered_share : (p : ℕ → Bool) (tasks : List ℕ) → most_of_scans (filter
 filtered_share p [] = omega arith
 filtered_share p (x ∷ tasks) = by (p x) (filtered_share p tasks)
   where
-    one = shares_append (x ∷ []) tasks
-
     by : (b : Bool) → most_of_scans (filter p tasks) ≤ most_of_scans tasks → most_of_scans (if b then x ∷ filter p tasks else filter p tasks) ≤ most_of_scans (x ∷ tasks)
-    by true rest = let first = shares_append (x ∷ []) (filter p tasks) in omega (arith, first, one, rest)
-    by false rest = omega (arith, one, rest)
+    by true rest = let first = shares_append (x ∷ []) (filter p tasks) in let one = shares_append (x ∷ []) tasks in omega (arith, first, one, rest)
+    by false rest = let one = shares_append (x ∷ []) tasks in omega (arith, one, rest)
 
 cars_share : (first k : ℕ) → 1 ≤ first → most_of_scans (counting_from first k) ≡ 3 * k
 cars_share first zero above = refl

@@ -1,5 +1,5 @@
 -- What comes of a run of the program (own rules).
-use Rattle.std.specs.Prelude.{IsTrue, ◌≡◌, ◌⊎◌, ◌↔◌, ◌||◌, ◌++◌, ℕ, List, [], nat_lt, Bool, true, false, None, Ok, Err, if◌then◌else◌, codes, string_bytes}
+use Rattle.std.specs.Prelude.{IsTrue, ◌≡◌, ◌⊎◌, ◌↔◌, ◌||◌, ◌&&◌, ◌++◌, length, ℕ, List, [], nat_lt, Bool, true, false, None, Ok, Err, if◌then◌else◌, codes, string_bytes}
 use Rattle.lift_host.specs.declared.files.ReadFault.{ReadFault}
 use Rattle.lift_host.specs.declared.files.ReadFault.TheVariants as failure
 use Rattle.lift_host.specs.declared.files.Reading.{Reading}
@@ -101,9 +101,10 @@ IsWordsOutcome (Err (fault.Misuse text)) = Unit {0}
 IsWordsOutcome (Err fault.NoMemory) = Unit {0}
 IsWordsOutcome (Err _) = ⊥
 
--- what may be read of a trace: the text that its file gives, or of one that may be cut off what this is up to its last whole line
+-- What may be read of a trace: the text that its file gives, or of one that may be cut off what this is up to its last whole line. One over the limit stays
+-- as it is, and is refused.
 abbrev pub IsTraceText : (List ℕ → Type 0) → Bool → List ℕ → Type 0
-IsTraceText reads cut text = (given : List ℕ) × reads given × (text ≡ (if cut then completed given else given))
+IsTraceText reads cut text = (given : List ℕ) × reads given × (text ≡ (if cut && nat_lt (length given) most_trace_bytes then completed given else given))
 
 -- why it may not be read; memory for the end of one that may be cut off may be missing
 abbrev pub IsTraceFault : (ReadFault → Type 0) → Bool → ReadFault → Type 0

@@ -174,7 +174,7 @@ fn read_trace<F: TextFiles>(
     ensures err { IfErr result (IsTraceFault (F.fails files.now traced.entry.trace.now most_trace_bytes) traced.entry.cut) }
 {
     let mut text = files.read(alloc, traced.trace, GREATEST_TRACE + 1)?;
-    if traced.cut {
+    if traced.cut && text.len() <= GREATEST_TRACE {
         complete(&mut text)?;
     }
     Ok(text)

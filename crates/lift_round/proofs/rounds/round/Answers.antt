@@ -1,4 +1,4 @@
-use Rattle.std.proofs.Common.{◌≡◌, ◌++◌, ◌≤◌, ◌+◌, [], ℕ, List, Ok, subst, sym, ap, ◌∙◌, arith}
+use Rattle.std.proofs.Common.{◌≡◌, ◌++◌, [], ℕ, List, Ok, subst, sym, ap, ◌∙◌, arith}
 use Rattle.il_machine.specs.Scanning.{Program, IsRunnable}
 use Rattle.il_machine.proofs.Sizes.{sizes_fit}
 use Rattle.lift_spec.specs.declared.event.Event.TheVariants.{Refresh}

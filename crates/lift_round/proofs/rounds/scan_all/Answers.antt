@@ -1,11 +1,10 @@
-use Rattle.std.proofs.Common.{rules, arith, ◌<◌, ◌≤◌, ◌+◌, ◌++◌, length, drop, subst, sym, ap, ◌∙◌}
+use Rattle.std.proofs.Common.{rules, arith, ◌<◌, ◌++◌, length, subst, sym, ap, ◌∙◌}
 use Rattle.std.specs.Prelude.{slice_index_or}
 use Rattle.std.proofs.lemmas.List.{append_assoc}
 use Rattle.il_machine.specs.Scanning.{Program, HasTask}
 use Rattle.lift_runs.specs.Shown.{ScansReporting}
 use Rattle.lift_runs.proofs.Driving.{read, is_task}
 use Rattle.lift_round.specs.Notices.{commit_notices}
-use Rattle.lift_round.specs.Rounds.{most_of_scans}
 use Rattle.lift_round.proofs.Doing.{noticed_next}
 use Rattle.lift_round.proofs.Few.{share_next}
 use Rattle.lift_round.proofs.rounds.scan_all.Goals as goal
