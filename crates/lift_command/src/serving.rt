@@ -45,9 +45,7 @@ pub fn serve<F: TextFiles, T: TraceSink, I: Read, O: Sink, E: Sink>(
     ensures { IsServeAnswer (F.gives files.now) (F.fails files.now) explains serving.entry (Consumes (I.remaining input.old) (I.remaining input.new)) (O.contents out.old) (O.contents out.new) (O.has_failed out.new) (T.contents trace.old) (T.contents trace.new) (Writes (E.contents err.old) (E.contents err.new) (E.has_failed err.new)) (E.contents err.new ≡ E.contents err.old) result }
 {
     match files.read(alloc, serving.file, MOST_BYTES) {
-        Ok(text) => serve_text(
-            alloc, serving, &text, explains, trace, input, out, err,
-        ),
+        Ok(text) => serve_text(alloc, serving, &text, explains, trace, input, out, err),
         Err(why) => tell_unread(alloc, serving.file, why, explains, err),
     }
 }
@@ -82,23 +80,8 @@ fn serve_text<T: TraceSink, I: Read, O: Sink, E: Sink>(
     ensures { IsTextAnswer explains serving.entry text.now (Consumes (I.remaining input.old) (I.remaining input.new)) (O.contents out.old) (O.contents out.new) (O.has_failed out.new) (T.contents trace.old) (T.contents trace.new) (Writes (E.contents err.old) (E.contents err.new) (E.has_failed err.new)) (E.contents err.new ≡ E.contents err.old) result }
 {
     match load(alloc, text) {
-        Ok(verified) => serve_loaded(
-            alloc,
-            verified,
-            serving.trace,
-            trace,
-            input,
-            out,
-            err,
-        ),
-        Err(refusal) => tell_refused(
-            alloc,
-            serving.file,
-            text,
-            refusal.into(),
-            explains,
-            err,
-        ),
+        Ok(verified) => serve_loaded(alloc, verified, serving.trace, trace, input, out, err),
+        Err(refusal) => tell_refused(alloc, serving.file, text, refusal.into(), explains, err),
     }
 }
 

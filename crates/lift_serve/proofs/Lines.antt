@@ -135,11 +135,11 @@ module _ (p : Program) (w m : World) (a b n : ℕ) (r0 r o0 o t0 t : Option (Lis
         why = (line, one, consumes_more r0 r s (text_of_lines before.0) line before.4 taken, no_more o0 o before.1 before.5, no_more t0 t before.2 before.6);
       }
 
-  pub stopped_lines : IsStopped p.config w a (Consumes r0 r) (Appends o0 o) (AppendsFront o0 o) (Appends t0 t) (AppendsFront t0 t) Lines (n + 1)
-  stopped_lines =
+  pub stopped_lines : (k : ℕ) → k ≡ n + 1 → IsStopped p.config w a (Consumes r0 r) (Appends o0 o) (AppendsFront o0 o) (Appends t0 t) (AppendsFront t0 t) Lines k
+  stopped_lines k is =
       record {
         lines = before.0;
-        place = ap (λ k. k + 1) (sym before.7);
+        place = is ∙ ap (λ k. k + 1) (sym before.7);
         v = m;
         next = b;
         text = before.1;

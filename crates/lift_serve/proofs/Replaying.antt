@@ -19,9 +19,8 @@ use Rattle.lift_trace.specs.Writing.{events_text}
 use Rattle.lift_trace.proofs.Texts.{text_append}
 use Rattle.lift_trace.proofs.Writes.{events_append}
 use Rattle.lift_journal.specs.Journal.{AreAccepted, IsAccepted}
-use Rattle.lift_journal.specs.Rounds.{Happen, Takes, TakesAll, Scans, floors_rising, tasks_in_order}
+use Rattle.lift_journal.specs.Rounds.{Happen, TakesAll, floors_rising, tasks_in_order}
 use Rattle.lift_journal.proofs.Taking.{happen_one}
-use Rattle.lift_runs.specs.Shown.{ScansReporting}
 use Rattle.lift_round.specs.declared.notice.Notice.{Notice}
 use Rattle.lift_round.specs.Rounds.{IsRoundOf, ScansNoticed}
 use Rattle.lift_serve.specs.declared.said.Said.{Said}

@@ -28,6 +28,9 @@ pub struct Stopped {
     pub line: u64,
 }
 
+/// So many lines can be counted, and the number of the one behind them.
+const MOST_LINES: u64 = 18_446_744_073_709_551_614;
+
 /// Answers each line of a reader before it reads the next, up to the end.
 pub fn serve<R: Read, O: Sink, T: Sink>(
     server: &mut Server,
@@ -42,7 +45,7 @@ pub fn serve<R: Read, O: Sink, T: Sink>(
     ensures stopped { IfErr result (λ s. IsStopped server.old.world.program.config server.old.world.world server.old.count (Consumes (R.remaining reader.old) (R.remaining reader.new)) (Appends (O.contents out.old) (O.contents out.new)) (AppendsFront (O.contents out.old) (O.contents out.new)) (Appends (T.contents trace.old) (T.contents trace.new)) (AppendsFront (T.contents trace.old) (T.contents trace.new)) s.stop s.line) }
     ensures stop { server.new.stop ≡ server.old.stop }
 {
-    'lines: for before in 0..u64::MAX {
+    'lines: for before in 0..MOST_LINES {
         let number = before + 1;
         let came = next_line(reader, line);
         match came {
@@ -62,6 +65,6 @@ pub fn serve<R: Read, O: Sink, T: Sink>(
     }
     Err(Stopped {
         stop: Stop::Lines,
-        line: u64::MAX,
+        line: MOST_LINES + 1,
     })
 }

@@ -44,7 +44,6 @@ pub enum ServeFault {
 
 /// A group behind lines: with what is traced of each of its rounds, with the stop, and with room for an answer and for what is traced of a
 /// line.
-#[derive(Drop)]
 pub struct Server {
     pub world: World,
     pub tasks: Bounded<u8, 9>,
@@ -55,6 +54,23 @@ pub struct Server {
     pub traced: Vec<u8>,
     pub scratch: Scratch,
     pub count: u64,
+}
+
+// Written by hand, since who drops a type whose drop is derived proves the drop of each type inside again.
+impl Drop for Server {
+    fn drop(self) {
+        let Server {
+            world: _world,
+            tasks: _tasks,
+            gathers: _gathers,
+            scans: _scans,
+            stop: _stop,
+            answer: _answer,
+            traced: _traced,
+            scratch: _scratch,
+            count: _count,
+        } = self;
+    }
 }
 
 /// The lines that are traced of the gatherings of a round.

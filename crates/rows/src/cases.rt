@@ -71,11 +71,7 @@ impl Cases {
     }
 
     /// Runs the program on the words of a line.
-    fn outcome<R: Threads + Wait + Sync>(
-        &mut self,
-        rt: &R,
-        line: &str,
-    ) -> io::Result<Outcome> {
+    fn outcome<R: Threads + Wait + Sync>(&mut self, rt: &R, line: &str) -> io::Result<Outcome> {
         let words = words_of(self.alloc, line)?;
         let input = self.shelf.bytes(INPUT);
         let left = tried(rt, self.alloc, &words, &self.shelf, input, self.limit);

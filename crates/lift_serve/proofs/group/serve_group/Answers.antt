@@ -1,4 +1,4 @@
-use Rattle.std.proofs.Common.{sym, ap, ◌∙◌, subst}
+use Rattle.std.proofs.Common.{sym, ap, ◌∙◌, subst, string_bytes}
 use Rattle.il_machine.specs.Scanning.{Program}
 use Rattle.lift_serve.specs.Answers.{stop_line}
 use Rattle.lift_serve.specs.Ending.{Ends}
@@ -21,5 +21,5 @@ returns-in-Ok-serve-clause-ended g c =
 pub returns-clause-halted : goal.returns-clause-halted
 returns-clause-halted g c =
     halted c.args.verified c.in-Ok.server.world.program c.in-Ok.server.world.world c.in-Ok.server.count _ (g.O.Sink.contents c.args.out.now) (g.O.Sink.contents c.serve.new.out) (g.O.Sink.contents c.write_stop.new.out) (g.O.Sink.has_failed c.write_stop.new.out)
-    (g.T.Sink.contents c.args.trace.now) (g.T.Sink.contents c.put_all.new.sink) (g.T.Sink.contents c.serve.new.trace) c.as_bytes.result.now c.in-Err.stopped c.in-Ok.ensures.opening (if_ok c.put_all.result (sym c.is_err.ensures.value ∙ c.if-is_err.false) c.put_all.ensures.ok)
-    (c.as_bytes.ensures.value ∙ ap (λ s. string_bytes s) c.serve.ensures.stop ∙ c.in-Ok.ensures.server.stop ∙ ap (λ (x : Program). stop_line x.config) c.in-Ok.ensures.opening.0) c.write_stop.ensures c.in-Err.ensures.stopped
+    (g.T.Sink.contents c.args.trace.now) (g.T.Sink.contents c.put_all.new.sink) (g.T.Sink.contents c.serve.new.trace) c.as_bytes-in-Err.result.now c.in-Err.stopped c.in-Ok.ensures.opening (if_ok c.put_all.result (sym c.is_err.ensures.value ∙ c.if-is_err.false) c.put_all.ensures.ok)
+    (c.as_bytes-in-Err.ensures.value ∙ ap (λ s. string_bytes s) c.serve.ensures.stop ∙ c.in-Ok.ensures.server.stop ∙ ap (λ (x : Program). stop_line x.config) c.in-Ok.ensures.opening.0) c.write_stop.ensures c.in-Err.ensures.stopped

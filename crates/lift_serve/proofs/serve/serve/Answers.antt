@@ -1,4 +1,4 @@
-use Rattle.std.proofs.Common.{sym, ◌∙◌}
+use Rattle.std.proofs.Common.{◌≡◌, ◌+◌, arith, sym, ◌∙◌}
 use Rattle.lift_serve.proofs.Lines.{so_far_next, served, stopped_line, stopped_input, stopped_lines}
 use Rattle.lift_serve.proofs.serve.serve.Goals as goal
 
@@ -30,4 +30,5 @@ lines-preserved g c =
 
 pub returns-clause-stopped : goal.returns-clause-stopped
 returns-clause-stopped g c =
-    stopped_lines c.args.server.now.world.program c.args.server.now.world.world c.lines.server.world.world c.args.server.now.count c.lines.server.count c.lines.before (g.R.Read.remaining c.args.reader.now) (g.R.Read.remaining c.lines.reader) (g.O.Sink.contents c.args.out.now) (g.O.Sink.contents c.lines.out) (g.T.Sink.contents c.args.trace.now) (g.T.Sink.contents c.lines.trace) c.lines.invariant.served
+    let end : 18446744073709551614 + 1 ≡ c.lines.before + 1 = omega (arith, c.lines-test.false, c.lines.auto.before-end) in
+    stopped_lines c.args.server.now.world.program c.args.server.now.world.world c.lines.server.world.world c.args.server.now.count c.lines.server.count c.lines.before (g.R.Read.remaining c.args.reader.now) (g.R.Read.remaining c.lines.reader) (g.O.Sink.contents c.args.out.now) (g.O.Sink.contents c.lines.out) (g.T.Sink.contents c.args.trace.now) (g.T.Sink.contents c.lines.trace) c.lines.invariant.served 18446744073709551615 end

@@ -1,7 +1,23 @@
+use Rattle.std.proofs.Common.{subst}
+use Rattle.lift_world.specs.Worlds.{WorldOf}
+use Rattle.lift_journal.specs.Rounds.{TakesAll}
+use Rattle.lift_serve.specs.Saying.{events_of}
+use Rattle.lift_serve.proofs.Replaying.{acts_taken}
 use Rattle.lift_serve.proofs.Serving.{unheard_answer}
 use Rattle.lift_serve.proofs.server.Server.hear.Goals as goal
 
-pub returns-in-Err-clause-unheard : goal.returns-in-Err-clause-unheard
-returns-in-Err-clause-unheard g c =
-    unheard_answer c.args.line.now c.in-Some.said c.args.self.now.world c.trace_said.new.self.world c.answer_said.new.self.world.world c.args.self.now.count c.in-Err.fault
-    (g.O.Sink.contents c.args.out.now) (g.O.Sink.contents c.answer_said.new.out) (g.T.Sink.contents c.args.trace.now) (g.T.Sink.contents c.trace_said.new.trace) c.trace_said.ensures.same c.in-Some.ensures.found c.in_ok-trace_said.ensures.traced c.in-Err.ensures.fault
+pub returns-in-Err-answer_said-clause-unheard : goal.returns-in-Err-answer_said-clause-unheard
+returns-in-Err-answer_said-clause-unheard g c =
+    unheard_answer c.args.line.now c.in-Ok.said c.args.self.now.world c.trace_said.new.self.world c.answer_said.new.self.world.world c.args.self.now.count c.in-Err-answer_said.fault
+    (g.O.Sink.contents c.args.out.now) (g.O.Sink.contents c.answer_said.new.out) (g.T.Sink.contents c.args.trace.now) (g.T.Sink.contents c.trace_said.new.trace) c.trace_said.ensures.same c.in-Ok.ensures.found c.in_ok-trace_said.ensures.traced c.in-Err-answer_said.ensures.fault
+
+pub returns-clause-replays : goal.returns-clause-replays
+returns-clause-replays g c =
+    let said = c.in-Ok.said in
+    let mid = c.trace_said.new.self.world in
+    let v = c.answer_said.new.self.world.world in
+    let acts = c.in_default.ensures.answered in (
+      said,
+      c.in-Ok.ensures.found,
+      subst (λ (x : WorldOf). TakesAll x.program.config x.world (events_of x.program.config said) v) c.trace_said.ensures.same (acts_taken mid.program.config said mid.world v acts.0 acts.1),
+    )
