@@ -7,7 +7,7 @@ use lift_image::CarOutputs;
 use lift_sink::sink::Memory;
 use lift_spec::calls::{Answer, Call, Slot};
 use lift_spec::journal::Entry;
-use lift_spec::report::{Denial, Rule};
+use lift_spec::report::{Answered, Denial, Rule};
 use lift_trace::write::write_trace;
 use std::alloc::Global;
 use std::test::Fail;

@@ -5,7 +5,7 @@ use crate::texts::{STILL, TELLING, TWO_RISING, UP};
 use lift_image::{CarOutputs, Motor};
 use lift_spec::calls::{Answer, Call, Slot};
 use lift_spec::event::{EventFault, Reply};
-use lift_spec::report::{Denial, Rule};
+use lift_spec::report::{Answered, Denial, Rule};
 use std::test::Fail;
 
 // One car with an empty program; a scan has one step.
