@@ -5,3 +5,4 @@ pub mod Serving
 pub mod Lines
 pub mod Replaying
 pub mod Ending
+pub mod Few

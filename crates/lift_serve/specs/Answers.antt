@@ -73,6 +73,10 @@ press_word Held = []
 unfoldable pub press_line : Call → Reply → List ℕ
 press_line call reply = codes "press " ++ (decimal call.from ++ (codes " " ++ (decimal call.to ++ (codes " " ++ (press_word reply ++ codes "\n")))))
 
+-- an answer's greatest length, in bytes: 168 notices of at most 41, and the outputs of eight cars
+abbrev pub greatest_answer : ℕ
+greatest_answer = 6936
+
 -- WHAT IS ANSWERED
 
 -- What is said leads from a world to another, and is answered so: a round by its notices, a line for each, and the outputs that it leaves, a press

@@ -1,5 +1,5 @@
 -- A group behind lines, and what each line leaves (own rules).
-use Rattle.std.specs.Prelude.{◌≡◌, ◌≢◌, ℕ, ◌+◌, Bool, true, false, if◌then◌else◌, List, [], ◌∷◌, ◌++◌, length, map, flat_map, string_bytes}
+use Rattle.std.specs.Prelude.{◌≡◌, ◌≢◌, ◌≤◌, ℕ, ◌+◌, Bool, true, false, if◌then◌else◌, List, [], ◌∷◌, ◌++◌, length, map, flat_map, string_bytes}
 use Rattle.il_spec.specs.declared.tree.Config.{Config}
 use Rattle.lift_spec.specs.declared.trace.TraceEvent.TheVariants as traced
 use Rattle.lift_spec.specs.declared.image.Sizes.{Sizes}
@@ -19,7 +19,7 @@ use Rattle.lift_serve.specs.declared.serve.Stop.TheVariants.{Line, Input, Lines}
 use Rattle.lift_serve.specs.declared.input.Came.TheVariants.{Whole, Ended, TooLong, Failed}
 use Rattle.lift_serve.specs.Coming.{greatest_line}
 use Rattle.lift_serve.specs.Saying.{Says, SaysNothing, events_of, scan_events, is_call}
-use Rattle.lift_serve.specs.Answers.{stop_line, Acts}
+use Rattle.lift_serve.specs.Answers.{stop_line, greatest_answer, Acts}
 
 -- what holds of every server: no scan is open, and it has the tasks and the texts of its group
 pub record IsServer (s : Server) : Type 0 where
@@ -28,6 +28,7 @@ pub record IsServer (s : Server) : Type 0 where
   pub gathers : string_bytes s.gathers ≡ events_text (map traced.Gather (floors_rising s.world.program.config))
   pub scans : string_bytes s.scans ≡ events_text (flat_map scan_events (tasks_in_order s.world.program.config))
   pub stop : string_bytes s.stop ≡ stop_line s.world.program.config
+  pub short : length (string_bytes s.stop) ≤ greatest_answer
 
 -- THE BLACK BOX
 

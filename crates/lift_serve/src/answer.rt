@@ -1,6 +1,6 @@
 // What is answered, written.
 
-ghost use Rattle.std.specs.Prelude.{◌≡◌, ◌++◌, ◌∷◌, [], OnOk, string_bytes, flat_map};
+ghost use Rattle.std.specs.Prelude.{◌≡◌, ◌≤◌, ◌*◌, ◌++◌, ◌∷◌, [], OnOk, length, string_bytes, flat_map};
 ghost use Rattle.lift_spec.specs.Snapshot.{motor_number};
 ghost use Rattle.lift_spec.specs.Replies.{reply_with};
 ghost use Rattle.lift_trace.specs.Text.{flag};
@@ -10,7 +10,7 @@ use lift_image::{CarOutputs, Motor};
 use lift_round::notice::Notice;
 use lift_spec::calls::Call;
 use lift_spec::event::Reply;
-use lift_spec::report::{Denial, EnteredCall, Report};
+use lift_spec::report::{Denial, EnteredCall, Report, Rule};
 use std::alloc::AllocError;
 
 /// A motor as a number: 1 is up, -1 is down.
@@ -62,42 +62,47 @@ pub fn put_outputs(text: &mut String, outputs: &[CarOutputs]) -> Result<(), Allo
 }
 
 #[tactic(auto, unfolding(crate::specs::Answers::entered_line))]
-fn put_entered(text: &mut String, entered: EnteredCall) -> Result<(), AllocError>
-    ensures { OnOk result (string_bytes text.new ≡ string_bytes text.old ++ entered_line entered) }
+fn put_entered(text: &mut String, ticket: u64, slot: u8, from: u8, to: u8) -> Result<(), AllocError>
+    ensures line { OnOk result (string_bytes text.new ≡ string_bytes text.old ++ entered_line (record { slot = slot; ticket = ticket; call = record { from = from; to = to } })) }
+    ensures few { length (entered_line (record { slot = slot; ticket = ticket; call = record { from = from; to = to } })) ≤ 41 }
 {
-    let call = entered.call;
-    write!(text, "entered {} {}", entered.ticket, entered.slot)?;
-    writeln!(text, " {} {}", call.from, call.to)
+    write!(text, "entered {} {}", ticket, slot)?;
+    writeln!(text, " {} {}", from, to)
 }
 
 #[tactic(auto, unfolding(crate::specs::Answers::denied_line))]
-fn put_denied(text: &mut String, denial: Denial) -> Result<(), AllocError>
-    ensures { OnOk result (string_bytes text.new ≡ string_bytes text.old ++ denied_line denial) }
+fn put_denied(text: &mut String, car: u8, rule: Rule) -> Result<(), AllocError>
+    ensures line { OnOk result (string_bytes text.new ≡ string_bytes text.old ++ denied_line (record { car = car; rule = rule })) }
+    ensures few { length (denied_line (record { car = car; rule = rule })) ≤ 41 }
 {
-    let rule = denial.rule;
-    writeln!(text, "denied {} {}", denial.car, rule.number())
+    writeln!(text, "denied {} {}", car, rule.number())
 }
 
 #[tactic(auto, unfolding(crate::specs::Answers::told_line))]
 fn put_told(text: &mut String, ticket: u64, car: u8) -> Result<(), AllocError>
-    ensures { OnOk result (string_bytes text.new ≡ string_bytes text.old ++ told_line ticket car) }
+    ensures line { OnOk result (string_bytes text.new ≡ string_bytes text.old ++ told_line ticket car) }
+    ensures few { length (told_line ticket car) ≤ 41 }
 {
     writeln!(text, "told {} {}", ticket, car)
 }
 
 #[tactic(auto, unfolding(crate::specs::Answers::served_line))]
 fn put_served(text: &mut String, ticket: u64, car: u8) -> Result<(), AllocError>
-    ensures { OnOk result (string_bytes text.new ≡ string_bytes text.old ++ served_line ticket car) }
+    ensures line { OnOk result (string_bytes text.new ≡ string_bytes text.old ++ served_line ticket car) }
+    ensures few { length (served_line ticket car) ≤ 41 }
 {
     writeln!(text, "served {} {}", ticket, car)
 }
 
 fn put_notice(text: &mut String, notice: Notice) -> Result<(), AllocError>
-    ensures { OnOk result (string_bytes text.new ≡ string_bytes text.old ++ notice_line notice) }
+    ensures line { OnOk result (string_bytes text.new ≡ string_bytes text.old ++ notice_line notice) }
+    ensures few { length (notice_line notice) ≤ 41 }
 {
     match notice {
-        Notice::Entered(entered) => put_entered(text, entered),
-        Notice::Denied(denial) => put_denied(text, denial),
+        Notice::Entered(EnteredCall { slot, ticket, call }) => {
+            put_entered(text, ticket, slot, call.from, call.to)
+        }
+        Notice::Denied(Denial { car, rule }) => put_denied(text, car, rule),
         Notice::Told { ticket, car } => put_told(text, ticket, car),
         Notice::Served { ticket, car } => put_served(text, ticket, car),
     }
@@ -105,7 +110,8 @@ fn put_notice(text: &mut String, notice: Notice) -> Result<(), AllocError>
 
 /// A line for each notice, in their order.
 pub fn put_notices(text: &mut String, notices: &[Notice]) -> Result<(), AllocError>
-    ensures { OnOk result (string_bytes text.new ≡ string_bytes text.old ++ flat_map notice_line notices.now) }
+    ensures lines { OnOk result (string_bytes text.new ≡ string_bytes text.old ++ flat_map notice_line notices.now) }
+    ensures few { OnOk result (length (flat_map notice_line notices.now) ≤ 41 * length notices.now) }
 {
     'notices: for notice in notices {
         put_notice(text, *notice)?;

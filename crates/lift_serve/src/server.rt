@@ -1,6 +1,6 @@
 // A group behind lines.
 
-ghost use Rattle.std.specs.Prelude.{◌≡◌, ◌≢◌, ◌⊎◌, ◌++◌, ◌+◌, ◌∷◌, [], ℕ, List, Bool, true, length, OnOk, OnErr, IfOk, IfErr, string_bytes, map, flat_map};
+ghost use Rattle.std.specs.Prelude.{◌≡◌, ◌≢◌, ◌≤◌, ◌⊎◌, ◌++◌, ◌+◌, ◌∷◌, [], ℕ, List, Bool, true, length, OnOk, OnErr, IfOk, IfErr, string_bytes, map, flat_map};
 ghost use Rattle.std.specs.Io.KnownBytes.{Appends};
 ghost use Rattle.lift_spec.specs.World.{opening};
 ghost use Rattle.lift_spec.specs.declared.trace.TraceEvent.TheVariants.{Gather};
@@ -9,8 +9,8 @@ ghost use Rattle.lift_sink.specs.Writes.{AppendsFront};
 ghost use Rattle.lift_trace.specs.Text.{last_line};
 ghost use Rattle.lift_trace.specs.Writing.{events_text};
 ghost use Rattle.lift_journal.specs.Rounds.{TakesAll, counting_from};
-ghost use Rattle.lift_serve.specs.Saying.{scan_events, events_of, Says, IsTaken};
-ghost use Rattle.lift_serve.specs.Answers.{Acts, outputs_line};
+ghost use Rattle.lift_serve.specs.Saying.{scan_events, events_of, Says, IsSpelled, IsTaken};
+ghost use Rattle.lift_serve.specs.Answers.{Acts, greatest_answer, outputs_line};
 ghost use Rattle.lift_serve.specs.Serving.{IsServer, Hears, Unheard, traced_text, record_text, is_end};
 ghost use Rattle.lift_serve.specs.declared.said.Said.{Said as SaidOf};
 
@@ -250,6 +250,7 @@ impl Server {
     /// What is said is done, and answered.
     fn answer_said<O: Sink>(&mut self, said: Said, out: &mut O) -> Result<(), ServeFault>
         requires server { IsServer self.old }
+        requires numbers { IsSpelled self.old.world.program.config said }
         requires taken { IsTaken self.old.world.program.config said }
         ensures answered { OnOk result ((text : List ℕ) × Acts self.old.world.program.config said self.old.world.world self.new.world.world text × Appends (O.contents out.old) (O.contents out.new) text) }
         ensures fault { IfErr result (λ fault. ((fault ≡ ServeFault.Memory) × Appends (O.contents out.old) (O.contents out.new) []) ⊎ ((fault ≡ ServeFault.Output) × ((text : List ℕ) × Acts self.old.world.program.config said self.old.world.world self.new.world.world text × AppendsFront (O.contents out.old) (O.contents out.new) text))) }
@@ -310,10 +311,13 @@ impl Server {
 
 /// The outputs of a world, as a line.
 fn stop_of(alloc: Global, world: &World) -> Result<String, AllocError>
-    ensures { IfOk result (λ text. string_bytes text ≡ outputs_line world.now.world.group.image.outputs) }
+    ensures line { IfOk result (λ text. string_bytes text ≡ outputs_line world.now.world.group.image.outputs) }
+    ensures short { IfOk result (λ text. length (string_bytes text) ≤ greatest_answer) }
 {
+    let outputs = &world.image().outputs;
+    let _cars = outputs.len();
     let mut text = String::new(alloc);
-    put_outputs(&mut text, world.image().outputs.as_slice())?;
+    put_outputs(&mut text, outputs.as_slice())?;
     Ok(text)
 }
 

@@ -24,5 +24,6 @@ returns-clause-server c =
       scans =
           c.in_ok-scans.ensures ∙ ap (λ (l : List ℕ). events_text (flat_map scan_events l)) (c.as_slice.ensures ∙ c.tasks_in-tasks.ensures)
           ∙ ap (λ (x : Program). events_text (flat_map scan_events (tasks_in_order x.config))) (sym same);
-      stop = stop_is p.config c.in_ok-world.world.world _ opened c.in_ok-stop.ensures ∙ ap (λ (x : Program). stop_line x.config) (sym same);
+      stop = stop_is p.config c.in_ok-world.world.world _ opened c.in_ok-stop.ensures.line ∙ ap (λ (x : Program). stop_line x.config) (sym same);
+      short = c.in_ok-stop.ensures.short;
     }
