@@ -1,5 +1,5 @@
 -- What `serve` gives (own rules).
-use Rattle.std.specs.Prelude.{◌≡◌, ◌++◌, ℕ, nat_lt, Bool, true, false, List, [], Option, Some, None, Ok, Err, if◌then◌else◌}
+use Rattle.std.specs.Prelude.{◌≡◌, ◌++◌, ℕ, nat_lt, Bool, List, [], Option, Some, None, Ok, Err, if◌then◌else◌}
 use Rattle.std.specs.Io.KnownBytes.{Appends}
 use Rattle.il_spec.specs.declared.fault.Refusal.{Refusal}
 use Rattle.il_spec.specs.declared.tree.Config.{Config}
@@ -11,7 +11,7 @@ use Rattle.lift_host.specs.declared.serving.Tracing.{Tracing}
 use Rattle.lift_host.specs.declared.status.Fault.{Fault}
 use Rattle.lift_host.specs.declared.status.Fault.TheVariants.{Misuse, Refused, BadPress, TooManyPresses, BadFire, BadName, CannotRead, CannotWrite, NoMemory}
 use Rattle.lift_host.specs.declared.status.Status.{Status}
-use Rattle.lift_host.specs.declared.status.Status.TheVariants as status
+use Rattle.lift_host.specs.declared.status.Status.TheVariants as with_status
 use Rattle.lift_host.specs.Messages.{fault_of, fault_of_reading, message_of, status_of}
 use Rattle.lift_shell.specs.Runs.{IsWanted, IsUnreadBelow, most_bytes}
 use Rattle.lift_sink.specs.Writes.{AppendsFront}
@@ -82,8 +82,8 @@ IsCreated (Some tracing) before created = IsNew created
 
 -- Of a configuration: its trace could not be created; or its lines were answered and traced, to the end or up to a stop. The stop's fault is told.
 pub data IsLoadedAnswer (c : Config) (tracing : Option Tracing) (Taken : List ℕ → Type 0) (old new : Option (List ℕ)) (failed : Bool) (before after : Option (List ℕ)) (Told : List ℕ → Type 0) (Silent : Type 0) (status : Status) : Type 0 where
-  uncreated : Taken [] → new ≡ old → Told (message_of CannotWrite) → status ≡ status.CannotWrite → IsLoadedAnswer c tracing Taken old new failed before after Told Silent status
-  ended : (created : Option (List ℕ)) → IsCreated tracing before created → IsEnded c Taken (Appends old new) (Appends created after) → Silent → status ≡ status.Done → IsLoadedAnswer c tracing Taken old new failed before after Told Silent status
+  uncreated : Taken [] → new ≡ old → Told (message_of CannotWrite) → status ≡ with_status.CannotWrite → IsLoadedAnswer c tracing Taken old new failed before after Told Silent status
+  ended : (created : Option (List ℕ)) → IsCreated tracing before created → IsEnded c Taken (Appends old new) (Appends created after) → Silent → status ≡ with_status.Done → IsLoadedAnswer c tracing Taken old new failed before after Told Silent status
   halted : (created : Option (List ℕ)) → IsCreated tracing before created → (halt : Halt) → IsHalted c Taken old new failed (Appends created after) (AppendsFront created after) halt → Told (message_of (fault_of_halt halt)) → status ≡ status_of (fault_of_halt halt)
       → IsLoadedAnswer c tracing Taken old new failed before after Told Silent status
 

@@ -2,15 +2,14 @@
 
 use crate::serving::TraceSink;
 use lift_sink::sink::{Sink, SinkFault};
-use std::fs::{File, OpenOptions};
+use std::fs::{Files, OpenFile, OpenOptions};
 use std::io::Write;
-use std::rt::Files;
 
 /// A trace on disk, once it is created.
 #[derive(Drop)]
 pub struct DiskTrace<'r, R: Files> {
     rt: &'r R,
-    file: Option<File>,
+    file: Option<R::File>,
     sync: bool,
     failed: bool,
 }

@@ -72,7 +72,7 @@ fn known(alloc: Global, text: &[u8], refusal: Refusal) -> Result<Output, Fault>
 }
 
 /// The configuration that a text spells, verified.
-fn loaded(alloc: Global, text: &[u8]) -> Result<Verified, Refusal>
+pub(crate) fn loaded(alloc: Global, text: &[u8]) -> Result<Verified, Refusal>
     ensures { IsLoaded text.now result }
 {
     load(alloc, text)

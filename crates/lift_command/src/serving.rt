@@ -3,13 +3,13 @@
 ghost use Rattle.std.specs.Prelude.{◌≡◌, OnOk};
 ghost use Rattle.std.specs.Io.KnownBytes.{Consumes};
 ghost use Rattle.lift_sink.specs.Writes.{Writes};
-ghost use Rattle.lift_command.specs.Servings.{IsNew, IsServeAnswer, IsTextAnswer, IsLoadedAnswer, IsRefusalBelow, IsRefusedAnswer, IsUnreadAnswer, fault_of_halt, fault_of_input, fault_of_line, fault_of_stop, fault_of_wrong, shown_line};
+ghost use Rattle.lift_command.specs.Servings.{IsCreated, IsNew, IsServeAnswer, IsTextAnswer, IsLoadedAnswer, IsRefusalBelow, IsRefusedAnswer, IsUnreadAnswer, fault_of_halt, fault_of_input, fault_of_line, fault_of_stop, fault_of_wrong, shown_line};
 
+use crate::liftplc::loaded;
 use il_machine::Verified;
 use lift_host::files::{Cause, ReadFault, TextFiles};
 use lift_host::serving::{Serving, Tracing};
 use lift_host::status::{Fault, Status};
-use lift_load::load;
 use lift_serve::group::{Halt, serve_group};
 use lift_serve::input::Came;
 use lift_serve::said::WrongLine;
@@ -79,7 +79,7 @@ fn serve_text<T: TraceSink, I: Read, O: Sink, E: Sink>(
 ) -> Status
     ensures { IsTextAnswer explains serving.entry text.now (Consumes (I.remaining input.old) (I.remaining input.new)) (O.contents out.old) (O.contents out.new) (O.has_failed out.new) (T.contents trace.old) (T.contents trace.new) (Writes (E.contents err.old) (E.contents err.new) (E.has_failed err.new)) (E.contents err.new ≡ E.contents err.old) result }
 {
-    match load(alloc, text) {
+    match loaded(alloc, text) {
         Ok(verified) => serve_loaded(alloc, verified, serving.trace, trace, input, out, err),
         Err(refusal) => tell_refused(alloc, serving.file, text, refusal.into(), explains, err),
     }
@@ -129,12 +129,10 @@ fn serve_loaded<T: TraceSink, I: Read, O: Sink, E: Sink>(
 ) -> Status
     ensures { IsLoadedAnswer verified.config tracing.entry (Consumes (I.remaining input.old) (I.remaining input.new)) (O.contents out.old) (O.contents out.new) (O.has_failed out.new) (T.contents trace.old) (T.contents trace.new) (Writes (E.contents err.old) (E.contents err.new) (E.has_failed err.new)) (E.contents err.new ≡ E.contents err.old) result }
 {
-    if let Some(tracing) = tracing {
-        if trace.create(tracing.name, tracing.sync).is_err() {
-            verified.release();
-            tell(&Fault::CannotWrite, b"", err);
-            return Status::CannotWrite;
-        }
+    if create(tracing, trace).is_err() {
+        verified.release();
+        tell(&Fault::CannotWrite, b"", err);
+        return Status::CannotWrite;
     }
     match serve_group(alloc, verified, input, out, trace) {
         Ok(()) => Status::Done,
@@ -143,6 +141,16 @@ fn serve_loaded<T: TraceSink, I: Read, O: Sink, E: Sink>(
             tell(&fault, b"", err);
             fault.status()
         }
+    }
+}
+
+/// Creates the trace, if one is wanted.
+fn create<T: TraceSink>(tracing: Option<Tracing<'_>>, trace: &mut T) -> Result<(), SinkFault>
+    ensures { OnOk result (IsCreated tracing.entry (T.contents trace.old) (T.contents trace.new)) }
+{
+    match tracing {
+        Some(tracing) => trace.create(tracing.name, tracing.sync),
+        None => Ok(()),
     }
 }
 
