@@ -1,0 +1,2 @@
+pub mod HeldValues
+pub mod Values

@@ -1,0 +1,4 @@
+pub mod Leading
+pub mod Listed
+pub mod Refusing
+pub mod Resting

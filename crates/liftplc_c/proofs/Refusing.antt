@@ -1,0 +1,24 @@
+-- What is said of a refusal, at its number and its line.
+use Rattle.std.proofs.Common.{◌≡◌, ℕ, Err, subst, sym, ◌∙◌, inl, inr}
+use Rattle.std.specs.Prelude.{◌⊎◌}
+use Rattle.il_parse.specs.Refused.{IsFault}
+use Rattle.il_spec.specs.declared.fault.Refusal.{Refusal}
+use Rattle.il_spec.specs.declared.fault.Refusal.TheVariants.{Fault, Memory}
+use Rattle.il_spec.specs.declared.tree.Config.{Config}
+use Rattle.lift_load.specs.Loading.{IsRefusedFor}
+
+same_fault : (m n k l : ℕ) → Fault m k ≡ Fault n l → (m ≡ n) × (k ≡ l)
+same_fault m n k l e = (cc, cc)
+
+no_memory : (n l : ℕ) → Fault n l ≡ Memory → ⊥
+no_memory n l e = cc
+
+pub named_at : (e : Refusal) (number line : ℕ) (c : Config) → e ≡ Fault number line → (IsFault {A = Unit {0}} (Err e) → IsRefusedFor c e) → IsRefusedFor c (Fault number line)
+named_at e number line c is said = (subst (λ (x : Refusal). IsFault {A = Unit {0}} (Err x) → IsRefusedFor c x) is said) tt
+
+pub one_at : (e : Refusal) (number line n l : ℕ) → e ≡ Fault number line → (IsFault {A = Unit {0}} (Err e) → e ≡ Fault n l) → (number ≡ n) × (line ≡ l)
+one_at e number line n l is said = same_fault number n line l ((subst (λ (x : Refusal). IsFault {A = Unit {0}} (Err x) → x ≡ Fault n l) is said) tt)
+
+pub bytes_at : (e : Refusal) (number line n l : ℕ) → e ≡ Fault number line → (e ≡ Fault n l) ⊎ (e ≡ Memory) → (number ≡ n) × (line ≡ l)
+bytes_at e number line n l is (inl same) = same_fault number n line l (sym is ∙ same)
+bytes_at e number line n l is (inr memory) = absurd (no_memory number line (sym is ∙ memory))

@@ -1,0 +1,16 @@
+use Rattle.std.proofs.Common.{subst}
+use Rattle.il_machine.specs.Scanning.{Program, IsRunnable}
+use Rattle.il_machine.proofs.Scans.{sound_of}
+use Rattle.lift_run_laws.proofs.Accepted.{accepted_runs_well}
+use Rattle.liftplc_c.proofs.history.led.Goals as goal
+
+pub returns : goal.returns
+returns c =
+    let w = c.args.world.now in
+    let runs = subst (λ (p : Program). IsRunnable p.config) c.verified.ensures c.config-config.ensures.runnable in
+    record {
+      reached = c.requires;
+      well = λ events replies is. (accepted_runs_well w.program.config (sound_of w.program.config runs)).well events w.world replies is;
+      ranges = c.image-image.ensures.ranges;
+      obeys = c.image-image.ensures.obeys;
+    }

@@ -1,0 +1,12 @@
+//! The controller for a program in C: each export on a handle that C keeps.
+#![tactic(auto)]
+
+mod asking;
+mod fields;
+mod handle;
+mod history;
+mod notices;
+mod opening;
+mod outputs;
+mod pressing;
+mod stepping;

@@ -1,0 +1,92 @@
+// Opening and closing.
+
+ghost use Rattle.std.specs.Prelude.{◌≡◌, ◌≢◌, ◌↔◌, ◌⊎◌, ℕ, Option, Some, None, true, false, is_some, IfOk, IfErr, IsErrAnd, if◌then◌else◌};
+ghost use Rattle.il_parse.specs.Refused.{IsFault};
+ghost use Rattle.il_spec.specs.declared.fault.Refusal.TheVariants.{Fault};
+ghost use Rattle.il_spec.specs.declared.tree.Config.{Config as ConfigOf};
+ghost use Rattle.il_text.specs.LexicalErrors.{IsFaultOfText};
+ghost use Rattle.lift_load.specs.Loading.{IsAccepted, IsExplained, IsRefusedFor, IsSpelled, IsSpelledWith, ReportsFaultOfText};
+ghost use Rattle.lift_run_laws.specs.Runs.{RunsWell};
+ghost use Rattle.lift_spec.specs.World.{opening};
+ghost use Rattle.lift_world.specs.Worlds.{WorldOf};
+ghost use Rattle.liftplc_c.specs.Handles.{IsLed, Rests};
+
+use crate::handle::Handle;
+use crate::history::led;
+use lift_load::load;
+use lift_world::{Refusal, World};
+use std::alloc::Global;
+
+/// Why a text is refused: the number of its fault, and its line.
+#[repr(C)]
+#[derive(Clone, Copy)]
+pub struct TextRefusal {
+    pub number: u16,
+    pub line: u32,
+}
+
+/// The world of a text as it opens.
+fn opened(alloc: Global, text: &[u8]) -> Result<Box<World, Global>, Refusal>
+    ensures accepted { IfOk result (λ b. IsAccepted text.now b.value.program.config) }
+    ensures runs { IfOk result (λ b. RunsWell b.value.program.config) }
+    ensures opening { IfOk result (λ b. b.value.world ≡ opening b.value.program.config) }
+    ensures led { IfOk result (λ b. IsLed b.value) }
+    ensures rests { IfOk result (λ b. Rests b.value.world) }
+    ensures refused { IsFault result → (c : ConfigOf) → IsAccepted text.now c → ⊥ }
+    ensures named { IsFault result → (c : ConfigOf) → IsSpelled text.now c → IsErrAnd result (IsRefusedFor c) }
+    ensures number { IfErr result (IsExplained text.now) }
+    ensures bytes { ReportsFaultOfText text.now result }
+    ensures one { IsFault result → (n l : ℕ) → IsSpelledWith text.now (Fault n l) → IsErrAnd result (λ e. e ≡ Fault n l) }
+{
+    let world = World::new(alloc, load(alloc, text)?)?;
+    led(&world);
+    Ok(Box::new(alloc, world)?)
+}
+
+/// Opens the controller of a text: 0. 1: the text is refused, and why is written. 2: memory is missing. 3: the handle is open already.
+/// But for 0 the handle is left as it was.
+#[unsafe(no_mangle)]
+pub extern "C" fn liftplc_open(
+    alloc: Global,
+    handle: &mut Handle,
+    text: &[u8],
+    refusal: &mut TextRefusal,
+) -> u32
+    ensures answered { (result ≡ 3) ↔ (handle.old.is_open ≡ true) }
+    ensures opened { result ≡ 0 → (w : WorldOf) × (handle.new.held.world ≡ Some w) × IsAccepted text.now w.program.config × (w.world ≡ opening w.program.config) × RunsWell w.program.config }
+    ensures led { result ≡ 0 → (w : WorldOf) × (handle.new.held.world ≡ Some w) × IsLed w }
+    ensures kept { result ≢ 0 → handle.new ≡ handle.old }
+    ensures refused { result ≡ 1 → (c : ConfigOf) → IsAccepted text.now c → ⊥ }
+    ensures named { result ≡ 1 → (c : ConfigOf) → IsSpelled text.now c → IsRefusedFor c (Fault refusal.new.number refusal.new.line) }
+    ensures number { result ≡ 1 → IsExplained text.now (Fault refusal.new.number refusal.new.line) }
+    ensures bytes { (n l : ℕ) → IsFaultOfText text.now (Fault n l) → (result ≡ 2) ⊎ (result ≡ 3) ⊎ ((result ≡ 1) × (refusal.new.number ≡ n) × (refusal.new.line ≡ l)) }
+    ensures one { result ≡ 1 → (n l : ℕ) → IsSpelledWith text.now (Fault n l) → (refusal.new.number ≡ n) × (refusal.new.line ≡ l) }
+    ensures unwritten { result ≢ 1 → refusal.new ≡ refusal.old }
+{
+    if handle.is_open {
+        return 3;
+    }
+    match opened(alloc, text) {
+        Ok(world) => {
+            handle.put(world);
+            0
+        }
+        Err(Refusal::Fault { number, line }) => {
+            *refusal = TextRefusal { number, line };
+            1
+        }
+        Err(Refusal::Memory) => 2,
+    }
+}
+
+/// Closes the controller: 0. 4: the handle isn't open.
+#[unsafe(no_mangle)]
+pub extern "C" fn liftplc_close(alloc: Global, handle: &mut Handle) -> u32
+    ensures answered { result ≡ (if is_some handle.old.held.world then 0 else 4) }
+    ensures closed { handle.new.held.world ≡ None }
+{
+    match handle.take(alloc) {
+        Some(_world) => 0,
+        None => 4,
+    }
+}

@@ -1,0 +1,121 @@
+// What C is told of a round.
+
+ghost use Rattle.std.specs.Prelude.{◌≡◌, ◌≤◌, length, map, take};
+ghost use Rattle.liftplc_c.specs.Outputs.{car_output, slot_output, TellsCars, TellsNotices, TellsSlots};
+
+use crate::notices::{NoticeOutput, put_notices};
+use lift_image::{CarOutputs, Motor};
+use lift_round::notice::Notices;
+use lift_spec::calls::Slot;
+use lift_world::World;
+
+/// What a car is to do: 1 is up, -1 is down, 0 is still; and whether its door is to be open.
+#[repr(C)]
+#[derive(Clone, Copy)]
+pub struct CarOutput {
+    pub motor: i8,
+    pub opens: bool,
+}
+
+/// A call slot: 0 is free, 1 is waiting, 2 is told to a car.
+#[repr(C)]
+#[derive(Clone, Copy)]
+pub struct SlotOutput {
+    pub ticket: u64,
+    pub state: u8,
+    pub from: u8,
+    pub to: u8,
+    pub car: u8,
+}
+
+/// What a round left. Of each array so many are written as are counted.
+#[repr(C)]
+pub struct RoundOutputs {
+    pub car_count: u8,
+    pub slot_count: u8,
+    pub notice_count: u8,
+    pub cars: [CarOutput; 8],
+    pub slots: [SlotOutput; 64],
+    pub notices: [NoticeOutput; 168],
+}
+
+fn car_output(car: CarOutputs) -> CarOutput
+    ensures { result ≡ car_output car }
+{
+    let motor = match car.motor {
+        Motor::Up => 1,
+        Motor::Down => -1,
+        Motor::Still => 0,
+    };
+    CarOutput {
+        motor,
+        opens: car.opens,
+    }
+}
+
+fn slot_output(slot: Slot) -> SlotOutput
+    ensures { result ≡ slot_output slot }
+{
+    match slot {
+        Slot::Free => SlotOutput {
+            ticket: 0,
+            state: 0,
+            from: 0,
+            to: 0,
+            car: 0,
+        },
+        Slot::Waiting { ticket, call } => SlotOutput {
+            ticket,
+            state: 1,
+            from: call.from,
+            to: call.to,
+            car: 0,
+        },
+        Slot::Told { ticket, call, car } => SlotOutput {
+            ticket,
+            state: 2,
+            from: call.from,
+            to: call.to,
+            car,
+        },
+    }
+}
+
+/// The outputs of the cars go to the front of the room, car 1 first.
+fn put_cars(room: &mut [CarOutput], cars: &[CarOutputs])
+    requires { length cars.now ≤ length room.old }
+    ensures { take (length cars.now) room.new ≡ map car_output cars.now }
+{
+    'cars: for index in 0..cars.len() {
+        room[index] = car_output(cars[index]);
+    }
+}
+
+/// The call slots go to the front of the room, slot 1 first.
+fn put_slots(room: &mut [SlotOutput], slots: &[Slot])
+    requires { length slots.now ≤ length room.old }
+    ensures { take (length slots.now) room.new ≡ map slot_output slots.now }
+{
+    'slots: for index in 0..slots.len() {
+        room[index] = slot_output(slots[index]);
+    }
+}
+
+/// What a round left of the world, and its notices.
+pub fn put(outputs: &mut RoundOutputs, world: &World, notices: &Notices)
+    ensures cars { TellsCars outputs.new world.now.world.group.image.outputs }
+    ensures slots { TellsSlots outputs.new world.now.world.group.calls.slots }
+    ensures notices { TellsNotices outputs.new notices.now }
+{
+    let cars = &world.image().outputs;
+    let car_count = cars.len();
+    put_cars(&mut outputs.cars, cars.as_slice());
+    outputs.car_count = car_count as u8;
+    let slots = world.slots();
+    let slot_count = slots.len();
+    put_slots(&mut outputs.slots, slots.as_slice());
+    outputs.slot_count = slot_count as u8;
+    let notice_count = notices.len();
+    put_notices(&mut outputs.notices, notices.as_slice());
+    outputs.notice_count = notice_count as u8;
+}

@@ -1,0 +1,93 @@
+/* Each wrong use that the library answers, and what it answers. It ends with status 0, or names the line that differs.
+ *
+ * usage: wrong_use FILE     (a text of 2 cars) */
+#include <stdio.h>
+#include <string.h>
+
+#include "liftplc.h"
+
+#define WANT(condition) \
+    do { \
+        if (!(condition)) { \
+            printf("line %d: %s\n", __LINE__, #condition); \
+            return 1; \
+        } \
+    } while (0)
+#define ROUND(fields) liftplc_round(&handle, fields, &outputs)
+#define REFUSED_ROUND(field, value) (bad = good, bad.field = (value), ROUND(&bad) == LIFTPLC_OUT_OF_RANGE && !memcmp(&outputs, &before, sizeof outputs))
+
+static char text[262144 + 2];
+static liftplc_outputs outputs, before;
+static liftplc_fields bad;
+static const liftplc_fields good = {100, 2, false, 2, {{1, true, false, true, true, false}, {1, true, false, true, true, false}}};
+
+static int is_untouched(void) { return !memcmp(&outputs, &before, sizeof outputs); }
+
+int main(int argc, char **argv) {
+    FILE *file = argc == 2 ? fopen(argv[1], "rb") : NULL;
+    if (!file) return 2;
+    size_t length = fread(text, 1, sizeof text, file);
+    fclose(file);
+    static liftplc_handle handle;
+    liftplc_refusal refusal = {999, 999};
+    memset(outputs.slots, 0x5a, sizeof outputs.slots);
+    memset(outputs.notices, 0x5a, sizeof outputs.notices);
+    before = outputs;
+
+    /* null pointers */
+    WANT(liftplc_open(NULL, text, length, &refusal) == LIFTPLC_NULL);
+    WANT(liftplc_open(&handle, NULL, length, &refusal) == LIFTPLC_NULL && liftplc_open(&handle, NULL, 0, &refusal) == LIFTPLC_NULL);
+    WANT(liftplc_open(&handle, text, length, NULL) == LIFTPLC_NULL && !handle.is_open);
+    WANT(liftplc_close(NULL) == LIFTPLC_NULL && liftplc_press(NULL, 1, 2) == LIFTPLC_NULL && liftplc_budget(NULL, 1) == 0);
+    WANT(liftplc_round(NULL, &good, &outputs) == LIFTPLC_NULL && liftplc_round(&handle, NULL, &outputs) == LIFTPLC_NULL && ROUND(&good) == LIFTPLC_CLOSED);
+    WANT(liftplc_round(&handle, &good, NULL) == LIFTPLC_NULL && is_untouched());
+
+    /* a closed handle */
+    WANT(liftplc_close(&handle) == LIFTPLC_CLOSED && liftplc_close(&handle) == LIFTPLC_CLOSED);
+    WANT(liftplc_press(&handle, 1, 2) == LIFTPLC_CLOSED && liftplc_press(&handle, 999, 2) == LIFTPLC_CLOSED && liftplc_budget(&handle, 1) == 0);
+    WANT(REFUSED_ROUND(car_count, 9) == 0 && ROUND(&bad) == LIFTPLC_CLOSED && is_untouched());
+
+    /* texts that are refused leave the handle closed */
+    WANT(liftplc_open(&handle, "X", 1, &refusal) == LIFTPLC_REFUSED && refusal.line == 1 && refusal.number == 10 && !handle.is_open);
+    WANT(liftplc_open(&handle, text, 0, &refusal) == LIFTPLC_REFUSED && liftplc_open(&handle, text, length - 20, &refusal) == LIFTPLC_REFUSED);
+    WANT(liftplc_open(&handle, text, sizeof text, &refusal) == LIFTPLC_REFUSED && refusal.number == 6 && refusal.line == 1 && !handle.is_open && !handle.world);
+
+    /* an open handle isn't opened again */
+    WANT(liftplc_open(&handle, text, length, &refusal) == LIFTPLC_OK && handle.is_open && handle.world);
+    liftplc_refusal kept = refusal;
+    WANT(liftplc_open(&handle, "X", 1, &refusal) == LIFTPLC_OPEN && handle.is_open && !memcmp(&kept, &refusal, sizeof kept));
+
+    /* presses */
+    for (uint32_t floor = 0; floor < 600; floor++) {
+        if (floor >= 1 && floor <= 8) continue;
+        WANT(liftplc_press(&handle, floor, 2) == LIFTPLC_NO_FLOOR && liftplc_press(&handle, 2, floor) == LIFTPLC_NO_FLOOR);
+    }
+    WANT(liftplc_press(&handle, (uint32_t)-1, 2) == LIFTPLC_NO_FLOOR && liftplc_press(&handle, 2, 256 + 3) == LIFTPLC_NO_FLOOR);
+    WANT(liftplc_press(&handle, 2, 2) == LIFTPLC_SAME_FLOOR && liftplc_press(&handle, 9, 9) == LIFTPLC_NO_FLOOR);
+    WANT(liftplc_press(&handle, 1, 2) == LIFTPLC_OK && liftplc_press(&handle, 1, 2) == LIFTPLC_ALREADY);
+
+    /* budgets */
+    WANT(liftplc_budget(&handle, 0) > 0 && liftplc_budget(&handle, 1) > 0 && liftplc_budget(&handle, 2) > 0);
+    for (uint32_t task = 3; task < 600; task++) WANT(liftplc_budget(&handle, task) == 0);
+
+    /* fields out of range change nothing */
+    for (unsigned i = 0; i < 256; i++) {
+        if (i != 2) WANT(REFUSED_ROUND(car_count, (uint8_t)i));
+        if (i > 2) WANT(REFUSED_ROUND(run_limit, (uint8_t)i));
+        if (i < 1 || i > 8) WANT(REFUSED_ROUND(cars[0].pos, (uint8_t)i) && REFUSED_ROUND(cars[1].pos, (uint8_t)i));
+    }
+    WANT(REFUSED_ROUND(time, 0x80000000u) && REFUSED_ROUND(time, 0xffffffffu));
+
+    /* what is in range, and the call that was pressed once above */
+    WANT(ROUND(&good) == LIFTPLC_OK && outputs.car_count == 2 && outputs.slot_count >= 1 && outputs.notice_count >= 1);
+    const liftplc_notice *first = &outputs.notices[0];
+    WANT(first->kind == LIFTPLC_ENTERED && first->ticket == 1 && first->slot == 1 && first->from == 1 && first->to == 2 && !first->car && !first->rule);
+    WANT(outputs.slots[0].ticket == 1 && outputs.slots[0].from == 1 && outputs.slots[0].to == 2 && outputs.slots[0].state != LIFTPLC_SLOT_FREE);
+
+    /* closed, and opened anew */
+    WANT(liftplc_close(&handle) == LIFTPLC_OK && !handle.is_open && !handle.world && liftplc_close(&handle) == LIFTPLC_CLOSED && ROUND(&good) == LIFTPLC_CLOSED);
+    WANT(liftplc_open(&handle, text, length, &refusal) == LIFTPLC_OK && ROUND(&good) == LIFTPLC_OK && outputs.notice_count == 0);
+    WANT(outputs.slots[0].state == LIFTPLC_SLOT_FREE && liftplc_close(&handle) == LIFTPLC_OK);
+    WANT(liftplc_version() == LIFTPLC_VERSION);
+    return 0;
+}
