@@ -16,6 +16,10 @@ one_more p q events at e w next reply so_far then same below is happened more =
     ∙ ap (λ r. and_then r (λ n. run p n.0 (so_far ++ n.1 ∷ []) (drop (at + 1) events))) (ap (λ d. happens d w e) (sym same) ∙ happened)
     ∙ ap (λ items. run p next items (drop (at + 1) events)) (sym more)
 
+-- one reply more
+pub one_longer : (items then : List Reply) (reply : Reply) (before at : ℕ) → then ≡ items ++ reply ∷ [] → length items ≡ before + at → length then ≡ before + (at + 1)
+one_longer items then reply before at more is = let n : length then ≡ length items + 1 = ap length more ∙ length-append items (reply ∷ []) in omega (arith, n, is)
+
 -- and there is room for the rest
 pub room_left : (items then : List Reply) (reply : Reply) (total at before after : ℕ) → at < total → then ≡ items ++ reply ∷ [] → length items + (total - at) ≤ before → before ≤ after → length then + (total - (at + 1)) ≤ after
 room_left items then reply total at before after below more room grows = let n : length then ≡ length items + 1 = ap length more ∙ length-append items (reply ∷ []) in omega (arith, n, below, room, grows)

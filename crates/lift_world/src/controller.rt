@@ -353,6 +353,10 @@ impl Controller {
         requires room { length replies.old.items + length events.now ≤ replies.old.room }
         requires report_room { replies.old.reports + reporting events.now ≤ replies.old.report_room }
         ensures model { model.run self.old.verified.config (world_in self.old) replies.old.items events.now ≡ Ok (world_in self.new, replies.new.items) }
+        ensures count { length replies.new.items ≡ length replies.old.items + length events.now }
+        ensures room { replies.old.room ≤ replies.new.room }
+        ensures reports { replies.new.reports ≤ replies.old.reports + reporting events.now }
+        ensures report_room { replies.old.report_room ≤ replies.new.report_room }
         ensures same { self.new.verified ≡ self.old.verified }
         ensures world { IsController self.new }
     {

@@ -5,6 +5,7 @@ ghost use Rattle.std.specs.Prelude.{◌≡◌, ℕ, ◌+◌, ◌≤◌, [], ◌�
 ghost use Rattle.il_spec.specs.declared.tree.Unit.{Unit as Organized};
 ghost use Rattle.il_table.specs.NameMap as values;
 ghost use Rattle.il_machine.specs.Listing.{TaskLine, task_line};
+ghost use Rattle.lift_spec.specs.Calls.{slot_at};
 ghost use Rattle.lift_spec.specs.Image.{sizes_of, FieldsInRange, Obeys};
 ghost use Rattle.lift_spec.specs.Replies.{reply_with, Refused};
 ghost use Rattle.lift_spec.specs.declared.event.Event.TheVariants.{Instruction};
@@ -82,13 +83,19 @@ impl World {
         self.group.happen(event, report)
     }
 
-    /// A run over a list of events, with a reply for each.
+    /// A run over a list of events, with a reply for each, behind those that are there. What room is left is left for a further run.
     pub fn run(&mut self, events: &[Event], replies: &mut Replies)
         requires room { length replies.old.items + length events.now ≤ replies.old.room }
         requires report_room { replies.old.reports + reporting events.now ≤ replies.old.report_room }
         // the run is the definitions'
         ensures model { model.run self.old.program.config self.old.world replies.old.items events.now ≡ Ok (self.new.world, replies.new.items) }
         ensures same { self.new.program ≡ self.old.program }
+
+        // a reply for each event, and no more reports than events that may have one
+        ensures count { length replies.new.items ≡ length replies.old.items + length events.now }
+        ensures reports { replies.new.reports ≤ replies.old.reports + reporting events.now }
+        ensures room_kept { replies.old.room ≤ replies.new.room }
+        ensures report_room_kept { replies.old.report_room ≤ replies.new.report_room }
 
         // whatever history has led here, after each event of the run the world is well: no scan traps, sticks or passes its budget,
         // image and variables lie in their ranges, and the image obeys the interlock
@@ -121,8 +128,16 @@ impl World {
         ensures image { result.now ≡ self.now.world.group.image }
         ensures ranges { FieldsInRange (sizes_of self.now.program.config) self.now.world.group.image.fields }
         ensures obeys { Obeys self.now.world.group.image }
+        ensures reached { IsReached self.now.program.config self.now.world }
     {
         self.group.image()
+    }
+
+    /// A call slot, by its number from 1 on.
+    pub fn slot(&self, number: u8) -> Option<Slot>
+        ensures { result ≡ slot_at self.now.world.group.calls.slots number }
+    {
+        self.group.core.calls().slot(number)
     }
 
     /// The call slots, slot 1 first.

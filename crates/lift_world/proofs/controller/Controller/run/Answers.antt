@@ -1,6 +1,6 @@
 use Rattle.std.proofs.Common.{ap, ◌∙◌, arith}
 use Rattle.il_machine.specs.Scanning.{Program}
-use Rattle.lift_world.proofs.Runs.{one_more, room_left, reports_left}
+use Rattle.lift_world.proofs.Runs.{one_more, one_longer, room_left, reports_left}
 use Rattle.lift_world.proofs.controller.Controller.run.Goals as goal
 
 pub push-requires-clause-report_room : goal.push-requires-clause-report_room
@@ -22,6 +22,10 @@ events-preserved c =
       same = c.happen-reply.ensures.same ∙ c.events.invariant.same;
       room = room_left _ _ _ _ _ _ _ c.events-test.true c.push.ensures.items c.events.invariant.room c.push.ensures.room;
       reports = omega (arith, left, room, few, now, grows);
+      count = one_longer _ _ _ _ _ c.push.ensures.items c.events.invariant.count;
+      grown = omega (arith, c.events.invariant.grown, c.push.ensures.room);
+      few = (let sofar = c.events.invariant.few in omega (arith, left, sofar, few, now));
+      reports_grown = omega (arith, c.events.invariant.reports_grown, grows);
       rest =
           c.events.invariant.rest
           ∙ one_more _ _ _ _ _ _ _ _ _ _ (ap (λ (p : Program). p.config) c.events.invariant.same) c.events-test.true c.event-item.is c.happen-reply.ensures.model c.push.ensures.items;

@@ -11,5 +11,9 @@ invariant-events l = record {
   same : l.self.verified ≡ l.fn.self.verified;
   room : length l.replies.items + (length l.events - l.event-index) ≤ l.replies.room;
   reports : l.replies.reports + reporting (drop l.event-index l.events) ≤ l.replies.report_room;
+  count : length l.replies.items ≡ length l.fn.replies.items + l.event-index;
+  grown : l.fn.replies.room ≤ l.replies.room;
+  few : l.replies.reports + reporting (drop l.event-index l.events) ≤ l.fn.replies.reports + reporting l.events;
+  reports_grown : l.fn.replies.report_room ≤ l.replies.report_room;
   rest : run l.fn.self.verified.config (world_in l.fn.self) l.fn.replies.items l.events ≡ run l.fn.self.verified.config (world_in l.self) l.replies.items (drop l.event-index l.events);
 }
