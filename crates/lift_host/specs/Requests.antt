@@ -150,10 +150,11 @@ pub record Asks (words : List (List ℕ)) (request : Request) : Type 0 where
 
 -- WORDS AS THEY ARE READ
 
--- the flag of a command's own: `--all` of `denials`, `--cut` of `replay` and `draw`
+-- the flag of a command's own: `--all` of `denials`, `--together` of `run`, `--cut` of `replay` and `draw`
 abbrev pub flag_of : List ℕ → Option (List ℕ)
 flag_of command =
     if bytes_eq command (codes "denials") then Some (codes "--all")
+    else if bytes_eq command (codes "run") then Some (codes "--together")
     else if bytes_eq command (codes "replay") || bytes_eq command (codes "draw") then Some (codes "--cut")
     else None
 
@@ -198,5 +199,5 @@ plain_words words = flat_map (plain_word (own_flag words)) words
 abbrev pub with_flag : Bool → Request → Request
 with_flag flag (request.Check checked) = request.Check checked
 with_flag flag (request.Show command file) = request.Show command file
-with_flag flag (request.Rounds command rounds) = request.Rounds command (record rounds { all = flag })
+with_flag flag (request.Rounds command rounds) = request.Rounds command (record rounds { flag = flag })
 with_flag flag (request.Trace command traced) = request.Trace command (record traced { cut = flag })

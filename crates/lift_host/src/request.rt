@@ -26,6 +26,9 @@ const TRACE_IS: &str = "--trace=";
 /// The flag of `denials` that has it show all denials.
 const ALL: &str = "--all";
 
+/// The flag of `run` that has a round end for all before the next begins.
+const TOGETHER: &str = "--together";
+
 /// The flag of `replay` and `draw` that has them take a trace up to its last whole line.
 const CUT: &str = "--cut";
 
@@ -102,8 +105,9 @@ pub struct Rounds<'w> {
     pub presses: Words<'w>,
     /// The word behind `--fire`, which is to be a round.
     pub fire: Option<&'w str>,
-    /// Whether `denials` is to show all, also the stops at the ends of the shaft.
-    pub all: bool,
+    /// Whether the command's own flag stands among the words: `denials` is to show all, also the stops at the ends of the shaft; a round of `run` is to end for
+    /// all before the next begins.
+    pub flag: bool,
 }
 
 /// What a command takes that follows a trace: names of files.
@@ -219,7 +223,7 @@ impl<'w> Words<'w> {
 }
 
 impl<'w> Request<'w> {
-    /// The same, with the flag of its command's own or without: `denials` is to show all, a trace may be cut off.
+    /// The same, with the flag of its command's own or without: `denials` is to show all, the rounds of `run` are to be together, a trace may be cut off.
     pub fn with_flag(self, flag: bool) -> Request<'w>
         ensures { result ≡ with_flag flag self.entry }
     {
@@ -228,7 +232,7 @@ impl<'w> Request<'w> {
                 Request::Rounds(
                     command,
                     Rounds {
-                        all: flag,
+                        flag,
                         ..rounds
                     },
                 )
@@ -415,7 +419,7 @@ fn rounds_given(rest: &[String]) -> Option<Rounds<'_>>
         rounds,
         presses,
         fire: value,
-        all: false,
+        flag: false,
     })
 }
 
@@ -582,7 +586,7 @@ pub struct Plain {
     pub words: Vec<String>,
     /// Whether `--explain` was among them.
     pub explains: bool,
-    /// Whether the flag of their command was: `--all` of `denials`, `--cut` of `replay` and `draw`.
+    /// Whether the flag of their command was: `--all` of `denials`, `--together` of `run`, `--cut` of `replay` and `draw`.
     pub flag: bool,
 }
 
@@ -618,6 +622,7 @@ fn flag_of(command: &str) -> Option<&'static str>
 {
     match command {
         "denials" => Some(ALL),
+        "run" => Some(TOGETHER),
         "replay" | "draw" => Some(CUT),
         _ => None,
     }

@@ -52,7 +52,7 @@ filtered_length p (x ∷ xs) = by (p x) (filtered_length p xs)
     by true rest = omega (arith, rest)
     by false rest = omega (arith, rest)
 
-counting_next : (first k : ℕ) → counting_from first (k + 1) ≡ counting_from first k ++ (first + k) ∷ []
+pub counting_next : (first k : ℕ) → counting_from first (k + 1) ≡ counting_from first k ++ (first + k) ∷ []
 counting_next first zero = let same : first ≡ first + 0 = omega arith in ap (λ n. n ∷ []) same
 counting_next first (suc k) =
     let next : suc k + 1 ≡ suc (k + 1) = omega arith in

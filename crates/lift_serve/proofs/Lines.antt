@@ -14,10 +14,11 @@ use Rattle.lift_serve.specs.declared.input.Came.{Came}
 use Rattle.lift_serve.specs.declared.input.Came.TheVariants.{Whole, Ended, TooLong, Failed}
 use Rattle.lift_serve.specs.declared.said.Said.{Said}
 use Rattle.lift_serve.specs.declared.said.Said.TheVariants.{Round, Press, End}
+use Rattle.lift_serve.specs.declared.serve.Stop.{Stop}
 use Rattle.lift_serve.specs.declared.serve.Stop.TheVariants.{Line, Input, Lines}
 use Rattle.lift_serve.specs.declared.server.ServeFault.{ServeFault}
 use Rattle.lift_serve.specs.Coming.{LineComes}
-use Rattle.lift_serve.specs.Serving.{Hears, Serves, Unheard, IsServed, IsStopped, is_end}
+use Rattle.lift_serve.specs.Serving.{Hears, Serves, Unheard, IsServed, IsStopped, IsStoppedBy, is_end}
 use Rattle.lift_serve.proofs.Serving.{serves_next, unheard_behind}
 
 pub consumes_more : (a b d : Option (List ℕ)) (x y : List ℕ) → Consumes a b x → Consumes b d y → Consumes a d (x ++ y)
@@ -46,6 +47,21 @@ end_of (Press call) is = absurd (cc)
 end_of End is = refl
 
 module _ (p : Program) (w m : World) (a b n : ℕ) (r0 r o0 o t0 t : Option (List ℕ)) (before : SoFar p.config w a m b n r0 r o0 o t0 t) where
+  -- serving stops behind the lines so far
+  stopped_at : (s z u : Option (List ℕ)) (stop : Stop) (k : ℕ) → k ≡ n + 1
+      → IsStoppedBy p.config m b (λ l. Consumes r0 s (text_of_lines before.0 ++ l)) (λ l. Appends o0 z (before.1 ++ l)) (λ l. AppendsFront o0 z (before.1 ++ l)) (λ l. Appends t0 u (before.2 ++ l)) (λ l. AppendsFront t0 u (before.2 ++ l)) stop
+      → IsStopped p.config w a (Consumes r0 s) (Appends o0 z) (AppendsFront o0 z) (Appends t0 u) (AppendsFront t0 u) stop k
+  stopped_at s z u stop k is why = record {
+    lines = before.0;
+    place = is ∙ ap (λ k. k + 1) (sym before.7);
+    v = m;
+    next = b;
+    text = before.1;
+    events = before.2;
+    serves = before.3;
+    why = why;
+  }
+
   module _ (q : Program) (same : q ≡ p) (line other : List ℕ) (is : other ≡ line) (s p1 u : Option (List ℕ)) (comes : Consumes r s (line ++ 10 ∷ [])) where
     hears_here : (said : Said) (v : World) (d : ℕ) (text events : List ℕ) → Hears q.config other said m v b d text events → Hears p.config line said m v b d text events
     hears_here said v d text events hears = subst (λ (x : Program). Hears x.config line said m v b d text events) same (subst (λ l. Hears q.config l said m v b d text events) is hears)
@@ -85,16 +101,7 @@ module _ (p : Program) (w m : World) (a b n : ℕ) (r0 r o0 o t0 t : Option (Lis
         → IsStopped p.config w a (Consumes r0 s) (Appends o0 p1) (AppendsFront o0 p1) (Appends t0 u) (AppendsFront t0 u) (Line f) (n + 1)
     stopped_line f one unheard =
         let here = subst (λ (x : Program). Unheard x.config line m b (Appends o p1) (AppendsFront o p1) (Appends t u) (AppendsFront t u) f) same (subst (λ l. Unheard q.config l m b (Appends o p1) (AppendsFront o p1) (Appends t u) (AppendsFront t u) f) is unheard) in
-        record {
-          lines = before.0;
-          place = ap (λ k. k + 1) (sym before.7);
-          v = m;
-          next = b;
-          text = before.1;
-          events = before.2;
-          serves = before.3;
-          why = (line, one, consumes_more r0 r s (text_of_lines before.0) (line ++ 10 ∷ []) before.4 comes, unheard_behind p.config line m b f o0 o p1 t0 t u before.1 before.2 before.5 before.6 here);
-        }
+        stopped_at s p1 u (Line f) (n + 1) refl (line, one, consumes_more r0 r s (text_of_lines before.0) (line ++ 10 ∷ []) before.4 comes, unheard_behind p.config line m b f o0 o p1 t0 t u before.1 before.2 before.5 before.6 here)
 
   no_more : (x y : Option (List ℕ)) (text : List ℕ) → Appends x y text → Appends x y (text ++ [])
   no_more x y text grown = subst (Appends x y) (sym (append-nil text)) grown
@@ -102,48 +109,12 @@ module _ (p : Program) (w m : World) (a b n : ℕ) (r0 r o0 o t0 t : Option (Lis
   pub stopped_input : (came : Came) (line : List ℕ) (s : Option (List ℕ)) → (came ≡ Whole → ⊥) → LineComes came r s line → IsStopped p.config w a (Consumes r0 s) (Appends o0 o) (AppendsFront o0 o) (Appends t0 t) (AppendsFront t0 t) (Input came) (n + 1)
   stopped_input Whole line s other comes = absurd (other refl)
   stopped_input Ended line s other (one, taken, end) =
-      record {
-        lines = before.0;
-        place = ap (λ k. k + 1) (sym before.7);
-        v = m;
-        next = b;
-        text = before.1;
-        events = before.2;
-        serves = before.3;
-        why = (line, one, consumes_more r0 r s (text_of_lines before.0) line before.4 taken, no_more o0 o before.1 before.5, no_more t0 t before.2 before.6);
-      }
+      stopped_at s o t (Input Ended) (n + 1) refl (line, one, consumes_more r0 r s (text_of_lines before.0) line before.4 taken, no_more o0 o before.1 before.5, no_more t0 t before.2 before.6)
   stopped_input TooLong line s other (one, long, (more, no_feed, taken)) =
-      record {
-        lines = before.0;
-        place = ap (λ k. k + 1) (sym before.7);
-        v = m;
-        next = b;
-        text = before.1;
-        events = before.2;
-        serves = before.3;
-        why = (line, more, one, long, no_feed, consumes_more r0 r s (text_of_lines before.0) _ before.4 taken, no_more o0 o before.1 before.5, no_more t0 t before.2 before.6);
-      }
+      stopped_at s o t (Input TooLong) (n + 1) refl (line, more, one, long, no_feed, consumes_more r0 r s (text_of_lines before.0) _ before.4 taken, no_more o0 o before.1 before.5, no_more t0 t before.2 before.6)
   stopped_input Failed line s other (one, taken) =
-      record {
-        lines = before.0;
-        place = ap (λ k. k + 1) (sym before.7);
-        v = m;
-        next = b;
-        text = before.1;
-        events = before.2;
-        serves = before.3;
-        why = (line, one, consumes_more r0 r s (text_of_lines before.0) line before.4 taken, no_more o0 o before.1 before.5, no_more t0 t before.2 before.6);
-      }
+      stopped_at s o t (Input Failed) (n + 1) refl (line, one, consumes_more r0 r s (text_of_lines before.0) line before.4 taken, no_more o0 o before.1 before.5, no_more t0 t before.2 before.6)
 
   pub stopped_lines : (k : ℕ) → k ≡ n + 1 → IsStopped p.config w a (Consumes r0 r) (Appends o0 o) (AppendsFront o0 o) (Appends t0 t) (AppendsFront t0 t) Lines k
   stopped_lines k is =
-      record {
-        lines = before.0;
-        place = is ∙ ap (λ k. k + 1) (sym before.7);
-        v = m;
-        next = b;
-        text = before.1;
-        events = before.2;
-        serves = before.3;
-        why = (subst (Consumes r0 r) (sym (append-nil (text_of_lines before.0))) before.4, no_more o0 o before.1 before.5, no_more t0 t before.2 before.6);
-      }
+      stopped_at r o t Lines k is (subst (Consumes r0 r) (sym (append-nil (text_of_lines before.0))) before.4, no_more o0 o before.1 before.5, no_more t0 t before.2 before.6)

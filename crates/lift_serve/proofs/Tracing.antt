@@ -11,17 +11,11 @@ use Rattle.lift_trace.specs.Text.{line_of}
 use Rattle.lift_trace.specs.Writing.{events_text}
 use Rattle.lift_trace.proofs.Writes.{events_append}
 use Rattle.lift_journal.specs.Rounds.{counting_from, floors_rising, tasks_in_order}
+use Rattle.lift_runs.proofs.Driving.{counting_next}
 use Rattle.lift_serve.specs.declared.said.Said.{Said}
 use Rattle.lift_serve.specs.declared.said.Said.TheVariants.{Round, Press, End}
 use Rattle.lift_serve.specs.Saying.{Says, events_of, scan_events, is_call}
 use Rattle.lift_serve.specs.Serving.{record_text, traced_text}
-
-counting_next : (first k : ℕ) → counting_from first (k + 1) ≡ counting_from first k ++ (first + k) ∷ []
-counting_next first zero = let same : first ≡ first + 0 = omega arith in ap (λ n. n ∷ []) same
-counting_next first (suc k) =
-    let next : suc k + 1 ≡ suc (k + 1) = omega arith in
-    let last : (first + 1) + k ≡ first + suc k = omega arith in
-    ap (counting_from first) next ∙ ap (λ l. first ∷ l) (counting_next (first + 1) k) ∙ ap (λ n. first ∷ (counting_from (first + 1) k ++ n ∷ [])) last
 
 gathers_append : (xs ys : List ℕ) → map Gather (xs ++ ys) ≡ map Gather xs ++ map Gather ys
 gathers_append [] ys = refl

@@ -81,7 +81,7 @@ fn act_press(
 }
 
 /// What is said is done, and answered in the empty text; the end by the stop.
-pub fn act(
+pub(crate) fn act(
     world: &mut World,
     tasks: &[u8],
     said: Said,

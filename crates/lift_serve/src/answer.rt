@@ -53,7 +53,7 @@ fn put_each(text: &mut String, outputs: &[CarOutputs]) -> Result<(), AllocError>
 }
 
 /// The outputs of all cars.
-pub fn put_outputs(text: &mut String, outputs: &[CarOutputs]) -> Result<(), AllocError>
+pub(crate) fn put_outputs(text: &mut String, outputs: &[CarOutputs]) -> Result<(), AllocError>
     ensures { OnOk result (string_bytes text.new ≡ string_bytes text.old ++ outputs_line outputs.now) }
 {
     text.push_str("outputs")?;
@@ -109,7 +109,7 @@ fn put_notice(text: &mut String, notice: Notice) -> Result<(), AllocError>
 }
 
 /// A line for each notice, in their order.
-pub fn put_notices(text: &mut String, notices: &[Notice]) -> Result<(), AllocError>
+pub(crate) fn put_notices(text: &mut String, notices: &[Notice]) -> Result<(), AllocError>
     ensures lines { OnOk result (string_bytes text.new ≡ string_bytes text.old ++ flat_map notice_line notices.now) }
     ensures few { OnOk result (length (flat_map notice_line notices.now) ≤ 41 * length notices.now) }
 {
@@ -133,7 +133,7 @@ fn put_word(text: &mut String, reply: Reply, report: &Report) -> Result<(), Allo
 
 /// What is answered to a press.
 #[tactic(auto, unfolding(crate::specs::Answers::press_line))]
-pub fn put_press(
+pub(crate) fn put_press(
     text: &mut String,
     call: Call,
     reply: Reply,

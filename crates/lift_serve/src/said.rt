@@ -30,7 +30,7 @@ pub enum WrongLine {
 }
 
 /// Whether a press is of two floors of the group; another is refused.
-pub fn is_call(call: Call, sizes: Sizes) -> bool
+pub(crate) fn is_call(call: Call, sizes: Sizes) -> bool
     ensures { result ≡ is_call sizes call }
 {
     is_floor(call.from, sizes) && is_floor(call.to, sizes) && call.from != call.to

@@ -301,9 +301,7 @@ impl Server {
         };
         let ended = is_last(&said);
         self.trace_said(line, &said, trace)?;
-        if let Err(fault) = self.answer_said(said, out) {
-            return Err(fault);
-        }
+        self.answer_said(said, out)?;
         let _image = self.world.image();
         Ok(ended)
     }
