@@ -4,6 +4,7 @@ ghost use Rattle.std.specs.Prelude.{◌≡◌, ◌+◌, IfOk};
 ghost use Rattle.lift_journal.specs.Rounds.{is_fire_in};
 ghost use Rattle.lift_spec.specs.Image.{sizes_of};
 
+use crate::gate::Gate;
 use lift_desk::{Desk, HandPass};
 use lift_journal::fault::StationFault;
 use lift_journal::fire::is_fire_in;
@@ -66,11 +67,12 @@ fn round<G: Naming, R: Wait>(
     Ok(Refresher { pass, hand })
 }
 
-/// So many rounds of gathering and refreshing.
-pub fn work<G: Naming, R: Wait>(
+/// So many rounds of gathering and refreshing, each followed by what its gate waits for. At a fault it gives up.
+pub fn work<G: Naming, T: Gate, R: Wait>(
     rt: &R,
     station: &Station<G>,
     desk: &Desk,
+    gate: &T,
     refresher: Refresher<G>,
     pace: Pace,
 ) -> Result<Refresher<G>, StationFault>
@@ -84,17 +86,27 @@ pub fn work<G: Naming, R: Wait>(
     let mut report = Report::new();
     'rounds: for below in 0..pace.rounds {
         let fire = is_fire_in(pace.fire, below + 1);
-        refresher = round(rt, station, desk, refresher, fire, &mut report)?;
+        match round(rt, station, desk, refresher, fire, &mut report) {
+            Ok(next) => {
+                gate.refreshed(rt, below + 1);
+                refresher = next;
+            }
+            Err(fault) => {
+                gate.gives_up(rt);
+                return Err(fault);
+            }
+        }
     }
     Ok(refresher)
 }
 
 /// Starts the worker of a refresher.
-pub fn start<'s, E, G: Naming + Send + Sync, R: Threads + Wait + Sync>(
+pub fn start<'s, E, G: Naming + Send + Sync, T: Gate + Sync, R: Threads + Wait + Sync>(
     scope: &Scope<'s, E>,
     rt: &'s R,
     station: &'s Station<G>,
     desk: &'s Desk,
+    gate: &'s T,
     refresher: Refresher<G>,
     pace: Pace,
 ) -> Result<RefresherHandle<G>, AllocError>
@@ -110,7 +122,7 @@ pub fn start<'s, E, G: Naming + Send + Sync, R: Threads + Wait + Sync>(
         requires floors { refresher.hand.floors ≡ (sizes_of G.program.config).floors }
         requires fire { G.fire ≡ is_fire_in pace.fire }
         ensures { IfOk result (λ d. (d.hand.table ≡ desk.entry.now.table) × (d.pass.refreshes ≡ pace.rounds) × (d.pass.driven ≡ pace.rounds)) }
-    { work(rt, station, desk, refresher, pace) };
+    { work(rt, station, desk, gate, refresher, pace) };
     let promise = RefreshRounds {
         rounds: pace.rounds,
         desk: Snapshot::of(desk),

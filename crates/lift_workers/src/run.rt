@@ -106,6 +106,20 @@ fn join_panels<R: Threads>(
     Ok(passes)
 }
 
+// What was started; where it could not be, no one waits for it.
+fn or_give_up<X: Drop, T: Gate, R: Wait>(
+    rt: &R,
+    gate: &T,
+    started: Result<X, AllocError>,
+) -> Result<X, AllocError>
+    ensures { result ≡ started }
+{
+    if started.is_err() {
+        gate.gives_up(rt);
+    }
+    started
+}
+
 /// Runs the crew: a thread for each task, one for the refresher and one for each panel that is pressed. All of them have ended when it answers.
 pub fn run_all<G: Naming + Send + Sync, T: Gate + Sync, R: Threads + Wait + Sync>(
     rt: &R,
@@ -157,14 +171,23 @@ pub fn run_all<G: Naming + Send + Sync, T: Gate + Sync, R: Threads + Wait + Sync
             ensures desk { IfOk result (λ p. (p.refresher.hand.table ≡ desk.entry.now.table) × AreAllPanels desk.entry.now p.panels.items) }
         {
             let panels = start_panels(scope, alloc, desk, panels, presses)?;
-            let tasks = task::start_all(scope, rt, alloc, station, gate, tasks, rounds)?;
-            let refresher = refresher::start(
-                scope,
+            let tasks = or_give_up(
                 rt,
-                station,
-                desk,
-                refresher,
-                Pace { rounds, fire },
+                gate,
+                task::start_all(scope, rt, alloc, station, gate, tasks, rounds),
+            )?;
+            let refresher = or_give_up(
+                rt,
+                gate,
+                refresher::start(
+                    scope,
+                    rt,
+                    station,
+                    desk,
+                    gate,
+                    refresher,
+                    Pace { rounds, fire },
+                ),
             )?;
             let tasks = task::join_all(rt, alloc, tasks, rounds)?;
             let refresher = refresher.join(rt)?;

@@ -28,17 +28,19 @@ impl<G: Naming> Promise<Result<TaskPass<G>, StationFault>> for TaskRounds {
 /// The handle of a task's worker.
 pub type TaskHandle<G> = PromisedHandle<Result<TaskPass<G>, StationFault>, TaskRounds>;
 
-// One round: a scan begins, runs to its end and is committed.
+// A round of a task, once its gate lets it begin: a scan begins, runs to its end and is committed.
 fn round<G: Naming, T: Gate, R: Wait>(
     rt: &R,
     station: &Station<G>,
     gate: &T,
     pass: TaskPass<G>,
+    number: u16,
     report: &mut Report,
 ) -> Result<TaskPass<G>, StationFault>
     ensures { IfOk result (λ p. (p.task ≡ pass.task) × (p.count ≡ pass.count + 2)) }
 {
     let task = pass.task();
+    gate.begins(rt, task, number);
     let (pass, begun) = station.start(rt, pass);
     let begun = begun?;
     gate.started(rt, task);
@@ -51,7 +53,7 @@ fn round<G: Naming, T: Gate, R: Wait>(
     Ok(pass)
 }
 
-/// So many rounds of a task.
+/// So many rounds of a task. At a fault it gives up.
 pub fn work<G: Naming, T: Gate, R: Wait>(
     rt: &R,
     station: &Station<G>,
@@ -63,8 +65,14 @@ pub fn work<G: Naming, T: Gate, R: Wait>(
 {
     let mut pass = pass;
     let mut report = Report::new();
-    'rounds: for _ in 0..rounds {
-        pass = round(rt, station, gate, pass, &mut report)?;
+    'rounds: for below in 0..rounds {
+        match round(rt, station, gate, pass, below + 1, &mut report) {
+            Ok(next) => pass = next,
+            Err(fault) => {
+                gate.gives_up(rt);
+                return Err(fault);
+            }
+        }
     }
     Ok(pass)
 }
