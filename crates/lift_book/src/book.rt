@@ -9,7 +9,7 @@ ghost use Rattle.lift_spec.specs.Image.{sizes_of, Obeys};
 ghost use Rattle.lift_spec.specs.Replies.{Started, Committed, Refreshed};
 ghost use Rattle.lift_spec.specs.World.{opening, InRanges};
 ghost use Rattle.lift_spec.specs.declared.report.EnteredCall.{EnteredCall as EnteredOf};
-ghost use Rattle.lift_journal.specs.Journal.{AllCalls};
+ghost use Rattle.lift_journal.specs.Journal.{AllCalls, calls_entering};
 ghost use Rattle.lift_journal.specs.Pages.{Adds, Kept};
 ghost use Rattle.lift_spec.specs.declared.journal.Entry.TheVariants as entry;
 ghost use Rattle.lift_journal.specs.declared.fault.StationFault.TheVariants.{NotOpen};
@@ -139,6 +139,7 @@ impl Book {
         requires calls { AllCalls (sizes_of verified.now.config) hand.old }
         ensures fault { fault_in result ≡ refresh_fault self.old fields }
         ensures done { OnOk result (Adds self.old (entry.Refresh fields (map (λ (d : EnteredOf). d.call) report.new.entered)) (Refreshed report.new) self.new) }
+        ensures exact { OnOk result (map (λ (d : EnteredOf). d.call) report.new.entered ≡ calls_entering self.old.world.group.calls hand.old) }
         ensures hand { OnOk result (hand.old ≡ map (λ (d : EnteredOf). d.call) report.new.entered ++ hand.new) }
         ensures refused { OnErr result ((self.new ≡ self.old) × (hand.new ≡ hand.old) × (report.new ≡ report.old)) }
     {

@@ -8,7 +8,7 @@ ghost use Rattle.lift_spec.specs.Replies.{Started, Committed, Refreshed};
 ghost use Rattle.lift_spec.specs.Snapshot.{scan_begins};
 ghost use Rattle.lift_spec.specs.World.{TaskState, task_at, opening, beginning_of, started_group};
 ghost use Rattle.lift_spec.specs.declared.report.EnteredCall.{EnteredCall as EnteredOf};
-ghost use Rattle.lift_journal.specs.Journal.{AllCalls};
+ghost use Rattle.lift_journal.specs.Journal.{AllCalls, calls_entering};
 ghost use Rattle.lift_journal.specs.Pages.{Adds, Kept};
 ghost use Rattle.lift_spec.specs.declared.journal.Entry.TheVariants as entry;
 ghost use Rattle.lift_book.specs.Ledgers.{page_of, IsLedger, start_fault, full_fault, refresh_fault, fault_of, fault_in, SnappedNow, IsOpenHere};
@@ -178,6 +178,7 @@ impl Ledger {
         requires kept { IsLedger self.old }
         ensures fault { fault_in result ≡ refresh_fault (page_of self.old) fields }
         ensures done { OnOk result (Adds (page_of self.old) (entry.Refresh fields (map (λ (d : EnteredOf). d.call) report.new.entered)) (Refreshed report.new) (page_of self.new)) }
+        ensures exact { OnOk result (map (λ (d : EnteredOf). d.call) report.new.entered ≡ calls_entering (page_of self.old).world.group.calls hand.old) }
         ensures hand { OnOk result (hand.old ≡ map (λ (d : EnteredOf). d.call) report.new.entered ++ hand.new) }
         ensures refused { OnErr result ((self.new ≡ self.old) × (hand.new ≡ hand.old) × (report.new ≡ report.old)) }
         ensures kept { IsLedger self.new }

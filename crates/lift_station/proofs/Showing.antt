@@ -1,5 +1,5 @@
 -- What is shown under the lock is what a run shows.
-use Rattle.std.proofs.Common.{◌≡◌, ◌≢◌, ℕ, ◌%◌, ◌≤◌, Bool, true, false, Option, Some, None, refl, sym, ap, ◌∙◌, subst, arith}
+use Rattle.std.proofs.Common.{◌≡◌, ◌≢◌, ℕ, ◌%◌, ◌≤◌, Bool, true, false, List, Option, Some, None, refl, sym, ap, ◌∙◌, subst, arith}
 use Rattle.std.specs.Prelude.{is_some, if◌then◌else◌, IfSome, ◌==◌, length}
 use Rattle.il_spec.specs.declared.tree.Config.{Config}
 use Rattle.il_run.specs.State.{State}
@@ -8,6 +8,7 @@ use Rattle.il_machine.specs.Standing.{Standing, IsOf, Finished}
 use Rattle.il_machine.proofs.Scans.{sound_of}
 use Rattle.lift_spec.specs.declared.image.Fields.{Fields}
 use Rattle.lift_spec.specs.declared.image.Image.{Image}
+use Rattle.lift_spec.specs.declared.calls.Call.{Call}
 use Rattle.lift_spec.specs.declared.report.Report.{Report}
 use Rattle.lift_spec.specs.Calls.{told_car}
 use Rattle.lift_spec.specs.Replies.{Committed, Refreshed}
@@ -16,7 +17,7 @@ use Rattle.lift_run_laws.specs.Accepted.{IsSound}
 use Rattle.lift_journal.specs.declared.fault.StationFault.{StationFault}
 use Rattle.lift_journal.specs.declared.fault.StationFault.TheVariants.{AlreadyOpen, JournalFull}
 use Rattle.lift_spec.specs.declared.journal.Entry.TheVariants as entry
-use Rattle.lift_journal.specs.Journal.{entries_by, entered_calls, refresher, IsJournalOf}
+use Rattle.lift_journal.specs.Journal.{entries_by, entered_calls, refresher, calls_entering, IsJournalOf}
 use Rattle.lift_journal.specs.Pages.{Page, Kept, Adds, IsSnapped, IsShown, IsTold}
 use Rattle.lift_journal.proofs.Journals.{entries_alternate}
 use Rattle.lift_book.specs.Ledgers.{SnappedNow, IsOpenHere, start_fault, full_fault}
@@ -119,14 +120,16 @@ module _ (P v : Program) (lent : v ≡ P) (inside before : Page) (same : inside 
 -- REFRESHES, IMAGES AND TICKETS
 
 pub refreshed_under : (P : Program) (inside before : Page) → inside ≡ before → before.config ≡ P.config → Kept before → (count entered : ℕ) → count ≡ entries_by refresher before.journal → entered ≡ entered_calls before.journal
-    → (fields : Fields) (report : Report) (after : Page) → Adds inside (entry.Refresh fields (calls_in report)) (Refreshed report) after → IsRefreshed P.config count entered fields report
-refreshed_under P inside before same config kept count entered counted called fields report after adds =
+    → (fields : Fields) (hand : List Call) (report : Report) (after : Page) → calls_in report ≡ calls_entering inside.world.group.calls hand → Adds inside (entry.Refresh fields (calls_in report)) (Refreshed report) after
+    → IsRefreshed P.config count entered fields hand report
+refreshed_under P inside before same config kept count entered counted called fields hand report after entering adds =
     record {
       before = before;
       config = config;
       kept = kept;
       counted = sym counted;
       called = sym called;
+      entering = entering ∙ ap (λ (l : Page). calls_entering l.world.group.calls hand) same;
       after = after;
       adds = subst (λ (l : Page). Adds l (entry.Refresh fields (calls_in report)) (Refreshed report) after) same adds;
     }

@@ -14,7 +14,7 @@ use Rattle.lift_spec.specs.declared.journal.Entry.TheVariants as entry
 use Rattle.lift_journal.specs.declared.fault.StationFault.{StationFault}
 use Rattle.lift_journal.specs.declared.fault.StationFault.TheVariants.{JournalFull}
 use Rattle.lift_journal.specs.Driven.{IsDrivenJournal}
-use Rattle.lift_journal.specs.Journal.{entries_by, entered_calls, refresher}
+use Rattle.lift_journal.specs.Journal.{entries_by, entered_calls, refresher, calls_entering}
 use Rattle.lift_journal.specs.Pages.{Page, Kept, Adds}
 use Rattle.lift_book.specs.Ledgers.{IsOpenHere}
 
@@ -49,21 +49,23 @@ pub record IsCommitted (c : Config) (t count : ℕ) (scan : Finished) (report : 
   pub after : Page
   pub adds : Adds before (entry.Commit t) (Committed report) after
 
--- The report is that of a refresh with these fields, at the end of a run that holds so many refreshes and so many entered calls; it
--- enters the calls that it names.
-pub record IsRefreshed (c : Config) (count entered : ℕ) (fields : Fields) (report : Report) : Type 0 where
+-- The report is that of a refresh with these fields and this hand, at the end of a run that holds so many refreshes and so many entered
+-- calls; it enters the calls that it names, which are just the first of the hand while a slot is free there.
+pub record IsRefreshed (c : Config) (count entered : ℕ) (fields : Fields) (hand : List Call) (report : Report) : Type 0 where
   pub before : Page
   pub config : before.config ≡ c
   pub kept : Kept before
   pub counted : entries_by refresher before.journal ≡ count
   pub called : entered_calls before.journal ≡ entered
+  pub entering : calls_in report ≡ calls_entering before.world.group.calls hand
   pub after : Page
   pub adds : Adds before (entry.Refresh fields (calls_in report)) (Refreshed report) after
 
--- The report is that of a refresh by a plant of the group, which goes one step under the outputs of the image, with this FIRE.
-pub record IsDrivenOn (c : Config) (count entered : ℕ) (fire : Bool) (report : Report) : Type 0 where
+-- The report is that of a refresh with this hand by a plant of the group, which goes one step under the outputs of the image, with this
+-- FIRE.
+pub record IsDrivenOn (c : Config) (count entered : ℕ) (fire : Bool) (hand : List Call) (report : Report) : Type 0 where
   pub plant : PlantState
   pub sized : IsPlantOf (sizes_of c) plant
   pub next : PlantState
-  pub refreshed : IsRefreshed c count entered (fields_of_plant next) report
+  pub refreshed : IsRefreshed c count entered (fields_of_plant next) hand report
   pub step : next ≡ plant_after (record plant { fire = fire }) refreshed.before.world.group.image.outputs

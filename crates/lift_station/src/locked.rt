@@ -3,11 +3,12 @@
 ghost use Rattle.std.specs.Prelude.{◌≡◌, ◌↔◌, ◌%◌, ◌+◌, false, [], ◌++◌, length, replicate, Some, Err, ◌≤◌, ℕ, IfOk, IfErr, IfSome, OnOk, OnErr};
 ghost use Rattle.il_machine.specs.Scanning.{HasTask};
 ghost use Rattle.il_machine.specs.Standing.{IsOf};
+ghost use Rattle.lift_spec.specs.Calls.{told_car};
 ghost use Rattle.lift_spec.specs.Image.{sizes_of, fields_in_range, Obeys};
 ghost use Rattle.lift_spec.specs.Plant.{PlantState, IsPlantOf};
 ghost use Rattle.lift_spec.specs.World.{InRanges, opening};
 ghost use Rattle.lift_spec.specs.Replies.{Started, Committed, Refreshed};
-ghost use Rattle.lift_journal.specs.Journal.{AllCalls, entries_by, entered_calls, refresher};
+ghost use Rattle.lift_journal.specs.Journal.{AllCalls, calls_entering, entries_by, entered_calls, refresher};
 ghost use Rattle.lift_journal.specs.Driven.{IsDrivenJournal, first_plant};
 ghost use Rattle.lift_journal.specs.Pages.{Adds, Kept, IsSnapped, IsShown, IsTold};
 ghost use Rattle.lift_spec.specs.declared.journal.Entry.TheVariants as entry;
@@ -172,7 +173,8 @@ impl<G: Naming> Locked<G> {
         ensures out_of_range { (fields_in_range (sizes_of G.program.config) fields ≡ false) ↔ (result ≡ Err FieldOutOfRange) }
         ensures done { OnOk result (Adds self.old (entry.Refresh fields (calls_in report.new)) (Refreshed report.new) self.new) }
         ensures pass { OnOk result (pass.new ≡ record { refreshes = pass.old.refreshes + 1; entered = pass.old.entered + length report.new.entered; driven = pass.old.driven }) }
-        ensures report { OnOk result (IsRefreshed G.program.config pass.old.refreshes pass.old.entered fields report.new) }
+        ensures report { OnOk result (IsRefreshed G.program.config pass.old.refreshes pass.old.entered fields hand.old report.new) }
+        ensures exact { OnOk result (calls_in report.new ≡ calls_entering self.old.world.group.calls hand.old) }
         ensures hand { OnOk result (hand.old ≡ calls_in report.new ++ hand.new) }
         ensures refused { OnErr result ((self.new ≡ self.old) × (pass.new ≡ pass.old) × (hand.new ≡ hand.old) × (report.new ≡ report.old)) }
     {
@@ -198,7 +200,8 @@ impl<G: Naming> Locked<G> {
         requires calls { AllCalls (sizes_of G.program.config) hand.old }
         ensures full { IsNoneOrFull (fault_in result) }
         ensures pass { OnOk result (pass.new ≡ record { refreshes = pass.old.refreshes + 1; entered = pass.old.entered + length report.new.entered; driven = pass.old.driven + 1 }) }
-        ensures report { OnOk result (IsDrivenOn G.program.config pass.old.refreshes pass.old.entered fire report.new) }
+        ensures report { OnOk result (IsDrivenOn G.program.config pass.old.refreshes pass.old.entered fire hand.old report.new) }
+        ensures exact { OnOk result (calls_in report.new ≡ calls_entering self.old.world.group.calls hand.old) }
         ensures hand { OnOk result (hand.old ≡ calls_in report.new ++ hand.new) }
         ensures refused { OnErr result ((self.new ≡ self.old) × (pass.new ≡ pass.old) × (hand.new ≡ hand.old) × (report.new ≡ report.old)) }
     {
@@ -214,9 +217,10 @@ impl<G: Naming> Locked<G> {
         Ok(())
     }
 
-    /// The car to which a slot is told under a ticket.
+    /// The car to which a slot is told under a ticket. A ticket that was told and isn't served yet has its car.
     pub fn told(&self, ticket: u64) -> Option<u8>
-        ensures { IfSome result (λ car. IsTold G.program.config ticket car) }
+        ensures exact { result ≡ told_car ticket self.now.world.group.calls.slots }
+        ensures told { IfSome result (λ car. IsTold G.program.config ticket car) }
     {
         self.book.runs();
         self.book.told(ticket)

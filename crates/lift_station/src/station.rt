@@ -294,7 +294,7 @@ impl<G: Naming> Station<G> {
         requires { collector.floors ≡ (sizes_of G.program.config).floors }
         ensures out_of_range { (fields_in_range (sizes_of G.program.config) fields ≡ false) ↔ (result.2 ≡ Err FieldOutOfRange) }
         ensures pass { OnOk result.2 (result.0 ≡ record { refreshes = pass.refreshes + 1; entered = pass.entered + length report.new.entered; driven = pass.driven }) }
-        ensures report { OnOk result.2 (IsRefreshed G.program.config pass.refreshes pass.entered fields report.new) }
+        ensures report { OnOk result.2 (IsRefreshed G.program.config pass.refreshes pass.entered fields collector.hand report.new) }
         ensures hand { OnOk result.2 (collector.hand ≡ calls_in report.new ++ result.1.hand) }
         ensures rest { result.1 ≡ record collector { hand = result.1.hand } }
         ensures refused { OnErr result.2 ((result.0 ≡ pass) × (result.1 ≡ collector) × (report.new ≡ report.old)) }
@@ -327,7 +327,7 @@ impl<G: Naming> Station<G> {
         requires fire { fire ≡ G.fire (pass.refreshes + 1) }
         ensures full { IsNoneOrFull (fault_in result.2) }
         ensures pass { OnOk result.2 (result.0 ≡ record { refreshes = pass.refreshes + 1; entered = pass.entered + length report.new.entered; driven = pass.driven + 1 }) }
-        ensures report { OnOk result.2 (IsDrivenOn G.program.config pass.refreshes pass.entered fire report.new) }
+        ensures report { OnOk result.2 (IsDrivenOn G.program.config pass.refreshes pass.entered fire collector.hand report.new) }
         ensures hand { OnOk result.2 (collector.hand ≡ calls_in report.new ++ result.1.hand) }
         ensures rest { result.1 ≡ record collector { hand = result.1.hand } }
         ensures refused { OnErr result.2 ((result.0 ≡ pass) × (result.1 ≡ collector) × (report.new ≡ report.old)) }

@@ -1,13 +1,16 @@
 // What the book of one owner journals and refuses. No command shows it yet.
 
-ghost use Rattle.std.specs.Prelude.{◌≡◌, ◌≤◌, true, IfOk, IfSome};
+ghost use Rattle.std.specs.Prelude.{◌≡◌, ◌≤◌, true, [], ◌∷◌, IfOk, IfSome};
 ghost use Rattle.il_machine.specs.Scanning.{HasTask};
 
-use crate::texts::TWO_IDLE;
+use crate::group::fields;
+use crate::texts::{TWO_IDLE, TWO_SLOTS};
 use il_machine::{OpenScan, Store, Verified, scan};
 use il_spec::fault::Refusal;
 use lift_book::Book;
 use lift_load::load;
+use lift_spec::calls::Call;
+use lift_spec::hand::Hand;
 use lift_spec::report::Report;
 use std::alloc::{AllocError, Global};
 
@@ -17,6 +20,13 @@ struct Refused {
     committed: u8,
     number: u8,
     entries: usize,
+}
+
+// The first two calls that a refresh entered, and the first call that stays in the hand.
+#[derive(Clone, Copy)]
+struct Entering {
+    entered: [Option<Call>; 2],
+    stays: Option<Call>,
 }
 
 // Whether the group has the task of a car.
@@ -122,6 +132,37 @@ fn start_and_commit_other(
 // The one place where a book is dropped.
 fn give_up(_book: Book) {}
 
+// The calls from 1 to 2 and from 2 to 1.
+fn both_calls() -> Hand
+    ensures { result ≡ record { from = 1; to = 2 } ∷ record { from = 2; to = 1 } ∷ [] }
+{
+    let mut hand = Hand::new();
+    hand.insert(Call { from: 1, to: 2 });
+    hand.insert(Call { from: 2, to: 1 });
+    hand
+}
+
+// A refresh of two cars that stand at floor 1, with both calls in the hand.
+fn entering(alloc: Global, verified: &Verified) -> Result<Option<Entering>, AllocError> {
+    let _config = verified.config();
+    let mut hand = both_calls();
+    let mut report = Report::new();
+    let mut book = Book::new(alloc, verified, 1)?;
+    let answer = book.refresh(verified, fields(1, 2, 1), &mut hand, &mut report);
+    give_up(book);
+    if answer.is_err() {
+        return Ok(None);
+    }
+    let entered = report.entered.as_slice();
+    Ok(Some(Entering {
+        entered: [
+            entered.first().map(|one| one.call),
+            entered.get(1).map(|one| one.call),
+        ],
+        stays: hand.first(),
+    }))
+}
+
 // The two faults over a journal of two entries, and how many it has then.
 fn third_entry(alloc: Global, verified: &Verified) -> Result<Option<Refused>, AllocError> {
     if !has_car(verified, 1) {
@@ -162,6 +203,40 @@ fn refused_other(alloc: Global) -> Result<Option<(u8, u8)>, Refusal> {
     let refused = other_car(alloc, &verified);
     verified.release();
     Ok(refused?)
+}
+
+fn entering_at(alloc: Global, text: &[u8]) -> Result<Option<Entering>, Refusal> {
+    let verified = load(alloc, text)?;
+    let left = entering(alloc, &verified);
+    verified.release();
+    Ok(left?)
+}
+
+#[test]
+fn of_two_calls_each_enters_that_finds_a_slot(rt: HostRuntime) {
+    let both = entering_at(rt.alloc(), TWO_SLOTS);
+    assert!(rt;
+        matches!(
+            both,
+            Ok(Some(Entering {
+                entered: [
+                    Some(Call { from: 1, to: 2 }),
+                    Some(Call { from: 2, to: 1 }),
+                ],
+                stays: None,
+            }))
+        )
+    );
+    let first = entering_at(rt.alloc(), TWO_IDLE);
+    assert!(rt;
+        matches!(
+            first,
+            Ok(Some(Entering {
+                entered: [Some(Call { from: 1, to: 2 }), None],
+                stays: Some(Call { from: 2, to: 1 }),
+            }))
+        )
+    );
 }
 
 #[test]

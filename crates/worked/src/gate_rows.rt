@@ -1,4 +1,4 @@
-// Workers run at once: a gate holds one of them until another has got on.
+// Workers run at once: a gate holds both cars until the other has started, and one of them until the other has committed.
 
 use crate::texts::TWO_IDLE;
 use lift_load::load;
@@ -10,47 +10,69 @@ use std::test::Fail;
 use std::thread;
 use std::time::{Clock, Duration};
 
-/// How often car 1's worker looks whether car 2 has committed, and how many milliseconds it sleeps between.
+/// How often a held worker looks whether the other has got on, and how many milliseconds it sleeps between.
 const TURNS: u32 = 1000;
 
 const TURN: u64 = 10;
 
-/// Holds car 1 after its start until car 2 has committed, for so many turns.
+/// Holds each car after its first start until the other has started, and car 1 then until car 2 has committed; once a wait has taken so
+/// many turns, it holds nobody.
 #[derive(Drop)]
-struct HoldsCar1<'c, C: Clock + Sync> {
+struct HoldsCars<'c, C: Clock + Sync> {
     clock: &'c C,
-    is_committed: AtomicBool,
+    has_car_1_started: AtomicBool,
+    has_car_2_started: AtomicBool,
+    has_car_2_committed: AtomicBool,
     has_waited_too_long: AtomicBool,
 }
 
-impl<'c, C: Clock + Sync> Gate for HoldsCar1<'c, C> {
-    fn started(&self, _rt: &impl Wait, task: u8) {
-        if task != 1 {
-            return;
+impl<'c, C: Clock + Sync> HoldsCars<'c, C> {
+    fn new(clock: &'c C) -> HoldsCars<'c, C> {
+        HoldsCars {
+            clock,
+            has_car_1_started: AtomicBool::new(false),
+            has_car_2_started: AtomicBool::new(false),
+            has_car_2_committed: AtomicBool::new(false),
+            has_waited_too_long: AtomicBool::new(false),
         }
+    }
+
+    /// Waits until the other has got on.
+    fn wait_for(&self, has_got_on: &AtomicBool) {
         for _turn in 0..TURNS {
-            if self.is_committed.load(Ordering::SeqCst) {
+            if has_got_on.load(Ordering::SeqCst) || self.has_waited_too_long.load(Ordering::SeqCst)
+            {
                 return;
             }
             thread::sleep(self.clock, Duration::from_millis(TURN));
         }
         self.has_waited_too_long.store(true, Ordering::SeqCst);
     }
+}
+
+impl<'c, C: Clock + Sync> Gate for HoldsCars<'c, C> {
+    fn started(&self, _rt: &impl Wait, task: u8) {
+        if task == 1 {
+            self.has_car_1_started.store(true, Ordering::SeqCst);
+            self.wait_for(&self.has_car_2_started);
+            self.wait_for(&self.has_car_2_committed);
+        }
+        if task == 2 {
+            self.has_car_2_started.store(true, Ordering::SeqCst);
+            self.wait_for(&self.has_car_1_started);
+        }
+    }
 
     fn committed(&self, _rt: &impl Wait, task: u8) {
         if task == 2 {
-            self.is_committed.store(true, Ordering::SeqCst);
+            self.has_car_2_committed.store(true, Ordering::SeqCst);
         }
     }
 }
 
 #[test]
-fn one_car_commits_while_another_is_held(rt: HostRuntime) -> Result<(), Fail> {
-    let gate = HoldsCar1 {
-        clock: &rt,
-        is_committed: AtomicBool::new(false),
-        has_waited_too_long: AtomicBool::new(false),
-    };
+fn cars_run_at_once(rt: HostRuntime) -> Result<(), Fail> {
+    let gate = HoldsCars::new(&rt);
     let Ok(verified) = load(rt.alloc(), TWO_IDLE) else {
         panic!(&rt; "no memory")
     };
@@ -63,7 +85,7 @@ fn one_car_commits_while_another_is_held(rt: HostRuntime) -> Result<(), Fail> {
         panic!(&rt; "no memory")
     };
     assert!(rt; journal.len() == 15);
-    assert!(rt; gate.is_committed.load(Ordering::SeqCst));
+    assert!(rt; gate.has_car_2_committed.load(Ordering::SeqCst));
     assert!(rt; !gate.has_waited_too_long.load(Ordering::SeqCst));
     Ok(())
 }

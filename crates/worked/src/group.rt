@@ -142,8 +142,8 @@ fn event(given: Given) -> Event {
     }
 }
 
-// The fields of one car or of two, at time 0.
-fn fields(run_limit: u8, cars: u8, pos: u8) -> Fields {
+/// The fields of one car or of two, at time 0.
+pub fn fields(run_limit: u8, cars: u8, pos: u8) -> Fields {
     let both = [standing(pos), standing(pos)];
     Fields {
         time: 0,

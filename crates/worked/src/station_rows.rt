@@ -1,7 +1,7 @@
 // What stations and desks answer step by step, and what they leave.
 
 use crate::stations::{Played, Step, play};
-use crate::texts::{STILL, TELLING, TWO_RISING, UP};
+use crate::texts::{STILL, TELLING, TWO_IDLE, TWO_RISING, TWO_SLOTS, UP};
 use il_machine::Value;
 use lift_image::CarOutputs;
 use lift_sink::sink::Memory;
@@ -86,6 +86,20 @@ fn has_value(value: Option<Value>, number: i64) -> bool {
 fn has_globals(played: &Played, g: i64, h: i64) -> bool {
     let [first, second] = played.globals;
     has_value(first, g) && has_value(second, h)
+}
+
+/// Whether the last refresh entered just these calls, in this order.
+fn has_entered(played: &Played, calls: &[Call]) -> bool {
+    let entered = played.report.entered.as_slice();
+    if entered.len() != calls.len() {
+        return false;
+    }
+    for at in 0..calls.len() {
+        if entered[at].call != calls[at] {
+            return false;
+        }
+    }
+    true
 }
 
 const START_1: Step = Step::Start(1);
@@ -215,6 +229,86 @@ fn held_floors_and_a_call_that_enters(rt: HostRuntime) -> Result<(), Fail> {
     };
     assert!(rt; played.slot == Some(waits));
     assert!(rt; played.desk.hand.mask_from(3) == 16 && played.desk.desk.is_empty());
+    Ok(())
+}
+
+/// From floor 1 to 2.
+const ASCENT: Call = Call { from: 1, to: 2 };
+
+/// From floor 2 to 1.
+const DESCENT: Call = Call { from: 2, to: 1 };
+
+/// Both calls are pressed and gathered, and two cars stand at floor 1.
+const TWO_CALLS: [Step; 4] = [
+    Step::Press {
+        from: 2,
+        panel: 1,
+        to: 1,
+    },
+    Step::Press {
+        from: 1,
+        panel: 1,
+        to: 2,
+    },
+    Step::Gather(2),
+    Step::Refresh {
+        cars: 2,
+        time: 100,
+        run_limit: 1,
+    },
+];
+
+#[test]
+fn of_two_calls_both_enter_two_slots(rt: HostRuntime) -> Result<(), Fail> {
+    let Ok(played) = play(&rt, rt.alloc(), TWO_SLOTS, 1, 1, &TWO_CALLS) else {
+        panic!(&rt; "no memory")
+    };
+    let text = "LIFTTRACE 2\nP 1 2\nP 2 1\nG 1\nG 2\nR 100 1 0 1 10110 1 10110\nE 5\n";
+    assert!(rt; went(rt.alloc(), &played, &[0, 0, 1, 0], text));
+    assert!(rt; has_entered(&played, &[ASCENT, DESCENT]));
+    assert!(rt; played.desk.hand.is_empty());
+    Ok(())
+}
+
+#[test]
+fn of_two_calls_the_first_enters_one_slot(rt: HostRuntime) -> Result<(), Fail> {
+    let Ok(played) = play(&rt, rt.alloc(), TWO_IDLE, 1, 1, &TWO_CALLS) else {
+        panic!(&rt; "no memory")
+    };
+    let text = "LIFTTRACE 2\nP 1 2\nG 1\nR 100 1 0 1 10110 1 10110\nE 3\n";
+    assert!(rt; went(rt.alloc(), &played, &[0, 0, 1, 0], text));
+    assert!(rt; has_entered(&played, &[ASCENT]));
+    assert!(rt; played.desk.hand.mask_from(2) == 1 && played.desk.hand.len() == 1);
+    Ok(())
+}
+
+#[test]
+fn a_press_and_rounds_by_the_plant(rt: HostRuntime) -> Result<(), Fail> {
+    let press = Step::Press {
+        from: 1,
+        panel: 1,
+        to: 2,
+    };
+    let row = [
+        press,
+        Step::Gather(1),
+        Step::Drive,
+        START_1,
+        COMMIT_1,
+        Step::Drive,
+        Step::Drive,
+    ];
+    let Ok(played) = play(&rt, rt.alloc(), RISING, 4, 1, &row) else {
+        panic!(&rt; "no memory")
+    };
+    let text = "LIFTTRACE 2\nP 1 2\nG 1\nR 100 1 0 1 10110\nS 1\nC 1\nR 200 1 0 1 00010\nE 6\n";
+    assert!(rt; went(rt.alloc(), &played, &[0, 2, 0, 0, 0, 0, 70], text));
+    let waits = Slot::Waiting {
+        ticket: 1,
+        call: ASCENT,
+    };
+    assert!(rt; played.slot == Some(waits));
+    assert!(rt; played.desk.hand.is_empty() && played.desk.desk.is_empty());
     Ok(())
 }
 

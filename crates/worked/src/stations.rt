@@ -1,6 +1,6 @@
 // Stations made from texts, and steps on them.
 
-ghost use Rattle.std.specs.Prelude.{◌≡◌, ◌≤◌, ℕ, IfOk, slice_index_or};
+ghost use Rattle.std.specs.Prelude.{◌≡◌, ◌≤◌, ℕ, false, IfOk, slice_index_or};
 ghost use Rattle.lift_desk.specs.Passes.{AreAllPanels, IsFloorOf};
 ghost use Rattle.lift_spec.specs.Image.{sizes_of};
 
@@ -28,6 +28,8 @@ pub enum Step {
     Refresh { cars: u8, time: u32, run_limit: u8 },
     /// The same, but car 1 stands between floors 1 and 2, with its door shut.
     Leave { time: u32 },
+    /// A refresh by the plant, without FIRE: 0, or the number of the fault.
+    Drive,
     /// 0 for New, 1 for Already, 2 for SameFloor.
     Press { from: u8, panel: u8, to: u8 },
     /// The calls from a floor that are then in the hand.
@@ -249,6 +251,25 @@ fn refresh<G: Naming, R: Wait>(
     }
 }
 
+/// The plant goes a step without FIRE, and the image takes what it reports: 0, or the number of the fault.
+fn drive<G: Naming, R: Wait>(
+    rt: &R,
+    station: &Station<G>,
+    pass: RefreshPass<G>,
+    collector: HandPass,
+    report: &mut Report,
+) -> (RefreshPass<G>, HandPass, u64)
+    requires floors { collector.floors ≡ (sizes_of G.program.config).floors }
+    requires fire { (n : ℕ) → false ≡ G.fire n }
+    ensures { (result.1.table ≡ collector.table) × (result.1.floors ≡ collector.floors) }
+{
+    let (pass, collector, answer) = station.drive(rt, pass, false, collector, report);
+    match answer {
+        Ok(()) => (pass, collector, 0),
+        Err(fault) => (pass, collector, u64::from(fault.number())),
+    }
+}
+
 /// Each floor is gathered: the calls from one of them that are then in the hand.
 fn gather(desk: &Desk, collector: HandPass, from: u8) -> (HandPass, u64)
     requires { collector.table ≡ desk.now.table }
@@ -337,7 +358,8 @@ fn of_refresher<G: Naming, R: Wait>(
     report: &mut Report,
     step: Step,
 ) -> (RefreshPass<G>, HandPass, Option<u64>)
-    requires { collector.floors ≡ (sizes_of G.program.config).floors }
+    requires floors { collector.floors ≡ (sizes_of G.program.config).floors }
+    requires fire { (n : ℕ) → false ≡ G.fire n }
     ensures { (result.1.table ≡ collector.table) × (result.1.floors ≡ collector.floors) }
 {
     let fields = match step {
@@ -347,6 +369,10 @@ fn of_refresher<G: Naming, R: Wait>(
             run_limit,
         } => fields(cars.min(8), time, run_limit, true),
         Step::Leave { time } => fields(1, time, 1, false),
+        Step::Drive => {
+            let (pass, collector, answer) = drive(rt, station, pass, collector, report);
+            return (pass, collector, Some(answer));
+        }
         Step::Told(ticket) => {
             let car = station.told(rt, ticket).map_or(0, u64::from);
             return (pass, collector, Some(car));
@@ -375,6 +401,7 @@ fn take_step<'s, G: Naming, R: Wait>(
 ) -> Result<(RefreshPass<G>, Hall, u64), AllocError>
     requires table { hall.collector.table ≡ desk.now.table }
     requires floors { hall.collector.floors ≡ (sizes_of G.program.config).floors }
+    requires fire { (n : ℕ) → false ≡ G.fire n }
     requires panels { AreAllPanels desk.now hall.panels.items }
     ensures table { IfOk result (λ r. r.1.collector.table ≡ desk.now.table) }
     ensures floors { IfOk result (λ r. r.1.collector.floors ≡ (sizes_of G.program.config).floors) }
@@ -414,6 +441,7 @@ fn steps<'s, G: Naming, R: Wait>(
 ) -> Result<Rest<G>, AllocError>
     requires table { hall.collector.table ≡ desk.now.table }
     requires floors { hall.collector.floors ≡ (sizes_of G.program.config).floors }
+    requires fire { (n : ℕ) → false ≡ G.fire n }
     requires panels { AreAllPanels desk.now hall.panels.items }
     ensures table { IfOk result (λ r. r.hall.collector.table ≡ desk.now.table) }
     ensures panels { IfOk result (λ r. AreAllPanels desk.now r.hall.panels.items) }
@@ -493,6 +521,7 @@ fn play_in<G: Naming, R: Wait>(
     requires names { (i : ℕ) → slice_index_or blanks i 0 ≡ G.names i }
     requires table { opened.2.table ≡ opened.0.table }
     requires floors { opened.2.floors ≡ (sizes_of G.program.config).floors }
+    requires fire { (n : ℕ) → false ≡ G.fire n }
     requires panels { AreAllPanels opened.0 opened.1.items }
 {
     let (desk, panels, collector) = opened;

@@ -2,11 +2,25 @@
 
 use lift_image::{CarOutputs, Motor};
 
-/// Two cars with one empty program.
+/// Two cars with one empty program, and one call slot.
 pub const TWO_IDLE: &[u8] = b"PROGRAM C
 END_PROGRAM
 CONFIGURATION K
 VAR_GLOBAL CONSTANT CARS : INT := 2; FLOORS : INT := 2; SLOTS : INT := 1; END_VAR
+RESOURCE M ON PLC
+TASK CAR1 (INTERVAL := T#100ms, PRIORITY := 1);
+TASK CAR2 (INTERVAL := T#100ms, PRIORITY := 1);
+PROGRAM P1 WITH CAR1 : C;
+PROGRAM P2 WITH CAR2 : C;
+END_RESOURCE
+END_CONFIGURATION
+";
+
+/// The same with two call slots.
+pub const TWO_SLOTS: &[u8] = b"PROGRAM C
+END_PROGRAM
+CONFIGURATION K
+VAR_GLOBAL CONSTANT CARS : INT := 2; FLOORS : INT := 2; SLOTS : INT := 2; END_VAR
 RESOURCE M ON PLC
 TASK CAR1 (INTERVAL := T#100ms, PRIORITY := 1);
 TASK CAR2 (INTERVAL := T#100ms, PRIORITY := 1);

@@ -9,7 +9,7 @@ use Rattle.lift_spec.specs.declared.report.EnteredCall.{EnteredCall}
 use Rattle.lift_spec.specs.Image.{sizes_of}
 use Rattle.lift_spec.specs.Plant.{PlantState, IsPlantOf, plant_after, fields_of_plant}
 use Rattle.lift_spec.specs.Replies.{Refreshed}
-use Rattle.lift_journal.specs.Journal.{entries_by, refresher}
+use Rattle.lift_journal.specs.Journal.{entries_by, refresher, calls_entering}
 use Rattle.lift_journal.specs.Pages.{Page, Adds}
 use Rattle.lift_station.specs.Counted.{IsNoneOrFull, calls_in}
 use Rattle.lift_station.proofs.AtPlant.{at_driven, driven_fault, fault_up}
@@ -69,6 +69,7 @@ returns-clause-report g c =
         kept = a.kept;
         counted = sym a.refreshes;
         called = sym a.entered;
+        entering = c.in_ok-refresh.ensures.exact ∙ ap (λ (l : Page). calls_entering l.world.group.calls c.args.hand.now) here;
         after = c.refresh.new.self;
         adds = subst (λ (l : Page). Adds l (entry.Refresh (fields_of_plant next) (calls_in report)) (Refreshed report) c.refresh.new.self) here adds;
       };
