@@ -1,3 +1,4 @@
+pub mod Programs
 pub mod Loaded
 pub mod Runs
 pub mod Servings

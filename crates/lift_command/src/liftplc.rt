@@ -1,42 +1,76 @@
 // What the commands of `liftplc` do with a text.
 
-ghost use Rattle.std.specs.Prelude.{◌≢◌, Err};
+ghost use Rattle.std.specs.Prelude.{◌≡◌, ◌≢◌, Err, true};
 ghost use Rattle.lift_command.specs.Loaded.{IsLoaded};
 ghost use Rattle.lift_command.specs.Runs.{IsKnown, IsRefusedOutcome, IsTextOutcome};
+ghost use Rattle.lift_host.specs.declared.files.Reading.{Reading};
+ghost use Rattle.lift_output.specs.Outcomes.{HasWarnings, IsProgramOutcome, wanted_warnings};
+ghost use Rattle.lift_shell.specs.Runs.{runs};
 
 use il_machine::Verified;
 use il_shown::ranges_text;
 use il_spec::fault::Refusal;
 use lift_host::files::Reading;
-use lift_host::request::{Request, Showing};
+use lift_host::request::{Request, Showing, Simulating};
 use lift_host::status::Fault;
 use lift_load::{load, unbroken};
-use lift_output::outcome::outcome;
+use lift_output::outcome::{outcome, ran};
 use lift_shell::commands::Commands;
 use lift_show::output::Output;
 use std::alloc::Global;
 use std::sync::Wait;
 use std::thread::Threads;
 
-/// The commands of `liftplc`, over its verifier. `run` alone starts threads.
+/// The commands of `liftplc`, over its verifier.
 #[derive(Clone, Copy)]
 pub struct Liftplc;
 
 impl Commands for Liftplc {
     ghost gives = { λ _. IsTextOutcome };
 
-    fn outcome<R: Threads + Wait + Sync>(
+    fn outcome(
         &self,
-        rt: &R,
         alloc: Global,
         request: Request<'_>,
         text: &[u8],
         trace: &Reading,
     ) -> Result<Output, Fault> {
         match loaded(alloc, text) {
-            Ok(verified) => outcome(rt, alloc, request, verified, trace),
+            Ok(verified) => outcome(alloc, request, verified, trace),
             Err(refusal) => refused(alloc, request, text, refusal),
         }
+    }
+
+    fn run<R: Threads + Wait + Sync>(
+        &self,
+        rt: &R,
+        alloc: Global,
+        request: Request<'_>,
+        text: &[u8],
+        _trace: &Reading,
+    ) -> Result<Output, Fault> {
+        match loaded(alloc, text) {
+            Ok(verified) => run_verified(rt, alloc, request, verified),
+            Err(refusal) => refused(alloc, request, text, refusal),
+        }
+    }
+}
+
+/// What `run` gives of a verified configuration.
+fn run_verified<R: Threads + Wait + Sync>(
+    rt: &R,
+    alloc: Global,
+    request: Request<'_>,
+    verified: Verified,
+) -> Result<Output, Fault>
+    requires { runs request ≡ true }
+    ensures is { (trace : Reading) → IsProgramOutcome request.entry verified trace result }
+    ensures warned { HasWarnings (wanted_warnings request.entry verified) result }
+    ensures unwritten { result ≢ Err Fault.CannotWrite }
+{
+    match request {
+        Request::Rounds(Simulating::Run, asked) => ran(rt, alloc, verified, asked),
+        _ => unreachable!(),
     }
 }
 

@@ -1,115 +1,174 @@
 // The program `liftplc`.
 
-ghost use Rattle.std.specs.Prelude.{◌≡◌, ◌⊎◌, true, false, map, string_bytes};
-ghost use Rattle.std.specs.Io.KnownBytes.{Appends, Keeps};
-ghost use Rattle.lift_shell.specs.Runs.{IsRunAnswer, HasWritten, HasShown, HasTold};
-ghost use Rattle.lift_command.specs.Runs.{IsTextOutcome};
-ghost use Rattle.lift_show.specs.Outputs.{Warns};
-ghost use Rattle.lift_sink.specs.Writes.{Writes, AppendsFront};
+ghost use Rattle.std.specs.Prelude.{◌≡◌, ◌||◌, IfSome, IsNone, false, map, string_bytes};
+ghost use Rattle.lift_command.specs.Programs.{IsPlainAnswer, IsProgramAnswer, IsRunAnswer, streams};
+ghost use Rattle.lift_host.specs.Messages.{message_of, status_of};
+ghost use Rattle.lift_host.specs.Requests.{plain_words};
+ghost use Rattle.lift_shell.specs.Runs.{AskForRun, stream};
+ghost use Rattle.lift_sink.specs.Writes.{Writes};
 
 use crate::disk_trace::DiskTrace;
 use crate::liftplc::Liftplc;
 use crate::memory_trace::MemoryTrace;
-use crate::serving::serve;
+use crate::serving::{TraceSink, serve};
 use lift_host::files::{Disk, TextFiles};
-use lift_host::request::read_words;
-use lift_host::serving::{Serving, asked_to_serve};
+use lift_host::request::{Plain, read_words};
+use lift_host::serving::asked_to_serve;
 use lift_host::status::{Fault, Status};
 use lift_shell::entry::{keep_freed_memory, words};
+use lift_shell::run::{is_wanted, run, run_alone};
 use lift_show::show::tell;
 use lift_sink::sink::{Memory, Sink, Stream};
 use std::alloc::Global;
-use std::io::{BufReader, IsTerminal};
+use std::io::{BufReader, IsTerminal, Read};
 use std::process::ExitCode;
 use std::sync::Wait;
 use std::thread::Threads;
 
-/// Runs `liftplc` on its words, without the program's name. A fault is explained where that is asked for, or where the words have
-/// `--explain`. Only where they ask for `run` it waits for threads.
-pub fn run<R: Threads + Wait + Sync, F: TextFiles, O: Sink, E: Sink>(
+/// Runs `liftplc` on words, without the program's name. A fault is explained where that is asked for, or where the words have `--explain`.
+/// Only where they ask for `run` it waits for threads.
+pub fn command<
+    R: Threads + Wait + Sync,
+    F: TextFiles,
+    T: TraceSink,
+    I: Read,
+    O: Sink,
+    E: Sink,
+>(
     rt: &R,
     alloc: Global,
     words: &[String],
-    files: &F,
     explains: bool,
+    files: &F,
+    trace: &mut T,
+    input: &mut I,
     out: &mut O,
     err: &mut E,
 ) -> Status
     requires { O.has_failed out.old ≡ false }
-
-    // Where it is done, the standard output has the output of the words, and the standard error its warnings, if it may have some.
-    ensures done { result ≡ Status.Done → HasShown (IsRunAnswer (F.gives files.now) (F.fails files.now) IsTextOutcome explains (map string_bytes words.now)) (Appends (O.contents out.old) (O.contents out.new)) (λ output. Warns output (E.contents err.old) (E.contents err.new) (E.has_failed err.new)) }
-
-    // Otherwise the standard error has the one message of the words' fault, or of a standard output
-    // that failed, and below a fault that is to be explained what stands there: of a refusal the line of the bytes that were refused. Unless
-    // the standard output failed, nothing was written there.
-    ensures told { (result ≡ Status.Done) ⊎ HasTold (IsRunAnswer (F.gives files.now) (F.fails files.now) IsTextOutcome explains (map string_bytes words.now)) (O.has_failed out.new) result (Writes (E.contents err.old) (E.contents err.new) (E.has_failed err.new)) }
-    ensures nothing { (result ≡ Status.Done) ⊎ (((result ≡ Status.CannotWrite) × (O.has_failed out.new ≡ true)) ⊎ Keeps (O.contents out.old) (O.contents out.new)) }
-    ensures front { result ≡ Status.CannotWrite → HasWritten (IsRunAnswer (F.gives files.now) (F.fails files.now) IsTextOutcome explains (map string_bytes words.now)) (AppendsFront (O.contents out.old) (O.contents out.new)) }
+    ensures { IsProgramAnswer (F.gives files.now) (F.fails files.now) explains (map string_bytes words.now) (streams (I.remaining input.old) (I.remaining input.new) (stream (O.contents out.old) (O.contents out.new) (O.has_failed out.new)) (stream (E.contents err.old) (E.contents err.new) (E.has_failed err.new)) (T.contents trace.old) (T.contents trace.new)) result }
 {
-    lift_shell::run::run(rt, alloc, words, files, &Liftplc, explains, out, err)
+    match command_alone(alloc, words, explains, files, trace, input, out, err) {
+        Some(status) => status,
+        None => command_run(rt, alloc, words, explains, files, out, err),
+    }
 }
 
-/// Runs `liftplc` on the words of the command line; `threads` lends the right to start threads and to wait for them. Refusals are explained where
-/// the standard error is a terminal.
-pub fn command<R: Threads + Wait + Sync>(rt: &HostRuntime, threads: &R) -> ExitCode {
+/// The same without threads, so it returns. `None`: the words ask for `run`, and nothing was read or written.
+pub fn command_alone<F: TextFiles, T: TraceSink, I: Read, O: Sink, E: Sink>(
+    alloc: Global,
+    words: &[String],
+    explains: bool,
+    files: &F,
+    trace: &mut T,
+    input: &mut I,
+    out: &mut O,
+    err: &mut E,
+) -> Option<Status>
+    requires { O.has_failed out.old ≡ false }
+    ensures answered { IfSome result (IsProgramAnswer (F.gives files.now) (F.fails files.now) explains (map string_bytes words.now) (streams (I.remaining input.old) (I.remaining input.new) (stream (O.contents out.old) (O.contents out.new) (O.has_failed out.new)) (stream (E.contents err.old) (E.contents err.new) (E.has_failed err.new)) (T.contents trace.old) (T.contents trace.new))) }
+    ensures run { IsNone result → AskForRun (plain_words (map string_bytes words.now)) }
+    ensures unread { IsNone result → (input.new ≡ input.old) × (trace.new ≡ trace.old) }
+    ensures unwritten { IsNone result → (out.new ≡ out.old) × (err.new ≡ err.old) }
+{
+    match read_words(alloc, words) {
+        Ok(plain) => plain_alone(alloc, &plain, explains, files, trace, input, out, err),
+        Err(_) => Some(ends_with(&Fault::NoMemory, err)),
+    }
+}
+
+/// The same of words as they are read.
+fn plain_alone<F: TextFiles, T: TraceSink, I: Read, O: Sink, E: Sink>(
+    alloc: Global,
+    words: &Plain,
+    explains: bool,
+    files: &F,
+    trace: &mut T,
+    input: &mut I,
+    out: &mut O,
+    err: &mut E,
+) -> Option<Status>
+    requires { O.has_failed out.old ≡ false }
+    ensures answered { IfSome result (IsPlainAnswer (F.gives files.now) (F.fails files.now) (explains || words.now.explains) (map string_bytes words.now.words.items) words.now.flag (streams (I.remaining input.old) (I.remaining input.new) (stream (O.contents out.old) (O.contents out.new) (O.has_failed out.new)) (stream (E.contents err.old) (E.contents err.new) (E.has_failed err.new)) (T.contents trace.old) (T.contents trace.new))) }
+    ensures run { IsNone result → AskForRun (map string_bytes words.now.words.items) }
+    ensures unread { IsNone result → (input.new ≡ input.old) × (trace.new ≡ trace.old) }
+    ensures unwritten { IsNone result → (out.new ≡ out.old) × (err.new ≡ err.old) }
+{
+    match asked_to_serve(&words.words) {
+        Some(serving) => {
+            let wanted = is_wanted(explains, words.explains);
+            Some(serve(alloc, serving, files, wanted, trace, input, out, err))
+        }
+        None => run_alone(alloc, words, files, &Liftplc, explains, out, err),
+    }
+}
+
+/// Runs `liftplc` on words that ask for `run`.
+fn command_run<R: Threads + Wait + Sync, F: TextFiles, O: Sink, E: Sink>(
+    rt: &R,
+    alloc: Global,
+    words: &[String],
+    explains: bool,
+    files: &F,
+    out: &mut O,
+    err: &mut E,
+) -> Status
+    requires { O.has_failed out.old ≡ false }
+    ensures { IsRunAnswer (F.gives files.now) (F.fails files.now) explains (map string_bytes words.now) (stream (O.contents out.old) (O.contents out.new) (O.has_failed out.new)) (stream (E.contents err.old) (E.contents err.new) (E.has_failed err.new)) result }
+{
+    match read_words(alloc, words) {
+        Ok(plain) => run(rt, alloc, &plain, files, &Liftplc, explains, out, err),
+        Err(_) => ends_with(&Fault::NoMemory, err),
+    }
+}
+
+/// Tells a fault, and ends with its status.
+fn ends_with<E: Sink>(fault: &Fault, err: &mut E) -> Status
+    ensures told { Writes (E.contents err.old) (E.contents err.new) (E.has_failed err.new) (message_of fault.now) }
+    ensures ends { result ≡ status_of fault.now }
+{
+    tell(fault, b"", err);
+    fault.status()
+}
+
+/// Runs `liftplc` on the words of the command line, over the files and streams of the process; `threads` lends the right to start threads and to
+/// wait for them. Faults are explained where the standard error is a terminal.
+pub fn main<R: Threads + Wait + Sync>(rt: &HostRuntime, threads: &R) -> ExitCode {
     keep_freed_memory(rt);
     let mut out = Stream::new(rt.stdout());
     let mut err = Stream::new(rt.stderr());
-    let status = match words(rt) {
-        Ok(words) => command_of(rt, threads, &words, &mut out, &mut err),
+    let status = match process_words(rt, threads, &mut out, &mut err) {
+        Ok(status) => status,
         Err(fault) => ends_with(&fault, &mut err),
     };
     ExitCode::from(status.code())
 }
 
-/// Tells a fault, and ends with its status.
-fn ends_with<E: Sink>(fault: &Fault, err: &mut E) -> Status {
-    tell(fault, b"", err);
-    fault.status()
-}
-
-/// Runs `liftplc` on words, over the files and streams of the process.
-fn command_of<R: Threads + Wait + Sync, O: Sink, E: Sink>(
+/// Runs `liftplc` on the words of the command line, with these streams; or says why the words or the standard input can't be read.
+fn process_words<R: Threads + Wait + Sync, O: Sink, E: Sink>(
     rt: &HostRuntime,
     threads: &R,
-    words: &[String],
     out: &mut O,
     err: &mut E,
-) -> Status
+) -> Result<Status, Fault>
     requires { O.has_failed out.old ≡ false }
 {
-    let explains = rt.stderr().is_terminal();
-    let Ok(plain) = read_words(rt.alloc(), words) else {
-        return ends_with(&Fault::NoMemory, err);
-    };
-    match asked_to_serve(&plain.words) {
-        Some(serving) => serve_streams(rt, serving, explains || plain.explains, out, err),
-        None => run(threads, rt.alloc(), words, &Disk(rt), explains, out, err),
-    }
-}
-
-/// Serves over the files and streams of the process.
-fn serve_streams<O: Sink, E: Sink>(
-    rt: &HostRuntime,
-    serving: Serving<'_>,
-    explains: bool,
-    out: &mut O,
-    err: &mut E,
-) -> Status {
+    let words = words(rt)?;
     let Ok(mut input) = BufReader::new(rt.alloc(), rt.stdin()) else {
-        return ends_with(&Fault::NoMemory, err);
+        return Err(Fault::NoMemory);
     };
-    serve(
+    let explains = rt.stderr().is_terminal();
+    Ok(command(
+        threads,
         rt.alloc(),
-        serving,
-        &Disk(rt),
+        &words,
         explains,
+        &Disk(rt),
         &mut DiskTrace::new(rt),
         &mut input,
         out,
         err,
-    )
+    ))
 }
 
 /// What a run over sinks in memory has left.
@@ -134,22 +193,9 @@ pub fn tried<R: Threads + Wait + Sync, F: TextFiles>(
     let mut err = Memory::new(alloc);
     let mut trace = MemoryTrace::new(alloc);
     let mut rest = input;
-    let status = match read_words(alloc, words) {
-        Ok(plain) => match asked_to_serve(&plain.words) {
-            Some(serving) => serve(
-                alloc,
-                serving,
-                files,
-                plain.explains,
-                &mut trace,
-                &mut rest,
-                &mut out,
-                &mut err,
-            ),
-            None => run(rt, alloc, words, files, false, &mut out, &mut err),
-        },
-        Err(_) => ends_with(&Fault::NoMemory, &mut err),
-    };
+    let status = command(
+        rt, alloc, words, false, files, &mut trace, &mut rest, &mut out, &mut err,
+    );
     Outcome {
         status,
         out,

@@ -7,7 +7,7 @@ ghost use Rattle.lift_trace.specs.Reading.{Reads, greatest_trace};
 ghost use Rattle.lift_output.specs.Outcomes.{IsCheckOutcome, IsShowOutcome, HasWarnings, asked_warnings, wanted_warnings, IsFire, IsNoFire, AreDriven, IsUndriven, IsSimOutcome, IsRunOutcome, IsDenialsOutcome, IsWatchOutcome, IsRoundsOutcome, IsFollowed, IsTraceOutcome, IsProgramOutcome};
 ghost use Rattle.lift_output.specs.Parts.{fault_of_trace, IsTraceUnread, AreFollowed, IsWatched};
 ghost use Rattle.lift_runs.specs.Driven.{ArePressed};
-ghost use Rattle.lift_host.specs.Requests.{words_of};
+ghost use Rattle.lift_host.specs.Requests.{command_of, words_of};
 ghost use Rattle.lift_watch.specs.Names.{upper_case};
 ghost use Rattle.lift_spec.specs.EventFaults.{event_fault_number};
 
@@ -18,7 +18,7 @@ use il_shown::ranges_text;
 use lift_draw::{Stop, drawing};
 use lift_host::files::Reading;
 use lift_host::press::{Press, fire_round, presses};
-use lift_host::request::{Following, Named, Request, Rounds, Showing, Simulating, Words};
+use lift_host::request::{Following, Name, Named, Request, Rounds, Showing, Simulating, Words};
 use lift_host::status::Fault;
 use lift_runs::replay::{Refused, replay};
 use lift_runs::sim::{Drive, simulate, simulate_before, simulate_on};
@@ -39,14 +39,14 @@ use std::alloc::Global;
 use std::sync::Wait;
 use std::thread::Threads;
 
-/// What a request prints over a verified configuration, or why it prints nothing. `run` alone starts threads and waits for them.
-pub fn outcome<R: Threads + Wait + Sync>(
-    rt: &R,
+/// What a request that isn't `run` prints over a verified configuration, or why it prints nothing.
+pub fn outcome(
     alloc: Global,
     request: Request<'_>,
     verified: Verified,
     trace: &Reading,
 ) -> Result<Output, Fault>
+    requires { command_of request ≢ Name.Rounds Simulating.Run }
     ensures is { IsProgramOutcome request.entry verified trace.now result }
     ensures warned { HasWarnings (wanted_warnings request.entry verified) result }
     ensures unwritten { result ≢ Err Fault.CannotWrite }
@@ -54,26 +54,26 @@ pub fn outcome<R: Threads + Wait + Sync>(
     match request {
         Request::Check(asked) => checked(alloc, verified, asked.warns),
         Request::Show(command, _) => shown(alloc, verified, command),
-        Request::Rounds(command, asked) => rounds_outcome(rt, alloc, verified, command, asked),
+        Request::Rounds(command, asked) => rounds_outcome(alloc, verified, command, asked),
         Request::Trace(command, _) => trace_outcome(alloc, verified, command, trace),
     }
 }
 
-/// What a simulation is asked for. `run` alone starts threads.
-fn rounds_outcome<R: Threads + Wait + Sync>(
-    rt: &R,
+/// What a simulation in one thread is asked for.
+fn rounds_outcome(
     alloc: Global,
     verified: Verified,
     command: Simulating,
     asked: Rounds<'_>,
 ) -> Result<Output, Fault>
+    requires { command ≢ Simulating.Run }
     ensures is { IsRoundsOutcome command verified asked.entry result }
     ensures unwritten { result ≢ Err Fault.CannotWrite }
     ensures warned { HasWarnings None result }
 {
     match command {
         Simulating::Sim => simulated(alloc, verified, asked),
-        Simulating::Run => ran(rt, alloc, verified, asked),
+        Simulating::Run => unreachable!(),
         Simulating::Denials => denied(alloc, verified, asked),
         Simulating::Watch => watched(alloc, verified, asked),
     }
@@ -252,8 +252,8 @@ fn watched_world(
     Ok(Output::Text(watch.text))
 }
 
-/// The outcome of a run with threads. A fault of it is no memory, or no room.
-fn ran<R: Threads + Wait + Sync>(
+/// What `run` prints over a verified configuration, or why it prints nothing. It starts threads and waits for them.
+pub fn ran<R: Threads + Wait + Sync>(
     rt: &R,
     alloc: Global,
     verified: Verified,
@@ -273,6 +273,7 @@ fn ran<R: Threads + Wait + Sync>(
             };
             match run(rt, alloc, verified, &Open, plan) {
                 Ok(entries) => Ok(Output::Trace(entries)),
+                // No memory, or no room.
                 Err(_) => Err(Fault::NoMemory),
             }
         }

@@ -1,8 +1,11 @@
 -- How a run ends, by its outcome and how that was shown.
 use Rattle.std.proofs.Common.{◌≡◌, ◌⊎◌, ◌++◌, ℕ, List, [], Bool, true, Ok, Err, IfOk, IfErr, inl, inr, sym, refl, ap, ◌∙◌}
+use Rattle.std.specs.Io.KnownBytes.{Appends, Keeps}
 use Rattle.lift_host.specs.Messages.{status_of, message_of}
 use Rattle.lift_show.specs.declared.output.Output.{Output}
-use Rattle.lift_show.specs.Outputs.{Outcome}
+use Rattle.lift_shell.specs.Runs.{Held, HasPrinted}
+use Rattle.lift_show.specs.Outputs.{Outcome, Warns, bytes_of}
+use Rattle.lift_sink.specs.Writes.{AppendsFront, Writes}
 use Rattle.lift_host.specs.declared.status.Fault.{Fault}
 use Rattle.lift_host.specs.declared.status.Fault.TheVariants as fault
 use Rattle.lift_host.specs.declared.status.Status.{Status}
@@ -34,7 +37,7 @@ cannot_write_only fault.NoMemory e = cc
 
 module _ (Of : Outcome → List ℕ → Type 0) (outcome : Outcome) (below : List ℕ) (result : Status) (answered : Of outcome below) where
   -- where it is done, the outcome was an output, and it and its warnings were written
-  pub done_of : (Written Warned : Output → Type 0) → IfOk outcome (λ output. result ≡ status.Done → Written output) → IfOk outcome (λ output. result ≡ status.Done → Warned output) → IfErr outcome (λ f. result ≡ status_of f)
+  done_of : (Written Warned : Output → Type 0) → IfOk outcome (λ output. result ≡ status.Done → Written output) → IfOk outcome (λ output. result ≡ status.Done → Warned output) → IfErr outcome (λ f. result ≡ status_of f)
       → result ≡ status.Done → (output : Output) × (text : List ℕ) × Of (Ok output) text × Written output × Warned output
   done_of Written Warned shown warned ends e = by outcome answered shown warned ends
     where
@@ -44,7 +47,7 @@ module _ (Of : Outcome → List ℕ → Type 0) (outcome : Outcome) (below : Lis
       by (Err f) m shown warned ends = absurd (never_done f (sym ends ∙ e))
 
   -- where the output can't be written, the outcome was one, and a front of it was written
-  pub front_of : (Begun : Output → Type 0) → (outcome ≡ Err fault.CannotWrite → ⊥) → IfOk outcome (λ output. result ≡ status.CannotWrite → Begun output) → IfErr outcome (λ f. result ≡ status_of f)
+  front_of : (Begun : Output → Type 0) → (outcome ≡ Err fault.CannotWrite → ⊥) → IfOk outcome (λ output. result ≡ status.CannotWrite → Begun output) → IfErr outcome (λ f. result ≡ status_of f)
       → result ≡ status.CannotWrite → (output : Output) × (text : List ℕ) × Of (Ok output) text × Begun output
   front_of Begun never front ends e = by outcome answered never front ends
     where
@@ -54,7 +57,7 @@ module _ (Of : Outcome → List ℕ → Type 0) (outcome : Outcome) (below : Lis
       by (Err f) m never front ends = absurd (never (ap Err (cannot_write_only f (sym ends ∙ e))))
 
   -- else the outcome was a fault, or the output failed, and the message was written, with what stands below it
-  pub told_of : (Told : List ℕ → Type 0) (failed : Bool)
+  told_of : (Told : List ℕ → Type 0) (failed : Bool)
       → IfOk outcome (λ _. (result ≡ status.Done) ⊎ ((result ≡ status.CannotWrite) × (failed ≡ true)))
       → IfOk outcome (λ _. result ≡ status.CannotWrite → Told (message_of fault.CannotWrite))
       → IfErr outcome (λ f. result ≡ status_of f) → IfErr outcome (λ f. Told (message_of f ++ below))
@@ -67,3 +70,29 @@ module _ (Of : Outcome → List ℕ → Type 0) (outcome : Outcome) (below : Lis
       by (Ok output) m (inl done) unwritten ends told = inl done
       by (Ok output) m (inr (is, fails)) unwritten ends told = inr (fault.CannotWrite, [], inr (refl, fails, refl), sym is, unwritten is)
       by (Err f) m ok unwritten ends told = inr (f, below, inl m, sym ends, told)
+
+  -- a fault leaves the output as it was
+  nothing_of : (Kept : Type 0) (failed : Bool) → IfOk outcome (λ _. (result ≡ status.Done) ⊎ ((result ≡ status.CannotWrite) × (failed ≡ true))) → IfErr outcome (λ _. Kept)
+      → (result ≡ status.Done) ⊎ (((result ≡ status.CannotWrite) × (failed ≡ true)) ⊎ Kept)
+  nothing_of Kept failed ok kept = by outcome ok kept
+    where
+      by : (o : Outcome) → IfOk o (λ _. (result ≡ status.Done) ⊎ ((result ≡ status.CannotWrite) × (failed ≡ true))) → IfErr o (λ _. Kept) → (result ≡ status.Done) ⊎ (((result ≡ status.CannotWrite) × (failed ≡ true)) ⊎ Kept)
+      by (Ok output) (inl done) kept = inl done
+      by (Ok output) (inr fails) kept = inr (inl fails)
+      by (Err f) ok kept = inr (inr kept)
+
+  -- all that is said of the two streams
+  pub printed_of : (out err : Held) → (outcome ≡ Err fault.CannotWrite → ⊥)
+      → IfOk outcome (λ _. (result ≡ status.Done) ⊎ ((result ≡ status.CannotWrite) × (out.failed ≡ true)))
+      → IfOk outcome (λ output. result ≡ status.Done → Appends out.before out.after (bytes_of output))
+      → IfOk outcome (λ output. result ≡ status.CannotWrite → AppendsFront out.before out.after (bytes_of output))
+      → IfOk outcome (λ output. result ≡ status.Done → Warns output err.before err.after err.failed)
+      → IfOk outcome (λ _. result ≡ status.CannotWrite → Writes err.before err.after err.failed (message_of fault.CannotWrite))
+      → IfErr outcome (λ f. result ≡ status_of f) → IfErr outcome (λ _. Keeps out.before out.after)
+      → IfErr outcome (λ f. Writes err.before err.after err.failed (message_of f ++ below)) → HasPrinted Of out err result
+  printed_of out err never ends shown front warned unwritten fault kept told = record {
+    done = done_of (λ output. Appends out.before out.after (bytes_of output)) (λ output. Warns output err.before err.after err.failed) shown warned fault;
+    told = told_of (Writes err.before err.after err.failed) out.failed ends unwritten fault told;
+    nothing = nothing_of (Keeps out.before out.after) out.failed ends kept;
+    front = front_of (λ output. AppendsFront out.before out.after (bytes_of output)) never front fault;
+  }

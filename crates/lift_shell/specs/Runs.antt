@@ -1,19 +1,24 @@
 -- What comes of a run of the program (own rules).
-use Rattle.std.specs.Prelude.{IsTrue, ◌≡◌, ◌⊎◌, ◌↔◌, ◌||◌, ◌&&◌, ◌++◌, length, ℕ, List, [], nat_lt, Bool, true, false, None, Ok, Err, if◌then◌else◌, codes, string_bytes}
+use Rattle.std.specs.Prelude.{IsTrue, ◌≡◌, ◌⊎◌, ◌↔◌, ◌||◌, ◌&&◌, ◌++◌, length, ℕ, List, [], nat_lt, Bool, true, false, Option, None, Ok, Err, if◌then◌else◌, codes, map, string_bytes}
+use Rattle.std.specs.Io.KnownBytes.{Appends, Keeps}
 use Rattle.lift_host.specs.declared.files.ReadFault.{ReadFault}
 use Rattle.lift_host.specs.declared.files.ReadFault.TheVariants as failure
 use Rattle.lift_host.specs.declared.files.Reading.{Reading}
 use Rattle.lift_host.specs.declared.files.Reading.TheVariants.{Text, Failed}
+use Rattle.lift_host.specs.declared.request.Plain.{Plain}
 use Rattle.lift_host.specs.declared.request.Request.{Request}
 use Rattle.lift_host.specs.declared.request.Request.TheVariants as request
+use Rattle.lift_host.specs.declared.request.Rounds.{Rounds}
 use Rattle.lift_host.specs.declared.request.Simulating.TheVariants as simulating
 use Rattle.lift_host.specs.declared.status.Fault.{Fault}
 use Rattle.lift_host.specs.declared.status.Fault.TheVariants as fault
 use Rattle.lift_host.specs.declared.status.Status.{Status}
+use Rattle.lift_host.specs.declared.status.Status.TheVariants as status
 use Rattle.lift_host.specs.Messages.{fault_of_reading, message_of, status_of, text_of, cause_sentence}
-use Rattle.lift_host.specs.Requests.{Asks, BeginsWithDigit, name_of, plain_words, explains, has_flag, with_flag}
+use Rattle.lift_host.specs.Requests.{Asks, BeginsWithDigit, name_of, with_flag}
 use Rattle.lift_show.specs.declared.output.Output.{Output}
-use Rattle.lift_show.specs.Outputs.{Outcome, bytes_of, warnings_of}
+use Rattle.lift_show.specs.Outputs.{Outcome, Warns, bytes_of, warnings_of}
+use Rattle.lift_sink.specs.Writes.{AppendsFront, Writes}
 use Rattle.lift_source.specs.Notices.{word_notice, file_notice, plain_notice}
 use Rattle.lift_source.specs.Places.{IsShownBelow}
 use Rattle.lift_shell.specs.Cuts.{completed}
@@ -25,6 +30,29 @@ most_bytes = 262145
 -- the bytes of a trace that are read: one more than a trace may have
 abbrev pub most_trace_bytes : ℕ
 most_trace_bytes = 67108865
+
+-- `RUN`
+
+-- whether a request is `run`
+abbrev pub runs : Request → Bool
+runs (request.Check checked) = false
+runs (request.Show command file) = false
+runs (request.Rounds simulating.Sim rounds) = false
+runs (request.Rounds simulating.Run rounds) = true
+runs (request.Rounds simulating.Denials rounds) = false
+runs (request.Rounds simulating.Watch rounds) = false
+runs (request.Trace command traced) = false
+
+-- words ask for `run`
+abbrev pub AskForRun : List (List ℕ) → Type 0
+AskForRun words = (rounds : Rounds) × Asks words (request.Rounds simulating.Run rounds)
+
+-- the request of words as they are read, which is `run`
+pub record IsForRun (plain : Plain) (request : Request) : Type 0 where
+  pub asked : Request
+  pub asks : Asks (map string_bytes plain.words.items) asked
+  pub flagged : request ≡ with_flag plain.flag asked
+  pub is_run : runs request ≡ true
 
 -- BELOW A FAULT
 
@@ -130,10 +158,9 @@ pub data IsAnswer (reads : List ℕ → ℕ → List ℕ → Type 0) (fails : Li
   unasked : ((request : Request) → Asks words request → ⊥) → IsWordsOutcome outcome → below ≡ [] → IsAnswer reads fails gives wanted words flag outcome below
   asked : (request : Request) → Asks words request → IsFileAnswer reads fails gives wanted (with_flag flag request) outcome below → IsAnswer reads fails gives wanted words flag outcome below
 
--- The words as they are read have that answer, explained where `--explain` stands among them, or always. Memory for them may be missing.
-pub data IsRunAnswer (reads : List ℕ → ℕ → List ℕ → Type 0) (fails : List ℕ → ℕ → ReadFault → Type 0) (gives : Request → List ℕ → Reading → Outcome → Type 0) (always : Bool) (words : List (List ℕ)) (outcome : Outcome) (below : List ℕ) : Type 0 where
-  unread : outcome ≡ Err fault.NoMemory → below ≡ [] → IsRunAnswer reads fails gives always words outcome below
-  plain : IsAnswer reads fails gives (always || explains words) (plain_words words) (has_flag words) outcome below → IsRunAnswer reads fails gives always words outcome below
+-- Words as they are read have that answer, explained where `--explain` stood among them, or always.
+abbrev pub IsAnswerOf : (List ℕ → ℕ → List ℕ → Type 0) → (List ℕ → ℕ → ReadFault → Type 0) → (Request → List ℕ → Reading → Outcome → Type 0) → Bool → Plain → Outcome → List ℕ → Type 0
+IsAnswerOf reads fails gives always plain = IsAnswer reads fails gives (always || plain.explains) (map string_bytes plain.words.items) plain.flag
 
 -- an output of these answers was written
 abbrev pub HasWritten : (Outcome → List ℕ → Type 0) → (List ℕ → Type 0) → Type 0
@@ -148,3 +175,21 @@ HasShown Of Writes Warns = (output : Output) × (below : List ℕ) × Of (Ok out
 abbrev pub HasTold : (Outcome → List ℕ → Type 0) → Bool → Status → (List ℕ → Type 0) → Type 0
 HasTold Of has_failed status Writes =
     (f : Fault) × (below : List ℕ) × (Of (Err f) below ⊎ ((f ≡ fault.CannotWrite) × (has_failed ≡ true) × (below ≡ []))) × (status_of f ≡ status) × Writes (message_of f ++ below)
+
+-- what a stream held and holds, where that is known, and whether it has failed
+pub record Held : Type 0 where
+  pub before : Option (List ℕ)
+  pub after : Option (List ℕ)
+  pub failed : Bool
+
+abbrev pub stream : Option (List ℕ) → Option (List ℕ) → Bool → Held
+stream before after failed = record { before = before; after = after; failed = failed }
+
+-- Where it is done, the standard output has the output of one of these answers, and the standard error its warnings, if it may have some. Otherwise
+-- the standard error has the one message of the answer's fault, or of a standard output that failed, and below it what stands there. Unless the
+-- standard output failed, nothing was then written to it; where it failed, it has a front of the output.
+pub record HasPrinted (Of : Outcome → List ℕ → Type 0) (out err : Held) (ends : Status) : Type 0 where
+  pub done : ends ≡ status.Done → HasShown Of (Appends out.before out.after) (λ output. Warns output err.before err.after err.failed)
+  pub told : (ends ≡ status.Done) ⊎ HasTold Of out.failed ends (Writes err.before err.after err.failed)
+  pub nothing : (ends ≡ status.Done) ⊎ (((ends ≡ status.CannotWrite) × (out.failed ≡ true)) ⊎ Keeps out.before out.after)
+  pub front : ends ≡ status.CannotWrite → HasWritten Of (AppendsFront out.before out.after)

@@ -1,28 +1,40 @@
 // What the program does with a text.
 
-ghost use Rattle.std.specs.Prelude.{◌≡◌, ◌≢◌, ℕ, List, Err};
+ghost use Rattle.std.specs.Prelude.{◌≡◌, ◌≢◌, ℕ, List, Err, true, false};
 ghost use Rattle.std.specs.Thread.{IsSync};
 ghost use Rattle.lift_host.specs.declared.files.Reading.{Reading};
 ghost use Rattle.lift_host.specs.declared.request.Request.{Request};
 ghost use Rattle.lift_host.specs.declared.status.Fault.TheVariants.{CannotWrite};
+ghost use Rattle.lift_shell.specs.Runs.{runs};
 ghost use Rattle.lift_show.specs.Outputs.{Outcome};
 
 use lift_host::files::Reading;
-use lift_host::request::Request;
+use lift_host::request::{Request, Simulating};
 use lift_host::status::Fault;
 use lift_show::output::Output;
 use std::alloc::Global;
 use std::sync::Wait;
 use std::thread::Threads;
 
-/// The commands of a program, each over the text of its file; `replay` and `draw` follow a trace.
+/// The commands of a program, each over the text of its file; `replay` and `draw` follow a trace. Commands read and write nothing themselves.
 pub trait Commands {
     // What a request may give of a text, where this was read of its trace.
     ghost gives: { Self → Request → List ℕ → Reading → Outcome → Type 0 };
 
-    /// What the request prints, or why it prints nothing. Commands read and write nothing themselves; of a request without a trace `trace`
-    /// is empty. A command that starts threads and waits for them does so by `rt`.
-    fn outcome<R: Threads + Wait + Sync>(
+    /// What a request prints that isn't `run`, or why it prints nothing; of a request without a trace `trace` is empty.
+    fn outcome(
+        &self,
+        alloc: Global,
+        request: Request<'_>,
+        text: &[u8],
+        trace: &Reading,
+    ) -> Result<Output, Fault>
+        requires { runs request ≡ false }
+        ensures gives { gives self.now request.entry text.now trace.now result }
+        ensures unwritten { result ≢ Err CannotWrite };
+
+    /// What `run` prints, or why it prints nothing. It starts threads and waits for them by `rt`.
+    fn run<R: Threads + Wait + Sync>(
         &self,
         rt: &R,
         alloc: Global,
@@ -30,7 +42,15 @@ pub trait Commands {
         text: &[u8],
         trace: &Reading,
     ) -> Result<Output, Fault>
-        requires { IsSync R.row }
+        requires sync { IsSync R.row }
+        requires run { runs request ≡ true }
         ensures gives { gives self.now request.entry text.now trace.now result }
         ensures unwritten { result ≢ Err CannotWrite };
+}
+
+/// Whether a request is `run`.
+pub fn runs(request: Request<'_>) -> bool
+    ensures { result ≡ runs request.entry }
+{
+    matches!(request, Request::Rounds(Simulating::Run, _))
 }

@@ -1,19 +1,17 @@
 // The program, over its words.
 
-ghost use Rattle.std.specs.Prelude.{◌≡◌, ◌≢◌, ◌⊎◌, ◌||◌, ◌↔◌, [], Bool, Err, IfOk, IfErr, IsTrue, true, false, map, string_bytes};
-ghost use Rattle.std.specs.Io.KnownBytes.{Appends, Keeps};
+ghost use Rattle.std.specs.Prelude.{◌≡◌, ◌≢◌, ◌||◌, ◌↔◌, [], Bool, Err, IfSome, IsNone, IfOk, IfErr, IsTrue, true, false, map, string_bytes};
+ghost use Rattle.lift_host.specs.Messages.{fault_of_reading};
 ghost use Rattle.lift_host.specs.Requests.{name_of};
-ghost use Rattle.lift_shell.specs.Runs.{IsFileAnswer, IsAnswer, IsRunAnswer, IsWordsOutcome, IsTraceRead, IsTraceText, IsTraceFault, IsBelow, IsFaultBelow, IsWanted, IsUnreadBelow, IsLateName, HasWritten, HasShown, HasTold, most_trace_bytes, source_of, trace_name, press_sentence};
-ghost use Rattle.lift_show.specs.Outputs.{Warns};
-ghost use Rattle.lift_sink.specs.Writes.{Writes, AppendsFront};
+ghost use Rattle.lift_shell.specs.Runs.{AskForRun, IsForRun, IsAnswerOf, IsFileAnswer, IsWordsOutcome, IsTraceRead, IsTraceText, IsTraceFault, IsBelow, IsFaultBelow, IsWanted, IsUnreadBelow, IsLateName, HasPrinted, stream, most_bytes, most_trace_bytes, runs, source_of, trace_name, press_sentence};
 ghost use Rattle.lift_source.specs.Notices.{word_notice};
 ghost use Rattle.lift_source.specs.Places.{IsShownBelow};
 
-use crate::commands::Commands;
+use crate::commands::{Commands, runs};
 use crate::cut::complete;
 use lift_help::command::{Answer, answer_of};
 use lift_host::files::{ReadFault, Reading, TextFiles};
-use lift_host::request::{Request, Simulating, Traced, asked, is_number, read_words};
+use lift_host::request::{Plain, Request, Simulating, Traced, asked, is_number};
 use lift_host::status::{Fault, Status};
 use lift_show::output::Output;
 use lift_show::show::show;
@@ -28,11 +26,12 @@ use std::thread::Threads;
 /// The most bytes of FILE that are read: one more than a text may have.
 pub const MOST_BYTES: usize = 262_145;
 
-/// Runs the program on its words, without its name. A fault is explained, where it is told to do so, or where the words have `--explain`.
+/// Runs the program on its words, as they are read. A fault is explained, where it is told to do so, or where the words have `--explain`. Only
+/// where they ask for `run` it waits for threads.
 pub fn run<R: Threads + Wait + Sync, F: TextFiles, C: Commands, O: Sink, E: Sink>(
     rt: &R,
     alloc: Global,
-    words: &[String],
+    words: &Plain,
     files: &F,
     commands: &C,
     explains: bool,
@@ -40,19 +39,31 @@ pub fn run<R: Threads + Wait + Sync, F: TextFiles, C: Commands, O: Sink, E: Sink
     err: &mut E,
 ) -> Status
     requires { O.has_failed out.old ≡ false }
-
-    // Where it is done, the standard output has the output of the words, and the standard error its warnings, if it may have some.
-    ensures done { result ≡ Status.Done → HasShown (IsRunAnswer (F.gives files.now) (F.fails files.now) (C.gives commands.now) explains (map string_bytes words.now)) (Appends (O.contents out.old) (O.contents out.new)) (λ output. Warns output (E.contents err.old) (E.contents err.new) (E.has_failed err.new)) }
-
-    // Otherwise the standard error has the one message of the words' fault, or of a standard output
-    // that failed, and below a fault that is to be explained what stands there: of a refusal the line of the bytes that were refused. Unless
-    // the standard output failed, nothing was written there.
-    ensures told { (result ≡ Status.Done) ⊎ HasTold (IsRunAnswer (F.gives files.now) (F.fails files.now) (C.gives commands.now) explains (map string_bytes words.now)) (O.has_failed out.new) result (Writes (E.contents err.old) (E.contents err.new) (E.has_failed err.new)) }
-    ensures nothing { (result ≡ Status.Done) ⊎ (((result ≡ Status.CannotWrite) × (O.has_failed out.new ≡ true)) ⊎ Keeps (O.contents out.old) (O.contents out.new)) }
-    ensures front { result ≡ Status.CannotWrite → HasWritten (IsRunAnswer (F.gives files.now) (F.fails files.now) (C.gives commands.now) explains (map string_bytes words.now)) (AppendsFront (O.contents out.old) (O.contents out.new)) }
+    ensures { HasPrinted (IsAnswerOf (F.gives files.now) (F.fails files.now) (C.gives commands.now) explains words.now) (stream (O.contents out.old) (O.contents out.new) (O.has_failed out.new)) (stream (E.contents err.old) (E.contents err.new) (E.has_failed err.new)) result }
 {
     let answer = answer(rt, alloc, words, files, commands, explains);
     show(answer.outcome, &answer.below, out, err)
+}
+
+/// The same without threads. `None`: the words ask for `run`, and nothing was read or written.
+pub fn run_alone<F: TextFiles, C: Commands, O: Sink, E: Sink>(
+    alloc: Global,
+    words: &Plain,
+    files: &F,
+    commands: &C,
+    explains: bool,
+    out: &mut O,
+    err: &mut E,
+) -> Option<Status>
+    requires { O.has_failed out.old ≡ false }
+    ensures printed { IfSome result (HasPrinted (IsAnswerOf (F.gives files.now) (F.fails files.now) (C.gives commands.now) explains words.now) (stream (O.contents out.old) (O.contents out.new) (O.has_failed out.new)) (stream (E.contents err.old) (E.contents err.new) (E.has_failed err.new))) }
+    ensures run { IsNone result → AskForRun (map string_bytes words.now.words.items) }
+    ensures unwritten { IsNone result → (out.new ≡ out.old) × (err.new ≡ err.old) }
+{
+    match answer_alone(alloc, words, files, commands, explains) {
+        Ok(answer) => Some(show(answer.outcome, &answer.below, out, err)),
+        Err(_) => None,
+    }
 }
 
 /// The outcome of words, and what stands below its fault.
@@ -66,53 +77,56 @@ struct Answered {
 fn answer<R: Threads + Wait + Sync, F: TextFiles, C: Commands>(
     rt: &R,
     alloc: Global,
-    words: &[String],
+    words: &Plain,
     files: &F,
     commands: &C,
     explains: bool,
 ) -> Answered
-    ensures is { IsRunAnswer (F.gives files.now) (F.fails files.now) (C.gives commands.now) explains (map string_bytes words.now) result.outcome result.below.items }
+    ensures is { IsAnswerOf (F.gives files.now) (F.fails files.now) (C.gives commands.now) explains words.now result.outcome result.below.items }
     ensures unwritten { result.outcome ≢ Err Fault.CannotWrite }
 {
-    match read_words(alloc, words) {
-        Ok(plain) => {
-            let wanted = is_wanted(explains, plain.explains);
-            plain_answer(rt, alloc, &plain.words, plain.flag, files, commands, wanted)
+    match answer_alone(alloc, words, files, commands, explains) {
+        Ok(answer) => answer,
+        Err(request) => {
+            let wanted = is_wanted(explains, words.explains);
+            run_answer(rt, alloc, request, files, commands, wanted)
         }
-        Err(_) => Answered {
-            outcome: Err(Fault::NoMemory),
+    }
+}
+
+/// The answer to words without threads; of words that ask for `run` the request.
+fn answer_alone<'w, F: TextFiles, C: Commands>(
+    alloc: Global,
+    words: &'w Plain,
+    files: &F,
+    commands: &C,
+    explains: bool,
+) -> Result<Answered, Request<'w>>
+    ensures is { IfOk result (λ answer. IsAnswerOf (F.gives files.now) (F.fails files.now) (C.gives commands.now) explains words.now answer.outcome answer.below.items) }
+    ensures unwritten { IfOk result (λ answer. answer.outcome ≢ Err Fault.CannotWrite) }
+    ensures run { IfErr result (IsForRun words.now) }
+{
+    match asked(&words.words) {
+        Some(request) => {
+            let request = request.with_flag(words.flag);
+            if runs(request) {
+                return Err(request);
+            }
+            let wanted = is_wanted(explains, words.explains);
+            Ok(file_answer(alloc, request, files, commands, wanted))
+        }
+        None => Ok(Answered {
+            outcome: outcome_of_words(alloc, &words.words),
             below: Vec::new(alloc),
-        },
+        }),
     }
 }
 
 /// Whether faults are to be explained: always, or where the words say so.
-fn is_wanted(always: bool, said: bool) -> bool
+pub fn is_wanted(always: bool, said: bool) -> bool
     ensures { result ≡ (always || said) }
 {
     always || said
-}
-
-/// The answer to words as they are read.
-fn plain_answer<R: Threads + Wait + Sync, F: TextFiles, C: Commands>(
-    rt: &R,
-    alloc: Global,
-    words: &[String],
-    flag: bool,
-    files: &F,
-    commands: &C,
-    wanted: bool,
-) -> Answered
-    ensures is { IsAnswer (F.gives files.now) (F.fails files.now) (C.gives commands.now) wanted (map string_bytes words.now) flag result.outcome result.below.items }
-    ensures unwritten { result.outcome ≢ Err Fault.CannotWrite }
-{
-    match asked(words) {
-        Some(request) => file_answer(rt, alloc, request.with_flag(flag), files, commands, wanted),
-        None => Answered {
-            outcome: outcome_of_words(alloc, words),
-            below: Vec::new(alloc),
-        },
-    }
 }
 
 /// The outcome of words that ask for nothing.
@@ -127,8 +141,29 @@ fn outcome_of_words(alloc: Global, words: &[String]) -> Result<Output, Fault>
     }
 }
 
-/// The answer to a request.
-fn file_answer<R: Threads + Wait + Sync, F: TextFiles, C: Commands>(
+/// The answer to a request that isn't `run`.
+fn file_answer<F: TextFiles, C: Commands>(
+    alloc: Global,
+    request: Request<'_>,
+    files: &F,
+    commands: &C,
+    wanted: bool,
+) -> Answered
+    requires { runs request ≡ false }
+    ensures is { IsFileAnswer (F.gives files.now) (F.fails files.now) (C.gives commands.now) wanted request.entry result.outcome result.below.items }
+    ensures unwritten { result.outcome ≢ Err Fault.CannotWrite }
+{
+    match read_texts(alloc, request, files) {
+        Ok(texts) => {
+            let outcome = commands.outcome(alloc, request, &texts.text, &texts.trace);
+            with_below(alloc, request, &texts, outcome, wanted)
+        }
+        Err(why) => unread_answer(alloc, request, why, wanted),
+    }
+}
+
+/// The answer to `run`.
+fn run_answer<R: Threads + Wait + Sync, F: TextFiles, C: Commands>(
     rt: &R,
     alloc: Global,
     request: Request<'_>,
@@ -136,18 +171,64 @@ fn file_answer<R: Threads + Wait + Sync, F: TextFiles, C: Commands>(
     commands: &C,
     wanted: bool,
 ) -> Answered
+    requires { runs request ≡ true }
     ensures is { IsFileAnswer (F.gives files.now) (F.fails files.now) (C.gives commands.now) wanted request.entry result.outcome result.below.items }
     ensures unwritten { result.outcome ≢ Err Fault.CannotWrite }
 {
-    match files.read(alloc, request.file(), MOST_BYTES) {
-        Ok(text) => {
-            let trace = trace_of(alloc, request, files);
-            text_answer(rt, alloc, request, &text, &trace, commands, wanted)
+    match read_texts(alloc, request, files) {
+        Ok(texts) => {
+            let outcome = commands.run(rt, alloc, request, &texts.text, &texts.trace);
+            with_below(alloc, request, &texts, outcome, wanted)
         }
-        Err(why) => Answered {
-            below: unread_below(alloc, request.file(), why, wanted),
-            outcome: Err(why.into()),
-        },
+        Err(why) => unread_answer(alloc, request, why, wanted),
+    }
+}
+
+/// What was read of the files of a request.
+#[derive(Drop)]
+struct Texts {
+    text: Vec<u8>,
+    trace: Reading,
+}
+
+/// Reads the files of a request: FILE, and the trace, if it has one.
+fn read_texts<F: TextFiles>(
+    alloc: Global,
+    request: Request<'_>,
+    files: &F,
+) -> Result<Texts, ReadFault>
+    ensures text { IfOk result (λ texts. F.gives files.now (name_of request.entry) most_bytes texts.text.items) }
+    ensures trace { IfOk result (λ texts. IsTraceRead (F.gives files.now) (F.fails files.now) request.entry texts.trace) }
+    ensures err { IfErr result (F.fails files.now (name_of request.entry) most_bytes) }
+{
+    let text = files.read(alloc, request.file(), MOST_BYTES)?;
+    let trace = trace_of(alloc, request, files);
+    Ok(Texts { text, trace })
+}
+
+/// An outcome, with what stands below it.
+fn with_below(
+    alloc: Global,
+    request: Request<'_>,
+    texts: &Texts,
+    outcome: Result<Output, Fault>,
+    wanted: bool,
+) -> Answered
+    ensures outcome { result.outcome ≡ outcome }
+    ensures below { IsBelow wanted request.entry texts.now.text.items texts.now.trace outcome result.below.items }
+{
+    let below = below_of(alloc, request, &texts.text, &texts.trace, &outcome, wanted);
+    Answered { outcome, below }
+}
+
+/// The answer where FILE can't be read.
+fn unread_answer(alloc: Global, request: Request<'_>, why: ReadFault, wanted: bool) -> Answered
+    ensures outcome { result.outcome ≡ Err (fault_of_reading why) }
+    ensures below { IsWanted wanted result.below.items (IsUnreadBelow (name_of request.entry) why result.below.items) }
+{
+    Answered {
+        below: unread_below(alloc, request.file(), why, wanted),
+        outcome: Err(why.into()),
     }
 }
 
@@ -178,25 +259,6 @@ fn read_trace<F: TextFiles>(
         complete(&mut text)?;
     }
     Ok(text)
-}
-
-/// The answer to a request over what was read.
-fn text_answer<R: Threads + Wait + Sync, C: Commands>(
-    rt: &R,
-    alloc: Global,
-    request: Request<'_>,
-    text: &[u8],
-    trace: &Reading,
-    commands: &C,
-    wanted: bool,
-) -> Answered
-    ensures gives { C.gives commands.now request.entry text.now trace.now result.outcome }
-    ensures below { IsBelow wanted request.entry text.now trace.now result.outcome result.below.items }
-    ensures unwritten { result.outcome ≢ Err Fault.CannotWrite }
-{
-    let outcome = commands.outcome(rt, alloc, request, text, trace);
-    let below = below_of(alloc, request, text, trace, &outcome, wanted);
-    Answered { outcome, below }
 }
 
 /// What stands below an outcome, where that is wanted.

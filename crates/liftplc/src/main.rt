@@ -2,9 +2,9 @@
 //! simulates the group that they control.
 #![tactic(auto)]
 
-use lift_command::program::command;
+use lift_command::program;
 use std::process::ExitCode;
 
 fn main(rt: HostRuntime) -> ExitCode {
-    command(&rt, &rt)
+    program::main(&rt, &rt)
 }

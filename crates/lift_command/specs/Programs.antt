@@ -1,0 +1,62 @@
+-- What the program gives of its words (own rules).
+use Rattle.std.specs.Prelude.{◌≡◌, ◌||◌, ℕ, Bool, List, Option}
+use Rattle.std.specs.Io.KnownBytes.{Consumes}
+use Rattle.lift_host.specs.declared.files.ReadFault.{ReadFault}
+use Rattle.lift_host.specs.declared.serving.Serving.{Serving}
+use Rattle.lift_host.specs.declared.status.Fault.TheVariants.{NoMemory}
+use Rattle.lift_host.specs.declared.status.Status.{Status}
+use Rattle.lift_host.specs.declared.status.Status.TheVariants as with_status
+use Rattle.lift_host.specs.Messages.{message_of}
+use Rattle.lift_host.specs.Requests.{explains, has_flag, plain_words}
+use Rattle.lift_host.specs.Servings.{Serves}
+use Rattle.lift_shell.specs.Runs.{HasPrinted, Held, IsAnswer}
+use Rattle.lift_sink.specs.Writes.{Writes}
+use Rattle.lift_command.specs.Runs.{IsTextOutcome}
+use Rattle.lift_command.specs.Servings.{IsServeAnswer}
+
+-- what the program reads and writes, before and after: what is left of the standard input, the two outputs, and the trace
+pub record Streams : Type 0 where
+  pub input : Option (List ℕ)
+  pub left : Option (List ℕ)
+  pub out : Held
+  pub err : Held
+  pub before : Option (List ℕ)
+  pub after : Option (List ℕ)
+
+abbrev pub streams : Option (List ℕ) → Option (List ℕ) → Held → Held → Option (List ℕ) → Option (List ℕ) → Streams
+streams input left out err before after = record { input = input; left = left; out = out; err = err; before = before; after = after }
+
+-- nothing is taken of the input, and nothing traced
+pub record AreUntouched (s : Streams) : Type 0 where
+  pub untaken : s.left ≡ s.input
+  pub untraced : s.after ≡ s.before
+
+-- memory for the words is missing: this is told, and nothing else is written
+pub record IsUnread (out err : Held) (ends : Status) : Type 0 where
+  pub told : Writes err.before err.after err.failed (message_of NoMemory)
+  pub nothing : out.after ≡ out.before
+  pub status : ends ≡ with_status.NoMemory
+
+-- what words as they are read have printed or told, of whatever command but `serve`
+abbrev pub HasAnswered : (List ℕ → ℕ → List ℕ → Type 0) → (List ℕ → ℕ → ReadFault → Type 0) → Bool → List (List ℕ) → Bool → Held → Held → Status → Type 0
+HasAnswered reads fails wanted words flag = HasPrinted (IsAnswer reads fails IsTextOutcome wanted words flag)
+
+-- what serving gives, by its streams
+abbrev pub HasServed : (List ℕ → ℕ → List ℕ → Type 0) → (List ℕ → ℕ → ReadFault → Type 0) → Bool → Serving → Streams → Status → Type 0
+HasServed reads fails wanted serving s ends =
+    IsServeAnswer reads fails wanted serving (Consumes s.input s.left) s.out.before s.out.after s.out.failed s.before s.after (Writes s.err.before s.err.after s.err.failed) (s.err.after ≡ s.err.before) ends
+
+-- Words as they are read ask to serve, and the group was served; or they don't, and the input and the trace are untouched.
+pub data IsPlainAnswer (reads : List ℕ → ℕ → List ℕ → Type 0) (fails : List ℕ → ℕ → ReadFault → Type 0) (wanted : Bool) (words : List (List ℕ)) (flag : Bool) (s : Streams) (ends : Status) : Type 0 where
+  served : (serving : Serving) → Serves words serving → HasServed reads fails wanted serving s ends → IsPlainAnswer reads fails wanted words flag s ends
+  printed : ((serving : Serving) → Serves words serving → ⊥) → HasAnswered reads fails wanted words flag s.out s.err ends → AreUntouched s → IsPlainAnswer reads fails wanted words flag s ends
+
+-- The words as they are read have that answer, explained where `--explain` stands among them, or always. Memory for them may be missing.
+pub data IsProgramAnswer (reads : List ℕ → ℕ → List ℕ → Type 0) (fails : List ℕ → ℕ → ReadFault → Type 0) (always : Bool) (words : List (List ℕ)) (s : Streams) (ends : Status) : Type 0 where
+  unread : IsUnread s.out s.err ends → AreUntouched s → IsProgramAnswer reads fails always words s ends
+  plain : IsPlainAnswer reads fails (always || explains words) (plain_words words) (has_flag words) s ends → IsProgramAnswer reads fails always words s ends
+
+-- what the command `run` gives of its words
+pub data IsRunAnswer (reads : List ℕ → ℕ → List ℕ → Type 0) (fails : List ℕ → ℕ → ReadFault → Type 0) (always : Bool) (words : List (List ℕ)) (out err : Held) (ends : Status) : Type 0 where
+  unread_run : IsUnread out err ends → IsRunAnswer reads fails always words out err ends
+  printed_run : HasAnswered reads fails (always || explains words) (plain_words words) (has_flag words) out err ends → IsRunAnswer reads fails always words out err ends
