@@ -1,15 +1,15 @@
-// A world behind a pointer.
+// The rounds of a world behind a pointer.
 
 ghost use Rattle.std.specs.Prelude.{◌≡◌, Option, Some, None};
 ghost use Rattle.std.specs.Coded.{coded_option};
 ghost use Rattle.lift_world.specs.Worlds.{WorldOf, world_of_code};
 
 use crate::unboxed::Unboxed;
-use lift_world::World;
+use lift_round::kept::Rounds;
 use std::alloc::Global;
 use std::marker::Model;
 
-/// A world behind a pointer, or none. It isn't let go of unnoticed: it is ended, or its world is taken out.
+/// A world behind a pointer, with what its rounds go on with, or none. It isn't let go of unnoticed: it is ended, or its world is taken out.
 #[repr(C)]
 pub struct Held {
     at: *mut u8,
@@ -24,21 +24,21 @@ impl Model for Held {
 
 impl Held {
     /// The pointer of a box.
-    fn of_unboxed(unboxed: Unboxed<World, Global>) -> Held
-        ensures { result.world ≡ Some unboxed.value }
+    fn of_unboxed(unboxed: Unboxed<Rounds, Global>) -> Held
+        ensures { result.world ≡ Some unboxed.value.world }
     {
         let Unboxed { at, alloc: _ } = unboxed;
         Held { at: at as *mut u8 }
     }
 
     /// The box of the pointer.
-    fn into_unboxed(self, alloc: Global) -> Unboxed<World, Global>
+    fn into_unboxed(self, alloc: Global) -> Unboxed<Rounds, Global>
         requires { (w : WorldOf) × (self.world ≡ Some w) }
-        ensures { self.world ≡ Some result.value }
+        ensures { self.world ≡ Some result.value.world }
     {
         let Held { at } = self;
         Unboxed {
-            at: at as *mut World,
+            at: at as *mut Rounds,
             alloc,
         }
     }
@@ -60,16 +60,16 @@ impl Held {
     }
 
     /// The world goes behind its pointer.
-    pub fn of(world: Box<World, Global>) -> Held
-        ensures { result.world ≡ Some world.value }
+    pub fn of(rounds: Box<Rounds, Global>) -> Held
+        ensures { result.world ≡ Some rounds.value.world }
     {
-        Held::of_unboxed(Unboxed::from_box(world))
+        Held::of_unboxed(Unboxed::from_box(rounds))
     }
 
     /// The world comes back.
-    pub fn into_world(self, alloc: Global) -> Box<World, Global>
+    pub fn into_rounds(self, alloc: Global) -> Box<Rounds, Global>
         requires { (w : WorldOf) × (self.world ≡ Some w) }
-        ensures { self.world ≡ Some result.value }
+        ensures { self.world ≡ Some result.value.world }
     {
         self.into_unboxed(alloc).into_box()
     }

@@ -1,4 +1,4 @@
-//! A world behind a pointer, as C keeps it.
+//! The rounds of a world behind a pointer, as C keeps them.
 #![tactic(auto)]
 
 mod held;

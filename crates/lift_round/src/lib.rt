@@ -1,6 +1,7 @@
 //! One round of a group, under fields that come from outside.
 #![tactic(auto)]
 
+pub mod kept;
 pub mod notice;
 mod rounds;
 

@@ -1,19 +1,17 @@
 // What a round has to tell beside the outputs.
 
-ghost use Rattle.std.specs.Prelude.{◌≡◌, ◌≤◌, ◌+◌, ◌++◌, length, map};
+ghost use Rattle.std.specs.Prelude.{◌≡◌, ◌<◌, ◌≤◌, ◌+◌, ◌++◌, ◌∷◌, [], length, map};
 ghost use Rattle.lift_round.specs.Notices.{answered_notices, done_by, done_notice, notices_of};
 ghost use Rattle.lift_round.specs.declared.notice.Notice.TheVariants.{Entered as EnteredOf, Denied as DeniedOf};
 
-use lift_image::Bounded;
+use arrayvec::ArrayVec;
 use lift_spec::calls::Answer;
 use lift_spec::report::{Answered, Denial, EnteredCall};
+use std::marker::Model;
 
 /// The most notices of a round: 64 calls that enter, two denials of each car by the refresh, two denials and a serve of each car's scan,
 /// and 64 tells.
 pub const MOST_NOTICES: usize = 168;
-
-/// The notices of a round, in the order in which they came.
-pub type Notices = Bounded<Notice, 168>;
 
 /// What a round has to tell beside the outputs.
 #[derive(Clone, Copy)]
@@ -31,6 +29,63 @@ pub enum Notice {
 impl Default for Notice {
     fn default() -> Notice {
         Notice::Denied(Denial::default())
+    }
+}
+
+/// The notices of a round, in the order in which they came. Contracts see their list. No call takes memory, and what is emptied is filled
+/// again, so that its room is set but once.
+#[derive(Drop)]
+pub struct Notices {
+    items: ArrayVec<Notice, MOST_NOTICES>,
+}
+
+impl Model for Notices {
+    ghost use Rattle.std.specs.Prelude.{List};
+    ghost use Rattle.lift_round.specs.declared.notice.Notice.{Notice as NoticeOf};
+
+    ghost Value = { List NoticeOf };
+
+    ghost view = { λ n. n.items.items };
+}
+
+impl Notices {
+    /// No notice.
+    pub fn new() -> Notices
+        ensures { result ≡ [] }
+    {
+        Notices {
+            items: ArrayVec::new(),
+        }
+    }
+
+    /// Takes all notices out.
+    pub fn clear(&mut self)
+        ensures { self.new ≡ [] }
+    {
+        self.items.clear();
+    }
+
+    /// Adds a notice at the end.
+    pub fn push(&mut self, notice: Notice)
+        requires { length self.old < 168 }
+        ensures { self.new ≡ self.old ++ notice ∷ [] }
+    {
+        self.items.push(notice);
+    }
+
+    /// The notices.
+    pub fn as_slice(&self) -> &[Notice]
+        ensures { result.now ≡ self.now }
+    {
+        self.items.as_slice()
+    }
+
+    /// How many notices there are.
+    pub fn len(&self) -> usize
+        ensures count { result ≡ length self.now }
+        ensures fits { length self.now ≤ 168 }
+    {
+        self.items.len()
     }
 }
 

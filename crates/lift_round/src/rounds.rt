@@ -105,7 +105,7 @@ pub fn round(
     ensures same { world.new.program ≡ world.old.program }
 {
     let _config = world.verified().config();
-    *notices = Bounded::new();
+    notices.clear();
     gather_all(world, report);
     refresh(world, fields, notices, report);
     scan_all(world, tasks, notices, report);

@@ -21,6 +21,7 @@ use il_machine::Verified;
 use il_spec::fault::Refusal;
 use itoa::Buffer;
 use lift_image::{Bounded, Sizes};
+use lift_round::notice::Notices;
 use lift_round::tasks_in;
 use lift_sink::sink::{Sink, put_all};
 use lift_spec::report::Report;
@@ -181,7 +182,7 @@ impl Server {
             answer,
             traced,
             scratch: Scratch {
-                notices: Bounded::new(),
+                notices: Notices::new(),
                 report: Report::new(),
             },
             count: 0,

@@ -1,4 +1,5 @@
-pub mod Leading
 pub mod Listed
 pub mod Refusing
 pub mod Resting
+pub mod Slots
+pub mod Taken

@@ -1,10 +1,10 @@
--- What a press and a refused event leave.
+-- What a press leaves.
 use Rattle.std.proofs.Common.{◌≡◌, Bool, true, false, ◌==◌, Ok, Err, inl, inr, refl, sym, ap, ◌∙◌, subst}
 use Rattle.std.specs.Prelude.{◌≢◌, ◌⊎◌, slice_get, is_some, ◌&&◌}
 use Rattle.il_spec.specs.declared.tree.Config.{Config}
 use Rattle.il_machine.specs.Scanning.{Program}
 use Rattle.lift_spec.specs.declared.calls.Call.{Call}
-use Rattle.lift_spec.specs.declared.event.Event.TheVariants.{Press, Gather}
+use Rattle.lift_spec.specs.declared.event.Event.TheVariants.{Press}
 use Rattle.lift_spec.specs.declared.event.Reply.{Reply as Answer}
 use Rattle.lift_spec.specs.declared.event.Reply.TheVariants as answer
 use Rattle.lift_spec.specs.declared.report.Report.{Report}
@@ -20,15 +20,6 @@ use Rattle.liftplc_c.specs.Presses.{press_status, Presses}
 pub same_world : (w v : WorldOf) → v.program ≡ w.program → v.world ≡ w.world → v ≡ w
 same_world w v program world =
     ap (λ (p : Program). let x : WorldOf = record { program = p; world = v.world } in x) program ∙ ap (λ (x : World). let y : WorldOf = record { program = w.program; world = x } in y) world
-
--- A FLOOR THAT NO GROUP HAS
-
-same_led : (w v : World) (r s : Reply) → ◌≡◌ {A = Next} (Ok (w, r)) (Ok (v, s)) → v ≡ w
-same_led w v r s e = let pair : ◌≡◌ {A = World × Reply} (w, r) (v, s) = cc in sym (ap (λ (x : World × Reply). x.0) pair)
-
-pub asks_nothing : (c : Config) (w v : World) (r : Reply) → happens c w (Gather 0) ≡ Ok (v, r) → v ≡ w
-unfolding happens
-asks_nothing c w v r e = same_led w v _ r e
 
 -- A PRESS
 

@@ -50,11 +50,11 @@ pub extern "C" fn liftplc_budget(alloc: Global, handle: &mut Handle, task: u8) -
     ensures budget { IfSome handle.old.held.world (λ w. (u : Organized) → IsTaskOf w.program.config task u → result ≡ budget_of w.program.config task) }
     ensures kept { handle.new.held.world ≡ handle.old.held.world }
 {
-    let Some(world) = handle.take(alloc) else {
+    let Some(rounds) = handle.take(alloc) else {
         return 0;
     };
-    let budget = task_budget(world.verified(), task);
-    handle.put(world);
+    let budget = task_budget(rounds.world.verified(), task);
+    handle.put(rounds);
     budget
 }
 

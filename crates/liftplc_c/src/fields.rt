@@ -19,6 +19,7 @@ pub struct CarInput {
 
 /// What C reports of the plant: NOW in milliseconds, RUNLIMIT, FIRE, and so many cars.
 #[repr(C)]
+#[derive(Drop)]
 pub struct FieldsInput {
     pub time: u32,
     pub run_limit: u8,

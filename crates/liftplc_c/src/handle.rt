@@ -5,11 +5,11 @@ ghost use Rattle.std.specs.Option.{ForSome};
 ghost use Rattle.liftplc_c.specs.Handles.{Rests};
 
 use lift_hold::Held;
-use lift_world::World;
+use lift_round::kept::Rounds;
 use std::alloc::Global;
 use std::mem::replace;
 
-/// What C keeps of a controller: its world, between two calls, or none. All bytes 0 are none.
+/// What C keeps of a controller: its world, between two calls, with what its rounds go on with, or none. All bytes 0 are none.
 #[repr(C)]
 pub struct Handle {
     pub held: Held,
@@ -30,26 +30,26 @@ impl Handle {
     }
 
     /// A world between two calls.
-    pub fn opened(world: Box<World, Global>) -> Handle
-        requires { Rests world.value.world }
-        ensures { result.held.world ≡ Some world.value }
+    pub fn opened(rounds: Box<Rounds, Global>) -> Handle
+        requires { Rests rounds.value.world.world }
+        ensures { result.held.world ≡ Some rounds.value.world }
     {
         Handle {
-            held: Held::of(world),
+            held: Held::of(rounds),
             is_open: true,
         }
     }
 
     /// The world is taken out, if there is one.
-    pub fn take(&mut self, alloc: Global) -> Option<Box<World, Global>>
+    pub fn take(&mut self, alloc: Global) -> Option<Box<Rounds, Global>>
         ensures left { self.new.held.world ≡ None }
-        ensures some { IfSome result (λ b. self.old.held.world ≡ Some b.value) }
-        ensures rests { IfSome result (λ b. Rests b.value.world) }
+        ensures some { IfSome result (λ b. self.old.held.world ≡ Some b.value.world) }
+        ensures rests { IfSome result (λ b. Rests b.value.world.world) }
         ensures none { IfNone result (self.old.held.world ≡ None) }
     {
         let Handle { held, is_open } = replace(self, Handle::closed());
         if is_open {
-            Some(held.into_world(alloc))
+            Some(held.into_rounds(alloc))
         } else {
             held.end();
             None
@@ -57,12 +57,12 @@ impl Handle {
     }
 
     /// A world goes in, where there is none.
-    pub fn put(&mut self, world: Box<World, Global>)
+    pub fn put(&mut self, rounds: Box<Rounds, Global>)
         requires none { self.old.held.world ≡ None }
-        requires rests { Rests world.value.world }
-        ensures { self.new.held.world ≡ Some world.value }
+        requires rests { Rests rounds.value.world.world }
+        ensures { self.new.held.world ≡ Some rounds.value.world }
     {
-        let Handle { held, is_open: _ } = replace(self, Handle::opened(world));
+        let Handle { held, is_open: _ } = replace(self, Handle::opened(rounds));
         held.end();
     }
 }

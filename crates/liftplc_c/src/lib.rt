@@ -9,4 +9,7 @@ mod notices;
 mod opening;
 mod outputs;
 mod pressing;
+mod status;
 mod stepping;
+#[cfg(test)]
+mod tests;

@@ -1,6 +1,6 @@
 // Opening and closing.
 
-ghost use Rattle.std.specs.Prelude.{◌≡◌, ◌≢◌, ◌↔◌, ◌⊎◌, ℕ, Option, Some, None, true, false, is_some, IfOk, IfErr, IsErrAnd, if◌then◌else◌};
+ghost use Rattle.std.specs.Prelude.{◌≡◌, ◌≢◌, ◌≤◌, ◌↔◌, ◌⊎◌, ℕ, Option, Some, None, true, false, is_some, IfOk, IfErr, IsErrAnd, if◌then◌else◌};
 ghost use Rattle.il_parse.specs.Refused.{IsFault};
 ghost use Rattle.il_spec.specs.declared.fault.Refusal.TheVariants.{Fault};
 ghost use Rattle.il_spec.specs.declared.tree.Config.{Config as ConfigOf};
@@ -13,7 +13,9 @@ ghost use Rattle.liftplc_c.specs.Handles.{IsLed, Rests};
 
 use crate::handle::Handle;
 use crate::history::led;
+use crate::status::Status;
 use lift_load::load;
+use lift_round::kept::Rounds;
 use lift_world::{Refusal, World};
 use std::alloc::Global;
 
@@ -26,12 +28,12 @@ pub struct TextRefusal {
 }
 
 /// The world of a text as it opens.
-fn opened(alloc: Global, text: &[u8]) -> Result<Box<World, Global>, Refusal>
-    ensures accepted { IfOk result (λ b. IsAccepted text.now b.value.program.config) }
-    ensures runs { IfOk result (λ b. RunsWell b.value.program.config) }
-    ensures opening { IfOk result (λ b. b.value.world ≡ opening b.value.program.config) }
-    ensures led { IfOk result (λ b. IsLed b.value) }
-    ensures rests { IfOk result (λ b. Rests b.value.world) }
+fn opened(alloc: Global, text: &[u8]) -> Result<Box<Rounds, Global>, Refusal>
+    ensures accepted { IfOk result (λ b. IsAccepted text.now b.value.world.program.config) }
+    ensures runs { IfOk result (λ b. RunsWell b.value.world.program.config) }
+    ensures opening { IfOk result (λ b. b.value.world.world ≡ opening b.value.world.program.config) }
+    ensures led { IfOk result (λ b. IsLed b.value.world) }
+    ensures rests { IfOk result (λ b. Rests b.value.world.world) }
     ensures refused { IsFault result → (c : ConfigOf) → IsAccepted text.now c → ⊥ }
     ensures named { IsFault result → (c : ConfigOf) → IsSpelled text.now c → IsErrAnd result (IsRefusedFor c) }
     ensures number { IfErr result (IsExplained text.now) }
@@ -40,7 +42,7 @@ fn opened(alloc: Global, text: &[u8]) -> Result<Box<World, Global>, Refusal>
 {
     let world = World::new(alloc, load(alloc, text)?)?;
     led(&world);
-    Ok(Box::new(alloc, world)?)
+    Ok(Box::new(alloc, Rounds::of(world))?)
 }
 
 /// Opens the controller of a text: 0. 1: the text is refused, and why is written. 2: memory is missing. 3: the handle is open already.
@@ -52,6 +54,7 @@ pub extern "C" fn liftplc_open(
     text: &[u8],
     refusal: &mut TextRefusal,
 ) -> u32
+    ensures status { result ≤ 3 }
     ensures answered { (result ≡ 3) ↔ (handle.old.is_open ≡ true) }
     ensures opened { result ≡ 0 → (w : WorldOf) × (handle.new.held.world ≡ Some w) × IsAccepted text.now w.program.config × (w.world ≡ opening w.program.config) × RunsWell w.program.config }
     ensures led { result ≡ 0 → (w : WorldOf) × (handle.new.held.world ≡ Some w) × IsLed w }
@@ -64,18 +67,18 @@ pub extern "C" fn liftplc_open(
     ensures unwritten { result ≢ 1 → refusal.new ≡ refusal.old }
 {
     if handle.is_open {
-        return 3;
+        return Status::Open as u32;
     }
     match opened(alloc, text) {
-        Ok(world) => {
-            handle.put(world);
-            0
+        Ok(rounds) => {
+            handle.put(rounds);
+            Status::Done as u32
         }
         Err(Refusal::Fault { number, line }) => {
             *refusal = TextRefusal { number, line };
-            1
+            Status::Refused as u32
         }
-        Err(Refusal::Memory) => 2,
+        Err(Refusal::Memory) => Status::NoMemory as u32,
     }
 }
 
@@ -86,7 +89,7 @@ pub extern "C" fn liftplc_close(alloc: Global, handle: &mut Handle) -> u32
     ensures closed { handle.new.held.world ≡ None }
 {
     match handle.take(alloc) {
-        Some(_world) => 0,
-        None => 4,
+        Some(_rounds) => Status::Done as u32,
+        None => Status::Closed as u32,
     }
 }

@@ -30,6 +30,7 @@ pub struct SlotOutput {
 
 /// What a round left. Of each array so many are written as are counted.
 #[repr(C)]
+#[derive(Drop)]
 pub struct RoundOutputs {
     pub car_count: u8,
     pub slot_count: u8,
@@ -91,13 +92,24 @@ fn put_cars(room: &mut [CarOutput], cars: &[CarOutputs])
     }
 }
 
-/// The call slots go to the front of the room, slot 1 first.
-fn put_slots(room: &mut [SlotOutput], slots: &[Slot])
-    requires { length slots.now ≤ length room.old }
-    ensures { take (length slots.now) room.new ≡ map slot_output slots.now }
+/// How many call slots the group has.
+fn slot_count(world: &World) -> u8
+    ensures count { result ≡ length world.now.world.group.calls.slots }
+    ensures few { result ≤ 64 }
 {
-    'slots: for index in 0..slots.len() {
-        room[index] = slot_output(slots[index]);
+    let _config = world.verified().config();
+    let _image = world.image();
+    world.sizes().slots
+}
+
+/// The call slots, of which there are so many, go to the front of the room, slot 1 first.
+fn put_slots(room: &mut [SlotOutput], world: &World, count: u8)
+    requires count { count ≡ length world.now.world.group.calls.slots }
+    requires room { count ≤ length room.old }
+    ensures { take count room.new ≡ map slot_output world.now.world.group.calls.slots }
+{
+    'slots: for index in 0..count {
+        room[usize::from(index)] = slot_output(world.slot(index + 1).unwrap());
     }
 }
 
@@ -111,10 +123,9 @@ pub fn put(outputs: &mut RoundOutputs, world: &World, notices: &Notices)
     let car_count = cars.len();
     put_cars(&mut outputs.cars, cars.as_slice());
     outputs.car_count = car_count as u8;
-    let slots = world.slots();
-    let slot_count = slots.len();
-    put_slots(&mut outputs.slots, slots.as_slice());
-    outputs.slot_count = slot_count as u8;
+    let slot_count = slot_count(world);
+    put_slots(&mut outputs.slots, world, slot_count);
+    outputs.slot_count = slot_count;
     let notice_count = notices.len();
     put_notices(&mut outputs.notices, notices.as_slice());
     outputs.notice_count = notice_count as u8;

@@ -4,17 +4,16 @@ ghost use Rattle.std.specs.Prelude.{◌≡◌, ◌≢◌, ◌∷◌, [], Option,
 ghost use Rattle.lift_spec.specs.declared.event.Event.TheVariants.{Press as PressOf};
 ghost use Rattle.lift_spec.specs.declared.event.Reply.{Reply as AnswerOf};
 ghost use Rattle.lift_run_laws.specs.Histories.{CallGoesWell};
-ghost use Rattle.lift_run_laws.specs.Runs.{IsReached};
 ghost use Rattle.lift_world.specs.Worlds.{WorldOf};
 ghost use Rattle.liftplc_c.specs.Handles.{IsLed, Rests};
 ghost use Rattle.liftplc_c.specs.Presses.{press_status, refusal_status, Presses};
 
 use crate::handle::Handle;
 use crate::history::led;
+use crate::status::Status;
+use lift_round::kept::Rounds;
 use lift_spec::calls::Call;
 use lift_spec::event::{Event, EventFault, Reply};
-use lift_spec::report::Report;
-use lift_world::World;
 use std::alloc::Global;
 
 /// A press is refused for a floor that the group doesn't have, or for a call to its own floor.
@@ -22,8 +21,8 @@ fn refusal_status(fault: EventFault) -> u32
     ensures { result ≡ refusal_status fault }
 {
     match fault {
-        EventFault::SameFloor => 8,
-        _ => 7,
+        EventFault::SameFloor => Status::SameFloor as u32,
+        _ => Status::NoFloor as u32,
     }
 }
 
@@ -31,25 +30,24 @@ fn press_status(reply: Reply) -> u32
     ensures { result ≡ press_status reply }
 {
     match reply {
-        Reply::New => 0,
-        Reply::Already => 6,
+        Reply::New => Status::Done as u32,
+        Reply::Already => Status::Already as u32,
         Reply::Refused(fault) => refusal_status(fault),
-        _ => 7,
+        _ => Status::NoFloor as u32,
     }
 }
 
 /// A press: the status of what is answered to it.
-fn press(world: &mut World, call: Call) -> u32
-    requires { Rests world.old.world }
-    ensures pressed { (answer : AnswerOf) × Presses call world.old world.new answer × (result ≡ press_status answer) }
-    ensures well { CallGoesWell world.old.program.config world.old.world (PressOf call ∷ []) }
-    ensures led { IsLed world.new }
-    ensures kept { result ≢ 0 → world.new ≡ world.old }
-    ensures rests { Rests world.new.world }
+fn press(rounds: &mut Rounds, call: Call) -> u32
+    requires { Rests rounds.old.world.world }
+    ensures pressed { (answer : AnswerOf) × Presses call rounds.old.world rounds.new.world answer × (result ≡ press_status answer) }
+    ensures well { CallGoesWell rounds.old.world.program.config rounds.old.world.world (PressOf call ∷ []) }
+    ensures led { IsLed rounds.new.world }
+    ensures kept { result ≢ 0 → rounds.new.world ≡ rounds.old.world }
+    ensures rests { Rests rounds.new.world.world }
 {
-    let mut report = Report::new();
-    let reply = world.apply(&Event::Press(call), &mut report);
-    led(world);
+    let reply = rounds.world.apply(&Event::Press(call), &mut rounds.report);
+    led(&rounds.world);
     press_status(reply)
 }
 
@@ -62,10 +60,10 @@ pub extern "C" fn liftplc_press(alloc: Global, handle: &mut Handle, from: u8, to
     ensures led { IfSome handle.new.held.world IsLed }
     ensures kept { result ≢ 0 → handle.new.held.world ≡ handle.old.held.world }
 {
-    let Some(mut world) = handle.take(alloc) else {
-        return 4;
+    let Some(mut rounds) = handle.take(alloc) else {
+        return Status::Closed as u32;
     };
-    let status = press(&mut world, Call { from, to });
-    handle.put(world);
+    let status = press(&mut rounds, Call { from, to });
+    handle.put(rounds);
     status
 }

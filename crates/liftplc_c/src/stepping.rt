@@ -1,7 +1,6 @@
 // Rounds.
 
 ghost use Rattle.std.specs.Prelude.{◌≡◌, ◌≢◌, Option, Some, None, true, false, IfSome, MatchOption};
-ghost use Rattle.lift_run_laws.specs.Runs.{IsReached};
 ghost use Rattle.lift_spec.specs.Image.{sizes_of, FieldsInRange};
 ghost use Rattle.lift_world.specs.Worlds.{WorldOf};
 ghost use Rattle.liftplc_c.specs.Handles.{IsLed, Rests};
@@ -10,46 +9,41 @@ ghost use Rattle.liftplc_c.specs.Rounds.{GoesRound};
 
 use crate::fields::{FieldsInput, fields_in};
 use crate::handle::Handle;
-use crate::history::{led, reached};
+use crate::history::led;
 use crate::outputs::{RoundOutputs, put};
-use lift_image::{Bounded, Fields};
-use lift_round::{round, tasks_in};
-use lift_spec::report::Report;
-use lift_world::World;
+use crate::status::Status;
+use lift_image::Fields;
+use lift_round::kept::Rounds;
 use std::alloc::Global;
 
 /// A round under fields in their ranges, and what it left.
-fn go_round(world: &mut World, fields: Fields, report: &mut Report, outputs: &mut RoundOutputs)
-    requires inside { FieldsInRange (sizes_of world.old.program.config) fields }
-    requires rests { Rests world.old.world }
-    ensures round { GoesRound fields world.old world.new outputs.new }
-    ensures rests { Rests world.new.world }
+fn go_round(rounds: &mut Rounds, fields: Fields, outputs: &mut RoundOutputs)
+    requires inside { FieldsInRange (sizes_of rounds.old.world.program.config) fields }
+    requires rests { Rests rounds.old.world.world }
+    ensures round { GoesRound fields rounds.old.world rounds.new.world outputs.new }
+    ensures rests { Rests rounds.new.world.world }
 {
-    let tasks = tasks_in(world.verified());
-    let mut notices = Bounded::new();
-    round(world, tasks.as_slice(), fields, &mut notices, report);
-    put(outputs, world, &notices);
+    rounds.go(fields);
+    put(outputs, &rounds.world, &rounds.notices);
 }
 
 /// A round, if the fields lie in their ranges: whether they did.
-fn step(world: &mut World, fields: &FieldsInput, outputs: &mut RoundOutputs) -> bool
-    requires { Rests world.old.world }
-    ensures answered { result ≡ are_taken (sizes_of world.old.program.config) fields.now }
-    ensures round { result ≡ true → GoesRound (fields_of fields.now) world.old world.new outputs.new }
-    ensures led { IsLed world.new }
-    ensures kept { result ≡ false → (world.new ≡ world.old) × (outputs.new ≡ outputs.old) }
-    ensures rests { Rests world.new.world }
+fn step(rounds: &mut Rounds, fields: &FieldsInput, outputs: &mut RoundOutputs) -> bool
+    requires { Rests rounds.old.world.world }
+    ensures answered { result ≡ are_taken (sizes_of rounds.old.world.program.config) fields.now }
+    ensures round { result ≡ true → GoesRound (fields_of fields.now) rounds.old.world rounds.new.world outputs.new }
+    ensures led { IsLed rounds.new.world }
+    ensures kept { result ≡ false → (rounds.new.world ≡ rounds.old.world) × (outputs.new ≡ outputs.old) }
+    ensures rests { Rests rounds.new.world.world }
 {
-    let mut report = Report::new();
-    reached(world, &mut report);
-    match fields_in(fields, world.sizes()) {
+    match fields_in(fields, rounds.world.sizes()) {
         Some(taken) => {
-            go_round(world, taken, &mut report, outputs);
-            led(world);
+            go_round(rounds, taken, outputs);
+            led(&rounds.world);
             true
         }
         None => {
-            led(world);
+            led(&rounds.world);
             false
         }
     }
@@ -68,10 +62,14 @@ pub extern "C" fn liftplc_round(
     ensures led { IfSome handle.new.held.world IsLed }
     ensures kept { result ≢ 0 → (handle.new.held.world ≡ handle.old.held.world) × (outputs.new ≡ outputs.old) }
 {
-    let Some(mut world) = handle.take(alloc) else {
-        return 4;
+    let Some(mut rounds) = handle.take(alloc) else {
+        return Status::Closed as u32;
     };
-    let done = step(&mut world, fields, outputs);
-    handle.put(world);
-    if done { 0 } else { 5 }
+    let done = step(&mut rounds, fields, outputs);
+    handle.put(rounds);
+    if done {
+        Status::Done as u32
+    } else {
+        Status::OutOfRange as u32
+    }
 }

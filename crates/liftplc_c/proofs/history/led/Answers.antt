@@ -9,7 +9,7 @@ returns c =
     let w = c.args.world.now in
     let runs = subst (λ (p : Program). IsRunnable p.config) c.verified.ensures c.config-config.ensures.runnable in
     record {
-      reached = c.requires;
+      reached = c.image-image.ensures.reached;
       well = λ events replies is. (accepted_runs_well w.program.config (sound_of w.program.config runs)).well events w.world replies is;
       ranges = c.image-image.ensures.ranges;
       obeys = c.image-image.ensures.obeys;

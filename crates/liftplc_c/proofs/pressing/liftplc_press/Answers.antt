@@ -7,10 +7,10 @@ use Rattle.liftplc_c.proofs.pressing.liftplc_press.Goals as goal
 
 pub returns-clause-answered : goal.returns-clause-answered
 returns-clause-answered c =
-    let w = c.in-Some.world.value in
-    let v = c.press-status.new.world in
+    let w = c.in-Some.rounds.value.world in
+    let v = c.press-status.new.rounds.world in
     let call : Call = record { from = c.args.from; to = c.args.to } in
-    let from : c.deref_mut.result.now ≡ w = search rules in
+    let from : c.deref_mut.result.now.world ≡ w = search rules in
     let at : c.put.new.self.held.world ≡ Some v = search rules in
     let pressed = c.press-status.ensures.pressed in
     subst

@@ -4,9 +4,9 @@ pub returns-clause-round : goal.returns-clause-round
 returns-clause-round c =
     record {
       inside = c.requires.inside;
-      notices = c.round.new.notices;
-      round = c.round.ensures.round;
-      same = c.round.ensures.same;
+      notices = c.go.new.self.notices;
+      round = c.go.ensures.round;
+      same = c.go.ensures.same;
       cars = c.put.ensures.cars;
       slots = c.put.ensures.slots;
       noticed = c.put.ensures.notices;
