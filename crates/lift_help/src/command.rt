@@ -15,7 +15,7 @@ With every command, --explain shows below a fault the line of a refused FILE or 
 Exit status:
   0  done
   2  the command line, FILE or TRACE is refused
-  3  FILE or TRACE can't be read, or standard output can't be written
+  3  FILE or TRACE can't be read, or standard output or the TRACE of `serve` can't be written
   4  out of memory
 
 A refused FILE prints `refused NUMBER at line LINE`: `liftplc explain NUMBER` and docs/FAULTS.md say what it means.";
@@ -76,6 +76,14 @@ fn all<'a>(alloc: Global) -> Arg<'a> {
         .long("all")
         .action(ArgAction::SetTrue)
         .help("Also shows each stop at the top or the bottom, which no program can avoid")
+}
+
+/// The option `--together`.
+fn together<'a>(alloc: Global) -> Arg<'a> {
+    Arg::new(alloc, "together")
+        .long("together")
+        .action(ArgAction::SetTrue)
+        .help("A round ends for all tasks before the next begins")
 }
 
 /// The option `--warn`.
@@ -160,7 +168,8 @@ fn run_command<'a>(alloc: Global) -> Result<Command<'a>, AllocError> {
         alloc,
         "run",
         "Runs FILE with a thread for each task and prints the trace",
-    )
+    )?
+    .arg(together(alloc))
 }
 
 /// The command that prints what was denied.

@@ -30,7 +30,7 @@ use lift_warnings::warnings_text;
 use lift_watch::denials::Denials;
 use lift_watch::names::upper_names;
 use lift_watch::watch::Watch;
-use lift_workers::gate::Open;
+use lift_workers::gate::{Open, Together};
 use lift_workers::run::{Plan, run};
 use lift_world::World;
 use lift_xref::xref_text;
@@ -181,7 +181,7 @@ fn denied(alloc: Global, verified: Verified, asked: Rounds<'_>) -> Result<Output
                 presses: driven.presses.as_slice(),
                 fire: driven.fire,
             };
-            let mut denials = Denials::new(alloc, asked.all);
+            let mut denials = Denials::new(alloc, asked.flag);
             simulate_before(alloc, verified, drive, asked.rounds, &mut denials)?;
             Ok(Output::Text(denials.text))
         }
@@ -252,6 +252,14 @@ fn watched_world(
     Ok(Output::Text(watch.text))
 }
 
+/// How many tasks the group has.
+fn tasks_of(verified: &Verified) -> u8 {
+    verified
+        .sizes()
+        .cars
+        .saturating_add(u8::from(verified.has_task(0)))
+}
+
 /// What `run` prints over a verified configuration, or why it prints nothing. It starts threads and waits for them.
 pub fn ran<R: Threads + Wait + Sync>(
     rt: &R,
@@ -271,7 +279,13 @@ pub fn ran<R: Threads + Wait + Sync>(
                 rounds: asked.rounds,
                 fire: driven.fire,
             };
-            match run(rt, alloc, verified, &Open, plan) {
+            let ran = if asked.flag {
+                let tasks = tasks_of(&verified);
+                run(rt, alloc, verified, &Together::new(tasks), plan)
+            } else {
+                run(rt, alloc, verified, &Open, plan)
+            };
+            match ran {
                 Ok(entries) => Ok(Output::Trace(entries)),
                 // No memory, or no room.
                 Err(_) => Err(Fault::NoMemory),
