@@ -2,7 +2,8 @@
 
 use crate::texts::TWO_IDLE;
 use lift_load::load;
-use lift_workers::gate::Gate;
+use lift_spec::journal::Entry;
+use lift_workers::gate::{Gate, Together};
 use lift_workers::run::{Plan, run};
 use std::sync::Wait;
 use std::sync::atomic::{AtomicBool, Ordering};
@@ -51,6 +52,8 @@ impl<'c, C: Clock + Sync> HoldsCars<'c, C> {
 }
 
 impl<'c, C: Clock + Sync> Gate for HoldsCars<'c, C> {
+    fn begins(&self, _rt: &impl Wait, _task: u8, _round: u16) {}
+
     fn started(&self, _rt: &impl Wait, task: u8) {
         if task == 1 {
             self.has_car_1_started.store(true, Ordering::SeqCst);
@@ -68,6 +71,10 @@ impl<'c, C: Clock + Sync> Gate for HoldsCars<'c, C> {
             self.has_car_2_committed.store(true, Ordering::SeqCst);
         }
     }
+
+    fn refreshed(&self, _rt: &impl Wait, _round: u16) {}
+
+    fn gives_up(&self, _rt: &impl Wait) {}
 }
 
 #[test]
@@ -87,5 +94,47 @@ fn cars_run_at_once(rt: HostRuntime) -> Result<(), Fail> {
     assert!(rt; journal.len() == 15);
     assert!(rt; gate.has_car_2_committed.load(Ordering::SeqCst));
     assert!(rt; !gate.has_waited_too_long.load(Ordering::SeqCst));
+    Ok(())
+}
+
+/// Whether entries are a refresh, and then a start and a commit of each of two cars.
+fn is_round(entries: &[Entry]) -> bool {
+    let [Entry::Refresh { .. }, behind @ ..] = entries else {
+        return false;
+    };
+    [1, 2].iter().all(|car| has_scanned(behind, *car))
+}
+
+/// Whether a task was started and committed in the entries, once.
+fn has_scanned(entries: &[Entry], task: u8) -> bool {
+    let mut starts = 0u8;
+    let mut commits = 0u8;
+    for entry in entries {
+        match entry {
+            Entry::Start(other) if *other == task => starts = starts.saturating_add(1),
+            Entry::Commit(other) if *other == task => commits = commits.saturating_add(1),
+            _ => {}
+        }
+    }
+    starts == 1 && commits == 1
+}
+
+#[test]
+fn together_a_round_ends_for_all_before_the_next_begins(rt: HostRuntime) -> Result<(), Fail> {
+    let Ok(verified) = load(rt.alloc(), TWO_IDLE) else {
+        panic!(&rt; "no memory")
+    };
+    let plan = Plan {
+        presses: &[],
+        rounds: 20,
+        fire: None,
+    };
+    let Ok(journal) = run(&rt, rt.alloc(), verified, &Together::new(2), plan) else {
+        panic!(&rt; "no memory")
+    };
+    assert!(rt; journal.len() == 100);
+    for round in journal.chunks(5) {
+        assert!(rt; is_round(round));
+    }
     Ok(())
 }

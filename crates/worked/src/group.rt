@@ -87,10 +87,12 @@ fn applied(alloc: Global, world: &mut World, events: &[Event]) -> Result<Left, A
     })
 }
 
-// Runs over all of them.
+// Runs over all of them, in two runs, one behind the other.
 fn run(alloc: Global, world: &mut World, events: &[Event]) -> Result<Replies, AllocError> {
     let mut replies = Replies::with_room(alloc, events.len(), events.len())?;
-    world.run(events, &mut replies);
+    let (front, back) = events.split_at(events.len() / 2);
+    world.run(front, &mut replies);
+    world.run(back, &mut replies);
     Ok(replies)
 }
 
