@@ -16,6 +16,7 @@ use Rattle.lift_host.specs.declared.status.Status.{Status}
 use Rattle.lift_host.specs.declared.status.Status.TheVariants as status
 use Rattle.lift_host.specs.Messages.{fault_of_reading, message_of, status_of, text_of, cause_sentence}
 use Rattle.lift_host.specs.Requests.{Asks, BeginsWithDigit, name_of, with_flag}
+use Rattle.lift_help.specs.Helps.{ask_for_help}
 use Rattle.lift_show.specs.declared.output.Output.{Output}
 use Rattle.lift_show.specs.Outputs.{Outcome, Warns, bytes_of, warnings_of}
 use Rattle.lift_sink.specs.Writes.{AppendsFront, Writes}
@@ -122,12 +123,13 @@ IsUnreadBelow name failure.NoMemory below = below ≡ []
 
 -- OUTCOMES
 
--- Words that ask for no file give help, the version, what a number means, or what is wrong with them.
-abbrev pub IsWordsOutcome : Outcome → Type 0
-IsWordsOutcome (Ok output) = warnings_of output ≡ None
-IsWordsOutcome (Err (fault.Misuse text)) = Unit {0}
-IsWordsOutcome (Err fault.NoMemory) = Unit {0}
-IsWordsOutcome (Err _) = ⊥
+-- Words that ask for no file give help, the version or what a number means, where they ask for that, or else what is wrong with them. Memory may
+-- be missing.
+abbrev pub IsWordsOutcome : List (List ℕ) → Outcome → Type 0
+IsWordsOutcome words (Ok output) = (ask_for_help words ≡ true) × (warnings_of output ≡ None)
+IsWordsOutcome words (Err (fault.Misuse text)) = Unit {0}
+IsWordsOutcome words (Err fault.NoMemory) = Unit {0}
+IsWordsOutcome words (Err _) = ⊥
 
 -- What may be read of a trace: the text that its file gives, or of one that may be cut off what this is up to its last whole line. One over the limit stays
 -- as it is, and is refused.
@@ -155,7 +157,7 @@ pub data IsFileAnswer (reads : List ℕ → ℕ → List ℕ → Type 0) (fails 
 
 -- Words have the answer of their request, where they ask for one.
 pub data IsAnswer (reads : List ℕ → ℕ → List ℕ → Type 0) (fails : List ℕ → ℕ → ReadFault → Type 0) (gives : Request → List ℕ → Reading → Outcome → Type 0) (wanted : Bool) (words : List (List ℕ)) (flag : Bool) (outcome : Outcome) (below : List ℕ) : Type 0 where
-  unasked : ((request : Request) → Asks words request → ⊥) → IsWordsOutcome outcome → below ≡ [] → IsAnswer reads fails gives wanted words flag outcome below
+  unasked : ((request : Request) → Asks words request → ⊥) → IsWordsOutcome words outcome → below ≡ [] → IsAnswer reads fails gives wanted words flag outcome below
   asked : (request : Request) → Asks words request → IsFileAnswer reads fails gives wanted (with_flag flag request) outcome below → IsAnswer reads fails gives wanted words flag outcome below
 
 -- Words as they are read have that answer, explained where `--explain` stood among them, or always.

@@ -131,7 +131,7 @@ pub fn is_wanted(always: bool, said: bool) -> bool
 
 /// The outcome of words that ask for nothing.
 fn outcome_of_words(alloc: Global, words: &[String]) -> Result<Output, Fault>
-    ensures is { IsWordsOutcome result }
+    ensures is { IsWordsOutcome (map string_bytes words.now) result }
     ensures unwritten { result ≢ Err Fault.CannotWrite }
 {
     match answer_of(alloc, words) {
