@@ -1,5 +1,5 @@
 -- What the program gives of its words (own rules).
-use Rattle.std.specs.Prelude.{◌≡◌, ◌||◌, ℕ, Bool, List, Option}
+use Rattle.std.specs.Prelude.{◌≡◌, ◌||◌, ℕ, Bool, false, List, [], Option, Some, None, if◌then◌else◌}
 use Rattle.std.specs.Io.KnownBytes.{Consumes}
 use Rattle.lift_host.specs.declared.files.ReadFault.{ReadFault}
 use Rattle.lift_host.specs.declared.serving.Serving.{Serving}
@@ -9,8 +9,11 @@ use Rattle.lift_host.specs.declared.status.Status.TheVariants as with_status
 use Rattle.lift_host.specs.Messages.{message_of}
 use Rattle.lift_host.specs.Requests.{explains, has_flag, plain_words}
 use Rattle.lift_host.specs.Servings.{Serves}
-use Rattle.lift_shell.specs.Runs.{HasPrinted, Held, IsAnswer}
+use Rattle.lift_shell.specs.Runs.{HasPrinted, Held, IsAnswer, stream}
+use Rattle.lift_sink.specs.declared.sink.Memory.{Memory}
 use Rattle.lift_sink.specs.Writes.{Writes}
+use Rattle.lift_command.specs.declared.memory_trace.MemoryTrace.{MemoryTrace}
+use Rattle.lift_command.specs.declared.program.Outcome.{Outcome}
 use Rattle.lift_command.specs.Runs.{IsTextOutcome}
 use Rattle.lift_command.specs.Servings.{IsServeAnswer}
 
@@ -60,3 +63,15 @@ pub data IsProgramAnswer (reads : List ℕ → ℕ → List ℕ → Type 0) (fai
 pub data IsRunAnswer (reads : List ℕ → ℕ → List ℕ → Type 0) (fails : List ℕ → ℕ → ReadFault → Type 0) (always : Bool) (words : List (List ℕ)) (out err : Held) (ends : Status) : Type 0 where
   unread_run : IsUnread out err ends → IsRunAnswer reads fails always words out err ends
   printed_run : HasAnswered reads fails (always || explains words) (plain_words words) (has_flag words) out err ends → IsRunAnswer reads fails always words out err ends
+
+-- a sink in memory that was new
+abbrev pub taken_by : Memory → Held
+taken_by memory = stream (Some []) (Some memory.bytes.items) memory.failed
+
+-- what a trace in memory has, if it was created
+abbrev pub traced_by : MemoryTrace → Option (List ℕ)
+traced_by trace = if trace.is_created then Some trace.bytes.items else None
+
+-- what a run over sinks in memory has left is the answer of its words: of a standard input that has these bytes, and where no trace was created before
+abbrev pub HasLeft : (List ℕ → ℕ → List ℕ → Type 0) → (List ℕ → ℕ → ReadFault → Type 0) → List (List ℕ) → List ℕ → Outcome → Type 0
+HasLeft reads fails words input left = (rest : Option (List ℕ)) × IsProgramAnswer reads fails false words (streams (Some input) rest (taken_by left.out) (taken_by left.err) None (traced_by left.trace)) left.status

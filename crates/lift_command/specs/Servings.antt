@@ -13,7 +13,7 @@ use Rattle.lift_host.specs.declared.status.Fault.TheVariants.{Misuse, Refused, B
 use Rattle.lift_host.specs.declared.status.Status.{Status}
 use Rattle.lift_host.specs.declared.status.Status.TheVariants as with_status
 use Rattle.lift_host.specs.Messages.{fault_of, fault_of_reading, message_of, status_of}
-use Rattle.lift_shell.specs.Runs.{IsWanted, IsUnreadBelow, most_bytes}
+use Rattle.lift_shell.specs.Runs.{IsExplained, IsUnreadBelow, most_bytes}
 use Rattle.lift_sink.specs.Writes.{AppendsFront}
 use Rattle.lift_source.specs.Places.{IsShownBelow}
 use Rattle.lift_serve.specs.declared.group.Halt.{Halt}
@@ -87,31 +87,33 @@ pub data IsLoadedAnswer (c : Config) (tracing : Option Tracing) (Taken : List �
   halted : (created : Option (List ℕ)) → IsCreated tracing before created → (halt : Halt) → IsHalted c Taken old new failed (Appends created after) (AppendsFront created after) halt → Told (message_of (fault_of_halt halt)) → status ≡ status_of (fault_of_halt halt)
       → IsLoadedAnswer c tracing Taken old new failed before after Told Silent status
 
--- below a refusal of FILE its line, where that is wanted
-abbrev pub IsRefusalBelow : Bool → List ℕ → List ℕ → Fault → List ℕ → Type 0
-IsRefusalBelow wanted name text (Refused number line) below = IsWanted wanted below (IsShownBelow name text number line below)
-IsRefusalBelow wanted name text (Misuse said) below = below ≡ []
-IsRefusalBelow wanted name text (BadPress word) below = below ≡ []
-IsRefusalBelow wanted name text TooManyPresses below = below ≡ []
-IsRefusalBelow wanted name text (BadFire word) below = below ≡ []
-IsRefusalBelow wanted name text (BadName word) below = below ≡ []
-IsRefusalBelow wanted name text (CannotRead cause) below = below ≡ []
-IsRefusalBelow wanted name text CannotWrite below = below ≡ []
-IsRefusalBelow wanted name text NoMemory below = below ≡ []
+-- below a refusal of FILE its line
+abbrev pub IsRefusalBelow : List ℕ → List ℕ → Fault → List ℕ → Type 0
+IsRefusalBelow name text (Refused number line) below = IsShownBelow name text number line below
+IsRefusalBelow name text (Misuse said) below = below ≡ []
+IsRefusalBelow name text (BadPress word) below = below ≡ []
+IsRefusalBelow name text TooManyPresses below = below ≡ []
+IsRefusalBelow name text (BadFire word) below = below ≡ []
+IsRefusalBelow name text (BadName word) below = below ≡ []
+IsRefusalBelow name text (CannotRead cause) below = below ≡ []
+IsRefusalBelow name text CannotWrite below = below ≡ []
+IsRefusalBelow name text NoMemory below = below ≡ []
+
+-- a fault is told, with what stands below it where that is wanted
+pub record IsFaultTold (wanted : Bool) (Below : List ℕ → Type 0) (f : Fault) (Told : List ℕ → Type 0) (status : Status) : Type 0 where
+  pub said : Fault
+  pub below : List ℕ
+  pub explained : IsExplained wanted Below f said below
+  pub told : Told (message_of said ++ below)
+  pub ends : status ≡ status_of said
 
 -- FILE is refused: its fault is told
-pub record IsRefusedAnswer (wanted : Bool) (name text : List ℕ) (f : Fault) (Told : List ℕ → Type 0) (status : Status) : Type 0 where
-  pub below : List ℕ
-  pub is_below : IsRefusalBelow wanted name text f below
-  pub told : Told (message_of f ++ below)
-  pub ends : status ≡ status_of f
+abbrev pub IsRefusedAnswer : Bool → List ℕ → List ℕ → Fault → (List ℕ → Type 0) → Status → Type 0
+IsRefusedAnswer wanted name text f = IsFaultTold wanted (IsRefusalBelow name text f) f
 
 -- FILE can't be read
-pub record IsUnreadAnswer (wanted : Bool) (name : List ℕ) (why : ReadFault) (Told : List ℕ → Type 0) (status : Status) : Type 0 where
-  pub below : List ℕ
-  pub is_below : IsWanted wanted below (IsUnreadBelow name why below)
-  pub told : Told (message_of (fault_of_reading why) ++ below)
-  pub ends : status ≡ status_of (fault_of_reading why)
+abbrev pub IsUnreadAnswer : Bool → List ℕ → ReadFault → (List ℕ → Type 0) → Status → Type 0
+IsUnreadAnswer wanted name why = IsFaultTold wanted (IsUnreadBelow name why) (fault_of_reading why)
 
 -- of what was read of FILE: it is refused, and no line was taken or written, or it is served
 pub data IsTextAnswer (wanted : Bool) (serving : Serving) (text : List ℕ) (Taken : List ℕ → Type 0) (old new : Option (List ℕ)) (failed : Bool) (before after : Option (List ℕ)) (Told : List ℕ → Type 0) (Silent : Type 0) (status : Status) : Type 0 where

@@ -1,5 +1,8 @@
 // A trace in memory.
 
+ghost use Rattle.std.specs.Prelude.{◌≡◌, false, option_map};
+ghost use Rattle.lift_command.specs.Programs.{traced_by};
+
 use crate::serving::TraceSink;
 use lift_sink::sink::{Sink, SinkFault};
 use std::alloc::Global;
@@ -14,7 +17,10 @@ pub struct MemoryTrace {
 
 impl MemoryTrace {
     /// No trace yet.
-    pub fn new(alloc: Global) -> MemoryTrace {
+    pub fn new(alloc: Global) -> MemoryTrace
+        ensures created { result.is_created ≡ false }
+        ensures failed { result.failed ≡ false }
+    {
         MemoryTrace {
             bytes: Vec::new(alloc),
             is_created: false,
@@ -23,7 +29,9 @@ impl MemoryTrace {
     }
 
     /// The bytes taken so far, if it was created.
-    pub fn bytes(&self) -> Option<&[u8]> {
+    pub fn bytes(&self) -> Option<&[u8]>
+        ensures { option_map (λ bytes. bytes.now) result ≡ traced_by self.now }
+    {
         if self.is_created {
             Some(self.bytes.as_slice())
         } else {

@@ -1,7 +1,7 @@
 // The program `liftplc`.
 
 ghost use Rattle.std.specs.Prelude.{◌≡◌, ◌||◌, IfSome, IsNone, false, map, string_bytes};
-ghost use Rattle.lift_command.specs.Programs.{IsPlainAnswer, IsProgramAnswer, IsRunAnswer, streams};
+ghost use Rattle.lift_command.specs.Programs.{HasLeft, IsPlainAnswer, IsProgramAnswer, IsRunAnswer, streams};
 ghost use Rattle.lift_host.specs.Messages.{message_of, status_of};
 ghost use Rattle.lift_host.specs.Requests.{plain_words};
 ghost use Rattle.lift_shell.specs.Runs.{AskForRun, stream};
@@ -188,7 +188,9 @@ pub fn tried<R: Threads + Wait + Sync, F: TextFiles>(
     files: &F,
     input: &[u8],
     limit: usize,
-) -> Outcome {
+) -> Outcome
+    ensures { HasLeft (F.gives files.now) (F.fails files.now) (map string_bytes words.now) input.now result }
+{
     let mut out = Memory::with_limit(alloc, limit);
     let mut err = Memory::new(alloc);
     let mut trace = MemoryTrace::new(alloc);

@@ -1,7 +1,9 @@
 // `serve`: a configuration behind lines.
 
-ghost use Rattle.std.specs.Prelude.{◌≡◌, OnOk};
+ghost use Rattle.std.specs.Prelude.{◌≡◌, ◌++◌, IfOk, OnOk};
 ghost use Rattle.std.specs.Io.KnownBytes.{Consumes};
+ghost use Rattle.lift_host.specs.Messages.{message_of, status_of};
+ghost use Rattle.lift_shell.specs.Runs.{IsExplained};
 ghost use Rattle.lift_sink.specs.Writes.{Writes};
 ghost use Rattle.lift_command.specs.Servings.{IsCreated, IsNew, IsServeAnswer, IsTextAnswer, IsLoadedAnswer, IsRefusalBelow, IsRefusedAnswer, IsUnreadAnswer, fault_of_halt, fault_of_input, fault_of_line, fault_of_stop, fault_of_wrong, shown_line};
 
@@ -15,11 +17,12 @@ use lift_serve::input::Came;
 use lift_serve::said::WrongLine;
 use lift_serve::serve::Stop;
 use lift_serve::server::ServeFault;
-use lift_shell::run::{MOST_BYTES, or_nothing, unread_below};
+use lift_shell::explained::Explained;
+use lift_shell::run::{MOST_BYTES, unread_explained};
 use lift_show::show::tell;
 use lift_sink::sink::{Sink, SinkFault};
 use lift_source::place::below;
-use std::alloc::Global;
+use std::alloc::{AllocError, Global};
 use std::io::Read;
 
 /// Where events are written as they come. Until it is created, what is put there is lost.
@@ -60,10 +63,17 @@ fn tell_unread<E: Sink>(
 ) -> Status
     ensures { IsUnreadAnswer explains name.now why (Writes (E.contents err.old) (E.contents err.new) (E.has_failed err.new)) result }
 {
-    let below = unread_below(alloc, name, why, explains);
-    let fault = Fault::from(why);
-    tell(&fault, &below, err);
-    fault.status()
+    let explained = unread_explained(alloc, name, why, explains);
+    tell_explained(&explained, err)
+}
+
+/// Tells a fault with what stands below it, and ends with its status.
+fn tell_explained<E: Sink>(explained: &Explained, err: &mut E) -> Status
+    ensures told { Writes (E.contents err.old) (E.contents err.new) (E.has_failed err.new) (message_of explained.now.fault ++ explained.now.below.items) }
+    ensures ends { result ≡ status_of explained.now.fault }
+{
+    tell(&explained.fault, &explained.below, err);
+    explained.fault.status()
 }
 
 /// Serves what was read of FILE, or says why it is refused.
@@ -96,24 +106,41 @@ fn tell_refused<E: Sink>(
 ) -> Status
     ensures { IsRefusedAnswer explains name.now text.now fault (Writes (E.contents err.old) (E.contents err.new) (E.has_failed err.new)) result }
 {
-    let below = refusal_below(alloc, name, text, &fault, explains);
-    tell(&fault, &below, err);
-    fault.status()
+    let explained = refusal_explained(alloc, name, text, fault, explains);
+    tell_explained(&explained, err)
 }
 
-/// What stands below a refusal of FILE, where that is wanted.
-fn refusal_below(alloc: Global, name: &str, text: &[u8], fault: &Fault, wanted: bool) -> Vec<u8>
-    ensures { IsRefusalBelow wanted name.now text.now fault.now result.items }
+/// A refusal of FILE with what stands below it, where that is wanted; `NoMemory` where memory for that is missing.
+fn refusal_explained(
+    alloc: Global,
+    name: &str,
+    text: &[u8],
+    fault: Fault,
+    wanted: bool,
+) -> Explained
+    ensures { IsExplained wanted (IsRefusalBelow name.now text.now fault) fault result.fault result.below.items }
+{
+    if !wanted {
+        return Explained::alone(alloc, fault);
+    }
+    match refusal_below(alloc, name, text, &fault) {
+        Ok(below) => Explained { fault, below },
+        Err(_) => Explained::alone(alloc, Fault::NoMemory),
+    }
+}
+
+/// What stands below a refusal of FILE.
+fn refusal_below(
+    alloc: Global,
+    name: &str,
+    text: &[u8],
+    fault: &Fault,
+) -> Result<Vec<u8>, AllocError>
+    ensures { IfOk result (λ below. IsRefusalBelow name.now text.now fault.now below.items) }
 {
     match fault {
-        Fault::Refused { number, line } => {
-            if wanted {
-                or_nothing(alloc, below(alloc, name, text, *number, *line))
-            } else {
-                Vec::new(alloc)
-            }
-        }
-        _ => Vec::new(alloc),
+        Fault::Refused { number, line } => below(alloc, name, text, *number, *line),
+        _ => Ok(Vec::new(alloc)),
     }
 }
 

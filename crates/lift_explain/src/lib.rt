@@ -23,10 +23,18 @@ pub fn explanation(number: u16) -> Option<&'static str>
 }
 
 /// The first line of what it means: the number and its title.
-pub fn title(number: u16) -> Option<&'static str> {
+pub fn title(number: u16) -> Option<&'static str>
+    ensures { IsSome result ↔ Contains numbers number }
+{
     let text = explanation(number)?;
-    let (title, _) = text.split_once('\n')?;
-    Some(title)
+    Some(first_line(text))
+}
+
+fn first_line(text: &str) -> &str {
+    match text.split_once('\n') {
+        Some((line, _)) => line,
+        None => text,
+    }
 }
 
 // The first meaning of a number.

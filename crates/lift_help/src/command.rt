@@ -1,5 +1,8 @@
 // Help, the version, and what is wrong with words that ask for nothing.
 
+ghost use Rattle.std.specs.Prelude.{◌≡◌, ℕ, List, IfSome, true, map, string_bytes};
+ghost use Rattle.lift_help.specs.Helps.{IsAskedFor, ask_for_help, begin_with_help, has_help_option, is_help_option, is_helper, is_short_help};
+
 use clap::error::ErrorKind;
 use clap::{Arg, ArgAction, Command};
 use lift_explain::explanation;
@@ -19,6 +22,9 @@ Exit status:
   4  out of memory
 
 A refused FILE prints `refused NUMBER at line LINE`: `liftplc explain NUMBER` and docs/FAULTS.md say what it means.";
+
+/// The command that shows help.
+const HELP: &str = "help";
 
 /// The command that explains a number.
 const EXPLAIN: &str = "explain";
@@ -561,20 +567,75 @@ fn text_of(alloc: Global, misuse: &Misuse<'_>) -> Result<String, AllocError> {
     }
 }
 
-/// What comes of the parser's error.
-fn answer_to(alloc: Global, error: clap::Error) -> Answer {
+/// Whether a word is an option that asks for help or the version; behind a short one others may stand.
+fn is_help_option(word: &str) -> bool
+    ensures { result ≡ is_help_option word.now }
+{
+    word == "--help" || word == "--version" || is_short_help(word.as_bytes())
+}
+
+/// Whether a word begins with `-h` or `-V`.
+fn is_short_help(word: &[u8]) -> bool
+    ensures { result ≡ is_short_help word.now }
+{
+    matches!(word, [b'-', b'h' | b'V', ..])
+}
+
+/// Whether one of the words is such an option.
+fn has_help_option(words: &[String]) -> bool
+    ensures { result ≡ has_help_option (map string_bytes words.now) }
+{
+    'words: for word in words {
+        if is_help_option(word) {
+            return true;
+        }
+    }
+    false
+}
+
+/// Whether the first word is `help` or `explain`.
+fn begin_with_help(words: &[String]) -> bool
+    ensures { result ≡ begin_with_help (map string_bytes words.now) }
+{
+    match words.first() {
+        Some(word) => is_helper(word),
+        None => false,
+    }
+}
+
+/// Whether a word is the command `help` or `explain`.
+fn is_helper(word: &str) -> bool
+    ensures { result ≡ is_helper word.now }
+{
+    word == HELP || word == EXPLAIN
+}
+
+/// Whether words ask for help, the version or what a number means.
+fn ask_for_help(words: &[String]) -> bool
+    ensures { result ≡ ask_for_help (map string_bytes words.now) }
+{
+    begin_with_help(words) || has_help_option(words)
+}
+
+/// What comes of the parser's error of these words.
+fn answer_to(alloc: Global, words: &[String], error: clap::Error) -> Answer
+    ensures { IsAskedFor (map string_bytes words.now) result }
+{
     if let ErrorKind::OutOfMemory = error.kind() {
         return Answer::NoMemory;
     }
+    let is_help = !error.use_stderr() && ask_for_help(words);
     match format!(in alloc; "{error}") {
-        Ok(text) if error.use_stderr() => answer_to_misuse(alloc, &text),
-        Ok(text) => Answer::Help(text),
+        Ok(text) if is_help => Answer::Help(text),
+        Ok(text) => answer_to_misuse(alloc, &text),
         Err(_) => Answer::NoMemory,
     }
 }
 
 /// What the parser says of wrong words, without its tip to put `--` before them, which the commands don't take.
-fn answer_to_misuse(alloc: Global, text: &str) -> Answer {
+fn answer_to_misuse(alloc: Global, text: &str) -> Answer
+    ensures { (words : List (List ℕ)) → IsAskedFor words result }
+{
     match without_tip(alloc, text) {
         Ok(text) => Answer::Misuse(text),
         Err(_) => Answer::NoMemory,
@@ -609,7 +670,9 @@ fn error_in(alloc: Global, words: &[String]) -> Result<clap::Error, AllocError> 
 }
 
 /// What words explain, if they are `explain` and a number that has a meaning.
-fn explained(words: &[String]) -> Option<&'static str> {
+fn explained(words: &[String]) -> Option<&'static str>
+    ensures { IfSome result (λ _. ask_for_help (map string_bytes words.now) ≡ true) }
+{
     match words {
         [command, number] if command.as_str() == EXPLAIN => explanation(number_to(
             MOST_NUMBER,
@@ -620,15 +683,19 @@ fn explained(words: &[String]) -> Option<&'static str> {
 }
 
 /// What the parser says of words.
-fn parser_answer(alloc: Global, words: &[String]) -> Answer {
+fn parser_answer(alloc: Global, words: &[String]) -> Answer
+    ensures { IsAskedFor (map string_bytes words.now) result }
+{
     match error_in(alloc, words) {
-        Ok(error) => answer_to(alloc, error),
+        Ok(error) => answer_to(alloc, words, error),
         Err(_) => Answer::NoMemory,
     }
 }
 
 /// What the program prints of words that ask for no file.
-pub fn answer_of(alloc: Global, words: &[String]) -> Answer {
+pub fn answer_of(alloc: Global, words: &[String]) -> Answer
+    ensures { IsAskedFor (map string_bytes words.now) result }
+{
     let Some(text) = explained(words) else {
         return parser_answer(alloc, words);
     };

@@ -31,7 +31,15 @@ module _ (program : Program) (asked : Rounds) (names : List (List ℕ)) (behind 
     shown = is.4;
     lines = is.5;
   }
-  watched_is presses first floors at driven (Err (fault.BadName word)) is = record { names = names; behind = behind; split = split; unknown = is }
+  watched_is presses first floors at driven (Err (fault.BadName word)) is = record {
+    names = names;
+    behind = behind;
+    split = split;
+    presses = presses;
+    first = first;
+    driven = subst (λ n. AreDriven n (record asked { presses = behind }) presses first) at driven;
+    unknown = is;
+  }
   watched_is presses first floors at driven (Err fault.NoMemory) is = record { names = names; behind = behind; split = split; undriven = tt }
   watched_is presses first floors at driven (Err (fault.Misuse words)) is = absurd is
   watched_is presses first floors at driven (Err (fault.Refused number line)) is = absurd is

@@ -185,11 +185,14 @@ pub record IsWatchOf (program : Program) (asked : Rounds) (text : List ℕ) : Ty
   pub shown : IsShown (watching watched) program.config presses first asked.rounds entries rows
   pub lines : text ≡ header_text (map upper_case names) ++ rows
 
--- The words are names and then presses, and this name, in upper case, has no value as the program opens.
+-- The words are names and then presses, the word behind `--fire` is a round, and this name, in upper case, has no value as the program opens.
 pub record HasUnknown (program : Program) (asked : Rounds) (word : List ℕ) : Type 0 where
   pub names : List (List ℕ)
   pub behind : Words
   pub split : AreNamesFirst (words_of asked.presses) names (words_of behind)
+  pub presses : List Press
+  pub first : Option ℕ
+  pub driven : AreDriven (sizes_of program.config).floors (record asked { presses = behind }) presses first
   pub unknown : IsUnknown (opening program.config) (map upper_case names) word
 
 -- or they are no presses, or the word behind `--fire` is no round

@@ -16,6 +16,7 @@ use Rattle.lift_host.specs.declared.status.Status.{Status}
 use Rattle.lift_host.specs.declared.status.Status.TheVariants as status
 use Rattle.lift_host.specs.Messages.{fault_of_reading, message_of, status_of, text_of, cause_sentence}
 use Rattle.lift_host.specs.Requests.{Asks, BeginsWithDigit, name_of, with_flag}
+use Rattle.lift_help.specs.Helps.{ask_for_help}
 use Rattle.lift_show.specs.declared.output.Output.{Output}
 use Rattle.lift_show.specs.Outputs.{Outcome, Warns, bytes_of, warnings_of}
 use Rattle.lift_sink.specs.Writes.{AppendsFront, Writes}
@@ -107,13 +108,16 @@ IsFaultBelow request text trace (fault.CannotRead cause) below = below ≡ file_
 IsFaultBelow request text trace fault.CannotWrite below = below ≡ []
 IsFaultBelow request text trace fault.NoMemory below = below ≡ []
 
--- it stands there only where it is wanted, and not where memory is missing
-abbrev pub IsWanted : Bool → List ℕ → Type 0 → Type 0
-IsWanted wanted below Is = (below ≡ []) ⊎ ((wanted ≡ true) × Is)
+-- A fault with what stands below it: this, where it is wanted, and else nothing. Memory for it may be missing, and then that is told alone.
+pub data IsExplained (wanted : Bool) (Below : List ℕ → Type 0) (f told : Fault) (below : List ℕ) : Type 0 where
+  unwanted : wanted ≡ false → told ≡ f → below ≡ [] → IsExplained wanted Below f told below
+  explained : wanted ≡ true → told ≡ f → Below below → IsExplained wanted Below f told below
+  no_memory : wanted ≡ true → told ≡ fault.NoMemory → below ≡ [] → IsExplained wanted Below f told below
 
-abbrev pub IsBelow : Bool → Request → List ℕ → Reading → Outcome → List ℕ → Type 0
-IsBelow wanted request text trace (Ok output) below = below ≡ []
-IsBelow wanted request text trace (Err f) below = IsWanted wanted below (IsFaultBelow request text trace f below)
+-- an outcome with what stands below it: nothing below an output
+abbrev pub IsOutcomeExplained : Bool → (Fault → List ℕ → Type 0) → Outcome → Outcome → List ℕ → Type 0
+IsOutcomeExplained wanted Below (Ok output) outcome below = (outcome ≡ Ok output) × (below ≡ [])
+IsOutcomeExplained wanted Below (Err f) outcome below = (told : Fault) × (outcome ≡ Err told) × IsExplained wanted (Below f) f told below
 
 -- below a FILE that can't be read, its name and why
 abbrev pub IsUnreadBelow : List ℕ → ReadFault → List ℕ → Type 0
@@ -122,12 +126,13 @@ IsUnreadBelow name failure.NoMemory below = below ≡ []
 
 -- OUTCOMES
 
--- Words that ask for no file give help, the version, what a number means, or what is wrong with them.
-abbrev pub IsWordsOutcome : Outcome → Type 0
-IsWordsOutcome (Ok output) = warnings_of output ≡ None
-IsWordsOutcome (Err (fault.Misuse text)) = Unit {0}
-IsWordsOutcome (Err fault.NoMemory) = Unit {0}
-IsWordsOutcome (Err _) = ⊥
+-- Words that ask for no file give help, the version or what a number means, where they ask for that, or else what is wrong with them. Memory may
+-- be missing.
+abbrev pub IsWordsOutcome : List (List ℕ) → Outcome → Type 0
+IsWordsOutcome words (Ok output) = (ask_for_help words ≡ true) × (warnings_of output ≡ None)
+IsWordsOutcome words (Err (fault.Misuse text)) = Unit {0}
+IsWordsOutcome words (Err fault.NoMemory) = Unit {0}
+IsWordsOutcome words (Err _) = ⊥
 
 -- What may be read of a trace: the text that its file gives, or of one that may be cut off what this is up to its last whole line. One over the limit stays
 -- as it is, and is refused.
@@ -149,13 +154,13 @@ IsTraceRead reads fails (request.Trace command traced) (Failed why) = IsTraceFau
 -- A request has the outcome that its command gives of the text of its file and of its trace, each read once; what stands below its fault is
 -- of these readings. The file may have no text.
 pub data IsFileAnswer (reads : List ℕ → ℕ → List ℕ → Type 0) (fails : List ℕ → ℕ → ReadFault → Type 0) (gives : Request → List ℕ → Reading → Outcome → Type 0) (wanted : Bool) (request : Request) (outcome : Outcome) (below : List ℕ) : Type 0 where
-  unread : (why : ReadFault) → fails (name_of request) most_bytes why → outcome ≡ Err (fault_of_reading why) → IsWanted wanted below (IsUnreadBelow (name_of request) why below) → IsFileAnswer reads fails gives wanted request outcome below
-  read : (text : List ℕ) → reads (name_of request) most_bytes text → (trace : Reading) → IsTraceRead reads fails request trace → gives request text trace outcome → IsBelow wanted request text trace outcome below
-      → IsFileAnswer reads fails gives wanted request outcome below
+  unread : (why : ReadFault) → fails (name_of request) most_bytes why → IsOutcomeExplained wanted (λ _. IsUnreadBelow (name_of request) why) (Err (fault_of_reading why)) outcome below → IsFileAnswer reads fails gives wanted request outcome below
+  read : (text : List ℕ) → reads (name_of request) most_bytes text → (trace : Reading) → IsTraceRead reads fails request trace → (given : Outcome) → gives request text trace given
+      → IsOutcomeExplained wanted (IsFaultBelow request text trace) given outcome below → IsFileAnswer reads fails gives wanted request outcome below
 
 -- Words have the answer of their request, where they ask for one.
 pub data IsAnswer (reads : List ℕ → ℕ → List ℕ → Type 0) (fails : List ℕ → ℕ → ReadFault → Type 0) (gives : Request → List ℕ → Reading → Outcome → Type 0) (wanted : Bool) (words : List (List ℕ)) (flag : Bool) (outcome : Outcome) (below : List ℕ) : Type 0 where
-  unasked : ((request : Request) → Asks words request → ⊥) → IsWordsOutcome outcome → below ≡ [] → IsAnswer reads fails gives wanted words flag outcome below
+  unasked : ((request : Request) → Asks words request → ⊥) → IsWordsOutcome words outcome → below ≡ [] → IsAnswer reads fails gives wanted words flag outcome below
   asked : (request : Request) → Asks words request → IsFileAnswer reads fails gives wanted (with_flag flag request) outcome below → IsAnswer reads fails gives wanted words flag outcome below
 
 -- Words as they are read have that answer, explained where `--explain` stood among them, or always.

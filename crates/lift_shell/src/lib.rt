@@ -4,4 +4,5 @@
 pub mod commands;
 mod cut;
 pub mod entry;
+pub mod explained;
 pub mod run;

@@ -3,12 +3,13 @@
 ghost use Rattle.std.specs.Prelude.{◌≡◌, ◌≢◌, ◌||◌, ◌↔◌, [], Bool, Err, IfSome, IsNone, IfOk, IfErr, IsTrue, true, false, map, string_bytes};
 ghost use Rattle.lift_host.specs.Messages.{fault_of_reading};
 ghost use Rattle.lift_host.specs.Requests.{name_of};
-ghost use Rattle.lift_shell.specs.Runs.{AskForRun, IsForRun, IsAnswerOf, IsFileAnswer, IsWordsOutcome, IsTraceRead, IsTraceText, IsTraceFault, IsBelow, IsFaultBelow, IsWanted, IsUnreadBelow, IsLateName, HasPrinted, stream, most_bytes, most_trace_bytes, runs, source_of, trace_name, press_sentence};
+ghost use Rattle.lift_shell.specs.Runs.{AskForRun, IsForRun, IsAnswerOf, IsFileAnswer, IsWordsOutcome, IsTraceRead, IsTraceText, IsTraceFault, IsExplained, IsOutcomeExplained, IsFaultBelow, IsUnreadBelow, IsLateName, HasPrinted, stream, most_bytes, most_trace_bytes, runs, source_of, trace_name, press_sentence};
 ghost use Rattle.lift_source.specs.Notices.{word_notice};
 ghost use Rattle.lift_source.specs.Places.{IsShownBelow};
 
 use crate::commands::{Commands, runs};
 use crate::cut::complete;
+use crate::explained::Explained;
 use lift_help::command::{Answer, answer_of};
 use lift_host::files::{ReadFault, Reading, TextFiles};
 use lift_host::request::{Plain, Request, Simulating, Traced, asked, is_number};
@@ -131,7 +132,7 @@ pub fn is_wanted(always: bool, said: bool) -> bool
 
 /// The outcome of words that ask for nothing.
 fn outcome_of_words(alloc: Global, words: &[String]) -> Result<Output, Fault>
-    ensures is { IsWordsOutcome result }
+    ensures is { IsWordsOutcome (map string_bytes words.now) result }
     ensures unwritten { result ≢ Err Fault.CannotWrite }
 {
     match answer_of(alloc, words) {
@@ -214,22 +215,37 @@ fn with_below(
     outcome: Result<Output, Fault>,
     wanted: bool,
 ) -> Answered
-    ensures outcome { result.outcome ≡ outcome }
-    ensures below { IsBelow wanted request.entry texts.now.text.items texts.now.trace outcome result.below.items }
+    ensures is { IsOutcomeExplained wanted (IsFaultBelow request.entry texts.now.text.items texts.now.trace) outcome result.outcome result.below.items }
+    ensures unwritten { outcome ≢ Err Fault.CannotWrite → result.outcome ≢ Err Fault.CannotWrite }
 {
-    let below = below_of(alloc, request, &texts.text, &texts.trace, &outcome, wanted);
-    Answered { outcome, below }
+    match outcome {
+        Ok(output) => Answered {
+            outcome: Ok(output),
+            below: Vec::new(alloc),
+        },
+        Err(fault) => Answered::from(fault_explained(alloc, request, texts, fault, wanted)),
+    }
+}
+
+impl From<Explained> for Answered {
+    ghost use Rattle.std.specs.Prelude.{◌≡◌, Err};
+
+    ghost from_gives = { λ e a. (a.outcome ≡ Err e.fault) × (a.below ≡ e.below) };
+
+    fn from(explained: Explained) -> Answered {
+        Answered {
+            outcome: Err(explained.fault),
+            below: explained.below,
+        }
+    }
 }
 
 /// The answer where FILE can't be read.
 fn unread_answer(alloc: Global, request: Request<'_>, why: ReadFault, wanted: bool) -> Answered
-    ensures outcome { result.outcome ≡ Err (fault_of_reading why) }
-    ensures below { IsWanted wanted result.below.items (IsUnreadBelow (name_of request.entry) why result.below.items) }
+    ensures is { IsOutcomeExplained wanted (λ _. IsUnreadBelow (name_of request.entry) why) (Err (fault_of_reading why)) result.outcome result.below.items }
+    ensures unwritten { result.outcome ≢ Err Fault.CannotWrite }
 {
-    Answered {
-        below: unread_below(alloc, request.file(), why, wanted),
-        outcome: Err(why.into()),
-    }
+    Answered::from(unread_explained(alloc, request.file(), why, wanted))
 }
 
 /// What is read of the trace of a request, which another has none of.
@@ -261,37 +277,22 @@ fn read_trace<F: TextFiles>(
     Ok(text)
 }
 
-/// What stands below an outcome, where that is wanted.
-fn below_of(
+/// A fault of a request, with what stands below it, where that is wanted; `NoMemory` where memory for that is missing.
+fn fault_explained(
     alloc: Global,
     request: Request<'_>,
-    text: &[u8],
-    trace: &Reading,
-    outcome: &Result<Output, Fault>,
+    texts: &Texts,
+    fault: Fault,
     wanted: bool,
-) -> Vec<u8>
-    ensures { IsBelow wanted request.entry text.now trace.now outcome.now result.items }
+) -> Explained
+    ensures { IsExplained wanted (IsFaultBelow request.entry texts.now.text.items texts.now.trace fault) fault result.fault result.below.items }
 {
-    match outcome {
-        Ok(_) => Vec::new(alloc),
-        Err(fault) => {
-            if wanted {
-                or_nothing(alloc, fault_below(alloc, request, text, trace, fault))
-            } else {
-                Vec::new(alloc)
-            }
-        }
+    if !wanted {
+        return Explained::alone(alloc, fault);
     }
-}
-
-/// A text, or nothing where memory for it was missing.
-pub fn or_nothing(alloc: Global, text: Result<Vec<u8>, AllocError>) -> Vec<u8>
-    ensures made { IfOk text (λ made. result.items ≡ made.items) }
-    ensures nothing { IfErr text (λ _. result.items ≡ []) }
-{
-    match text {
-        Ok(text) => text,
-        Err(_) => Vec::new(alloc),
+    match fault_below(alloc, request, &texts.text, &texts.trace, &fault) {
+        Ok(below) => Explained { fault, below },
+        Err(_) => Explained::alone(alloc, Fault::NoMemory),
     }
 }
 
@@ -370,19 +371,29 @@ fn is_late_name(request: Request<'_>, word: &str) -> bool
     }
 }
 
-/// What stands below a FILE that can't be read, where that is wanted.
-pub fn unread_below(alloc: Global, name: &str, why: ReadFault, wanted: bool) -> Vec<u8>
-    ensures { IsWanted wanted result.items (IsUnreadBelow name.now why result.items) }
+/// Why FILE can't be read, with its name below, where that is wanted; `NoMemory` where memory for that is missing.
+pub fn unread_explained(alloc: Global, name: &str, why: ReadFault, wanted: bool) -> Explained
+    ensures { IsExplained wanted (IsUnreadBelow name.now why) (fault_of_reading why) result.fault result.below.items }
+{
+    if !wanted {
+        return Explained::alone(alloc, why.into());
+    }
+    match unread_below(alloc, name, why) {
+        Ok(below) => Explained {
+            fault: why.into(),
+            below,
+        },
+        Err(_) => Explained::alone(alloc, Fault::NoMemory),
+    }
+}
+
+/// What stands below a FILE that can't be read.
+fn unread_below(alloc: Global, name: &str, why: ReadFault) -> Result<Vec<u8>, AllocError>
+    ensures { IfOk result (λ below. IsUnreadBelow name.now why below.items) }
 {
     match why {
-        ReadFault::CannotRead(cause) => {
-            if wanted {
-                or_nothing(alloc, file_notice(alloc, name, cause.sentence()))
-            } else {
-                Vec::new(alloc)
-            }
-        }
-        ReadFault::NoMemory => Vec::new(alloc),
+        ReadFault::CannotRead(cause) => file_notice(alloc, name, cause.sentence()),
+        ReadFault::NoMemory => Ok(Vec::new(alloc)),
     }
 }
 

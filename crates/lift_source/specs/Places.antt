@@ -1,5 +1,6 @@
 -- What is shown below a refusal (own rules).
-use Rattle.std.specs.Prelude.{◌≡◌, ◌⊎◌, ℕ, zero, suc, ◌-◌, ◌&&◌, List, [], ◌∷◌, ◌++◌, map, take, nat_le, if◌then◌else◌, codes, decimal}
+use Rattle.std.specs.Prelude.{◌≡◌, ◌⊎◌, Contains, ℕ, zero, suc, ◌-◌, ◌&&◌, List, [], ◌∷◌, ◌++◌, map, take, nat_le, if◌then◌else◌, codes, decimal}
+use Rattle.lift_explain.specs.Explained.{numbers}
 use Rattle.lift_trace.specs.Parts.{Ends}
 use Rattle.lift_trace.specs.Reading.{IsOneLine}
 
@@ -30,7 +31,7 @@ more_text number = codes "\n`liftplc explain " ++ (decimal number ++ codes "` sa
 
 -- a title, and who says more of the number; or nothing, of a number that has no meaning
 abbrev pub IsMeaning : ℕ → List ℕ → Type 0
-IsMeaning number meaning = (meaning ≡ []) ⊎ ((title : List ℕ) × (meaning ≡ title ++ more_text number))
+IsMeaning number meaning = (Contains numbers number × (title : List ℕ) × (meaning ≡ title ++ more_text number)) ⊎ ((Contains numbers number → ⊥) × (meaning ≡ []))
 
 -- `NAME:LINE: ` and the text of the line; behind them stands what the number means
 pub record IsShownBelow (name text : List ℕ) (number line : ℕ) (below : List ℕ) : Type 0 where

@@ -1,7 +1,7 @@
 use Rattle.std.proofs.Common.{map, string_bytes, refl, subst}
 use Rattle.lift_host.specs.declared.request.Request.{Request}
 use Rattle.lift_host.specs.Requests.{Asks}
-use Rattle.lift_shell.specs.Runs.{unasked}
+use Rattle.lift_shell.specs.Runs.{IsWordsOutcome, unasked}
 use Rattle.lift_shell.proofs.Asking.{answer_of}
 use Rattle.lift_shell.proofs.run.answer_alone.Goals as goal
 
@@ -11,4 +11,4 @@ returns-else-runs-clause-is g c =
     c.in-Some.request (subst (λ ws. Asks (map string_bytes ws) c.in-Some.request) c.deref.ensures.value c.in-Some.ensures.some) c.with_flag-request.result c.with_flag-request.ensures c.is_wanted-wanted.result c.is_wanted-wanted.ensures c.file_answer.ensures.is
 
 pub returns-in-None-clause-is : goal.returns-in-None-clause-is
-returns-in-None-clause-is g c = unasked (subst (λ ws. (request : Request) → Asks (map string_bytes ws) request → ⊥) c.deref.ensures.value (c.in-None.ensures.none refl)) c.outcome_of_words.ensures.is c.new.ensures.items
+returns-in-None-clause-is g c = unasked (subst (λ ws. (request : Request) → Asks (map string_bytes ws) request → ⊥) c.deref.ensures.value (c.in-None.ensures.none refl)) (subst (λ ws. IsWordsOutcome (map string_bytes ws) c.outcome_of_words.result) c.deref-in-None.ensures.value c.outcome_of_words.ensures.is) c.new.ensures.items

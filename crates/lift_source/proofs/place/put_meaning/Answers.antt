@@ -1,4 +1,4 @@
-use Rattle.std.proofs.Common.{◌++◌, inr, refl, ap, ◌∙◌}
+use Rattle.std.proofs.Common.{◌≡◌, ◌++◌, Bool, true, false, [], inl, inr, refl, sym, ap, ◌∙◌, append-nil}
 use Rattle.std.proofs.lemmas.List.{append_assoc}
 use Rattle.lift_source.specs.Places.{more_text}
 use Rattle.lift_source.proofs.place.put_meaning.Goals as goal
@@ -7,6 +7,9 @@ pub returns-in_ok-put_more-in-Some : goal.returns-in_ok-put_more-in-Some
 returns-in_ok-put_more-in-Some c =
     let title = c.as_bytes.result.now in (
       title ++ more_text c.args.number,
-      inr (title, refl),
+      inl (c.in-Some.ensures.0 refl, title, refl),
       c.in_ok-put_more-in-Some.ensures ∙ ap (λ l. l ++ more_text c.args.number) c.in_ok-extend_from_slice-in-Some.ensures.items ∙ append_assoc c.args.to.now.items title (more_text c.args.number),
     )
+
+pub returns-in-None : goal.returns-in-None
+returns-in-None c = ([], inr (λ has. let bad : ◌≡◌ {A = Bool} false true = c.in-None.ensures.1 has in cc, refl), sym (append-nil c.args.to.now.items))
