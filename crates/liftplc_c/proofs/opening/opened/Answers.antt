@@ -3,9 +3,11 @@ use Rattle.std.specs.Prelude.{is_some}
 use Rattle.lift_run_laws.proofs.Openings.{no_scan_open}
 use Rattle.lift_spec.specs.World.{World, scan_at}
 use Rattle.lift_world.specs.Worlds.{WorldOf}
+use Rattle.lift_round.specs.declared.kept.Rounds.{Rounds}
 use Rattle.liftplc_c.proofs.opening.opened.Goals as goal
 
 pub returns-clause-rests : goal.returns-clause-rests
 returns-clause-rests c =
-    let opens = ap (λ (w : WorldOf). w.world) c.in_ok-new.ensures.ok ∙ c.in_ok-world.ensures.opening in
+    let of = ap (λ (r : Rounds). r.world) c.in_ok-new.ensures.ok ∙ c.of.ensures in
+    let opens = ap (λ (w : WorldOf). w.world) of ∙ c.in_ok-world.ensures.opening in
     λ j. ap (λ (w : World). is_some (scan_at w j)) opens ∙ ap is_some (no_scan_open c.in_ok-load.field-0.config j)
