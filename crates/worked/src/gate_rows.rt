@@ -77,6 +77,7 @@ impl<'c, C: Clock + Sync> Gate for HoldsCars<'c, C> {
     fn gives_up(&self, _rt: &impl Wait) {}
 }
 
+// Refuses all tasks in turn on one thread.
 #[test]
 fn cars_run_at_once(rt: HostRuntime) -> Result<(), Fail> {
     let gate = HoldsCars::new(&rt);

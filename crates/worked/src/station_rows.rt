@@ -117,6 +117,7 @@ const STANDS: Step = Step::Refresh {
     run_limit: 1,
 };
 
+// Refuses a commit that always answers 71.
 #[test]
 fn of_two_cars_the_first_commit_runs(rt: HostRuntime) -> Result<(), Fail> {
     let limited = Step::Refresh {
@@ -186,6 +187,7 @@ fn stale_tickets_and_told_cars(rt: HostRuntime) -> Result<(), Fail> {
     Ok(())
 }
 
+// Refuses a press that answers Already for ever after its first New.
 #[test]
 fn held_floors_and_a_call_that_enters(rt: HostRuntime) -> Result<(), Fail> {
     let press = Step::Press {
@@ -258,6 +260,7 @@ const TWO_CALLS: [Step; 4] = [
     },
 ];
 
+// Refuses a refresh that enters the first call of the hand alone, or none, though slots are free.
 #[test]
 fn of_two_calls_both_enter_two_slots(rt: HostRuntime) -> Result<(), Fail> {
     let Ok(played) = play(&rt, rt.alloc(), TWO_SLOTS, 1, 1, &TWO_CALLS) else {
@@ -349,6 +352,7 @@ fn fields_out_of_range_change_nothing(rt: HostRuntime) -> Result<(), Fail> {
     Ok(())
 }
 
+// Refuses outputs that are always those of the opening.
 #[test]
 fn rounds_of_one_car(rt: HostRuntime) -> Result<(), Fail> {
     let Ok(played) = play(&rt, rt.alloc(), IDLE, 3, 1, &[STANDS, START_1, COMMIT_1]) else {
@@ -376,6 +380,7 @@ fn rounds_of_one_car(rt: HostRuntime) -> Result<(), Fail> {
     Ok(())
 }
 
+// Refuses a commit that takes one car's scan for another's of the same program.
 #[test]
 fn a_scan_with_the_pass_of_another_car(rt: HostRuntime) -> Result<(), Fail> {
     let other = Step::Commit { scan: 1, by: 2 };
@@ -388,6 +393,7 @@ fn a_scan_with_the_pass_of_another_car(rt: HostRuntime) -> Result<(), Fail> {
     Ok(())
 }
 
+// Refuses a start that doesn't see what other tasks committed.
 #[test]
 fn a_start_sees_what_was_committed_before(rt: HostRuntime) -> Result<(), Fail> {
     let after = [START_1, COMMIT_1, START_2, COMMIT_2];
@@ -403,6 +409,7 @@ fn a_start_sees_what_was_committed_before(rt: HostRuntime) -> Result<(), Fail> {
     Ok(())
 }
 
+// Refuses a closed desk whose words are empty.
 #[test]
 fn what_a_closed_desk_has(rt: HostRuntime) -> Result<(), Fail> {
     let press = Step::Press {
