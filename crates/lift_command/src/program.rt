@@ -27,14 +27,7 @@ use std::thread::Threads;
 
 /// Runs `liftplc` on words, without the program's name. A fault is explained where that is asked for, or where the words have `--explain`.
 /// Only where they ask for `run` it waits for threads.
-pub fn command<
-    R: Threads + Wait + Sync,
-    F: TextFiles,
-    T: TraceSink,
-    I: Read,
-    O: Sink,
-    E: Sink,
->(
+pub fn command<R: Threads + Wait + Sync, F: TextFiles, T: TraceSink, I: Read, O: Sink, E: Sink>(
     rt: &R,
     alloc: Global,
     words: &[String],
