@@ -22,6 +22,8 @@ mod plant_steps;
 #[cfg(test)]
 mod range_rows;
 #[cfg(test)]
+mod sink_rows;
+#[cfg(test)]
 mod station_rows;
 #[cfg(test)]
 mod stations;

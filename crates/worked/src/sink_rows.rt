@@ -1,0 +1,76 @@
+// A trace into a sink that takes a byte a call, and then fails.
+
+ghost use Rattle.std.specs.Prelude.{Some};
+
+use lift_image::{Bounded, CarFields, Fields};
+use lift_sink::sink::{Sink, SinkFault};
+use lift_spec::hand::Hand;
+use lift_spec::journal::Entry;
+use lift_trace::fault::TraceFault;
+use lift_trace::write::write_trace;
+
+/// A sink that takes a byte a call, so often as calls are left, and then fails.
+#[derive(Drop)]
+struct ByteByByte {
+    taken: Vec<u8>,
+    calls_left: u8,
+    failed: bool,
+}
+
+impl Sink for ByteByByte {
+    ghost contents = { λ s. Some s.taken.items };
+
+    ghost has_failed = { λ s. s.failed };
+
+    fn put(&mut self, piece: &[u8]) -> Result<usize, SinkFault> {
+        let Some(byte) = piece.first() else {
+            return Ok(0);
+        };
+        if self.calls_left == 0 || self.taken.push(*byte).is_err() {
+            self.failed = true;
+            return Err(SinkFault);
+        }
+        self.calls_left -= 1;
+        Ok(1)
+    }
+}
+
+/// What one car reports at floor 1.
+fn fields() -> Fields {
+    let mut cars = Bounded::new();
+    cars.push(CarFields {
+        pos: 1,
+        level: true,
+        top: false,
+        bottom: true,
+        locked: true,
+        opened: false,
+    });
+    Fields {
+        time: 100,
+        run_limit: 1,
+        fire: false,
+        cars,
+    }
+}
+
+#[test]
+fn a_sink_that_fails_has_the_bytes_before(rt: HostRuntime) {
+    let journal = [
+        Entry::Refresh {
+            fields: fields(),
+            calls: Hand::new(),
+        },
+        Entry::Start(1),
+        Entry::Commit(1),
+    ];
+    let mut sink = ByteByByte {
+        taken: Vec::new(rt.alloc()),
+        calls_left: 13,
+        failed: false,
+    };
+    let written = write_trace(&journal, &mut sink);
+    assert!(rt; written == Err(TraceFault::Write));
+    assert!(rt; TraceFault::Write.number() == Some(82));
+    assert!(rt; sink.taken.as_slice() == b"LIFTTRACE 2\nR");
+}
