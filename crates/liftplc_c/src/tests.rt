@@ -102,18 +102,36 @@ fn a_call_waits_for_a_car_that_stays(rt: HostRuntime) {
 
     // the first round enters the call, and no later one does
     assert_eq!(rt; liftplc_round(alloc, &mut handle, &fields, &mut outputs), 0);
-    assert_eq!(rt; (outputs.car_count, outputs.slot_count, outputs.notice_count), (1, 1, 1));
+    assert_eq!(rt;
+        (outputs.car_count, outputs.slot_count, outputs.notice_count),
+        (1, 1, 1)
+    );
     assert_eq!(rt; (outputs.cars[0].motor, outputs.cars[0].opens), (0, false));
     let slot = outputs.slots[0];
-    assert_eq!(rt; (slot.ticket, slot.state, slot.from, slot.to, slot.car), (1, 1, 1, 2, 0));
+    assert_eq!(rt;
+        (slot.ticket, slot.state, slot.from, slot.to, slot.car),
+        (1, 1, 1, 2, 0)
+    );
     let notice = outputs.notices[0];
-    assert_eq!(rt; (notice.ticket, notice.kind, notice.slot, notice.from, notice.to), (1, 1, 1, 1, 2));
+    assert_eq!(rt;
+        (
+            notice.ticket,
+            notice.kind,
+            notice.slot,
+            notice.from,
+            notice.to
+        ),
+        (1, 1, 1, 1, 2)
+    );
     assert_eq!(rt; (notice.car, notice.rule), (0, 0));
     assert_eq!(rt; liftplc_round(alloc, &mut handle, &fields, &mut outputs), 0);
     assert_eq!(rt; (outputs.slots[0].state, outputs.notice_count), (1, 0));
 
     // fields out of range
-    let early = FieldsInput { car_count: 2, ..fields };
+    let early = FieldsInput {
+        car_count: 2,
+        ..fields
+    };
     assert_eq!(rt; liftplc_round(alloc, &mut handle, &early, &mut outputs), 5);
 
     assert_eq!(rt; liftplc_close(alloc, &mut handle), 0);
