@@ -41,7 +41,8 @@ impl<'c, C: Clock + Sync> HoldsCars<'c, C> {
     /// Waits until the other has got on.
     fn wait_for(&self, has_got_on: &AtomicBool) {
         for _turn in 0..TURNS {
-            if has_got_on.load(Ordering::SeqCst) || self.has_waited_too_long.load(Ordering::SeqCst)
+            if has_got_on.load(Ordering::SeqCst)
+                || self.has_waited_too_long.load(Ordering::SeqCst)
             {
                 return;
             }
