@@ -1,6 +1,6 @@
 -- What is said of a refusal, at its number and its line.
-use Rattle.std.proofs.Common.{◌≡◌, ℕ, Err, subst, sym, ◌∙◌, inl, inr}
-use Rattle.std.specs.Prelude.{◌⊎◌}
+use Rattle.std.proofs.Common.{◌≡◌, ℕ, Ok, Err, subst, sym, ◌∙◌, inl, inr}
+use Rattle.std.specs.Prelude.{◌⊎◌, Result, IsErrAnd}
 use Rattle.il_parse.specs.Refused.{IsFault}
 use Rattle.il_spec.specs.declared.fault.Refusal.{Refusal}
 use Rattle.il_spec.specs.declared.fault.Refusal.TheVariants.{Fault, Memory}
@@ -22,3 +22,7 @@ one_at e number line n l is said = same_fault number n line l ((subst (λ (x : R
 pub bytes_at : (e : Refusal) (number line n l : ℕ) → e ≡ Fault number line → (e ≡ Fault n l) ⊎ (e ≡ Memory) → (number ≡ n) × (line ≡ l)
 bytes_at e number line n l is (inl same) = same_fault number n line l (sym is ∙ same)
 bytes_at e number line n l is (inr memory) = absurd (no_memory number line (sym is ∙ memory))
+
+pub memory_at : {X : Type 0} (r : Result X Refusal) (n l : ℕ) → IsErrAnd r (λ e. e ≡ Memory) → IsErrAnd r (λ e. (e ≡ Fault n l) ⊎ (e ≡ Memory))
+memory_at (Ok x) n l is = absurd is
+memory_at (Err e) n l is = inr is

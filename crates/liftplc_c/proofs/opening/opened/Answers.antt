@@ -4,6 +4,7 @@ use Rattle.lift_run_laws.proofs.Openings.{no_scan_open}
 use Rattle.lift_spec.specs.World.{World, scan_at}
 use Rattle.lift_world.specs.Worlds.{WorldOf}
 use Rattle.lift_round.specs.declared.kept.Rounds.{Rounds}
+use Rattle.liftplc_c.proofs.Refusing.{memory_at}
 use Rattle.liftplc_c.proofs.opening.opened.Goals as goal
 
 pub returns-clause-rests : goal.returns-clause-rests
@@ -11,3 +12,6 @@ returns-clause-rests c =
     let of = ap (λ (r : Rounds). r.world) c.in_ok-new.ensures.ok ∙ c.of.ensures in
     let opens = ap (λ (w : WorldOf). w.world) of ∙ c.in_ok-world.ensures.opening in
     λ j. ap (λ (w : World). is_some (scan_at w j)) opens ∙ ap is_some (no_scan_open c.in_ok-load.field-0.config j)
+
+pub returns-in_err-new-clause-bytes : goal.returns-in_err-new-clause-bytes
+returns-in_err-new-clause-bytes c number line is = memory_at c.from_residual-in_err-new.result number line c.from_residual-in_err-new.ensures.1
