@@ -4,5 +4,5 @@ use Rattle.lift_workers.proofs.task.work.Given as goal
 abbrev pub invariant-rounds : goal.invariant-rounds
 invariant-rounds g l = record {
   task : l.pass.task ≡ l.fn.pass.task;
-  count : l.pass.count ≡ l.fn.pass.count + (l.counter + l.counter);
+  count : l.pass.count ≡ l.fn.pass.count + (l.below + l.below);
 }
