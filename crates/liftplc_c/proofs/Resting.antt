@@ -1,5 +1,5 @@
 -- What a press leaves.
-use Rattle.std.proofs.Common.{◌≡◌, Bool, true, false, ◌==◌, Ok, Err, inl, inr, refl, sym, ap, ◌∙◌, subst}
+use Rattle.std.proofs.Common.{◌≡◌, Bool, true, false, ◌==◌, Ok, Err, inl, inr, refl, ap, ◌∙◌, subst}
 use Rattle.std.specs.Prelude.{◌≢◌, ◌⊎◌, slice_get, is_some, ◌&&◌}
 use Rattle.il_spec.specs.declared.tree.Config.{Config}
 use Rattle.il_machine.specs.Scanning.{Program}
