@@ -4,10 +4,10 @@ use Rattle.lift_spec.specs.declared.calls.Call.{Call}
 use Rattle.lift_spec.specs.declared.image.Sizes.{Sizes}
 use Rattle.lift_spec.specs.Calls.{IsCall}
 
-up : Call
+abbrev up : Call
 up = record { from = 1; to = 2 }
 
-down : Call
+abbrev down : Call
 down = record { from = 2; to = 1 }
 
 pub both_are_calls : (sizes : Sizes) → 2 ≤ sizes.floors → IsCall sizes up × IsCall sizes down × Unit {0}

@@ -143,7 +143,7 @@ fn both_calls() -> Hand
 }
 
 // A refresh of two cars that stand at floor 1, with both calls in the hand.
-fn entering(alloc: Global, verified: &Verified) -> Result<Option<Entering>, AllocError> {
+fn refreshed(alloc: Global, verified: &Verified) -> Result<Option<Entering>, AllocError> {
     let _config = verified.config();
     let mut hand = both_calls();
     let mut report = Report::new();
@@ -205,16 +205,16 @@ fn refused_other(alloc: Global) -> Result<Option<(u8, u8)>, Refusal> {
     Ok(refused?)
 }
 
-fn entering_at(alloc: Global, text: &[u8]) -> Result<Option<Entering>, Refusal> {
+fn refreshed_at(alloc: Global, text: &[u8]) -> Result<Option<Entering>, Refusal> {
     let verified = load(alloc, text)?;
-    let left = entering(alloc, &verified);
+    let left = refreshed(alloc, &verified);
     verified.release();
     Ok(left?)
 }
 
 #[test]
 fn of_two_calls_each_enters_that_finds_a_slot(rt: HostRuntime) {
-    let both = entering_at(rt.alloc(), TWO_SLOTS);
+    let both = refreshed_at(rt.alloc(), TWO_SLOTS);
     assert!(rt;
         matches!(
             both,
@@ -227,7 +227,7 @@ fn of_two_calls_each_enters_that_finds_a_slot(rt: HostRuntime) {
             }))
         )
     );
-    let first = entering_at(rt.alloc(), TWO_IDLE);
+    let first = refreshed_at(rt.alloc(), TWO_IDLE);
     assert!(rt;
         matches!(
             first,

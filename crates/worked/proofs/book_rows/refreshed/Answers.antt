@@ -2,7 +2,7 @@ use Rattle.std.proofs.Common.{sym}
 use Rattle.il_machine.proofs.Sizes.{sizes_fit}
 use Rattle.lift_spec.specs.Image.{sizes_of}
 use Rattle.worked.proofs.Calls.{both_are_calls}
-use Rattle.worked.proofs.book_rows.entering.Goals as goal
+use Rattle.worked.proofs.book_rows.refreshed.Goals as goal
 
 pub refresh-answer-requires-clause-calls : goal.refresh-answer-requires-clause-calls
 refresh-answer-requires-clause-calls c =
