@@ -302,7 +302,9 @@ impl Server {
         };
         let ended = is_last(&said);
         self.trace_said(line, &said, trace)?;
-        self.answer_said(said, out)?;
+        if let Err(fault) = self.answer_said(said, out) {
+            return Err(fault);
+        }
         let _image = self.world.image();
         Ok(ended)
     }
