@@ -160,7 +160,7 @@ pub record IsDenialsOf (program : Program) (asked : Rounds) (text : List ℕ) : 
   pub first : Option ℕ
   pub driven : AreDriven (sizes_of program.config).floors asked presses first
   pub entries : List Entry
-  pub shown : IsShown (denied asked.all) program.config presses first asked.rounds entries text
+  pub shown : IsShown (denied asked.flag) program.config presses first asked.rounds entries text
 
 -- `denials` prints them, where its further words are presses and the word behind `--fire` is a round.
 abbrev pub IsDenialsOutcome : Program → Rounds → Outcome → Type 0
