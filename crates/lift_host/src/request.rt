@@ -229,13 +229,7 @@ impl<'w> Request<'w> {
     {
         match self {
             Request::Rounds(command, rounds) => {
-                Request::Rounds(
-                    command,
-                    Rounds {
-                        flag,
-                        ..rounds
-                    },
-                )
+                Request::Rounds(command, Rounds { flag, ..rounds })
             }
             Request::Trace(command, traced) => {
                 Request::Trace(
