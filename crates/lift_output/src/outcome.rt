@@ -1,6 +1,6 @@
 // What a request prints over a verified configuration.
 
-ghost use Rattle.std.specs.Prelude.{◌≡◌, ◌≢◌, ◌≤◌, ◌+◌, ℕ, Option, None, option_map, length, Ok, Err, IfOk, IfErr, map, string_bytes};
+ghost use Rattle.std.specs.Prelude.{◌≡◌, ◌≢◌, ◌≤◌, ◌+◌, ℕ, All, Option, None, option_map, length, Ok, Err, IfOk, IfErr, map, string_bytes};
 ghost use Rattle.lift_spec.specs.Image.{sizes_of};
 ghost use Rattle.lift_spec.specs.World.{opening};
 ghost use Rattle.lift_trace.specs.Reading.{Reads, greatest_trace};
@@ -10,6 +10,9 @@ ghost use Rattle.lift_runs.specs.Driven.{ArePressed};
 ghost use Rattle.lift_host.specs.Requests.{command_of, words_of};
 ghost use Rattle.lift_watch.specs.Names.{upper_case};
 ghost use Rattle.lift_spec.specs.EventFaults.{event_fault_number};
+ghost use Rattle.lift_journal.specs.Rounds.{is_fire_in};
+ghost use Rattle.lift_desk.specs.Passes.{IsFloorOf};
+ghost use Rattle.lift_workers.specs.Ran.{IsRun};
 
 use crate::check::check_text;
 use crate::image::image_text;
@@ -23,6 +26,7 @@ use lift_host::status::Fault;
 use lift_runs::replay::{Refused, replay};
 use lift_runs::sim::{Drive, simulate, simulate_before, simulate_on};
 use lift_show::output::{Output, Warned};
+use lift_spec::journal::Entry;
 use lift_spec::trace::TraceEvent;
 use lift_trace::fault::TraceFault;
 use lift_trace::read::read_trace;
@@ -30,6 +34,7 @@ use lift_warnings::warnings_text;
 use lift_watch::denials::Denials;
 use lift_watch::names::upper_names;
 use lift_watch::watch::Watch;
+use lift_workers::fault::RunFault;
 use lift_workers::gate::{Open, Together};
 use lift_workers::run::{Plan, run};
 use lift_world::World;
@@ -260,6 +265,25 @@ fn tasks_of(verified: &Verified) -> u8 {
         .saturating_add(u8::from(verified.has_task(0)))
 }
 
+/// The journal of a run in threads, whose rounds end for all before the next begins, or pass one another.
+fn run_in_threads<R: Threads + Wait + Sync>(
+    rt: &R,
+    alloc: Global,
+    verified: Verified,
+    plan: Plan<'_>,
+    together: bool,
+) -> Result<Vec<Entry>, RunFault>
+    requires { All (λ press. IsFloorOf (sizes_of verified.config).floors press.to) plan.presses.now }
+    ensures { IfOk result (λ es. IsRun verified.config (is_fire_in plan.entry.fire) plan.entry.rounds es.items) }
+{
+    if together {
+        let gate = Together::new(tasks_of(&verified));
+        run(rt, alloc, verified, &gate, plan)
+    } else {
+        run(rt, alloc, verified, &Open, plan)
+    }
+}
+
 /// What `run` prints over a verified configuration, or why it prints nothing. It starts threads and waits for them.
 pub fn ran<R: Threads + Wait + Sync>(
     rt: &R,
@@ -279,13 +303,7 @@ pub fn ran<R: Threads + Wait + Sync>(
                 rounds: asked.rounds,
                 fire: driven.fire,
             };
-            let ran = if asked.flag {
-                let tasks = tasks_of(&verified);
-                run(rt, alloc, verified, &Together::new(tasks), plan)
-            } else {
-                run(rt, alloc, verified, &Open, plan)
-            };
-            match ran {
+            match run_in_threads(rt, alloc, verified, plan, asked.flag) {
                 Ok(entries) => Ok(Output::Trace(entries)),
                 // No memory, or no room.
                 Err(_) => Err(Fault::NoMemory),
