@@ -34,7 +34,7 @@ use lift_warnings::warnings_text;
 use lift_watch::denials::Denials;
 use lift_watch::names::upper_names;
 use lift_watch::watch::Watch;
-use lift_workers::fault::RunFault;
+use lift_workers::RunFault;
 use lift_workers::gate::{Open, Together};
 use lift_workers::run::{Plan, run};
 use lift_world::World;
