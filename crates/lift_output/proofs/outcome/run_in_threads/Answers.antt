@@ -1,5 +1,5 @@
 use denote.Param.Send.{sendable}
-use Rattle.lift_workers.proofs.gate.Open.TheSendSync as open
+use Rattle.lift_workers.proofs.gate.Open.TheSendSync as passing
 use Rattle.lift_workers.proofs.gate.Together.TheSendSync as together
 use Rattle.lift_output.proofs.outcome.run_in_threads.Goals as goal
 
@@ -7,4 +7,4 @@ pub run-requires : goal.run-requires
 run-requires g c = (search (sendable, together.the_sync) depth 20, (search (sendable, c.type_bounds.sync-R) depth 20, c.requires))
 
 pub run-requires-else : goal.run-requires-else
-run-requires-else g c = (search (sendable, open.the_sync) depth 20, (search (sendable, c.type_bounds.sync-R) depth 20, c.requires))
+run-requires-else g c = (search (sendable, passing.the_sync) depth 20, (search (sendable, c.type_bounds.sync-R) depth 20, c.requires))
