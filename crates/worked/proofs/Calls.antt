@@ -10,9 +10,8 @@ up = record { from = 1; to = 2 }
 abbrev down : Call
 down = record { from = 2; to = 1 }
 
-pub both_are_calls : (sizes : Sizes) → 2 ≤ sizes.floors → IsCall sizes up × IsCall sizes down × Unit {0}
+pub both_are_calls : (sizes : Sizes) → 2 ≤ sizes.floors → IsCall sizes up × (IsCall sizes down × Unit {0})
 both_are_calls sizes two = (
   record { from = (omega arith, omega (arith, two)); to = (omega arith, two); differs = refl },
-  record { from = (omega arith, two); to = (omega arith, omega (arith, two)); differs = refl },
-  tt,
+  (record { from = (omega arith, two); to = (omega arith, omega (arith, two)); differs = refl }, tt),
 )

@@ -13,6 +13,7 @@ use lift_spec::calls::Call;
 use lift_spec::hand::Hand;
 use lift_spec::report::Report;
 use std::alloc::{AllocError, Global};
+use std::test::Fail;
 
 // What a commit and a start were answered, by the number of a fault or 0, and how many entries the journal has.
 #[derive(Clone, Copy)]
@@ -25,7 +26,8 @@ struct Refused {
 // The first two calls that a refresh entered, and the first call that stays in the hand.
 #[derive(Clone, Copy)]
 struct Entering {
-    entered: [Option<Call>; 2],
+    first: Option<Call>,
+    second: Option<Call>,
     stays: Option<Call>,
 }
 
@@ -155,10 +157,8 @@ fn refreshed(alloc: Global, verified: &Verified) -> Result<Option<Entering>, All
     }
     let entered = report.entered.as_slice();
     Ok(Some(Entering {
-        entered: [
-            entered.first().map(|one| one.call),
-            entered.get(1).map(|one| one.call),
-        ],
+        first: entered.first().map(|one| one.call),
+        second: entered.get(1).map(|one| one.call),
         stays: hand.first(),
     }))
 }
@@ -212,31 +212,30 @@ fn refreshed_at(alloc: Global, text: &[u8]) -> Result<Option<Entering>, Refusal>
     Ok(left?)
 }
 
+/// From floor 1 to 2.
+const ASCENT: Call = Call { from: 1, to: 2 };
+
+/// From floor 2 to 1.
+const DESCENT: Call = Call { from: 2, to: 1 };
+
 #[test]
-fn of_two_calls_each_enters_that_finds_a_slot(rt: HostRuntime) {
-    let both = refreshed_at(rt.alloc(), TWO_SLOTS);
-    assert!(rt;
-        matches!(
-            both,
-            Ok(Some(Entering {
-                entered: [
-                    Some(Call { from: 1, to: 2 }),
-                    Some(Call { from: 2, to: 1 }),
-                ],
-                stays: None,
-            }))
-        )
-    );
-    let first = refreshed_at(rt.alloc(), TWO_IDLE);
-    assert!(rt;
-        matches!(
-            first,
-            Ok(Some(Entering {
-                entered: [Some(Call { from: 1, to: 2 }), None],
-                stays: Some(Call { from: 2, to: 1 }),
-            }))
-        )
-    );
+fn of_two_calls_both_enter_two_slots(rt: HostRuntime) -> Result<(), Fail> {
+    let Ok(Some(left)) = refreshed_at(rt.alloc(), TWO_SLOTS) else {
+        panic!(&rt; "no memory")
+    };
+    assert!(rt; left.first == Some(ASCENT) && left.second == Some(DESCENT));
+    assert!(rt; left.stays.is_none());
+    Ok(())
+}
+
+#[test]
+fn of_two_calls_the_first_enters_one_slot(rt: HostRuntime) -> Result<(), Fail> {
+    let Ok(Some(left)) = refreshed_at(rt.alloc(), TWO_IDLE) else {
+        panic!(&rt; "no memory")
+    };
+    assert!(rt; left.first == Some(ASCENT) && left.second.is_none());
+    assert!(rt; left.stays == Some(DESCENT));
+    Ok(())
 }
 
 #[test]

@@ -1,4 +1,4 @@
-// Workers run at once: a gate holds both cars until the other has started, and one of them until the other has committed.
+// Workers run at once: a gate holds each of two cars until the other has got on.
 
 use crate::texts::TWO_IDLE;
 use lift_load::load;
@@ -16,40 +16,14 @@ const TURNS: u32 = 1000;
 
 const TURN: u64 = 10;
 
-/// Holds each car after its first start until the other has started, and car 1 then until car 2 has committed; once a wait has taken so
-/// many turns, it holds nobody.
+/// Holds car 2 after its first start until car 1 has started, and car 1 until car 2 has committed; once one has waited for so many turns,
+/// it holds nobody.
 #[derive(Drop)]
 struct HoldsCars<'c, C: Clock + Sync> {
     clock: &'c C,
     has_car_1_started: AtomicBool,
-    has_car_2_started: AtomicBool,
     has_car_2_committed: AtomicBool,
     has_waited_too_long: AtomicBool,
-}
-
-impl<'c, C: Clock + Sync> HoldsCars<'c, C> {
-    fn new(clock: &'c C) -> HoldsCars<'c, C> {
-        HoldsCars {
-            clock,
-            has_car_1_started: AtomicBool::new(false),
-            has_car_2_started: AtomicBool::new(false),
-            has_car_2_committed: AtomicBool::new(false),
-            has_waited_too_long: AtomicBool::new(false),
-        }
-    }
-
-    /// Waits until the other has got on.
-    fn wait_for(&self, has_got_on: &AtomicBool) {
-        for _turn in 0..TURNS {
-            if has_got_on.load(Ordering::SeqCst)
-                || self.has_waited_too_long.load(Ordering::SeqCst)
-            {
-                return;
-            }
-            thread::sleep(self.clock, Duration::from_millis(TURN));
-        }
-        self.has_waited_too_long.store(true, Ordering::SeqCst);
-    }
 }
 
 impl<'c, C: Clock + Sync> Gate for HoldsCars<'c, C> {
@@ -58,13 +32,19 @@ impl<'c, C: Clock + Sync> Gate for HoldsCars<'c, C> {
     fn started(&self, _rt: &impl Wait, task: u8) {
         if task == 1 {
             self.has_car_1_started.store(true, Ordering::SeqCst);
-            self.wait_for(&self.has_car_2_started);
-            self.wait_for(&self.has_car_2_committed);
         }
-        if task == 2 {
-            self.has_car_2_started.store(true, Ordering::SeqCst);
-            self.wait_for(&self.has_car_1_started);
+        for _turn in 0..TURNS {
+            let may_go_on = if task == 1 {
+                self.has_car_2_committed.load(Ordering::SeqCst)
+            } else {
+                self.has_car_1_started.load(Ordering::SeqCst)
+            };
+            if may_go_on || self.has_waited_too_long.load(Ordering::SeqCst) {
+                return;
+            }
+            thread::sleep(self.clock, Duration::from_millis(TURN));
         }
+        self.has_waited_too_long.store(true, Ordering::SeqCst);
     }
 
     fn committed(&self, _rt: &impl Wait, task: u8) {
@@ -81,7 +61,12 @@ impl<'c, C: Clock + Sync> Gate for HoldsCars<'c, C> {
 // Refuses all tasks in turn on one thread.
 #[test]
 fn cars_run_at_once(rt: HostRuntime) -> Result<(), Fail> {
-    let gate = HoldsCars::new(&rt);
+    let gate = HoldsCars {
+        clock: &rt,
+        has_car_1_started: AtomicBool::new(false),
+        has_car_2_committed: AtomicBool::new(false),
+        has_waited_too_long: AtomicBool::new(false),
+    };
     let Ok(verified) = load(rt.alloc(), TWO_IDLE) else {
         panic!(&rt; "no memory")
     };

@@ -1,4 +1,3 @@
-use Rattle.std.proofs.Common.{sym}
 use Rattle.il_machine.proofs.Sizes.{sizes_fit}
 use Rattle.lift_spec.specs.Image.{sizes_of}
 use Rattle.worked.proofs.Calls.{both_are_calls}
