@@ -6,5 +6,5 @@ use Rattle.lift_output.proofs.outcome.run_in_threads.Goals as goal
 pub run-requires : goal.run-requires
 run-requires g c = (search (sendable, together.the_sync) depth 20, (search (sendable, c.type_bounds.sync-R) depth 20, c.requires))
 
-pub run-requires-else : goal.run-requires-else
-run-requires-else g c = (search (sendable, passing.the_sync) depth 20, (search (sendable, c.type_bounds.sync-R) depth 20, c.requires))
+pub run-requires-else-together : goal.run-requires-else-together
+run-requires-else-together g c = (search (sendable, passing.the_sync) depth 20, (search (sendable, c.type_bounds.sync-R) depth 20, c.requires))
