@@ -72,5 +72,5 @@ fn a_sink_that_fails_has_the_bytes_before(rt: HostRuntime) {
     let written = write_trace(&journal, &mut sink);
     assert!(rt; written == Err(TraceFault::Write));
     assert!(rt; TraceFault::Write.number() == Some(82));
-    assert!(rt; sink.taken.as_slice() == b"LIFTTRACE 2\nR");
+    assert!(rt; sink.taken.as_slice() == b"LIFTTRACE 2\nR".as_slice());
 }
