@@ -1,6 +1,6 @@
 // The desk, and the passes of its panels.
 ghost use Rattle.std.specs.Prelude.{◌≡◌, ◌≢◌, ◌+◌, ◌*◌, ◌<◌, ◌≤◌, [], ◌++◌, ◌∷◌, length, IfOk, IfErr, bit_or};
-ghost use Rattle.lift_desk.specs.Passes.{Answered, IsFloorOf, AreNewPanels, AreAllPanels, AreCalls, IsBalanced};
+ghost use Rattle.lift_desk.specs.Passes.{Answered, IsFloorOf, AreNewPanels, AreAllPanels, AreCalls, IsBalanced, AreAnsweredNew};
 ghost use Rattle.il_spec.specs.declared.fault.Refusal.TheVariants.{Memory};
 
 use crate::hand_pass::HandPass;
@@ -51,14 +51,14 @@ pub struct PanelPass {
 
 impl Model for PanelPass {
     ghost use Rattle.std.specs.Prelude.{◌≡◌, ◌≤◌, []};
-    ghost use Rattle.lift_desk.specs.Account.{news_of};
+    ghost use Rattle.lift_desk.specs.Account.{news_of, pressed_of};
     ghost use Rattle.lift_desk.specs.Passes.{Panel, panel_code, panels_of, IsPanelOf};
 
     ghost Value = { Panel };
 
     ghost coded = { panel_code };
 
-    ghost view = { λ p. record { table = p.seat.table_id; panels = panels_of p.seat.me.0; floor = p.floor; panel = p.panel; news = news_of p.seat.me.0 } };
+    ghost view = { λ p. record { table = p.seat.table_id; panels = panels_of p.seat.me.0; floor = p.floor; panel = p.panel; news = news_of p.seat.me.0; pressed = pressed_of p.seat.me.0 } };
 
     ghost invariant = { λ p. IsPanelOf p.floor p.seat.me.0 × (p.seat.me.1 ≡ []) × (1 ≤ p.floor) × (p.floor ≤ p.seat.table_id.words) };
 }
@@ -207,6 +207,7 @@ impl Desk {
         requires hand { pass.table ≡ self.table }
         requires panels { AreAllPanels self panels.items }
         ensures balanced { IsBalanced self.floors panels.items pass.gathered result.desk }
+        ensures pressed { AreAnsweredNew self.floors panels.items }
         ensures calls { AreCalls self.floors result.desk }
         ensures hand { result.hand ≡ pass.hand }
     {

@@ -1,5 +1,5 @@
 -- Journals: what a further entry adds, and whose scans are open.
-use Rattle.std.proofs.Common.{◌≡◌, ◌≢◌, ℕ, zero, suc, ◌+◌, ◌%◌, ◌<◌, ◌⊎◌, inl, inr, Bool, true, false, ◌==◌, List, [], ◌∷◌, ◌++◌, map, length, replicate, Option, Some, None, Result, Ok, Err, if◌then◌else◌, refl, sym, ap, ◌∙◌, subst, arith, eqb-true, length-append}
+use Rattle.std.proofs.Common.{◌≡◌, ◌≢◌, ℕ, zero, suc, ◌+◌, ◌%◌, ◌<◌, ◌⊎◌, inl, inr, Bool, true, false, ◌==◌, List, [], ◌∷◌, ◌++◌, map, length, replicate, Option, Some, None, Result, Ok, Err, if◌then◌else◌, refl, sym, ap, ◌∙◌, subst, arith, eqb-true, length-append, append-nil}
 use Rattle.std.specs.Prelude.{slice_get, slice_set, is_some}
 use Rattle.il_spec.specs.declared.tree.Config.{Config}
 use Rattle.il_run.specs.State.{State}
@@ -26,7 +26,7 @@ use Rattle.lift_run_laws.proofs.Seats.{flat_same}
 use Rattle.lift_run_laws.proofs.Openings.{no_scan_open}
 use Rattle.lift_spec.specs.declared.journal.Entry.{Entry}
 use Rattle.lift_spec.specs.declared.journal.Entry.TheVariants as entry
-use Rattle.lift_journal.specs.Journal.{Enters, events_of, IsAccepted, AreAccepted, Runs, IsJournalOf, entries_by, entered_in, entered_calls, actor_of, open_after, MayFollow, Alternate, IsOpenWhereOdd, refresher}
+use Rattle.lift_journal.specs.Journal.{Enters, events_of, IsAccepted, AreAccepted, Runs, IsJournalOf, entries_by, entered_by, calls_entered, actor_of, open_after, MayFollow, Alternate, IsOpenWhereOdd, refresher}
 use Rattle.lift_journal.specs.Pages.{Page, Kept, Adds}
 use Rattle.lift_journal.proofs.Scanning.{within}
 
@@ -50,9 +50,9 @@ pub entries_more : (actor : ℕ) (entries : List Entry) (e : Entry) → entries_
 entries_more actor [] e = omega arith
 entries_more actor (d ∷ entries) e = let rest = entries_more actor entries e in omega (arith, rest)
 
-pub entered_more : (entries : List Entry) (e : Entry) → entered_calls (entries ++ e ∷ []) ≡ entered_calls entries + entered_in e
-entered_more [] e = omega arith
-entered_more (d ∷ entries) e = let rest = entered_more entries e in omega (arith, rest)
+pub entered_more : (entries : List Entry) (e : Entry) → calls_entered (entries ++ e ∷ []) ≡ calls_entered entries ++ entered_by e
+entered_more [] e = append-nil (entered_by e)
+entered_more (d ∷ entries) e = ap (λ cs. entered_by d ++ cs) (entered_more entries e) ∙ sym (append_assoc (entered_by d) (calls_entered entries) (entered_by e))
 
 -- RUNS OF EVENTS
 

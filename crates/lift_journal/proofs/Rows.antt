@@ -25,7 +25,7 @@ use Rattle.il_run.specs.Step.{step}
 use Rattle.lift_spec.specs.World.{World, Halt, opening, happens, run, refreshed_group, committed_group}
 use Rattle.lift_spec.specs.declared.journal.Entry.{Entry}
 use Rattle.lift_spec.specs.declared.journal.Entry.TheVariants as entry
-use Rattle.lift_journal.specs.Journal.{events_of, calls_entering, entries_by, entered_calls, refresher}
+use Rattle.lift_journal.specs.Journal.{events_of, calls_entering, entries_by, calls_entered, refresher}
 
 -- A CONFIGURATION
 
@@ -126,5 +126,5 @@ car_makes_three = refl
 refresher_makes_two : entries_by refresher two_rounds ≡ 2
 refresher_makes_two = refl
 
-one_call_entered : entered_calls two_rounds ≡ 1
+one_call_entered : calls_entered two_rounds ≡ up ∷ []
 one_call_entered = refl

@@ -76,16 +76,16 @@ abbrev pub entries_by : ℕ → List Entry → ℕ
 entries_by actor [] = 0
 entries_by actor (e ∷ entries) = (if actor_of e == actor then 1 else 0) + entries_by actor entries
 
--- how many calls an entry enters
-abbrev pub entered_in : Entry → ℕ
-entered_in (entry.Start t) = 0
-entered_in (entry.Commit t) = 0
-entered_in (entry.Refresh fields entered) = length entered
+-- the calls that an entry enters
+abbrev pub entered_by : Entry → List Call
+entered_by (entry.Start t) = []
+entered_by (entry.Commit t) = []
+entered_by (entry.Refresh fields entered) = entered
 
--- how many calls were entered in all
-abbrev pub entered_calls : List Entry → ℕ
-entered_calls [] = 0
-entered_calls (e ∷ entries) = entered_in e + entered_calls entries
+-- the calls that entries enter, in their order
+abbrev pub calls_entered : List Entry → List Call
+calls_entered [] = []
+calls_entered (e ∷ entries) = entered_by e ++ calls_entered entries
 
 -- each is a call of the group
 abbrev pub AllCalls : Sizes → List Call → Type 0

@@ -43,6 +43,7 @@ use Rattle.lift_watch.specs.Denials.{denied}
 use Rattle.lift_watch.specs.Names.{upper_case}
 use Rattle.lift_watch.specs.Values.{AreWatched, IsUnknown, header_text, watching}
 use Rattle.lift_workers.specs.Ran.{IsRun}
+use Rattle.lift_desk.specs.declared.desk.DeskClosed.{DeskClosed}
 
 -- CHECK
 
@@ -137,13 +138,15 @@ IsSimOutcome program asked (Err why) = IsUndriven (sizes_of program.config).floo
 
 -- The trace is that of a journal of the program, a run from its opening in whatever order the threads came: each task was started and
 -- committed in each of so many rounds, and the image was refreshed by the plant in each, under the FIRE of the words and safe for those in
--- the cars.
+-- the cars. The calls of the words are kept: none is lost and none is doubled, and what the trace doesn't enter is left in the collector's hand or
+-- on the desk.
 pub record IsTraceOfRun (program : Program) (asked : Rounds) (text : List ℕ) : Type 0 where
   pub presses : List Press
   pub first : Option ℕ
   pub driven : AreDriven (sizes_of program.config).floors asked presses first
   pub entries : List Entry
-  pub ran : IsRun program.config (is_fire_in first) asked.rounds entries
+  pub left : DeskClosed
+  pub ran : IsRun program.config (is_fire_in first) asked.rounds presses entries left
   pub trace : text ≡ text_of_entries entries
 
 -- `run` prints its trace, where its further words are presses and the word behind `--fire` is a round.

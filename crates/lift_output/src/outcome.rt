@@ -11,7 +11,7 @@ ghost use Rattle.lift_host.specs.Requests.{command_of, words_of};
 ghost use Rattle.lift_watch.specs.Names.{upper_case};
 ghost use Rattle.lift_spec.specs.EventFaults.{event_fault_number};
 ghost use Rattle.lift_journal.specs.Rounds.{is_fire_in};
-ghost use Rattle.lift_desk.specs.Passes.{IsFloorOf};
+ghost use Rattle.lift_workers.specs.Panels.{IsPressAt};
 ghost use Rattle.lift_workers.specs.Ran.{IsRun};
 
 use crate::check::check_text;
@@ -26,7 +26,6 @@ use lift_host::status::Fault;
 use lift_runs::replay::{Refused, replay};
 use lift_runs::sim::{Drive, simulate, simulate_before, simulate_on};
 use lift_show::output::{Output, Warned};
-use lift_spec::journal::Entry;
 use lift_spec::trace::TraceEvent;
 use lift_trace::fault::TraceFault;
 use lift_trace::read::read_trace;
@@ -36,7 +35,7 @@ use lift_watch::names::upper_names;
 use lift_watch::watch::Watch;
 use lift_workers::RunFault;
 use lift_workers::gate::{Open, Together};
-use lift_workers::run::{Plan, run};
+use lift_workers::run::{Plan, Ran, run};
 use lift_world::World;
 use lift_xref::xref_text;
 use lists::Items;
@@ -265,16 +264,16 @@ fn tasks_of(verified: &Verified) -> u8 {
         .saturating_add(u8::from(verified.has_task(0)))
 }
 
-/// The journal of a run in threads, whose rounds end for all before the next begins, or pass one another.
+/// What a run in threads leaves, whose rounds end for all before the next begins, or pass one another.
 fn run_in_threads<R: Threads + Wait + Sync>(
     rt: &R,
     alloc: Global,
     verified: Verified,
     plan: Plan<'_>,
     together: bool,
-) -> Result<Vec<Entry>, RunFault>
-    requires { All (λ press. IsFloorOf (sizes_of verified.config).floors press.to) plan.presses.now }
-    ensures { IfOk result (λ es. IsRun verified.config (is_fire_in plan.entry.fire) plan.entry.rounds es.items) }
+) -> Result<Ran, RunFault>
+    requires { All (λ press. IsPressAt (sizes_of verified.config).floors press) plan.presses.now }
+    ensures { IfOk result (λ ran. IsRun verified.config (is_fire_in plan.entry.fire) plan.entry.rounds plan.entry.presses.now ran.journal.items ran.left) }
 {
     if together {
         let gate = Together::new(tasks_of(&verified));
@@ -304,7 +303,7 @@ pub fn ran<R: Threads + Wait + Sync>(
                 fire: driven.fire,
             };
             match run_in_threads(rt, alloc, verified, plan, asked.flag) {
-                Ok(entries) => Ok(Output::Trace(entries)),
+                Ok(ran) => Ok(Output::Trace(ran.journal)),
                 // No memory, or no room.
                 Err(_) => Err(Fault::NoMemory),
             }

@@ -32,10 +32,10 @@ driven_more c fire b p plant next e answer config adds driven moves =
     subst (λ es. IsDrivenJournal c fire es next p.world) (sym adds.journal) more
 
 -- at the start
-pub at_opening : (c : Config) (fire : ℕ → Bool) (totals : List ℕ) (b : Page) (plant : PlantState) → totals ≡ replicate 12 0 → b.journal ≡ [] → b.world ≡ opening c → plant ≡ first_plant c → IsPlantOf (sizes_of c) plant → IsAtPlant c fire totals b plant
+pub at_opening : (c : Config) (fire : ℕ → Bool) (totals : List ℕ) (b : Page) (plant : PlantState) → totals ≡ replicate 11 0 → b.journal ≡ [] → b.world ≡ opening c → plant ≡ first_plant c → IsPlantOf (sizes_of c) plant → IsAtPlant c fire totals b plant
 at_opening c fire totals b plant none empty world first sized = record {
   sized = sized;
-  most = omega (arith, ap (λ ts. slice_index_or ts 11 0) none);
+  most = omega (arith, ap (λ ts. slice_index_or ts 10 0) none);
   driven = λ same. subst (λ es. IsDrivenJournal c fire es plant b.world) (sym empty) (sym first, sym world);
 }
 
@@ -44,47 +44,47 @@ pub at_scanned : (c : Config) (fire : ℕ → Bool) (totals : List ℕ) (b p : P
     → IsAtPlant c fire totals b plant → IsAtPlant c fire (slice_set totals a n) p plant
 at_scanned c fire totals b p plant e answer a n low config adds moves at =
     let nine : slice_index_or (slice_set totals a n) 9 0 ≡ slice_index_or totals 9 0 = get_or-set_other totals a 9 n 0 (λ same. absurd (omega (arith, same, low))) in
-    let eleven : slice_index_or (slice_set totals a n) 11 0 ≡ slice_index_or totals 11 0 = get_or-set_other totals a 11 n 0 (λ same. absurd (omega (arith, same, low))) in
+    let ten : slice_index_or (slice_set totals a n) 10 0 ≡ slice_index_or totals 10 0 = get_or-set_other totals a 10 n 0 (λ same. absurd (omega (arith, same, low))) in
     record {
       sized = at.sized;
-      most = omega (arith, at.most, nine, eleven);
-      driven = λ same. driven_more c fire b p plant plant e answer config adds (at.driven (sym eleven ∙ same ∙ nine)) (moves (fire (entries_by refresher b.journal + 1)) b.world);
+      most = omega (arith, at.most, nine, ten);
+      driven = λ same. driven_more c fire b p plant plant e answer config adds (at.driven (sym ten ∙ same ∙ nine)) (moves (fire (entries_by refresher b.journal + 1)) b.world);
     }
 
 -- THE TOTALS AFTER A REFRESH
 
-nine_more : (totals : List ℕ) (many : ℕ) → length totals ≡ 12 → slice_index_or (slice_set (slice_set totals 9 (slice_index_or totals 9 0 + 1)) 10 (slice_index_or totals 10 0 + many)) 9 0 ≡ slice_index_or totals 9 0 + 1
-nine_more totals many long =
-    get_or-set_other (slice_set totals 9 (slice_index_or totals 9 0 + 1)) 10 9 (slice_index_or totals 10 0 + many) 0 (λ same. absurd (omega (arith, same))) ∙ get_or-set_same totals 9 (slice_index_or totals 9 0 + 1) 0 (omega (arith, long))
+abbrev more : List ℕ → List ℕ
+more totals = slice_set totals 9 (slice_index_or totals 9 0 + 1)
 
-eleven_stays : (totals : List ℕ) (many : ℕ) → slice_index_or (slice_set (slice_set totals 9 (slice_index_or totals 9 0 + 1)) 10 (slice_index_or totals 10 0 + many)) 11 0 ≡ slice_index_or totals 11 0
-eleven_stays totals many =
-    get_or-set_other (slice_set totals 9 (slice_index_or totals 9 0 + 1)) 10 11 (slice_index_or totals 10 0 + many) 0 (λ same. absurd (omega (arith, same)))
-    ∙ get_or-set_other totals 9 11 (slice_index_or totals 9 0 + 1) 0 (λ same. absurd (omega (arith, same)))
+nine_more : (totals : List ℕ) → length totals ≡ 11 → slice_index_or (more totals) 9 0 ≡ slice_index_or totals 9 0 + 1
+nine_more totals long = get_or-set_same totals 9 (slice_index_or totals 9 0 + 1) 0 (omega (arith, long))
+
+ten_stays : (totals : List ℕ) → slice_index_or (more totals) 10 0 ≡ slice_index_or totals 10 0
+ten_stays totals = get_or-set_other totals 9 10 (slice_index_or totals 9 0 + 1) 0 (λ same. absurd (omega (arith, same)))
 
 -- after a refresh that didn't come from it, nothing is said of the plant
-pub at_refreshed : (c : Config) (fire : ℕ → Bool) (totals : List ℕ) (b p : Page) (plant : PlantState) (many : ℕ) → length totals ≡ 12 → IsAtPlant c fire totals b plant
-    → IsAtPlant c fire (slice_set (slice_set totals 9 (slice_index_or totals 9 0 + 1)) 10 (slice_index_or totals 10 0 + many)) p plant
-at_refreshed c fire totals b p plant many long at =
-    let nine = nine_more totals many long in
-    let eleven = eleven_stays totals many in
-    record { sized = at.sized; most = omega (arith, at.most, nine, eleven); driven = λ same. absurd (omega (arith, at.most, nine, eleven, same)) }
+pub at_refreshed : (c : Config) (fire : ℕ → Bool) (totals : List ℕ) (b p : Page) (plant : PlantState) → length totals ≡ 11 → IsAtPlant c fire totals b plant
+    → IsAtPlant c fire (slice_set totals 9 (slice_index_or totals 9 0 + 1)) p plant
+at_refreshed c fire totals b p plant long at =
+    let nine = nine_more totals long in
+    let ten = ten_stays totals in
+    record { sized = at.sized; most = omega (arith, at.most, nine, ten); driven = λ same. absurd (omega (arith, at.most, nine, ten, same)) }
 
 -- a refresh by the plant takes it on
-pub at_driven : (c : Config) (fire : ℕ → Bool) (now : Bool) (totals : List ℕ) (b p : Page) (plant next : PlantState) (fields : Fields) (calls : List Call) (answer : Reply) (many : ℕ) → Counted totals b.journal → b.config ≡ c → Adds b (entry.Refresh fields calls) answer p
+pub at_driven : (c : Config) (fire : ℕ → Bool) (now : Bool) (totals : List ℕ) (b p : Page) (plant next : PlantState) (fields : Fields) (calls : List Call) (answer : Reply) → Counted totals b.journal → b.config ≡ c → Adds b (entry.Refresh fields calls) answer p
     → now ≡ fire (entries_by refresher b.journal + 1) → Moves now b.world (entry.Refresh fields calls) plant next → IsPlantOf (sizes_of c) next → IsAtPlant c fire totals b plant
-    → (last : List ℕ) → last ≡ slice_set (slice_set totals 9 (slice_index_or totals 9 0 + 1)) 10 (slice_index_or totals 10 0 + many) → IsAtPlant c fire (slice_set last 11 (slice_index_or last 11 0 + 1)) p next
-at_driven c fire now totals b p plant next fields calls answer many counted config adds burns moves sized at last is =
-    let nine : slice_index_or last 9 0 ≡ slice_index_or totals 9 0 + 1 = ap (λ ts. slice_index_or ts 9 0) is ∙ nine_more totals many counted.many in
-    let eleven : slice_index_or last 11 0 ≡ slice_index_or totals 11 0 = ap (λ ts. slice_index_or ts 11 0) is ∙ eleven_stays totals many in
-    let long : length last ≡ 12 = ap length is ∙ length-set (slice_set totals 9 (slice_index_or totals 9 0 + 1)) 10 (slice_index_or totals 10 0 + many) ∙ length-set totals 9 (slice_index_or totals 9 0 + 1) ∙ counted.many in
-    let still : slice_index_or (slice_set last 11 (slice_index_or last 11 0 + 1)) 9 0 ≡ slice_index_or last 9 0 = get_or-set_other last 11 9 (slice_index_or last 11 0 + 1) 0 (λ same. absurd (omega (arith, same))) in
-    let more : slice_index_or (slice_set last 11 (slice_index_or last 11 0 + 1)) 11 0 ≡ slice_index_or last 11 0 + 1 = get_or-set_same last 11 (slice_index_or last 11 0 + 1) 0 (omega (arith, long)) in
+    → (last : List ℕ) → last ≡ slice_set totals 9 (slice_index_or totals 9 0 + 1) → IsAtPlant c fire (slice_set last 10 (slice_index_or last 10 0 + 1)) p next
+at_driven c fire now totals b p plant next fields calls answer counted config adds burns moves sized at last is =
+    let nine : slice_index_or last 9 0 ≡ slice_index_or totals 9 0 + 1 = ap (λ ts. slice_index_or ts 9 0) is ∙ nine_more totals counted.many in
+    let ten : slice_index_or last 10 0 ≡ slice_index_or totals 10 0 = ap (λ ts. slice_index_or ts 10 0) is ∙ ten_stays totals in
+    let long : length last ≡ 11 = ap length is ∙ length-set totals 9 (slice_index_or totals 9 0 + 1) ∙ counted.many in
+    let still : slice_index_or (slice_set last 10 (slice_index_or last 10 0 + 1)) 9 0 ≡ slice_index_or last 9 0 = get_or-set_other last 10 9 (slice_index_or last 10 0 + 1) 0 (λ same. absurd (omega (arith, same))) in
+    let one : slice_index_or (slice_set last 10 (slice_index_or last 10 0 + 1)) 10 0 ≡ slice_index_or last 10 0 + 1 = get_or-set_same last 10 (slice_index_or last 10 0 + 1) 0 (omega (arith, long)) in
     record {
       sized = sized;
-      most = omega (arith, at.most, nine, eleven, still, more);
+      most = omega (arith, at.most, nine, ten, still, one);
       driven = λ same.
-          driven_more c fire b p plant next (entry.Refresh fields calls) answer config adds (at.driven (omega (arith, nine, eleven, still, more, same))) (subst (λ f. Moves f b.world (entry.Refresh fields calls) plant next) burns moves);
+          driven_more c fire b p plant next (entry.Refresh fields calls) answer config adds (at.driven (omega (arith, nine, ten, still, one, same))) (subst (λ f. Moves f b.world (entry.Refresh fields calls) plant next) burns moves);
     }
 
 -- fields in range are refused only by a full journal

@@ -13,9 +13,10 @@ use Rattle.lift_station.specs.contracts.station.Station as Station
 use Rattle.lift_station.proofs.actor.TaskShare.TheSendSync as share
 use Rattle.lift_station.proofs.actor.Counts.TheSendSync as counts
 use Rattle.lift_station.proofs.station.Mine.TheSendSync as mine
+use Rattle.lift_station.proofs.tally.Tally.TheSendSync as tally
 
 pub Locked-send : (G : RattleType) (g : Ghosts G.Denot) → IsSend (Locked.the_row G g)
-Locked-send G g = search (sendable, crosses, Book-send, counts.the_send) depth 40
+Locked-send G g = search (sendable, crosses, Book-send, counts.the_send, tally.the_send) depth 40
 
 pub Station-sync : (G : RattleType) (g : Ghosts G.Denot) → IsSync (Station.the_row G g)
 Station-sync G g = search (sendable, crosses, mutex.the_sync, Locked-send, mine.the_sync) depth 40

@@ -4,3 +4,4 @@ pub mod Showing
 pub mod Hands
 pub mod Tasks
 pub mod Cross
+pub mod Meeting

@@ -17,7 +17,7 @@ use Rattle.lift_run_laws.specs.Accepted.{IsSound}
 use Rattle.lift_journal.specs.declared.fault.StationFault.{StationFault}
 use Rattle.lift_journal.specs.declared.fault.StationFault.TheVariants.{AlreadyOpen, JournalFull}
 use Rattle.lift_spec.specs.declared.journal.Entry.TheVariants as entry
-use Rattle.lift_journal.specs.Journal.{entries_by, entered_calls, refresher, calls_entering, IsJournalOf}
+use Rattle.lift_journal.specs.Journal.{entries_by, calls_entered, refresher, calls_entering, IsJournalOf}
 use Rattle.lift_journal.specs.Pages.{Page, Kept, Adds, IsSnapped, IsShown, IsTold}
 use Rattle.lift_journal.proofs.Journals.{entries_alternate}
 use Rattle.lift_book.specs.Ledgers.{SnappedNow, IsOpenHere, start_fault, full_fault}
@@ -119,7 +119,7 @@ module _ (P v : Program) (lent : v ≡ P) (inside before : Page) (same : inside 
 
 -- REFRESHES, IMAGES AND TICKETS
 
-pub refreshed_under : (P : Program) (inside before : Page) → inside ≡ before → before.config ≡ P.config → Kept before → (count entered : ℕ) → count ≡ entries_by refresher before.journal → entered ≡ entered_calls before.journal
+pub refreshed_under : (P : Program) (inside before : Page) → inside ≡ before → before.config ≡ P.config → Kept before → (count : ℕ) (entered : List Call) → count ≡ entries_by refresher before.journal → entered ≡ calls_entered before.journal
     → (fields : Fields) (hand : List Call) (report : Report) (after : Page) → calls_in report ≡ calls_entering inside.world.group.calls hand → Adds inside (entry.Refresh fields (calls_in report)) (Refreshed report) after
     → IsRefreshed P.config count entered fields hand report
 refreshed_under P inside before same config kept count entered counted called fields hand report after entering adds =

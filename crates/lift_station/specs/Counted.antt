@@ -14,21 +14,20 @@ use Rattle.lift_spec.specs.declared.journal.Entry.TheVariants as entry
 use Rattle.lift_journal.specs.declared.fault.StationFault.{StationFault}
 use Rattle.lift_journal.specs.declared.fault.StationFault.TheVariants.{JournalFull}
 use Rattle.lift_journal.specs.Driven.{IsDrivenJournal}
-use Rattle.lift_journal.specs.Journal.{entries_by, entered_calls, refresher, calls_entering}
+use Rattle.lift_journal.specs.Journal.{entries_by, calls_entered, refresher, calls_entering}
 use Rattle.lift_journal.specs.Pages.{Page, Kept, Adds}
 use Rattle.lift_book.specs.Ledgers.{IsOpenHere}
 
--- the totals are the numbers of entries of the actors, and of the calls that were entered; one more counts the refreshes by the plant
+-- the totals are the numbers of entries of the actors; one more counts the refreshes by the plant
 pub record Counted (totals : List ℕ) (journal : List Entry) : Type 0 where
-  pub many : length totals ≡ 12
+  pub many : length totals ≡ 11
   pub actors : (a : ℕ) → a < 10 → slice_index_or totals a 0 ≡ entries_by a journal
-  pub entered : slice_index_or totals 10 0 ≡ entered_calls journal
 
 -- The plant is one of the group; and where all refreshes came from it, the journal is driven by it.
 pub record IsAtPlant (c : Config) (fire : ℕ → Bool) (totals : List ℕ) (page : Page) (plant : PlantState) : Type 0 where
   pub sized : IsPlantOf (sizes_of c) plant
-  pub most : slice_index_or totals 11 0 ≤ slice_index_or totals 9 0
-  pub driven : slice_index_or totals 11 0 ≡ slice_index_or totals 9 0 → IsDrivenJournal c fire page.journal plant page.world
+  pub most : slice_index_or totals 10 0 ≤ slice_index_or totals 9 0
+  pub driven : slice_index_or totals 10 0 ≡ slice_index_or totals 9 0 → IsDrivenJournal c fire page.journal plant page.world
 
 -- no fault, or 70
 abbrev pub IsNoneOrFull : Option StationFault → Type 0
@@ -49,21 +48,21 @@ pub record IsCommitted (c : Config) (t count : ℕ) (scan : Finished) (report : 
   pub after : Page
   pub adds : Adds before (entry.Commit t) (Committed report) after
 
--- The report is that of a refresh with these fields and this hand, at the end of a run that holds so many refreshes and so many entered
+-- The report is that of a refresh with these fields and this hand, at the end of a run that holds so many refreshes, which entered these
 -- calls; it enters the calls that it names, which are just the first of the hand while a slot is free there.
-pub record IsRefreshed (c : Config) (count entered : ℕ) (fields : Fields) (hand : List Call) (report : Report) : Type 0 where
+pub record IsRefreshed (c : Config) (count : ℕ) (entered : List Call) (fields : Fields) (hand : List Call) (report : Report) : Type 0 where
   pub before : Page
   pub config : before.config ≡ c
   pub kept : Kept before
   pub counted : entries_by refresher before.journal ≡ count
-  pub called : entered_calls before.journal ≡ entered
+  pub called : calls_entered before.journal ≡ entered
   pub entering : calls_in report ≡ calls_entering before.world.group.calls hand
   pub after : Page
   pub adds : Adds before (entry.Refresh fields (calls_in report)) (Refreshed report) after
 
 -- The report is that of a refresh with this hand by a plant of the group, which goes one step under the outputs of the image, with this
 -- FIRE.
-pub record IsDrivenOn (c : Config) (count entered : ℕ) (fire : Bool) (hand : List Call) (report : Report) : Type 0 where
+pub record IsDrivenOn (c : Config) (count : ℕ) (entered : List Call) (fire : Bool) (hand : List Call) (report : Report) : Type 0 where
   pub plant : PlantState
   pub sized : IsPlantOf (sizes_of c) plant
   pub next : PlantState

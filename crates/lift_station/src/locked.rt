@@ -8,7 +8,7 @@ ghost use Rattle.lift_spec.specs.Image.{sizes_of, fields_in_range, Obeys};
 ghost use Rattle.lift_spec.specs.Plant.{PlantState, IsPlantOf};
 ghost use Rattle.lift_spec.specs.World.{InRanges, opening};
 ghost use Rattle.lift_spec.specs.Replies.{Started, Committed, Refreshed};
-ghost use Rattle.lift_journal.specs.Journal.{AllCalls, calls_entering, entries_by, entered_calls, refresher};
+ghost use Rattle.lift_journal.specs.Journal.{AllCalls, calls_entered, calls_entering, entries_by, refresher};
 ghost use Rattle.lift_journal.specs.Driven.{IsDrivenJournal, first_plant};
 ghost use Rattle.lift_journal.specs.Pages.{Adds, Kept, IsSnapped, IsShown, IsTold};
 ghost use Rattle.lift_spec.specs.declared.journal.Entry.TheVariants as entry;
@@ -19,6 +19,7 @@ ghost use Rattle.lift_station.specs.Counted.{IsNoneOrFull, calls_in, IsCommitted
 
 use crate::actor::{Counts, Naming, RefreshPass, TaskShare};
 use crate::passes::TaskPass;
+use crate::tally::Tally;
 use il_machine::{OpenScan, Scanned, Store, Verified};
 use lift_book::Book;
 use lift_image::{Fields, Image};
@@ -28,18 +29,20 @@ use lift_spec::hand::Hand;
 use lift_spec::report::Report;
 use std::marker::Model;
 
-/// What lies under the lock: the book, the totals, and the plant, which is at the journal's end where all refreshes came from it. Contracts
-/// see it as the book.
+/// What lies under the lock: the book, the totals, the plant, which is at the journal's end where all refreshes came from it, and the tally
+/// of the calls that the journal enters. Contracts see it as the book.
 pub struct Locked<G: Naming> {
     book: Book,
     counts: Counts<G>,
     plant: Plant,
+    entered: Tally<G>,
 }
 
 impl<G: Naming> Model for Locked<G> {
     ghost use Rattle.std.specs.Prelude.{◌≡◌};
     ghost use Rattle.lift_journal.specs.Pages.{Page, page_code};
     ghost use Rattle.lift_station.specs.Counted.{Counted, IsAtPlant};
+    ghost use Rattle.lift_journal.specs.Journal.{calls_entered};
 
     ghost Value = { Page };
 
@@ -47,16 +50,17 @@ impl<G: Naming> Model for Locked<G> {
 
     ghost view = { λ l. l.book };
 
-    ghost invariant = { λ l. (l.book.config ≡ G.program.config) × Counted l.counts l.book.journal × IsAtPlant G.program.config G.fire l.counts l.book l.plant };
+    ghost invariant = { λ l. (l.book.config ≡ G.program.config) × Counted l.counts l.book.journal × IsAtPlant G.program.config G.fire l.counts l.book l.plant × (l.entered ≡ calls_entered l.book.journal) };
 }
 
 impl<G: Naming> Locked<G> {
-    /// The book with the totals and the plant, as they are at the start.
-    pub(crate) fn of(book: Book, counts: Counts<G>, plant: Plant) -> Locked<G>
+    /// The book with the totals, the plant and the tally, as they are at the start.
+    pub(crate) fn of(book: Book, counts: Counts<G>, plant: Plant, entered: Tally<G>) -> Locked<G>
         requires program { book.config ≡ G.program.config }
         requires world { book.world ≡ opening G.program.config }
         requires empty { book.journal ≡ [] }
-        requires counts { counts ≡ replicate 12 0 }
+        requires counts { counts ≡ replicate 11 0 }
+        requires entered { entered ≡ [] }
         requires plant { plant ≡ first_plant G.program.config }
         requires sized { IsPlantOf (sizes_of G.program.config) plant }
         ensures { result ≡ book }
@@ -65,6 +69,7 @@ impl<G: Naming> Locked<G> {
             book,
             counts,
             plant,
+            entered,
         }
     }
 
@@ -151,14 +156,15 @@ impl<G: Naming> Locked<G> {
         ensures ranges { InRanges G.program.config self.old.world.group }
         ensures obeys { Obeys self.old.world.group.image }
         ensures refreshes { pass.old.refreshes ≡ entries_by refresher self.old.journal }
-        ensures entered { pass.old.entered ≡ entered_calls self.old.journal }
+        ensures entered { pass.old.entered ≡ calls_entered self.old.journal }
         ensures driven { pass.old.driven ≡ pass.old.refreshes → (plant : PlantState) × IsDrivenJournal G.program.config G.fire self.old.journal plant self.old.world }
     {
         self.counts.audit_refreshes(pass);
+        self.entered.audit(&mut pass.entered);
         self.book.runs();
     }
 
-    /// Refresh, as the book does it; the pass counts one more, and the calls that were entered.
+    /// Refresh, as the book does it; the pass counts one more, and knows the calls that were entered.
     pub fn refresh(
         &mut self,
         verified: &Verified,
@@ -172,7 +178,7 @@ impl<G: Naming> Locked<G> {
         ensures fault { fault_in result ≡ refresh_fault self.old fields }
         ensures out_of_range { (fields_in_range (sizes_of G.program.config) fields ≡ false) ↔ (result ≡ Err FieldOutOfRange) }
         ensures done { OnOk result (Adds self.old (entry.Refresh fields (calls_in report.new)) (Refreshed report.new) self.new) }
-        ensures pass { OnOk result (pass.new ≡ record { refreshes = pass.old.refreshes + 1; entered = pass.old.entered + length report.new.entered; driven = pass.old.driven }) }
+        ensures pass { OnOk result (pass.new ≡ record { refreshes = pass.old.refreshes + 1; entered = pass.old.entered ++ calls_in report.new; driven = pass.old.driven }) }
         ensures report { OnOk result (IsRefreshed G.program.config pass.old.refreshes pass.old.entered fields hand.old report.new) }
         ensures exact { OnOk result (calls_in report.new ≡ calls_entering self.old.world.group.calls hand.old) }
         ensures hand { OnOk result (hand.old ≡ calls_in report.new ++ hand.new) }
@@ -180,8 +186,8 @@ impl<G: Naming> Locked<G> {
     {
         self.audit_refreshes(pass);
         self.book.refresh(verified, fields, hand, report)?;
-        let entered = report.entered.len();
-        self.counts.count_refresh(pass, entered as u64);
+        self.counts.count_refresh(pass);
+        self.entered.add(&mut pass.entered, report);
         Ok(())
     }
 
@@ -199,7 +205,7 @@ impl<G: Naming> Locked<G> {
         requires fire { fire ≡ G.fire (pass.old.refreshes + 1) }
         requires calls { AllCalls (sizes_of G.program.config) hand.old }
         ensures full { IsNoneOrFull (fault_in result) }
-        ensures pass { OnOk result (pass.new ≡ record { refreshes = pass.old.refreshes + 1; entered = pass.old.entered + length report.new.entered; driven = pass.old.driven + 1 }) }
+        ensures pass { OnOk result (pass.new ≡ record { refreshes = pass.old.refreshes + 1; entered = pass.old.entered ++ calls_in report.new; driven = pass.old.driven + 1 }) }
         ensures report { OnOk result (IsDrivenOn G.program.config pass.old.refreshes pass.old.entered fire hand.old report.new) }
         ensures exact { OnOk result (calls_in report.new ≡ calls_entering self.old.world.group.calls hand.old) }
         ensures hand { OnOk result (hand.old ≡ calls_in report.new ++ hand.new) }
@@ -210,9 +216,9 @@ impl<G: Naming> Locked<G> {
         let before = self.plant.copied().with_fire(fire);
         let (plant, fields) = plant_step(before, &self.book.image().outputs);
         self.book.refresh(verified, fields, hand, report)?;
-        let entered = report.entered.len() as u64;
-        self.counts.count_refresh(pass, entered);
+        self.counts.count_refresh(pass);
         self.counts.count_driven(pass);
+        self.entered.add(&mut pass.entered, report);
         self.plant = plant;
         Ok(())
     }
@@ -256,6 +262,7 @@ impl<G: Naming> Locked<G> {
             book,
             counts: _counts,
             plant: _plant,
+            entered: _entered,
         } = self;
         book.runs();
         book

@@ -6,15 +6,17 @@ ghost use Rattle.il_machine.specs.Scanning.{HasTask};
 ghost use Rattle.il_machine.specs.Standing.{IsOf};
 ghost use Rattle.lift_spec.specs.Image.{sizes_of, fields_in_range, Obeys};
 ghost use Rattle.lift_spec.specs.Plant.{PlantState, IsPlantOf};
-ghost use Rattle.lift_journal.specs.Journal.{entries_by, entered_calls, refresher};
+ghost use Rattle.lift_journal.specs.Journal.{calls_entered, entries_by, refresher};
 ghost use Rattle.lift_journal.specs.Driven.{IsDrivenJournal, first_plant};
 ghost use Rattle.lift_journal.specs.Pages.{Kept, IsSnapped, IsShown, IsTold};
 ghost use Rattle.lift_journal.specs.declared.fault.StationFault.TheVariants.{FieldOutOfRange, JournalFull, NotOpen, AlreadyOpen};
 ghost use Rattle.lift_book.specs.Ledgers.{fault_of, fault_in};
+ghost use Rattle.lift_desk.specs.Account.{times, membership};
+ghost use Rattle.lift_spec.specs.declared.calls.Call.{Call};
 ghost use Rattle.lift_station.specs.Passes.{task_of, count_of, counts_one, is_task, all_tasks};
 ghost use Rattle.lift_station.specs.Counted.{IsNoneOrFull, calls_in, IsCommitted, IsRefreshed, IsDrivenOn};
 
-use crate::actor::{Blanks, Naming, RefreshPass, TaskShare};
+use crate::actor::{Blanks, Books, Naming, RefreshPass, TaskShare};
 use crate::locked::Locked;
 use crate::passes::TaskPass;
 use il_machine::{OpenScan, Scanned, Store, Verified};
@@ -144,16 +146,22 @@ fn opened<G: Naming>(
     capacity: usize,
 ) -> Result<(Locked<G>, Vec<TaskPass<G>>, RefreshPass<G>), AllocError>
     requires program { verified.now ≡ G.program }
-    requires names { (i : ℕ) → slice_index_or blanks i 0 ≡ G.names i }
+    requires names { (i : ℕ) → slice_index_or blanks.ledgers i 0 ≡ G.names i }
+    requires tally { blanks.tally ≡ G.tally }
     ensures tasks { IfOk result (λ r. map (λ p. p.task) r.1.items ≡ filter (is_task G.program.config) all_tasks) }
     ensures counts { IfOk result (λ r. All (λ p. p.count ≡ 0) r.1.items) }
-    ensures refreshes { IfOk result (λ r. r.2 ≡ record { refreshes = 0; entered = 0; driven = 0 }) }
+    ensures refreshes { IfOk result (λ r. r.2 ≡ record { refreshes = 0; entered = []; driven = 0 }) }
 {
-    let (counts, shares, refresher) = blanks.open::<G>(alloc)?;
+    let Books {
+        counts,
+        entered,
+        shares,
+        refresher,
+    } = blanks.open::<G>(alloc)?;
     let tasks = passes_of(alloc, verified, shares)?;
     let book = Book::new(alloc, verified, capacity)?;
     Ok((
-        Locked::of(book, counts, plant_of(verified)),
+        Locked::of(book, counts, plant_of(verified), entered),
         tasks,
         refresher,
     ))
@@ -180,10 +188,11 @@ impl<G: Naming> Station<G> {
         capacity: usize,
     ) -> Result<(Station<G>, Vec<TaskPass<G>>, RefreshPass<G>), Refusal>
         requires program { verified ≡ G.program }
-        requires names { (i : ℕ) → slice_index_or blanks i 0 ≡ G.names i }
+        requires names { (i : ℕ) → slice_index_or blanks.ledgers i 0 ≡ G.names i }
+        requires tally { blanks.tally ≡ G.tally }
         ensures tasks { IfOk result (λ r. map (λ p. p.task) r.1.items ≡ filter (is_task G.program.config) all_tasks) }
         ensures counts { IfOk result (λ r. All (λ p. p.count ≡ 0) r.1.items) }
-        ensures refreshes { IfOk result (λ r. r.2 ≡ record { refreshes = 0; entered = 0; driven = 0 }) }
+        ensures refreshes { IfOk result (λ r. r.2 ≡ record { refreshes = 0; entered = []; driven = 0 }) }
         ensures memory { IfErr result (λ e. e ≡ Memory) }
     {
         let opened = opened::<G>(alloc, blanks, &verified, capacity);
@@ -293,9 +302,10 @@ impl<G: Naming> Station<G> {
     ) -> (RefreshPass<G>, HandPass, Result<(), StationFault>)
         requires { collector.floors ≡ (sizes_of G.program.config).floors }
         ensures out_of_range { (fields_in_range (sizes_of G.program.config) fields ≡ false) ↔ (result.2 ≡ Err FieldOutOfRange) }
-        ensures pass { OnOk result.2 (result.0 ≡ record { refreshes = pass.refreshes + 1; entered = pass.entered + length report.new.entered; driven = pass.driven }) }
+        ensures pass { OnOk result.2 (result.0 ≡ record { refreshes = pass.refreshes + 1; entered = pass.entered ++ calls_in report.new; driven = pass.driven }) }
         ensures report { OnOk result.2 (IsRefreshed G.program.config pass.refreshes pass.entered fields collector.hand report.new) }
         ensures hand { OnOk result.2 (collector.hand ≡ calls_in report.new ++ result.1.hand) }
+        ensures left { OnOk result.2 ((c : Call) → times c (calls_in report.new) + membership result.1.hand c ≡ membership collector.hand c) }
         ensures rest { result.1 ≡ record collector { hand = result.1.hand } }
         ensures refused { OnErr result.2 ((result.0 ≡ pass) × (result.1 ≡ collector) × (report.new ≡ report.old)) }
     {
@@ -326,9 +336,10 @@ impl<G: Naming> Station<G> {
         requires floors { collector.floors ≡ (sizes_of G.program.config).floors }
         requires fire { fire ≡ G.fire (pass.refreshes + 1) }
         ensures full { IsNoneOrFull (fault_in result.2) }
-        ensures pass { OnOk result.2 (result.0 ≡ record { refreshes = pass.refreshes + 1; entered = pass.entered + length report.new.entered; driven = pass.driven + 1 }) }
+        ensures pass { OnOk result.2 (result.0 ≡ record { refreshes = pass.refreshes + 1; entered = pass.entered ++ calls_in report.new; driven = pass.driven + 1 }) }
         ensures report { OnOk result.2 (IsDrivenOn G.program.config pass.refreshes pass.entered fire collector.hand report.new) }
         ensures hand { OnOk result.2 (collector.hand ≡ calls_in report.new ++ result.1.hand) }
+        ensures left { OnOk result.2 ((c : Call) → times c (calls_in report.new) + membership result.1.hand c ≡ membership collector.hand c) }
         ensures rest { result.1 ≡ record collector { hand = result.1.hand } }
         ensures refused { OnErr result.2 ((result.0 ≡ pass) × (result.1 ≡ collector) × (report.new ≡ report.old)) }
     {
@@ -372,15 +383,15 @@ impl<G: Naming> Station<G> {
         book.into_inner().into_book().release();
     }
 
-    /// The program and the book at the end: the journal runs to the book's image, and holds as many entries and entered calls as the
-    /// passes count. Where all refreshes came from the plant, the journal is driven by it.
+    /// The program and the book at the end: the journal runs to the book's image, holds as many entries as the passes count, and entered the
+    /// calls that the refresher's pass knows. Where all refreshes came from the plant, the journal is driven by it.
     pub fn close(self, tasks: Vec<TaskPass<G>>, pass: RefreshPass<G>) -> Closed
         ensures verified { result.verified ≡ G.program }
         ensures program { result.book.config ≡ G.program.config }
         ensures kept { Kept result.book }
         ensures tasks { All (λ p. p.count ≡ entries_by p.task result.book.journal) tasks.items }
         ensures refreshes { pass.refreshes ≡ entries_by refresher result.book.journal }
-        ensures entered { pass.entered ≡ entered_calls result.book.journal }
+        ensures entered { pass.entered ≡ calls_entered result.book.journal }
         ensures driven { pass.driven ≡ pass.refreshes → (plant : PlantState) × IsDrivenJournal G.program.config G.fire result.book.journal plant result.book.world }
     {
         let Station { program, book } = self;

@@ -1,1 +1,2 @@
+pub mod Panels
 pub mod Ran

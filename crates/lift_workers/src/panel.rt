@@ -1,7 +1,7 @@
 // The worker of a panel.
 
-ghost use Rattle.std.specs.Prelude.{◌≡◌, All, IfOk};
-ghost use Rattle.lift_desk.specs.Passes.{IsFloorOf};
+ghost use Rattle.std.specs.Prelude.{◌≡◌, [], ◌∷◌, false, All, IfOk};
+ghost use Rattle.lift_workers.specs.Panels.{IsPressAt, is_at, calls_at, HasPressed};
 
 use lift_desk::{Desk, PanelPass};
 use lift_host::press::Press;
@@ -9,34 +9,46 @@ use std::alloc::AllocError;
 use std::snapshot::Snapshot;
 use std::thread::{Promise, PromisedHandle, Scope};
 
-/// The desk of the pass that a panel's worker gives back.
+/// A panel as it was before its worker made its presses, and the presses of the run.
 #[derive(Drop)]
-pub struct OfDesk(pub Snapshot<Desk>);
+pub struct Pressing<'p> {
+    pub before: Snapshot<PanelPass>,
+    pub presses: Snapshot<&'p [Press]>,
+}
 
-impl Promise<PanelPass> for OfDesk {
-    ghost use Rattle.std.specs.Prelude.{◌≡◌};
+impl<'p> Promise<PanelPass> for Pressing<'p> {
+    ghost use Rattle.lift_workers.specs.Panels.{HasPressed};
 
-    ghost kept_by = { λ p pass. pass.table ≡ p.0.value.table };
+    ghost kept_by = { λ p pass. HasPressed p.before.value pass p.presses.value.now };
 }
 
 /// The handle of a panel's worker.
-pub type PanelHandle = PromisedHandle<PanelPass, OfDesk>;
+pub type PanelHandle<'p> = PromisedHandle<PanelPass, Pressing<'p>>;
 
 // Whether a press is for this panel.
-fn is_for(press: &Press, pass: &PanelPass) -> bool {
+fn is_for(press: &Press, pass: &PanelPass) -> bool
+    ensures { result ≡ is_at pass.now.floor pass.now.panel press.now }
+{
     press.from == u16::from(pass.floor()) && press.panel == u16::from(pass.panel())
 }
 
 /// Whether one of the presses is for this panel.
-pub fn is_pressed(pass: &PanelPass, presses: &[Press]) -> bool {
-    presses.iter().any(|press| is_for(press, pass))
+pub fn is_pressed(pass: &PanelPass, presses: &[Press]) -> bool
+    ensures { result ≡ false → calls_at pass.now.floor pass.now.panel presses.now ≡ [] }
+{
+    'presses: for press in presses {
+        if is_for(press, pass) {
+            return true;
+        }
+    }
+    false
 }
 
 /// Makes the presses that are for this panel, in their order.
 pub fn work(desk: &Desk, pass: PanelPass, presses: &[Press]) -> PanelPass
     requires table { pass.table ≡ desk.now.table }
-    requires floors { All (λ press. IsFloorOf desk.now.floors press.to) presses.now }
-    ensures { result.table ≡ pass.table }
+    requires presses { All (λ press. IsPressAt desk.now.floors press) presses.now }
+    ensures { HasPressed pass result presses.now }
 {
     let mut pass = pass;
     'presses: for press in presses {
@@ -48,8 +60,8 @@ pub fn work(desk: &Desk, pass: PanelPass, presses: &[Press]) -> PanelPass
 // Makes a press, if it is for this panel.
 fn press_if(desk: &Desk, pass: PanelPass, press: &Press) -> PanelPass
     requires table { pass.table ≡ desk.now.table }
-    requires to { IsFloorOf desk.now.floors press.now.to }
-    ensures { result.table ≡ pass.table }
+    requires press { IsPressAt desk.now.floors press.now }
+    ensures { HasPressed pass result (press.now ∷ []) }
 {
     let _floors = desk.floors();
     if !is_for(press, &pass) {
@@ -65,15 +77,19 @@ pub fn start<'s, E>(
     desk: &'s Desk,
     pass: PanelPass,
     presses: &'s [Press],
-) -> Result<PanelHandle, AllocError>
+) -> Result<PanelHandle<'s>, AllocError>
     requires table { pass.table ≡ desk.now.table }
-    requires floors { All (λ press. IsFloorOf desk.now.floors press.to) presses.now }
-    ensures { IfOk result (λ h. h.promise.0.value.table ≡ desk.now.table) }
+    requires presses { All (λ press. IsPressAt desk.now.floors press) presses.now }
+    ensures { IfOk result (λ h. (h.promise.before.value ≡ pass) × (h.promise.presses.value.now ≡ presses.now)) }
 {
+    let promise = Pressing {
+        before: Snapshot::of(&pass),
+        presses: Snapshot::of(&presses),
+    };
     let job = move || -> PanelPass
         requires table { pass.table ≡ desk.now.table }
-        requires floors { All (λ press. IsFloorOf desk.now.floors press.to) presses.now }
-        ensures { result.table ≡ desk.entry.now.table }
+        requires presses { All (λ press. IsPressAt desk.now.floors press) presses.now }
+        ensures { HasPressed pass result presses.entry.now }
     { work(desk, pass, presses) };
-    Ok(scope.spawn_with(OfDesk(Snapshot::of(desk)), job)?)
+    Ok(scope.spawn_with(promise, job)?)
 }

@@ -3,6 +3,7 @@
 ghost use Rattle.std.specs.Prelude.{◌≡◌, ◌+◌, IfOk};
 ghost use Rattle.lift_journal.specs.Rounds.{is_fire_in};
 ghost use Rattle.lift_spec.specs.Image.{sizes_of};
+ghost use Rattle.lift_workers.specs.Ran.{IsEntered};
 
 use crate::gate::Gate;
 use lift_desk::{Desk, HandPass};
@@ -38,8 +39,9 @@ pub struct RefreshRounds {
 
 impl<G: Naming> Promise<Result<Refresher<G>, StationFault>> for RefreshRounds {
     ghost use Rattle.std.specs.Prelude.{◌≡◌, IfOk};
+    ghost use Rattle.lift_workers.specs.Ran.{IsEntered};
 
-    ghost kept_by = { λ p r. IfOk r (λ d. (d.hand.table ≡ p.desk.value.table) × (d.pass.refreshes ≡ p.rounds) × (d.pass.driven ≡ p.rounds)) };
+    ghost kept_by = { λ p r. IfOk r (λ d. (d.hand.table ≡ p.desk.value.table) × (d.pass.refreshes ≡ p.rounds) × (d.pass.driven ≡ p.rounds) × IsEntered d.pass.entered d.hand) };
 }
 
 /// The handle of a refresher's worker.
@@ -57,8 +59,10 @@ fn round<G: Naming, R: Wait>(
     requires table { refresher.hand.table ≡ desk.now.table }
     requires floors { refresher.hand.floors ≡ (sizes_of G.program.config).floors }
     requires fire { fire ≡ G.fire (refresher.pass.refreshes + 1) }
+    requires entered { IsEntered refresher.pass.entered refresher.hand }
     ensures hand { IfOk result (λ r. (r.hand.table ≡ refresher.hand.table) × (r.hand.floors ≡ refresher.hand.floors)) }
     ensures counts { IfOk result (λ r. (r.pass.refreshes ≡ refresher.pass.refreshes + 1) × (r.pass.driven ≡ refresher.pass.driven + 1)) }
+    ensures entered { IfOk result (λ r. IsEntered r.pass.entered r.hand) }
 {
     let Refresher { pass, hand } = refresher;
     let hand = desk.gather(hand);
@@ -80,7 +84,9 @@ pub fn work<G: Naming, T: Gate, R: Wait>(
     requires table { refresher.hand.table ≡ desk.now.table }
     requires floors { refresher.hand.floors ≡ (sizes_of G.program.config).floors }
     requires fire { G.fire ≡ is_fire_in pace.fire }
-    ensures { IfOk result (λ d. (d.hand.table ≡ refresher.hand.table) × (d.pass.refreshes ≡ pace.rounds) × (d.pass.driven ≡ pace.rounds)) }
+    requires entered { IsEntered refresher.pass.entered refresher.hand }
+    ensures counts { IfOk result (λ d. (d.hand.table ≡ refresher.hand.table) × (d.pass.refreshes ≡ pace.rounds) × (d.pass.driven ≡ pace.rounds)) }
+    ensures entered { IfOk result (λ d. IsEntered d.pass.entered d.hand) }
 {
     let mut refresher = refresher;
     let mut report = Report::new();
@@ -114,6 +120,7 @@ pub fn start<'s, E, G: Naming + Send + Sync, T: Gate + Sync, R: Threads + Wait +
     requires table { refresher.hand.table ≡ desk.now.table }
     requires floors { refresher.hand.floors ≡ (sizes_of G.program.config).floors }
     requires fire { G.fire ≡ is_fire_in pace.fire }
+    requires entered { IsEntered refresher.pass.entered refresher.hand }
     ensures { IfOk result (λ h. (h.promise.rounds ≡ pace.rounds) × (h.promise.desk.value.table ≡ desk.now.table)) }
 {
     let job = move || -> Result<Refresher<G>, StationFault>
@@ -121,7 +128,8 @@ pub fn start<'s, E, G: Naming + Send + Sync, T: Gate + Sync, R: Threads + Wait +
         requires table { refresher.hand.table ≡ desk.now.table }
         requires floors { refresher.hand.floors ≡ (sizes_of G.program.config).floors }
         requires fire { G.fire ≡ is_fire_in pace.fire }
-        ensures { IfOk result (λ d. (d.hand.table ≡ desk.entry.now.table) × (d.pass.refreshes ≡ pace.rounds) × (d.pass.driven ≡ pace.rounds)) }
+        requires entered { IsEntered refresher.pass.entered refresher.hand }
+        ensures { IfOk result (λ d. (d.hand.table ≡ desk.entry.now.table) × (d.pass.refreshes ≡ pace.rounds) × (d.pass.driven ≡ pace.rounds) × IsEntered d.pass.entered d.hand) }
     { work(rt, station, desk, gate, refresher, pace) };
     let promise = RefreshRounds {
         rounds: pace.rounds,

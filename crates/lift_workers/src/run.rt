@@ -1,12 +1,15 @@
 // A run: its threads, and what they leave.
 
-ghost use Rattle.std.specs.Prelude.{◌≡◌, ◌+◌, ◌≤◌, ◌*◌, ℕ, All, map, filter, length, slice_index_or, IfOk, IsPermutation};
+ghost use Rattle.std.specs.Prelude.{◌≡◌, ◌+◌, ◌≤◌, ◌*◌, [], ℕ, All, map, filter, length, slice_index_or, sum_by, IfOk, IsPermutation};
+ghost use Rattle.lift_spec.specs.declared.calls.Call.{Call};
 ghost use Rattle.std.specs.Thread.{IsSync};
 ghost use Rattle.lift_spec.specs.Image.{sizes_of};
 ghost use Rattle.lift_journal.specs.Rounds.{is_fire_in};
-ghost use Rattle.lift_desk.specs.Passes.{IsFloorOf, AreAllPanels};
+ghost use Rattle.lift_desk.specs.Account.{times};
+ghost use Rattle.lift_desk.specs.Passes.{AreNewPanels, AreAllPanels};
 ghost use Rattle.lift_station.specs.Passes.{is_task, all_tasks};
-ghost use Rattle.lift_workers.specs.Ran.{IsRun};
+ghost use Rattle.lift_workers.specs.Panels.{IsPressAt, IsIdle, at_panel, ArePressed};
+ghost use Rattle.lift_workers.specs.Ran.{IsEntered, IsRun};
 
 use crate::fault::RunFault;
 use crate::gate::Gate;
@@ -14,7 +17,7 @@ use crate::panel::{PanelHandle, is_pressed};
 use crate::refresher::{Pace, Refresher};
 use crate::{panel, refresher, task};
 use il_machine::Verified;
-use lift_desk::{Desk, HandPass, PanelPass};
+use lift_desk::{Desk, DeskClosed, HandPass, PanelPass};
 use lift_host::press::Press;
 use lift_image::Sizes;
 use lift_spec::journal::Entry;
@@ -54,8 +57,8 @@ pub struct Passes<G: Naming> {
 
 /// The panels whose workers were started, and those that nobody presses.
 #[derive(Drop)]
-struct Panels {
-    pressed: Vec<PanelHandle>,
+struct Panels<'p> {
+    pressed: Vec<PanelHandle<'p>>,
     idle: Vec<PanelPass>,
 }
 
@@ -68,7 +71,7 @@ fn start_panels<'s, E>(
     presses: &'s [Press],
 ) -> Result<Panels, AllocError>
     requires tables { All (λ pass. pass.table ≡ desk.now.table) panels.items }
-    requires floors { All (λ press. IsFloorOf desk.now.floors press.to) presses.now }
+    requires floors { All (λ press. IsPressAt desk.now.floors press) presses.now }
     ensures count { IfOk result (λ p. length p.pressed.items + length p.idle.items ≡ length panels.items) }
     ensures pressed { IfOk result (λ p. All (λ h. h.promise.0.value.table ≡ desk.now.table) p.pressed.items) }
     ensures idle { IfOk result (λ p. All (λ pass. pass.table ≡ desk.now.table) p.idle.items) }
@@ -90,12 +93,14 @@ fn start_panels<'s, E>(
 fn join_panels<R: Threads>(
     rt: &R,
     desk: &Desk,
-    panels: Panels,
+    panels: Panels<'_>,
 ) -> Result<Vec<PanelPass>, AllocError>
-    requires pressed { All (λ h. h.promise.0.value.table ≡ desk.now.table) panels.pressed.items }
-    requires idle { All (λ pass. pass.table ≡ desk.now.table) panels.idle.items }
+    requires pressed { All (λ h. IsIdle desk.now.table h.promise.before.value) panels.pressed.items }
+    requires idle { All (λ pass. IsIdle desk.now.table pass) panels.idle.items }
     ensures count { IfOk result (λ ps. length ps.items ≡ length panels.pressed.items + length panels.idle.items) }
     ensures tables { IfOk result (λ ps. All (λ pass. pass.table ≡ desk.now.table) ps.items) }
+    ensures pressed { IfOk result (λ ps. (c : Call) → sum_by (λ p. times c p.pressed) ps.items ≡ sum_by (λ h. at_panel c h.promise.presses.value.now h.promise.before.value) panels.pressed.items) }
+    ensures news { IfOk result (λ ps. (c : Call) → sum_by (λ p. times c p.news) ps.items ≤ sum_by (λ p. times c p.pressed) ps.items) }
 {
     let Panels { pressed, idle } = panels;
     let mut pressed = pressed;
@@ -135,12 +140,16 @@ pub fn run_all<G: Naming + Send + Sync, T: Gate + Sync, R: Threads + Wait + Sync
     requires hand { crew.refresher.hand.table ≡ desk.now.table }
     requires floors { crew.refresher.hand.floors ≡ (sizes_of G.program.config).floors }
     requires fire { G.fire ≡ is_fire_in plan.fire }
-    requires panels { AreAllPanels desk.now crew.panels.items }
-    requires presses { All (λ press. IsFloorOf desk.now.floors press.to) plan.presses.now }
+    requires entered { IsEntered crew.refresher.pass.entered crew.refresher.hand }
+    requires each { desk.now.panels ≡ 4 }
+    requires panels { AreNewPanels desk.now crew.panels.items }
+    requires presses { All (λ press. IsPressAt desk.now.floors press) plan.presses.now }
     ensures tasks { IfOk result (λ p. map (λ q. q.task) p.tasks.items ≡ map (λ q. q.task) crew.tasks.items) }
     ensures counts { IfOk result (λ p. All (λ q. q.count ≡ plan.entry.rounds + plan.entry.rounds) p.tasks.items) }
     ensures refreshes { IfOk result (λ p. (p.refresher.pass.refreshes ≡ plan.entry.rounds) × (p.refresher.pass.driven ≡ plan.entry.rounds)) }
+    ensures entered { IfOk result (λ p. IsEntered p.refresher.pass.entered p.refresher.hand) }
     ensures desk { IfOk result (λ p. (p.refresher.hand.table ≡ desk.now.table) × AreAllPanels desk.now p.panels.items) }
+    ensures pressed { IfOk result (λ p. ArePressed plan.entry.presses.now p.panels.items) }
 {
     let Crew {
         tasks,
@@ -163,12 +172,16 @@ pub fn run_all<G: Naming + Send + Sync, T: Gate + Sync, R: Threads + Wait + Sync
             requires hand { refresher.hand.table ≡ desk.now.table }
             requires floors { refresher.hand.floors ≡ (sizes_of G.program.config).floors }
             requires fire { G.fire ≡ is_fire_in fire }
-            requires panels { AreAllPanels desk.now panels.items }
-            requires presses { All (λ press. IsFloorOf desk.now.floors press.to) presses.now }
+            requires entered { IsEntered refresher.pass.entered refresher.hand }
+            requires each { desk.now.panels ≡ 4 }
+            requires panels { AreNewPanels desk.now panels.items }
+            requires presses { All (λ press. IsPressAt desk.now.floors press) presses.now }
             ensures tasks { IfOk result (λ p. map (λ q. q.task) p.tasks.items ≡ map (λ q. q.task) tasks.items) }
             ensures counts { IfOk result (λ p. All (λ q. q.count ≡ rounds + rounds) p.tasks.items) }
             ensures refreshes { IfOk result (λ p. (p.refresher.pass.refreshes ≡ rounds) × (p.refresher.pass.driven ≡ rounds)) }
+            ensures entered { IfOk result (λ p. IsEntered p.refresher.pass.entered p.refresher.hand) }
             ensures desk { IfOk result (λ p. (p.refresher.hand.table ≡ desk.entry.now.table) × AreAllPanels desk.entry.now p.panels.items) }
+            ensures pressed { IfOk result (λ p. ArePressed presses.entry.now p.panels.items) }
         {
             let panels = start_panels(scope, alloc, desk, panels, presses)?;
             let tasks = or_give_up(
@@ -210,30 +223,57 @@ fn by_round(alloc: Global, presses: &[Press]) -> Result<Vec<Press>, AllocError>
     Ok(ordered)
 }
 
+// The presses by their rounds, and new ledgers.
+fn prepared(alloc: Global, presses: &[Press]) -> Result<(Vec<Press>, Blanks), AllocError>
+    ensures { IfOk result (λ r. IsPermutation presses.now r.0.items) }
+{
+    let ordered = by_round(alloc, presses)?;
+    Ok((ordered, Blanks::new(alloc)?))
+}
+
 // How many entries a journal gets in so many rounds.
 fn entries(verified: &Verified, rounds: u16) -> usize {
     let tasks = usize::from(verified.sizes().cars) + usize::from(verified.has_task(0));
     usize::from(rounds) * (1 + 2 * tasks)
 }
 
-// Closes the desk and the station: the journal.
-fn closed<G: Naming>(station: Station<G>, desk: Desk, passes: Passes<G>, rounds: u16) -> Vec<Entry>
+/// What a run leaves: its journal, and the calls that no refresh has entered yet.
+#[derive(Drop)]
+pub struct Ran {
+    pub journal: Vec<Entry>,
+    pub left: DeskClosed,
+}
+
+// Closes the desk and the station.
+fn closed<G: Naming>(
+    station: Station<G>,
+    desk: Desk,
+    passes: Passes<G>,
+    plan: Plan<'_>,
+) -> Ran
     requires tasks { map (λ q. q.task) passes.tasks.items ≡ filter (is_task G.program.config) all_tasks }
-    requires counts { All (λ q. q.count ≡ rounds + rounds) passes.tasks.items }
-    requires refreshes { (passes.refresher.pass.refreshes ≡ rounds) × (passes.refresher.pass.driven ≡ rounds) }
+    requires counts { All (λ q. q.count ≡ plan.rounds + plan.rounds) passes.tasks.items }
+    requires refreshes { (passes.refresher.pass.refreshes ≡ plan.rounds) × (passes.refresher.pass.driven ≡ plan.rounds) }
+    requires entered { IsEntered passes.refresher.pass.entered passes.refresher.hand }
+    requires floors { desk.floors ≡ (sizes_of G.program.config).floors }
     requires desk { (passes.refresher.hand.table ≡ desk.table) × AreAllPanels desk passes.panels.items }
-    ensures { IsRun G.program.config G.fire rounds result.items }
+    requires presses { All (λ press. IsPressAt desk.floors press) plan.presses.now }
+    requires pressed { ArePressed plan.presses.now passes.panels.items }
+    ensures { IsRun G.program.config G.fire plan.entry.rounds plan.entry.presses.now result.journal.items result.left }
 {
     let Passes {
         tasks,
         refresher,
         panels,
     } = passes;
-    desk.close(panels, refresher.hand);
+    let left = desk.close(panels, refresher.hand);
     let Closed { verified, book } = station.close(tasks, refresher.pass);
     let _config = verified.config();
     verified.release();
-    book.into_journal()
+    Ran {
+        journal: book.into_journal(),
+        left,
+    }
 }
 
 // A run of a station with its passes.
@@ -245,19 +285,21 @@ fn run_at<G: Naming + Send + Sync, T: Gate + Sync, R: Threads + Wait + Sync>(
     gate: &T,
     crew: Crew<G>,
     plan: Plan<'_>,
-) -> Result<Vec<Entry>, RunFault>
+) -> Result<Ran, RunFault>
     requires tasks { map (λ q. q.task) crew.tasks.items ≡ filter (is_task G.program.config) all_tasks }
     requires new { All (λ p. p.count ≡ 0) crew.tasks.items }
     requires refreshes { (crew.refresher.pass.refreshes ≡ 0) × (crew.refresher.pass.driven ≡ 0) }
     requires hand { crew.refresher.hand.table ≡ desk.table }
     requires floors { crew.refresher.hand.floors ≡ (sizes_of G.program.config).floors }
     requires fire { G.fire ≡ is_fire_in plan.fire }
-    requires panels { AreAllPanels desk crew.panels.items }
-    requires presses { All (λ press. IsFloorOf desk.floors press.to) plan.presses.now }
-    ensures { IfOk result (λ es. IsRun G.program.config G.fire plan.entry.rounds es.items) }
+    requires entered { IsEntered crew.refresher.pass.entered crew.refresher.hand }
+    requires size { (desk.floors ≡ (sizes_of G.program.config).floors) × (desk.panels ≡ 4) }
+    requires panels { AreNewPanels desk crew.panels.items }
+    requires presses { All (λ press. IsPressAt desk.floors press) plan.presses.now }
+    ensures { IfOk result (λ ran. IsRun G.program.config G.fire plan.entry.rounds plan.entry.presses.now ran.journal.items ran.left) }
 {
     match run_all(rt, alloc, &station, &desk, gate, crew, plan) {
-        Ok(passes) => Ok(closed(station, desk, passes, plan.rounds)),
+        Ok(passes) => Ok(closed(station, desk, passes, plan)),
         Err(fault) => {
             station.release();
             Err(fault)
@@ -276,9 +318,9 @@ struct Opened {
 // The desk of a group.
 fn desk_of(alloc: Global, sizes: Sizes) -> Result<Opened, AllocError>
     requires floors { (2 ≤ sizes.floors) × (sizes.floors ≤ 16) }
-    ensures floors { IfOk result (λ o. (o.desk.floors ≡ sizes.floors) × (o.hand.floors ≡ sizes.floors)) }
-    ensures hand { IfOk result (λ o. o.hand.table ≡ o.desk.table) }
-    ensures panels { IfOk result (λ o. AreAllPanels o.desk o.panels.items) }
+    ensures size { IfOk result (λ o. (o.desk.floors ≡ sizes.floors) × (o.desk.panels ≡ 4)) }
+    ensures hand { IfOk result (λ o. o.hand ≡ record { table = o.desk.table; floors = sizes.floors; hand = []; gathered = [] }) }
+    ensures panels { IfOk result (λ o. AreNewPanels o.desk o.panels.items) }
 {
     match Desk::new(alloc, sizes.floors, PANELS) {
         Ok((desk, panels, hand)) => Ok(Opened { desk, panels, hand }),
@@ -293,12 +335,13 @@ fn run_in<G: Naming + Send + Sync, T: Gate + Sync, R: Threads + Wait + Sync>(
     verified: Verified,
     gate: &T,
     plan: Plan<'_>,
-) -> Result<Vec<Entry>, RunFault>
+) -> Result<Ran, RunFault>
     requires program { verified ≡ G.program }
     requires fire { G.fire ≡ is_fire_in plan.fire }
-    requires names { (i : ℕ) → slice_index_or blanks i 0 ≡ G.names i }
-    requires presses { All (λ press. IsFloorOf (sizes_of verified.config).floors press.to) plan.presses.now }
-    ensures { IfOk result (λ es. IsRun G.program.config G.fire plan.entry.rounds es.items) }
+    requires names { (i : ℕ) → slice_index_or blanks.ledgers i 0 ≡ G.names i }
+    requires tally { blanks.tally ≡ G.tally }
+    requires presses { All (λ press. IsPressAt (sizes_of verified.config).floors press) plan.presses.now }
+    ensures { IfOk result (λ ran. IsRun G.program.config G.fire plan.entry.rounds plan.entry.presses.now ran.journal.items ran.left) }
 {
     let _config = verified.config();
     let sizes = verified.sizes();
@@ -327,7 +370,7 @@ fn run_in<G: Naming + Send + Sync, T: Gate + Sync, R: Threads + Wait + Sync>(
 }
 
 /// Runs a group in threads: one for each task, with so many scans, one that gathers calls and refreshes by the plant, so many times,
-/// and one for each panel that is pressed. The answer is the journal. Memory for all of its entries is reserved before the first thread starts; a thread that
+/// and one for each panel that is pressed. The answer is the journal, and the calls that are left. Memory for all of its entries is reserved before the first thread starts; a thread that
 /// can't be started ends the run with `OutOfMemory`, once the others have ended.
 pub fn run<T: Gate + Sync, R: Threads + Wait + Sync>(
     rt: &R,
@@ -335,17 +378,17 @@ pub fn run<T: Gate + Sync, R: Threads + Wait + Sync>(
     verified: Verified,
     gate: &T,
     plan: Plan<'_>,
-) -> Result<Vec<Entry>, RunFault>
-    requires presses { All (λ press. IsFloorOf (sizes_of verified.config).floors press.to) plan.presses.now }
-    ensures { IfOk result (λ es. IsRun verified.config (is_fire_in plan.entry.fire) plan.entry.rounds es.items) }
+) -> Result<Ran, RunFault>
+    requires presses { All (λ press. IsPressAt (sizes_of verified.config).floors press) plan.presses.now }
+    ensures { IfOk result (λ ran. IsRun verified.config (is_fire_in plan.entry.fire) plan.entry.rounds plan.entry.presses.now ran.journal.items ran.left) }
 {
-    match by_round(alloc, plan.presses) {
-        Ok(ordered) => {
+    match prepared(alloc, plan.presses) {
+        Ok((ordered, blanks)) => {
             let plan = Plan {
                 presses: &ordered,
                 ..plan
             };
-            run_in::<Brand, T, R>(rt, alloc, Blanks::new(), verified, gate, plan)
+            run_in::<Brand, T, R>(rt, alloc, blanks, verified, gate, plan)
         }
         Err(_) => {
             verified.release();

@@ -107,7 +107,8 @@ fn in_station<G: Naming, R: Print + Wait>(
     report: &mut Report,
 ) -> (HandPass, Result<(), Refusal>)
     requires program { verified ≡ G.program }
-    requires names { (i : ℕ) → slice_index_or blanks i 0 ≡ G.names i }
+    requires names { (i : ℕ) → slice_index_or blanks.ledgers i 0 ≡ G.names i }
+    requires tally { blanks.tally ≡ G.tally }
     requires fire { (i : ℕ) → G.fire i ≡ false }
     requires floors { collector.floors ≡ (sizes_of G.program.config).floors }
     ensures { (result.0.table ≡ collector.table) × (result.0.floors ≡ collector.floors) }
@@ -136,7 +137,13 @@ fn over<R: Print + Wait>(
         verified.release();
         return (collector, Ok(()));
     }
-    in_station::<Brand, R>(rt, alloc, Blanks::new(), verified, collector, report)
+    match Blanks::new(alloc) {
+        Ok(blanks) => in_station::<Brand, R>(rt, alloc, blanks, verified, collector, report),
+        Err(_) => {
+            verified.release();
+            (collector, Err(Refusal::Memory))
+        }
+    }
 }
 
 // The station of the program of the text, and each of its calls.

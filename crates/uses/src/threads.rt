@@ -66,7 +66,8 @@ fn run_in<G: Naming + Send + Sync, R: Threads + Wait + Sync>(
     verified: Verified,
 ) -> Result<Closed, Refusal>
     requires program { verified ≡ G.program }
-    requires names { (i : ℕ) → slice_index_or blanks i 0 ≡ G.names i }
+    requires names { (i : ℕ) → slice_index_or blanks.ledgers i 0 ≡ G.names i }
+    requires tally { blanks.tally ≡ G.tally }
     ensures { IfOk result (λ c. Kept c.book) }
 {
     let (station, passes, refresher) = Station::<G>::new(alloc, blanks, verified, ENTRIES)?;
@@ -83,6 +84,7 @@ fn run_in<G: Naming + Send + Sync, R: Threads + Wait + Sync>(
 pub fn run<R: Threads + Wait + Sync>(rt: &R, alloc: Global, text: &[u8]) -> Result<Closed, Refusal>
     ensures { IfOk result (λ c. Kept c.book) }
 {
+    let blanks = Blanks::new(alloc)?;
     let verified = load(alloc, text)?;
-    run_in::<Brand, R>(rt, alloc, Blanks::new(), verified)
+    run_in::<Brand, R>(rt, alloc, blanks, verified)
 }

@@ -75,10 +75,10 @@ fn cars_run_at_once(rt: HostRuntime) -> Result<(), Fail> {
         rounds: 3,
         fire: None,
     };
-    let Ok(journal) = run(&rt, rt.alloc(), verified, &gate, plan) else {
+    let Ok(ran) = run(&rt, rt.alloc(), verified, &gate, plan) else {
         panic!(&rt; "no memory")
     };
-    assert!(rt; journal.len() == 15);
+    assert!(rt; ran.journal.len() == 15);
     assert!(rt; gate.has_car_2_committed.load(Ordering::SeqCst));
     assert!(rt; !gate.has_waited_too_long.load(Ordering::SeqCst));
     Ok(())
@@ -116,11 +116,11 @@ fn together_a_round_ends_for_all_before_the_next_begins(rt: HostRuntime) -> Resu
         rounds: 20,
         fire: None,
     };
-    let Ok(journal) = run(&rt, rt.alloc(), verified, &Together::new(2), plan) else {
+    let Ok(ran) = run(&rt, rt.alloc(), verified, &Together::new(2), plan) else {
         panic!(&rt; "no memory")
     };
-    assert!(rt; journal.len() == 100);
-    for round in journal.chunks(5) {
+    assert!(rt; ran.journal.len() == 100);
+    for round in ran.journal.chunks(5) {
         assert!(rt; is_round(round));
     }
     Ok(())

@@ -518,7 +518,8 @@ fn play_in<G: Naming, R: Wait>(
     row: &[Step],
 ) -> Result<Played, Refusal>
     requires program { verified ≡ G.program }
-    requires names { (i : ℕ) → slice_index_or blanks i 0 ≡ G.names i }
+    requires names { (i : ℕ) → slice_index_or blanks.ledgers i 0 ≡ G.names i }
+    requires tally { blanks.tally ≡ G.tally }
     requires table { opened.2.table ≡ opened.0.table }
     requires floors { opened.2.floors ≡ (sizes_of G.program.config).floors }
     requires fire { (n : ℕ) → false ≡ G.fire n }
@@ -567,11 +568,11 @@ fn play_on<R: Wait>(
 {
     let _config = verified.config();
     let sizes = verified.sizes();
-    match desk_of(alloc, sizes, panels) {
-        Ok(opened) => {
-            play_in::<Brand, R>(rt, alloc, Blanks::new(), verified, capacity, opened, row)
+    match (desk_of(alloc, sizes, panels), Blanks::new(alloc)) {
+        (Ok(opened), Ok(blanks)) => {
+            play_in::<Brand, R>(rt, alloc, blanks, verified, capacity, opened, row)
         }
-        Err(_) => {
+        _ => {
             verified.release();
             Err(Refusal::Memory)
         }

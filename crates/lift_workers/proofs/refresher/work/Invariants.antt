@@ -1,4 +1,5 @@
 use Rattle.std.proofs.Common.{◌≡◌}
+use Rattle.lift_workers.specs.Ran.{IsEntered}
 use Rattle.lift_workers.proofs.refresher.work.Given as goal
 
 abbrev pub invariant-rounds : goal.invariant-rounds
@@ -7,4 +8,5 @@ invariant-rounds g l = record {
   floors : l.refresher.hand.floors ≡ l.fn.refresher.hand.floors;
   refreshes : l.refresher.pass.refreshes ≡ l.below;
   driven : l.refresher.pass.driven ≡ l.below;
+  entered : IsEntered l.refresher.pass.entered l.refresher.hand;
 }

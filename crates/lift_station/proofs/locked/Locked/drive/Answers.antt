@@ -1,11 +1,9 @@
-use Rattle.std.proofs.Common.{◌≡◌, ◌≤◌, ◌+◌, sym, ap, ap₂, ◌∙◌, subst, length, arith}
-use Rattle.std.proofs.lemmas.List.{length-map}
+use Rattle.std.proofs.Common.{◌≡◌, ◌≤◌, ◌+◌, refl, sym, ap, ap₂, ◌∙◌, subst, arith}
 use Rattle.il_machine.specs.Scanning.{Program, IsRunnable}
 use Rattle.il_machine.proofs.Sizes.{sizes_fit}
 use Rattle.lift_spec.specs.declared.image.Fields.{Fields}
 use Rattle.lift_spec.specs.declared.image.Image.{Image}
 use Rattle.lift_spec.specs.declared.journal.Entry.TheVariants as entry
-use Rattle.lift_spec.specs.declared.report.EnteredCall.{EnteredCall}
 use Rattle.lift_spec.specs.Image.{sizes_of}
 use Rattle.lift_spec.specs.Plant.{PlantState, IsPlantOf, plant_after, fields_of_plant}
 use Rattle.lift_spec.specs.Replies.{Refreshed}
@@ -14,7 +12,7 @@ use Rattle.lift_journal.specs.Pages.{Page, Adds}
 use Rattle.lift_station.specs.Counted.{IsNoneOrFull, calls_in}
 use Rattle.lift_station.proofs.AtPlant.{at_driven, driven_fault, fault_up}
 use Rattle.lift_station.proofs.Showing.{full_or_none}
-use Rattle.lift_station.proofs.Totals.{counted_refresh, counted_driven}
+use Rattle.lift_station.proofs.Totals.{counted_more, counted_driven, tally_more}
 use Rattle.lift_station.proofs.locked.Locked.drive.Goals as goal
 
 pub returns-in_err-refresh-clause-full : goal.returns-in_err-refresh-clause-full
@@ -38,17 +36,17 @@ invariant_of-self-2 g c =
     let a = c.audit_refreshes.ensures in
     let adds = c.in_ok-refresh.ensures.done in
     let calls = calls_in c.refresh.new.report in
-    let many : c.len-entered.result ≡ length calls = c.len-entered.ensures.count ∙ sym (length-map c.refresh.new.report.entered (λ (d : EnteredCall). d.call)) in
     let moved : next ≡ plant_after (record before { fire = c.args.fire }) b.world.group.image.outputs =
     c.plant_step-plant.ensures.plant ∙ ap₂ (λ (p : PlantState) (i : Image). plant_after p i.outputs) (c.with_fire-before.ensures.plant ∙ ap (λ (p : PlantState). record p { fire = c.args.fire }) c.copied.ensures) c.image.ensures in
     let burns = c.requires.fire ∙ ap (λ n. g.G.Naming.fire (n + 1)) (a.refreshes ∙ ap (λ (l : Page). entries_by refresher l.journal) (sym (c.self.view_is ∙ a.same.0))) in
     let sized = c.plant_step-plant.ensures.sized (sizes_of config) (c.with_fire-before.ensures.sized (sizes_of config) (subst (IsPlantOf (sizes_of config)) (sym c.copied.ensures) c.self.invariant.2.sized)) in
-    let counted = counted_refresh c.self.inside.counts b.journal c.refresh.new.self.journal c.plant_step-plant.result.1 calls c.len-entered.result c.self.invariant.1 adds.journal many in
-    let at = at_driven config g.G.Naming.fire c.args.fire c.self.inside.counts b c.refresh.new.self before next c.plant_step-plant.result.1 calls _ c.len-entered.result c.self.invariant.1 c.self.invariant.0 adds burns (moved, c.plant_step-plant.ensures.fields) sized c.self.invariant.2
+    let counted = counted_more c.self.inside.counts b.journal c.refresh.new.self.journal (entry.Refresh c.plant_step-plant.result.1 calls) 9 c.self.invariant.1 adds.journal refl (omega arith) in
+    let at = at_driven config g.G.Naming.fire c.args.fire c.self.inside.counts b c.refresh.new.self before next c.plant_step-plant.result.1 calls _ c.self.invariant.1 c.self.invariant.0 adds burns (moved, c.plant_step-plant.ensures.fields) sized c.self.invariant.2
     c.count_refresh.new.self c.count_refresh.ensures.total in (
       adds.config ∙ c.self.invariant.0,
       rw c.count_driven.ensures.total (counted_driven c.count_refresh.new.self c.refresh.new.self.journal _ (rw c.count_refresh.ensures.total counted)),
       rw c.count_driven.ensures.total at,
+      c.add.ensures.more.0 ∙ tally_more c.self.inside.entered b.journal c.refresh.new.self.journal (entry.Refresh c.plant_step-plant.result.1 calls) c.self.invariant.3 adds.journal,
     )
 
 pub returns-clause-report : goal.returns-clause-report

@@ -2,7 +2,7 @@ use Rattle.std.proofs.Common.{◌<◌, refl, ap, ◌∙◌, arith}
 use Rattle.lift_spec.specs.declared.journal.Entry.TheVariants as entry
 use Rattle.lift_station.specs.Passes.{task_of, count_of}
 use Rattle.lift_station.proofs.AtPlant.{at_scanned}
-use Rattle.lift_station.proofs.Totals.{counted_more}
+use Rattle.lift_station.proofs.Totals.{counted_more, tally_stays}
 use Rattle.lift_station.proofs.Showing.{begun_under, odd_under, even_under}
 use Rattle.lift_station.proofs.locked.Locked.start.Goals as goal
 
@@ -34,9 +34,9 @@ pub invariant_of-self : goal.invariant_of-self
 invariant_of-self g c =
     let adds = c.in-Ok.ensures.done in
     let low : task_of c.audit.new.share < 10 = omega (arith, c.task.ensures.0, c.task.ensures.1) in
-    let all = counted_more c.self.inside.counts c.self.inside.book.journal c.start.new.self.journal (entry.Start c.task.result) (task_of c.audit.new.share) c.self.invariant.1 adds.journal c.task.ensures.0 low refl in
+    let all = counted_more c.self.inside.counts c.self.inside.book.journal c.start.new.self.journal (entry.Start c.task.result) (task_of c.audit.new.share) c.self.invariant.1 adds.journal c.task.ensures.0 low in
     let few : task_of c.audit.new.share < 9 = omega (arith, c.task.ensures.0, c.task.ensures.1) in
     let config = g.G.Naming.program.config in
     let plant = c.self.inside.plant in
     let at = at_scanned config g.G.Naming.fire c.self.inside.counts c.self.inside.book c.start.new.self plant (entry.Start c.task.result) _ (task_of c.audit.new.share) _ few c.self.invariant.0 adds (λ f w. refl) c.self.invariant.2 in
-    (adds.config ∙ c.self.invariant.0, rw c.count.ensures.total all, rw c.count.ensures.total at)
+    (adds.config ∙ c.self.invariant.0, rw c.count.ensures.total all, rw c.count.ensures.total at, tally_stays c.self.inside.entered c.self.inside.book.journal c.start.new.self.journal (entry.Start c.task.result) c.self.invariant.3 adds.journal refl)
