@@ -2,6 +2,7 @@
 
 ghost use Rattle.std.specs.Prelude.{◌≡◌, ◌++◌, true, OnOk, OnErr, decimal};
 ghost use Rattle.std.specs.Io.KnownBytes.{Appends};
+ghost use Rattle.lift_sink.specs.Writes.{AppendsFront};
 ghost use Rattle.lift_host.specs.Messages.{message_of, status_of, code_of};
 
 use crate::files::{Cause, ReadFault};
@@ -134,6 +135,7 @@ impl Fault {
     pub fn put<S: Sink>(&self, sink: &mut S) -> Result<(), SinkFault>
         ensures ok { OnOk result (Appends (S.contents sink.old) (S.contents sink.new) (message_of self.now)) }
         ensures failed { OnErr result (S.has_failed sink.new ≡ true) }
+        ensures front { OnErr result (AppendsFront (S.contents sink.old) (S.contents sink.new) (message_of self.now)) }
     {
         match self {
             Fault::Misuse(text) => put_all(sink, text.as_bytes()),
@@ -153,6 +155,7 @@ impl Fault {
 fn put_refusal<S: Sink>(sink: &mut S, number: u16, line: u32) -> Result<(), SinkFault>
     ensures ok { OnOk result (Appends (S.contents sink.old) (S.contents sink.new) (message_of (Fault.Refused number line))) }
     ensures failed { OnErr result (S.has_failed sink.new ≡ true) }
+    ensures front { OnErr result (AppendsFront (S.contents sink.old) (S.contents sink.new) (message_of (Fault.Refused number line))) }
 {
     put_numbered(sink, b"refused ", u32::from(number))?;
     put_numbered(sink, b" at line ", line)?;
@@ -163,6 +166,7 @@ fn put_refusal<S: Sink>(sink: &mut S, number: u16, line: u32) -> Result<(), Sink
 fn put_numbered<S: Sink>(sink: &mut S, text: &[u8], number: u32) -> Result<(), SinkFault>
     ensures ok { OnOk result (Appends (S.contents sink.old) (S.contents sink.new) (text.now ++ decimal number)) }
     ensures failed { OnErr result (S.has_failed sink.new ≡ true) }
+    ensures front { OnErr result (AppendsFront (S.contents sink.old) (S.contents sink.new) (text.now ++ decimal number)) }
 {
     put_all(sink, text)?;
     put_number(sink, number)
@@ -172,6 +176,7 @@ fn put_numbered<S: Sink>(sink: &mut S, text: &[u8], number: u32) -> Result<(), S
 fn put_number<S: Sink>(sink: &mut S, number: u32) -> Result<(), SinkFault>
     ensures ok { OnOk result (Appends (S.contents sink.old) (S.contents sink.new) (decimal number)) }
     ensures failed { OnErr result (S.has_failed sink.new ≡ true) }
+    ensures front { OnErr result (AppendsFront (S.contents sink.old) (S.contents sink.new) (decimal number)) }
 {
     let mut buffer = Buffer::new();
     put_all(sink, buffer.format(number).as_bytes())

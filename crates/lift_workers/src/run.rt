@@ -69,12 +69,13 @@ fn start_panels<'s, E>(
     desk: &'s Desk,
     panels: Vec<PanelPass>,
     presses: &'s [Press],
-) -> Result<Panels, AllocError>
-    requires tables { All (λ pass. pass.table ≡ desk.now.table) panels.items }
-    requires floors { All (λ press. IsPressAt desk.now.floors press) presses.now }
+) -> Result<Panels<'s>, AllocError>
+    requires new { All (λ pass. IsIdle desk.now.table pass) panels.items }
+    requires presses { All (λ press. IsPressAt desk.now.floors press) presses.now }
     ensures count { IfOk result (λ p. length p.pressed.items + length p.idle.items ≡ length panels.items) }
-    ensures pressed { IfOk result (λ p. All (λ h. h.promise.0.value.table ≡ desk.now.table) p.pressed.items) }
-    ensures idle { IfOk result (λ p. All (λ pass. pass.table ≡ desk.now.table) p.idle.items) }
+    ensures pressed { IfOk result (λ p. All (λ h. IsIdle desk.now.table h.promise.before.value) p.pressed.items) }
+    ensures idle { IfOk result (λ p. All (λ pass. IsIdle desk.now.table pass) p.idle.items) }
+    ensures made { IfOk result (λ p. (c : Call) → sum_by (λ h. at_panel c h.promise.presses.value.now h.promise.before.value) p.pressed.items ≡ sum_by (λ pass. at_panel c presses.now pass) panels.items) }
 {
     let mut panels = panels;
     let mut pressed = Vec::new(alloc);
@@ -97,9 +98,9 @@ fn join_panels<R: Threads>(
 ) -> Result<Vec<PanelPass>, AllocError>
     requires pressed { All (λ h. IsIdle desk.now.table h.promise.before.value) panels.pressed.items }
     requires idle { All (λ pass. IsIdle desk.now.table pass) panels.idle.items }
-    ensures count { IfOk result (λ ps. length ps.items ≡ length panels.pressed.items + length panels.idle.items) }
+    ensures count { IfOk result (λ ps. length ps.items ≡ length panels.entry.pressed.items + length panels.entry.idle.items) }
     ensures tables { IfOk result (λ ps. All (λ pass. pass.table ≡ desk.now.table) ps.items) }
-    ensures pressed { IfOk result (λ ps. (c : Call) → sum_by (λ p. times c p.pressed) ps.items ≡ sum_by (λ h. at_panel c h.promise.presses.value.now h.promise.before.value) panels.pressed.items) }
+    ensures pressed { IfOk result (λ ps. (c : Call) → sum_by (λ p. times c p.pressed) ps.items ≡ sum_by (λ h. at_panel c h.promise.presses.value.now h.promise.before.value) panels.entry.pressed.items) }
     ensures news { IfOk result (λ ps. (c : Call) → sum_by (λ p. times c p.news) ps.items ≤ sum_by (λ p. times c p.pressed) ps.items) }
 {
     let Panels { pressed, idle } = panels;

@@ -8,7 +8,7 @@ abbrev pub invariant-panels : goal.invariant-panels
 invariant-panels g l = record {
   count : length l.pressed.items + length l.idle.items + length l.panels.items ≡ length l.fn.panels.items;
   panels : All (λ p. IsIdle l.fn.desk.table p) l.panels.items;
-  pressed : All (λ h. (IsIdle l.fn.desk.table h.promise.before.value) × (h.promise.presses.value.now ≡ l.fn.presses.now)) l.pressed.items;
+  pressed : All (λ h. IsIdle l.fn.desk.table h.promise.before.value) l.pressed.items;
   idle : All (λ p. IsIdle l.fn.desk.table p) l.idle.items;
   made : (c : Call) → sum_by (λ h. at_panel c h.promise.presses.value.now h.promise.before.value) l.pressed.items + sum_by (λ p. at_panel c l.presses p) l.panels.items ≡ sum_by (λ p. at_panel c l.presses p) l.fn.panels.items;
 }
