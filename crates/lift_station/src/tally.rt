@@ -197,9 +197,7 @@ impl<G: Naming> Tally<G> {
     {
         let mut seat: Seat<u64, View> = mem::replace(&mut self.half, Badge::blank()).into_seat();
         let other: Seat<u64, View> = mem::replace(&mut mark.half, Badge::blank()).into_seat();
-        self.table
-            .shared
-            .join_seat::<Together>(&mut seat, other);
+        self.table.shared.join_seat::<Together>(&mut seat, other);
         self.table.shared.load::<Enter<E>>(&mut seat, 0);
         let other = self.table.shared.split_seat::<Apart>(&mut seat);
         self.half = seat.into_badge();

@@ -246,12 +246,7 @@ pub struct Ran {
 }
 
 // Closes the desk and the station.
-fn closed<G: Naming>(
-    station: Station<G>,
-    desk: Desk,
-    passes: Passes<G>,
-    plan: Plan<'_>,
-) -> Ran
+fn closed<G: Naming>(station: Station<G>, desk: Desk, passes: Passes<G>, plan: Plan<'_>) -> Ran
     requires tasks { map (λ q. q.task) passes.tasks.items ≡ filter (is_task G.program.config) all_tasks }
     requires counts { All (λ q. q.count ≡ plan.rounds + plan.rounds) passes.tasks.items }
     requires refreshes { (passes.refresher.pass.refreshes ≡ plan.rounds) × (passes.refresher.pass.driven ≡ plan.rounds) }
