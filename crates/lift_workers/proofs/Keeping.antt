@@ -1,6 +1,6 @@
 -- No press of a run is lost, and none is doubled.
-use Rattle.std.proofs.Common.{◌≡◌, ℕ, ◌+◌, ◌<◌, ◌≤◌, Bool, true, false, List, [], ◌∷◌, ◌++◌, map, refl, sym, ap, ◌∙◌, arith, subst}
-use Rattle.std.specs.Prelude.{All, sum_by, if◌then◌else◌, IsPermutation}
+use Rattle.std.proofs.Common.{◌≡◌, ℕ, zero, suc, ◌+◌, ◌<◌, ◌≤◌, Bool, true, false, List, [], ◌∷◌, ◌++◌, map, refl, sym, ap, ◌∙◌, arith, subst}
+use Rattle.std.specs.Prelude.{All, sum_by, if◌then◌else◌, IsPermutation, Result, Ok, Err, IfOk, OnOk}
 use Rattle.std.proofs.lemmas.List.Elements.{All-head, All-tail}
 use Rattle.std.proofs.lemmas.List.Sums.{sum_by-cons}
 use Rattle.std.proofs.lemmas.List.Sorted.{sum_by-IsPermutation}
@@ -8,15 +8,17 @@ use Rattle.atomic_table.specs.Seated.{TableId}
 use Rattle.lift_desk.specs.Account.{times, membership}
 use Rattle.lift_desk.specs.Passes.{Panel, Holding, Gathered, IsBalanced, AreAnsweredNew, IsFloorOf}
 use Rattle.lift_desk.specs.declared.desk.DeskClosed.{DeskClosed}
-use Rattle.lift_desk.proofs.Sums.{times-append}
+use Rattle.lift_desk.proofs.Sums.{times-append, sum-push}
 use Rattle.lift_host.specs.declared.press.Press.{Press}
 use Rattle.lift_journal.specs.Journal.{calls_entered}
 use Rattle.lift_runs.specs.Driven.{call_of}
 use Rattle.lift_spec.specs.declared.calls.Call.{Call}
 use Rattle.lift_spec.specs.declared.journal.Entry.{Entry}
 use Rattle.lift_spec.specs.Hands.{same_call}
-use Rattle.lift_workers.specs.Panels.{HasPressed, IsIdle, at_panel, pressed, ArePressed}
-use Rattle.lift_workers.specs.Ran.{IsEntered, found, AreKept}
+use Rattle.lift_workers.specs.Panels.{HasPressed, IsIdle, calls_at, at_panel, pressed, ArePressed}
+use Rattle.lift_workers.specs.Ran.{IsEntered, found, AreKept, IsRun}
+use Rattle.lift_workers.specs.declared.run.Ran.{Ran}
+use Rattle.il_spec.specs.declared.tree.Config.{Config}
 
 -- PANELS
 
@@ -37,7 +39,7 @@ idle_news table (p ∷ ps) all c =
 
 -- a panel that was idle pressed its own calls alone
 pub own_pressed : (table : TableId) (p q : Panel) (presses : List Press) → IsIdle table p → HasPressed p q presses → (c : Call) → times c q.pressed ≡ at_panel c presses p
-own_pressed table p q presses idle has c = ap (times c) has.pressed ∙ ap (λ cs. times c (cs ++ _)) idle.2
+own_pressed table p q presses idle has c = ap (times c) has.pressed ∙ ap (λ cs. times c (cs ++ calls_at p.floor p.panel presses)) idle.2
 
 pub own_news : (table : TableId) (p q : Panel) (presses : List Press) → IsIdle table p → HasPressed p q presses → (c : Call) → times c q.news ≤ times c q.pressed
 own_news table p q presses idle has c = omega (arith, has.news c, ap (times c) idle.1, ap (times c) idle.2)
@@ -79,3 +81,45 @@ kept_same floors xs ys entries left same kept = record {
   lost = λ c from to more. kept.lost c from to (omega (arith, more, pressed_same xs ys same c));
   doubled = λ c from to. omega (arith, kept.doubled c from to, pressed_same xs ys same c);
 }
+
+run_same : (c : Config) (fire : ℕ → Bool) (rounds : ℕ) (xs ys : List Press) (entries : List Entry) (left : DeskClosed) → IsPermutation xs ys → IsRun c fire rounds ys entries left → IsRun c fire rounds xs entries left
+run_same c fire rounds xs ys entries left same run = record {
+  world = run.world;
+  journal = run.journal;
+  tasks = run.tasks;
+  refreshes = run.refreshes;
+  plant = run.plant;
+  safe = run.safe;
+  kept = kept_same _ xs ys entries left same run.kept;
+}
+
+pub ran_same : {E : Type 0} (c : Config) (fire : ℕ → Bool) (rounds : ℕ) (xs ys : List Press) (r : Result Ran E) → IsPermutation xs ys
+    → IfOk r (λ (ran : Ran). IsRun c fire rounds ys ran.journal.items ran.left) → IfOk r (λ (ran : Ran). IsRun c fire rounds xs ran.journal.items ran.left)
+ran_same c fire rounds xs ys (Ok ran) same run = run_same c fire rounds xs ys ran.journal.items ran.left same run
+ran_same c fire rounds xs ys (Err e) same run = tt
+
+-- LOOPS
+
+-- what was started makes what was left to be made
+pub made_more : {H : Type 0} (started now : List H) (h : H) (f : H → ℕ) (rest here left all : ℕ) → now ≡ started ++ h ∷ [] → sum_by f started + left ≡ all → left ≡ rest + here → f h ≡ here → sum_by f now + rest ≡ all
+made_more started now h f rest here left all is was split one = omega (arith, was, split, one, ap (sum_by f) is ∙ sum-push f started h)
+
+-- what holds where a call is done holds where it was
+pub on_ok : {A E : Type 0} (r : Result A E) (x : A) (Q : Type 0) → r ≡ Ok x → OnOk r Q → Q
+on_ok r x Q is done = subst (λ t. OnOk t Q) is done
+
+pub sum_last : {X : Type 0} (now xs : List X) (x : X) (f : X → ℕ) → now ≡ xs ++ x ∷ [] → sum_by f now ≡ sum_by f xs + f x
+sum_last now xs x f is = ap (sum_by f) is ∙ sum-push f xs x
+
+all_last : {X : Type 0} (P : X → Type 0) (xs : List X) (x : X) → All P (xs ++ x ∷ []) → P x
+all_last P [] x all = all 0 x (omega arith)
+all_last P (y ∷ ys) x all = all_last P ys x (λ k d low. all (suc k) d (omega (arith, low)))
+
+all_others : {X : Type 0} (P : X → Type 0) (xs : List X) (x : X) → All P (xs ++ x ∷ []) → All P xs
+all_others P [] x all k d low = absurd (omega (arith, low))
+all_others P (y ∷ ys) x all zero d low = all 0 d (omega arith)
+all_others P (y ∷ ys) x all (suc k) d low = all_others P ys x (λ k d low. all (suc k) d (omega (arith, low))) k d (omega (arith, low))
+
+-- what holds of all holds of the others and of the last
+pub all_but_last : {X : Type 0} (now xs : List X) (x : X) → now ≡ xs ++ x ∷ [] → (P : X → Type 0) → All P now → All P xs × P x
+all_but_last now xs x is P all = let a = subst (All P) is all in (all_others P xs x a, all_last P xs x a)

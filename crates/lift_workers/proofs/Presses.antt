@@ -1,5 +1,5 @@
 -- What panels make of the presses of a run.
-use Rattle.std.proofs.Common.{◌≡◌, ◌≢◌, ℕ, zero, suc, ◌+◌, ◌*◌, ◌/◌, ◌%◌, ◌<◌, ◌≤◌, Bool, true, false, ◌&&◌, ◌==◌, List, [], ◌∷◌, ◌++◌, length, map, filter, refl, sym, ap, ap₂, ◌∙◌, arith, subst, append_assoc, append-nil, ne_eqb, eqb-true, take, get_or}
+use Rattle.std.proofs.Common.{◌≡◌, ◌≢◌, ℕ, zero, suc, ◌+◌, ◌-◌, ◌*◌, ◌/◌, ◌%◌, ◌<◌, ◌≤◌, Bool, true, false, ◌&&◌, ◌==◌, List, [], ◌∷◌, ◌++◌, length, map, filter, refl, sym, ap, ap₂, ◌∙◌, arith, subst, append_assoc, append-nil, ne_eqb, eqb-true, take, get_or}
 use Rattle.std.specs.Prelude.{All, slice_get, Some, sum_by, if◌then◌else◌}
 use Rattle.std.proofs.lemmas.Bool.{and_left, and_right}
 use Rattle.std.proofs.lemmas.Bool.Decides.{nat_tests}
@@ -12,10 +12,13 @@ use Rattle.lift_desk.specs.declared.desk.Pressed.{Pressed}
 use Rattle.lift_desk.specs.declared.desk.Pressed.TheVariants.{New, Already, SameFloor}
 use Rattle.lift_desk.proofs.Sums.{times-append}
 use Rattle.lift_host.specs.declared.press.Press.{Press}
-use Rattle.lift_run_laws.proofs.Lists.{both_true}
 use Rattle.lift_runs.specs.Driven.{call_of}
 use Rattle.lift_spec.specs.declared.calls.Call.{Call}
 use Rattle.lift_workers.specs.Panels.{IsPressAt, is_at, calls_at, HasPressed, IsIdle, at_panel, pressed}
+
+both_true : (a b : Bool) → (a && b) ≡ true → (a ≡ true) × (b ≡ true)
+both_true true b e = (refl, e)
+both_true false b e = cc
 
 -- CALLS OF A PANEL
 
@@ -27,11 +30,11 @@ calls_one floor panel press is = rw is refl
 
 pub calls_append : (floor panel : ℕ) (xs ys : List Press) → calls_at floor panel (xs ++ ys) ≡ calls_at floor panel xs ++ calls_at floor panel ys
 calls_append floor panel [] ys = refl
-calls_append floor panel (x ∷ xs) ys = by (is_at floor panel x) refl
+calls_append floor panel (x ∷ xs) ys = by (is_at floor panel x) refl (calls_append floor panel xs ys)
   where
-    by : (b : Bool) → is_at floor panel x ≡ b → calls_at floor panel ((x ∷ xs) ++ ys) ≡ calls_at floor panel (x ∷ xs) ++ calls_at floor panel ys
-    by true e = rw e (ap (λ cs. call_of x ∷ cs) (calls_append floor panel xs ys))
-    by false e = rw e (calls_append floor panel xs ys)
+    by : (b : Bool) → is_at floor panel x ≡ b → calls_at floor panel (xs ++ ys) ≡ calls_at floor panel xs ++ calls_at floor panel ys → calls_at floor panel ((x ∷ xs) ++ ys) ≡ calls_at floor panel (x ∷ xs) ++ calls_at floor panel ys
+    by true e rest = rw e (ap (λ cs. call_of x ∷ cs) rest)
+    by false e rest = rw e rest
 
 at_more : (c : Call) (x : Press) (xs : List Press) (p : Panel) → at_panel c (x ∷ xs) p ≡ at_panel c (x ∷ []) p + at_panel c xs p
 at_more c x xs p = ap (times c) (calls_append p.floor p.panel (x ∷ []) xs) ∙ times-append c (calls_at p.floor p.panel (x ∷ [])) (calls_at p.floor p.panel xs)
@@ -185,4 +188,4 @@ pub pressed_next : (p q r : Panel) (presses : List Press) (i : ℕ) (x : Press) 
 pressed_next p q r presses i x low is first next = subst (HasPressed p r) (sym (take_more presses i x low ∙ ap (λ y. take i presses ++ y ∷ []) (sym is))) (pressed_on p q r (take i presses) x first next)
 
 pub lack_next : (floor panel : ℕ) (presses : List Press) (i : ℕ) (x : Press) → i < length presses → x ≡ get_or presses i x → calls_at floor panel (take i presses) ≡ [] → is_at floor panel x ≡ false → calls_at floor panel (take (i + 1) presses) ≡ []
-lack_next floor panel presses i x low is none no = ap (calls_at floor panel) (take_more presses i x low ∙ ap (λ y. take i presses ++ y ∷ []) (sym is)) ∙ calls_lack floor panel (take i presses) x none no
+lack_next floor panel presses i x low is lack other = ap (calls_at floor panel) (take_more presses i x low ∙ ap (λ y. take i presses ++ y ∷ []) (sym is)) ∙ calls_lack floor panel (take i presses) x lack other

@@ -1,6 +1,6 @@
 use Rattle.std.proofs.Common.{◌≤◌, sym, ap, ◌∙◌, subst}
 use Rattle.std.specs.Prelude.{All}
-use Rattle.lift_desk.specs.Passes.{IsFloorOf}
+use Rattle.lift_workers.specs.Panels.{IsPressAt}
 use Rattle.lift_host.specs.declared.press.Press.{Press}
 use Rattle.lift_spec.specs.declared.image.Sizes.{Sizes}
 use Rattle.il_machine.proofs.Sizes.{sizes_fit}
@@ -12,4 +12,4 @@ desk_of-requires g c =
 
 pub run_at-requires-clause-presses : goal.run_at-requires-clause-presses
 run_at-requires-clause-presses g c κs within =
-    subst (λ n. All (λ (p : Press). IsFloorOf n p.to) c.args.plan.presses.now) (sym (c.in-Ok-desk_of.ensures.floors.0 ∙ ap (λ (s : Sizes). s.floors) c.sizes-sizes.ensures)) c.requires.presses
+    subst (λ n. All (λ (p : Press). IsPressAt n p) c.args.plan.presses.now) (sym (c.in-Ok-desk_of.ensures.size.0 ∙ ap (λ (s : Sizes). s.floors) c.sizes-sizes.ensures)) c.requires.presses
