@@ -568,11 +568,13 @@ fn play_on<R: Wait>(
 {
     let _config = verified.config();
     let sizes = verified.sizes();
-    match (desk_of(alloc, sizes, panels), Blanks::new(alloc)) {
-        (Ok(opened), Ok(blanks)) => {
-            play_in::<Brand, R>(rt, alloc, blanks, verified, capacity, opened, row)
-        }
-        _ => {
+    let Ok(blanks) = Blanks::new(alloc) else {
+        verified.release();
+        return Err(Refusal::Memory);
+    };
+    match desk_of(alloc, sizes, panels) {
+        Ok(opened) => { play_in::<Brand, R>(rt, alloc, blanks, verified, capacity, opened, row) }
+        Err(_) => {
             verified.release();
             Err(Refusal::Memory)
         }
