@@ -1,0 +1,115 @@
+"""What a run of a building says: figures of its passengers and calls, as text and as CSV."""
+import csv
+from dataclasses import dataclass
+from typing import TextIO
+
+from lib.building import ROUND, Building
+from lib.traffic import FIVE_MINUTES
+
+MINUTE = 60  # s
+
+
+@dataclass(frozen=True)
+class Spread:
+    """Of some times in seconds; all 0 where there are none."""
+
+    mean: float
+    median: float
+    most: float  # 95 of 100 are at most this
+    greatest: float
+
+
+def share(ordered: list[float], part: float) -> float:
+    """The least value that is not below this part of all of them."""
+    return ordered[max(0, -int(-part * len(ordered) // 1) - 1)]
+
+
+def spread(times: list[float]) -> Spread:
+    if not times:
+        return Spread(0, 0, 0, 0)
+    ordered = sorted(times)
+    return Spread(sum(ordered) / len(ordered), share(ordered, 0.5), share(ordered, 0.95), ordered[-1])
+
+
+@dataclass(frozen=True)
+class Figures:
+    counted: int  # passengers who arrived behind the warm-up
+    waiting: Spread  # arrival to boarding, of those counted who boarded
+    journey: Spread  # arrival to leaving, of those counted who left
+    waiting_to_door: Spread  # arrival until the door begins to open
+    journey_to_door: Spread
+    handled: float  # persons carried in five minutes
+    mean_load: float  # persons, of the starts with somebody aboard
+    greatest_load: int
+    pressed_again: int  # passengers
+    found_full: int  # passengers
+
+
+def figures(building: Building, begin: float, end: float) -> Figures:
+    """Of the passengers who arrived behind `begin`; handled from there to `end`, both in seconds."""
+    people = [it for it in building.people[: building.arrived] if it.arrived > begin]
+    boarded, left = [it for it in people if it.boarded >= 0], [it for it in people if it.left >= 0]
+    carried = sum(begin < it.left <= end for it in building.people)
+    starts = sum(car.left_loaded for car in building.cars)
+    return Figures(
+        len(people),
+        spread([it.boarded - it.arrived for it in boarded]),
+        spread([it.left - it.arrived for it in left]),
+        spread([max(0.0, it.door_boarding - it.arrived) for it in boarded]),
+        spread([max(0.0, it.door_leaving - it.arrived) for it in left]),
+        carried * FIVE_MINUTES / (end - begin),
+        sum(car.loads for car in building.cars) / starts if starts else 0.0,
+        max(car.greatest for car in building.cars),
+        sum(it.presses > 1 for it in people),
+        sum(it.found_full > 0 for it in people),
+    )
+
+
+def shown_spread(it: Spread) -> str:
+    return f"mean {it.mean:.1f}, median {it.median:.1f}, 95 of 100 {it.most:.1f}, greatest {it.greatest:.1f}"
+
+
+def shown_calls(building: Building) -> str:
+    calls = building.calls
+    told, boarded, served = (sum(getattr(it, what) > 0 for it in calls) for what in ("told", "boarded", "served"))
+    return f"entered {len(calls)}, told {told}, boarded {boarded}, served {served}, {sum(it.at_goal for it in calls)} of them at the destination with an open door"
+
+
+def report(building: Building, of: Figures, population: int) -> str:
+    denials = ", ".join(f"rule {rule}: {count}" for rule, count in enumerate(building.denied) if count) or "none"
+    lines = [
+        f"passengers: arrived {building.arrived}, carried {building.carried}, aboard {building.aboard()}, waiting {building.waiting()}; counted {of.counted}",
+        f"waiting, arrival to boarding (s): {shown_spread(of.waiting)}",
+        f"time to destination, arrival to leaving (s): {shown_spread(of.journey)}",
+        f"waiting, until the door begins to open (s): {shown_spread(of.waiting_to_door)}",
+        f"time to destination, until the door begins to open (s): {shown_spread(of.journey_to_door)}",
+        f"carried in five minutes: {of.handled:.1f} persons, {100 * of.handled / population:.1f} % of the population",
+        f"load on leaving a landing (persons): mean {of.mean_load:.1f}, greatest {of.greatest_load}, capacity {building.plant.capacity}",
+        f"passengers who pressed again: {of.pressed_again}; who found a car full: {of.found_full}; times let out on the way: {building.let_out}",
+        f"calls: {shown_calls(building)}; presses of a call on the desk: {building.already}",
+        f"denied: {denials}",
+        f"rounds: {building.now}, {building.now * ROUND:.1f} s; faults of the plant: {len(building.faults())}",
+    ]
+    return "".join(f"{line}\n" for line in lines)
+
+
+def seconds(time: float) -> str:
+    return f"{time:.1f}" if time >= 0 else ""
+
+
+def write_passengers(building: Building, to: TextIO):
+    """A line a passenger; times in seconds, empty where it didn't happen. Of several tickets the last one."""
+    lines = csv.writer(to, lineterminator="\n")
+    lines.writerow(("passenger", "arrival", "floor", "destination", "ticket", "car", "boarding", "leaving", "presses", "found_full"))
+    for it in building.people[: building.arrived]:
+        ticket = it.call.ticket if it.call else ""
+        lines.writerow((it.number, f"{it.arrived:.2f}", it.start, it.goal, ticket, it.car or "", seconds(it.boarded), seconds(it.left), it.presses, it.found_full))
+
+
+def write_calls(building: Building, to: TextIO):
+    """A line a ticket; times are rounds, empty where it didn't happen."""
+    lines = csv.writer(to, lineterminator="\n")
+    lines.writerow(("ticket", "from", "to", "entered", "told", "car", "boarded", "served", "at_destination"))
+    for it in building.calls:
+        happened = [number or "" for number in (it.told, it.car, it.boarded, it.served)]
+        lines.writerow((it.ticket, it.start, it.goal, it.entered, *happened, ("yes" if it.at_goal else "no") if it.served else ""))
