@@ -2,7 +2,7 @@
 
 Rounds count from 1, one an R line. A time in rounds is a round's number, which is that many tenths of a second.
 """
-import os, re, subprocess
+import os, re, subprocess, time
 from collections import defaultdict, deque
 from dataclasses import dataclass
 from math import ceil, floor
@@ -12,13 +12,16 @@ from lib.traffic import Arrival
 
 ROUND = 0.1  # s
 ROUNDS_A_SECOND = 10
+MS_A_ROUND = 100
+MINUTE = 60  # s
 MOST_ROUNDS = 21_474_836  # NOW ends at 2147483647 ms
+RULES = 6  # of the interlock
 READ_AT_ONCE = 65_536  # bytes
 SLACK = 1e-9  # rounds, against the rounding of floats
 
 
 class Trouble(Exception):
-    """The status and one line that says why."""
+    """The status, and one line that says why; it is empty where serve has said it."""
 
 
 @dataclass(frozen=True)
@@ -32,10 +35,29 @@ class Plant:
 
 
 @dataclass(frozen=True)
+class Length:
+    """Of a run, in minutes."""
+
+    arrivals: float  # so long passengers come
+    warm_up: float  # who arrive before that aren't counted in the figures
+    drain: float  # the run ends when all are carried, or so long behind the last arrivals
+
+    def rounds(self) -> int:
+        return rounds(self.arrivals * MINUTE)
+
+    def most_rounds(self) -> int:
+        return rounds((self.arrivals + self.drain) * MINUTE)
+
+
+@dataclass(frozen=True)
 class Sizes:
     cars: int
     floors: int
     slots: int
+
+
+def rounds(seconds: float) -> int:
+    return max(1, round(seconds * ROUNDS_A_SECOND))
 
 
 def sizes(text: str) -> Sizes:
@@ -90,7 +112,8 @@ class Controller:
         while not (heard.endswith(b"\n") and heard.startswith(b"outputs", heard.rfind(b"\n", 0, -1) + 1)):
             piece = os.read(self.out, READ_AT_ONCE)
             if not piece:
-                raise Trouble(self.process.wait() or 5, "serve has ended before its answer")
+                status = self.process.wait()
+                raise Trouble(status, "") if status > 0 else Trouble(5, f"serve has ended before its answer, with status {status}")
             heard += piece
         return heard
 
@@ -175,10 +198,7 @@ class Car:
             self.show()
 
     def set_off(self) -> bool:
-        """Starts a flight, where that is safe."""
-        if self.door or self.open:
-            self.faults.append(f"car {self.number} was asked to run with its door not shut")
-            return False
+        """Starts a flight with the door shut, where there is a floor that way."""
         if not 1 <= self.shown + self.motor <= self.top:
             self.faults.append(f"car {self.number} was asked to leave its shaft at floor {self.shown}")
             return False
@@ -203,19 +223,17 @@ class Car:
 class Building:
     """The plant and the passengers. `step` makes a round."""
 
-    def __init__(self, plant: Plant, cars: int, people: list[Arrival], controller: Controller):
+    def __init__(self, plant: Plant, times: Timetable, cars: int, people: list[Arrival], controller: Controller):
         self.plant, self.controller = plant, controller
-        times = Timetable(plant)
         self.cars = [Car(number, plant, times) for number in range(1, cars + 1)]
         self.people = [Passenger(number, arrival) for number, arrival in enumerate(people, 1)]
         self.due = [ceil(arrival.time * ROUNDS_A_SECOND) or 1 for arrival in people] + [MOST_ROUNDS + 1]
         self.arrived = self.carried = 0
         self.now = 0  # the last round
-        self.limit = cars
         self.pressing: list[Passenger] = []  # who press in this round
         self.pressed: dict[tuple[int, int], deque[list[Passenger]]] = defaultdict(deque)  # by call: for each one that has not entered, its people
         self.calls: list[Call] = []  # by ticket, from 1
-        self.denied = [0] * 7  # by rule
+        self.denied = [0] * (RULES + 1)  # by rule, from 1
         self.already = 0  # presses that were on the desk already
         self.let_out = 0  # times that somebody was let out on the way, since his call was served elsewhere
         self.last = b""  # the last `outputs` line
@@ -231,7 +249,7 @@ class Building:
         while self.due[self.arrived] <= self.now:
             self.pressing.append(self.people[self.arrived])
             self.arrived += 1
-        lines = b"R %d %d 0" % (100 * self.now, self.limit) + b"".join([car.fields for car in self.cars]) + b"\n"
+        lines = b"R %d %d 0" % (MS_A_ROUND * self.now, len(self.cars)) + b"".join([car.fields for car in self.cars]) + b"\n"
         if self.pressing:
             lines = b"".join([b"P %d %d\n" % (it.floor, it.goal) for it in self.pressing]) + lines
         answer = self.controller.ask(lines)
@@ -240,6 +258,8 @@ class Building:
 
     def stand(self, car: Car):
         """A round of a car that stands: people cross, the door moves, or it sets off."""
+        if car.motor and (car.door or car.open):
+            car.faults.append(f"car {car.number} was asked to run with its door not shut")
         if car.door == car.wide:
             self.cross(car)
             if not car.open and not car.crosser:
@@ -384,3 +404,18 @@ class Building:
 
     def faults(self) -> list[str]:
         return [fault for car in self.cars for fault in car.faults]
+
+    def play(self, length: Length, pace: float | None = None):
+        """Rounds until all are carried, or the drain ends; `pace` is how many times the wall clock. Then the child is told the end, or is gone."""
+        begin = time.monotonic()
+        try:
+            while self.now < length.rounds() or (self.now < length.most_rounds() and self.carried < self.arrived):
+                self.step()
+                if pace:
+                    time.sleep(max(0.0, begin + self.now * ROUND / pace - time.monotonic()))
+        except KeyboardInterrupt:
+            pass  # an end like any other
+        except BaseException:
+            self.controller.abandon()
+            raise
+        self.controller.end()

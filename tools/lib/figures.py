@@ -3,10 +3,8 @@ import csv
 from dataclasses import dataclass
 from typing import TextIO
 
-from lib.building import ROUND, Building
+from lib.building import MINUTE, ROUND, Building, Length
 from lib.traffic import FIVE_MINUTES
-
-MINUTE = 60  # s
 
 
 @dataclass(frozen=True)
@@ -34,10 +32,11 @@ def spread(times: list[float]) -> Spread:
 @dataclass(frozen=True)
 class Figures:
     counted: int  # passengers who arrived behind the warm-up
-    waiting: Spread  # arrival to boarding, of those counted who boarded
-    journey: Spread  # arrival to leaving, of those counted who left
-    waiting_to_door: Spread  # arrival until the door begins to open
-    journey_to_door: Spread
+    waiting_still: int  # of those counted who have not boarded
+    waiting: Spread  # arrival to boarding, or to the end of the run
+    journey: Spread  # arrival to leaving, or to the end of the run
+    waiting_to_door: Spread  # arrival until the door begins to open, of those who boarded
+    journey_to_door: Spread  # the same of those who left
     handled: float  # persons carried in five minutes
     mean_load: float  # persons, of the starts with somebody aboard
     greatest_load: int
@@ -45,19 +44,22 @@ class Figures:
     found_full: int  # passengers
 
 
-def figures(building: Building, begin: float, end: float) -> Figures:
-    """Of the passengers who arrived behind `begin`; handled from there to `end`, both in seconds."""
+def figures(building: Building, length: Length) -> Figures:
+    """Of the passengers who arrived behind the warm-up; what was handled, from there to the last arrivals."""
+    begin, stop = length.warm_up * MINUTE, building.now * ROUND
+    end = min(length.arrivals * MINUTE, stop)
     people = [it for it in building.people[: building.arrived] if it.arrived > begin]
     boarded, left = [it for it in people if it.boarded >= 0], [it for it in people if it.left >= 0]
     carried = sum(begin < it.left <= end for it in building.people)
     starts = sum(car.left_loaded for car in building.cars)
     return Figures(
         len(people),
-        spread([it.boarded - it.arrived for it in boarded]),
-        spread([it.left - it.arrived for it in left]),
+        len(people) - len(boarded),
+        spread([(it.boarded if it.boarded >= 0 else stop) - it.arrived for it in people]),
+        spread([(it.left if it.left >= 0 else stop) - it.arrived for it in people]),
         spread([max(0.0, it.door_boarding - it.arrived) for it in boarded]),
         spread([max(0.0, it.door_leaving - it.arrived) for it in left]),
-        carried * FIVE_MINUTES / (end - begin),
+        carried * FIVE_MINUTES / (end - begin) if end > begin else 0.0,
         sum(car.loads for car in building.cars) / starts if starts else 0.0,
         max(car.greatest for car in building.cars),
         sum(it.presses > 1 for it in people),
@@ -78,7 +80,8 @@ def shown_calls(building: Building) -> str:
 def report(building: Building, of: Figures, population: int) -> str:
     denials = ", ".join(f"rule {rule}: {count}" for rule, count in enumerate(building.denied) if count) or "none"
     lines = [
-        f"passengers: arrived {building.arrived}, carried {building.carried}, aboard {building.aboard()}, waiting {building.waiting()}; counted {of.counted}",
+        f"passengers: arrived {building.arrived}, carried {building.carried}, aboard {building.aboard()}, waiting {building.waiting()}",
+        f"counted, of those who arrived behind the warm-up: {of.counted}, {of.waiting_still} of them still waiting at the end",
         f"waiting, arrival to boarding (s): {shown_spread(of.waiting)}",
         f"time to destination, arrival to leaving (s): {shown_spread(of.journey)}",
         f"waiting, until the door begins to open (s): {shown_spread(of.waiting_to_door)}",
