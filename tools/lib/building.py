@@ -6,9 +6,10 @@ import os, re, subprocess, time
 from collections import defaultdict, deque
 from dataclasses import dataclass
 from math import ceil, floor
+from typing import Callable
 
 from lib.kinematics import Drive, flight
-from lib.traffic import Arrival
+from lib.traffic import Arrival, Mix, arrivals
 
 ROUND = 0.1  # s
 ROUNDS_A_SECOND = 10
@@ -47,6 +48,16 @@ class Length:
 
     def most_rounds(self) -> int:
         return rounds((self.arrivals + self.drain) * MINUTE)
+
+
+@dataclass(frozen=True)
+class Scene:
+    """A building and its traffic, but for the demand and the seed."""
+
+    plant: Plant
+    population: list[int]  # people of each floor, floor 1 first
+    mix: Mix
+    length: Length
 
 
 @dataclass(frozen=True)
@@ -419,3 +430,11 @@ class Building:
             self.controller.abandon()
             raise
         self.controller.end()
+
+
+def simulated(scene: Scene, cars: int, demand: float, seed: int, start: Callable[[], Controller], pace: float | None = None) -> Building:
+    """A building behind its whole run. `start` starts the child, once all else is right."""
+    times, people = Timetable(scene.plant), arrivals(scene.mix, scene.population, demand, scene.length.arrivals * MINUTE, seed)
+    building = Building(scene.plant, times, cars, people, start())
+    building.play(scene.length, pace)
+    return building
