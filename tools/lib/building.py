@@ -153,7 +153,9 @@ class Call:
 class Passenger:
     """Times in seconds, -1 where it didn't happen."""
 
-    __slots__ = ("number", "arrived", "start", "goal", "floor", "call", "car", "boarded", "left", "door_boarding", "door_leaving", "presses", "found_full", "refused")
+    __slots__ = (
+        "number", "arrived", "start", "goal", "floor", "call", "car", "boarded", "left", "door_boarding", "door_leaving", "presses", "found_full", "refused",
+    )  # fmt: skip
 
     def __init__(self, number: int, arrival: Arrival):
         self.number, self.arrived, self.start, self.goal = number, arrival.time, arrival.start, arrival.goal

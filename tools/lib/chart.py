@@ -102,10 +102,13 @@ class Picture:
         chart = self.chart
         styled = [(line, COLOURS[at % len(COLOURS)], MARKS[at % len(MARKS)]) for at, line in enumerate(chart.lines)]
         made = [
-            f'<svg xmlns="http://www.w3.org/2000/svg" viewBox="0 0 {WIDTH} {HEIGHT}" width="{WIDTH}" height="{HEIGHT}" font-family="sans-serif" font-size="13" fill="#222222">',
+            f'<svg xmlns="http://www.w3.org/2000/svg" viewBox="0 0 {WIDTH} {HEIGHT}" width="{WIDTH}" height="{HEIGHT}"',
+            ' font-family="sans-serif" font-size="13" fill="#222222">',
             f"<title>{escape(chart.title)}</title>",
             f'<rect width="{WIDTH}" height="{HEIGHT}" fill="#ffffff"/>',
-            f'<clipPath id="inside"><rect x="{LEFT}" y="{TOP - MARK}" width="{self.right - LEFT + MARK}" height="{self.bottom - TOP + 2 * MARK}"/></clipPath>',
+            '<clipPath id="inside">',
+            f'<rect x="{LEFT}" y="{TOP - MARK}" width="{self.right - LEFT + MARK}" height="{self.bottom - TOP + 2 * MARK}"/>',
+            "</clipPath>",
             f'<text x="{LEFT}" y="24" font-size="17" font-weight="bold">{escape(chart.title)}</text>',
             f'<text x="{LEFT}" y="43" fill="#555555">{escape(chart.note)}</text>',
             *self.axes(),

@@ -74,7 +74,8 @@ def shown_spread(it: Spread) -> str:
 def shown_calls(building: Building) -> str:
     calls = building.calls
     told, boarded, served = (sum(getattr(it, what) > 0 for it in calls) for what in ("told", "boarded", "served"))
-    return f"entered {len(calls)}, told {told}, boarded {boarded}, served {served}, {sum(it.at_goal for it in calls)} of them at the destination with an open door"
+    right = sum(it.at_goal for it in calls)
+    return f"entered {len(calls)}, told {told}, boarded {boarded}, served {served}, {right} of them at the destination with an open door"
 
 
 def report(building: Building, of: Figures, population: int) -> str:
@@ -105,8 +106,8 @@ def write_passengers(building: Building, to: TextIO):
     lines = csv.writer(to, lineterminator="\n")
     lines.writerow(("passenger", "arrival", "floor", "destination", "ticket", "car", "boarding", "leaving", "presses", "found_full"))
     for it in building.people[: building.arrived]:
-        ticket = it.call.ticket if it.call else ""
-        lines.writerow((it.number, f"{it.arrived:.2f}", it.start, it.goal, ticket, it.car or "", seconds(it.boarded), seconds(it.left), it.presses, it.found_full))
+        came, went = (it.number, f"{it.arrived:.2f}", it.start, it.goal), (seconds(it.boarded), seconds(it.left))
+        lines.writerow((*came, it.call.ticket if it.call else "", it.car or "", *went, it.presses, it.found_full))
 
 
 def write_calls(building: Building, to: TextIO):

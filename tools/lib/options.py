@@ -5,12 +5,15 @@ from lib.building import MINUTE, MOST_ROUNDS, Length, Plant, Scene, Sizes, Troub
 from lib.kinematics import Drive
 from lib.traffic import TEMPLATES, Mix, can_move
 
-TOP = os.path.dirname(os.path.dirname(os.path.dirname(os.path.abspath(__file__))))
+TOP = os.path.dirname(os.path.dirname(os.path.dirname(os.path.realpath(__file__))))
 MOST = 1_000_000  # of any number that is given
 
 
 class Words(argparse.ArgumentParser):
     """Says in one plain line what is wrong."""
+
+    def __init__(self, name: str, what: str):
+        super().__init__(prog=name, description=what, allow_abbrev=False)
 
     def error(self, message):
         raise Trouble(2, message)
@@ -63,8 +66,10 @@ def mix(word: str) -> Mix:
 
 def add_building(words: argparse.ArgumentParser):
     of = words.add_argument_group("building")
-    of.add_argument("--floor-height", type=numbers, default=[3.6], metavar="M[,M...]", help="m from each floor to the next; one for all, or one each from floor 1 on (3.6)")
-    of.add_argument("--population", type=people_by_floor, default=[40], metavar="N[,N...]", help="people of each floor; one for all above floor 1, or one each from floor 1 on (40)")
+    heights = "m from each floor to the next: one number for all, or one each from floor 1 on (3.6)"
+    of.add_argument("--floor-height", type=numbers, default=[3.6], metavar="M[,M...]", help=heights)
+    people = "people of each floor: one number for all above floor 1, or one each from floor 1 on (40)"
+    of.add_argument("--population", type=people_by_floor, default=[40], metavar="N[,N...]", help=people)
     of.add_argument("--rated-speed", type=positive, default=1.6, metavar="M/S", help="m/s (1.6)")
     of.add_argument("--acceleration", type=positive, default=1.0, metavar="M/S2", help="m/s² (1.0)")
     of.add_argument("--jerk", type=positive, default=1.5, metavar="M/S3", help="m/s³ (1.5)")
@@ -80,11 +85,17 @@ def add_traffic(words: argparse.ArgumentParser):
     of.add_argument("--mix", type=mix, metavar="IN:OUT:INTER", help="shares of incoming, outgoing and inter-floor passengers, in place of the template's")
     of.add_argument("--minutes", type=positive, default=30.0, metavar="MIN", help="so long passengers come (30)")
     of.add_argument("--warm-up", type=not_negative, default=5.0, metavar="MIN", help="who arrive in the first MIN aren't counted in the figures (5)")
-    of.add_argument("--drain", type=not_negative, default=15.0, metavar="MIN", help="the run ends when all are carried, or so long behind the last arrivals (15)")
+    drain = "the run ends when all are carried, or so long behind the last arrivals (15)"
+    of.add_argument("--drain", type=not_negative, default=15.0, metavar="MIN", help=drain)
 
 
 def add_binary(words: argparse.ArgumentParser):
-    words.add_argument("--binary", default=f"{TOP}/build/liftplc", metavar="BINARY", help="the program (build/liftplc)")
+    words.add_argument("--binary", default=default_binary(), metavar="BINARY", help="the program (build/liftplc, or an unproved build where there is no other)")
+
+
+def default_binary() -> str:
+    proved, unproved = f"{TOP}/build/liftplc", f"{TOP}/build/unproved/liftplc"
+    return unproved if os.path.exists(unproved) and not os.path.exists(proved) else proved
 
 
 def for_all(given: list, many: int, first: list, what: str) -> list:
