@@ -7,6 +7,7 @@ from lib.traffic import TEMPLATES, Mix, can_move
 
 TOP = os.path.dirname(os.path.dirname(os.path.dirname(os.path.realpath(__file__))))
 MOST = 1_000_000  # of any number that is given
+INTERRUPTED = 130  # the status
 
 
 class Words(argparse.ArgumentParser):
@@ -150,6 +151,8 @@ def guarded(name: str, run) -> int:
         if why:
             print(f"{name}: {why}", file=sys.stderr)
         return status
+    except KeyboardInterrupt:
+        return INTERRUPTED
     except OSError as why:
         print(f"{name}: cannot write {why.filename or 'standard output'}: {why.strerror}", file=sys.stderr)
         return 3
