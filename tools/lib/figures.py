@@ -1,6 +1,7 @@
 """What a run of a building says: figures of its passengers and calls, as text and as CSV."""
 import csv
 from dataclasses import dataclass
+from math import ceil
 from typing import TextIO
 
 from lib.building import MINUTE, ROUND, Building, Length
@@ -12,14 +13,14 @@ class Spread:
     """Of some times in seconds; all 0 where there are none."""
 
     mean: float
-    median: float
+    median: float  # half of them are at most this
     most: float  # 95 of 100 are at most this
     greatest: float
 
 
 def share(ordered: list[float], part: float) -> float:
     """The least value that is not below this part of all of them."""
-    return ordered[max(0, -int(-part * len(ordered) // 1) - 1)]
+    return ordered[max(0, ceil(part * len(ordered)) - 1)]
 
 
 def spread(times: list[float]) -> Spread:
