@@ -2,6 +2,7 @@
 import base64, contextlib, json, os, pathlib, select, shutil, signal, socket, struct, subprocess, tempfile, time, urllib.parse
 
 NAMES = ("chromium", "chromium-browser", "google-chrome")
+OPTIONS = ("--headless=new", "--no-sandbox", "--disable-gpu", "--disable-extensions", "--hide-scrollbars", "--no-first-run", "--remote-debugging-port=0")
 START, ANSWER = 60, 60  # seconds, at most
 TEXT, CLOSE, PING, PONG, LAST = 0x1, 0x8, 0x9, 0xA, 0x80
 SHORT, MIDDLE, LONG = 125, 126, 127  # lengths of a frame, and marks of longer ones
@@ -20,8 +21,8 @@ class WebSocket:
         self.socket = socket.create_connection((parts.hostname, parts.port), ANSWER)
         self.heard = b""
         key = base64.b64encode(os.urandom(16)).decode()
-        lines = (f"GET {parts.path} HTTP/1.1", f"Host: {parts.netloc}", "Upgrade: websocket", "Connection: Upgrade", f"Sec-WebSocket-Key: {key}", "Sec-WebSocket-Version: 13")
-        self.socket.sendall("\r\n".join((*lines, "", "")).encode())
+        upgrade = "Upgrade: websocket", "Connection: Upgrade", f"Sec-WebSocket-Key: {key}", "Sec-WebSocket-Version: 13"
+        self.socket.sendall("\r\n".join((f"GET {parts.path} HTTP/1.1", f"Host: {parts.netloc}", *upgrade, "", "")).encode())
         while b"\r\n\r\n" not in self.heard:
             self.hear()
         head, self.heard = self.heard.split(b"\r\n\r\n", 1)
@@ -77,16 +78,16 @@ class WebSocket:
 class Browser:
     """One page of a browser of its own."""
 
-    def __init__(self, words: tuple[str, ...] = ()):
+    def __init__(self):
         binary = next(filter(None, map(shutil.which, NAMES)), None)
         if not binary:
             raise NoBrowser("no chromium: apt-get install chromium")
         self.folder, self.count, self.said = tempfile.mkdtemp(prefix="browser-"), 0, []
-        options = ("--headless=new", "--no-sandbox", "--disable-gpu", "--disable-extensions", "--hide-scrollbars", "--no-first-run", "--remote-debugging-port=0", f"--user-data-dir={self.folder}")
+        started = [binary, *OPTIONS, f"--user-data-dir={self.folder}", "about:blank"]
         with open(f"{self.folder}/said", "wb") as said:
-            self.process = subprocess.Popen([*words, binary, *options, "about:blank"], stdin=subprocess.DEVNULL, stdout=said, stderr=said, start_new_session=True)
-        self.socket = WebSocket(self.address())
+            self.process = subprocess.Popen(started, stdin=subprocess.DEVNULL, stdout=said, stderr=said, start_new_session=True)
         self.session = None
+        self.socket = WebSocket(self.address())
         target = next(it for it in self.ask("Target.getTargets")["targetInfos"] if it["type"] == "page")
         self.session = self.ask("Target.attachToTarget", targetId=target["targetId"], flatten=True)["sessionId"]
         for domain in ("Page", "Runtime", "Performance"):
@@ -106,7 +107,7 @@ class Browser:
 
     def ask(self, method: str, **given):
         self.count += 1
-        number, about = self.count, {"sessionId": self.session} if getattr(self, "session", None) else {}
+        number, about = self.count, {"sessionId": self.session} if self.session else {}
         self.socket.send(json.dumps({"id": number, "method": method, "params": given, **about}).encode())
         while True:
             message = json.loads(self.socket.receive())

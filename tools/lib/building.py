@@ -2,7 +2,7 @@
 
 Rounds count from 1, one an R line. A time in rounds is a round's number, which is that many tenths of a second.
 """
-import os, re, subprocess, time
+import os, subprocess, time
 from collections import defaultdict, deque
 from dataclasses import dataclass
 from math import ceil, floor
@@ -60,22 +60,8 @@ class Scene:
     length: Length
 
 
-@dataclass(frozen=True)
-class Sizes:
-    cars: int
-    floors: int
-    slots: int
-
-
 def rounds(seconds: float) -> int:
     return max(1, round(seconds * ROUNDS_A_SECOND))
-
-
-def sizes(text: str) -> Sizes:
-    """CARS, FLOORS and SLOTS of an accepted text."""
-    bare = re.sub(r"\(\*.*?\*\)", " ", text, flags=re.S).upper()
-    found = {name: int(number) for name, number in re.findall(r"\b(CARS|FLOORS|SLOTS)\s*:\s*INT\s*:=\s*([0-9_]+)\s*;", bare)}
-    return Sizes(found["CARS"], found["FLOORS"], found["SLOTS"])
 
 
 class Timetable:

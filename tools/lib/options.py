@@ -1,8 +1,9 @@
 """The words of tools/building and tools/building-plot that say what building and what traffic, and what is wrong with words."""
 import argparse, os, subprocess, sys
 
-from lib.building import MINUTE, MOST_ROUNDS, Length, Plant, Scene, Sizes, Trouble, rounds, sizes
+from lib.building import MINUTE, MOST_ROUNDS, Length, Plant, Scene, Trouble, rounds
 from lib.kinematics import Drive
+from lib.sizes import Sizes, sizes
 from lib.traffic import TEMPLATES, Mix, can_move
 
 TOP = os.path.dirname(os.path.dirname(os.path.dirname(os.path.realpath(__file__))))

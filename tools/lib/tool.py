@@ -1,7 +1,7 @@
 """Another tool of this folder, as a module."""
 import importlib.machinery, importlib.util, os
 
-TOOLS = os.path.dirname(os.path.dirname(os.path.abspath(__file__)))
+TOOLS = os.path.dirname(os.path.dirname(os.path.realpath(__file__)))
 
 
 def module(name: str):
