@@ -43,7 +43,7 @@ END_VAR
 VAR
   ABOARD : ARRAY [1..{slots}] OF BOOL;           (* for each slot: its passenger is in the car *)
   WAITED : ARRAY [1..{slots}] OF INT (0..9999);  (* for how many scans he has waited for it *)
-  LONGEST : INT (0..9999);  (* the longest wait at this floor, in this scan *)
+  LONGEST : INT (0..9999);  (* the longest wait of those who wait at this floor in this scan *)
   FIRST : INT (0..9999);    (* and in the scan before: who has waited that long gets in first *)
 END_VAR
 
@@ -93,20 +93,24 @@ LD FROM
 LT FLOOR
 JMPC WORK_BELOW
 
-(* He waits at this floor. A full car, or one that has to leave, doesn't take him now. Who has
-   waited longest gets in first, so nobody is left behind again and again. *)
+(* He waits at this floor. A car that has to leave doesn't take him now, nor does a full one. Who
+   has waited longest gets in first, so nobody is left behind again and again. *)
 LDN ADMITS
 JMPC LEFT
 LD LOAD
 GE {capacity}
-JMPC LEFT
-LD WAITED[SLOT]
-MAX LONGEST
-ST LONGEST
+JMPC STAYS
 LD WAITED[SLOT]
 GE FIRST
 AND OPENED_HERE
 JMPC GETS_IN
+STAYS:
+LD WAITED[SLOT]
+MAX LONGEST
+ST LONGEST
+LD LOAD
+GE {capacity}
+JMPC LEFT
 LD TO
 LT FLOOR
 JMPC DOWNWARDS
@@ -267,8 +271,10 @@ LD HERE
 ST OPEN
 RET
 
-(* It stands. It keeps its direction as long as there is work that way. *)
+(* It stands. At a landing it keeps its direction as long as there is work that way. *)
 STANDS:
+LDN LEVEL
+JMPC BETWEEN
 LD DIRECTION
 EQ -1
 ORN ABOVE
@@ -282,11 +288,8 @@ DOWNWARDS:
 LD -1
 ST DIRECTION
 
-(* At a landing the door opens for those who get in or out, and stays open until its time is
-   over. *)
+(* The door opens for those who get in or out, and stays open until its time is over. *)
 DOOR:
-LDN LEVEL
-JMPC BETWEEN
 LD DIRECTION
 EQ 1
 SEL CALLS.DOWN_HERE, CALLS.UP_HERE
@@ -307,8 +310,8 @@ LD DIRECTION
 ST MOTOR
 RET
 
-(* It stands between two landings, after a fire recall or a limit of running cars. It runs in its
-   direction; without one it runs down; from an end of the shaft it runs back. *)
+(* It stands between two landings, after a fire recall or a limit of running cars. It runs on as it
+   has run, after a recall down; from beyond an end of the shaft it runs back. *)
 BETWEEN:
 LDN LOCKED
 RETC
