@@ -13,13 +13,13 @@
 FUNCTION_BLOCK CALLS_OF_CAR
 VAR_INPUT
   CAR : INT (1..2);         (* the number of the car *)
-  FLOOR : INT (1..8);      (* the floor at which it is *)
+  FLOOR : INT (1..8);       (* the floor at which it is *)
   OPENED_HERE : BOOL;       (* it stands level with this floor, its door wholly open *)
   SHUT : BOOL;              (* its door is wholly shut *)
   ADMITS : BOOL;            (* passengers may get in *)
   SLOT : INT (1..16);       (* the call slot that is looked at *)
   TOLD : INT (0..2);        (* the car that its call is told to; 0 for none *)
-  FROM : INT (0..8);       (* the floors of the call; 0 in a free slot *)
+  FROM : INT (0..8);        (* the floors of the call; 0 in a free slot *)
   TO : INT (0..8);
 END_VAR
 VAR_OUTPUT
@@ -30,12 +30,12 @@ VAR_OUTPUT
   OUT_HERE : BOOL;          (* a passenger in the car gets out at this floor *)
   MOVED : BOOL;             (* somebody got in or out in this scan *)
   SERVED : INT (0..16);     (* the slot of the passenger who got out in this scan; 0 for none *)
-  LOAD : INT (0..8);         (* how many passengers are in the car *)
+  LOAD : INT (0..8);        (* how many passengers are in the car *)
   PASSING : TIME;           (* how long the door has to be open for all who pass it at this stop *)
 END_VAR
 VAR
-  ABOARD : ARRAY [1..16] OF BOOL;           (* for each slot: its passenger is in the car *)
-  WAITED : ARRAY [1..16] OF INT (0..9999);  (* for how many scans he has waited for it *)
+  ABOARD : ARRAY [1..16] OF BOOL; (* for each slot: its passenger is in the car *)
+  WAITED : ARRAY [1..16] OF INT (0..9999); (* for how many scans he has waited for it *)
   LONGEST : INT (0..9999);  (* the longest wait of those who wait at this floor in this scan *)
   FIRST : INT (0..9999);    (* and in the scan before: who has waited that long gets in first *)
 END_VAR
@@ -182,13 +182,13 @@ VAR
   BELOW : BOOL;             (* the car has to go down *)
   AHEAD : BOOL;             (* the car has to go on in its direction *)
   HERE : BOOL;              (* a passenger wants to get in or out at this floor *)
-  CAME_FROM : INT (0..8);  (* the landing that the car has left; 0 for none *)
+  CAME_FROM : INT (0..8);   (* the landing that the car has left; 0 for none *)
   OVER : BOOL;              (* the door has been open long enough *)
   DWELL : TON;              (* how long nobody has passed the open door *)
   PASSAGE : TON;            (* how long the door has been open *)
   HELD : TON;               (* how long the car has stood though it has work *)
   IDLE : TON;               (* how long the car has had no call *)
-  HOME : INT (1..8);       (* the floor where it waits then *)
+  HOME : INT (1..8);        (* the floor where it waits then *)
 END_VAR
 
 (* Fire recall goes before all calls. *)
@@ -202,7 +202,8 @@ AND LEVEL
 ST CALLS.OPENED_HERE
 LDN HELD.Q
 ST CALLS.ADMITS
-CAL CALLS(CAR := CARNO, FLOOR := POS, SHUT := LOCKED, SLOT := 1, TOLD := CALLCAR[1], FROM := CALLFROM[1], TO := CALLTO[1])
+CAL CALLS(CAR := CARNO, FLOOR := POS, SHUT := LOCKED,
+  SLOT := 1, TOLD := CALLCAR[1], FROM := CALLFROM[1], TO := CALLTO[1])
 CAL CALLS(SLOT := 2, TOLD := CALLCAR[2], FROM := CALLFROM[2], TO := CALLTO[2])
 CAL CALLS(SLOT := 3, TOLD := CALLCAR[3], FROM := CALLFROM[3], TO := CALLTO[3])
 CAL CALLS(SLOT := 4, TOLD := CALLCAR[4], FROM := CALLFROM[4], TO := CALLTO[4])
@@ -395,7 +396,7 @@ END_PROGRAM
 (* The group program: a waiting call is assigned to the nearest car. *)
 PROGRAM NEAREST_CAR
 VAR
-  WAITING : INT (0..16);     (* the call slot that is handled; 0 for none *)
+  WAITING : INT (0..16);    (* the call slot that is handled; 0 for none *)
   CHOSEN : INT (0..2);      (* the car that gets the call *)
   FROM : INT (0..8);        (* the landing of the call *)
   DISTANCE : INT (0..8);    (* how many floors a car is away from it *)

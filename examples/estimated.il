@@ -30,12 +30,12 @@ VAR_OUTPUT
   OUT_HERE : BOOL;          (* a passenger in the car gets out at this floor *)
   MOVED : BOOL;             (* somebody got in or out in this scan *)
   SERVED : INT (0..32);     (* the slot of the passenger who got out in this scan; 0 for none *)
-  LOAD : INT (0..8);         (* how many passengers are in the car *)
+  LOAD : INT (0..8);        (* how many passengers are in the car *)
   PASSING : TIME;           (* how long the door has to be open for all who pass it at this stop *)
 END_VAR
 VAR
-  ABOARD : ARRAY [1..32] OF BOOL;           (* for each slot: its passenger is in the car *)
-  WAITED : ARRAY [1..32] OF INT (0..9999);  (* for how many scans he has waited for it *)
+  ABOARD : ARRAY [1..32] OF BOOL; (* for each slot: its passenger is in the car *)
+  WAITED : ARRAY [1..32] OF INT (0..9999); (* for how many scans he has waited for it *)
   LONGEST : INT (0..9999);  (* the longest wait of those who wait at this floor in this scan *)
   FIRST : INT (0..9999);    (* and in the scan before: who has waited that long gets in first *)
 END_VAR
@@ -205,7 +205,8 @@ AND LEVEL
 ST CALLS.OPENED_HERE
 LDN HELD.Q
 ST CALLS.ADMITS
-CAL CALLS(CAR := CARNO, FLOOR := POS, SHUT := LOCKED, SLOT := 1, TOLD := CALLCAR[1], FROM := CALLFROM[1], TO := CALLTO[1])
+CAL CALLS(CAR := CARNO, FLOOR := POS, SHUT := LOCKED,
+  SLOT := 1, TOLD := CALLCAR[1], FROM := CALLFROM[1], TO := CALLTO[1])
 CAL CALLS(SLOT := 2, TOLD := CALLCAR[2], FROM := CALLFROM[2], TO := CALLTO[2])
 CAL CALLS(SLOT := 3, TOLD := CALLCAR[3], FROM := CALLFROM[3], TO := CALLTO[3])
 CAL CALLS(SLOT := 4, TOLD := CALLCAR[4], FROM := CALLFROM[4], TO := CALLTO[4])
@@ -440,7 +441,7 @@ VAR_OUTPUT
   SHARES_OUT : BOOL;        (* and where he gets out *)
 END_VAR
 VAR
-  STOP : ARRAY [1..32] OF BOOL;  (* for each place: the car stops there *)
+  STOP : ARRAY [1..32] OF BOOL; (* for each place: the car stops there *)
 END_VAR
 
 (* A new call: nothing is counted yet. *)
@@ -535,7 +536,7 @@ END_FUNCTION_BLOCK
 
 (* The route of one car, as GROUP sees it, and what a new call would cost there. In each scan GROUP
    calls this block for each call slot, from slot 1 on. Behind the last slot COST is there. All
-   times are in tenths of a second. *)
+   times are counted in scans. *)
 FUNCTION_BLOCK ROUTE_OF_CAR
 VAR_INPUT
   CAR : INT (1..4);         (* the number of the car *)
@@ -560,7 +561,7 @@ VAR
   BELOW : BOOL;             (* it has work below *)
   PLACE : INT (1..32);      (* its place in the circle of stops *)
   STOPS : STOPS_OF_ROUTE;   (* its stops, as the new call meets them *)
-  ABOARD : ARRAY [1..32] OF BOOL;  (* for each slot: its passenger is in the car *)
+  ABOARD : ARRAY [1..32] OF BOOL; (* for each slot: its passenger is in the car *)
   LOAD : INT (0..32);       (* how many are in the car, as far as the slots have been looked at *)
   FILLED : INT (0..32);     (* how many are in the car in all *)
   BESIDE : INT (0..32);     (* how many would be in the car where the new passenger gets in *)
@@ -571,8 +572,8 @@ VAR
   OUT_PLACE : INT (1..32);  (* where he gets out, *)
   OUT_AHEAD : INT (0..48);  (* and how many places ahead of the car *)
   THERE : INT (1..32);      (* the place of a stop *)
-  FIRST_AHEAD : INT (0..48);   (* how many places ahead of the car a passenger gets in, *)
-  SECOND_AHEAD : INT (0..48);  (* and gets out *)
+  FIRST_AHEAD : INT (0..48); (* how many places ahead of the car a passenger gets in, *)
+  SECOND_AHEAD : INT (0..48); (* and gets out *)
   DISTANCE : INT (0..48);   (* how many floors the car runs until the new passenger gets in *)
   LONGER : INT (0..16);     (* by how many floors his call makes its way longer *)
   STOP_IN : INT (0..600);   (* the stop that it makes for him to get in; 0 where it stops anyway *)
@@ -582,13 +583,13 @@ VAR
   RIDING : INT (0..8000);   (* how long he is in the car *)
   DELAYING : INT (0..8000); (* by how much the others of this car are delayed, together *)
   CROWDING : INT (0..8000); (* by how much those who come later are delayed, together *)
-  FLOOR_TIME : INT (1..100);   (* how long the car runs for a floor *)
-  STOP_TIME : INT (1..600);    (* how long a stop lasts *)
-  RUN_TIME : INT (0..20000) := 240;       (* how long it has run, *)
-  RUN_FLOORS : INT (0..20000) := 16;      (* and how many floors *)
-  STOOD : INT (0..601);        (* how long it has stood at its present stop *)
-  STOOD_TIME : INT (0..20000) := 240;     (* how long it has stood at its stops, *)
-  STOPS_MADE : INT (0..20000) := 4;      (* and how many stops that were *)
+  FLOOR_TIME : INT (1..100); (* how long the car runs for a floor *)
+  STOP_TIME : INT (1..600); (* how long a stop lasts *)
+  RUN_TIME : INT (0..20000) := 240; (* how long it has run, *)
+  RUN_FLOORS : INT (0..20000) := 16; (* and how many floors *)
+  STOOD : INT (0..601);     (* how long it has stood at its present stop *)
+  STOOD_TIME : INT (0..20000) := 240; (* how long it has stood at its stops, *)
+  STOPS_MADE : INT (0..20000) := 4; (* and how many stops that were *)
   WAS_AT : INT (1..16);     (* the floor at which it was in the scan before *)
 END_VAR
 
@@ -631,8 +632,8 @@ MAX 1
 MIN 100
 ST FLOOR_TIME
 
-(* A stop counts once the car has left it, where it took a second to a minute: a car that only turns,
-   or has had no call, makes no stop. *)
+(* A stop counts once the car has left it, where it took 10 to 600 scans: a car that only turns, or
+   has had no call, makes no stop. *)
 LD RUNS
 NE 0
 OR( CALLS
@@ -765,7 +766,8 @@ ABS
 ADD IN_AHEAD
 MIN 48
 ST OUT_AHEAD
-CAL STOPS(ANEW := TRUE, IN_PLACE := IN_PLACE, IN_AHEAD := IN_AHEAD, OUT_PLACE := OUT_PLACE, OUT_AHEAD := OUT_AHEAD)
+CAL STOPS(ANEW := TRUE, IN_PLACE := IN_PLACE, IN_AHEAD := IN_AHEAD,
+  OUT_PLACE := OUT_PLACE, OUT_AHEAD := OUT_AHEAD)
 
 (* Is the call of this slot told to this car? *)
 LOOK:
@@ -1090,7 +1092,7 @@ DIV 16
 MIN 8000
 ST CROWDING
 
-(* All together; what the others lose counts for 3 of 4 parts. *)
+(* All together. What the others in the car lose counts for 3 quarters. *)
 LD DELAYING
 MUL 3
 DIV 4
@@ -1104,7 +1106,7 @@ END_FUNCTION_BLOCK
    passenger and of the others. *)
 PROGRAM ESTIMATED
 VAR
-  WAITING : INT (0..32);     (* the call slot that is handled; 0 for none *)
+  WAITING : INT (0..32);    (* the call slot that is handled; 0 for none *)
   ASKED : BOOL;             (* there is a call to be assigned *)
   NEW : INT (1..32);        (* its slot *)
   CROWD : INT (0..32);      (* how many calls each car has, on average *)
@@ -1114,7 +1116,7 @@ VAR
   ROUTE4 : ROUTE_OF_CAR;    (* the route of car 4 *)
   LEAST : INT (0..32767);   (* the least cost *)
   CHOSEN : INT (0..4);      (* the car that gets the call *)
-  FROM_MAIN : INT (0..100);  (* how many of the last calls came from floor 1, of 100 *)
+  FROM_MAIN : INT (0..100); (* how many of the last calls came from floor 1, of 100 *)
 END_VAR
 VAR_EXTERNAL
   UP_PEAK : BOOL;           (* most calls come from floor 1; GROUP says so *)
@@ -1237,7 +1239,9 @@ DIV 4
 ST CROWD
 
 (* The route of car 1. *)
-CAL ROUTE1(CAR := 1, FLOOR := CPOS[1], RUNS := CMOTOR[1], ASKED := ASKED, NEW_FROM := CALLFROM[NEW], NEW_TO := CALLTO[NEW], CROWD := CROWD, SLOT := 1, TOLD := CALLCAR[1], FROM := CALLFROM[1], TO := CALLTO[1])
+CAL ROUTE1(CAR := 1, FLOOR := CPOS[1], RUNS := CMOTOR[1], CROWD := CROWD,
+  ASKED := ASKED, NEW_FROM := CALLFROM[NEW], NEW_TO := CALLTO[NEW],
+  SLOT := 1, TOLD := CALLCAR[1], FROM := CALLFROM[1], TO := CALLTO[1])
 CAL ROUTE1(SLOT := 2, TOLD := CALLCAR[2], FROM := CALLFROM[2], TO := CALLTO[2])
 CAL ROUTE1(SLOT := 3, TOLD := CALLCAR[3], FROM := CALLFROM[3], TO := CALLTO[3])
 CAL ROUTE1(SLOT := 4, TOLD := CALLCAR[4], FROM := CALLFROM[4], TO := CALLTO[4])
@@ -1271,7 +1275,9 @@ CAL ROUTE1(SLOT := 31, TOLD := CALLCAR[31], FROM := CALLFROM[31], TO := CALLTO[3
 CAL ROUTE1(SLOT := 32, TOLD := CALLCAR[32], FROM := CALLFROM[32], TO := CALLTO[32])
 
 (* The route of car 2. *)
-CAL ROUTE2(CAR := 2, FLOOR := CPOS[2], RUNS := CMOTOR[2], ASKED := ASKED, NEW_FROM := CALLFROM[NEW], NEW_TO := CALLTO[NEW], CROWD := CROWD, SLOT := 1, TOLD := CALLCAR[1], FROM := CALLFROM[1], TO := CALLTO[1])
+CAL ROUTE2(CAR := 2, FLOOR := CPOS[2], RUNS := CMOTOR[2], CROWD := CROWD,
+  ASKED := ASKED, NEW_FROM := CALLFROM[NEW], NEW_TO := CALLTO[NEW],
+  SLOT := 1, TOLD := CALLCAR[1], FROM := CALLFROM[1], TO := CALLTO[1])
 CAL ROUTE2(SLOT := 2, TOLD := CALLCAR[2], FROM := CALLFROM[2], TO := CALLTO[2])
 CAL ROUTE2(SLOT := 3, TOLD := CALLCAR[3], FROM := CALLFROM[3], TO := CALLTO[3])
 CAL ROUTE2(SLOT := 4, TOLD := CALLCAR[4], FROM := CALLFROM[4], TO := CALLTO[4])
@@ -1305,7 +1311,9 @@ CAL ROUTE2(SLOT := 31, TOLD := CALLCAR[31], FROM := CALLFROM[31], TO := CALLTO[3
 CAL ROUTE2(SLOT := 32, TOLD := CALLCAR[32], FROM := CALLFROM[32], TO := CALLTO[32])
 
 (* The route of car 3. *)
-CAL ROUTE3(CAR := 3, FLOOR := CPOS[3], RUNS := CMOTOR[3], ASKED := ASKED, NEW_FROM := CALLFROM[NEW], NEW_TO := CALLTO[NEW], CROWD := CROWD, SLOT := 1, TOLD := CALLCAR[1], FROM := CALLFROM[1], TO := CALLTO[1])
+CAL ROUTE3(CAR := 3, FLOOR := CPOS[3], RUNS := CMOTOR[3], CROWD := CROWD,
+  ASKED := ASKED, NEW_FROM := CALLFROM[NEW], NEW_TO := CALLTO[NEW],
+  SLOT := 1, TOLD := CALLCAR[1], FROM := CALLFROM[1], TO := CALLTO[1])
 CAL ROUTE3(SLOT := 2, TOLD := CALLCAR[2], FROM := CALLFROM[2], TO := CALLTO[2])
 CAL ROUTE3(SLOT := 3, TOLD := CALLCAR[3], FROM := CALLFROM[3], TO := CALLTO[3])
 CAL ROUTE3(SLOT := 4, TOLD := CALLCAR[4], FROM := CALLFROM[4], TO := CALLTO[4])
@@ -1339,7 +1347,9 @@ CAL ROUTE3(SLOT := 31, TOLD := CALLCAR[31], FROM := CALLFROM[31], TO := CALLTO[3
 CAL ROUTE3(SLOT := 32, TOLD := CALLCAR[32], FROM := CALLFROM[32], TO := CALLTO[32])
 
 (* The route of car 4. *)
-CAL ROUTE4(CAR := 4, FLOOR := CPOS[4], RUNS := CMOTOR[4], ASKED := ASKED, NEW_FROM := CALLFROM[NEW], NEW_TO := CALLTO[NEW], CROWD := CROWD, SLOT := 1, TOLD := CALLCAR[1], FROM := CALLFROM[1], TO := CALLTO[1])
+CAL ROUTE4(CAR := 4, FLOOR := CPOS[4], RUNS := CMOTOR[4], CROWD := CROWD,
+  ASKED := ASKED, NEW_FROM := CALLFROM[NEW], NEW_TO := CALLTO[NEW],
+  SLOT := 1, TOLD := CALLCAR[1], FROM := CALLFROM[1], TO := CALLTO[1])
 CAL ROUTE4(SLOT := 2, TOLD := CALLCAR[2], FROM := CALLFROM[2], TO := CALLTO[2])
 CAL ROUTE4(SLOT := 3, TOLD := CALLCAR[3], FROM := CALLFROM[3], TO := CALLTO[3])
 CAL ROUTE4(SLOT := 4, TOLD := CALLCAR[4], FROM := CALLFROM[4], TO := CALLTO[4])

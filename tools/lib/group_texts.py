@@ -493,7 +493,7 @@ END_FUNCTION_BLOCK
 ROUTE_OF_CAR = """
 (* The route of one car, as GROUP sees it, and what a new call would cost there. In each scan GROUP
    calls this block for each call slot, from slot 1 on. Behind the last slot COST is there. All
-   times are in tenths of a second. *)
+   times are counted in scans. *)
 FUNCTION_BLOCK ROUTE_OF_CAR
 VAR_INPUT
   CAR : INT (1..{cars});         (* the number of the car *)
@@ -589,8 +589,8 @@ MAX 1
 MIN 100
 ST FLOOR_TIME
 
-(* A stop counts once the car has left it, where it took a second to a minute: a car that only turns,
-   or has had no call, makes no stop. *)
+(* A stop counts once the car has left it, where it took 10 to 600 scans: a car that only turns, or
+   has had no call, makes no stop. *)
 LD RUNS
 NE 0
 OR( CALLS
@@ -723,7 +723,8 @@ ABS
 ADD IN_AHEAD
 MIN {farthest}
 ST OUT_AHEAD
-CAL STOPS(ANEW := TRUE, IN_PLACE := IN_PLACE, IN_AHEAD := IN_AHEAD, OUT_PLACE := OUT_PLACE, OUT_AHEAD := OUT_AHEAD)
+CAL STOPS(ANEW := TRUE, IN_PLACE := IN_PLACE, IN_AHEAD := IN_AHEAD,
+  OUT_PLACE := OUT_PLACE, OUT_AHEAD := OUT_AHEAD)
 
 (* Is the call of this slot told to this car? *)
 LOOK:
@@ -1048,10 +1049,10 @@ DIV {crowd_divisor}
 MIN 8000
 ST CROWDING
 
-(* All together; what the others lose counts for {delay_words}. *)
+(* All together. What the others in the car lose counts for {delay_quarters} quarters. *)
 LD DELAYING
-MUL {delay_multiplier}
-DIV {delay_divisor}
+MUL {delay_quarters}
+DIV 4
 ADD WAITING
 ADD RIDING
 ADD CROWDING
