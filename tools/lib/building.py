@@ -84,8 +84,8 @@ class Timetable:
         """Each floor needs a round of its own in which the controller can answer."""
         for start in range(1, self.floors + 1):
             for way in (range(start, self.floors + 1), range(start, 0, -1)):
-                rounds = [self.last_stop[start][goal] for goal in way]
-                if any(later <= earlier for earlier, later in zip(rounds, rounds[1:])):
+                stops = [self.last_stop[start][goal] for goal in way]
+                if any(later <= earlier for earlier, later in zip(stops, stops[1:])):
                     raise Trouble(2, "floors are too near to each other for this speed: a car passes two of them in a round")
 
 

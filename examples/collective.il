@@ -1,0 +1,512 @@
+(* Collective destination control for 2 cars, 8 floors and 16 call slots, made by
+
+     tools/group 2 8 16 --dispatch nearest
+
+   A passenger enters the destination at the landing. The call waits in a call slot until
+   GROUP assigns it to a car, by a store into ASSIGN. The car collects the calls that are told
+   to it, up to 8 passengers at a time, and frees the slot of a call by SERVE once its
+   passenger is out. docs/GROUPS.md says more.
+   Try `sim FILE 600 1:1:8 1:8:1`: calls from the lowest floor to the highest, and back. *)
+
+(* The calls of one car. In each scan the car program calls this block for each call slot,
+   from slot 1 on. Behind the last slot its outputs say where the car has work. *)
+FUNCTION_BLOCK CALLS_OF_CAR
+VAR_INPUT
+  CAR : INT (1..2);         (* the number of the car *)
+  FLOOR : INT (1..8);       (* the floor at which it is *)
+  OPENED_HERE : BOOL;       (* it stands level with this floor, its door wholly open *)
+  SHUT : BOOL;              (* its door is wholly shut *)
+  ADMITS : BOOL;            (* passengers may get in *)
+  SLOT : INT (1..16);       (* the call slot that is looked at *)
+  TOLD : INT (0..2);        (* the car that its call is told to; 0 for none *)
+  FROM : INT (0..8);        (* the floors of the call; 0 in a free slot *)
+  TO : INT (0..8);
+END_VAR
+VAR_OUTPUT
+  ABOVE : BOOL;             (* there is work above, or a passenger at this floor goes up *)
+  BELOW : BOOL;             (* there is work below, or a passenger at this floor goes down *)
+  UP_HERE : BOOL;           (* a passenger waits at this floor and goes up *)
+  DOWN_HERE : BOOL;         (* a passenger waits at this floor and goes down *)
+  OUT_HERE : BOOL;          (* a passenger in the car gets out at this floor *)
+  MOVED : BOOL;             (* somebody got in or out in this scan *)
+  SERVED : INT (0..16);     (* the slot of the passenger who got out in this scan; 0 for none *)
+  LOAD : INT (0..8);        (* how many passengers are in the car *)
+  PASSING : TIME;           (* how long the door has to be open for all who pass it at this stop *)
+END_VAR
+VAR
+  ABOARD : ARRAY [1..16] OF BOOL; (* for each slot: its passenger is in the car *)
+  WAITED : ARRAY [1..16] OF INT (0..9999); (* for how many scans he has waited for it *)
+  LONGEST : INT (0..9999);  (* the longest wait of those who wait at this floor in this scan *)
+  FIRST : INT (0..9999);    (* and in the scan before: who has waited that long gets in first *)
+END_VAR
+
+(* Slot 1 begins anew. *)
+LD SLOT
+EQ 1
+JMPCN LOOK
+LD FALSE
+ST ABOVE
+ST BELOW
+ST UP_HERE
+ST DOWN_HERE
+ST OUT_HERE
+ST MOVED
+LD LONGEST
+ST FIRST
+LD 0
+ST LONGEST
+ST SERVED
+LD SHUT
+SEL PASSING, T#0s
+ST PASSING
+
+(* Is the call told to this car? If not, nobody in the car belongs to it. *)
+LOOK:
+LD TOLD
+EQ CAR
+JMPC MINE
+LD FALSE
+ST ABOARD[SLOT]
+LD 0
+ST WAITED[SLOT]
+RET
+
+(* The passenger is in the car, or waits at his landing: there is the work. *)
+MINE:
+LD ABOARD[SLOT]
+JMPC INSIDE
+LD WAITED[SLOT]
+MIN 9998
+ADD 1
+ST WAITED[SLOT]
+LD FROM
+GT FLOOR
+JMPC WORK_ABOVE
+LD FROM
+LT FLOOR
+JMPC WORK_BELOW
+
+(* He waits at this floor. A car that has to leave doesn't take him now, nor does a full one. Who
+   has waited longest gets in first, so nobody is left behind again and again. *)
+LDN ADMITS
+JMPC LEFT
+LD LOAD
+GE 8
+JMPC STAYS
+LD WAITED[SLOT]
+GE FIRST
+AND OPENED_HERE
+JMPC GETS_IN
+STAYS:
+LD WAITED[SLOT]
+MAX LONGEST
+ST LONGEST
+LD LOAD
+GE 8
+JMPC LEFT
+LD TO
+LT FLOOR
+JMPC DOWNWARDS
+LD TRUE
+ST UP_HERE
+ST ABOVE
+RET
+DOWNWARDS:
+LD TRUE
+ST DOWN_HERE
+ST BELOW
+RET
+
+(* The door is wholly open: he gets in, and from now on the work is at his destination. *)
+GETS_IN:
+LD LOAD
+ADD 1
+ST LOAD
+LD TRUE
+ST ABOARD[SLOT]
+ST MOVED
+LD PASSING
+MIN T#1m
+ADD T#1s
+ST PASSING
+INSIDE:
+LD TO
+GT FLOOR
+JMPC WORK_ABOVE
+LD TO
+LT FLOOR
+JMPC WORK_BELOW
+LD TRUE
+ST OUT_HERE
+
+(* He is at his destination. With the door wholly open he gets out: one passenger a scan, since
+   a car serves one call slot a scan. *)
+LD SERVED
+EQ 0
+AND OPENED_HERE
+RETCN
+LD SLOT
+ST SERVED
+LD LOAD
+MAX 1
+SUB 1
+ST LOAD
+LD FALSE
+ST ABOARD[SLOT]
+LD TRUE
+ST MOVED
+LD PASSING
+MIN T#1m
+ADD T#1s
+ST PASSING
+RET
+
+WORK_ABOVE:
+LD TRUE
+ST ABOVE
+RET
+WORK_BELOW:
+LD TRUE
+ST BELOW
+LEFT:
+END_FUNCTION_BLOCK
+
+(* The car program: collective control. All cars run it, each with variables of its own.
+   A car stops on its way for each passenger who gets out, and for each who waits and goes the
+   same way. It keeps its direction as long as it has work that way, and then turns. *)
+PROGRAM COLLECTIVE_CAR
+VAR
+  CALLS : CALLS_OF_CAR;     (* the calls that are told to this car *)
+  DIRECTION : INT (-1..1);  (* the way of the car: 1 up, -1 down, 0 none *)
+  ABOVE : BOOL;             (* the car has to go up, for a call or to its home floor *)
+  BELOW : BOOL;             (* the car has to go down *)
+  AHEAD : BOOL;             (* the car has to go on in its direction *)
+  HERE : BOOL;              (* a passenger wants to get in or out at this floor *)
+  CAME_FROM : INT (0..8);   (* the landing that the car has left; 0 for none *)
+  OVER : BOOL;              (* the door has been open long enough *)
+  DWELL : TON;              (* how long nobody has passed the open door *)
+  PASSAGE : TON;            (* how long the door has been open *)
+  HELD : TON;               (* how long the car has stood though it has work *)
+  IDLE : TON;               (* how long the car has had no call *)
+  HOME : INT (1..8);        (* the floor where it waits then *)
+END_VAR
+
+(* Fire recall goes before all calls. *)
+LD FIRE
+JMPC RECALL
+
+(* Where is work? The block looks at all call slots. A passenger gets in or out where the car
+   stands level with a floor, its door wholly open. *)
+LD OPENED
+AND LEVEL
+ST CALLS.OPENED_HERE
+LDN HELD.Q
+ST CALLS.ADMITS
+CAL CALLS(CAR := CARNO, FLOOR := POS, SHUT := LOCKED,
+  SLOT := 1, TOLD := CALLCAR[1], FROM := CALLFROM[1], TO := CALLTO[1])
+CAL CALLS(SLOT := 2, TOLD := CALLCAR[2], FROM := CALLFROM[2], TO := CALLTO[2])
+CAL CALLS(SLOT := 3, TOLD := CALLCAR[3], FROM := CALLFROM[3], TO := CALLTO[3])
+CAL CALLS(SLOT := 4, TOLD := CALLCAR[4], FROM := CALLFROM[4], TO := CALLTO[4])
+CAL CALLS(SLOT := 5, TOLD := CALLCAR[5], FROM := CALLFROM[5], TO := CALLTO[5])
+CAL CALLS(SLOT := 6, TOLD := CALLCAR[6], FROM := CALLFROM[6], TO := CALLTO[6])
+CAL CALLS(SLOT := 7, TOLD := CALLCAR[7], FROM := CALLFROM[7], TO := CALLTO[7])
+CAL CALLS(SLOT := 8, TOLD := CALLCAR[8], FROM := CALLFROM[8], TO := CALLTO[8])
+CAL CALLS(SLOT := 9, TOLD := CALLCAR[9], FROM := CALLFROM[9], TO := CALLTO[9])
+CAL CALLS(SLOT := 10, TOLD := CALLCAR[10], FROM := CALLFROM[10], TO := CALLTO[10])
+CAL CALLS(SLOT := 11, TOLD := CALLCAR[11], FROM := CALLFROM[11], TO := CALLTO[11])
+CAL CALLS(SLOT := 12, TOLD := CALLCAR[12], FROM := CALLFROM[12], TO := CALLTO[12])
+CAL CALLS(SLOT := 13, TOLD := CALLCAR[13], FROM := CALLFROM[13], TO := CALLTO[13])
+CAL CALLS(SLOT := 14, TOLD := CALLCAR[14], FROM := CALLFROM[14], TO := CALLTO[14])
+CAL CALLS(SLOT := 15, TOLD := CALLCAR[15], FROM := CALLFROM[15], TO := CALLTO[15])
+CAL CALLS(SLOT := 16, TOLD := CALLCAR[16], FROM := CALLFROM[16], TO := CALLTO[16])
+LD CALLS.ABOVE
+ST ABOVE
+LD CALLS.BELOW
+ST BELOW
+
+(* The call of the passenger who got out is served, and its slot becomes free. *)
+LD CALLS.SERVED
+ST SERVE
+
+(* The door stays open until nobody has passed it for the dwell time, and as long as all who pass
+   it at this stop need. *)
+LD OPENED
+ANDN CALLS.MOVED
+ST DWELL.IN
+CAL DWELL(PT := T#3s)
+CAL PASSAGE(IN := OPENED, PT := CALLS.PASSING)
+LD DWELL.Q
+AND PASSAGE.Q
+ST OVER
+
+(* A car that has work doesn't stand for ever: after this time it takes no more passengers, until
+   it has left. *)
+LD MOTOR
+EQ 0
+AND( ABOVE
+OR BELOW
+)
+ST HELD.IN
+CAL HELD(PT := T#20s)
+
+(* A car without a call goes to its home floor after some time. The homes are spread over the
+   building: the lowest floor in each of as many parts as there are cars. *)
+LD ABOVE
+OR BELOW
+OR CALLS.OUT_HERE
+ORN LOCKED
+STN IDLE.IN
+CAL IDLE(PT := T#15s)
+LD IDLE.Q
+JMPCN BUSY
+LD CARNO
+SUB 1
+MUL 8
+DIV 2
+ADD 1
+ST HOME
+LD POS
+LT HOME
+ST ABOVE
+LD POS
+GT HOME
+ST BELOW
+BUSY:
+
+(* Does the car stand? *)
+LD MOTOR
+EQ 0
+JMPC STANDS
+
+(* It runs. Between two landings it runs on, and at the landing from which it comes. *)
+LD MOTOR
+ST DIRECTION
+LD POS
+EQ CAME_FROM
+ORN LEVEL
+RETC
+
+(* It is level with a floor. It stops where somebody gets out, or waits and goes the same way,
+   and where no work is ahead. *)
+LD DIRECTION
+EQ 1
+SEL BELOW, ABOVE
+ST AHEAD
+LD DIRECTION
+EQ 1
+SEL CALLS.DOWN_HERE, CALLS.UP_HERE
+OR CALLS.OUT_HERE
+ST HERE
+ORN AHEAD
+RETCN
+LD 0
+ST MOTOR
+LD HERE
+ST OPEN
+RET
+
+(* It stands. At a landing it keeps its direction as long as there is work that way. *)
+STANDS:
+LDN LEVEL
+JMPC BETWEEN
+LD DIRECTION
+EQ -1
+ORN ABOVE
+AND BELOW
+JMPC DOWNWARDS
+LD ABOVE
+SEL 0, 1
+ST DIRECTION
+JMP DOOR
+DOWNWARDS:
+LD -1
+ST DIRECTION
+
+(* The door opens for those who get in or out, and stays open until its time is over. *)
+DOOR:
+LD DIRECTION
+EQ 1
+SEL CALLS.DOWN_HERE, CALLS.UP_HERE
+OR CALLS.OUT_HERE
+ST HERE
+LD OPEN
+ANDN OVER
+OR HERE
+ST OPEN
+RETC
+
+(* Then the door shuts. Once it is locked the car runs, if it has work. *)
+LDN LOCKED
+RETC
+LD POS
+ST CAME_FROM
+LD DIRECTION
+ST MOTOR
+RET
+
+(* It stands between two landings, after a fire recall or a limit of running cars. It runs on as it
+   has run, after a recall down; from beyond an end of the shaft it runs back. *)
+BETWEEN:
+LDN LOCKED
+RETC
+LD 0
+ST CAME_FROM
+LD DIRECTION
+EQ 0
+SEL DIRECTION, -1
+ST DIRECTION
+LD BOTTOM
+SEL DIRECTION, 1
+ST DIRECTION
+LD TOP
+SEL DIRECTION, -1
+ST DIRECTION
+ST MOTOR
+RET
+
+(* Fire: each car goes down to floor 1. Interlock rule 6 lets no car run up. The calls stay as
+   they are, and the car goes on with them after the recall. *)
+RECALL:
+CAL DWELL(IN := FALSE)
+CAL PASSAGE(IN := FALSE)
+CAL HELD(IN := FALSE)
+CAL IDLE(IN := FALSE)
+LD 0
+ST DIRECTION
+ST CAME_FROM
+LD POS
+EQ 1
+AND LEVEL
+JMPC AT_FLOOR_1
+LD FALSE
+ST OPEN
+LD LOCKED
+SEL 0, -1
+ST MOTOR
+RET
+
+(* At floor 1 it stands with its door open, as long as FIRE holds. *)
+AT_FLOOR_1:
+LD 0
+ST MOTOR
+LD TRUE
+ST OPEN
+END_PROGRAM
+
+(* The group program: a waiting call is assigned to the nearest car. *)
+PROGRAM NEAREST_CAR
+VAR
+  WAITING : INT (0..16);    (* the call slot that is handled; 0 for none *)
+  CHOSEN : INT (0..2);      (* the car that gets the call *)
+  FROM : INT (0..8);        (* the landing of the call *)
+  DISTANCE : INT (0..8);    (* how many floors a car is away from it *)
+  LEAST : INT (0..8);       (* the same of the nearest car *)
+END_VAR
+
+(* Which call slot waits? Each scan handles one, the lowest. *)
+LD 0
+ST WAITING
+LD CALLWAITS[16]
+SEL WAITING, 16
+ST WAITING
+LD CALLWAITS[15]
+SEL WAITING, 15
+ST WAITING
+LD CALLWAITS[14]
+SEL WAITING, 14
+ST WAITING
+LD CALLWAITS[13]
+SEL WAITING, 13
+ST WAITING
+LD CALLWAITS[12]
+SEL WAITING, 12
+ST WAITING
+LD CALLWAITS[11]
+SEL WAITING, 11
+ST WAITING
+LD CALLWAITS[10]
+SEL WAITING, 10
+ST WAITING
+LD CALLWAITS[9]
+SEL WAITING, 9
+ST WAITING
+LD CALLWAITS[8]
+SEL WAITING, 8
+ST WAITING
+LD CALLWAITS[7]
+SEL WAITING, 7
+ST WAITING
+LD CALLWAITS[6]
+SEL WAITING, 6
+ST WAITING
+LD CALLWAITS[5]
+SEL WAITING, 5
+ST WAITING
+LD CALLWAITS[4]
+SEL WAITING, 4
+ST WAITING
+LD CALLWAITS[3]
+SEL WAITING, 3
+ST WAITING
+LD CALLWAITS[2]
+SEL WAITING, 2
+ST WAITING
+LD CALLWAITS[1]
+SEL WAITING, 1
+ST WAITING
+
+(* Nothing to do where none waits. While FIRE holds no call is assigned: calls wait in their
+   slots until the recall is over. *)
+LD WAITING
+EQ 0
+JMPC NOTHING
+LD FIRE
+JMPC NOTHING
+
+(* Which car is nearest to the landing? At a tie it is the one with the lowest number. *)
+LD CALLFROM[WAITING]
+ST FROM
+LD 8
+ST LEAST
+LD 1
+ST CHOSEN
+LD CPOS[1]
+SUB FROM
+ABS
+ST DISTANCE
+LT LEAST
+SEL CHOSEN, 1
+ST CHOSEN
+LD DISTANCE
+MIN LEAST
+ST LEAST
+LD CPOS[2]
+SUB FROM
+ABS
+ST DISTANCE
+LT LEAST
+SEL CHOSEN, 2
+ST CHOSEN
+LD DISTANCE
+MIN LEAST
+ST LEAST
+
+(* It gets the call. *)
+LD CHOSEN
+ST ASSIGN[WAITING]
+NOTHING:
+END_PROGRAM
+
+(* The group: 2 cars, 8 floors, 16 call slots; a task for each car and one for
+   the group. *)
+CONFIGURATION BUILDING
+VAR_GLOBAL CONSTANT CARS : INT := 2; FLOORS : INT := 8; SLOTS : INT := 16; END_VAR
+RESOURCE CABINET ON PLC
+TASK CAR1 (INTERVAL := T#100ms, PRIORITY := 1);
+TASK CAR2 (INTERVAL := T#100ms, PRIORITY := 1);
+TASK GROUP (INTERVAL := T#100ms, PRIORITY := 1);
+PROGRAM P1 WITH CAR1 : COLLECTIVE_CAR;
+PROGRAM P2 WITH CAR2 : COLLECTIVE_CAR;
+PROGRAM P3 WITH GROUP : NEAREST_CAR;
+END_RESOURCE
+END_CONFIGURATION
