@@ -7,7 +7,7 @@ ghost use Rattle.il_read.specs.Reads.{Reads, Refuses, Eats};
 ghost use Rattle.il_read.specs.declared.stop.Stop.TheVariants.{Memory};
 ghost use Rattle.il_body.specs.Bodies.{closes_lead, leaves_lead, loads_lead, may_begin, SpellsPlaced, HasLabels, TakesEnd, SpellsNext, Shortens, IsLast, SpellsSteps, SpellsSmallBody};
 
-use il_read::{Flaw, Lead, Source, Stop, Tokens};
+use il_read::{Lead, Source, Stop, SyntaxError, Tokens};
 use il_spec::keyword::Keyword;
 use il_spec::token::{Kind, Sign};
 use il_spec::tree::{Body, Instruction, Named, Place, Step};
@@ -65,7 +65,7 @@ fn may_begin(depth: usize, load: bool, lead: Lead) -> bool
 fn surplus(tokens: &Tokens, lead: Lead) -> Stop {
     match lead {
         Lead::Name | Lead::Sign(Sign::Ampersand | Sign::CloseParenthesis) => {
-            tokens.fault(Flaw::TooMany)
+            tokens.fault(SyntaxError::TooMany)
         }
         Lead::Reserved(
             Keyword::Load { .. }
@@ -75,7 +75,7 @@ fn surplus(tokens: &Tokens, lead: Lead) -> Stop {
             | Keyword::Jump(_)
             | Keyword::Call(_)
             | Keyword::Return(_),
-        ) => tokens.fault(Flaw::TooMany),
+        ) => tokens.fault(SyntaxError::TooMany),
         _ => tokens.outside(),
     }
 }

@@ -19,4 +19,4 @@ pub use il_slots::flat::Cell;
 pub use rows::variable;
 pub use scanned::{OpenScan, Scanned, scan};
 pub use store::{Begin, Stepped, Store, finish, step};
-pub use verified::{TaskInfo, UnitInfo, Verified};
+pub use verified::{Tables, TaskInfo, UnitInfo, Verified, tables};

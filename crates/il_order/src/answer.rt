@@ -172,7 +172,7 @@ fn lines_fault(
     for at in 0..lines.len() {
         let line = &lines[at];
         let over = is_over(names, reached, counted, line);
-        found = earlier(found, fault_if(over, OrderFault::TooManySlots, line.place));
+        found = earlier(found, fault_if(over, OrderFault::TooMany, line.place));
     }
     found
 }
@@ -182,7 +182,7 @@ fn globals_fault(names: &Scoped, total: usize) -> Option<Found<OrderFault>>
     ensures { IsLeast result (GlobalsBreak names.now total) }
 {
     match names.config().globals_place {
-        Some(place) => fault_if(total > MOST, OrderFault::TooManySlots, place),
+        Some(place) => fault_if(total > MOST, OrderFault::TooMany, place),
         None => None,
     }
 }

@@ -47,8 +47,8 @@ pub fn parse(alloc: Global, text: &[u8], tokens: &[Token]) -> Result<Written, Re
     match read(alloc, text, tokens) {
         Ok(tree) => Ok(Written::of(tree)),
         Err(Stop::Memory) => Err(Refusal::Memory),
-        Err(Stop::Fault { flaw, line }) => Err(Refusal::Fault {
-            number: flaw.number(),
+        Err(Stop::Fault { error, line }) => Err(Refusal::Fault {
+            number: error.number(),
             line: line.unwrap_or(last_line(text)),
         }),
     }

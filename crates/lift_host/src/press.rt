@@ -8,6 +8,7 @@ ghost use Rattle.lift_host.specs.declared.press.Press.{Press};
 use crate::request::{Words, number_to};
 use lists::Items;
 use std::alloc::{AllocError, Global};
+use thiserror::Error;
 
 /// The most presses of a command.
 const MOST_PRESSES: usize = 1000;
@@ -26,13 +27,16 @@ pub struct Press {
 }
 
 /// Why words give no presses.
-#[derive(Drop)]
+#[derive(Debug, Drop, Error)]
 pub enum PressFault {
     /// This word is no press.
+    #[error("`{0}` is no press")]
     Bad(String),
     /// There are more than 1000 words.
+    #[error("more than 1000 presses")]
     TooMany,
     /// An allocation failed.
+    #[error("out of memory")]
     NoMemory,
 }
 

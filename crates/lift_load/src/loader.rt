@@ -7,14 +7,19 @@ ghost use Rattle.il_rules.specs.Faults.{BreaksDeclarations, Broken, Typing, HasN
 ghost use Rattle.il_rules.specs.Written.{IsWritten, IsNested};
 ghost use Rattle.il_run.specs.Annotation.{Annotated};
 ghost use Rattle.il_parse.specs.Refused.{IsFault};
-ghost use Rattle.il_budget.specs.Costs.{IsTooLong, cost_of};
+ghost use Rattle.il_run.specs.Paths.{longest};
+ghost use Rattle.il_budget.specs.Costs.{IsTooLong, cost_of, path_of};
+ghost use Rattle.il_slots.specs.Program.{program_names};
+ghost use Rattle.il_slots.specs.Whole.{unit_code};
+ghost use Rattle.il_exec.specs.Quick.{AreAllQuick};
+ghost use Rattle.il_machine.specs.Sharing.{AreSeats};
 ghost use Rattle.lift_run_laws.specs.Runs.{RunsWell};
 ghost use Rattle.lift_load.specs.Loading.{IsSpelled, SpellsOnly, SpellsNone, IsUnbroken, IsAccepted, IsRefusedFor, IsSpelledWith, IsExplained, ReportsFaultOfText};
 
-use il_budget::budget;
+use il_budget::{Budget, Path, budget};
 use il_code::{Code, code};
 use il_declare::declare;
-use il_machine::Verified;
+use il_machine::{Tables, Verified, tables};
 use il_order::{Ordered, ordered};
 use il_parse::{Written, parse};
 use il_spec::fault::Refusal;
@@ -93,9 +98,34 @@ fn affordable(alloc: Global, checked: Checked) -> Result<Verified, Refusal>
     ensures costs { IfOk result (λ v. v.costs ≡ map (cost_of v.config) v.config.units) }
     ensures refused { IfErr result (IsRefusedBy (IsTooLong checked)) }
 {
-    let found = budget(alloc, &checked);
-    let (checked, found) = both(checked, found)?;
-    Ok(Verified::of(alloc, checked, found.0, found.1)?)
+    let found = parts(alloc, &checked);
+    let (checked, parts) = both(checked, found)?;
+    Ok(Verified::of(checked, parts.budget, parts.path, parts.tables))
+}
+
+// What belongs to a configuration with ranges none of whose units costs too much.
+struct Parts {
+    budget: Budget,
+    path: Path,
+    tables: Tables,
+}
+
+// What belongs to a configuration with ranges, or its first unit that costs too much.
+fn parts(alloc: Global, checked: &Checked) -> Result<Parts, Refusal>
+    ensures costs { IfOk result (λ p. p.budget.units ≡ map (longest checked.now) checked.now.units) }
+    ensures lines { IfOk result (λ p. p.path.units ≡ map (path_of checked.now) checked.now.units) }
+    ensures seats { IfOk result (λ p. AreSeats checked.now p.tables.seats) }
+    ensures quick { IfOk result (λ p. AreAllQuick p.tables.quick (map (unit_code (program_names checked.now) checked.now) checked.now.units)) }
+    ensures affordable { IfOk result (λ _. HasNoFault (IsTooLong checked.now)) }
+    ensures refused { IfErr result (IsRefusedBy (IsTooLong checked.now)) }
+{
+    let (budget, path) = budget(alloc, checked)?;
+    let tables = tables(alloc, checked)?;
+    Ok(Parts {
+        budget,
+        path,
+        tables,
+    })
 }
 
 // The code of a configuration each of whose instructions has ranges, or the first fault before.

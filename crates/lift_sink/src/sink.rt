@@ -6,9 +6,11 @@ ghost use Rattle.lift_sink.specs.Writes.{AppendsFront};
 
 use std::alloc::Global;
 use std::io::Print;
+use thiserror::Error;
 
 /// A sink takes no more.
-#[derive(Clone, Copy)]
+#[derive(Clone, Copy, Debug, Error)]
+#[error("the sink takes no more")]
 pub struct SinkFault;
 
 /// Where a program writes: a stream, or a list in memory.

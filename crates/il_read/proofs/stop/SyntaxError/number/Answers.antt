@@ -1,8 +1,8 @@
 use Rattle.std.proofs.Common.{rules}
-use Rattle.il_read.proofs.stop.Flaw.number.Goals as goal
+use Rattle.il_read.proofs.stop.SyntaxError.number.Goals as goal
 
-pub returns-in-Outside : goal.returns-in-Outside
-returns-in-Outside c = search rules
+pub returns-in-Unexpected : goal.returns-in-Unexpected
+returns-in-Unexpected c = search rules
 
 pub returns-in-TooDeep : goal.returns-in-TooDeep
 returns-in-TooDeep c = search rules
