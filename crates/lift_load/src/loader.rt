@@ -99,33 +99,22 @@ fn affordable(alloc: Global, checked: Checked) -> Result<Verified, Refusal>
     ensures refused { IfErr result (IsRefusedBy (IsTooLong checked)) }
 {
     let found = parts(alloc, &checked);
-    let (checked, parts) = both(checked, found)?;
-    Ok(Verified::of(checked, parts.budget, parts.path, parts.tables))
-}
-
-// What belongs to a configuration with ranges none of whose units costs too much.
-struct Parts {
-    budget: Budget,
-    path: Path,
-    tables: Tables,
+    let (checked, found) = both(checked, found)?;
+    Ok(Verified::of(checked, found.0, found.1, found.2))
 }
 
 // What belongs to a configuration with ranges, or its first unit that costs too much.
-fn parts(alloc: Global, checked: &Checked) -> Result<Parts, Refusal>
-    ensures costs { IfOk result (λ p. p.budget.units ≡ map (longest checked.now) checked.now.units) }
-    ensures lines { IfOk result (λ p. p.path.units ≡ map (path_of checked.now) checked.now.units) }
-    ensures seats { IfOk result (λ p. AreSeats checked.now p.tables.seats) }
-    ensures quick { IfOk result (λ p. AreAllQuick p.tables.quick (map (unit_code (program_names checked.now) checked.now) checked.now.units)) }
+fn parts(alloc: Global, checked: &Checked) -> Result<(Budget, Path, Tables), Refusal>
+    ensures costs { IfOk result (λ p. p.0.units ≡ map (longest checked.now) checked.now.units) }
+    ensures lines { IfOk result (λ p. p.1.units ≡ map (path_of checked.now) checked.now.units) }
+    ensures seats { IfOk result (λ p. AreSeats checked.now p.2.seats) }
+    ensures quick { IfOk result (λ p. AreAllQuick p.2.quick (map (unit_code (program_names checked.now) checked.now) checked.now.units)) }
     ensures affordable { IfOk result (λ _. HasNoFault (IsTooLong checked.now)) }
     ensures refused { IfErr result (IsRefusedBy (IsTooLong checked.now)) }
 {
-    let (budget, path) = budget(alloc, checked)?;
+    let found = budget(alloc, checked)?;
     let tables = tables(alloc, checked)?;
-    Ok(Parts {
-        budget,
-        path,
-        tables,
-    })
+    Ok((found.0, found.1, tables))
 }
 
 // The code of a configuration each of whose instructions has ranges, or the first fault before.
