@@ -33,9 +33,9 @@ use Rattle.il_scan_laws.proofs.Meant.{is_scalar, is_block, input_typed, output_t
 use Rattle.il_scan_laws.proofs.Fresh.{IsEntity, of_entities}
 use Rattle.il_scan_laws.proofs.Stacks.{is_shallow}
 use Rattle.il_scan_laws.proofs.Used.{Invoked, of_found, used_among, instance_used, calls_are_uses, no_standard}
-use Rattle.il_slots.specs.Program.{is_used}
-use Rattle.il_slots.proofs.Frames.{in_filter, of_filter, two_of, stack_used, function_in_task, of_task_functions}
-use Rattle.il_slots.proofs.Tasks.{at_contains}
+use Rattle.il_layout.specs.Program.{is_used}
+use Rattle.il_layout.proofs.Frames.{in_filter, of_filter, two_of, stack_used, function_in_task, of_task_functions}
+use Rattle.il_layout.proofs.Tasks.{at_contains}
 use Rattle.il_code.specs.Laying.{has_frame}
 
 -- NAMES

@@ -2,7 +2,7 @@
 
 ghost use Rattle.il_order.specs.OrderFaults.{order_fault_number};
 
-use il_found::PhaseFault;
+use il_rules::PhaseFault;
 use thiserror::Error;
 
 /// What the order of units, or a task's slots, break (IEC 61131-3:2003, 2.5; own rules).

@@ -6,7 +6,7 @@ ghost use Rattle.il_read.specs.Reads.{Reads, Refuses, Stands, Misses};
 ghost use Rattle.il_parse.specs.Parts.{SpellsGlobalList, SpellsSomeGlobals, SpellsTasks, SpellsPrograms, SpellsLines, SpellsResourceOf, SpellsEnding, SpellsGroup, SpellsSmallConfig};
 
 use crate::units::units;
-use il_body::comes;
+use crate::variables::comes;
 use il_read::{Source, Stop, Tokens};
 use il_spec::keyword::Keyword;
 use il_spec::tree::{Config, Declaration, Place, ProgramLine, Size, Task, Unit};

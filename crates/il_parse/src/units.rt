@@ -4,7 +4,7 @@ ghost use Rattle.std.specs.Prelude.{◌≡◌, length, IsTrue, IsFalse, IfOk, If
 ghost use Rattle.il_read.specs.Reads.{Reads, Refuses};
 ghost use Rattle.il_parse.specs.Parts.{SpellsFewUnits};
 
-use il_body::unit;
+use crate::one_unit::unit;
 use il_read::{Lead, Source, Stop, SyntaxError, Tokens};
 use il_spec::keyword::Keyword;
 use il_spec::tree::Unit;

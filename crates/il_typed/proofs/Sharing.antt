@@ -19,9 +19,9 @@ use Rattle.il_rules.specs.declared.names.Origin.TheVariants.{Input as AsInput, O
 use Rattle.il_rules.specs.Names as rule
 use Rattle.il_rules.specs.Names.{Spelling, ImageName, image_of, image_name, own_variable, variables_of, result_of, with_origin, named_forms, program_named, or_else, Meaning, MeansVariable, MeansUnit, MeansStandard, meaning, meant_variable, variable_named, sees, outer_meaning, unit_named, is_predeclared}
 use Rattle.il_rules.specs.Types.{IsExternalOf, TaskWrites, stored_names}
-use Rattle.il_found.specs.Least.{NumberedFault, IsLeast}
-use Rattle.il_found.proofs.Least.{least_same}
-use Rattle.il_typing_laws.specs.Faults.{HasStoreOfTwo}
+use Rattle.il_rules.specs.Least.{NumberedFault, IsLeast}
+use Rattle.il_rules.proofs.Least.{least_same}
+use Rattle.il_typed.specs.Faults.{HasStoreOfTwo}
 use Rattle.il_scope.specs.declared.entry.Variable.{Variable}
 use Rattle.il_scope.specs.Views.{variable_of}
 use Rattle.il_scope.proofs.Filled.{get-inserted}

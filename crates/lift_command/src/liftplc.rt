@@ -8,15 +8,15 @@ ghost use Rattle.lift_output.specs.Outcomes.{HasWarnings, IsProgramOutcome, want
 ghost use Rattle.lift_shell.specs.Runs.{runs};
 
 use il_machine::Verified;
-use il_shown::ranges_text;
+use il_reports::ranges_text;
 use il_spec::fault::Refusal;
 use lift_host::files::Reading;
 use lift_host::request::{Request, Showing, Simulating};
 use lift_host::status::Fault;
 use lift_load::{load, unbroken};
+use lift_messages::output::Output;
 use lift_output::outcome::{outcome, ran};
 use lift_shell::commands::Commands;
-use lift_show::output::Output;
 use std::alloc::Global;
 use std::sync::Wait;
 use std::thread::Threads;

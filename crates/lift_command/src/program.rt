@@ -5,7 +5,7 @@ ghost use Rattle.lift_command.specs.Programs.{HasLeft, IsPlainAnswer, IsProgramA
 ghost use Rattle.lift_host.specs.Messages.{message_of, status_of};
 ghost use Rattle.lift_host.specs.Requests.{plain_words};
 ghost use Rattle.lift_shell.specs.Runs.{AskForRun, stream};
-ghost use Rattle.lift_sink.specs.Writes.{Writes};
+ghost use Rattle.lift_host.specs.Writes.{Writes};
 
 use crate::disk_trace::DiskTrace;
 use crate::liftplc::Liftplc;
@@ -14,11 +14,11 @@ use crate::serving::{TraceSink, serve};
 use lift_host::files::{Disk, TextFiles};
 use lift_host::request::{Plain, read_words};
 use lift_host::serving::asked_to_serve;
+use lift_host::sink::{Memory, Sink, Stream};
 use lift_host::status::{Fault, Status};
+use lift_messages::show::tell;
 use lift_shell::entry::{keep_freed_memory, words};
 use lift_shell::run::{is_wanted, run, run_alone};
-use lift_show::show::tell;
-use lift_sink::sink::{Memory, Sink, Stream};
 use std::alloc::Global;
 use std::io::{BufReader, IsTerminal, Read};
 use std::process::ExitCode;

@@ -4,14 +4,17 @@ ghost use Rattle.std.specs.Prelude.{◌≡◌, ◌++◌, IfOk, OnOk};
 ghost use Rattle.std.specs.Io.KnownBytes.{Consumes};
 ghost use Rattle.lift_host.specs.Messages.{message_of, status_of};
 ghost use Rattle.lift_shell.specs.Runs.{IsExplained};
-ghost use Rattle.lift_sink.specs.Writes.{Writes};
+ghost use Rattle.lift_host.specs.Writes.{Writes};
 ghost use Rattle.lift_command.specs.Servings.{IsCreated, IsNew, IsServeAnswer, IsTextAnswer, IsLoadedAnswer, IsRefusalBelow, IsRefusedAnswer, IsUnreadAnswer, fault_of_halt, fault_of_input, fault_of_line, fault_of_stop, fault_of_wrong, shown_line};
 
 use crate::liftplc::loaded;
 use il_machine::Verified;
 use lift_host::files::{Cause, ReadFault, TextFiles};
 use lift_host::serving::{Serving, Tracing};
+use lift_host::sink::{Sink, SinkFault};
 use lift_host::status::{Fault, Status};
+use lift_messages::place::below;
+use lift_messages::show::tell;
 use lift_serve::group::{Halt, serve_group};
 use lift_serve::input::Came;
 use lift_serve::said::WrongLine;
@@ -19,9 +22,6 @@ use lift_serve::serve::Stop;
 use lift_serve::server::ServeFault;
 use lift_shell::explained::Explained;
 use lift_shell::run::{MOST_BYTES, unread_explained};
-use lift_show::show::tell;
-use lift_sink::sink::{Sink, SinkFault};
-use lift_source::place::below;
 use std::alloc::{AllocError, Global};
 use std::io::Read;
 

@@ -2,14 +2,14 @@
 
 ghost use Rattle.std.specs.Prelude.{◌≡◌, ◌++◌, true, OnOk, OnErr, decimal};
 ghost use Rattle.std.specs.Io.KnownBytes.{Appends};
-ghost use Rattle.lift_sink.specs.Writes.{AppendsFront};
+ghost use Rattle.lift_host.specs.Writes.{AppendsFront};
 ghost use Rattle.lift_host.specs.Messages.{message_of, status_of, code_of};
 
 use crate::files::{Cause, ReadFault};
 use crate::press::PressFault;
+use crate::sink::{Sink, SinkFault, put_all};
 use il_spec::fault::Refusal;
 use itoa::Buffer;
-use lift_sink::sink::{Sink, SinkFault, put_all};
 use std::alloc::AllocError;
 
 /// How a program ends.

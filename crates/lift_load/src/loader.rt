@@ -8,15 +8,14 @@ ghost use Rattle.il_rules.specs.Written.{IsWritten, IsNested};
 ghost use Rattle.il_run.specs.Annotation.{Annotated};
 ghost use Rattle.il_parse.specs.Refused.{IsFault};
 ghost use Rattle.il_run.specs.Paths.{longest};
-ghost use Rattle.il_budget.specs.Costs.{IsTooLong, cost_of, path_of};
-ghost use Rattle.il_slots.specs.Program.{program_names};
-ghost use Rattle.il_slots.specs.Whole.{unit_code};
+ghost use Rattle.il_verify.specs.Costs.{IsTooLong, cost_of, path_of};
+ghost use Rattle.il_layout.specs.Program.{program_names};
+ghost use Rattle.il_layout.specs.Whole.{unit_code};
 ghost use Rattle.il_exec.specs.Quick.{AreAllQuick};
 ghost use Rattle.il_machine.specs.Sharing.{AreSeats};
 ghost use Rattle.lift_run_laws.specs.Runs.{RunsWell};
 ghost use Rattle.lift_load.specs.Loading.{IsSpelled, SpellsOnly, SpellsNone, IsUnbroken, IsAccepted, IsRefusedFor, IsSpelledWith, IsExplained, ReportsFaultOfText};
 
-use il_budget::{Budget, Path, budget};
 use il_code::{Code, code};
 use il_declare::declare;
 use il_machine::{Tables, Verified, tables};
@@ -26,7 +25,7 @@ use il_spec::fault::Refusal;
 use il_spec::pair::both;
 use il_text::tokens;
 use il_typed::{Typed, typed};
-use il_verify::{Checked, verify};
+use il_verify::{Budget, Checked, Path, budget, verify};
 use std::alloc::Global;
 
 /// The configuration that a text spells, verified.

@@ -2,15 +2,15 @@
 
 ghost use Rattle.std.specs.Prelude.{◌≡◌, ◌++◌, ◌∷◌, [], length, IfOk, OnOk, string_bytes};
 ghost use Rattle.il_table.specs.NameMap.{get};
-ghost use Rattle.il_slots.specs.declared.flat.Cell.{Cell as CellOf};
-ghost use Rattle.il_slots.specs.Program.{global_cells};
+ghost use Rattle.il_layout.specs.declared.flat.Cell.{Cell as CellOf};
+ghost use Rattle.il_layout.specs.Program.{global_cells};
 ghost use Rattle.lift_spec.specs.Snapshot.{motor_number};
 ghost use Rattle.lift_trace.specs.Text.{flag, flags};
 ghost use Rattle.lift_output.specs.ImageText.{truth_text, fields_text, car_text, cars_text, slot_text, slots_text, global_text, globals_text, image_text};
 
 use il_machine::Value;
-use lift_image::{CarFields, CarOutputs, Fields, Motor};
 use lift_spec::calls::Slot;
+use lift_spec::{CarFields, CarOutputs, Fields, Motor};
 use lift_world::World;
 use std::alloc::{AllocError, Global};
 

@@ -5,7 +5,7 @@ ghost use Rattle.lift_spec.specs.Plant.{kept_within, moved, fields_of_car};
 ghost use Rattle.lift_spec.specs.Snapshot.{motor_number};
 ghost use Rattle.lift_plant.specs.Cars.{placed, IsPlaced};
 
-use lift_image::{CarFields, CarOutputs, Motor};
+use lift_spec::{CarFields, CarOutputs, Motor};
 
 /// Where a car is, ten to a floor with 0 at floor 1, and how far its door is open, 5 being wholly.
 #[derive(Clone, Copy, Default)]

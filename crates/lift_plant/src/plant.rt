@@ -9,7 +9,7 @@ ghost use Rattle.lift_plant.specs.Cars.{placed, IsPlaced};
 ghost use Rattle.lift_plant.specs.Safe.{IsSafeStep};
 
 use crate::car::{Car, car_fields, moved_car};
-use lift_image::{Bounded, CarFields, CarOutputs, Fields, Outputs};
+use lift_spec::{Bounded, CarFields, CarOutputs, Fields, Outputs};
 use std::marker::Model;
 
 /// The latest NOW in milliseconds, the largest TIME.

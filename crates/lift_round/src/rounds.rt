@@ -16,11 +16,11 @@ ghost use Rattle.lift_round.specs.Rounds.{IsRoundOf, ScansNoticed, most_of_scans
 
 use crate::notice::{Notices, add_answers, add_denials, add_entered};
 use il_machine::Verified;
-use lift_image::{Bounded, Fields, Sizes};
 use lift_runs::scan::scan;
 use lift_runs::sim::gather_all;
 use lift_spec::event::Event;
 use lift_spec::report::Report;
+use lift_spec::{Bounded, Fields, Sizes};
 use lift_world::World;
 
 /// A whole scan of a task, and what it has to tell.

@@ -22,7 +22,6 @@ use crate::scan::scan;
 use il_machine::Verified;
 use il_spec::fault::Refusal;
 use lift_host::press::Press;
-use lift_image::{Fields, Sizes};
 use lift_journal::entered::calls_of;
 use lift_journal::fire::is_fire_in;
 use lift_plant::plant::{Plant, plant_step};
@@ -30,6 +29,7 @@ use lift_spec::calls::Call;
 use lift_spec::event::Event;
 use lift_spec::journal::Entry;
 use lift_spec::report::Report;
+use lift_spec::{Fields, Sizes};
 use lift_world::World;
 use std::alloc::{AllocError, Global};
 

@@ -14,9 +14,9 @@ ghost use Rattle.lift_serve.specs.Answers.{notice_line, outputs_line, press_line
 
 use crate::answer::{put_notices, put_outputs, put_press};
 use crate::said::Said;
-use lift_image::Fields;
 use lift_round::notice::Notices;
 use lift_round::round;
+use lift_spec::Fields;
 use lift_spec::calls::Call;
 use lift_spec::event::Event;
 use lift_spec::report::Report;

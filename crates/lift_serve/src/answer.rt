@@ -6,11 +6,11 @@ ghost use Rattle.lift_spec.specs.Replies.{reply_with};
 ghost use Rattle.lift_trace.specs.Text.{flag};
 ghost use Rattle.lift_serve.specs.Answers.{entered_line, denied_line, told_line, served_line, notice_line, output_part, outputs_line, press_line, press_word};
 
-use lift_image::{CarOutputs, Motor};
 use lift_round::notice::Notice;
 use lift_spec::calls::Call;
 use lift_spec::event::Reply;
 use lift_spec::report::{Denial, EnteredCall, Report, Rule};
+use lift_spec::{CarOutputs, Motor};
 use std::alloc::AllocError;
 
 /// A motor as a number: 1 is up, -1 is down.

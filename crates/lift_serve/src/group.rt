@@ -2,13 +2,13 @@
 
 ghost use Rattle.std.specs.Prelude.{◌≡◌, OnOk, IfErr};
 ghost use Rattle.std.specs.Io.KnownBytes.{Appends, Consumes};
-ghost use Rattle.lift_sink.specs.Writes.{AppendsFront};
+ghost use Rattle.lift_host.specs.Writes.{AppendsFront};
 ghost use Rattle.lift_serve.specs.Ending.{Ends, IsEnded, IsHalted, IsHaltWritten};
 
 use crate::serve::{Stop, Stopped, serve};
 use crate::server::{ServeFault, Server};
 use il_machine::Verified;
-use lift_sink::sink::{Sink, put_all};
+use lift_host::sink::{Sink, put_all};
 use std::alloc::Global;
 use std::io::Read;
 

@@ -5,9 +5,9 @@ ghost use Rattle.lift_spec.specs.Image.{sizes_of};
 ghost use Rattle.lift_serve.specs.Saying.{IsSpelled, IsTaken, said_line, Says, SaysNothing, is_call};
 ghost use Rattle.lift_serve.specs.declared.said.Said.{Said as SaidOf};
 
-use lift_image::{Fields, Sizes, in_range, is_floor};
 use lift_spec::calls::Call;
 use lift_spec::trace::TraceEvent;
+use lift_spec::{Fields, Sizes, in_range, is_floor};
 use lift_trace::event::event;
 use lift_trace::format::Format;
 use lift_world::World;

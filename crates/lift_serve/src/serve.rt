@@ -2,12 +2,12 @@
 
 ghost use Rattle.std.specs.Prelude.{◌≡◌, ◌≤◌, OnOk, IfErr, vec_capacity};
 ghost use Rattle.std.specs.Io.KnownBytes.{Appends, Consumes};
-ghost use Rattle.lift_sink.specs.Writes.{AppendsFront};
+ghost use Rattle.lift_host.specs.Writes.{AppendsFront};
 ghost use Rattle.lift_serve.specs.Serving.{IsServer, IsServed, IsStopped};
 
 use crate::input::{Came, next_line};
 use crate::server::{ServeFault, Server};
-use lift_sink::sink::Sink;
+use lift_host::sink::Sink;
 use std::io::Read;
 
 /// Why serving ends before the end was said.

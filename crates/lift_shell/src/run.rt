@@ -4,8 +4,8 @@ ghost use Rattle.std.specs.Prelude.{◌≡◌, ◌≢◌, ◌||◌, ◌↔◌, [
 ghost use Rattle.lift_host.specs.Messages.{fault_of_reading};
 ghost use Rattle.lift_host.specs.Requests.{name_of};
 ghost use Rattle.lift_shell.specs.Runs.{AskForRun, IsForRun, IsAnswerOf, IsFileAnswer, IsWordsOutcome, IsTraceRead, IsTraceText, IsTraceFault, IsExplained, IsOutcomeExplained, IsFaultBelow, IsUnreadBelow, IsLateName, HasPrinted, stream, most_bytes, most_trace_bytes, runs, source_of, trace_name, press_sentence};
-ghost use Rattle.lift_source.specs.Notices.{word_notice};
-ghost use Rattle.lift_source.specs.Places.{IsShownBelow};
+ghost use Rattle.lift_messages.specs.Notices.{word_notice};
+ghost use Rattle.lift_messages.specs.Places.{IsShownBelow};
 
 use crate::commands::{Commands, runs};
 use crate::cut::complete;
@@ -13,12 +13,12 @@ use crate::explained::Explained;
 use lift_help::command::{Answer, answer_of};
 use lift_host::files::{ReadFault, Reading, TextFiles};
 use lift_host::request::{Plain, Request, Simulating, Traced, asked, is_number};
+use lift_host::sink::Sink;
 use lift_host::status::{Fault, Status};
-use lift_show::output::Output;
-use lift_show::show::show;
-use lift_sink::sink::Sink;
-use lift_source::notice::{file_notice, plain_notice, word_notice};
-use lift_source::place::below;
+use lift_messages::notice::{file_notice, plain_notice, word_notice};
+use lift_messages::output::Output;
+use lift_messages::place::below;
+use lift_messages::show::show;
 use lift_trace::read::GREATEST_TRACE;
 use std::alloc::{AllocError, Global};
 use std::sync::Wait;

@@ -7,9 +7,9 @@ ghost use Rattle.lift_watch.specs.Values.{shared_value, value_in_car, car_value_
 use crate::names::{CarName, Shared, Watched, read};
 use il_machine::Value;
 use lift_host::status::Fault;
-use lift_image::{CarFields, CarOutputs, Fields, Image, Motor};
 use lift_runs::observer::Observer;
 use lift_spec::report::Report;
+use lift_spec::{CarFields, CarOutputs, Fields, Image, Motor};
 use lift_world::World;
 use lists::Items;
 use std::alloc::{AllocError, Global};

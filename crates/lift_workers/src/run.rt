@@ -19,7 +19,7 @@ use crate::{panel, refresher, task};
 use il_machine::Verified;
 use lift_desk::{Desk, DeskClosed, HandPass, PanelPass};
 use lift_host::press::Press;
-use lift_image::Sizes;
+use lift_spec::Sizes;
 use lift_spec::journal::Entry;
 use lift_station::{Blanks, Closed, Naming, RefreshPass, Station, TaskPass};
 use std::alloc::{AllocError, Global};

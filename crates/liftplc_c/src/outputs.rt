@@ -4,9 +4,9 @@ ghost use Rattle.std.specs.Prelude.{◌≡◌, ◌≤◌, length, map, take};
 ghost use Rattle.liftplc_c.specs.Outputs.{car_output, slot_output, TellsCars, TellsNotices, TellsSlots};
 
 use crate::notices::{NoticeOutput, put_notices};
-use lift_image::{CarOutputs, Motor};
 use lift_round::notice::Notices;
 use lift_spec::calls::Slot;
+use lift_spec::{CarOutputs, Motor};
 use lift_world::World;
 
 /// What a car is to do: 1 is up, -1 is down, 0 is still; and whether its door is to be open.

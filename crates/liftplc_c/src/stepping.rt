@@ -12,8 +12,8 @@ use crate::handle::Handle;
 use crate::history::led;
 use crate::outputs::{RoundOutputs, put};
 use crate::status::Status;
-use lift_image::Fields;
 use lift_round::kept::Rounds;
+use lift_spec::Fields;
 use std::alloc::Global;
 
 /// A round under fields in their ranges, and what it left.

@@ -2,10 +2,10 @@
 
 ghost use Rattle.std.specs.Prelude.{Some};
 
-use lift_image::{Bounded, CarFields, Fields};
-use lift_sink::sink::{Sink, SinkFault};
+use lift_host::sink::{Sink, SinkFault};
 use lift_spec::hand::Hand;
 use lift_spec::journal::Entry;
+use lift_spec::{Bounded, CarFields, Fields};
 use lift_trace::fault::TraceFault;
 use lift_trace::write::write_trace;
 

@@ -3,8 +3,8 @@
 use crate::stations::{Played, Step, play};
 use crate::texts::{STILL, TELLING, TWO_IDLE, TWO_RISING, TWO_SLOTS, UP};
 use il_machine::Value;
-use lift_image::CarOutputs;
-use lift_sink::sink::Memory;
+use lift_host::sink::Memory;
+use lift_spec::CarOutputs;
 use lift_spec::calls::{Answer, Call, Slot};
 use lift_spec::journal::Entry;
 use lift_spec::report::{Answered, Denial, Rule};

@@ -1,9 +1,9 @@
 use Rattle.std.proofs.Common.{◌≡◌, ◌∙◌, IfOk, ap, sym, subst, map}
 use Rattle.il_spec.specs.declared.tree.Config.{Config}
 use Rattle.il_run.specs.Paths.{longest}
-use Rattle.il_budget.specs.Costs.{cost_of, path_of}
-use Rattle.il_slots.specs.Program.{program_names}
-use Rattle.il_slots.specs.Whole.{unit_code}
+use Rattle.il_verify.specs.Costs.{cost_of, path_of}
+use Rattle.il_layout.specs.Program.{program_names}
+use Rattle.il_layout.specs.Whole.{unit_code}
 use Rattle.il_exec.specs.Quick.{AreAllQuick}
 use Rattle.il_machine.specs.Sharing.{AreSeats}
 use Rattle.lift_load.proofs.loader.affordable.Goals as goal
