@@ -8,6 +8,7 @@ ghost use Rattle.il_verify.specs.Units.{AreExact, task_cost};
 ghost use Rattle.il_verify.specs.Costs.{path_of, AreBudgets, ArePaths, IsTooLong};
 
 use crate::Checked;
+use crate::answer::{Budget, Path};
 use crate::costs::{all_ways, longest};
 use crate::tasks::task_costs;
 use crate::units::{too_long, unit_paths};
