@@ -1,4 +1,4 @@
-//! The names of a configuration: where each is declared, read, written and called.
+//! What is printed of a configuration by its tree: where its names are used, what it has in vain, and what the verifier knows of it.
 #![tactic(auto)]
 
 pub mod global_uses;

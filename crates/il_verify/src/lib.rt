@@ -1,4 +1,4 @@
-//! Configurations in which each instruction has ranges.
+//! Configurations in which each instruction has ranges, and what their units and tasks cost at most.
 #![tactic(auto)]
 
 mod answer;

@@ -1,4 +1,4 @@
-//! What a program prints, and how it is shown on the two streams.
+//! What a program prints, how it is shown on the two streams, and what stands below a fault.
 #![tactic(auto)]
 
 mod lines;
