@@ -19,4 +19,4 @@ pub use il_snapshot::opening_image;
 pub use rows::variable;
 pub use scanned::{OpenScan, Scanned, scan};
 pub use store::{Begin, Stepped, Store, finish, step};
-pub use verified::{Tables, TaskInfo, UnitInfo, Verified, tables};
+pub use verified::{Tables, TaskInfo, UnitInfo, Verified, tables_of};

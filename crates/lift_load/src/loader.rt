@@ -18,7 +18,7 @@ ghost use Rattle.lift_load.specs.Loading.{IsSpelled, SpellsOnly, SpellsNone, IsU
 
 use il_code::{Code, code};
 use il_declare::declare;
-use il_machine::{Tables, Verified, tables};
+use il_machine::{Tables, Verified, tables_of};
 use il_order::{Ordered, ordered};
 use il_parse::{Written, parse};
 use il_spec::fault::Refusal;
@@ -112,7 +112,7 @@ fn parts(alloc: Global, checked: &Checked) -> Result<(Budget, Path, Tables), Ref
     ensures refused { IfErr result (IsRefusedBy (IsTooLong checked.now)) }
 {
     let found = budget(alloc, checked)?;
-    let tables = tables(alloc, checked)?;
+    let tables = tables_of(alloc, checked)?;
     Ok((found.0, found.1, tables))
 }
 
