@@ -42,7 +42,7 @@ in_first [] ys k x is = cc
 in_first (y ∷ xs) ys zero x is = is
 in_first (y ∷ xs) ys (suc k) x is = in_first xs ys k x is
 
-in_second : {A : Type 0} (xs ys : List A) (k : ℕ) → slice_get (xs ++ ys) (length xs + k) ≡ slice_get ys k
+pub in_second : {A : Type 0} (xs ys : List A) (k : ℕ) → slice_get (xs ++ ys) (length xs + k) ≡ slice_get ys k
 in_second [] ys k = ap (slice_get ys) (let e : 0 + k ≡ k = omega arith in e)
 in_second (x ∷ xs) ys k = ap (slice_get (x ∷ xs ++ ys)) (let e : suc (length xs) + k ≡ suc (length xs + k) = omega arith in e) ∙ in_second xs ys k
 

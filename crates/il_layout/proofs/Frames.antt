@@ -18,29 +18,9 @@ use Rattle.il_layout.specs.Flattened.{function_entities}
 use Rattle.il_layout.specs.Program.{is_used, task_functions, function_cells, functions_cells, base_in}
 use Rattle.il_layout.proofs.Placed.{either, apart, two_names, IsUnder, are_once-append, under_entities, once_entities, instances_under, instances_once, stands_first, stands_second}
 use Rattle.il_layout.proofs.IsPlaced.{entities_size, sizes_to}
+use Rattle.il_scan_laws.proofs.Listing.{in_filter, of_filter, used_on}
 
 -- LISTS
-
-pub in_filter : {A : Type 0} (test : A → Bool) (xs : List A) (x : A) → Contains xs x → test x ≡ true → Contains (filter test xs) x
-in_filter test [] x among passes = absurd (in_nothing x among)
-in_filter test (y ∷ ys) x (zero, low, same) passes = let here : test y ≡ true = ap test same ∙ passes in rw here (0, omega arith, same)
-in_filter {A = A} test (y ∷ ys) x (suc k, low, same) passes = by_test (test y) (in_filter test ys x (k, omega arith, same) passes)
-  where
-    by_test : (b : Bool) → Contains (filter test ys) x → Contains (cond b (y ∷ filter test ys) (filter test ys)) x
-    by_test true more = in_tail y (filter test ys) x more
-    by_test false more = more
-
-pub of_filter : {A : Type 0} (test : A → Bool) (xs : List A) (x : A) → Contains (filter test xs) x → Contains xs x × (test x ≡ true)
-of_filter test [] x among = absurd (in_nothing x among)
-of_filter {A = A} test (y ∷ ys) x among = by_test (test y) refl among (of_filter test ys x)
-  where
-    later : Contains ys x × (test x ≡ true) → Contains (y ∷ ys) x × (test x ≡ true)
-    later r = (in_tail y ys x r.0, r.1)
-
-    by_test : (b : Bool) → test y ≡ b → Contains (cond b (y ∷ filter test ys) (filter test ys)) x → (Contains (filter test ys) x → Contains ys x × (test x ≡ true)) → Contains (y ∷ ys) x × (test x ≡ true)
-    by_test true is (zero, low, same) more = ((0, omega arith, same), ap test (sym same) ∙ is)
-    by_test true is (suc k, low, same) more = later (more (k, omega arith, same))
-    by_test false is has more = later (more has)
 
 pub two_of : (a b : Bool) → a && b ≡ true → (a ≡ true) × (b ≡ true)
 two_of true b is = (refl, is)
@@ -69,24 +49,6 @@ of_one (n ∷ names) name is = by_test (bytes_eq n name) refl is (of_one names n
 -- what a unit uses that is used so deep is used one deeper
 first_used : (c : Config) (n : ℕ) (u v : ProgramUnit) → HasUse c u v → Contains (used_units (suc n) c u) v
 first_used c n u v is_used = in_flat_map (λ (w : ProgramUnit). w ∷ used_units n c w) (found_units c (used_names u)) v v is_used (at_head v (used_units n c v))
-
-used_on : (c : Config) (n : ℕ) (from u v : ProgramUnit) → Contains (used_units n c from) u → HasUse c u v → Contains (used_units (suc n) c from) v
-used_on c zero from u v has is_used = absurd (in_nothing u has)
-used_on c (suc n) from u v has is_used = by_unit (of_flat_map (λ (w : ProgramUnit). w ∷ used_units n c w) (found_units c (used_names from)) u has) (λ w. used_on c n w u v)
-  where
-    by_unit : (w : ProgramUnit) × Contains (found_units c (used_names from)) w × Contains (w ∷ used_units n c w) u
-        → ((w : ProgramUnit) → Contains (used_units n c w) u → HasUse c u v → Contains (used_units (suc n) c w) v) → Contains (used_units (suc (suc n)) c from) v
-    by_unit (w, found, here) more = in_flat_map (λ (w : ProgramUnit). w ∷ used_units (suc n) c w) (found_units c (used_names from)) w v found (in_tail w (used_units (suc n) c w) v (by_place here))
-      where
-        by_place : Contains (w ∷ used_units n c w) u → Contains (used_units (suc n) c w) v
-        by_place (zero, low, same) = first_used c n w v (subst (λ (x : ProgramUnit). HasUse c x v) (sym same) is_used)
-        by_place (suc k, low, same) = more w (k, omega arith, same) is_used
-
--- the unit of a stack is among those that the program uses so deep
-pub stack_used : (c : Config) (p : ProgramUnit) (n : ℕ) (v u : ProgramUnit) (us : List ProgramUnit) → IsStack c p v (u ∷ us) → suc (length us) ≤ n → Contains (used_units n c p) v
-stack_used c p zero v u us is room = absurd (omega arith)
-stack_used c p (suc n) v u [] is room = first_used c n p v (subst (λ (x : ProgramUnit). HasUse c x v) is.1 is.0)
-stack_used c p (suc n) v u (w ∷ us) is room = used_on c n p u v (stack_used c p n u w us is.1 (omega arith)) is.0
 
 -- the functions of a task are units that are functions, and that the program uses
 pub function_in_task : (c : Config) (p v : ProgramUnit) → Contains c.units v → is_function v ≡ true → Contains (used_units depth c p) v → Contains (task_functions c p) v

@@ -21,7 +21,7 @@ use Rattle.il_scan_laws.proofs.Lists.{in_nothing, at_head, in_tail, finds_some, 
 use Rattle.il_scan_laws.proofs.Declared.{one_unit}
 use Rattle.il_scan_laws.proofs.Running.{block_is_unit}
 use Rattle.il_scan_laws.proofs.Stacks.{is_shallow, top_among}
-use Rattle.il_scan_laws.proofs.Used.{in_found}
+use Rattle.il_scan_laws.proofs.Used.{in_found, in_block_names}
 use Rattle.il_scan_laws.proofs.Meant.{block_among}
 use Rattle.il_layout.specs.Places.{form_height, highest, height_to, any_block, IsHeight, AreBelow, used_if, tallest, use_height}
 use Rattle.il_layout.proofs.Declared.{block_is_own, block_is_standard}
@@ -91,12 +91,6 @@ highest_below inner k m low (e ∷ es) each =
     of_form (BlockForm block) is = each e block (at_head e es) is
 
 -- INSTANCES ARE USES
-
-in_block_names : (es : List Entity) (e : Entity) (block : Text) → Contains es e → e.form ≡ BlockForm block → Contains (block_names es) block
-in_block_names [] e block among is = absurd (in_nothing e among)
-in_block_names (d ∷ es) e block (zero, low, same) is =
-    let form : d.form ≡ BlockForm block = ap (λ (x : Entity). x.form) same ∙ is in rw form (at_head block (block_names es))
-in_block_names (d ∷ es) e block (suc k, low, same) is = Contains-append_right _ (block_names es) block (in_block_names es e block (k, omega arith, same) is)
 
 declares_use : (c : Config) (u v : ProgramUnit) (e : Entity) (block : Text) → Contains (own_entities u) e → e.form ≡ BlockForm block → function_block_named c block ≡ Some v → HasUse c u v
 declares_use c u v e block has is found =

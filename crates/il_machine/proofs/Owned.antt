@@ -29,7 +29,7 @@ use Rattle.il_layout.specs.Whole.{first_rows, AreOf}
 use Rattle.il_layout.specs.Program.{task_functions, function_cells, functions_cells, variable_cells, own_cells, own_values}
 use Rattle.il_layout.proofs.IsPlaced.{entities_same, instances_same}
 use Rattle.il_layout.proofs.Opening.{are_of-append, entities_of, instances_of}
-use Rattle.il_layout.proofs.Openings.{own_opening}
+use Rattle.il_layout.proofs.Openings.{own_opening, function_head}
 use Rattle.il_layout.proofs.Uses.{heights, own_below}
 use Rattle.il_layout.proofs.Begins.{own_initial, blocks_initial}
 use Rattle.il_layout.proofs.Frames.{of_task_functions}
@@ -38,14 +38,6 @@ use Rattle.il_machine.specs.Scanning.{over}
 use Rattle.il_machine.proofs.Over.{get-over, same_names}
 
 -- FIRST ROWS
-
-function_head : (c : Config) (u : ProgramUnit) (us : List ProgramUnit) → is_function u ≡ true → function_values c (u ∷ us) ≡ fresh_values c u ++ function_values c us
-function_head c u us is = by_kind u.kind refl is
-  where
-    by_kind : (k : UnitKind) → u.kind ≡ k → is_function_kind k ≡ true → function_values c (u ∷ us) ≡ fresh_values c u ++ function_values c us
-    by_kind (Function s place) kind h = rw kind refl
-    by_kind FunctionBlock kind h = cc
-    by_kind Program kind h = cc
 
 -- there is a row for each value
 pub fits_of : (xs : List Cell) (vs : List (Text × Value)) → AreOf xs vs → Fits xs (first_rows vs)

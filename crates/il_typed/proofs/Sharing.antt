@@ -306,7 +306,7 @@ in_any test (y ∷ xs) x (suc k, low, e) is = either (test y) (in_any test xs x 
     either true h = refl
     either false h = h
 
-both_true : (a b : Bool) → (a && b) ≡ true → (a ≡ true) × (b ≡ true)
+pub both_true : (a b : Bool) → (a && b) ≡ true → (a ≡ true) × (b ≡ true)
 both_true true true e = (refl, refl)
 both_true true false e = let bad : false ≡ true = e in cc
 both_true false b e = let bad : false ≡ true = e in cc
