@@ -15,7 +15,7 @@ use il_spec::tree::{Unit, UnitKind};
 use lists::Items;
 use std::alloc::{AllocError, Global};
 
-/// How deep instances stand in one another at most.
+// How deep instances stand in one another at most.
 const DEPTH: usize = 16;
 
 /// The slots of the functions that a task uses, and where the frame of each unit begins, if it has one.

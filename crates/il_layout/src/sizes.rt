@@ -48,7 +48,7 @@ pub fn block_place(units: usize, block: BlockType) -> usize
     }
 }
 
-/// The most slots that are counted.
+// The most slots that are counted.
 const LIMIT: usize = 9_223_372_036_854_775_808;
 
 /// The sum of two numbers of slots, as far as slots are counted.

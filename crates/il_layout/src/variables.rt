@@ -180,7 +180,7 @@ pub(crate) fn add_scalars(
     Ok(())
 }
 
-/// A part of the image.
+// A part of the image.
 #[derive(Clone, Copy)]
 enum Part {
     /// What every program sees.

@@ -12,13 +12,13 @@ use il_spec::keyword::Keyword;
 use il_spec::tree::{Config, Declaration, Place, ProgramLine, Size, Task, Unit};
 use lists::Items;
 
-/// Globals, and the place of their list if there is one.
+// Globals, and the place of their list if there is one.
 type Globals = (Option<Place>, Items<Declaration>);
 
-/// The lines of a resource, and the place of its end.
+// The lines of a resource, and the place of its end.
 type Lines = (Items<Task>, Items<ProgramLine>, Place);
 
-/// CARS, and FLOORS with SLOTS.
+// CARS, and FLOORS with SLOTS.
 type Sizes = (Size, (Size, Size));
 
 // The list of globals, with its place.

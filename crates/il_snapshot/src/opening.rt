@@ -7,7 +7,7 @@ use lift_spec::image::{CarFields, CarOutputs, Fields, Image, Motor, Sizes};
 use lift_spec::outputs::Outputs;
 use lists::Bounded;
 
-/// How a car stands in the opening world: at floor 1, locked (own rule).
+// How a car stands in the opening world: at floor 1, locked (own rule).
 const OPENING: CarFields = CarFields {
     pos: 1,
     level: true,
@@ -17,7 +17,7 @@ const OPENING: CarFields = CarFields {
     opened: false,
 };
 
-/// What a car is told in the opening world: to stand still with its door shut (own rule).
+// What a car is told in the opening world: to stand still with its door shut (own rule).
 const QUIET: CarOutputs = CarOutputs {
     motor: Motor::Still,
     opens: false,

@@ -9,7 +9,7 @@ use il_scope::Scoped;
 use lists::Items;
 use std::alloc::{AllocError, Global};
 
-/// How deep units may use one another (own rule).
+// How deep units may use one another (own rule).
 const DEPTH: usize = 16;
 
 /// The ways of all units.

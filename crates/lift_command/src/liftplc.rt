@@ -56,7 +56,7 @@ impl Commands for Liftplc {
     }
 }
 
-/// What `run` gives of a verified configuration.
+// What `run` gives of a verified configuration.
 fn run_verified<R: Threads + Wait + Sync>(
     rt: &R,
     alloc: Global,
@@ -74,7 +74,7 @@ fn run_verified<R: Threads + Wait + Sync>(
     }
 }
 
-/// What a request gives of a refused text.
+// What a request gives of a refused text.
 fn refused(
     alloc: Global,
     request: Request<'_>,
@@ -93,7 +93,7 @@ fn refused(
     }
 }
 
-/// The ranges of a refused text, where no rule of its declarations, types and order is broken.
+// The ranges of a refused text, where no rule of its declarations, types and order is broken.
 fn known(alloc: Global, text: &[u8], refusal: Refusal) -> Result<Output, Fault>
     ensures is { IsKnown text.now refusal result }
     ensures unwritten { result ≢ Err Fault.CannotWrite }

@@ -70,7 +70,7 @@ pub fn command_alone<F: TextFiles, T: TraceSink, I: Read, O: Sink, E: Sink>(
     }
 }
 
-/// The same of words as they are read.
+// The same of words as they are read.
 fn plain_alone<F: TextFiles, T: TraceSink, I: Read, O: Sink, E: Sink>(
     alloc: Global,
     words: &Plain,
@@ -96,7 +96,7 @@ fn plain_alone<F: TextFiles, T: TraceSink, I: Read, O: Sink, E: Sink>(
     }
 }
 
-/// Runs `liftplc` on words that ask for `run`.
+// Runs `liftplc` on words that ask for `run`.
 fn command_run<R: Threads + Wait + Sync, F: TextFiles, O: Sink, E: Sink>(
     rt: &R,
     alloc: Global,
@@ -115,7 +115,7 @@ fn command_run<R: Threads + Wait + Sync, F: TextFiles, O: Sink, E: Sink>(
     }
 }
 
-/// Tells a fault, and ends with its status.
+// Tells a fault, and ends with its status.
 fn ends_with<E: Sink>(fault: &Fault, err: &mut E) -> Status
     ensures told { Writes (E.contents err.old) (E.contents err.new) (E.has_failed err.new) (message_of fault.now) }
     ensures ends { result ≡ status_of fault.now }
@@ -137,7 +137,7 @@ pub fn main<R: Threads + Wait + Sync>(rt: &HostRuntime, threads: &R) -> ExitCode
     ExitCode::from(status.code())
 }
 
-/// Runs `liftplc` on the words of the command line, with these streams; or says why the words or the standard input can't be read.
+// Runs `liftplc` on the words of the command line, with these streams; or says why the words or the standard input can't be read.
 fn process_words<R: Threads + Wait + Sync, O: Sink, E: Sink>(
     rt: &HostRuntime,
     threads: &R,

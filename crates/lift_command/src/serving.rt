@@ -53,7 +53,7 @@ pub fn serve<F: TextFiles, T: TraceSink, I: Read, O: Sink, E: Sink>(
     }
 }
 
-/// Says that FILE can't be read.
+// Says that FILE can't be read.
 fn tell_unread<E: Sink>(
     alloc: Global,
     name: &str,
@@ -67,7 +67,7 @@ fn tell_unread<E: Sink>(
     tell_explained(&explained, err)
 }
 
-/// Tells a fault with what stands below it, and ends with its status.
+// Tells a fault with what stands below it, and ends with its status.
 fn tell_explained<E: Sink>(explained: &Explained, err: &mut E) -> Status
     ensures told { Writes (E.contents err.old) (E.contents err.new) (E.has_failed err.new) (message_of explained.now.fault ++ explained.now.below.items) }
     ensures ends { result ≡ status_of explained.now.fault }
@@ -76,7 +76,7 @@ fn tell_explained<E: Sink>(explained: &Explained, err: &mut E) -> Status
     explained.fault.status()
 }
 
-/// Serves what was read of FILE, or says why it is refused.
+// Serves what was read of FILE, or says why it is refused.
 fn serve_text<T: TraceSink, I: Read, O: Sink, E: Sink>(
     alloc: Global,
     serving: Serving<'_>,
@@ -95,7 +95,7 @@ fn serve_text<T: TraceSink, I: Read, O: Sink, E: Sink>(
     }
 }
 
-/// Says why FILE is refused.
+// Says why FILE is refused.
 fn tell_refused<E: Sink>(
     alloc: Global,
     name: &str,
@@ -110,7 +110,7 @@ fn tell_refused<E: Sink>(
     tell_explained(&explained, err)
 }
 
-/// A refusal of FILE with what stands below it, where that is wanted; `NoMemory` where memory for that is missing.
+// A refusal of FILE with what stands below it, where that is wanted; `NoMemory` where memory for that is missing.
 fn refusal_explained(
     alloc: Global,
     name: &str,
@@ -129,7 +129,7 @@ fn refusal_explained(
     }
 }
 
-/// What stands below a refusal of FILE.
+// What stands below a refusal of FILE.
 fn refusal_below(
     alloc: Global,
     name: &str,
@@ -144,7 +144,7 @@ fn refusal_below(
     }
 }
 
-/// Serves a configuration, once its trace is created, if one is wanted.
+// Serves a configuration, once its trace is created, if one is wanted.
 fn serve_loaded<T: TraceSink, I: Read, O: Sink, E: Sink>(
     alloc: Global,
     verified: Verified,
@@ -171,7 +171,7 @@ fn serve_loaded<T: TraceSink, I: Read, O: Sink, E: Sink>(
     }
 }
 
-/// Creates the trace, if one is wanted.
+// Creates the trace, if one is wanted.
 fn create<T: TraceSink>(tracing: Option<Tracing<'_>>, trace: &mut T) -> Result<(), SinkFault>
     ensures { OnOk result (IsCreated tracing.entry (T.contents trace.old) (T.contents trace.new)) }
 {
@@ -181,7 +181,7 @@ fn create<T: TraceSink>(tracing: Option<Tracing<'_>>, trace: &mut T) -> Result<(
     }
 }
 
-/// The fault of a group that came to no end.
+// The fault of a group that came to no end.
 fn fault_of_halt(halt: Halt) -> Fault
     ensures { result ≡ fault_of_halt halt }
 {
@@ -192,7 +192,7 @@ fn fault_of_halt(halt: Halt) -> Fault
     }
 }
 
-/// The number of a line, as far as numbers of lines go.
+// The number of a line, as far as numbers of lines go.
 fn shown_line(line: u64) -> u32
     ensures { result ≡ shown_line line }
 {
@@ -213,7 +213,7 @@ fn fault_of_stop(stop: Stop, line: u32) -> Fault
     }
 }
 
-/// The fault of a whole line that was not answered.
+// The fault of a whole line that was not answered.
 fn fault_of_line(fault: ServeFault, line: u32) -> Fault
     ensures { result ≡ fault_of_line fault line }
 {
@@ -226,7 +226,7 @@ fn fault_of_line(fault: ServeFault, line: u32) -> Fault
     }
 }
 
-/// The fault of a line that says nothing to the group.
+// The fault of a line that says nothing to the group.
 fn fault_of_wrong(why: WrongLine, line: u32) -> Fault
     ensures { result ≡ fault_of_wrong why line }
 {
@@ -236,7 +236,7 @@ fn fault_of_wrong(why: WrongLine, line: u32) -> Fault
     }
 }
 
-/// The fault of a line that did not come whole.
+// The fault of a line that did not come whole.
 fn fault_of_input(came: Came, line: u32) -> Fault
     ensures { result ≡ fault_of_input came line }
 {

@@ -10,10 +10,10 @@ use lists::Items;
 use std::alloc::{AllocError, Global};
 use thiserror::Error;
 
-/// The most presses of a command.
+// The most presses of a command.
 const MOST_PRESSES: usize = 1000;
 
-/// The most panels of a floor.
+// The most panels of a floor.
 const MOST_PANELS: u16 = 4;
 
 /// A press of a landing panel: the round before which it comes, the floors from which and to which, and which of the
@@ -76,7 +76,7 @@ pub fn presses(
     each_press(alloc, words, rounds, floors)
 }
 
-/// A press for each word.
+// A press for each word.
 fn each_press(
     alloc: Global,
     words: Words<'_>,
@@ -92,7 +92,7 @@ fn each_press(
     Ok(presses)
 }
 
-/// Adds a press for each word.
+// Adds a press for each word.
 fn add_presses(
     alloc: Global,
     presses: &mut Items<Press>,
@@ -112,7 +112,7 @@ fn add_presses(
     Ok(())
 }
 
-/// The press that a word spells.
+// The press that a word spells.
 fn press_of(word: &str, rounds: u16, floors: u16) -> Option<Press>
     ensures some { IfSome result (IsPress rounds floors word.now) }
     ensures none { IsNone result → (press : Press) → IsPress rounds floors word.now press → ⊥ }
@@ -128,7 +128,7 @@ fn press_of(word: &str, rounds: u16, floors: u16) -> Option<Press>
     }
 }
 
-/// What stands before the first colon of a text, and what stands behind it.
+// What stands before the first colon of a text, and what stands behind it.
 fn first_part(text: &str) -> Option<(&str, &str)>
     ensures some { IfSome result (λ parts. parts_of text.now ≡ parts.0.now ∷ parts_of parts.1.now) }
     ensures none { IsNone result → parts_of text.now ≡ text.now ∷ [] }
@@ -136,7 +136,7 @@ fn first_part(text: &str) -> Option<(&str, &str)>
     text.split_once(':')
 }
 
-/// The press of these parts.
+// The press of these parts.
 fn press_by(
     round: &str,
     from: &str,

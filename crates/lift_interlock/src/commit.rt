@@ -8,7 +8,7 @@ use crate::settled::{Settled, listed, open_denial};
 use lift_spec::report::Rule;
 use lift_spec::{CarFields, CarOutputs, Image, Motor};
 
-/// The order in which rules deny a motor wish.
+// The order in which rules deny a motor wish.
 const WISH_ORDER: [Rule; 5] = [
     Rule::Reversal,
     Rule::Unlocked,

@@ -7,7 +7,7 @@ ghost use Rattle.lift_messages.specs.Places.{IsLineOf};
 
 use memchr::memchr;
 
-/// The first line, and the rest from its line feed on.
+// The first line, and the rest from its line feed on.
 fn first_line(text: &[u8]) -> (&[u8], &[u8])
     ensures whole { text.now ≡ result.0.now ++ result.1.now }
     ensures line { IsOneLine result.0.now }
@@ -17,7 +17,7 @@ fn first_line(text: &[u8]) -> (&[u8], &[u8])
     text.split_at(end)
 }
 
-/// The text behind the first line feed.
+// The text behind the first line feed.
 fn behind_line(text: &[u8]) -> Option<&[u8]>
     ensures found { IfSome result (λ rest. (line : List ℕ) × IsOneLine line × (text.now ≡ line ++ 10 ∷ rest.now)) }
     ensures none { IfNone result (IsOneLine text.now) }

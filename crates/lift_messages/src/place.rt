@@ -8,7 +8,7 @@ use itoa::Buffer;
 use lift_explain::title;
 use std::alloc::{AllocError, Global};
 
-/// The most bytes of a line that are shown.
+// The most bytes of a line that are shown.
 const MOST_BYTES: usize = 200;
 
 /// What is shown below the refusal of a text with a number at a line, counted from 1: the name of the file, the line, and its text; then
@@ -31,7 +31,7 @@ pub fn below(
     Ok(below)
 }
 
-/// `NAME:LINE: `.
+// `NAME:LINE: `.
 fn put_place(to: &mut Vec<u8>, name: &str, line: u32) -> Result<(), AllocError>
     ensures { OnOk result (to.new.items ≡ to.old.items ++ place_text name.now line) }
 {
@@ -42,7 +42,7 @@ fn put_place(to: &mut Vec<u8>, name: &str, line: u32) -> Result<(), AllocError>
     to.extend_from_slice(b": ")
 }
 
-/// A byte as it is shown: `?` for one that can't be printed.
+// A byte as it is shown: `?` for one that can't be printed.
 fn shown(byte: u8) -> u8
     ensures { result ≡ shown byte }
 {
@@ -60,7 +60,7 @@ pub(crate) fn put_quoted(to: &mut Vec<u8>, line: &[u8]) -> Result<(), AllocError
     Ok(())
 }
 
-/// Bytes as they are shown.
+// Bytes as they are shown.
 fn put_shown(to: &mut Vec<u8>, bytes: &[u8]) -> Result<(), AllocError>
     ensures { OnOk result (to.new.items ≡ to.old.items ++ map shown bytes.now) }
 {
@@ -70,7 +70,7 @@ fn put_shown(to: &mut Vec<u8>, bytes: &[u8]) -> Result<(), AllocError>
     Ok(())
 }
 
-/// What the number means, and who says more.
+// What the number means, and who says more.
 fn put_meaning(to: &mut Vec<u8>, number: u16) -> Result<(), AllocError>
     ensures { OnOk result ((meaning : List ℕ) × IsMeaning number meaning × (to.new.items ≡ to.old.items ++ meaning)) }
 {
@@ -84,7 +84,7 @@ fn put_meaning(to: &mut Vec<u8>, number: u16) -> Result<(), AllocError>
     }
 }
 
-/// Who says more of a number.
+// Who says more of a number.
 fn put_more(to: &mut Vec<u8>, number: u16) -> Result<(), AllocError>
     ensures { OnOk result (to.new.items ≡ to.old.items ++ more_text number) }
 {

@@ -33,14 +33,14 @@ pub fn image_text(alloc: Global, world: &World) -> Result<String, AllocError>
     Ok(text)
 }
 
-/// TRUE or FALSE.
+// TRUE or FALSE.
 fn truth(truth: bool) -> &'static str
     ensures { result.now ≡ truth_text truth }
 {
     if truth { "TRUE" } else { "FALSE" }
 }
 
-/// 1 or 0.
+// 1 or 0.
 fn digit(set: bool) -> &'static str
     ensures { result.now ≡ flag set ∷ [] }
 {
@@ -55,7 +55,7 @@ fn put_fields(text: &mut String, fields: &Fields) -> Result<(), AllocError>
     writeln!(text, "\nFIRE {}", truth(fields.fire))
 }
 
-/// LEVEL, TOP, BOTTOM, LOCKED and OPENED.
+// LEVEL, TOP, BOTTOM, LOCKED and OPENED.
 fn put_flags(text: &mut String, car: &CarFields) -> Result<(), AllocError>
     ensures { OnOk result (string_bytes text.new ≡ string_bytes text.old ++ flags car.now) }
 {
@@ -66,7 +66,7 @@ fn put_flags(text: &mut String, car: &CarFields) -> Result<(), AllocError>
     text.push_str(digit(car.opened))
 }
 
-/// A motor as a number: 1 is up, -1 is down.
+// A motor as a number: 1 is up, -1 is down.
 fn number_of(motor: Motor) -> i8
     ensures { result ≡ motor_number motor }
 {

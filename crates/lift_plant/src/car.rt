@@ -14,7 +14,7 @@ pub struct Car {
     pub door: u8,
 }
 
-/// The number from `low` to `high` that is nearest to `number`.
+// The number from `low` to `high` that is nearest to `number`.
 fn nearest(low: i16, high: i16, number: i16) -> i16
     requires { low ≤ℤ high }
     ensures value { result ≡ kept_within low high number }
@@ -30,7 +30,7 @@ fn nearest(low: i16, high: i16, number: i16) -> i16
     }
 }
 
-/// How far a motor takes its car in one step.
+// How far a motor takes its car in one step.
 fn motor_step(motor: Motor) -> i16
     ensures { result ≡ motor_number motor }
 {

@@ -30,7 +30,7 @@ pub struct Scratch {
     pub report: Report,
 }
 
-/// A round, and what is answered of it.
+// A round, and what is answered of it.
 fn act_round(
     world: &mut World,
     tasks: &[u8],
@@ -61,7 +61,7 @@ fn act_round(
     put_outputs(text, outputs.as_slice())
 }
 
-/// A press, and what is answered to it.
+// A press, and what is answered to it.
 fn act_press(
     world: &mut World,
     call: Call,

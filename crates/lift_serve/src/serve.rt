@@ -28,7 +28,7 @@ pub struct Stopped {
     pub line: u64,
 }
 
-/// So many lines can be counted, and the number of the one behind them.
+// So many lines can be counted, and the number of the one behind them.
 const MOST_LINES: u64 = 18_446_744_073_709_551_614;
 
 /// Answers each line of a reader before it reads the next, up to the end.

@@ -9,7 +9,7 @@ use crate::image::{CarFields, CarOutputs, Fields, Image, Motor, Sizes};
 use crate::outputs::Outputs;
 use lists::Bounded;
 
-/// The greatest NOW, in milliseconds (own rule).
+// The greatest NOW, in milliseconds (own rule).
 const LATEST: u32 = 2_147_483_647;
 
 /// Whether a number is that of a floor of the group (own rule).

@@ -41,7 +41,7 @@ fn car_of(car: CarInput) -> CarFields
     }
 }
 
-/// The fields of so many cars as are counted.
+// The fields of so many cars as are counted.
 fn fields_of(fields: &FieldsInput) -> Fields
     requires { fields.now.car_count ≤ 8 }
     ensures { result ≡ fields_of fields.now }
