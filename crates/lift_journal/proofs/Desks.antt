@@ -15,7 +15,6 @@ use Rattle.lift_journal.specs.Rounds.{Happen, Scans, ScanEach, counting_from, de
 use Rattle.lift_journal.proofs.Handing.{floor_so}
 use Rattle.lift_journal.proofs.Journals.{Led}
 use Rattle.lift_journal.proofs.Taking.{happen_one, happen_none, happen_more}
-use Rattle.lift_run_laws.proofs.Fields.{stepped_keeps}
 
 -- EVENTS OF TASKS LEAVE THE DESK
 
@@ -30,6 +29,11 @@ starts_from_keeps c w t task (Some x) = refl
 starts_keeps : (c : Config) (w : World) (t : ℕ) (o : Option TaskState) → Keeps w (starts c w t o)
 starts_keeps c w t None = refl
 starts_keeps c w t (Some task) = starts_from_keeps c w t task (scan_at w t)
+
+stepped_keeps : (w : World) (t : ℕ) (o : Outcome) → Keeps w (stepped w t o)
+stepped_keeps w t (Trapped trap) = tt
+stepped_keeps w t Stuck = tt
+stepped_keeps w t (Goes s) = refl
 
 instructs_scan_keeps : (c : Config) (w : World) (t : ℕ) (x : State) (b : Bool) → Keeps w (instructs_scan c w t x b)
 instructs_scan_keeps c w t x true = refl
