@@ -30,4 +30,3 @@ reply_with answer.Already report = Already
 reply_with (answer.Gathered mask) report = Gathered mask
 reply_with answer.Held report = Held
 reply_with (answer.Refused fault) report = Refused fault
-
