@@ -6,10 +6,10 @@ use Rattle.il_spec.specs.declared.tree.Unit.{Unit as ProgramUnit}
 use Rattle.il_rules.specs.Faults.{Broken, Declaring, Typing, Ordering, HasNoFault}
 use Rattle.il_rules.specs.Written.{IsWritten}
 use Rattle.il_run.specs.Scan.{program_of}
-use Rattle.il_slots.specs.declared.flat.UnitCode.{UnitCode}
-use Rattle.il_slots.specs.Program.{program_names}
+use Rattle.il_layout.specs.declared.flat.UnitCode.{UnitCode}
+use Rattle.il_layout.specs.Program.{program_names}
 use Rattle.il_code.specs.Tasks.{TaskLayout, IsTaskOf, Belongs}
-use Rattle.il_slots.specs.Whole.{unit_code}
+use Rattle.il_layout.specs.Whole.{unit_code}
 
 -- what is said of a configuration is said of it by another name
 pub written_along : (b c : Config) → b ≡ c → IsWritten b → IsWritten c

@@ -15,26 +15,26 @@ use Rattle.il_run.specs.Scan.{function_values}
 use Rattle.il_scan_laws.specs.Accepted.{IsAccepted}
 use Rattle.il_scan_laws.proofs.Lists.{at_head, in_tail}
 use Rattle.il_order.proofs.Distinct.{distinct}
-use Rattle.il_slots.specs.declared.flat.Cell.{Cell}
+use Rattle.il_layout.specs.declared.flat.Cell.{Cell}
 use Rattle.il_code.specs.declared.framing.Frames.{Frames}
 use Rattle.il_code.specs.declared.laying.Opening.{Opening}
-use Rattle.il_slots.specs.Cells.{instance_cells}
-use Rattle.il_slots.specs.Flattened.{function_entities, place_or_zero}
+use Rattle.il_layout.specs.Cells.{instance_cells}
+use Rattle.il_layout.specs.Flattened.{function_entities, place_or_zero}
 use Rattle.il_code.specs.Laying.{cell_of, value_of, openings_to, openings_of, has_frame, with_frame, with_frames, no_frames, base_or, laid_task, program_task}
-use Rattle.il_slots.specs.Paths.{slot_at}
-use Rattle.il_slots.specs.Places.{entities_width, block_width, deepest, seen_image}
-use Rattle.il_slots.specs.Program.{is_used, task_functions, function_cells, functions_cells, base_in, base_of, own_cells, program_cells, own_values, now_slot}
+use Rattle.il_layout.specs.Paths.{slot_at}
+use Rattle.il_layout.specs.Places.{entities_width, block_width, deepest, seen_image}
+use Rattle.il_layout.specs.Program.{is_used, task_functions, function_cells, functions_cells, base_in, base_of, own_cells, program_cells, own_values, now_slot}
 use Rattle.il_code.specs.Tasks.{TaskLayout, IsTaskOf}
-use Rattle.il_slots.specs.Whole.{first_rows}
-use Rattle.il_slots.proofs.Counted.{length_mapped}
-use Rattle.il_slots.proofs.Declared.{named_front, named_back}
-use Rattle.il_slots.proofs.Distinct.{blocks_named, unit_entities_named}
-use Rattle.il_slots.proofs.Frames.{of_task_functions, two_of}
-use Rattle.il_slots.proofs.IsPlaced.{entities_size, sizes_to}
+use Rattle.il_layout.specs.Whole.{first_rows}
+use Rattle.il_layout.proofs.Counted.{length_mapped}
+use Rattle.il_layout.proofs.Declared.{named_front, named_back}
+use Rattle.il_layout.proofs.Distinct.{blocks_named, unit_entities_named}
+use Rattle.il_layout.proofs.Frames.{of_task_functions, two_of}
+use Rattle.il_layout.proofs.IsPlaced.{entities_size, sizes_to}
 use Rattle.il_code.proofs.Laid.{AreShort, named_short, cells_to, cells_are, values_are, first_is}
-use Rattle.il_slots.proofs.Openings.{variables_same, function_head}
-use Rattle.il_slots.proofs.Paired.{paired}
-use Rattle.il_slots.proofs.Tasks.{at_contains, scalars_same, scalar_forms, cells_once, program_among, program_is_code}
+use Rattle.il_layout.proofs.Openings.{variables_same, function_head}
+use Rattle.il_layout.proofs.Paired.{paired}
+use Rattle.il_layout.proofs.Tasks.{at_contains, scalars_same, scalar_forms, cells_once, program_among, program_is_code}
 
 -- scalars alone have the same values, whatever instances have
 values_same : (one other : Text → Text → List (Text × Value)) (path : Text) (es : List Entity) → ((e : Entity) → Contains es e → (s : ScalarType) × (e.form ≡ ScalarForm s)) → entity_values one path es ≡ entity_values other path es

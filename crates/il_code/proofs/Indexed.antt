@@ -5,8 +5,8 @@ use Rattle.il_rules.specs.Names.{or_else}
 use Rattle.il_table.specs.NameMap.{NameMap, Text, get, with_new}
 use Rattle.il_scope.specs.Views.{place_of}
 use Rattle.il_scope.proofs.Filled.{get-with_new, take_next, take_all}
-use Rattle.il_slots.specs.declared.flat.Cell.{Cell}
-use Rattle.il_slots.specs.Paths.{slot_at}
+use Rattle.il_layout.specs.declared.flat.Cell.{Cell}
+use Rattle.il_layout.specs.Paths.{slot_at}
 use Rattle.il_code.specs.Tasks.{AreIndexed}
 
 -- the place of a name behind others

@@ -19,14 +19,14 @@ use Rattle.il_scope.specs.declared.entry.BlockType.{BlockType}
 use Rattle.il_scope.specs.Views.{block_type, type_of}
 use Rattle.il_order.specs.Related.{tabulate}
 use Rattle.il_code.specs.declared.laying.Opening.{Opening}
-use Rattle.il_slots.specs.declared.variables.Variable.{Variable}
-use Rattle.il_slots.specs.Cells.{cells_at, element_cells, entity_cells, instance_cells, IsShort, HasShort, AreNamed}
+use Rattle.il_layout.specs.declared.variables.Variable.{Variable}
+use Rattle.il_layout.specs.Cells.{cells_at, element_cells, entity_cells, instance_cells, IsShort, HasShort, AreNamed}
 use Rattle.il_code.specs.Laying.{cell_of, value_of, element_opening, variable_openings, list_openings, list_if, block_variables, block_openings, openings_to, openings_of, with_value, with_values}
-use Rattle.il_slots.specs.Layout.{Rows, rows, cell, number_part, flag_part}
-use Rattle.il_slots.specs.Making.{shown, block_lists}
-use Rattle.il_slots.specs.Places.{capped, seen_image, unit_entities}
-use Rattle.il_slots.specs.Whole.{first_rows}
-use Rattle.il_slots.proofs.Counted.{which_block, block_list, IsBlock, of_standard, of_own, of_none}
+use Rattle.il_layout.specs.Layout.{Rows, rows, cell, number_part, flag_part}
+use Rattle.il_layout.specs.Making.{shown, block_lists}
+use Rattle.il_layout.specs.Places.{capped, seen_image, unit_entities}
+use Rattle.il_layout.specs.Whole.{first_rows}
+use Rattle.il_layout.proofs.Counted.{which_block, block_list, IsBlock, of_standard, of_own, of_none}
 
 -- the parts of an element's path
 pub bracketed : (name digits : Text) → name ++ (codes "[" ++ (digits ++ codes "]")) ≡ name ++ codes "[" ++ digits ++ codes "]"

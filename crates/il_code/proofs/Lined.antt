@@ -18,13 +18,13 @@ use Rattle.il_scan_laws.specs.Accepted.{IsAccepted}
 use Rattle.il_scan_laws.proofs.Lists.{found_in}
 use Rattle.il_scan_laws.proofs.Meant.{program_is}
 use Rattle.il_code.specs.Laying.{has_frame, program_task}
-use Rattle.il_slots.specs.Program.{program_names}
-use Rattle.il_slots.specs.Layout.{AreOnce}
-use Rattle.il_slots.proofs.Tasks.{cells_once}
-use Rattle.il_slots.proofs.Globals.{globals_once}
+use Rattle.il_layout.specs.Program.{program_names}
+use Rattle.il_layout.specs.Layout.{AreOnce}
+use Rattle.il_layout.proofs.Tasks.{cells_once}
+use Rattle.il_layout.proofs.Globals.{globals_once}
 use Rattle.il_code.specs.Tasks.{TaskLayout, IsTaskOf, AreGlobals, AreTasksOf, Belongs}
-use Rattle.il_slots.specs.Whole.{unit_code}
-use Rattle.il_slots.specs.declared.flat.UnitCode.{UnitCode}
+use Rattle.il_layout.specs.Whole.{unit_code}
+use Rattle.il_layout.specs.declared.flat.UnitCode.{UnitCode}
 use Rattle.il_code.proofs.Framed.{task_is}
 
 pub task_there : (c o : Config) (units : List ProgramUnit) (at : ℕ) (u : ProgramUnit) (row framed : List Bool) (t : TaskLayout) → c ≡ o → units ≡ c.units → at < length units → u ≡ get_or units at u

@@ -32,11 +32,12 @@ use Rattle.il_scan_laws.proofs.Declared.{one_unit}
 use Rattle.il_scan_laws.proofs.Meant.{is_scalar, is_block, input_typed, output_typed, variable_typed}
 use Rattle.il_scan_laws.proofs.Fresh.{IsEntity, of_entities}
 use Rattle.il_scan_laws.proofs.Stacks.{is_shallow}
-use Rattle.il_scan_laws.proofs.Used.{Invoked, of_found, used_among, instance_used, calls_are_uses, no_standard}
-use Rattle.il_slots.specs.Program.{is_used}
-use Rattle.il_slots.proofs.Frames.{in_filter, of_filter, two_of, stack_used, function_in_task, of_task_functions}
-use Rattle.il_slots.proofs.Tasks.{at_contains}
+use Rattle.il_scan_laws.proofs.Used.{Invoked, of_found, used_among, instance_used, calls_are_uses, no_standard, of_block_names}
+use Rattle.il_layout.specs.Program.{is_used}
+use Rattle.il_layout.proofs.Frames.{two_of, function_in_task, of_task_functions}
+use Rattle.il_layout.proofs.Tasks.{at_contains}
 use Rattle.il_code.specs.Laying.{has_frame}
+use Rattle.il_scan_laws.proofs.Listing.{in_filter, of_filter, stack_used}
 
 -- NAMES
 
@@ -47,22 +48,6 @@ name_among (n ∷ ns) is = (n, at_head n ns)
 has_some : (ns : List Named) (n : Named) → Contains ns n → has_name ns ≡ true
 has_some [] n among = absurd (in_nothing n among)
 has_some (m ∷ ns) n among = refl
-
-of_block_names : (es : List Entity) (block : Text) → Contains (block_names es) block → (e : Entity) × Contains es e × (e.form ≡ BlockForm block)
-of_block_names [] block among = absurd (in_nothing block among)
-of_block_names (d ∷ es) block among = by_form d.form refl among (of_block_names es block)
-  where
-    later : (e : Entity) × Contains es e × (e.form ≡ BlockForm block) → (e : Entity) × Contains (d ∷ es) e × (e.form ≡ BlockForm block)
-    later r = (r.0, in_tail d es r.0 r.1, r.2)
-
-    by_form : (f : Form) → d.form ≡ f → Contains (block_names (d ∷ es)) block → (Contains (block_names es) block → (e : Entity) × Contains es e × (e.form ≡ BlockForm block)) → (e : Entity) × Contains (d ∷ es) e × (e.form ≡ BlockForm block)
-    by_form (ScalarForm s) is has more = later (more (rw is at has))
-    by_form (ArrayForm bounds s) is has more = later (more (rw is at has))
-    by_form (BlockForm b) is has more = by_place (rw is at has)
-      where
-        by_place : Contains (b ∷ block_names es) block → (e : Entity) × Contains (d ∷ es) e × (e.form ≡ BlockForm block)
-        by_place (zero, low, same) = (d, at_head d es, is ∙ ap (λ (t : Text). BlockForm t) same)
-        by_place (suc k, low, same) = later (more (k, omega arith, same))
 
 of_invoked : (ss : List Step) (name : Text) → Contains (invoked_names ss) name → Invoked ss name
 of_invoked [] name among = absurd (in_nothing name among)

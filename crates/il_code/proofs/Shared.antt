@@ -9,11 +9,11 @@ use Rattle.il_rules.specs.Written.{IsWritten}
 use Rattle.il_table.specs.NameMap.{Text}
 use Rattle.il_run.specs.Meaning.{Entity, entities, block_entities}
 use Rattle.il_scan_laws.proofs.Lists.{at_head, in_tail}
-use Rattle.il_slots.specs.Cells.{HasShort}
+use Rattle.il_layout.specs.Cells.{HasShort}
 use Rattle.il_code.specs.Laying.{cell_of, openings_to, laid_task}
 use Rattle.il_code.specs.Tasks.{TaskLayout, AreGlobals}
-use Rattle.il_slots.specs.Whole.{first_rows}
-use Rattle.il_slots.proofs.Distinct.{blocks_named, globals_short}
+use Rattle.il_layout.specs.Whole.{first_rows}
+use Rattle.il_layout.proofs.Distinct.{blocks_named, globals_short}
 use Rattle.il_code.proofs.Laid.{AreShort, named_short, cells_to, values_to, first_is}
 
 short_names : (d : Declaration) (ns : List Named) (rest : List Entity) → HasShort d.declared.form → AreShort rest

@@ -12,16 +12,16 @@ use Rattle.il_scope.specs.declared.entry.VariableType.{VariableType}
 use Rattle.il_scope.specs.declared.entry.VariableType.TheVariants.{Scalar, Array, Instance}
 use Rattle.il_scope.specs.declared.entry.BlockType.{BlockType}
 use Rattle.il_order.specs.Related.{tabulate}
-use Rattle.il_slots.specs.declared.flat.Cell.{Cell}
+use Rattle.il_layout.specs.declared.flat.Cell.{Cell}
 use Rattle.il_code.specs.declared.framing.Frames.{Frames}
 use Rattle.il_code.specs.declared.laying.Opening.{Opening}
-use Rattle.il_slots.specs.declared.variables.Variable.{Variable}
-use Rattle.il_slots.specs.Flattened.{function_entities, place_or_zero}
-use Rattle.il_slots.specs.Layout.{Rows, rows, cell, number_part, flag_part}
-use Rattle.il_slots.specs.Making.{shown, block_place, block_lists}
-use Rattle.il_slots.specs.Places.{capped, seen_image}
-use Rattle.il_slots.specs.Paths.{slot_at}
-use Rattle.il_slots.specs.Program.{is_used}
+use Rattle.il_layout.specs.declared.variables.Variable.{Variable}
+use Rattle.il_layout.specs.Flattened.{function_entities, place_or_zero}
+use Rattle.il_layout.specs.Layout.{Rows, rows, cell, number_part, flag_part}
+use Rattle.il_layout.specs.Making.{shown, block_place, block_lists}
+use Rattle.il_layout.specs.Places.{capped, seen_image}
+use Rattle.il_layout.specs.Paths.{slot_at}
+use Rattle.il_layout.specs.Program.{is_used}
 use Rattle.il_code.specs.Tasks.{TaskLayout}
 
 -- OPENINGS

@@ -4,18 +4,18 @@ ghost use Rattle.std.specs.Prelude.{◌≡◌, List, ◌++◌, ◌&&◌, [], Som
 ghost use Rattle.il_spec.specs.declared.tree.Unit.{Unit as ProgramUnit};
 ghost use Rattle.il_rules.specs.Names.{is_function};
 ghost use Rattle.il_run.specs.Meaning.{Entity, own_entities};
-ghost use Rattle.il_slots.specs.Flattened.{function_entities};
+ghost use Rattle.il_layout.specs.Flattened.{function_entities};
 ghost use Rattle.il_code.specs.Laying.{openings_to, openings_of, has_frame, with_frame, with_frames, no_frames, base_or};
-ghost use Rattle.il_slots.specs.Making.{shown};
+ghost use Rattle.il_layout.specs.Making.{shown};
 
 use crate::laying::{Blocks, Opening, add_variables};
+use il_layout::variables::{Variable, function_variables, own_variables};
 use il_order::Ordered;
-use il_slots::variables::{Variable, function_variables, own_variables};
 use il_spec::tree::{Unit, UnitKind};
 use lists::Items;
 use std::alloc::{AllocError, Global};
 
-/// How deep instances stand in one another at most.
+// How deep instances stand in one another at most.
 const DEPTH: usize = 16;
 
 /// The slots of the functions that a task uses, and where the frame of each unit begins, if it has one.

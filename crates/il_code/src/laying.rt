@@ -4,14 +4,14 @@ ghost use Rattle.std.specs.Prelude.{◌≡◌, length, slice_get, ◌++◌, ◌�
 ghost use Rattle.std.specs.String.{string_bytes};
 ghost use Rattle.il_run.specs.Meaning.{under, element_path, initial_value};
 ghost use Rattle.il_order.specs.Related.{tabulate};
-ghost use Rattle.il_slots.specs.Making.{block_lists};
+ghost use Rattle.il_layout.specs.Making.{block_lists};
 ghost use Rattle.il_code.specs.Laying.{opening, element_opening, variable_openings, list_if, list_openings, block_variables, block_openings};
 
+use il_layout::sizes::{array_size, block_place};
+use il_layout::variables::{Variable, initial_value};
 use il_run::value::Value;
 use il_scope::Scoped;
 use il_scope::entry::{BlockType, VariableType};
-use il_slots::sizes::{array_size, block_place};
-use il_slots::variables::{Variable, initial_value};
 use il_spec::name::Name;
 use il_spec::tree::Scalar;
 use lists::Items;

@@ -1,7 +1,7 @@
 // The values with which slots begin.
 
 ghost use Rattle.std.specs.Prelude.{◌≡◌, [], IfOk, OnOk};
-ghost use Rattle.il_slots.specs.Layout.{rows};
+ghost use Rattle.il_layout.specs.Layout.{rows};
 ghost use Rattle.il_code.specs.Laying.{with_value, with_values};
 
 use crate::laying::Opening;
@@ -17,7 +17,7 @@ pub struct FirstRows {
 }
 
 impl Model for FirstRows {
-    ghost use Rattle.il_slots.specs.Layout.{Rows, rows_code};
+    ghost use Rattle.il_layout.specs.Layout.{Rows, rows_code};
 
     ghost Value = { Rows };
 

@@ -5,7 +5,7 @@ ghost use Rattle.il_code.specs.Laying.{cell_of};
 ghost use Rattle.il_code.specs.Tasks.{AreIndexed};
 
 use crate::laying::Opening;
-use il_slots::flat::Cell;
+use il_layout::flat::Cell;
 use il_spec::name::Name;
 use il_table::Table;
 use lists::Items;

@@ -2,15 +2,15 @@
 
 ghost use Rattle.std.specs.Prelude.{◌≡◌, Some, option_map, codes, IfOk, IfSome};
 ghost use Rattle.il_table.specs.NameMap as map;
-ghost use Rattle.il_slots.specs.Flattened.{place_or_zero};
+ghost use Rattle.il_layout.specs.Flattened.{place_or_zero};
 ghost use Rattle.il_code.specs.Laying.{laid_task};
-ghost use Rattle.il_slots.specs.Layout.{AreOnce};
-ghost use Rattle.il_slots.specs.Paths.{slot_at, path_at};
+ghost use Rattle.il_layout.specs.Layout.{AreOnce};
+ghost use Rattle.il_layout.specs.Paths.{slot_at, path_at};
 
 use crate::laying::Opening;
 use crate::rows::FirstRows;
 use crate::slots::{cells_of, index_of};
-use il_slots::flat::Cell;
+use il_layout::flat::Cell;
 use il_table::Table;
 use lists::Items;
 use std::alloc::{AllocError, Global};

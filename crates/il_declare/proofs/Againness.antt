@@ -8,8 +8,8 @@ use Rattle.il_spec.specs.declared.tree.Declaration.{Declaration}
 use Rattle.il_table.specs.NameMap.{get, insert, empty, get-empty}
 use Rattle.il_rules.specs.Names.{Spelling, is_one_of}
 use Rattle.il_rules.specs.Declarations.{IsAgain, names_in}
-use Rattle.il_found.specs.Least.{NumberedFault, fault_of, earlier_of, IsLeast, When, Either}
-use Rattle.il_found.proofs.Least.{least_both, least_same, least_if, least_none}
+use Rattle.il_rules.specs.Least.{NumberedFault, fault_of, earlier_of, IsLeast, When, Either}
+use Rattle.il_rules.proofs.Least.{least_both, least_same, least_if, least_none}
 use Rattle.il_scope.proofs.Filled.{take_next, get-inserted}
 use Rattle.il_declare.specs.TaskRules.{IsSet}
 use Rattle.il_declare.specs.Again.{Seen, with_names, AgainFrom, NamedAgain, after}

@@ -19,8 +19,8 @@ use Rattle.il_rules.specs.Declarations as rule
 use Rattle.il_rules.specs.Declarations.{Admitted, ScalarsAlone, ScalarsAndArrays, admitted_variables, types_in, result_types, unit_types, written_types, type_numbers, subrange_numbers, initial_numbers, name_numbers, unit_declarations, all_declarations, names_in, unit_names, labels_of, names_of_units, global_form, IsTypeBroken, IsInitialBroken, IsNameBroken, IsAgain, IsDuplicate, IsUnknown, IsInitialOutside, IsBadTask, HasOtherType, IsExternal}
 use Rattle.il_rules.specs.Faults as broken
 use Rattle.il_rules.specs.Faults.{BreaksDeclarations, IsNoLater, same_place}
-use Rattle.il_found.specs.Least.{Either}
-use Rattle.il_found.proofs.Least.{Covered, no_later-refl}
+use Rattle.il_rules.specs.Least.{Either}
+use Rattle.il_rules.proofs.Least.{Covered, no_later-refl}
 use Rattle.il_declare.specs.Places.{Among}
 use Rattle.il_declare.specs.Written.{Misdeclared}
 use Rattle.il_declare.specs.Externals.{Differs, BreaksExternal}

@@ -2,8 +2,8 @@
 use Rattle.std.proofs.Common.{◌≡◌, ℕ, List, Option, subst}
 use Rattle.il_spec.specs.declared.tree.Place.{Place}
 use Rattle.il_spec.specs.declared.tree.Declaration.{Declaration}
-use Rattle.il_found.specs.Least.{NumberedFault, earlier_of, IsLeast, Either}
-use Rattle.il_found.proofs.Least.{least_both}
+use Rattle.il_rules.specs.Least.{NumberedFault, earlier_of, IsLeast, Either}
+use Rattle.il_rules.proofs.Least.{least_both}
 use Rattle.il_declare.specs.Places.{Among}
 
 -- four lists, each with its own rule

@@ -10,8 +10,8 @@ use Rattle.il_rules.specs.Declarations.{instance_numbers, admits_instances, init
 use Rattle.il_scope.specs.declared.entry.BlockType.{BlockType}
 use Rattle.il_scope.specs.Views.{block_type}
 use Rattle.il_scope.proofs.Laws.{block_there}
-use Rattle.il_found.specs.Least.{NumberedFault, fault_of, IsLeast}
-use Rattle.il_found.proofs.Least.{least_same}
+use Rattle.il_rules.specs.Least.{NumberedFault, fault_of, IsLeast}
+use Rattle.il_rules.proofs.Least.{least_same}
 use Rattle.il_declare.specs.Places.{lowest_at, At}
 use Rattle.il_declare.specs.Written.{BreaksInitial}
 use Rattle.il_declare.proofs.Lowest.{at_unless, least_at}

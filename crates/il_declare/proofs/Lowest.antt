@@ -10,10 +10,10 @@ use Rattle.il_spec.specs.declared.tree.Place.{Place}
 use Rattle.il_rules.specs.Declarations.{unless}
 use Rattle.il_rules.specs.Faults.{IsNoLater, same_place}
 use Rattle.il_rules.proofs.Passes.{only_one}
-use Rattle.il_found.specs.Least.{NumberedFault, fault_at, fault_of, earlier_of, IsLeast, Below}
-use Rattle.il_found.proofs.Least.{least_none, least_same}
-use Rattle.il_found.specs.Lowest.{lower_of, lowest}
-use Rattle.il_found.proofs.Lowest.{lowest_append, IsLowest, is_lowest}
+use Rattle.il_rules.specs.Least.{NumberedFault, fault_at, fault_of, earlier_of, IsLeast, Below}
+use Rattle.il_rules.proofs.Least.{least_none, least_same}
+use Rattle.il_rules.specs.Lowest.{lower_of, lowest}
+use Rattle.il_rules.proofs.Lowest.{lowest_append, IsLowest, is_lowest}
 use Rattle.il_declare.specs.Places.{lowest_at, At, Among}
 
 -- at one place the lower number is earlier

@@ -16,7 +16,7 @@ use Rattle.il_rules.specs.Declarations.{Access, Reads, unless, reference_numbers
 use Rattle.il_scope.specs.Views.{type_of, binding_of, function_number}
 use Rattle.il_rules.specs.declared.names.StandardFunction.{StandardFunction}
 use Rattle.il_scope.proofs.Laws.{block_found, function_there}
-use Rattle.il_found.specs.Least.{NumberedFault, fault_of}
+use Rattle.il_rules.specs.Least.{NumberedFault, fault_of}
 use Rattle.il_declare.specs.Places.{lowest_at}
 use Rattle.il_declare.specs.Mentions.{scalar_type_numbers, scalar_of, array_type_numbers, array_of, called_type_numbers, called_of, member_type_numbers, member_of}
 use Rattle.il_declare.proofs.Lowest.{at_unless}

@@ -6,8 +6,8 @@ use Rattle.il_spec.specs.declared.tree.Place.{Place}
 use Rattle.il_spec.specs.declared.tree.Size.{Size}
 use Rattle.il_spec.specs.declared.tree.Subrange.{Subrange}
 use Rattle.il_rules.specs.Declarations.{is_within}
-use Rattle.il_found.specs.Least.{NumberedFault, IsLeast, When, Either}
-use Rattle.il_found.proofs.Least.{least_both, least_if, least_same}
+use Rattle.il_rules.specs.Least.{NumberedFault, IsLeast, When, Either}
+use Rattle.il_rules.proofs.Least.{least_both, least_if, least_same}
 use Rattle.il_declare.specs.Sizes.{size_of, sizes_found}
 use Rattle.il_declare.specs.Whole.{SizesBreak}
 

@@ -4,7 +4,7 @@ use Rattle.il_spec.specs.declared.tree.Named.{Named}
 use Rattle.il_spec.specs.declared.tree.Place.{Place}
 use Rattle.il_table.specs.NameMap.{NameMap, get, insert}
 use Rattle.il_rules.specs.Names.{Spelling}
-use Rattle.il_found.specs.Least.{When}
+use Rattle.il_rules.specs.Least.{When}
 
 -- the names that were seen
 abbrev pub Seen : Type 0

@@ -7,7 +7,7 @@ use Rattle.il_spec.specs.declared.tree.Place.{Place}
 use Rattle.il_spec.specs.declared.tree.Form.{Form}
 use Rattle.il_spec.specs.declared.tree.Form.TheVariants.{Scalar as OfScalar, Array as OfArray, Block as OfBlock}
 use Rattle.il_rules.specs.Declarations.{global_form}
-use Rattle.il_found.specs.Least.{When, Either}
+use Rattle.il_rules.specs.Least.{When, Either}
 use Rattle.il_declare.specs.Places.{Among}
 
 -- a scalar's or an array's type is another than this one

@@ -1,8 +1,8 @@
 -- The faults of one place, and of the items of a list.
 use Rattle.std.specs.Prelude.{◌≡◌, ℕ, List, Option, option_map, Contains}
 use Rattle.il_spec.specs.declared.tree.Place.{Place}
-use Rattle.il_found.specs.Least.{NumberedFault, fault_at}
-use Rattle.il_found.specs.Lowest.{lowest}
+use Rattle.il_rules.specs.Least.{NumberedFault, fault_at}
+use Rattle.il_rules.specs.Lowest.{lowest}
 
 -- the lowest of the numbers that are broken at one place, as a fault
 abbrev pub lowest_at : List ℕ → Place → Option NumberedFault

@@ -2,7 +2,7 @@
 use Rattle.std.specs.Prelude.{ℤ, pos, int_le, not, ◌&&◌, Option}
 use Rattle.il_spec.specs.declared.tree.Config.{Config}
 use Rattle.il_spec.specs.declared.tree.Size.{Size}
-use Rattle.il_found.specs.Least.{NumberedFault, fault_of, earlier_of}
+use Rattle.il_rules.specs.Least.{NumberedFault, fault_of, earlier_of}
 
 -- 23 where a size is outside its limits
 abbrev pub size_of : Size → ℤ → ℤ → Option NumberedFault

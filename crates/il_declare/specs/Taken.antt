@@ -7,7 +7,7 @@ use Rattle.il_spec.specs.declared.tree.Named.{Named}
 use Rattle.il_spec.specs.declared.tree.Place.{Place}
 use Rattle.il_rules.specs.Names.{is_one_of, is_predeclared}
 use Rattle.il_rules.specs.Declarations.{names_of_units}
-use Rattle.il_found.specs.Least.{When, Either}
+use Rattle.il_rules.specs.Least.{When, Either}
 use Rattle.il_declare.specs.Places.{Among}
 
 -- the faults of the declarations of a unit's lists

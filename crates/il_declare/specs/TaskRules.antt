@@ -9,7 +9,7 @@ use Rattle.il_table.specs.NameMap.{NameMap, get}
 use Rattle.il_rules.specs.Names as rule
 use Rattle.il_rules.specs.Names.{Spelling, is_one_of, is_program, program_named, program_role, task_role}
 use Rattle.il_rules.specs.Declarations.{names_of_tasks}
-use Rattle.il_found.specs.Least.{When, Either}
+use Rattle.il_rules.specs.Least.{When, Either}
 use Rattle.il_rules.specs.declared.names.Role.{Role}
 use Rattle.il_rules.specs.declared.names.Role.TheVariants.{Car, Group}
 

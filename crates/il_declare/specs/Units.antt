@@ -7,7 +7,7 @@ use Rattle.il_spec.specs.declared.tree.UnitKind.TheVariants.{Function, FunctionB
 use Rattle.il_spec.specs.declared.tree.Place.{Place}
 use Rattle.il_table.specs.NameMap.{empty}
 use Rattle.il_rules.specs.Declarations.{subrange_numbers, admitted_variables, ScalarsAlone, ScalarsAndArrays, name_numbers, unit_names, labels_of}
-use Rattle.il_found.specs.Least.{Either}
+use Rattle.il_rules.specs.Least.{Either}
 use Rattle.il_declare.specs.Places.{At, Among}
 use Rattle.il_declare.specs.Written.{Misdeclared}
 use Rattle.il_declare.specs.Externals.{BreaksExternals}

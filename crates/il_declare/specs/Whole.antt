@@ -4,7 +4,7 @@ use Rattle.il_spec.specs.declared.tree.Config.{Config}
 use Rattle.il_spec.specs.declared.tree.Place.{Place}
 use Rattle.il_table.specs.NameMap.{empty}
 use Rattle.il_rules.specs.Declarations.{ScalarsAndArrays, names_in, sizes_of, is_within}
-use Rattle.il_found.specs.Least.{When, Either}
+use Rattle.il_rules.specs.Least.{When, Either}
 use Rattle.il_declare.specs.Places.{Among}
 use Rattle.il_declare.specs.Written.{Misdeclared}
 use Rattle.il_declare.specs.Taken.{TakenNames}

@@ -7,7 +7,7 @@ use Rattle.il_spec.specs.declared.tree.Initial.{Initial}
 use Rattle.il_spec.specs.declared.tree.Place.{Place}
 use Rattle.il_rules.specs.Declarations as rule
 use Rattle.il_rules.specs.Declarations.{type_numbers, initial_numbers}
-use Rattle.il_found.specs.Least.{Either}
+use Rattle.il_rules.specs.Least.{Either}
 use Rattle.il_declare.specs.declared.types.Admitted.{Admitted}
 use Rattle.il_declare.specs.declared.types.Admitted.TheVariants.{ScalarsAlone, ScalarsAndArrays, AllForms}
 use Rattle.il_declare.specs.Places.{At}

@@ -3,11 +3,11 @@
 ghost use Rattle.std.specs.Prelude.{◌≡◌, IfOk, OnOk, OnErr, is_some, flat_map};
 ghost use Rattle.il_table.specs.NameMap as table;
 ghost use Rattle.il_rules.specs.Declarations.{names_in, unit_names, labels_of};
-ghost use Rattle.il_found.specs.Least.{IsLeast};
+ghost use Rattle.il_rules.specs.Least.{IsLeast};
 ghost use Rattle.il_declare.specs.Again.{AgainFrom, NamedAgain, after};
 
 use crate::fault::DeclareFault;
-use il_found::{Found, earlier, fault_if};
+use il_rules::{Found, earlier, fault_if};
 use il_spec::tree::{Body, Declaration, Named, ProgramLine, Step, Task, Unit};
 use il_table::Table;
 use std::alloc::{AllocError, Global};

@@ -4,11 +4,11 @@ ghost use Rattle.std.specs.Prelude.{◌≡◌, ℕ, ◌≤◌, pos, ◌≤ℤ◌
 ghost use Rattle.std.specs.List.{list_any};
 ghost use Rattle.std.specs.HashSet as bag;
 ghost use Rattle.il_scope.specs.Cars.{car_of};
-ghost use Rattle.il_found.specs.Least.{IsLeast, When};
+ghost use Rattle.il_rules.specs.Least.{IsLeast, When};
 ghost use Rattle.il_declare.specs.CarRules.{is_number, MissesCar};
 
 use crate::fault::DeclareFault;
-use il_found::{Found, fault_if};
+use il_rules::{Found, fault_if};
 use il_scope::Scoped;
 use il_scope::roles::car_number;
 use il_spec::tree::Task;

@@ -4,12 +4,12 @@ ghost use Rattle.std.specs.Prelude.{◌≡◌, ◌≢◌, true, false};
 ghost use Rattle.il_spec.specs.declared.tree.Config.{Config};
 ghost use Rattle.il_spec.specs.declared.tree.Form.{Form as WrittenForm};
 ghost use Rattle.il_scope.specs.Views.{type_of};
-ghost use Rattle.il_found.specs.Least.{IsLeast};
+ghost use Rattle.il_rules.specs.Least.{IsLeast};
 ghost use Rattle.il_declare.specs.Places.{Among};
 ghost use Rattle.il_declare.specs.Externals.{BreaksExternal, BreaksExternals, IsOther};
 
 use crate::fault::DeclareFault;
-use il_found::{Found, earlier, fault_if};
+use il_rules::{Found, earlier, fault_if};
 use il_scope::Scoped;
 use il_scope::entry::VariableType;
 use il_spec::tree::{Declaration, Form, Named, Scalar, Subrange};

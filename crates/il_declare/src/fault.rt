@@ -2,7 +2,7 @@
 
 ghost use Rattle.il_declare.specs.DeclareFaults.{declare_fault_number};
 
-use il_found::PhaseFault;
+use il_rules::PhaseFault;
 use thiserror::Error;
 
 /// What a declaration, a name in a body, or a task breaks.

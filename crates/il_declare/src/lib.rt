@@ -21,8 +21,7 @@ ghost use Rattle.il_rules.specs.Faults.{HasNoFault, IsRefusedBy, BreaksDeclarati
 use crate::whole::declared_fault;
 pub use declared::Declared;
 pub use fault::DeclareFault;
-use il_found::refusal;
-use il_rules::Written;
+use il_rules::{Written, refusal};
 use il_scope::Scoped;
 use il_spec::fault::Refusal;
 use std::alloc::Global;

@@ -4,12 +4,12 @@ ghost use Rattle.std.specs.Prelude.{◌≡◌, ◌++◌, [], is_some, flat_map, 
 ghost use Rattle.il_rules.specs.Names.{entry_of, meaning, standard_function, function_named};
 ghost use Rattle.il_rules.specs.Declarations.{unless, is_visible, scalar_numbers, array_numbers, index_name_numbers, member_numbers, reference_numbers, called_numbers, argument_name_numbers, short_form_name_numbers, name_numbers, Reads};
 ghost use Rattle.il_scope.specs.Views.{variables_of_block};
-ghost use Rattle.il_found.specs.Least.{IsLeast};
+ghost use Rattle.il_rules.specs.Least.{IsLeast};
 ghost use Rattle.il_declare.specs.Places.{lowest_at, At, Among};
 ghost use Rattle.il_declare.specs.Mentions.{shown_access, scalar_type_numbers, scalar_of, array_type_numbers, array_of, called_type_numbers, called_of, member_type_numbers, member_of};
 
 use crate::fault::DeclareFault;
-use il_found::{Found, earlier, fault_if};
+use il_rules::{Found, earlier, fault_if};
 use il_scope::entry::{Binding, BlockType, VariableType};
 use il_scope::functions::standard_function;
 use il_scope::{Scoped, UnitScope};

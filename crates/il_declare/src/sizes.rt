@@ -4,7 +4,7 @@ ghost use Rattle.std.specs.Prelude.{◌≡◌};
 ghost use Rattle.il_declare.specs.Sizes.{size_of, sizes_found};
 
 use crate::fault::DeclareFault;
-use il_found::{Found, earlier, fault_if};
+use il_rules::{Found, earlier, fault_if};
 use il_spec::tree::{Config, Size};
 
 /// The first size outside its limits.

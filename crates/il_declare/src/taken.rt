@@ -3,12 +3,12 @@
 ghost use Rattle.std.specs.Prelude.{◌≡◌, ◌||◌};
 ghost use Rattle.il_rules.specs.Names.{is_one_of, is_predeclared};
 ghost use Rattle.il_rules.specs.Declarations.{names_of_units};
-ghost use Rattle.il_found.specs.Least.{IsLeast};
+ghost use Rattle.il_rules.specs.Least.{IsLeast};
 ghost use Rattle.il_declare.specs.Places.{Among};
 ghost use Rattle.il_declare.specs.Taken.{InLists, TakenName, TakenNames, TakenInUnit};
 
 use crate::fault::DeclareFault;
-use il_found::{Found, earlier, fault_if};
+use il_rules::{Found, earlier, fault_if};
 use il_scope::Scoped;
 use il_spec::tree::{Declaration, Named, Unit};
 

@@ -2,14 +2,14 @@
 
 ghost use Rattle.std.specs.Prelude.{◌≡◌, IfOk, List, map, not, ◌&&◌, is_some};
 ghost use Rattle.il_rules.specs.Names.{Spelling, is_one_of, is_program, program_named, task_role};
-ghost use Rattle.il_found.specs.Least.{IsLeast, When};
+ghost use Rattle.il_rules.specs.Least.{IsLeast, When};
 ghost use Rattle.il_declare.specs.Places.{Among};
 ghost use Rattle.il_declare.specs.TaskRules.{IsSet, other_role, TaskBreaks, BreaksLine, IsUnusedOf, is_wrong_line, has_other_role};
 
 use crate::fault::DeclareFault;
 use crate::sets::{has_name, lines_programs, lines_tasks, task_names};
-use il_found::{Found, earlier, fault_if};
 use il_rules::names::Role;
+use il_rules::{Found, earlier, fault_if};
 use il_scope::roles::task_role;
 use il_scope::{Scoped, is_program};
 use il_spec::tree::{ProgramLine, Task, Unit};

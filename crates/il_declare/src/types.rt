@@ -5,13 +5,13 @@ ghost use Rattle.il_spec.specs.declared.tree.Form.TheVariants.{Scalar as OfScala
 ghost use Rattle.il_spec.specs.declared.tree.Elementary.TheVariants.{Int};
 ghost use Rattle.il_rules.specs.Declarations.{unless, subrange_numbers, bounds_numbers, admits_arrays, admits_instances, has_value, instance_numbers, type_numbers, initial_numbers, written_type, is_of_type, literal_lies_in};
 ghost use Rattle.il_rules.specs.Names.{block_variables};
-ghost use Rattle.il_found.specs.Least.{IsLeast};
+ghost use Rattle.il_rules.specs.Least.{IsLeast};
 ghost use Rattle.il_declare.specs.Places.{lowest_at, Among};
 ghost use Rattle.il_declare.specs.Written.{shown, BreaksInitial, Misdeclared};
 
 use crate::fault::DeclareFault;
-use il_found::{Found, earlier, fault_if};
 use il_rules::elementary::{declared_limits, has_value, is_same_type, is_whole, is_within_any};
+use il_rules::{Found, earlier, fault_if};
 use il_scope::Scoped;
 use il_spec::tree::{
     Declaration, Elementary, Form, Initial, Literal, Place, Scalar, Subrange, WrittenType,

@@ -2,7 +2,7 @@
 
 ghost use Rattle.std.specs.Prelude.{◌≡◌, IfOk};
 ghost use Rattle.il_rules.specs.Declarations.{admitted_variables};
-ghost use Rattle.il_found.specs.Least.{IsLeast, Either};
+ghost use Rattle.il_rules.specs.Least.{IsLeast, Either};
 ghost use Rattle.il_declare.specs.Places.{Among};
 ghost use Rattle.il_declare.specs.Written.{shown};
 ghost use Rattle.il_declare.specs.Units.{BreaksResult, BreaksLists, BreaksChecked, DeclaresAgain, UnitBreaks};
@@ -13,7 +13,7 @@ use crate::fault::DeclareFault;
 use crate::mentions::steps_fault;
 use crate::taken::taken_in_unit;
 use crate::types::{Admitted, declarations_fault, subrange_fault};
-use il_found::{Found, earlier};
+use il_rules::{Found, earlier};
 use il_scope::{Scoped, UnitScope};
 use il_spec::tree::{Unit, UnitKind};
 use std::alloc::{AllocError, Global};

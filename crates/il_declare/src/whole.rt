@@ -2,7 +2,7 @@
 
 ghost use Rattle.std.specs.Prelude.{◌≡◌, IfOk};
 ghost use Rattle.il_rules.specs.Faults.{BreaksDeclarations};
-ghost use Rattle.il_found.specs.Least.{IsLeast, Either};
+ghost use Rattle.il_rules.specs.Least.{IsLeast, Either};
 ghost use Rattle.il_declare.specs.Places.{Among};
 ghost use Rattle.il_declare.specs.Units.{UnitBreaks};
 ghost use Rattle.il_declare.specs.Whole.{SizesBreak, GlobalsBreak, SecondNames, TasksBreak};
@@ -17,7 +17,7 @@ use crate::taken::taken_declared;
 use crate::tasks::{program_lines_fault, task_lines_fault, unused_fault};
 use crate::types::{Admitted, declarations_fault};
 use crate::units::units_fault;
-use il_found::{Found, earlier};
+use il_rules::{Found, earlier};
 use il_scope::Scoped;
 use il_spec::tree::Config;
 use std::alloc::{AllocError, Global};

@@ -9,8 +9,8 @@ ghost use Rattle.il_exec.specs.Frames.{pair_of, operator_of, truth_of, rest_of_p
 use crate::current::{Current, Kind, content_by};
 use crate::quick::Quick;
 use arrayvec::ArrayVec;
+use il_layout::flat::UnitCode;
 use il_run::value::Content;
-use il_slots::flat::UnitCode;
 use il_spec::tree::{Elementary, Logic, Operator};
 use lists::Items;
 use std::marker::Model;

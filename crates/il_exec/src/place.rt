@@ -3,7 +3,7 @@
 ghost use Rattle.std.specs.Prelude.{◌≡◌, ◌+◌, ◌^◌, ◌<◌, IsSome, Some, slice_get};
 ghost use Rattle.il_exec.specs.Going.{code_of};
 
-use il_slots::flat::{Flat, UnitCode};
+use il_layout::flat::{Flat, UnitCode};
 
 // The code of a unit.
 pub fn code_of(units: &[UnitCode], unit: usize) -> &[Flat]

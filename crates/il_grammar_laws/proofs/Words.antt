@@ -14,15 +14,7 @@ use Rattle.il_spec.specs.ElementaryTypes.{is_whole}
 use Rattle.il_spec.specs.Text.{is_word_byte, run_end, upper_case, entry_of, whole_type_words, IsLexeme}
 use Rattle.il_rules.specs.Written.{IsWord}
 use Rattle.il_text.proofs.Lexemes.{lexeme_within}
-
--- the bytes of a run pass
-run_passes : (text : List ℕ) (i j k : ℕ) → j ≡ run_end is_word_byte text i → k < length (slice_range text i j) → is_word_byte (get_or (slice_range text i j) k 0) ≡ true
-unfolding run_end
-run_passes text i j k end below =
-    let long = length-take (j - i) (drop i text) in
-    let less : k < j - i = omega arith in
-    let inside : k < prefix_len is_word_byte (drop i text) = omega arith in
-    ap is_word_byte (get_or-take (j - i) (drop i text) k 0 less) ∙ prefix_len_passes is_word_byte (drop i text) k 0 inside
+use Rattle.il_text.proofs.Names.{run_passes}
 
 -- a byte of a word is one in upper case too
 upper_passes : (b : ℕ) → is_word_byte b ≡ true → is_word_byte (to_ascii_uppercase b) ≡ true

@@ -9,7 +9,7 @@ use Rattle.il_rules.specs.Names.{is_one_of, or_else}
 use Rattle.il_table.specs.NameMap.{NameMap, Text, get, empty, with_new, get-empty}
 use Rattle.il_scope.proofs.Filled.{get-with_new, take_all}
 use Rattle.il_typed.proofs.Written.{any_next}
-use Rattle.il_slots.specs.declared.flat.Cell.{Cell}
+use Rattle.il_layout.specs.declared.flat.Cell.{Cell}
 use Rattle.il_machine.specs.Sharing.{base_name, HasStored, stores_cell}
 
 -- PATHS

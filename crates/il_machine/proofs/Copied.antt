@@ -14,11 +14,11 @@ use Rattle.il_run.specs.State.{Values}
 use Rattle.il_run.specs.Scan.{entries_at}
 use Rattle.il_scan_laws.proofs.Lists.{at_head, in_tail}
 use Rattle.il_table.proofs.Texts.{same_text}
-use Rattle.il_slots.specs.declared.flat.Cell.{Cell}
-use Rattle.il_slots.specs.Flattened.{place_or_zero}
-use Rattle.il_slots.specs.Layout.{Rows, Fits, HasKind, number_part, flag_part, value_by, view, view_of}
-use Rattle.il_slots.specs.Paths.{slot_at}
-use Rattle.il_image.specs.Image.{with_slot}
+use Rattle.il_layout.specs.declared.flat.Cell.{Cell}
+use Rattle.il_layout.specs.Flattened.{place_or_zero}
+use Rattle.il_layout.specs.Layout.{Rows, Fits, HasKind, number_part, flag_part, value_by, view, view_of}
+use Rattle.il_layout.specs.Paths.{slot_at}
+use Rattle.il_snapshot.specs.Image.{with_slot}
 use Rattle.il_machine.specs.Scanning.{value_at}
 use Rattle.il_machine.specs.Sharing.{between, slot_in, transfer, taken}
 use Rattle.il_machine.specs.Starting.{value_or_zero, shared_value}

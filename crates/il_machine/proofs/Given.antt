@@ -30,13 +30,13 @@ use Rattle.il_scan_laws.proofs.Lists.{at_head, in_tail}
 use Rattle.il_scan_laws.proofs.Externals.{shares_globals}
 use Rattle.il_scan_laws.proofs.Meant.{program_is, no_instance, external_typed}
 use Rattle.il_scan_laws.proofs.Paths.{Agree, agree_append, value_of, values_of}
-use Rattle.il_slots.specs.declared.flat.Cell.{Cell}
-use Rattle.il_slots.specs.Cells.{element_cells, cells_at, entity_cells, instance_cells}
-use Rattle.il_slots.specs.Layout.{cell, value_by, number_part, flag_part}
-use Rattle.il_slots.specs.Places.{deepest, seen_among, seen_image, is_common}
-use Rattle.il_slots.specs.Program.{seen_cells}
-use Rattle.il_slots.specs.Whole.{AreOf}
-use Rattle.il_slots.proofs.Tasks.{cells-append, program_among}
+use Rattle.il_layout.specs.declared.flat.Cell.{Cell}
+use Rattle.il_layout.specs.Cells.{element_cells, cells_at, entity_cells, instance_cells}
+use Rattle.il_layout.specs.Layout.{cell, value_by, number_part, flag_part}
+use Rattle.il_layout.specs.Places.{deepest, seen_among, seen_image, is_common}
+use Rattle.il_layout.specs.Program.{seen_cells}
+use Rattle.il_layout.specs.Whole.{AreOf}
+use Rattle.il_layout.proofs.Tasks.{cells-append, program_among}
 use Rattle.lift_spec.specs.Image.{sizes_of}
 use Rattle.lift_spec.specs.Snapshot.{image_entries, given_entries}
 use Rattle.lift_spec.specs.World.{Group, snapshot_of, InRanges}

@@ -6,8 +6,8 @@ use Rattle.il_run.specs.Scan.{restricted}
 use Rattle.il_run.specs.Ranges.{HoldsTask}
 use Rattle.il_table.specs.ByText.{HaveSameNames}
 use Rattle.il_scan_laws.specs.Agreement.{Holds}
-use Rattle.il_slots.specs.Layout.{Rows, rows, Fits}
-use Rattle.il_slots.specs.Program.{own_cells, seen_cells, program_cells}
+use Rattle.il_layout.specs.Layout.{Rows, rows, Fits}
+use Rattle.il_layout.specs.Program.{own_cells, seen_cells, program_cells}
 use Rattle.il_exec.specs.Going.{Stored}
 use Rattle.lift_spec.specs.Snapshot.{program_of}
 use Rattle.lift_run_laws.specs.Tasks.{IsTaskOf}

@@ -10,8 +10,8 @@ use Rattle.il_spec.specs.declared.tree.ProgramLine.{ProgramLine}
 use Rattle.il_rules.specs.Names.{is_predeclared, is_program, program_named}
 use Rattle.il_rules.specs.Declarations.{unknown_program}
 use Rattle.il_rules.specs.Faults.{Declaring, Broken, HasNoFault, bad_task}
-use Rattle.il_budget.specs.Costs.{cost_of, path_of}
-use Rattle.il_cost_laws.proofs.Accepted.{has_longest}
+use Rattle.il_verify.specs.Costs.{cost_of, path_of}
+use Rattle.il_scan_laws.proofs.Accepted.{has_longest}
 use Rattle.il_table.specs.NameMap.{Text}
 use Rattle.il_run.specs.Scan.{program_of as program_by}
 use Rattle.il_run.specs.Paths.{IsLongest, longest}
@@ -19,13 +19,13 @@ use Rattle.il_scan_laws.proofs.Lists.{found_in}
 use Rattle.il_scan_laws.proofs.Meant.{program_is}
 use Rattle.il_scan_laws.proofs.Named.{found_unit, name_of}
 use Rattle.il_scope.specs.Views.{program_number}
-use Rattle.il_slots.specs.Whole.{number_in}
-use Rattle.il_flatten.proofs.Calling.{number_is}
+use Rattle.il_layout.specs.Whole.{number_in}
+use Rattle.il_code.proofs.Calling.{number_is}
 use Rattle.lift_spec.specs.Snapshot.{task_name, program_of, has_task}
 use Rattle.il_machine.specs.Scanning.{Program, IsRunnable, HasTask}
 use Rattle.lift_spec.specs.Image.{sizes_of}
 use Rattle.il_machine.proofs.Sizes.{few_cars, few_tasks}
-use Rattle.il_slots.specs.declared.flat.UnitCode.{UnitCode}
+use Rattle.il_layout.specs.declared.flat.UnitCode.{UnitCode}
 use Rattle.il_exec.specs.Going.{Runs}
 use Rattle.il_machine.specs.Listing.{UnitLine, unit_line, unit_lines, lines_with, TaskLine, task_by, task_of, program_line_of, unit_of, is_task_name, task_among, PrintsBudgets}
 

@@ -11,10 +11,10 @@ use Rattle.il_run.specs.State.{Values}
 use Rattle.il_run.specs.Scan.{opening_variables, opening_globals}
 use Rattle.il_scan_laws.specs.Accepted.{IsAccepted}
 use Rattle.il_scan_laws.proofs.Opening.{variables_open}
-use Rattle.il_slots.specs.Layout.{Rows, Fits, view}
-use Rattle.il_slots.specs.Program.{own_cells, own_values}
-use Rattle.il_slots.specs.Whole.{first_rows}
-use Rattle.il_slots.proofs.Openings.{own_opening}
+use Rattle.il_layout.specs.Layout.{Rows, Fits, view}
+use Rattle.il_layout.specs.Program.{own_cells, own_values}
+use Rattle.il_layout.specs.Whole.{first_rows}
+use Rattle.il_layout.proofs.Openings.{own_opening}
 use Rattle.lift_spec.specs.declared.image.Sizes.{Sizes}
 use Rattle.lift_spec.specs.declared.image.CarFields.{CarFields}
 use Rattle.lift_spec.specs.declared.image.Image.{Image}

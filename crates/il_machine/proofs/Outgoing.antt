@@ -25,12 +25,12 @@ use Rattle.il_scan_laws.specs.Listed.{seen_scalars, given_scalars as scan_scalar
 use Rattle.il_scan_laws.proofs.Lists.{at_head, in_tail}
 use Rattle.il_scan_laws.proofs.Paths.{value_of, have_first, have_second}
 use Rattle.il_scan_laws.proofs.Starting.{values_are}
-use Rattle.il_slots.specs.declared.flat.Cell.{Cell}
-use Rattle.il_slots.specs.Layout.{cell, Rows, Fits, view, value_by}
-use Rattle.il_slots.specs.Paths.{slot_at}
-use Rattle.il_slots.specs.Program.{own_cells, program_cells, program_code}
-use Rattle.il_slots.proofs.Paired.{stands_slot}
-use Rattle.il_slots.proofs.Tasks.{cells_once}
+use Rattle.il_layout.specs.declared.flat.Cell.{Cell}
+use Rattle.il_layout.specs.Layout.{cell, Rows, Fits, view, value_by}
+use Rattle.il_layout.specs.Paths.{slot_at}
+use Rattle.il_layout.specs.Program.{own_cells, program_cells, program_code}
+use Rattle.il_layout.proofs.Paired.{stands_slot}
+use Rattle.il_layout.proofs.Tasks.{cells_once}
 use Rattle.il_exec.specs.Effect.{with_some}
 use Rattle.il_exec.specs.Going.{Stored}
 use Rattle.il_exec.specs.Framing.{state_by}

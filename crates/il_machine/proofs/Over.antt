@@ -12,9 +12,10 @@ use Rattle.il_run.specs.State.{Values}
 use Rattle.il_run.specs.Scan.{entries_at, restricted}
 use Rattle.il_table.specs.ByText.{HaveSameNames}
 use Rattle.il_table.proofs.Texts.{same_text, same_names-insert}
-use Rattle.il_slots.specs.declared.flat.Cell.{Cell}
-use Rattle.il_slots.specs.Layout.{Rows, Fits, value_by, view_of, view}
+use Rattle.il_layout.specs.declared.flat.Cell.{Cell}
+use Rattle.il_layout.specs.Layout.{Rows, Fits, value_by, view_of, view}
 use Rattle.il_machine.specs.Scanning.{over, front, behind}
+use Rattle.lift_run_laws.proofs.Kept.{get_entries_at}
 
 or_else_cond : (b : Bool) (v : Value) (o p : Option Value) → cond b (Some v) (or_else o p) ≡ or_else (cond b (Some v) o) p
 or_else_cond true v o p = refl
@@ -111,22 +112,6 @@ same_names cells r s fits also = same_names_of cells r.numbers s.numbers r.flags
 none_cond : (b : Bool) → ◌≡◌ {A = Option Value} (cond b None None) None
 none_cond true = refl
 none_cond false = refl
-
--- what is left of the entries of a map's paths
-get_entries_at : (end : Values) (es : List (Text × Value)) (q : Text) → get (from_entries (entries_at end (map (λ e. e.0) es))) q ≡ cond (is_some (find order q es)) (get end q) None
-get_entries_at end [] q = get-empty q
-get_entries_at end (e ∷ es) q = by (get_entries_at end es q) (get end e.0) refl
-  where
-    by : (get (from_entries (entries_at end (map (λ e. e.0) es))) q ≡ cond (is_some (find order q es)) (get end q) None) → (o : Option Value) → get end e.0 ≡ o
-        → get (from_entries (entries_at end (map (λ e. e.0) (e ∷ es)))) q ≡ cond (is_some (cond (eq_by_cmp order q e.0) (Some e.1) (find order q es))) (get end q) None
-    by rest None is = rw is (rest ∙ elim (eq_by_cmp order q e.0) as (λ b. eq_by_cmp order q e.0 ≡ b → cond (is_some (find order q es)) (get end q) None ≡ cond (is_some (cond b (Some e.1) (find order q es))) (get end q) None) [
-      | true ↦ λ same. ap (λ x. cond (is_some (find order q es)) x None) (ap (get end) (same_text q e.0 same) ∙ is) ∙ none_cond (is_some (find order q es)) ∙ sym (ap (get end) (same_text q e.0 same) ∙ is)
-      | false ↦ λ _. refl
-    ] refl)
-    by rest (Some v) is = rw is (get-insert (from_entries (entries_at end (map (λ e. e.0) es))) e.0 v q ∙ elim (eq_by_cmp order q e.0) as (λ b. eq_by_cmp order q e.0 ≡ b → cond b (Some v) (get (from_entries (entries_at end (map (λ e. e.0) es))) q) ≡ cond (is_some (cond b (Some e.1) (find order q es))) (get end q) None) [
-      | true ↦ λ same. sym (ap (get end) (same_text q e.0 same) ∙ is)
-      | false ↦ λ _. rest
-    ] refl)
 
 -- a commit keeps the variables that the scan left
 pub restricted_is : (start left written : Values) → HaveSameNames left start → restricted start (over written left) ≡ left

@@ -21,31 +21,23 @@ use Rattle.il_scan_laws.proofs.Lists.{in_nothing, at_head, in_tail}
 use Rattle.il_scan_laws.proofs.Opening.{variables_open}
 use Rattle.il_scan_laws.proofs.Starting.{values_are}
 use Rattle.il_table.specs.ByText.{HaveSameNames}
-use Rattle.il_slots.specs.declared.flat.Cell.{Cell}
-use Rattle.il_slots.specs.Cells.{entity_cells, instance_cells}
-use Rattle.il_slots.specs.Layout.{Rows, Fits, view}
-use Rattle.il_slots.specs.Places.{deepest, height_to, any_block}
-use Rattle.il_slots.specs.Whole.{first_rows, AreOf}
-use Rattle.il_slots.specs.Program.{task_functions, function_cells, functions_cells, variable_cells, own_cells, own_values}
-use Rattle.il_slots.proofs.IsPlaced.{entities_same, instances_same}
-use Rattle.il_slots.proofs.Opening.{are_of-append, entities_of, instances_of}
-use Rattle.il_slots.proofs.Openings.{own_opening}
-use Rattle.il_slots.proofs.Uses.{heights, own_below}
-use Rattle.il_slots.proofs.Begins.{own_initial, blocks_initial}
-use Rattle.il_slots.proofs.Frames.{of_task_functions}
-use Rattle.il_slots.proofs.Tasks.{fresh_cells, fresh_are, program_among}
+use Rattle.il_layout.specs.declared.flat.Cell.{Cell}
+use Rattle.il_layout.specs.Cells.{entity_cells, instance_cells}
+use Rattle.il_layout.specs.Layout.{Rows, Fits, view}
+use Rattle.il_layout.specs.Places.{deepest, height_to, any_block}
+use Rattle.il_layout.specs.Whole.{first_rows, AreOf}
+use Rattle.il_layout.specs.Program.{task_functions, function_cells, functions_cells, variable_cells, own_cells, own_values}
+use Rattle.il_layout.proofs.IsPlaced.{entities_same, instances_same}
+use Rattle.il_layout.proofs.Opening.{are_of-append, entities_of, instances_of}
+use Rattle.il_layout.proofs.Openings.{own_opening, function_head}
+use Rattle.il_layout.proofs.Uses.{heights, own_below}
+use Rattle.il_layout.proofs.Begins.{own_initial, blocks_initial}
+use Rattle.il_layout.proofs.Frames.{of_task_functions}
+use Rattle.il_layout.proofs.Tasks.{fresh_cells, fresh_are, program_among}
 use Rattle.il_machine.specs.Scanning.{over}
 use Rattle.il_machine.proofs.Over.{get-over, same_names}
 
 -- FIRST ROWS
-
-function_head : (c : Config) (u : ProgramUnit) (us : List ProgramUnit) → is_function u ≡ true → function_values c (u ∷ us) ≡ fresh_values c u ++ function_values c us
-function_head c u us is = by_kind u.kind refl is
-  where
-    by_kind : (k : UnitKind) → u.kind ≡ k → is_function_kind k ≡ true → function_values c (u ∷ us) ≡ fresh_values c u ++ function_values c us
-    by_kind (Function s place) kind h = rw kind refl
-    by_kind FunctionBlock kind h = cc
-    by_kind Program kind h = cc
 
 -- there is a row for each value
 pub fits_of : (xs : List Cell) (vs : List (Text × Value)) → AreOf xs vs → Fits xs (first_rows vs)

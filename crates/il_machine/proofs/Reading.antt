@@ -7,13 +7,13 @@ use Rattle.il_rules.specs.Declarations.{declared_limits}
 use Rattle.il_run.specs.declared.value.Value.{Value}
 use Rattle.il_table.specs.NameMap.{Text, order, get, get-empty, get-insert}
 use Rattle.il_table.proofs.Texts.{same_text}
-use Rattle.il_slots.specs.declared.flat.Cell.{Cell}
-use Rattle.il_slots.specs.Layout.{Rows, rows, view_of, value_by}
-use Rattle.il_slots.specs.Paths.{slot_at}
-use Rattle.il_slots.proofs.Kept.{itself}
+use Rattle.il_layout.specs.declared.flat.Cell.{Cell}
+use Rattle.il_layout.specs.Layout.{Rows, rows, view_of, value_by}
+use Rattle.il_layout.specs.Paths.{slot_at}
+use Rattle.il_layout.proofs.Kept.{itself}
 use Rattle.il_exec.specs.Effect.{with_some}
 use Rattle.il_spec.specs.declared.tree.Config.{Config}
-use Rattle.il_slots.specs.Program.{own_cells, seen_cells, program_cells}
+use Rattle.il_layout.specs.Program.{own_cells, seen_cells, program_cells}
 use Rattle.il_machine.specs.Scanning.{value_at, own_view, variables_in, FitsOwn}
 
 -- no rows, no value

@@ -11,9 +11,9 @@ use Rattle.il_table.specs.NameMap.{Text}
 use Rattle.il_run.specs.State.{Values}
 use Rattle.il_run.specs.Ranges.{HoldsTask}
 use Rattle.il_run.specs.Scan.{entries_at, external_paths}
-use Rattle.il_slots.specs.Layout.{Rows, rows, Fits, number_part, flag_part}
-use Rattle.il_slots.specs.Program.{own_cells, seen_cells, program_cells}
-use Rattle.il_slots.specs.Whole.{first_rows}
+use Rattle.il_layout.specs.Layout.{Rows, rows, Fits, number_part, flag_part}
+use Rattle.il_layout.specs.Program.{own_cells, seen_cells, program_cells}
+use Rattle.il_layout.specs.Whole.{first_rows}
 use Rattle.il_exec.specs.Going.{Stored}
 use Rattle.lift_spec.specs.declared.image.Image.{Image}
 use Rattle.lift_spec.specs.declared.calls.Slot.{Slot}
@@ -22,14 +22,14 @@ use Rattle.lift_spec.specs.Calls.{SlotInRange}
 use Rattle.lift_spec.specs.Snapshot.{scan_begins, given_entries, image_entries}
 use Rattle.lift_spec.specs.World.{Group, snapshot_of, InRanges}
 use Rattle.lift_run_laws.specs.Tasks.{IsTaskOf}
-use Rattle.il_image.specs.Image.{filled, image_values}
+use Rattle.il_snapshot.specs.Image.{filled, image_values}
 use Rattle.il_machine.specs.Scanning.{IsRunnable, OwnsDeclared, FitsOwn, IsScanOf, own_view, variables_in, kept_of, state_of}
 use Rattle.il_machine.specs.Starting.{joined, start_of, FitsTask, AreListed}
 use Rattle.il_machine.proofs.Given.{given_are}
 use Rattle.il_machine.proofs.Owned.{fits_of}
 use Rattle.il_machine.proofs.Scans.{sound_of}
 use Rattle.il_machine.proofs.Starts.{task_scan, task_begins}
-use Rattle.il_image.proofs.Writing.{filled_append, same_numbers, same_flags}
+use Rattle.il_snapshot.proofs.Writing.{filled_append, same_numbers, same_flags}
 
 -- VALUES BEHIND OTHERS
 

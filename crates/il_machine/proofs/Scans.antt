@@ -9,10 +9,10 @@ use Rattle.il_scan_laws.specs.Accepted.{IsAccepted}
 use Rattle.il_scan_laws.specs.Soundness.{StepsWell}
 use Rattle.il_scan_laws.proofs.Scanning.{step_sound}
 use Rattle.il_scan_laws.proofs.Premises.{in_order}
-use Rattle.il_slots.specs.declared.flat.UnitCode.{UnitCode}
-use Rattle.il_slots.specs.Layout.{Rows, Fits, view}
-use Rattle.il_slots.specs.Coded.{Code}
-use Rattle.il_slots.specs.Program.{own_cells, seen_cells, program_cells, program_code}
+use Rattle.il_layout.specs.declared.flat.UnitCode.{UnitCode}
+use Rattle.il_layout.specs.Layout.{Rows, Fits, view}
+use Rattle.il_layout.specs.Coded.{Code}
+use Rattle.il_layout.specs.Program.{own_cells, seen_cells, program_cells, program_code}
 use Rattle.il_exec.specs.declared.frames.Frame.{Frame as FlatFrame}
 use Rattle.il_exec.specs.declared.frames.Pair.{Pair}
 use Rattle.il_exec.specs.Frames.{Suspended}

@@ -32,15 +32,15 @@ use Rattle.il_scan_laws.proofs.Opening.{globals_open}
 use Rattle.il_scan_laws.proofs.Paths.{value_of, values_of}
 use Rattle.il_scan_laws.proofs.Texts.{element_is}
 use Rattle.il_table.proofs.Texts.{same_text}
-use Rattle.il_slots.specs.declared.flat.Cell.{Cell}
-use Rattle.il_slots.specs.Cells.{element_cells, cells_at, entity_cells, instance_cells, IsPlain, AreNamed}
-use Rattle.il_slots.specs.Flattened.{place_or_zero}
-use Rattle.il_slots.specs.Layout.{cell, Rows, Fits, value_by, number_part, flag_part, view}
-use Rattle.il_slots.specs.Paths.{slot_at}
-use Rattle.il_slots.specs.Program.{own_cells, program_cells, global_cells, global_values}
-use Rattle.il_slots.specs.Whole.{first_rows}
-use Rattle.il_slots.proofs.Distinct.{declared_named}
-use Rattle.il_slots.proofs.Tasks.{program_among}
+use Rattle.il_layout.specs.declared.flat.Cell.{Cell}
+use Rattle.il_layout.specs.Cells.{element_cells, cells_at, entity_cells, instance_cells, IsPlain, AreNamed}
+use Rattle.il_layout.specs.Flattened.{place_or_zero}
+use Rattle.il_layout.specs.Layout.{cell, Rows, Fits, value_by, number_part, flag_part, view}
+use Rattle.il_layout.specs.Paths.{slot_at}
+use Rattle.il_layout.specs.Program.{own_cells, program_cells, global_cells, global_values}
+use Rattle.il_layout.specs.Whole.{first_rows}
+use Rattle.il_layout.proofs.Distinct.{declared_named}
+use Rattle.il_layout.proofs.Tasks.{program_among}
 use Rattle.il_exec.specs.Going.{Stored}
 use Rattle.lift_spec.specs.Image.{sizes_of}
 use Rattle.lift_spec.specs.Snapshot.{program_of, written_globals}

@@ -7,7 +7,7 @@ use Rattle.il_spec.specs.declared.tree.Task.{Task}
 use Rattle.il_spec.specs.declared.tree.ProgramLine.{ProgramLine}
 use Rattle.il_rules.specs.Declarations.{unknown_task}
 use Rattle.il_rules.specs.Faults.{Declaring, Broken, HasNoFault, bad_task}
-use Rattle.il_budget.specs.Costs.{cost_of}
+use Rattle.il_verify.specs.Costs.{cost_of}
 use Rattle.il_table.specs.NameMap.{Text}
 use Rattle.il_run.specs.Scan.{program_of as program_by}
 use Rattle.il_scan_laws.proofs.Lists.{found_in, finds_some, of_map}

@@ -12,7 +12,7 @@ use Rattle.il_scan_laws.specs.Listed.{seen_scalars, given_scalars}
 use Rattle.il_scan_laws.proofs.Externals.{shares_globals}
 use Rattle.il_scan_laws.proofs.Paths.{have_first, have_second}
 use Rattle.il_scan_laws.proofs.Starting.{values_are}
-use Rattle.il_slots.specs.Program.{program_code}
+use Rattle.il_layout.specs.Program.{program_code}
 use Rattle.il_exec.specs.Going.{Stored}
 use Rattle.il_exec.specs.Framing.{state_by, Goes}
 use Rattle.il_exec.proofs.Framed.{Stepped}

@@ -19,13 +19,13 @@ use Rattle.il_scan_laws.proofs.Listing.{keeps_listed}
 use Rattle.il_scan_laws.proofs.Premises.{in_order}
 use Rattle.il_scan_laws.proofs.Scanning.{starts}
 use Rattle.il_scan_laws.proofs.Starting.{starts_in_sets}
-use Rattle.il_slots.specs.Layout.{Rows, rows, Fits, view}
-use Rattle.il_slots.specs.Coded.{IsUnit, IsNumbered, IsCode}
-use Rattle.il_slots.specs.Flattened.{IsPlaced}
-use Rattle.il_slots.specs.Program.{own_cells, seen_cells, program_cells, base_of, program_names, program_code}
-use Rattle.il_slots.specs.Whole.{AreOf, first_rows, number_in}
-use Rattle.il_slots.proofs.Opening.{shown}
-use Rattle.il_slots.proofs.Tasks.{program_is_code, names_are, bases_are, program_is_placed}
+use Rattle.il_layout.specs.Layout.{Rows, rows, Fits, view}
+use Rattle.il_layout.specs.Coded.{IsUnit, IsNumbered, IsCode}
+use Rattle.il_layout.specs.Flattened.{IsPlaced}
+use Rattle.il_layout.specs.Program.{own_cells, seen_cells, program_cells, base_of, program_names, program_code}
+use Rattle.il_layout.specs.Whole.{AreOf, first_rows, number_in}
+use Rattle.il_layout.proofs.Opening.{shown}
+use Rattle.il_layout.proofs.Tasks.{program_is_code, names_are, bases_are, program_is_placed}
 use Rattle.il_exec.specs.Framing.{name_of_code, framed, all_frames, state_by, IsFramed}
 use Rattle.il_exec.specs.Going.{Stored}
 use Rattle.lift_spec.specs.Snapshot.{scan_begins, begins_by, given_entries}

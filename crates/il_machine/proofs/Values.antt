@@ -9,12 +9,12 @@ use Rattle.il_run.specs.declared.value.Value.{Value}
 use Rattle.il_table.specs.NameMap.{Text, get, insert}
 use Rattle.il_run.specs.State.{Frame, State}
 use Rattle.il_run.specs.Scan.{begins}
-use Rattle.il_slots.specs.declared.flat.Cell.{Cell}
-use Rattle.il_slots.specs.Whole.{first_rows}
+use Rattle.il_layout.specs.declared.flat.Cell.{Cell}
+use Rattle.il_layout.specs.Whole.{first_rows}
 use Rattle.il_machine.specs.Starting.{joined}
-use Rattle.il_slots.specs.Layout.{Rows, Fits, number_part, flag_part, value_by, view_of, view, AreOnce}
-use Rattle.il_slots.specs.Program.{program_cells}
-use Rattle.il_slots.proofs.Kept.{has}
+use Rattle.il_layout.specs.Layout.{Rows, Fits, number_part, flag_part, value_by, view_of, view, AreOnce}
+use Rattle.il_layout.specs.Program.{program_cells}
+use Rattle.il_layout.proofs.Kept.{has}
 use Rattle.il_exec.specs.Effect.{with_some}
 use Rattle.il_exec.specs.Going.{Stored}
 use Rattle.lift_spec.specs.Snapshot.{Beginning, program_of, begins_by, scan_begins}

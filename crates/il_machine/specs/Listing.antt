@@ -5,7 +5,7 @@ use Rattle.std.specs.Coded.{Coded, code_by, coded×, coded_list, coded_ℕ, code
 use Rattle.il_spec.specs.declared.tree.Unit.{Unit as Organized}
 use Rattle.il_spec.specs.declared.tree.Task.{Task}
 use Rattle.il_spec.specs.declared.tree.ProgramLine.{ProgramLine}
-use Rattle.il_budget.specs.Costs.{UnitCost}
+use Rattle.il_verify.specs.Costs.{UnitCost}
 use Rattle.il_machine.specs.declared.verified.UnitInfo.{UnitInfo}
 use Rattle.il_machine.specs.declared.verified.TaskInfo.{TaskInfo}
 use Rattle.il_table.specs.NameMap.{Text}

@@ -3,8 +3,8 @@ use Rattle.std.specs.Prelude.{◌≡◌, ℕ, ◌<◌, ◌≤◌, List, [], leng
 use Rattle.il_spec.specs.declared.tree.Config.{Config}
 use Rattle.il_run.specs.State.{State}
 use Rattle.il_run.specs.Scan.{Reaches}
-use Rattle.il_slots.specs.declared.flat.Cell.{Cell}
-use Rattle.il_slots.specs.Layout.{Rows}
+use Rattle.il_layout.specs.declared.flat.Cell.{Cell}
+use Rattle.il_layout.specs.Layout.{Rows}
 use Rattle.il_exec.specs.Going.{Stored}
 use Rattle.lift_spec.specs.Snapshot.{Beginning, scan_begins}
 use Rattle.il_machine.specs.Scanning.{IsRunnable, IsScanOf, kept_of, state_of, value_at}

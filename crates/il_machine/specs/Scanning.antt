@@ -6,7 +6,7 @@ use Rattle.il_spec.specs.declared.tree.Config.{Config}
 use Rattle.il_spec.specs.declared.tree.Unit.{Unit as ProgramUnit}
 use Rattle.il_rules.specs.Faults.{Declaring, Typing, Ordering, Broken, HasNoFault}
 use Rattle.il_rules.specs.Written.{IsWritten, IsNested}
-use Rattle.il_budget.specs.Costs.{UnitCost, unit_cost_code}
+use Rattle.il_verify.specs.Costs.{UnitCost, unit_cost_code}
 use Rattle.il_run.specs.declared.value.Content.{Content}
 use Rattle.il_table.specs.NameMap.{empty, with_entries}
 use Rattle.il_run.specs.State.{Values, Frame, State}
@@ -16,10 +16,10 @@ use Rattle.il_run.specs.Ranges.{HoldsTask}
 use Rattle.il_scan_laws.specs.Agreement.{Agrees, left}
 use Rattle.il_rules.specs.Declarations.{declared_limits}
 use Rattle.il_run.specs.declared.value.Value.{Value}
-use Rattle.il_slots.specs.declared.flat.Cell.{Cell}
-use Rattle.il_slots.specs.Layout.{Rows, rows, Fits, view, value_by}
+use Rattle.il_layout.specs.declared.flat.Cell.{Cell}
+use Rattle.il_layout.specs.Layout.{Rows, rows, Fits, view, value_by}
 use Rattle.il_exec.specs.Effect.{with_some}
-use Rattle.il_slots.specs.Program.{own_cells, seen_cells, program_code}
+use Rattle.il_layout.specs.Program.{own_cells, seen_cells, program_code}
 use Rattle.il_exec.specs.Going.{Stored}
 use Rattle.il_exec.specs.Framing.{framed, all_frames, state_by, IsFramedScan}
 use Rattle.lift_spec.specs.Snapshot.{program_of}

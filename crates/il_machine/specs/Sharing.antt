@@ -9,18 +9,18 @@ use Rattle.il_table.specs.NameMap.{NameMap, Text, get}
 use Rattle.il_run.specs.State.{Values}
 use Rattle.il_run.specs.Meaning.{entities}
 use Rattle.il_run.specs.Scan.{program_of as line_program}
-use Rattle.il_slots.specs.declared.flat.Cell.{Cell}
-use Rattle.il_slots.specs.Cells.{entity_cells, instance_cells}
-use Rattle.il_slots.specs.Flattened.{place_or_zero}
-use Rattle.il_slots.specs.Layout.{Rows, Fits, view}
-use Rattle.il_slots.specs.Paths.{slot_at}
-use Rattle.il_slots.specs.Program.{program_cells, global_cells}
-use Rattle.il_slots.specs.Whole.{number_in}
+use Rattle.il_layout.specs.declared.flat.Cell.{Cell}
+use Rattle.il_layout.specs.Cells.{entity_cells, instance_cells}
+use Rattle.il_layout.specs.Flattened.{place_or_zero}
+use Rattle.il_layout.specs.Layout.{Rows, Fits, view}
+use Rattle.il_layout.specs.Paths.{slot_at}
+use Rattle.il_layout.specs.Program.{program_cells, global_cells}
+use Rattle.il_layout.specs.Whole.{number_in}
 use Rattle.lift_spec.specs.declared.image.Sizes.{Sizes}
 use Rattle.lift_run_laws.specs.Tasks.{IsTaskOf}
 use Rattle.il_machine.specs.declared.sharing.Transfer.{Transfer}
 use Rattle.il_machine.specs.declared.seats.Seat.{Seat}
-use Rattle.il_image.specs.Image.{with_slot}
+use Rattle.il_snapshot.specs.Image.{with_slot}
 use Rattle.il_machine.specs.Starting.{shared_value}
 
 -- GLOBALS

@@ -6,10 +6,10 @@ use Rattle.il_run.specs.declared.value.Value.{Value}
 use Rattle.il_run.specs.State.{Values}
 use Rattle.il_run.specs.Ranges.{HoldGlobals}
 use Rattle.il_run.specs.Scan.{entries_at, external_paths}
-use Rattle.il_slots.specs.declared.flat.Cell.{Cell}
-use Rattle.il_slots.specs.Layout.{Rows, rows, Fits}
-use Rattle.il_slots.specs.Whole.{number_in}
-use Rattle.il_slots.specs.Program.{base_of, program_cells}
+use Rattle.il_layout.specs.declared.flat.Cell.{Cell}
+use Rattle.il_layout.specs.Layout.{Rows, rows, Fits}
+use Rattle.il_layout.specs.Whole.{number_in}
+use Rattle.il_layout.specs.Program.{base_of, program_cells}
 use Rattle.il_exec.specs.declared.frames.Frame.{Frame}
 use Rattle.il_exec.specs.Going.{Stored, going}
 use Rattle.lift_spec.specs.Snapshot.{number}

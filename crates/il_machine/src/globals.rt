@@ -1,16 +1,16 @@
 // The globals that a program lists.
 
 ghost use Rattle.std.specs.Prelude.{◌≡◌, ◌+◌, ◌<◌, ◌≤◌, All, length};
-ghost use Rattle.il_image.specs.Image.{filled};
+ghost use Rattle.il_snapshot.specs.Image.{filled};
 ghost use Rattle.il_machine.specs.Sharing.{taken};
 ghost use Rattle.il_machine.specs.Starting.{shared_value, listed_values};
 
 use crate::rows::value;
 use crate::sharing::Transfer;
 use il_exec::rows::Rows;
-use il_image::rows::put;
+use il_layout::flat::Cell;
 use il_run::value::Value;
-use il_slots::flat::Cell;
+use il_snapshot::rows::put;
 
 /// The globals that a program lists, in its order: their slots among all globals.
 #[derive(Clone, Copy)]

@@ -13,10 +13,10 @@ pub mod verified;
 
 pub use il_code::FirstRows;
 pub use il_exec::rows::Rows;
-pub use il_image::opening_image;
+pub use il_layout::flat::Cell;
 pub use il_run::value::Value;
-pub use il_slots::flat::Cell;
+pub use il_snapshot::opening_image;
 pub use rows::variable;
 pub use scanned::{OpenScan, Scanned, scan};
 pub use store::{Begin, Stepped, Store, finish, step};
-pub use verified::{TaskInfo, UnitInfo, Verified};
+pub use verified::{Tables, TaskInfo, UnitInfo, Verified, tables_of};

@@ -11,8 +11,8 @@ use crate::bench::Bench;
 use crate::rows::value;
 use crate::verified::Verified;
 use il_exec::rows::Rows;
+use il_layout::flat::Cell;
 use il_run::value::Value;
-use il_slots::flat::Cell;
 use lift_spec::image::{Motor, Wishes};
 use lists::Bounded;
 

@@ -2,15 +2,15 @@
 
 ghost use Rattle.std.specs.Prelude.{◌≡◌, ◌+◌, ◌<◌, ◌≤◌, ◌++◌, IfOk, length, take, drop};
 ghost use Rattle.il_table.specs.NameMap.{get};
-ghost use Rattle.il_slots.specs.Layout.{rows};
+ghost use Rattle.il_layout.specs.Layout.{rows};
 ghost use Rattle.il_machine.specs.Scanning.{value_at, variables_in, FitsOwn};
 
 use crate::verified::Verified;
 use il_code::FirstRows;
 use il_exec::rows::Rows;
+use il_layout::flat::Cell;
 use il_rules::elementary::declared_limits;
 use il_run::value::Value;
-use il_slots::flat::Cell;
 use std::alloc::{AllocError, Global};
 
 // Copies a row to the front of another.

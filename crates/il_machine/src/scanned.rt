@@ -7,11 +7,11 @@ ghost use Rattle.il_machine.specs.Standing.{IsAtStart, IsScan, BeganAs};
 use crate::rows::{copy_front, value};
 use crate::store::Store;
 use crate::verified::Verified;
+use il_equal::same::Same;
 use il_exec::Store as Scan;
 use il_exec::rows::Rows;
+use il_layout::flat::Cell;
 use il_run::value::Value;
-use il_same::same::Same;
-use il_slots::flat::Cell;
 use std::marker::Model;
 use std::snapshot::Snapshot;
 

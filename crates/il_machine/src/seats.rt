@@ -3,7 +3,7 @@
 ghost use Rattle.std.specs.Prelude.{◌≡◌, ◌≤◌, ◌<◌, Some, IfOk, length, slice_get};
 ghost use Rattle.il_spec.specs.declared.tree.Unit.{Unit as ProgramUnit};
 ghost use Rattle.il_rules.specs.Faults.{Broken, Declaring, HasNoFault};
-ghost use Rattle.il_slots.specs.Whole.{number_in};
+ghost use Rattle.il_layout.specs.Whole.{number_in};
 ghost use Rattle.lift_spec.specs.Image.{sizes_of};
 ghost use Rattle.lift_spec.specs.Snapshot.{program_of};
 ghost use Rattle.il_machine.specs.Scanning.{IsRunnable, HasTask};
@@ -13,7 +13,7 @@ ghost use Rattle.il_machine.specs.Listing.{program_line_of};
 use crate::sharing::{Transfer, between, image_count, slots_in, transfers};
 use crate::verified::line_number;
 use il_code::Code;
-use il_slots::flat::Cell;
+use il_layout::flat::Cell;
 use il_spec::tree::Config;
 use lift_spec::image::Sizes;
 use lists::Items;

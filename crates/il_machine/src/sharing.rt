@@ -8,7 +8,7 @@ ghost use Rattle.il_table.specs.NameMap as names;
 ghost use Rattle.il_machine.specs.Sharing.{image_count, between, slot_in, base_name, HasStored, stores_cell, transfer, transfers};
 
 use il_code::TaskCode;
-use il_slots::flat::Cell;
+use il_layout::flat::Cell;
 use il_spec::tree::{Argument, Instruction, Reference, Step};
 use il_table::Table;
 use lift_spec::image::Sizes;

@@ -12,8 +12,8 @@ use Rattle.il_spec.specs.declared.fault.Refusal.TheVariants.{Fault}
 use Rattle.il_rules.specs.Names.{program_named}
 use Rattle.il_rules.specs.Faults.{HasNoFault, IsRefusedBy, Broken, Ordering, BreaksDeclarations, BreaksOrder, recursive as of_recursive, long_chain as of_long_chain, too_many_slots}
 use Rattle.il_rules.specs.Order.{HasTooManySlots, recursive, long_chain, of_task, of_globals, unit_slots, function_slots}
-use Rattle.il_found.specs.Least.{NumberedFault, earlier_of, IsLeast, Either}
-use Rattle.il_found.proofs.Least.{least_both, least_same}
+use Rattle.il_rules.specs.Least.{NumberedFault, earlier_of, IsLeast, Either}
+use Rattle.il_rules.proofs.Least.{least_both, least_same}
 use Rattle.il_scope.specs.Views.{program_number}
 use Rattle.il_scope.proofs.Laws.{program_found, program_there}
 use Rattle.il_order.specs.Related.{closed}

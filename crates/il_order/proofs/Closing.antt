@@ -2,7 +2,8 @@
 use Rattle.std.proofs.Common.{◌≡◌, ℕ, zero, suc, ◌<◌, ◌≤◌, ◌⊎◌, inl, inr, Bool, true, false, ◌&&◌, ◌||◌, if◌then◌else◌, List, Option, Some, None, slice_get, refl, sym, ap, ◌∙◌, subst, arith}
 use Rattle.std.proofs.lemmas.Bool.{cases_lt}
 use Rattle.il_order.specs.Related.{is_entry, is_set, holds_in, holds, row_or_none, either_row, joined_row, joined, leads_anywhere, closed}
-use Rattle.il_order.proofs.Tabled.{or_left, or_right, from_or, and_both, from_and, tabulated, below_some}
+use Rattle.il_order.proofs.Tabled.{or_left, or_right, from_or, and_both, tabulated, below_some}
+use Rattle.il_typed.proofs.Sharing.{both_true as from_and}
 
 module _ (n : ℕ) (relation : List (List Bool)) where
   -- a relation through units with a number below a bound

@@ -8,9 +8,10 @@ use Rattle.il_order.specs.Used.{is_among}
 use Rattle.il_order.specs.Chained.{leads_on, AreAmong}
 use Rattle.il_order.specs.Bounded.{count_below, AreLimits, users_left, used_left, others_left, is_left, uses_many, is_used_by_few, reached_of, named_of}
 use Rattle.il_order.specs.declared.limits.Limits.{Limits}
-use Rattle.il_order.proofs.Tabled.{or_left, or_right, from_or, and_both, from_and, not_both, tabulated, some_below, below_some}
+use Rattle.il_order.proofs.Tabled.{or_left, or_right, from_or, and_both, not_both, tabulated, some_below, below_some}
 use Rattle.il_order.proofs.Closing.{at_first, transitive}
 use Rattle.il_order.proofs.Ways.{among_cases, among_last, among_more, not_of, of_not}
+use Rattle.il_typed.proofs.Sharing.{both_true as from_and}
 
 -- HOW MANY
 

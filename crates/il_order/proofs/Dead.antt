@@ -8,8 +8,9 @@ use Rattle.il_order.specs.declared.dead_ends.DeadEnd.{DeadEnd}
 use Rattle.il_order.specs.Related.{any_below, holds, tabulate}
 use Rattle.il_order.specs.Used.{is_among}
 use Rattle.il_order.specs.Chained.{leads_on, is_long, are_among, merged, without, AreAmong, is_shut, AreDead}
-use Rattle.il_order.proofs.Tabled.{or_left, or_right, from_or, and_both, from_and, not_both, some_same, some_below, below_some}
+use Rattle.il_order.proofs.Tabled.{or_left, or_right, from_or, and_both, not_both, some_same, some_below, below_some}
 use Rattle.il_order.proofs.Ways.{among_cases, among_last, among_more, not_of, of_not}
+use Rattle.il_typed.proofs.Sharing.{both_true as from_and}
 
 -- LISTS OF NUMBERS
 

@@ -2,8 +2,8 @@
 use Rattle.std.proofs.Common.{◌≡◌, ℕ, ◌+◌, inl, inr, Bool, true, false, if◌then◌else◌, List, Option, Some, None, slice_get, refl, sym, ap, ◌∙◌, subst, arith}
 use Rattle.std.proofs.lemmas.Bool.{cases_lt}
 use Rattle.il_spec.specs.declared.tree.Place.{Place}
-use Rattle.il_found.specs.Least.{NumberedFault, fault_at, fault_of, is_before, earlier_of, IsLeast, When, Either, Below}
-use Rattle.il_found.proofs.Least.{least_both, least_same, least_if}
+use Rattle.il_rules.specs.Least.{NumberedFault, fault_at, fault_of, is_before, earlier_of, IsLeast, When, Either, Below}
+use Rattle.il_rules.proofs.Least.{least_both, least_same, least_if}
 use Rattle.il_order.specs.Breaks.{precedes}
 use Rattle.il_order.proofs.Tabled.{some_same}
 

@@ -4,8 +4,9 @@ use Rattle.std.specs.Prelude.{not}
 use Rattle.il_order.specs.Related.{holds}
 use Rattle.il_order.specs.Used.{is_among}
 use Rattle.il_order.specs.Chained.{leads_on, is_long}
-use Rattle.il_order.proofs.Tabled.{and_both, from_and, some_below, below_some}
+use Rattle.il_order.proofs.Tabled.{and_both, some_below, below_some}
 use Rattle.il_order.proofs.Ways.{AreFresh, of_not, not_of, IsWay}
+use Rattle.il_typed.proofs.Sharing.{both_true as from_and}
 
 module _ (n : ℕ) (uses : List (List Bool)) where
   -- a chain of so many uses, by numbers

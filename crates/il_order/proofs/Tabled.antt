@@ -25,10 +25,6 @@ pub and_both : (a b : Bool) → a ≡ true → b ≡ true → (a && b) ≡ true
 and_both true b e f = f
 and_both false b e f = let bad : false ≡ true = e in cc
 
-pub from_and : (a b : Bool) → (a && b) ≡ true → (a ≡ true) × (b ≡ true)
-from_and true b e = (refl, e)
-from_and false b e = let bad : false ≡ true = e in cc
-
 pub not_both : (a : Bool) → a ≡ true → a ≡ false → ⊥
 not_both a e f = let bad : true ≡ false = sym e ∙ f in cc
 

@@ -14,11 +14,12 @@ use Rattle.il_scope.specs.Views.{passes}
 use Rattle.il_declare.proofs.Members.{none_in, one_in, in_rest}
 use Rattle.il_order.specs.Related.{holds}
 use Rattle.il_order.specs.Counted.{capped, number_at, counts, function_count, task_count}
-use Rattle.il_order.proofs.Tabled.{from_and, and_both}
+use Rattle.il_order.proofs.Tabled.{and_both}
 use Rattle.il_order.proofs.Distinct.{AreDistinct}
 use Rattle.il_order.specs.Breaks.{reached}
 use Rattle.il_order.proofs.Reaching.{reached_at, reach_to, reach_from}
 use Rattle.il_order.proofs.Counting.{capped_sum, capped_more, unit_is}
+use Rattle.il_typed.proofs.Sharing.{both_true as from_and}
 
 -- SUMS
 

@@ -25,6 +25,7 @@ use Rattle.il_order.specs.Breaks.{reached}
 use Rattle.il_order.specs.Instances.{UsesBy, calls, declares, needed}
 use Rattle.il_order.specs.Used.{numbers, own_number, called, declared_in, has_name, all_named, are_named, counted_in, called_by, declared_by, used_by, is_among, uses_row, uses}
 use Rattle.il_order.proofs.Tabled.{from_or, or_left, or_right, tabulated, some_same}
+use Rattle.il_typed.proofs.Sharing.{both_true as both_are}
 
 -- NUMBERS
 
@@ -176,10 +177,6 @@ module _ (c : Config) where
   held_from u U V here (of_instance d name listed is named) = used_from c true u U V here (declares d name listed refl is named)
 
 -- WHERE ALL ARE NAMED
-
-both_are : (a b : Bool) → (a && b) ≡ true → (a ≡ true) × (b ≡ true)
-both_are true b e = (refl, e)
-both_are false b e = let bad : false ≡ true = e in cc
 
 declared_same : (c : Config) (ds : List Declaration) → all_named ds ≡ true → declared_by c true ds ≡ declared_by c false ds
 declared_same c [] named = refl

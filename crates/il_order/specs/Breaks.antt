@@ -2,7 +2,7 @@
 use Rattle.std.specs.Prelude.{◌≡◌, ℕ, ◌+◌, suc, Bool, true, nat_lt, List, length, Option, None, Some}
 use Rattle.il_spec.specs.declared.tree.Config.{Config}
 use Rattle.il_spec.specs.declared.tree.Place.{Place}
-use Rattle.il_found.specs.Least.{NumberedFault, fault_at, is_before, When, Either, Below}
+use Rattle.il_rules.specs.Least.{NumberedFault, fault_at, is_before, When, Either, Below}
 use Rattle.il_order.specs.Related.{holds, closed}
 use Rattle.il_order.specs.Used.{uses}
 use Rattle.il_order.specs.Chained.{is_long}

@@ -2,7 +2,7 @@
 
 ghost use Rattle.std.specs.Prelude.{◌≡◌, ◌<◌, IfOk, length};
 ghost use Rattle.il_rules.specs.Faults.{HasNoFault, BreaksDeclarations, BreaksOrder};
-ghost use Rattle.il_found.specs.Least.{IsLeast, earlier_of, fault_of};
+ghost use Rattle.il_rules.specs.Least.{IsLeast, earlier_of, fault_of};
 ghost use Rattle.il_order.specs.Breaks as breaks;
 ghost use Rattle.il_order.specs.Instances.{needed};
 ghost use Rattle.il_order.specs.Breaks.{RecursionsBreak, UnitsBreak, LinesBreak, GlobalsBreak, SlotsBreak, precedes};
@@ -18,7 +18,7 @@ use crate::relation::{Relation, closed, holds};
 use crate::slots::{MOST, counts, is_over, unit_counts, with_variables};
 use crate::uses::{are_named, uses};
 use crate::variables::{all_listed, units_listed};
-use il_found::{Found, PhaseFault, earlier, fault_if};
+use il_rules::{Found, PhaseFault, earlier, fault_if};
 use il_scope::Scoped;
 use il_spec::tree::Place;
 use lists::Items;
@@ -172,7 +172,7 @@ fn lines_fault(
     for at in 0..lines.len() {
         let line = &lines[at];
         let over = is_over(names, reached, counted, line);
-        found = earlier(found, fault_if(over, OrderFault::TooManySlots, line.place));
+        found = earlier(found, fault_if(over, OrderFault::TooMany, line.place));
     }
     found
 }
@@ -182,7 +182,7 @@ fn globals_fault(names: &Scoped, total: usize) -> Option<Found<OrderFault>>
     ensures { IsLeast result (GlobalsBreak names.now total) }
 {
     match names.config().globals_place {
-        Some(place) => fault_if(total > MOST, OrderFault::TooManySlots, place),
+        Some(place) => fault_if(total > MOST, OrderFault::TooMany, place),
         None => None,
     }
 }

@@ -2,7 +2,7 @@
 
 ghost use Rattle.il_order.specs.OrderFaults.{order_fault_number};
 
-use il_found::PhaseFault;
+use il_rules::PhaseFault;
 use thiserror::Error;
 
 /// What the order of units, or a task's slots, break (IEC 61131-3:2003, 2.5; own rules).
@@ -16,7 +16,7 @@ pub enum OrderFault {
     TooDeepCalls,
     /// A task with more than 4096 slots (own rule).
     #[error("too many units, instructions or slots")]
-    TooManySlots,
+    TooMany,
 }
 
 impl PhaseFault for OrderFault {
@@ -26,7 +26,7 @@ impl PhaseFault for OrderFault {
         match self {
             OrderFault::Recursive => 36,
             OrderFault::TooDeepCalls => 46,
-            OrderFault::TooManySlots => 12,
+            OrderFault::TooMany => 12,
         }
     }
 }

@@ -14,7 +14,7 @@ mod variables;
 
 ghost use Rattle.std.specs.Prelude.{◌≡◌, IfOk, IfErr};
 ghost use Rattle.il_rules.specs.Faults.{IsRefusedBy, Ordering, HasNoFault, Broken, BreaksOrder};
-ghost use Rattle.il_found.specs.Least.{IsLeast};
+ghost use Rattle.il_rules.specs.Least.{IsLeast};
 ghost use Rattle.il_order.specs.Breaks.{reached};
 ghost use Rattle.il_order.specs.Instances.{needed};
 
@@ -22,7 +22,7 @@ use crate::answer::{Checked, needed, order_fault};
 use crate::relation::Relation;
 pub use container::Ordered;
 pub use fault::OrderFault;
-use il_found::refusal;
+use il_rules::refusal;
 use il_spec::fault::Refusal;
 use il_typed::Typed;
 use std::alloc::{AllocError, Global};

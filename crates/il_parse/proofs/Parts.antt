@@ -23,8 +23,8 @@ use Rattle.il_grammar_laws.proofs.Configurations.{some_name_sure, task_one, prog
 use Rattle.il_read.specs.Reads.{IsFault, Reads, Refuses}
 use Rattle.il_read.specs.Settings.{PlacedWord}
 use Rattle.il_read.specs.declared.stop.Stop.{Stop}
-use Rattle.il_body.specs.Units.{SpellsSmallUnit}
-use Rattle.il_body.proofs.OneUnit.{small_unit_one}
+use Rattle.il_parse.specs.Units.{SpellsSmallUnit}
+use Rattle.il_parse.proofs.OneUnit.{small_unit_one}
 use Rattle.il_parse.specs.Refused.{IsSmall}
 use Rattle.il_parse.specs.Parts.{SpellsFewUnits, SpellsGlobalList, SpellsSomeGlobals, SpellsTasks, SpellsPrograms, SpellsLines, SpellsResourceOf, SpellsGroup, SpellsSmallConfig}
 use Rattle.il_parse.proofs.Repeated.{end_apart, end_joined, stop_apart, stop_joined}

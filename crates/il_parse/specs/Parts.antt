@@ -10,7 +10,7 @@ use Rattle.il_spec.specs.declared.tree.ProgramLine.{ProgramLine}
 use Rattle.il_spec.specs.declared.tree.Config.{Config}
 use Rattle.il_spec.specs.Grammar.{Front, ◌⨾◌, ◌⋯◌, AfterLines, No, Repeats, TheEnd, TheWord, SomeName, SpellsDeclaration, SpellsGlobals, SpellsTask, SpellsProgramLine, SpellsConfig}
 use Rattle.il_read.specs.Settings.{PlacedWord, SpellsThree}
-use Rattle.il_body.specs.Units.{SpellsSmallUnit}
+use Rattle.il_parse.specs.Units.{SpellsSmallUnit}
 use Rattle.il_parse.specs.Refused.{IsSmall}
 
 -- units within the limits, and CONFIGURATION

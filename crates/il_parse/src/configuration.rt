@@ -6,19 +6,19 @@ ghost use Rattle.il_read.specs.Reads.{Reads, Refuses, Stands, Misses};
 ghost use Rattle.il_parse.specs.Parts.{SpellsGlobalList, SpellsSomeGlobals, SpellsTasks, SpellsPrograms, SpellsLines, SpellsResourceOf, SpellsEnding, SpellsGroup, SpellsSmallConfig};
 
 use crate::units::units;
-use il_body::comes;
+use crate::variables::comes;
 use il_read::{Source, Stop, Tokens};
 use il_spec::keyword::Keyword;
 use il_spec::tree::{Config, Declaration, Place, ProgramLine, Size, Task, Unit};
 use lists::Items;
 
-/// Globals, and the place of their list if there is one.
+// Globals, and the place of their list if there is one.
 type Globals = (Option<Place>, Items<Declaration>);
 
-/// The lines of a resource, and the place of its end.
+// The lines of a resource, and the place of its end.
 type Lines = (Items<Task>, Items<ProgramLine>, Place);
 
-/// CARS, and FLOORS with SLOTS.
+// CARS, and FLOORS with SLOTS.
 type Sizes = (Size, (Size, Size));
 
 // The list of globals, with its place.

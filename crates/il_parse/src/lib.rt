@@ -9,16 +9,26 @@ ghost use Rattle.il_read.specs.Reads.{Reads, Refuses};
 ghost use Rattle.il_parse.specs.Refused.{IsFault, IsOfParser, IsSmall};
 ghost use Rattle.il_parse.specs.Parts.{SpellsSmallConfig};
 
+mod bodies;
 mod configuration;
+mod headings;
+mod insides;
+mod one_unit;
 mod units;
+mod variables;
 
+pub use bodies::{Entry, body};
 use configuration::configuration;
+pub use headings::{block, function, program};
 use il_read::{Source, Stop, Tokens};
 pub use il_rules::Written;
 pub use il_spec::fault::Refusal;
 pub use il_spec::token::Token;
 use il_spec::tree::Config;
+pub use insides::{block_inside, function_inside, program_inside};
+pub use one_unit::unit;
 use std::alloc::Global;
+pub use variables::{comes, externals, filled_list, full_list, no_list, optional_list};
 
 /// The configuration that the tokens of a text spell.
 ///
@@ -47,8 +57,8 @@ pub fn parse(alloc: Global, text: &[u8], tokens: &[Token]) -> Result<Written, Re
     match read(alloc, text, tokens) {
         Ok(tree) => Ok(Written::of(tree)),
         Err(Stop::Memory) => Err(Refusal::Memory),
-        Err(Stop::Fault { flaw, line }) => Err(Refusal::Fault {
-            number: flaw.number(),
+        Err(Stop::Fault { error, line }) => Err(Refusal::Fault {
+            number: error.number(),
             line: line.unwrap_or(last_line(text)),
         }),
     }

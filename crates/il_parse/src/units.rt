@@ -4,8 +4,8 @@ ghost use Rattle.std.specs.Prelude.{◌≡◌, length, IsTrue, IsFalse, IfOk, If
 ghost use Rattle.il_read.specs.Reads.{Reads, Refuses};
 ghost use Rattle.il_parse.specs.Parts.{SpellsFewUnits};
 
-use il_body::unit;
-use il_read::{Flaw, Lead, Source, Stop, Tokens};
+use crate::one_unit::unit;
+use il_read::{Lead, Source, Stop, SyntaxError, Tokens};
 use il_spec::keyword::Keyword;
 use il_spec::tree::Unit;
 use lists::Items;
@@ -22,7 +22,7 @@ fn is_full(units: &Items<Unit>) -> bool
 fn surplus(source: &Source, tokens: &Tokens) -> Stop {
     match source.lead(tokens) {
         Lead::Reserved(Keyword::Function | Keyword::FunctionBlock | Keyword::Program) => {
-            tokens.fault(Flaw::TooMany)
+            tokens.fault(SyntaxError::TooMany)
         }
         _ => tokens.outside(),
     }

@@ -20,6 +20,7 @@ use Rattle.il_table.specs.NameMap.{NameMap, Text, order, get, insert, get-insert
 use Rattle.il_run.specs.Annotation.{IsVariableWithin, form_range, declared_range}
 use Rattle.il_range_laws.specs.Facts.{Names, range_by, row_at, put_by, row_put, row_join, all_names, put_some, filled, variables_of, AreOperands, IsRowOf}
 use Rattle.il_range_laws.proofs.Tests.{interval_itself}
+use Rattle.il_table.proofs.Texts.{is_eq_true}
 
 -- LISTS
 
@@ -46,11 +47,6 @@ set_length (x ∷ xs) zero a = refl
 set_length (x ∷ xs) (suc i) a = ap suc (set_length xs i a)
 
 -- TEXTS
-
-is_eq_true : (r : Ordering) → is_eq r ≡ true → r ≡ Equal
-is_eq_true Less h = cc
-is_eq_true Equal h = refl
-is_eq_true Greater h = cc
 
 pub same_text : (q k : Text) → eq_by_cmp order q k ≡ true → q ≡ k
 same_text q k h = exact_bytes q k (is_eq_true (order q k) h)

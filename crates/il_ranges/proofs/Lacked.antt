@@ -17,8 +17,8 @@ use Rattle.il_spec.specs.declared.tree.Unit.{Unit as ProgramUnit}
 use Rattle.il_spec.specs.declared.tree.Config.{Config}
 use Rattle.il_rules.specs.Faults.{IsNoLater}
 use Rattle.il_table.specs.NameMap.{Text, get}
-use Rattle.il_found.specs.Least.{NumberedFault, IsLeast}
-use Rattle.il_found.proofs.Least.{no_later-refl, least_none}
+use Rattle.il_rules.specs.Least.{NumberedFault, IsLeast}
+use Rattle.il_rules.proofs.Least.{no_later-refl, least_none}
 use Rattle.il_run.specs.Meaning.{Denotation, Constant, Direct, Numbered, Indexed, Inside, Unknown, denotation}
 use Rattle.il_run.specs.declared.known.Known.{Known}
 use Rattle.il_run.specs.declared.known.Known.TheVariants.{Flag, Ranged}

@@ -8,7 +8,7 @@ use Rattle.il_spec.specs.declared.tree.Unit.{Unit as ProgramUnit}
 use Rattle.il_spec.specs.declared.tree.Step.{Step}
 use Rattle.il_table.specs.NameMap.{NameMap, get}
 use Rattle.il_run.specs.Annotation.{Knowledge, Annotation, IsVariableWithin, IsResultWithin, IsDeferredWithin, declared_range, IsEntry, IsAnnotatedBelow}
-use Rattle.il_found.specs.Least.{NumberedFault}
+use Rattle.il_rules.specs.Least.{NumberedFault}
 use Rattle.il_range_laws.specs.Pass.{Moves, Arrived, advance, passed}
 use Rattle.il_range_laws.specs.declared.facts.Facts.{Facts}
 use Rattle.il_range_laws.specs.Facts.{Names, facts_join, shown, IsFine}
@@ -18,8 +18,8 @@ use Rattle.il_range_laws.proofs.Least.{Over, settled, annotation, annotation_is,
 use Rattle.il_range_laws.proofs.Joins.{Under}
 use Rattle.il_range_laws.proofs.Rows.{row_is, variable_itself}
 use Rattle.il_range_laws.proofs.Units.{PassesAt, unit_pass}
-use Rattle.il_flow.specs.Tables.{flat}
-use Rattle.il_flow.specs.Seen.{arrived_at, shown_to, IsPassedShowing}
+use Rattle.il_transfer.specs.Tables.{flat}
+use Rattle.il_transfer.specs.Seen.{arrived_at, shown_to, IsPassedShowing}
 use Rattle.il_scope.specs.Units.{InUnit}
 use Rattle.il_ranges.specs.Units.{names_of}
 use Rattle.il_ranges.specs.Judged.{Setting, IsRefusalOf}

@@ -14,7 +14,7 @@ use Rattle.il_run.specs.contracts.known.KnownDeferred as deferred_row
 use Rattle.il_run.specs.Annotation.{Knowledge, knowledge, Annotation, IsAnnotatedBelow, IsAnnotated}
 use Rattle.il_range_laws.specs.declared.facts.Facts.{Facts}
 use Rattle.il_range_laws.specs.Facts.{Names, shown}
-use Rattle.il_found.specs.Least.{NumberedFault}
+use Rattle.il_rules.specs.Least.{NumberedFault}
 use Rattle.il_ranges.specs.Lacking.{IsLeastAt, LacksRanges}
 
 -- WHAT IS KNOWN

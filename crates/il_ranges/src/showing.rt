@@ -10,13 +10,12 @@ use crate::numbered_unit::NumberedUnit;
 use crate::numbering::{Numbering, numbering_of};
 use crate::places::{PlaceFacts, Witness};
 use crate::unit_flow::{UnitFlow, entry};
-use il_flow::carried::Carried;
-use il_flow::observer::Observer;
-use il_flow::pass::pass;
-use il_found::Found;
-use il_labels::label_table;
-use il_scope::{Scoped, UnitScope};
+use il_rules::Found;
+use il_scope::{Scoped, UnitScope, label_table};
 use il_spec::tree::{Step, Unit};
+use il_transfer::carried::Carried;
+use il_transfer::observer::Observer;
+use il_transfer::pass::pass;
 use std::alloc::{AllocError, Global};
 
 /// Shows a witness the instructions of a unit, with what has arrived at each.

@@ -71,7 +71,7 @@ zero_ok Time = within_is _ (pos 0) refl
 
 -- SUBRANGES
 
-both : (a b : Bool) → a ≡ true → b ≡ true → (a && b) ≡ true
+pub both : (a b : Bool) → a ≡ true → b ≡ true → (a && b) ≡ true
 both true true h k = refl
 both true false h k = k
 both false b h k = h

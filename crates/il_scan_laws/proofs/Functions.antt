@@ -55,7 +55,7 @@ free_instance name (x ∷ xs) instance word inner free other = (
 )
 
 -- a scalar of a variable is at the variable's path, or within it
-keeps_within : (c : Config) (q : Text) (s : Scalar) (path : Text) (form : Form) → Keeps c q s path form → (rest : Text) × (q ≡ path ++ rest)
+pub keeps_within : (c : Config) (q : Text) (s : Scalar) (path : Text) (form : Form) → Keeps c q s path form → (rest : Text) × (q ≡ path ++ rest)
 keeps_within c q s _ _ (itself path form is e) = ([], e ∙ sym (append-nil path))
 keeps_within c q s _ _ (element path form bounds z is inside e) = (_, e ∙ element_is path z)
 keeps_within c q s _ _ (member path form block word inner is has more) =

@@ -181,7 +181,7 @@ module _ (c : Config) (written : IsWritten c) (unbroken : HasNoFault (Broken Dec
 first_used : (c : Config) (n : ℕ) (u v : ProgramUnit) → HasUse c u v → Contains (used_units (suc n) c u) v
 first_used c n u v is_used = in_flat_map (λ (w : ProgramUnit). w ∷ used_units n c w) (found_units c (used_names u)) v v is_used (at_head v (used_units n c v))
 
-used_on : (c : Config) (n : ℕ) (from u v : ProgramUnit) → Contains (used_units n c from) u → HasUse c u v → Contains (used_units (suc n) c from) v
+pub used_on : (c : Config) (n : ℕ) (from u v : ProgramUnit) → Contains (used_units n c from) u → HasUse c u v → Contains (used_units (suc n) c from) v
 used_on c zero from u v has is_used = absurd (in_nothing u has)
 used_on c (suc n) from u v has is_used = by_unit (of_flat_map (λ (w : ProgramUnit). w ∷ used_units n c w) (found_units c (used_names from)) u has) (λ w. used_on c n w u v)
   where
@@ -193,7 +193,7 @@ used_on c (suc n) from u v has is_used = by_unit (of_flat_map (λ (w : ProgramUn
         by_place (suc k, low, same) = more w (k, omega arith, same) is_used
 
 -- the unit of a stack is among those that the program uses so deep
-stack_used : (c : Config) (p : ProgramUnit) (n : ℕ) (v u : ProgramUnit) (us : List ProgramUnit) → IsStack c p v (u ∷ us) → suc (length us) ≤ n → Contains (used_units n c p) v
+pub stack_used : (c : Config) (p : ProgramUnit) (n : ℕ) (v u : ProgramUnit) (us : List ProgramUnit) → IsStack c p v (u ∷ us) → suc (length us) ≤ n → Contains (used_units n c p) v
 stack_used c p zero v u us is room = absurd (omega arith)
 stack_used c p (suc n) v u [] is room = first_used c n p v (subst (λ (x : ProgramUnit). HasUse c x v) is.1 is.0)
 stack_used c p (suc n) v u (w ∷ us) is room = used_on c n p u v (stack_used c p n u w us is.1 (omega arith)) is.0
@@ -232,7 +232,7 @@ under_some : (path name : Text) → path ≢ [] → under path name ≢ []
 under_some [] name some e = some refl
 under_some (x ∷ xs) name some e = cc
 
-in_filter : {A : Type 0} (test : A → Bool) (xs : List A) (x : A) → Contains xs x → test x ≡ true → Contains (filter test xs) x
+pub in_filter : {A : Type 0} (test : A → Bool) (xs : List A) (x : A) → Contains xs x → test x ≡ true → Contains (filter test xs) x
 in_filter test [] x among passes = absurd (in_nothing x among)
 in_filter test (y ∷ ys) x (zero, low, same) passes = let here : test y ≡ true = ap test same ∙ passes in rw here (0, omega arith, same)
 in_filter {A = A} test (y ∷ ys) x (suc k, low, same) passes = by_test (test y) (in_filter test ys x (k, omega arith, same) passes)
@@ -241,7 +241,7 @@ in_filter {A = A} test (y ∷ ys) x (suc k, low, same) passes = by_test (test y)
     by_test true more = in_tail y (filter test ys) x more
     by_test false more = more
 
-of_filter : {A : Type 0} (test : A → Bool) (xs : List A) (x : A) → Contains (filter test xs) x → Contains xs x × (test x ≡ true)
+pub of_filter : {A : Type 0} (test : A → Bool) (xs : List A) (x : A) → Contains (filter test xs) x → Contains xs x × (test x ≡ true)
 of_filter test [] x among = absurd (in_nothing x among)
 of_filter {A = A} test (y ∷ ys) x among = by_test (test y) refl among (of_filter test ys x)
   where

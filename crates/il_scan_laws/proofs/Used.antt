@@ -41,14 +41,14 @@ in_entities (e ∷ ds) d n (zero, low, same) listed = subst (λ (x : Declaration
 in_entities (e ∷ ds) d n (suc k, low, same) listed = Contains-append_right _ (entities ds) _ (in_entities ds d n (k, omega arith, same) listed)
 
 -- the block of an instance is one of the names
-in_block_names : (es : List Entity) (e : Entity) (block : Text) → Contains es e → e.form ≡ BlockForm block → Contains (block_names es) block
+pub in_block_names : (es : List Entity) (e : Entity) (block : Text) → Contains es e → e.form ≡ BlockForm block → Contains (block_names es) block
 in_block_names [] e block among is = absurd (in_nothing e among)
 in_block_names (d ∷ es) e block (zero, low, same) is =
     let form : d.form ≡ BlockForm block = ap (λ (x : Entity). x.form) same ∙ is in rw form (at_head block (block_names es))
 in_block_names (d ∷ es) e block (suc k, low, same) is = Contains-append_right _ (block_names es) block (in_block_names es e block (k, omega arith, same) is)
 
 -- a name of them is that of an instance's block
-of_block_names : (es : List Entity) (block : Text) → Contains (block_names es) block → (e : Entity) × Contains es e × (e.form ≡ BlockForm block)
+pub of_block_names : (es : List Entity) (block : Text) → Contains (block_names es) block → (e : Entity) × Contains es e × (e.form ≡ BlockForm block)
 of_block_names [] block among = absurd (in_nothing block among)
 of_block_names (d ∷ es) block among = by_form d.form refl among (of_block_names es block)
   where

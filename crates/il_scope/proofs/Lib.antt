@@ -4,3 +4,4 @@ pub mod Filled
 pub mod Seen
 pub mod Laws
 pub mod Owned
+mod LabelTable

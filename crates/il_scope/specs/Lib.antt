@@ -6,3 +6,4 @@ pub mod Units
 pub mod Cars
 pub mod Tables
 pub mod Meanings
+pub mod LabelTables

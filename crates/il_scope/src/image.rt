@@ -12,7 +12,7 @@ use crate::words::is_name;
 use il_rules::names::{Audience, Origin};
 use il_spec::tree::{Config, Elementary, Scalar, Subrange};
 
-/// A limit in the type of an image name: a number, or one that the configuration gives.
+// A limit in the type of an image name: a number, or one that the configuration gives.
 #[derive(Clone, Copy)]
 enum Limit {
     Fixed(i64),
@@ -21,7 +21,7 @@ enum Limit {
     Slots,
 }
 
-/// The type of an image name, or of the elements of its array.
+// The type of an image name, or of the elements of its array.
 #[derive(Clone, Copy)]
 enum ImageScalar {
     Plain(Elementary),
@@ -29,7 +29,7 @@ enum ImageScalar {
     Within(Limit, Limit),
 }
 
-/// The type of an image name.
+// The type of an image name.
 #[derive(Clone, Copy)]
 enum ImageType {
     Single(ImageScalar),
@@ -46,7 +46,7 @@ pub struct ImageRow {
     declared: ImageType,
 }
 
-/// The table of image names.
+// The table of image names.
 static IMAGE: [ImageRow; 23] = [
     ImageRow {
         name: "CARS",

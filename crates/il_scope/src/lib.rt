@@ -6,6 +6,7 @@ pub mod entry;
 pub mod functions;
 mod image;
 mod inputs;
+mod labels;
 mod lookup;
 mod meaning;
 mod numbers;
@@ -16,6 +17,7 @@ mod unit;
 mod words;
 
 pub use image::{ImageRow, image_rows};
+pub use labels::label_table;
 pub use meaning::is_seen_by;
 pub use numbers::is_program;
 pub use scoped::Scoped;

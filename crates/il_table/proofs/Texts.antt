@@ -8,7 +8,7 @@ use Rattle.std.specs.Ordering.{eq_by_cmp, is_eq}
 use Rattle.il_table.specs.NameMap.{NameMap, Text, order, get, insert, get-insert}
 use Rattle.il_table.specs.ByText.{HaveSameNames}
 
-is_eq_true : (r : Ordering) → is_eq r ≡ true → r ≡ Equal
+pub is_eq_true : (r : Ordering) → is_eq r ≡ true → r ≡ Equal
 is_eq_true Less h = cc
 is_eq_true Equal h = refl
 is_eq_true Greater h = cc

@@ -14,7 +14,7 @@ use Rattle.il_spec.specs.declared.token.Kind.TheVariants.{Word}
 use Rattle.il_spec.specs.Text.{is_word_byte, run_end, upper_case, IsLexeme, IsToken, name_of}
 
 -- the bytes of a run pass
-run_passes : (text : List ℕ) (i j k : ℕ) → j ≡ run_end is_word_byte text i → k < length (slice_range text i j) → is_word_byte (get_or (slice_range text i j) k 0) ≡ true
+pub run_passes : (text : List ℕ) (i j k : ℕ) → j ≡ run_end is_word_byte text i → k < length (slice_range text i j) → is_word_byte (get_or (slice_range text i j) k 0) ≡ true
 unfolding run_end
 run_passes text i j k end below =
     let long = length-take (j - i) (drop i text) in

@@ -30,7 +30,7 @@ pub use il_spec::fault::Refusal;
 pub use il_spec::token::{Kind, Sign, Token};
 use std::alloc::Global;
 
-/// The length of the longest text that is read, in bytes (own rule).
+// The length of the longest text that is read, in bytes (own rule).
 const LONGEST_TEXT: usize = 262_144;
 
 // The refusal for what stands wrong at or behind `at`, a place on this line.

@@ -3,11 +3,15 @@
 
 mod blocks;
 mod calls;
+pub mod carried;
 mod functions;
 mod instructions;
+pub mod join;
 mod known;
 mod meant;
+pub mod observer;
 mod operands;
+pub mod pass;
 mod places;
 mod scope;
 mod testing;

@@ -6,14 +6,14 @@ ghost use Rattle.il_run.specs.Annotation.{acts_at};
 ghost use Rattle.il_range_laws.specs.Found.{provided};
 ghost use Rattle.il_range_laws.specs.Facts.{IsFine};
 ghost use Rattle.il_range_laws.specs.Steps.{has_condition, is_bare, moves};
-ghost use Rattle.il_flow.specs.Tables.{moved};
+ghost use Rattle.il_transfer.specs.Tables.{moved};
 ghost use Rattle.il_transfer.specs.Testing.{testing_in, test_jump_in, IsFineTest};
 
+use crate::carried::Carried;
 use crate::instructions::{hand_on_untested, has_condition};
+use crate::pass::Handed;
 use crate::scope::Scope;
 use crate::testing::{VariableTest, test_at, tested};
-use il_flow::carried::Carried;
-use il_flow::pass::Handed;
 use il_spec::tree::{Condition, Instruction, Step};
 use std::alloc::{AllocError, Global};
 

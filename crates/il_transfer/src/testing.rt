@@ -8,14 +8,14 @@ ghost use Rattle.il_run.specs.Annotation.{acts_at};
 ghost use Rattle.il_range_laws.specs.Found.{provided};
 ghost use Rattle.il_range_laws.specs.Facts.{facts as facts_of, AreOperands};
 ghost use Rattle.il_range_laws.specs.Steps.{has_condition, is_bare};
-ghost use Rattle.il_flow.specs.Tables.{moved};
+ghost use Rattle.il_transfer.specs.Tables.{moved};
 ghost use Rattle.il_transfer.specs.Testing.{counted_in, loaded_in, comparison_in, is_free, is_conditional_jump, test_in, AreForms, narrowed_in, sided_in, landing_in, testing_in, IsFineTest};
 
+use crate::carried::Carried;
 use crate::instructions::copy_of;
 use crate::meant::{Meant, put, range_in};
+use crate::pass::Handed;
 use crate::scope::Scope;
-use il_flow::carried::Carried;
-use il_flow::pass::Handed;
 use il_interval::Interval;
 use il_rules::elementary::{has_value, is_counted, is_same_type, is_whole};
 use il_spec::tree::{

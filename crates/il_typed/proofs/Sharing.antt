@@ -19,9 +19,9 @@ use Rattle.il_rules.specs.declared.names.Origin.TheVariants.{Input as AsInput, O
 use Rattle.il_rules.specs.Names as rule
 use Rattle.il_rules.specs.Names.{Spelling, ImageName, image_of, image_name, own_variable, variables_of, result_of, with_origin, named_forms, program_named, or_else, Meaning, MeansVariable, MeansUnit, MeansStandard, meaning, meant_variable, variable_named, sees, outer_meaning, unit_named, is_predeclared}
 use Rattle.il_rules.specs.Types.{IsExternalOf, TaskWrites, stored_names}
-use Rattle.il_found.specs.Least.{NumberedFault, IsLeast}
-use Rattle.il_found.proofs.Least.{least_same}
-use Rattle.il_typing_laws.specs.Faults.{HasStoreOfTwo}
+use Rattle.il_rules.specs.Least.{NumberedFault, IsLeast}
+use Rattle.il_rules.proofs.Least.{least_same}
+use Rattle.il_typed.specs.Faults.{HasStoreOfTwo}
 use Rattle.il_scope.specs.declared.entry.Variable.{Variable}
 use Rattle.il_scope.specs.Views.{variable_of}
 use Rattle.il_scope.proofs.Filled.{get-inserted}
@@ -306,7 +306,7 @@ in_any test (y ∷ xs) x (suc k, low, e) is = either (test y) (in_any test xs x 
     either true h = refl
     either false h = h
 
-both_true : (a b : Bool) → (a && b) ≡ true → (a ≡ true) × (b ≡ true)
+pub both_true : (a b : Bool) → (a && b) ≡ true → (a ≡ true) × (b ≡ true)
 both_true true true e = (refl, refl)
 both_true true false e = let bad : false ≡ true = e in cc
 both_true false b e = let bad : false ≡ true = e in cc

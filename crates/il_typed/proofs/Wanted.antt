@@ -7,8 +7,8 @@ use Rattle.il_spec.specs.declared.tree.Literal.{Literal}
 use Rattle.il_spec.specs.declared.tree.Reference.{Reference}
 use Rattle.il_spec.specs.declared.tree.Reference.TheVariants.{Literal as OfLiteral, Variable as OfVariable, Element as OfElement, Member as OfMember}
 use Rattle.il_rules.specs.Types.{index_numbers, any_difference_numbers, reference_type, wanted_numbers}
-use Rattle.il_found.specs.Lowest.{lowest, lower_of}
-use Rattle.il_found.proofs.Lowest.{lowest_append}
+use Rattle.il_rules.specs.Lowest.{lowest, lower_of}
+use Rattle.il_rules.proofs.Lowest.{lowest_append}
 
 pub wanted_is : (config : Config) (unit : ProgramUnit) (r : Reference) (wanted : Elementary) (i d : Option ℕ) → ((l : Literal) → r ≡ OfLiteral l → ⊥) → i ≡ lowest (index_numbers config unit r)
     → d ≡ lowest (any_difference_numbers (reference_type config unit r) wanted) → lower_of i d ≡ lowest (wanted_numbers config unit r wanted)

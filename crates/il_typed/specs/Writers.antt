@@ -11,7 +11,7 @@ use Rattle.il_rules.specs.declared.names.Origin.{Origin}
 use Rattle.il_rules.specs.declared.names.Origin.TheVariants.{Input as AsInput, Output as AsOutput, Local as AsVariable, External as AsExternal, FunctionResult as AsResult, ReadImage as AsReadImage, WrittenImage as AsWrittenImage}
 use Rattle.il_rules.specs.Names.{Spelling, Variable, own_variable, program_named}
 use Rattle.il_rules.specs.Types.{stored_names}
-use Rattle.il_found.specs.Least.{When, Below}
+use Rattle.il_rules.specs.Least.{When, Below}
 use Rattle.il_typed.specs.declared.writers.Writer.{Writer}
 use Rattle.il_typed.specs.declared.writers.Writer.TheVariants.{Task, Several}
 

@@ -2,10 +2,10 @@
 
 ghost use Rattle.std.specs.Prelude.{◌≡◌, Some, None};
 ghost use Rattle.il_rules.specs.Declarations as rules;
-ghost use Rattle.il_found.specs.Lowest.{lowest, lower_of, numbered_at};
+ghost use Rattle.il_rules.specs.Lowest.{lowest, lower_of, numbered_at};
 ghost use Rattle.il_typed.specs.TypeFaults.{type_fault_number};
 
-use il_found::{Found, PhaseFault};
+use il_rules::{Found, PhaseFault};
 use il_spec::tree::Place;
 use std::marker::Model;
 use thiserror::Error;

@@ -4,13 +4,13 @@ ghost use Rattle.std.specs.Prelude.{◌≡◌, [], IfOk, IsFalse, flat_map, leng
 ghost use Rattle.std.specs.List.{list_any};
 ghost use Rattle.il_rules.specs.Names.{program_named};
 ghost use Rattle.il_rules.specs.Types.{argument_targets, named_variable, stored_names};
-ghost use Rattle.il_found.specs.Least.{IsLeast};
-ghost use Rattle.il_typing_laws.specs.Faults.{HasStoreOfTwo};
+ghost use Rattle.il_rules.specs.Least.{IsLeast};
+ghost use Rattle.il_typed.specs.Faults.{HasStoreOfTwo};
 ghost use Rattle.il_typed.specs.Writers.{is_external_origin, is_external, is_same_task, writer_after, note, noted, noted_line, names_stored, is_several, is_shared, stores_shared, HasSharedStore, HasSharedStores, AreWriters};
 
 use crate::fault::TypeFault;
-use il_found::{Found, earlier, fault_if};
 use il_rules::names::Origin;
+use il_rules::{Found, earlier, fault_if};
 use il_scope::{Scoped, UnitScope};
 use il_spec::tree::{Argument, Instruction, ProgramLine, Reference, Step, Unit};
 use il_table::Table;

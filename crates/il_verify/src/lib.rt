@@ -1,14 +1,26 @@
-//! Configurations in which each instruction has ranges.
+//! Configurations in which each instruction has ranges, and what their units and tasks cost at most.
 #![tactic(auto)]
 
+mod answer;
 mod container;
+mod costing;
+mod costs;
+mod fault;
+mod path;
+mod table;
+mod tasks;
+mod units;
+mod ways;
 
 ghost use Rattle.std.specs.Prelude.{◌≡◌, IfOk, IfErr};
 ghost use Rattle.il_rules.specs.Faults.{IsRefusedBy};
 ghost use Rattle.il_run.specs.Annotation.{Annotated};
 ghost use Rattle.il_ranges.specs.Lacking.{BreaksRanges};
 
+pub use answer::{Budget, Path};
 pub use container::Checked;
+pub use costing::budget;
+pub use fault::BudgetFault;
 use il_code::Code;
 use il_ranges::annotated;
 use il_spec::fault::Refusal;

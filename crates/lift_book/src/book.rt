@@ -17,12 +17,12 @@ ghost use Rattle.lift_book.specs.Ledgers.{start_fault, full_fault, refresh_fault
 
 use crate::ledger::Ledger;
 use il_machine::{OpenScan, Scanned, Store, Value, Verified};
-use lift_image::{Bounded, Fields, Image};
 use lift_journal::fault::StationFault;
 use lift_spec::calls::Slot;
 use lift_spec::hand::Hand;
 use lift_spec::journal::Entry;
 use lift_spec::report::Report;
+use lift_spec::{Bounded, Fields, Image};
 use std::alloc::{AllocError, Global};
 use std::marker::Model;
 

@@ -15,12 +15,12 @@ ghost use Rattle.lift_book.specs.Ledgers.{page_of, IsLedger, start_fault, full_f
 ghost use Rattle.lift_journal.specs.declared.fault.StationFault.TheVariants.{NotOpen};
 
 use il_machine::{OpenScan, Scanned, Store, Verified};
-use lift_image::{Fields, in_range};
 use lift_journal::entered::calls_of;
 use lift_journal::fault::StationFault;
 use lift_spec::hand::Hand;
 use lift_spec::journal::Entry;
 use lift_spec::report::Report;
+use lift_spec::{Fields, in_range};
 use lift_world::{Core, opening};
 use std::alloc::{AllocError, Global};
 use std::snapshot::Snapshot;

@@ -13,7 +13,7 @@ use lift_spec::image::Sizes;
 use lists::Bounded;
 use std::marker::Model;
 
-/// The last ticket that is given (own rule).
+// The last ticket that is given (own rule).
 const GREATEST_TICKET: u64 = 9_223_372_036_854_775_807;
 
 /// The call slots of a group, which count from 1, and the last ticket that was given. The free, the

@@ -6,7 +6,7 @@ use Rattle.il_spec.specs.declared.tree.Config.{Config}
 use Rattle.il_parse.specs.Refused.{IsFault}
 use Rattle.il_machine.specs.Scanning.{Program}
 use Rattle.lift_run_laws.specs.Runs.{RunsWell}
-use Rattle.il_budget.specs.Costs.{cost_of}
+use Rattle.il_verify.specs.Costs.{cost_of}
 use Rattle.lift_load.specs.Loading.{IsSpelled, IsSpelledWith, IsAccepted, IsRefusedFor, IsExplained, ReportsFaultOfText}
 
 -- Either a program that the text spells, that breaks no rule and that runs well, or a refusal: from 1 to 6 the fault of the text's bytes, from 10

@@ -10,8 +10,8 @@ use Rattle.lift_host.specs.Messages.{message_of}
 use Rattle.lift_host.specs.Requests.{explains, has_flag, plain_words}
 use Rattle.lift_host.specs.Servings.{Serves}
 use Rattle.lift_shell.specs.Runs.{HasPrinted, Held, IsAnswer, stream}
-use Rattle.lift_sink.specs.declared.sink.Memory.{Memory}
-use Rattle.lift_sink.specs.Writes.{Writes}
+use Rattle.lift_host.specs.declared.sink.Memory.{Memory}
+use Rattle.lift_host.specs.Writes.{Writes}
 use Rattle.lift_command.specs.declared.memory_trace.MemoryTrace.{MemoryTrace}
 use Rattle.lift_command.specs.declared.program.Outcome.{Outcome}
 use Rattle.lift_command.specs.Runs.{IsTextOutcome}

@@ -2,7 +2,7 @@
 use Rattle.std.specs.Prelude.{◌≡◌, ◌⊎◌, ℕ, List, Ok, Err, None}
 use Rattle.il_spec.specs.declared.fault.Refusal.{Refusal}
 use Rattle.il_spec.specs.declared.tree.Config.{Config}
-use Rattle.il_shown.specs.Texts.{AreRangesShown}
+use Rattle.il_reports.specs.RangeTexts.{AreRangesShown}
 use Rattle.il_machine.specs.Scanning.{Program}
 use Rattle.lift_host.specs.declared.files.Reading.{Reading}
 use Rattle.lift_host.specs.declared.request.Request.{Request}
@@ -11,7 +11,7 @@ use Rattle.lift_host.specs.declared.request.Showing.TheVariants as showing
 use Rattle.lift_host.specs.declared.status.Fault.TheVariants as fault
 use Rattle.lift_host.specs.Messages.{fault_of}
 use Rattle.lift_load.specs.Loading.{IsSpelled, IsUnbroken}
-use Rattle.lift_show.specs.Outputs.{Outcome, bytes_of, warnings_of}
+use Rattle.lift_messages.specs.Outputs.{Outcome, bytes_of, warnings_of}
 use Rattle.lift_output.specs.Outcomes.{IsProgramOutcome, HasWarnings, wanted_warnings}
 use Rattle.lift_command.specs.Loaded.{IsLoaded}
 

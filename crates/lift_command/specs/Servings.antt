@@ -14,8 +14,8 @@ use Rattle.lift_host.specs.declared.status.Status.{Status}
 use Rattle.lift_host.specs.declared.status.Status.TheVariants as with_status
 use Rattle.lift_host.specs.Messages.{fault_of, fault_of_reading, message_of, status_of}
 use Rattle.lift_shell.specs.Runs.{IsExplained, IsUnreadBelow, most_bytes}
-use Rattle.lift_sink.specs.Writes.{AppendsFront}
-use Rattle.lift_source.specs.Places.{IsShownBelow}
+use Rattle.lift_host.specs.Writes.{AppendsFront}
+use Rattle.lift_messages.specs.Places.{IsShownBelow}
 use Rattle.lift_serve.specs.declared.group.Halt.{Halt}
 use Rattle.lift_serve.specs.declared.group.Halt.TheVariants as halt
 use Rattle.lift_serve.specs.declared.input.Came.{Came}

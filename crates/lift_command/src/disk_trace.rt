@@ -1,7 +1,7 @@
 // A trace on disk.
 
 use crate::serving::TraceSink;
-use lift_sink::sink::{Sink, SinkFault};
+use lift_host::sink::{Sink, SinkFault};
 use std::fs::{Files, OpenFile, OpenOptions};
 use std::io::Write;
 

@@ -8,15 +8,15 @@ ghost use Rattle.lift_output.specs.Outcomes.{HasWarnings, IsProgramOutcome, want
 ghost use Rattle.lift_shell.specs.Runs.{runs};
 
 use il_machine::Verified;
-use il_shown::ranges_text;
+use il_reports::ranges_text;
 use il_spec::fault::Refusal;
 use lift_host::files::Reading;
 use lift_host::request::{Request, Showing, Simulating};
 use lift_host::status::Fault;
 use lift_load::{load, unbroken};
+use lift_messages::output::Output;
 use lift_output::outcome::{outcome, ran};
 use lift_shell::commands::Commands;
-use lift_show::output::Output;
 use std::alloc::Global;
 use std::sync::Wait;
 use std::thread::Threads;
@@ -56,7 +56,7 @@ impl Commands for Liftplc {
     }
 }
 
-/// What `run` gives of a verified configuration.
+// What `run` gives of a verified configuration.
 fn run_verified<R: Threads + Wait + Sync>(
     rt: &R,
     alloc: Global,
@@ -74,7 +74,7 @@ fn run_verified<R: Threads + Wait + Sync>(
     }
 }
 
-/// What a request gives of a refused text.
+// What a request gives of a refused text.
 fn refused(
     alloc: Global,
     request: Request<'_>,
@@ -93,7 +93,7 @@ fn refused(
     }
 }
 
-/// The ranges of a refused text, where no rule of its declarations, types and order is broken.
+// The ranges of a refused text, where no rule of its declarations, types and order is broken.
 fn known(alloc: Global, text: &[u8], refusal: Refusal) -> Result<Output, Fault>
     ensures is { IsKnown text.now refusal result }
     ensures unwritten { result ≢ Err Fault.CannotWrite }

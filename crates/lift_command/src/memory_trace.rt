@@ -4,7 +4,7 @@ ghost use Rattle.std.specs.Prelude.{◌≡◌, false, option_map};
 ghost use Rattle.lift_command.specs.Programs.{traced_by};
 
 use crate::serving::TraceSink;
-use lift_sink::sink::{Sink, SinkFault};
+use lift_host::sink::{Sink, SinkFault};
 use std::alloc::Global;
 
 /// A trace in memory, once it is created.

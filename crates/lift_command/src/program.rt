@@ -5,7 +5,7 @@ ghost use Rattle.lift_command.specs.Programs.{HasLeft, IsPlainAnswer, IsProgramA
 ghost use Rattle.lift_host.specs.Messages.{message_of, status_of};
 ghost use Rattle.lift_host.specs.Requests.{plain_words};
 ghost use Rattle.lift_shell.specs.Runs.{AskForRun, stream};
-ghost use Rattle.lift_sink.specs.Writes.{Writes};
+ghost use Rattle.lift_host.specs.Writes.{Writes};
 
 use crate::disk_trace::DiskTrace;
 use crate::liftplc::Liftplc;
@@ -14,11 +14,11 @@ use crate::serving::{TraceSink, serve};
 use lift_host::files::{Disk, TextFiles};
 use lift_host::request::{Plain, read_words};
 use lift_host::serving::asked_to_serve;
+use lift_host::sink::{Memory, Sink, Stream};
 use lift_host::status::{Fault, Status};
+use lift_messages::show::tell;
 use lift_shell::entry::{keep_freed_memory, words};
 use lift_shell::run::{is_wanted, run, run_alone};
-use lift_show::show::tell;
-use lift_sink::sink::{Memory, Sink, Stream};
 use std::alloc::Global;
 use std::io::{BufReader, IsTerminal, Read};
 use std::process::ExitCode;
@@ -70,7 +70,7 @@ pub fn command_alone<F: TextFiles, T: TraceSink, I: Read, O: Sink, E: Sink>(
     }
 }
 
-/// The same of words as they are read.
+// The same of words as they are read.
 fn plain_alone<F: TextFiles, T: TraceSink, I: Read, O: Sink, E: Sink>(
     alloc: Global,
     words: &Plain,
@@ -96,7 +96,7 @@ fn plain_alone<F: TextFiles, T: TraceSink, I: Read, O: Sink, E: Sink>(
     }
 }
 
-/// Runs `liftplc` on words that ask for `run`.
+// Runs `liftplc` on words that ask for `run`.
 fn command_run<R: Threads + Wait + Sync, F: TextFiles, O: Sink, E: Sink>(
     rt: &R,
     alloc: Global,
@@ -115,7 +115,7 @@ fn command_run<R: Threads + Wait + Sync, F: TextFiles, O: Sink, E: Sink>(
     }
 }
 
-/// Tells a fault, and ends with its status.
+// Tells a fault, and ends with its status.
 fn ends_with<E: Sink>(fault: &Fault, err: &mut E) -> Status
     ensures told { Writes (E.contents err.old) (E.contents err.new) (E.has_failed err.new) (message_of fault.now) }
     ensures ends { result ≡ status_of fault.now }
@@ -137,7 +137,7 @@ pub fn main<R: Threads + Wait + Sync>(rt: &HostRuntime, threads: &R) -> ExitCode
     ExitCode::from(status.code())
 }
 
-/// Runs `liftplc` on the words of the command line, with these streams; or says why the words or the standard input can't be read.
+// Runs `liftplc` on the words of the command line, with these streams; or says why the words or the standard input can't be read.
 fn process_words<R: Threads + Wait + Sync, O: Sink, E: Sink>(
     rt: &HostRuntime,
     threads: &R,

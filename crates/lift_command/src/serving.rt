@@ -4,14 +4,17 @@ ghost use Rattle.std.specs.Prelude.{◌≡◌, ◌++◌, IfOk, OnOk};
 ghost use Rattle.std.specs.Io.KnownBytes.{Consumes};
 ghost use Rattle.lift_host.specs.Messages.{message_of, status_of};
 ghost use Rattle.lift_shell.specs.Runs.{IsExplained};
-ghost use Rattle.lift_sink.specs.Writes.{Writes};
+ghost use Rattle.lift_host.specs.Writes.{Writes};
 ghost use Rattle.lift_command.specs.Servings.{IsCreated, IsNew, IsServeAnswer, IsTextAnswer, IsLoadedAnswer, IsRefusalBelow, IsRefusedAnswer, IsUnreadAnswer, fault_of_halt, fault_of_input, fault_of_line, fault_of_stop, fault_of_wrong, shown_line};
 
 use crate::liftplc::loaded;
 use il_machine::Verified;
 use lift_host::files::{Cause, ReadFault, TextFiles};
 use lift_host::serving::{Serving, Tracing};
+use lift_host::sink::{Sink, SinkFault};
 use lift_host::status::{Fault, Status};
+use lift_messages::place::below;
+use lift_messages::show::tell;
 use lift_serve::group::{Halt, serve_group};
 use lift_serve::input::Came;
 use lift_serve::said::WrongLine;
@@ -19,9 +22,6 @@ use lift_serve::serve::Stop;
 use lift_serve::server::ServeFault;
 use lift_shell::explained::Explained;
 use lift_shell::run::{MOST_BYTES, unread_explained};
-use lift_show::show::tell;
-use lift_sink::sink::{Sink, SinkFault};
-use lift_source::place::below;
 use std::alloc::{AllocError, Global};
 use std::io::Read;
 
@@ -53,7 +53,7 @@ pub fn serve<F: TextFiles, T: TraceSink, I: Read, O: Sink, E: Sink>(
     }
 }
 
-/// Says that FILE can't be read.
+// Says that FILE can't be read.
 fn tell_unread<E: Sink>(
     alloc: Global,
     name: &str,
@@ -67,7 +67,7 @@ fn tell_unread<E: Sink>(
     tell_explained(&explained, err)
 }
 
-/// Tells a fault with what stands below it, and ends with its status.
+// Tells a fault with what stands below it, and ends with its status.
 fn tell_explained<E: Sink>(explained: &Explained, err: &mut E) -> Status
     ensures told { Writes (E.contents err.old) (E.contents err.new) (E.has_failed err.new) (message_of explained.now.fault ++ explained.now.below.items) }
     ensures ends { result ≡ status_of explained.now.fault }
@@ -76,7 +76,7 @@ fn tell_explained<E: Sink>(explained: &Explained, err: &mut E) -> Status
     explained.fault.status()
 }
 
-/// Serves what was read of FILE, or says why it is refused.
+// Serves what was read of FILE, or says why it is refused.
 fn serve_text<T: TraceSink, I: Read, O: Sink, E: Sink>(
     alloc: Global,
     serving: Serving<'_>,
@@ -95,7 +95,7 @@ fn serve_text<T: TraceSink, I: Read, O: Sink, E: Sink>(
     }
 }
 
-/// Says why FILE is refused.
+// Says why FILE is refused.
 fn tell_refused<E: Sink>(
     alloc: Global,
     name: &str,
@@ -110,7 +110,7 @@ fn tell_refused<E: Sink>(
     tell_explained(&explained, err)
 }
 
-/// A refusal of FILE with what stands below it, where that is wanted; `NoMemory` where memory for that is missing.
+// A refusal of FILE with what stands below it, where that is wanted; `NoMemory` where memory for that is missing.
 fn refusal_explained(
     alloc: Global,
     name: &str,
@@ -129,7 +129,7 @@ fn refusal_explained(
     }
 }
 
-/// What stands below a refusal of FILE.
+// What stands below a refusal of FILE.
 fn refusal_below(
     alloc: Global,
     name: &str,
@@ -144,7 +144,7 @@ fn refusal_below(
     }
 }
 
-/// Serves a configuration, once its trace is created, if one is wanted.
+// Serves a configuration, once its trace is created, if one is wanted.
 fn serve_loaded<T: TraceSink, I: Read, O: Sink, E: Sink>(
     alloc: Global,
     verified: Verified,
@@ -171,7 +171,7 @@ fn serve_loaded<T: TraceSink, I: Read, O: Sink, E: Sink>(
     }
 }
 
-/// Creates the trace, if one is wanted.
+// Creates the trace, if one is wanted.
 fn create<T: TraceSink>(tracing: Option<Tracing<'_>>, trace: &mut T) -> Result<(), SinkFault>
     ensures { OnOk result (IsCreated tracing.entry (T.contents trace.old) (T.contents trace.new)) }
 {
@@ -181,7 +181,7 @@ fn create<T: TraceSink>(tracing: Option<Tracing<'_>>, trace: &mut T) -> Result<(
     }
 }
 
-/// The fault of a group that came to no end.
+// The fault of a group that came to no end.
 fn fault_of_halt(halt: Halt) -> Fault
     ensures { result ≡ fault_of_halt halt }
 {
@@ -192,7 +192,7 @@ fn fault_of_halt(halt: Halt) -> Fault
     }
 }
 
-/// The number of a line, as far as numbers of lines go.
+// The number of a line, as far as numbers of lines go.
 fn shown_line(line: u64) -> u32
     ensures { result ≡ shown_line line }
 {
@@ -213,7 +213,7 @@ fn fault_of_stop(stop: Stop, line: u32) -> Fault
     }
 }
 
-/// The fault of a whole line that was not answered.
+// The fault of a whole line that was not answered.
 fn fault_of_line(fault: ServeFault, line: u32) -> Fault
     ensures { result ≡ fault_of_line fault line }
 {
@@ -226,7 +226,7 @@ fn fault_of_line(fault: ServeFault, line: u32) -> Fault
     }
 }
 
-/// The fault of a line that says nothing to the group.
+// The fault of a line that says nothing to the group.
 fn fault_of_wrong(why: WrongLine, line: u32) -> Fault
     ensures { result ≡ fault_of_wrong why line }
 {
@@ -236,7 +236,7 @@ fn fault_of_wrong(why: WrongLine, line: u32) -> Fault
     }
 }
 
-/// The fault of a line that did not come whole.
+// The fault of a line that did not come whole.
 fn fault_of_input(came: Came, line: u32) -> Fault
     ensures { result ≡ fault_of_input came line }
 {

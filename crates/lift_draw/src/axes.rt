@@ -9,16 +9,16 @@ use crate::svg::{
 };
 use std::alloc::AllocError;
 
-/// How many rounds may lie between two labels.
+// How many rounds may lie between two labels.
 static STEPS: [u64; 19] = [
     1, 2, 5, 10, 20, 50, 100, 200, 500, 1000, 2000, 5000, 10000, 20000, 50000, 100000, 200000,
     500000, 1000000,
 ];
 
-/// The most labels but the first.
+// The most labels but the first.
 const MOST_LABELS: u64 = 11;
 
-/// How many rounds lie between two labels.
+// How many rounds lie between two labels.
 fn step_of(rounds: u64) -> u64 {
     'steps: for step in STEPS.iter() {
         if rounds <= step.saturating_mul(MOST_LABELS) {
@@ -28,7 +28,7 @@ fn step_of(rounds: u64) -> u64 {
     rounds
 }
 
-/// The round of a label, from 0 on: the first round, and then each that the step divides.
+// The round of a label, from 0 on: the first round, and then each that the step divides.
 fn labelled(count: u64, step: u64, rounds: u64) -> Option<u64>
     ensures { IfSome result (λ round. (1 ≤ round) × (round ≤ rounds)) }
 {
@@ -52,7 +52,7 @@ pub fn put_grid(text: &mut String, frame: Frame) -> Result<(), AllocError> {
     end_path(text)
 }
 
-/// The seconds of NOW in a round.
+// The seconds of NOW in a round.
 fn put_time(text: &mut String, story: &Story, at: Point, round: u64) -> Result<(), AllocError> {
     let Point { x, y } = at;
     write!(text, "<text x=\"{x}\" y=\"{y}\">")?;
@@ -60,7 +60,7 @@ fn put_time(text: &mut String, story: &Story, at: Point, round: u64) -> Result<(
     text.push_str("</text>\n")
 }
 
-/// The seconds and the number of a round.
+// The seconds and the number of a round.
 fn put_label(text: &mut String, story: &Story, frame: Frame, round: u64) -> Result<(), AllocError> {
     let x = frame.x(round);
     let y = frame.bottom().saturating_add(14);
@@ -79,7 +79,7 @@ fn put_labels(text: &mut String, story: &Story, frame: Frame) -> Result<(), Allo
     Ok(())
 }
 
-/// What the two rows of labels are.
+// What the two rows of labels are.
 fn put_names(text: &mut String, frame: Frame) -> Result<(), AllocError> {
     let y = frame.bottom().saturating_add(14);
     put_words(text, Point { x: 8, y }, "seconds")?;

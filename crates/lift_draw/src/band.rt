@@ -7,7 +7,7 @@ use crate::svg::{
 };
 use std::alloc::AllocError;
 
-/// A line for each floor.
+// A line for each floor.
 fn put_floor_lines(text: &mut String, frame: Frame, car: u64) -> Result<(), AllocError> {
     text.push_str("<path stroke=\"#d0d0d0\" d=\"")?;
     'floors: for below in 0..frame.floors() {
@@ -17,7 +17,7 @@ fn put_floor_lines(text: &mut String, frame: Frame, car: u64) -> Result<(), Allo
     end_path(text)
 }
 
-/// The number of each floor.
+// The number of each floor.
 fn put_floor_numbers(text: &mut String, frame: Frame, car: u64) -> Result<(), AllocError> {
     open_group(text, "fill=\"#444\" text-anchor=\"end\"")?;
     'floors: for below in 0..frame.floors() {
@@ -27,7 +27,7 @@ fn put_floor_numbers(text: &mut String, frame: Frame, car: u64) -> Result<(), Al
     close_group(text)
 }
 
-/// The car's name, at the middle of its band.
+// The car's name, at the middle of its band.
 fn put_name(text: &mut String, frame: Frame, car: u64) -> Result<(), AllocError> {
     let y = (frame.y(car, 1) / 2)
         .saturating_add(frame.y(car, frame.floors()) / 2)
@@ -38,7 +38,7 @@ fn put_name(text: &mut String, frame: Frame, car: u64) -> Result<(), AllocError>
     )
 }
 
-/// The door of a car, where it is so, from a change to a round.
+// The door of a car, where it is so, from a change to a round.
 fn put_door(text: &mut String, frame: Frame, from: Change, to: u64) -> Result<(), AllocError> {
     let y = frame.y(from.car, u64::from(from.place.floor));
     let upper = Point {
@@ -52,7 +52,7 @@ fn put_door(text: &mut String, frame: Frame, from: Change, to: u64) -> Result<()
     put_box(text, upper, lower)
 }
 
-/// A bar for each time that the door of a car is so.
+// A bar for each time that the door of a car is so.
 fn put_bars(
     text: &mut String,
     frame: Frame,
@@ -70,7 +70,7 @@ fn put_bars(
     put_bar(text, frame, before, door, frame.rounds().saturating_add(1))
 }
 
-/// The bar of the change before, if the door was so.
+// The bar of the change before, if the door was so.
 fn put_bar(
     text: &mut String,
     frame: Frame,
@@ -84,12 +84,12 @@ fn put_bar(
     }
 }
 
-/// Whether two places are drawn alike, but for the door.
+// Whether two places are drawn alike, but for the door.
 fn is_same(from: Place, to: Place) -> bool {
     from.floor == to.floor && from.level == to.level
 }
 
-/// The line up to the last round in which a car was level with a landing.
+// The line up to the last round in which a car was level with a landing.
 fn put_stand(text: &mut String, frame: Frame, from: Change, to: u64) -> Result<(), AllocError> {
     let last = to.saturating_sub(1);
     if from.place.level && last > from.round {
@@ -98,7 +98,7 @@ fn put_stand(text: &mut String, frame: Frame, from: Change, to: u64) -> Result<(
     Ok(())
 }
 
-/// The round in which a car was half way to another floor. There the upper of the two is reported.
+// The round in which a car was half way to another floor. There the upper of the two is reported.
 fn half_way(from: Place, to: &Change) -> u64 {
     if to.place.floor < from.floor {
         to.round.saturating_sub(1)
@@ -107,7 +107,7 @@ fn half_way(from: Place, to: &Change) -> u64 {
     }
 }
 
-/// The line to a place: to the landing where the car is level with it, and half way where it is between two and nearer to another.
+// The line to a place: to the landing where the car is level with it, and half way where it is between two and nearer to another.
 fn put_turn(text: &mut String, frame: Frame, from: Change, to: &Change) -> Result<(), AllocError> {
     let at = frame.at(to.car, to.round, u64::from(to.place.floor));
     if to.place.level {
@@ -122,13 +122,13 @@ fn put_turn(text: &mut String, frame: Frame, from: Change, to: &Change) -> Resul
     put_line(text, Point { x, y })
 }
 
-/// The line from a change to the next.
+// The line from a change to the next.
 fn put_way(text: &mut String, frame: Frame, from: Change, to: &Change) -> Result<(), AllocError> {
     put_stand(text, frame, from, to.round)?;
     put_turn(text, frame, from, to)
 }
 
-/// The line from a change to the end of the last round.
+// The line from a change to the end of the last round.
 fn put_rest(text: &mut String, frame: Frame, from: Change) -> Result<(), AllocError> {
     let y = frame.y(from.car, u64::from(from.place.floor));
     put_line(
@@ -140,7 +140,7 @@ fn put_rest(text: &mut String, frame: Frame, from: Change) -> Result<(), AllocEr
     )
 }
 
-/// The line behind the change before, or its beginning.
+// The line behind the change before, or its beginning.
 fn put_next(
     text: &mut String,
     frame: Frame,
@@ -156,7 +156,7 @@ fn put_next(
     }
 }
 
-/// Whether a change of a car is one of its place, behind the change before.
+// Whether a change of a car is one of its place, behind the change before.
 fn is_turn(before: Option<Change>, change: &Change) -> bool {
     match before {
         Some(from) => !is_same(from.place, change.place),
@@ -164,7 +164,7 @@ fn is_turn(before: Option<Change>, change: &Change) -> bool {
     }
 }
 
-/// The steps of the line of a car's place.
+// The steps of the line of a car's place.
 fn put_steps(
     text: &mut String,
     frame: Frame,
@@ -184,7 +184,7 @@ fn put_steps(
     }
 }
 
-/// The line of a car's place.
+// The line of a car's place.
 fn put_line_of(
     text: &mut String,
     frame: Frame,
@@ -196,7 +196,7 @@ fn put_line_of(
     end_path(text)
 }
 
-/// The doors of a car, moving and open.
+// The doors of a car, moving and open.
 fn put_doors(
     text: &mut String,
     frame: Frame,
@@ -210,7 +210,7 @@ fn put_doors(
     end_path(text)
 }
 
-/// The floors of a car, and its name.
+// The floors of a car, and its name.
 fn put_floors(text: &mut String, frame: Frame, car: u64) -> Result<(), AllocError> {
     put_floor_lines(text, frame, car)?;
     put_floor_numbers(text, frame, car)?;

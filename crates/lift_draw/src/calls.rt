@@ -5,10 +5,10 @@ use crate::rides::{Ride, Told};
 use crate::svg::{Point, close_group, open_group, put_words};
 use std::alloc::AllocError;
 
-/// The most calls that are labelled.
+// The most calls that are labelled.
 const MOST_LABELLED: usize = 200;
 
-/// The width of a label.
+// The width of a label.
 const LABEL: u64 = 44;
 
 /// How many calls wait at the end.
@@ -22,7 +22,7 @@ pub fn waiting(rides: &[Ride]) -> u64 {
     count
 }
 
-/// Where a call was entered: at its floor in the band of its car, or in a lane.
+// Where a call was entered: at its floor in the band of its car, or in a lane.
 fn entry(frame: Frame, ride: &Ride, lane: u64) -> Point {
     match ride.told {
         Some(told) => frame.at(told.car, ride.entered, u64::from(ride.call.from)),
@@ -30,7 +30,7 @@ fn entry(frame: Frame, ride: &Ride, lane: u64) -> Point {
     }
 }
 
-/// The lane of the call behind this one.
+// The lane of the call behind this one.
 fn next_lane(ride: &Ride, lane: u64) -> u64 {
     if ride.told.is_none() {
         lane.saturating_add(1)
@@ -39,7 +39,7 @@ fn next_lane(ride: &Ride, lane: u64) -> u64 {
     }
 }
 
-/// The line of a call that was served: level until it was told its car, and straight to where and when it was served.
+// The line of a call that was served: level until it was told its car, and straight to where and when it was served.
 fn put_served(
     text: &mut String,
     frame: Frame,
@@ -56,7 +56,7 @@ fn put_served(
     write!(text, "<path d=\"M{x} {y}H{turn}L{right} {landing}\">")
 }
 
-/// The line of a call that was not served: level to the end.
+// The line of a call that was not served: level to the end.
 fn put_unserved(text: &mut String, frame: Frame, from: Point) -> Result<(), AllocError> {
     let Point { x, y } = from;
     let end = frame.right();
@@ -66,7 +66,7 @@ fn put_unserved(text: &mut String, frame: Frame, from: Point) -> Result<(), Allo
     )
 }
 
-/// The line of a call.
+// The line of a call.
 fn put_line(text: &mut String, frame: Frame, ride: &Ride, from: Point) -> Result<(), AllocError> {
     match (ride.told, ride.served) {
         (Some(told), Some(served)) => {
@@ -77,7 +77,7 @@ fn put_line(text: &mut String, frame: Frame, ride: &Ride, from: Point) -> Result
     }
 }
 
-/// What a call is.
+// What a call is.
 fn put_call(text: &mut String, ride: &Ride) -> Result<(), AllocError> {
     let ticket = ride.ticket;
     let from = ride.call.from;
@@ -89,7 +89,7 @@ fn put_call(text: &mut String, ride: &Ride) -> Result<(), AllocError> {
     )
 }
 
-/// When it was told its car.
+// When it was told its car.
 fn put_told(text: &mut String, told: Option<Told>) -> Result<(), AllocError> {
     match told {
         Some(Told { car, round }) => write!(text, ", told car {car} in round {round}"),
@@ -97,7 +97,7 @@ fn put_told(text: &mut String, told: Option<Told>) -> Result<(), AllocError> {
     }
 }
 
-/// When it was served.
+// When it was served.
 fn put_service(text: &mut String, served: Option<u64>) -> Result<(), AllocError> {
     match served {
         Some(round) => write!(text, ", served in round {round}"),
@@ -105,7 +105,7 @@ fn put_service(text: &mut String, served: Option<u64>) -> Result<(), AllocError>
     }
 }
 
-/// A call, with a title.
+// A call, with a title.
 fn put_ride(text: &mut String, frame: Frame, ride: &Ride, from: Point) -> Result<(), AllocError> {
     put_line(text, frame, ride, from)?;
     put_call(text, ride)?;
@@ -114,7 +114,7 @@ fn put_ride(text: &mut String, frame: Frame, ride: &Ride, from: Point) -> Result
     text.push_str("</title></path>\n")
 }
 
-/// The lines of the calls.
+// The lines of the calls.
 fn put_lines(text: &mut String, frame: Frame, rides: &[Ride]) -> Result<(), AllocError> {
     let mut lane: u64 = 0;
     'rides: for ride in rides {
@@ -124,7 +124,7 @@ fn put_lines(text: &mut String, frame: Frame, rides: &[Ride]) -> Result<(), Allo
     Ok(())
 }
 
-/// The label of a call: its ticket and its floors.
+// The label of a call: its ticket and its floors.
 fn put_label(text: &mut String, at: Point, ride: &Ride) -> Result<(), AllocError> {
     let Point { x, y } = at;
     let ticket = ride.ticket;
@@ -136,7 +136,7 @@ fn put_label(text: &mut String, at: Point, ride: &Ride) -> Result<(), AllocError
     )
 }
 
-/// Whether a call begins where another does.
+// Whether a call begins where another does.
 fn is_beside(one: &Ride, other: &Ride) -> bool {
     match (one.told, other.told) {
         (Some(told), Some(before)) => {
@@ -148,7 +148,7 @@ fn is_beside(one: &Ride, other: &Ride) -> bool {
     }
 }
 
-/// How many of the calls before begin where this one does.
+// How many of the calls before begin where this one does.
 fn beside(before: &[Ride], ride: &Ride) -> u64 {
     let mut count: u64 = 0;
     'others: for other in before {
@@ -159,7 +159,7 @@ fn beside(before: &[Ride], ride: &Ride) -> u64 {
     count
 }
 
-/// Where the label of a call stands, beside so many others: not where its line goes.
+// Where the label of a call stands, beside so many others: not where its line goes.
 fn label_at(ride: &Ride, from: Point, beside: u64) -> Point {
     let x = from
         .x
@@ -173,7 +173,7 @@ fn label_at(ride: &Ride, from: Point, beside: u64) -> Point {
     Point { x, y }
 }
 
-/// The labels of the calls.
+// The labels of the calls.
 fn put_labels(text: &mut String, frame: Frame, rides: &[Ride]) -> Result<(), AllocError> {
     let mut lane: u64 = 0;
     'rides: for (index, ride) in rides.iter().enumerate() {
@@ -185,7 +185,7 @@ fn put_labels(text: &mut String, frame: Frame, rides: &[Ride]) -> Result<(), All
     Ok(())
 }
 
-/// The name of the strip of the calls that wait, if any do.
+// The name of the strip of the calls that wait, if any do.
 fn put_name(text: &mut String, frame: Frame, rides: &[Ride]) -> Result<(), AllocError> {
     if waiting(rides) == 0 {
         return Ok(());
@@ -194,7 +194,7 @@ fn put_name(text: &mut String, frame: Frame, rides: &[Ride]) -> Result<(), Alloc
     put_words(text, Point { x: 8, y }, "waiting")
 }
 
-/// The lines of the calls, as a group.
+// The lines of the calls, as a group.
 fn put_all(text: &mut String, frame: Frame, rides: &[Ride]) -> Result<(), AllocError> {
     open_group(
         text,

@@ -5,13 +5,13 @@ ghost use Rattle.std.specs.Prelude.{◌<◌};
 use lift_spec::report::{Denial, Rule};
 use std::alloc::{AllocError, Global};
 
-/// Denials of a car by a rule that are no more rounds apart are one.
+// Denials of a car by a rule that are no more rounds apart are one.
 const GAP: u64 = 5;
 
-/// The index of the stops at the ends of the shaft, behind those of the rules.
+// The index of the stops at the ends of the shaft, behind those of the rules.
 const END_STOP: usize = 7;
 
-/// A place for each car, of the 8, and each rule, and one for its stops at the ends of the shaft.
+// A place for each car, of the 8, and each rule, and one for its stops at the ends of the shaft.
 const PLACES: usize = 64;
 
 /// What a rule denied to a car, again and again, from a round to a round.
@@ -34,7 +34,7 @@ pub struct Denials {
     list: Vec<Denied>,
 }
 
-/// The place of a car and a rule, or of the car's stops at the ends.
+// The place of a car and a rule, or of the car's stops at the ends.
 fn place_of(denial: &Denial, is_end_stop: bool) -> usize {
     let index = if is_end_stop {
         END_STOP
@@ -45,7 +45,7 @@ fn place_of(denial: &Denial, is_end_stop: bool) -> usize {
 }
 
 impl Denied {
-    /// Whether a denial in this round is one with the denials before; then it is added.
+    // Whether a denial in this round is one with the denials before; then it is added.
     fn goes_on(&mut self, round: u64) -> bool {
         if round > self.last.saturating_add(GAP) {
             return false;
@@ -109,7 +109,7 @@ impl Denials {
         Ok(())
     }
 
-    /// Whether a denial goes on that was noted before at this place.
+    // Whether a denial goes on that was noted before at this place.
     fn goes_on(&mut self, place: usize, round: u64) -> bool
         requires { place < 64 }
     {

@@ -17,7 +17,7 @@ use lift_spec::trace::TraceEvent;
 use lift_world::World;
 use std::alloc::{AllocError, Global};
 
-/// What the colours mean, and how a call's line begins and ends.
+// What the colours mean, and how a call's line begins and ends.
 const LEGEND: &str = "\
 <defs>
 <marker id=\"entry\" markerWidth=\"6\" markerHeight=\"6\" refX=\"3\" refY=\"3\" markerUnits=\"userSpaceOnUse\"><circle cx=\"3\" cy=\"3\" r=\"2.5\" fill=\"#1f5fbf\"/></marker>
@@ -33,7 +33,7 @@ const LEGEND: &str = "\
 </g>
 ";
 
-/// The head of the picture, on white.
+// The head of the picture, on white.
 fn put_head(text: &mut String, frame: Frame) -> Result<(), AllocError> {
     let width = frame.width();
     let height = frame.height();
@@ -45,7 +45,7 @@ fn put_head(text: &mut String, frame: Frame) -> Result<(), AllocError> {
     writeln!(text, "<path fill=\"#fff\" d=\"M0 0H{width}V{height}H0z\"/>")
 }
 
-/// The sizes of the group.
+// The sizes of the group.
 fn put_sizes(text: &mut String, story: &Story) -> Result<(), AllocError> {
     let sizes = story.sizes();
     let cars = sizes.cars;
@@ -57,7 +57,7 @@ fn put_sizes(text: &mut String, story: &Story) -> Result<(), AllocError> {
     )
 }
 
-/// The rounds of the trace, and their time.
+// The rounds of the trace, and their time.
 fn put_time(text: &mut String, story: &Story) -> Result<(), AllocError> {
     let rounds = story.rounds();
     write!(text, "rounds: {rounds}, ")?;
@@ -67,13 +67,13 @@ fn put_time(text: &mut String, story: &Story) -> Result<(), AllocError> {
     text.push_str(" s; ")
 }
 
-/// How much happened.
+// How much happened.
 fn put_counts(text: &mut String, story: &Story) -> Result<(), AllocError> {
     let calls = story.rides.list().len();
     write!(text, "calls: {calls}")
 }
 
-/// The title row.
+// The title row.
 fn put_title(text: &mut String, story: &Story) -> Result<(), AllocError> {
     text.push_str("<text x=\"72\" y=\"18\" font-size=\"12\" fill=\"#222\">")?;
     put_sizes(text, story)?;
@@ -82,7 +82,7 @@ fn put_title(text: &mut String, story: &Story) -> Result<(), AllocError> {
     text.push_str("</text>\n")
 }
 
-/// What is along the time: FIRE, the bands of the cars, the calls, and what was denied.
+// What is along the time: FIRE, the bands of the cars, the calls, and what was denied.
 fn put_body(text: &mut String, story: &Story, frame: Frame) -> Result<(), AllocError> {
     put_fire(text, frame, story.fires())?;
     put_grid(text, frame)?;
@@ -91,7 +91,7 @@ fn put_body(text: &mut String, story: &Story, frame: Frame) -> Result<(), AllocE
     put_denials(text, frame, story.denials.list())
 }
 
-/// The picture, as SVG.
+// The picture, as SVG.
 fn put_picture(text: &mut String, story: &Story) -> Result<(), AllocError> {
     let lanes = waiting(story.rides.list());
     let frame = Frame::new(story.sizes(), story.rounds(), lanes);
@@ -103,7 +103,7 @@ fn put_picture(text: &mut String, story: &Story) -> Result<(), AllocError> {
     text.push_str("</svg>\n")
 }
 
-/// The text of the picture.
+// The text of the picture.
 fn picture(alloc: Global, story: &Story) -> Result<String, AllocError> {
     let mut text = String::new(alloc);
     put_picture(&mut text, story)?;

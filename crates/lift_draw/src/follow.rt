@@ -12,7 +12,7 @@ use lift_spec::trace::TraceEvent;
 use lift_world::World;
 use std::alloc::AllocError;
 
-/// Notes an event that the world took, with its report if it has one.
+// Notes an event that the world took, with its report if it has one.
 fn note(
     world: &World,
     event: &TraceEvent,

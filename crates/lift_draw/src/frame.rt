@@ -8,29 +8,29 @@ use lift_spec::image::Sizes;
 /// The left edge of the bands. Their names and floors stand left of it.
 pub const LEFT: u64 = 72;
 
-/// What is right of the bands.
+// What is right of the bands.
 const RIGHT: u64 = 24;
 
-/// The least and the greatest width of the bands.
+// The least and the greatest width of the bands.
 const NARROW: u64 = 528;
 
 const WIDE: u64 = 2300;
 
-/// How wide a round is, where there is room.
+// How wide a round is, where there is room.
 const ROUND: u64 = 4;
 
-/// What is above the first band: the title and the legend.
+// What is above the first band: the title and the legend.
 const TOP: u64 = 54;
 
-/// The height of a waiting call.
+// The height of a waiting call.
 const LANE: u64 = 11;
 
-/// What is above the highest floor of a band: the denials; and below the lowest.
+// What is above the highest floor of a band: the denials; and below the lowest.
 const ABOVE: u64 = 20;
 
 const BELOW: u64 = 12;
 
-/// What is below the bands: the time.
+// What is below the bands: the time.
 const AXIS: u64 = 44;
 
 /// How much a picture shows: so many rounds of a group, and so many calls that wait.
@@ -68,7 +68,7 @@ impl Frame {
         self.floors
     }
 
-    /// The width of the bands.
+    // The width of the bands.
     fn inner(self) -> u64
         ensures low { 528 ≤ result }
         ensures high { result ≤ 2300 }
@@ -102,18 +102,18 @@ impl Frame {
         LEFT + (inner.saturating_mul(past) / self.rounds).min(inner)
     }
 
-    /// From a floor to the next.
+    // From a floor to the next.
     fn storey(self) -> u64 {
         if self.floors > 6 { 12 } else { 20 }
     }
 
-    /// The height of a band.
+    // The height of a band.
     fn band(self) -> u64 {
         let shaft = self.floors.saturating_sub(1).saturating_mul(self.storey());
         shaft.saturating_add(ABOVE + BELOW)
     }
 
-    /// The height of the strip of waiting calls.
+    // The height of the strip of waiting calls.
     fn strip(self) -> u64 {
         if self.lanes == 0 {
             return 0;

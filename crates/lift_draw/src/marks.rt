@@ -6,7 +6,7 @@ use crate::story::Switch;
 use crate::svg::{Point, close_group, end_path, open_group, put_box, put_words};
 use std::alloc::AllocError;
 
-/// FIRE, from a round to a round.
+// FIRE, from a round to a round.
 fn put_burning(text: &mut String, frame: Frame, from: u64, to: u64) -> Result<(), AllocError> {
     let upper = Point {
         x: frame.x(from),
@@ -19,7 +19,7 @@ fn put_burning(text: &mut String, frame: Frame, from: u64, to: u64) -> Result<()
     put_box(text, upper, lower)
 }
 
-/// FIRE up to the next switch, if the switch before was on.
+// FIRE up to the next switch, if the switch before was on.
 fn put_until(
     text: &mut String,
     frame: Frame,
@@ -41,7 +41,7 @@ fn put_areas(text: &mut String, frame: Frame, fires: &[Switch]) -> Result<(), Al
     put_until(text, frame, before, frame.rounds().saturating_add(1))
 }
 
-/// The name of each time of FIRE.
+// The name of each time of FIRE.
 fn put_names(text: &mut String, frame: Frame, fires: &[Switch]) -> Result<(), AllocError> {
     'fires: for switch in fires {
         if switch.on {
@@ -66,7 +66,7 @@ pub fn put_fire(text: &mut String, frame: Frame, fires: &[Switch]) -> Result<(),
     close_group(text)
 }
 
-/// A triangle where a denial begins, and a bar to where it ends.
+// A triangle where a denial begins, and a bar to where it ends.
 fn put_triangle(text: &mut String, frame: Frame, denied: &Denied) -> Result<(), AllocError> {
     let x = frame.x(denied.first);
     let end = frame.x(denied.last);
@@ -78,7 +78,7 @@ fn put_triangle(text: &mut String, frame: Frame, denied: &Denied) -> Result<(), 
     )
 }
 
-/// When something was denied.
+// When something was denied.
 fn put_rounds(text: &mut String, denied: &Denied) -> Result<(), AllocError> {
     let first = denied.first;
     if denied.times == 1 {
@@ -89,7 +89,7 @@ fn put_rounds(text: &mut String, denied: &Denied) -> Result<(), AllocError> {
     write!(text, "rounds {first} to {last}, {times} times")
 }
 
-/// What was denied, and why.
+// What was denied, and why.
 fn put_reason(text: &mut String, denied: &Denied) -> Result<(), AllocError> {
     let car = denied.car;
     let number = denied.rule.number();
@@ -97,7 +97,7 @@ fn put_reason(text: &mut String, denied: &Denied) -> Result<(), AllocError> {
     text.push_str(denied.rule.sentence())
 }
 
-/// A grey tick where a car was stopped at an end of its shaft.
+// A grey tick where a car was stopped at an end of its shaft.
 fn put_tick(text: &mut String, frame: Frame, denied: &Denied) -> Result<(), AllocError> {
     let x = frame.x(denied.first);
     let y = frame.band_top(denied.car).saturating_add(5);

@@ -3,7 +3,7 @@
 use lift_spec::image::CarFields;
 use std::alloc::{AllocError, Global};
 
-/// The most cars of a group.
+// The most cars of a group.
 const MOST_CARS: usize = 8;
 
 /// A door, as LOCKED and OPENED say.
@@ -37,7 +37,7 @@ pub struct Places {
     changes: Vec<Change>,
 }
 
-/// The door of a car.
+// The door of a car.
 fn door_of(fields: &CarFields) -> Door {
     if fields.opened {
         Door::Open
@@ -48,7 +48,7 @@ fn door_of(fields: &CarFields) -> Door {
     }
 }
 
-/// The place of a car.
+// The place of a car.
 fn place_of(fields: &CarFields) -> Place {
     Place {
         floor: fields.pos,
@@ -79,7 +79,7 @@ impl Places {
         Ok(())
     }
 
-    /// The place of one car, by its index. Where it is the same as before, there is nothing to note.
+    // The place of one car, by its index. Where it is the same as before, there is nothing to note.
     fn note_car(&mut self, index: usize, place: Place, round: u64) -> Result<(), AllocError> {
         if index >= MOST_CARS || self.latest[index] == Some(place) {
             return Ok(());

@@ -4,7 +4,7 @@ use lift_spec::calls::{Call, Slot};
 use lift_spec::report::EnteredCall;
 use std::alloc::{AllocError, Global};
 
-/// The most call slots of a group.
+// The most call slots of a group.
 const MOST_SLOTS: usize = 64;
 
 /// The car that a call was told, and the round.
@@ -101,7 +101,7 @@ impl Rides {
         }
     }
 
-    /// The call in a slot, by the indexes of both.
+    // The call in a slot, by the indexes of both.
     fn holder(&self, index: usize) -> Option<usize> {
         if index < MOST_SLOTS {
             self.held[index]

@@ -23,19 +23,19 @@ Exit status:
 
 A refused FILE prints `refused NUMBER at line LINE`: `liftplc explain NUMBER` and docs/FAULTS.md say what it means.";
 
-/// The command that shows help.
+// The command that shows help.
 const HELP: &str = "help";
 
-/// The command that explains a number.
+// The command that explains a number.
 const EXPLAIN: &str = "explain";
 
-/// The greatest number of a fault.
+// The greatest number of a fault.
 const MOST_NUMBER: u16 = 99;
 
-/// The option `--fire`, as it is shown.
+// The option `--fire`, as it is shown.
 const FIRE_SHOWN: &str = "--fire <ROUND>";
 
-/// The option `--trace`, as it is shown.
+// The option `--trace`, as it is shown.
 const TRACE_SHOWN: &str = "--trace <TRACE>";
 
 /// What words say that ask for nothing.
@@ -48,7 +48,7 @@ pub enum Answer {
     NoMemory,
 }
 
-/// What is wrong with words that the parser takes.
+// What is wrong with words that the parser takes.
 #[derive(Drop)]
 enum Misuse<'w> {
     /// A word begins with `-`.
@@ -69,14 +69,14 @@ enum Misuse<'w> {
     Missing,
 }
 
-/// The argument FILE.
+// The argument FILE.
 fn file<'a>(alloc: Global) -> Arg<'a> {
     Arg::new(alloc, "FILE")
         .required(true)
         .help("A configuration in Instruction List")
 }
 
-/// The option `--all`.
+// The option `--all`.
 fn all<'a>(alloc: Global) -> Arg<'a> {
     Arg::new(alloc, "all")
         .long("all")
@@ -84,7 +84,7 @@ fn all<'a>(alloc: Global) -> Arg<'a> {
         .help("Also shows each stop at the top or the bottom, which no program can avoid")
 }
 
-/// The option `--together`.
+// The option `--together`.
 fn together<'a>(alloc: Global) -> Arg<'a> {
     Arg::new(alloc, "together")
         .long("together")
@@ -92,7 +92,7 @@ fn together<'a>(alloc: Global) -> Arg<'a> {
         .help("A round ends for all tasks before the next begins")
 }
 
-/// The option `--warn`.
+// The option `--warn`.
 fn warn<'a>(alloc: Global) -> Arg<'a> {
     Arg::new(alloc, "warn")
         .long("warn")
@@ -100,7 +100,7 @@ fn warn<'a>(alloc: Global) -> Arg<'a> {
         .help("Also tells, on standard error, what an accepted FILE declares or stores in vain")
 }
 
-/// The command that checks.
+// The command that checks.
 fn check_command<'a>(alloc: Global) -> Result<Command<'a>, AllocError> {
     file_command(
         alloc,
@@ -110,7 +110,7 @@ fn check_command<'a>(alloc: Global) -> Result<Command<'a>, AllocError> {
     .arg(warn(alloc))
 }
 
-/// The command that shows what the verifier knows.
+// The command that shows what the verifier knows.
 fn ranges_command<'a>(alloc: Global) -> Result<Command<'a>, AllocError> {
     file_command(
         alloc,
@@ -119,7 +119,7 @@ fn ranges_command<'a>(alloc: Global) -> Result<Command<'a>, AllocError> {
     )
 }
 
-/// The command that shows where names are.
+// The command that shows where names are.
 fn xref_command<'a>(alloc: Global) -> Result<Command<'a>, AllocError> {
     file_command(
         alloc,
@@ -128,7 +128,7 @@ fn xref_command<'a>(alloc: Global) -> Result<Command<'a>, AllocError> {
     )
 }
 
-/// A command that takes FILE.
+// A command that takes FILE.
 fn file_command<'a>(
     alloc: Global,
     name: &'a str,
@@ -137,21 +137,21 @@ fn file_command<'a>(
     Command::new(alloc, name).about(about).arg(file(alloc))
 }
 
-/// The argument ROUNDS.
+// The argument ROUNDS.
 fn rounds<'a>(alloc: Global) -> Arg<'a> {
     Arg::new(alloc, "ROUNDS")
         .required(true)
         .help("How many rounds of 100 ms, from 1 to 50000")
 }
 
-/// The arguments PRESS.
+// The arguments PRESS.
 fn presses<'a>(alloc: Global) -> Arg<'a> {
     Arg::new(alloc, "PRESS").num_args(0..).help(
         "A call: ROUND:FROM:TO or ROUND:FROM:TO:PANEL, a round, two floors and a panel from 1 to 4; at most 1000",
     )
 }
 
-/// The option `--fire`.
+// The option `--fire`.
 fn fire<'a>(alloc: Global) -> Arg<'a> {
     Arg::new(alloc, "fire")
         .long("fire")
@@ -159,7 +159,7 @@ fn fire<'a>(alloc: Global) -> Arg<'a> {
         .help("From this round on, fire recall is on")
 }
 
-/// The command that simulates.
+// The command that simulates.
 fn sim_command<'a>(alloc: Global) -> Result<Command<'a>, AllocError> {
     rounds_command(
         alloc,
@@ -168,7 +168,7 @@ fn sim_command<'a>(alloc: Global) -> Result<Command<'a>, AllocError> {
     )
 }
 
-/// The command that runs each task in a thread.
+// The command that runs each task in a thread.
 fn run_command<'a>(alloc: Global) -> Result<Command<'a>, AllocError> {
     rounds_command(
         alloc,
@@ -178,7 +178,7 @@ fn run_command<'a>(alloc: Global) -> Result<Command<'a>, AllocError> {
     .arg(together(alloc))
 }
 
-/// The command that prints what was denied.
+// The command that prints what was denied.
 fn denials_command<'a>(alloc: Global) -> Result<Command<'a>, AllocError> {
     rounds_command(
         alloc,
@@ -188,14 +188,14 @@ fn denials_command<'a>(alloc: Global) -> Result<Command<'a>, AllocError> {
     .arg(all(alloc))
 }
 
-/// The arguments NAME of `watch`, and behind them PRESS.
+// The arguments NAME of `watch`, and behind them PRESS.
 fn names<'a>(alloc: Global) -> Arg<'a> {
     Arg::new(alloc, "NAME").required(true).num_args(1..).help(
         "What is shown behind each round, as NOW, CAR1.POS, CAR1.V or a global; behind the names stand calls, as for `sim`",
     )
 }
 
-/// The command that prints values.
+// The command that prints values.
 fn watch_command<'a>(alloc: Global) -> Result<Command<'a>, AllocError> {
     file_and_rounds(
         alloc,
@@ -206,7 +206,7 @@ fn watch_command<'a>(alloc: Global) -> Result<Command<'a>, AllocError> {
     .arg(fire(alloc))
 }
 
-/// A command that takes FILE, ROUNDS, PRESS and `--fire`.
+// A command that takes FILE, ROUNDS, PRESS and `--fire`.
 fn rounds_command<'a>(
     alloc: Global,
     name: &'a str,
@@ -217,7 +217,7 @@ fn rounds_command<'a>(
         .arg(fire(alloc))
 }
 
-/// The same command, with FILE and ROUNDS alone.
+// The same command, with FILE and ROUNDS alone.
 fn file_and_rounds<'a>(
     alloc: Global,
     name: &'a str,
@@ -229,14 +229,14 @@ fn file_and_rounds<'a>(
         .arg(rounds(alloc))
 }
 
-/// The argument TRACE.
+// The argument TRACE.
 fn trace<'a>(alloc: Global) -> Arg<'a> {
     Arg::new(alloc, "TRACE")
         .required(true)
         .help("A trace that `sim` or `run` printed")
 }
 
-/// The flag `--cut`.
+// The flag `--cut`.
 fn cut<'a>(alloc: Global) -> Arg<'a> {
     Arg::new(alloc, "cut")
         .long("cut")
@@ -244,7 +244,7 @@ fn cut<'a>(alloc: Global) -> Arg<'a> {
         .help("Takes a trace that was cut off, up to its last whole line")
 }
 
-/// The command that replays.
+// The command that replays.
 fn replay_command<'a>(alloc: Global) -> Result<Command<'a>, AllocError> {
     trace_command(
         alloc,
@@ -253,7 +253,7 @@ fn replay_command<'a>(alloc: Global) -> Result<Command<'a>, AllocError> {
     )
 }
 
-/// The command that draws.
+// The command that draws.
 fn draw_command<'a>(alloc: Global) -> Result<Command<'a>, AllocError> {
     trace_command(
         alloc,
@@ -262,7 +262,7 @@ fn draw_command<'a>(alloc: Global) -> Result<Command<'a>, AllocError> {
     )
 }
 
-/// A command that takes FILE and TRACE.
+// A command that takes FILE and TRACE.
 fn trace_command<'a>(
     alloc: Global,
     name: &'a str,
@@ -275,7 +275,7 @@ fn trace_command<'a>(
         .arg(cut(alloc))
 }
 
-/// The option `--trace`.
+// The option `--trace`.
 fn written_trace<'a>(alloc: Global) -> Arg<'a> {
     Arg::new(alloc, "trace")
         .long("trace")
@@ -283,7 +283,7 @@ fn written_trace<'a>(alloc: Global) -> Arg<'a> {
         .help("Writes each event to TRACE, a new file, before it happens")
 }
 
-/// The flag `--sync`.
+// The flag `--sync`.
 fn sync<'a>(alloc: Global) -> Arg<'a> {
     Arg::new(alloc, "sync")
         .long("sync")
@@ -291,7 +291,7 @@ fn sync<'a>(alloc: Global) -> Arg<'a> {
         .help("With --trace: has the disk write each line before it is answered")
 }
 
-/// The command that serves a plant.
+// The command that serves a plant.
 fn serve_command<'a>(alloc: Global) -> Result<Command<'a>, AllocError> {
     file_command(
         alloc,
@@ -302,21 +302,21 @@ fn serve_command<'a>(alloc: Global) -> Result<Command<'a>, AllocError> {
     .arg(sync(alloc))
 }
 
-/// The command that explains.
+// The command that explains.
 fn explain_command<'a>(alloc: Global) -> Result<Command<'a>, AllocError> {
     Command::new(alloc, EXPLAIN)
         .about("Says what a fault or a refusal means")
         .arg(number(alloc))
 }
 
-/// The argument NUMBER.
+// The argument NUMBER.
 fn number<'a>(alloc: Global) -> Arg<'a> {
     Arg::new(alloc, "NUMBER")
         .required(true)
         .help("The number of a fault or a refusal")
 }
 
-/// The program without its commands.
+// The program without its commands.
 fn bare<'a>(alloc: Global) -> Result<Command<'a>, AllocError> {
     Command::new(alloc, "liftplc")
         .version(VERSION)
@@ -327,13 +327,13 @@ fn bare<'a>(alloc: Global) -> Result<Command<'a>, AllocError> {
         .bin_name("liftplc")
 }
 
-/// The program with its commands.
+// The program with its commands.
 fn commands<'a>(alloc: Global) -> Result<Command<'a>, AllocError> {
     let commands = list_of_commands(alloc)?;
     bare(alloc)?.subcommands(commands)
 }
 
-/// The commands, in the order in which help lists them.
+// The commands, in the order in which help lists them.
 fn list_of_commands<'a>(alloc: Global) -> Result<Vec<Command<'a>>, AllocError> {
     let mut commands = Vec::new(alloc);
     add_commands(alloc, &mut commands)?;
@@ -347,7 +347,7 @@ fn add_commands<'a>(alloc: Global, commands: &mut Vec<Command<'a>>) -> Result<()
     add_simulating_commands(alloc, commands)
 }
 
-/// Adds the commands that simulate, and those behind them.
+// Adds the commands that simulate, and those behind them.
 fn add_simulating_commands<'a>(
     alloc: Global,
     commands: &mut Vec<Command<'a>>,
@@ -357,7 +357,7 @@ fn add_simulating_commands<'a>(
     add_observing_commands(alloc, commands)
 }
 
-/// Adds the commands that show something of a simulation, and those behind them.
+// Adds the commands that show something of a simulation, and those behind them.
 fn add_observing_commands<'a>(
     alloc: Global,
     commands: &mut Vec<Command<'a>>,
@@ -367,7 +367,7 @@ fn add_observing_commands<'a>(
     add_trace_commands(alloc, commands)
 }
 
-/// Adds the commands over a trace, and those behind them.
+// Adds the commands over a trace, and those behind them.
 fn add_trace_commands<'a>(
     alloc: Global,
     commands: &mut Vec<Command<'a>>,
@@ -377,13 +377,13 @@ fn add_trace_commands<'a>(
     add_last_commands(alloc, commands)
 }
 
-/// Adds `serve` and `explain`.
+// Adds `serve` and `explain`.
 fn add_last_commands<'a>(alloc: Global, commands: &mut Vec<Command<'a>>) -> Result<(), AllocError> {
     add(commands, serve_command(alloc))?;
     add(commands, explain_command(alloc))
 }
 
-/// Adds a command that was made.
+// Adds a command that was made.
 fn add<'a>(
     commands: &mut Vec<Command<'a>>,
     command: Result<Command<'a>, AllocError>,
@@ -392,7 +392,7 @@ fn add<'a>(
     Ok(())
 }
 
-/// What is wrong with words that ask for nothing, though the parser takes them.
+// What is wrong with words that ask for nothing, though the parser takes them.
 fn misuse_of(words: &[String]) -> Misuse<'_> {
     match words {
         [command, number] if command.as_str() == EXPLAIN => Misuse::Number(number),
@@ -402,18 +402,18 @@ fn misuse_of(words: &[String]) -> Misuse<'_> {
     }
 }
 
-/// The first word that begins with `-`.
+// The first word that begins with `-`.
 fn first_option(words: &[String]) -> Option<Misuse<'_>> {
     let word = words.iter().find(|word| is_option(word))?;
     Some(Misuse::Option(word))
 }
 
-/// Whether a word is a command that simulates.
+// Whether a word is a command that simulates.
 fn takes_rounds(word: &str) -> bool {
     matches!(Name::of(word), Some(Name::Rounds(_)))
 }
 
-/// What is wrong with words behind a command that simulates.
+// What is wrong with words behind a command that simulates.
 fn misuse_of_rounds(words: &[String]) -> Misuse<'_> {
     let Some(place) = words.iter().position(|word| is_fire(word)) else {
         return misuse_of_places(Words {
@@ -430,12 +430,12 @@ fn misuse_of_rounds(words: &[String]) -> Misuse<'_> {
     }
 }
 
-/// Whether a word is the option `--fire`.
+// Whether a word is the option `--fire`.
 fn is_fire(word: &str) -> bool {
     word == FIRE
 }
 
-/// What is wrong with words behind `serve`.
+// What is wrong with words behind `serve`.
 fn misuse_of_serve(words: &[String]) -> Misuse<'_> {
     let Some(place) = words.iter().position(|word| is_trace(word)) else {
         return misuse_without_trace(words);
@@ -449,23 +449,23 @@ fn misuse_of_serve(words: &[String]) -> Misuse<'_> {
     }
 }
 
-/// Whether a word is the option `--trace`.
+// Whether a word is the option `--trace`.
 fn is_trace(word: &str) -> bool {
     word == TRACE
 }
 
-/// Whether a word is the flag `--sync`.
+// Whether a word is the flag `--sync`.
 fn is_sync(word: &str) -> bool {
     word == SYNC
 }
 
-/// The first word that begins with `-`, but is not `--sync`.
+// The first word that begins with `-`, but is not `--sync`.
 fn first_but_sync(words: &[String]) -> Option<Misuse<'_>> {
     let word = words.iter().find(|word| is_option(word) && !is_sync(word))?;
     Some(Misuse::Option(word))
 }
 
-/// What is wrong with words behind `serve` that have no `--trace`.
+// What is wrong with words behind `serve` that have no `--trace`.
 fn misuse_without_trace(words: &[String]) -> Misuse<'_> {
     match first_but_sync(words) {
         Some(misuse) => misuse,
@@ -474,7 +474,7 @@ fn misuse_without_trace(words: &[String]) -> Misuse<'_> {
     }
 }
 
-/// What is wrong with the words beside `--trace` and its value.
+// What is wrong with the words beside `--trace` and its value.
 fn misuse_beside_trace(words: Words<'_>) -> Misuse<'_> {
     if let Some(misuse) = first_but_sync(words.front).or_else(|| first_but_sync(words.back)) {
         return misuse;
@@ -485,7 +485,7 @@ fn misuse_beside_trace(words: Words<'_>) -> Misuse<'_> {
     Misuse::Missing
 }
 
-/// Whether `--sync` stands twice among words.
+// Whether `--sync` stands twice among words.
 fn has_sync_twice(words: Words<'_>) -> bool {
     words
         .front
@@ -496,7 +496,7 @@ fn has_sync_twice(words: Words<'_>) -> bool {
         .is_some()
 }
 
-/// What is wrong with words behind such a command that have no `--fire`.
+// What is wrong with words behind such a command that have no `--fire`.
 fn misuse_of_places(words: Words<'_>) -> Misuse<'_> {
     if let Some(misuse) = first_option(words.front).or_else(|| first_option(words.back)) {
         return misuse;
@@ -508,14 +508,14 @@ fn misuse_of_places(words: Words<'_>) -> Misuse<'_> {
     }
 }
 
-/// The word in the place of ROUNDS.
+// The word in the place of ROUNDS.
 fn rounds_of<'w>(words: Words<'w>) -> Option<&'w str> {
     let (_, behind) = words.split_first()?;
     let (rounds, _) = behind.split_first()?;
     Some(rounds)
 }
 
-/// What the parser would say of the misuse.
+// What the parser would say of the misuse.
 fn error_of(
     alloc: Global,
     command: &mut Command<'_>,
@@ -525,7 +525,7 @@ fn error_of(
     command.error(kind_of(&misuse), &text)
 }
 
-/// The parser's kind of the misuse.
+// The parser's kind of the misuse.
 fn kind_of(misuse: &Misuse<'_>) -> ErrorKind {
     match misuse {
         Misuse::Option(_) => ErrorKind::UnknownArgument,
@@ -539,7 +539,7 @@ fn kind_of(misuse: &Misuse<'_>) -> ErrorKind {
     }
 }
 
-/// The text of the misuse.
+// The text of the misuse.
 fn text_of(alloc: Global, misuse: &Misuse<'_>) -> Result<String, AllocError> {
     match misuse {
         Misuse::Option(word) => format!(in alloc; "unexpected argument '{word}' found"),
@@ -567,21 +567,21 @@ fn text_of(alloc: Global, misuse: &Misuse<'_>) -> Result<String, AllocError> {
     }
 }
 
-/// Whether a word is an option that asks for help or the version; behind a short one others may stand.
+// Whether a word is an option that asks for help or the version; behind a short one others may stand.
 fn is_help_option(word: &str) -> bool
     ensures { result ≡ is_help_option word.now }
 {
     word == "--help" || word == "--version" || is_short_help(word.as_bytes())
 }
 
-/// Whether a word begins with `-h` or `-V`.
+// Whether a word begins with `-h` or `-V`.
 fn is_short_help(word: &[u8]) -> bool
     ensures { result ≡ is_short_help word.now }
 {
     matches!(word, [b'-', b'h' | b'V', ..])
 }
 
-/// Whether one of the words is such an option.
+// Whether one of the words is such an option.
 fn has_help_option(words: &[String]) -> bool
     ensures { result ≡ has_help_option (map string_bytes words.now) }
 {
@@ -593,7 +593,7 @@ fn has_help_option(words: &[String]) -> bool
     false
 }
 
-/// Whether the first word is `help` or `explain`.
+// Whether the first word is `help` or `explain`.
 fn begin_with_help(words: &[String]) -> bool
     ensures { result ≡ begin_with_help (map string_bytes words.now) }
 {
@@ -603,21 +603,21 @@ fn begin_with_help(words: &[String]) -> bool
     }
 }
 
-/// Whether a word is the command `help` or `explain`.
+// Whether a word is the command `help` or `explain`.
 fn is_helper(word: &str) -> bool
     ensures { result ≡ is_helper word.now }
 {
     word == HELP || word == EXPLAIN
 }
 
-/// Whether words ask for help, the version or what a number means.
+// Whether words ask for help, the version or what a number means.
 fn ask_for_help(words: &[String]) -> bool
     ensures { result ≡ ask_for_help (map string_bytes words.now) }
 {
     begin_with_help(words) || has_help_option(words)
 }
 
-/// What comes of the parser's error of these words.
+// What comes of the parser's error of these words.
 fn answer_to(alloc: Global, words: &[String], error: clap::Error) -> Answer
     ensures { IsAskedFor (map string_bytes words.now) result }
 {
@@ -632,7 +632,7 @@ fn answer_to(alloc: Global, words: &[String], error: clap::Error) -> Answer
     }
 }
 
-/// What the parser says of wrong words, without its tip to put `--` before them, which the commands don't take.
+// What the parser says of wrong words, without its tip to put `--` before them, which the commands don't take.
 fn answer_to_misuse(alloc: Global, text: &str) -> Answer
     ensures { (words : List (List ℕ)) → IsAskedFor words result }
 {
@@ -652,7 +652,7 @@ fn without_tip(alloc: Global, text: &str) -> Result<String, AllocError> {
     Ok(text)
 }
 
-/// The parser's error.
+// The parser's error.
 fn parsed<'w>(
     alloc: Global,
     command: &mut Command<'w>,
@@ -669,7 +669,7 @@ fn error_in(alloc: Global, words: &[String]) -> Result<clap::Error, AllocError> 
     parsed(alloc, &mut command, words)
 }
 
-/// What words explain, if they are `explain` and a number that has a meaning.
+// What words explain, if they are `explain` and a number that has a meaning.
 fn explained(words: &[String]) -> Option<&'static str>
     ensures { IfSome result (λ _. ask_for_help (map string_bytes words.now) ≡ true) }
 {
@@ -682,7 +682,7 @@ fn explained(words: &[String]) -> Option<&'static str>
     }
 }
 
-/// What the parser says of words.
+// What the parser says of words.
 fn parser_answer(alloc: Global, words: &[String]) -> Answer
     ensures { IsAskedFor (map string_bytes words.now) result }
 {

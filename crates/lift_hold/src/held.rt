@@ -23,7 +23,7 @@ impl Model for Held {
 }
 
 impl Held {
-    /// The pointer of a box.
+    // The pointer of a box.
     fn of_unboxed(unboxed: Unboxed<Rounds, Global>) -> Held
         ensures { result.world ≡ Some unboxed.value.world }
     {
@@ -31,7 +31,7 @@ impl Held {
         Held { at: at as *mut u8 }
     }
 
-    /// The box of the pointer.
+    // The box of the pointer.
     fn into_unboxed(self, alloc: Global) -> Unboxed<Rounds, Global>
         requires { (w : WorldOf) × (self.world ≡ Some w) }
         ensures { self.world ≡ Some result.value.world }

@@ -2,3 +2,4 @@ pub mod Messages
 pub mod Requests
 pub mod Presses
 pub mod Servings
+pub mod Writes

@@ -9,9 +9,10 @@ use std::fs::File;
 use std::io;
 use std::io::Read;
 use std::rt::Files;
+use thiserror::Error;
 
 /// Why a file can't be read.
-#[derive(Clone, Copy)]
+#[derive(Clone, Copy, Debug)]
 pub enum Cause {
     /// No file has this name.
     Missing,
@@ -38,10 +39,12 @@ impl Cause {
 }
 
 /// Why a file gives no bytes.
-#[derive(Clone, Copy)]
+#[derive(Clone, Copy, Debug, Error)]
 pub enum ReadFault {
+    #[error("cannot read")]
     CannotRead(Cause),
     /// An allocation failed.
+    #[error("out of memory")]
     NoMemory,
 }
 

@@ -6,4 +6,5 @@ pub mod files;
 pub mod press;
 pub mod request;
 pub mod serving;
+pub mod sink;
 pub mod status;

@@ -8,11 +8,12 @@ ghost use Rattle.lift_host.specs.declared.press.Press.{Press};
 use crate::request::{Words, number_to};
 use lists::Items;
 use std::alloc::{AllocError, Global};
+use thiserror::Error;
 
-/// The most presses of a command.
+// The most presses of a command.
 const MOST_PRESSES: usize = 1000;
 
-/// The most panels of a floor.
+// The most panels of a floor.
 const MOST_PANELS: u16 = 4;
 
 /// A press of a landing panel: the round before which it comes, the floors from which and to which, and which of the
@@ -26,13 +27,16 @@ pub struct Press {
 }
 
 /// Why words give no presses.
-#[derive(Drop)]
+#[derive(Debug, Drop, Error)]
 pub enum PressFault {
     /// This word is no press.
+    #[error("`{0}` is no press")]
     Bad(String),
     /// There are more than 1000 words.
+    #[error("more than 1000 presses")]
     TooMany,
     /// An allocation failed.
+    #[error("out of memory")]
     NoMemory,
 }
 
@@ -72,7 +76,7 @@ pub fn presses(
     each_press(alloc, words, rounds, floors)
 }
 
-/// A press for each word.
+// A press for each word.
 fn each_press(
     alloc: Global,
     words: Words<'_>,
@@ -88,7 +92,7 @@ fn each_press(
     Ok(presses)
 }
 
-/// Adds a press for each word.
+// Adds a press for each word.
 fn add_presses(
     alloc: Global,
     presses: &mut Items<Press>,
@@ -108,7 +112,7 @@ fn add_presses(
     Ok(())
 }
 
-/// The press that a word spells.
+// The press that a word spells.
 fn press_of(word: &str, rounds: u16, floors: u16) -> Option<Press>
     ensures some { IfSome result (IsPress rounds floors word.now) }
     ensures none { IsNone result → (press : Press) → IsPress rounds floors word.now press → ⊥ }
@@ -124,7 +128,7 @@ fn press_of(word: &str, rounds: u16, floors: u16) -> Option<Press>
     }
 }
 
-/// What stands before the first colon of a text, and what stands behind it.
+// What stands before the first colon of a text, and what stands behind it.
 fn first_part(text: &str) -> Option<(&str, &str)>
     ensures some { IfSome result (λ parts. parts_of text.now ≡ parts.0.now ∷ parts_of parts.1.now) }
     ensures none { IsNone result → parts_of text.now ≡ text.now ∷ [] }
@@ -132,7 +136,7 @@ fn first_part(text: &str) -> Option<(&str, &str)>
     text.split_once(':')
 }
 
-/// The press of these parts.
+// The press of these parts.
 fn press_by(
     round: &str,
     from: &str,

@@ -14,25 +14,25 @@ pub const MOST_ROUNDS: u16 = 50_000;
 /// The option of a simulation whose value is the round from which on fire recall is on.
 pub const FIRE: &str = "--fire";
 
-/// The same option, where its value stands in one word with it.
+// The same option, where its value stands in one word with it.
 const FIRE_IS: &str = "--fire=";
 
 /// The option of `serve` whose value is the name of the trace that it writes.
 pub const TRACE: &str = "--trace";
 
-/// The same option, where its value stands in one word with it.
+// The same option, where its value stands in one word with it.
 const TRACE_IS: &str = "--trace=";
 
-/// The flag of `denials` that has it show all denials.
+// The flag of `denials` that has it show all denials.
 const ALL: &str = "--all";
 
-/// The flag of `run` that has a round end for all before the next begins.
+// The flag of `run` that has a round end for all before the next begins.
 const TOGETHER: &str = "--together";
 
-/// The flag of `replay` and `draw` that has them take a trace up to its last whole line.
+// The flag of `replay` and `draw` that has them take a trace up to its last whole line.
 const CUT: &str = "--cut";
 
-/// The option of every command that has a refusal of a text shown with the text's line and the number's meaning.
+// The option of every command that has a refusal of a text shown with the text's line and the number's meaning.
 const EXPLAIN: &str = "--explain";
 
 /// The option of `check` that has it tell what it warns of.
@@ -257,7 +257,7 @@ impl<'w> Request<'w> {
     }
 }
 
-/// Whether a text is ASCII digits alone.
+// Whether a text is ASCII digits alone.
 fn is_digits(text: &str) -> bool
     ensures { IsTrue result ↔ IsDigits text.now }
 {
@@ -294,7 +294,7 @@ pub fn asked(words: &[String]) -> Option<Request<'_>>
     takes(Name::of(name)?, rest)
 }
 
-/// What a command is asked for by the words behind its name.
+// What a command is asked for by the words behind its name.
 fn takes(name: Name, rest: &[String]) -> Option<Request<'_>>
     ensures some { IfSome result (λ request. (command_of request ≡ name) × Takes (map string_bytes rest.now) request) }
     ensures none { IsNone result → (request : Request) → command_of request ≡ name → Takes (map string_bytes rest.now) request → ⊥ }
@@ -307,7 +307,7 @@ fn takes(name: Name, rest: &[String]) -> Option<Request<'_>>
     }
 }
 
-/// FILE, where it is the one word.
+// FILE, where it is the one word.
 fn file_alone(rest: &[String]) -> Option<&str>
     ensures some { IfSome result (λ file. IsFile (map string_bytes rest.now) file.now) }
     ensures none { IsNone result → (file : List ℕ) → IsFile (map string_bytes rest.now) file → ⊥ }
@@ -325,7 +325,7 @@ pub(crate) struct FileWith<'w> {
     pub(crate) has_option: bool,
 }
 
-/// FILE, where it is the one of two words beside which the option stands.
+// FILE, where it is the one of two words beside which the option stands.
 fn file_beside<'w>(option: &str, first: &'w str, second: &'w str) -> Option<&'w str>
     ensures some { IfSome result (λ file. IsFileBeside option.now first.now second.now file.now) }
     ensures none { IsNone result → (file : List ℕ) → IsFileBeside option.now first.now second.now file → ⊥ }
@@ -357,7 +357,7 @@ pub(crate) fn file_with<'w>(option: &str, words: Words<'w>) -> Option<FileWith<'
     })
 }
 
-/// FILE, where the one word is no option.
+// FILE, where the one word is no option.
 fn file_without_option(word: &str) -> Option<FileWith<'_>>
     ensures some { IfSome result (λ found. (found.file.now ≡ word.now) × (found.has_option ≡ false) × (IsOption word.now → ⊥)) }
     ensures none { IsNone result → IsOption word.now }
@@ -371,7 +371,7 @@ fn file_without_option(word: &str) -> Option<FileWith<'_>>
     })
 }
 
-/// FILE, where it is the one word or stands beside `--warn`.
+// FILE, where it is the one word or stands beside `--warn`.
 fn check_given(rest: &[String]) -> Option<Checked<'_>>
     ensures some { IfSome result (λ checked. IsFileWith (codes "--warn") (map string_bytes rest.now) checked.file.now checked.warns) }
     ensures none { IsNone result → (file : List ℕ) (warns : Bool) → IsFileWith (codes "--warn") (map string_bytes rest.now) file warns → ⊥ }
@@ -383,7 +383,7 @@ fn check_given(rest: &[String]) -> Option<Checked<'_>>
     })
 }
 
-/// FILE and TRACE, where they are the two words.
+// FILE and TRACE, where they are the two words.
 fn trace_given(rest: &[String]) -> Option<Traced<'_>>
     ensures some { IfSome result (λ traced. AreFiles (map string_bytes rest.now) traced.file.now traced.trace.now) }
     ensures none { IsNone result → (file trace : List ℕ) → AreFiles (map string_bytes rest.now) file trace → ⊥ }
@@ -398,7 +398,7 @@ fn trace_given(rest: &[String]) -> Option<Traced<'_>>
     }
 }
 
-/// FILE and ROUNDS, and what stands behind them.
+// FILE and ROUNDS, and what stands behind them.
 fn rounds_given(rest: &[String]) -> Option<Rounds<'_>>
     ensures some { IfSome result (GiveRounds (map string_bytes rest.now)) }
     ensures only { IfSome result (λ found. (rounds : Rounds) → GiveRounds (map string_bytes rest.now) rounds → words_of rounds.presses ≡ words_of found.presses) }
@@ -417,7 +417,7 @@ fn rounds_given(rest: &[String]) -> Option<Rounds<'_>>
     })
 }
 
-/// The same, with a name behind ROUNDS where the command needs one.
+// The same, with a name behind ROUNDS where the command needs one.
 fn simulation_given(command: Simulating, rest: &[String]) -> Option<Rounds<'_>>
     ensures some { IfSome result (λ rounds. GiveRounds (map string_bytes rest.now) rounds × NeedsName command (words_of rounds.presses)) }
     ensures none { IsNone result → (rounds : Rounds) → GiveRounds (map string_bytes rest.now) rounds → NeedsName command (words_of rounds.presses) → ⊥ }
@@ -430,7 +430,7 @@ fn simulation_given(command: Simulating, rest: &[String]) -> Option<Rounds<'_>>
     }
 }
 
-/// Whether words begin with a name, where the command needs one.
+// Whether words begin with a name, where the command needs one.
 fn has_needed_name(command: Simulating, words: Words<'_>) -> bool
     ensures { IsTrue result ↔ NeedsName command (words_of words.entry) }
 {
@@ -442,7 +442,7 @@ fn has_needed_name(command: Simulating, words: Words<'_>) -> bool
     }
 }
 
-/// Whether the first of the words is there and begins with no digit.
+// Whether the first of the words is there and begins with no digit.
 fn begin_with_name(words: Words<'_>) -> bool
     ensures { IsTrue result ↔ BeginWithName (words_of words.entry) }
 {
@@ -459,7 +459,7 @@ pub(crate) struct WordsApart<'w> {
     pub(crate) value: Option<&'w str>,
 }
 
-/// The words behind such a command apart, where they have no other option and a word behind `--fire`.
+// The words behind such a command apart, where they have no other option and a word behind `--fire`.
 fn fire_apart(rest: &[String]) -> Option<WordsApart<'_>>
     ensures some { IfSome result (λ apart. IsApart (codes "--fire") (map string_bytes rest.now) (words_of apart.positional) (option_map (λ value. value.now) apart.value)) }
     ensures plain { IfSome result (λ apart. AreNoOptions (words_of apart.positional)) }
@@ -496,14 +496,14 @@ pub(crate) fn apart<'w>(option: &str, words: &'w [String]) -> Option<WordsApart<
     })
 }
 
-/// Whether two words are the same.
+// Whether two words are the same.
 fn is_same(word: &str, other: &str) -> bool
     ensures { IsTrue result ↔ (word.now ≡ other.now) }
 {
     word == other
 }
 
-/// How many words stand before the first that is the option.
+// How many words stand before the first that is the option.
 fn first_of(option: &str, words: &[String]) -> usize
     ensures within { result ≤ length words.now }
     ensures before { (k : ℕ) (word : List ℕ) → k < result → slice_get (map string_bytes words.now) k ≡ Some word → word ≡ option.now → ⊥ }
@@ -519,7 +519,7 @@ fn first_of(option: &str, words: &[String]) -> usize
     place
 }
 
-/// Whether one of the words is an option.
+// Whether one of the words is an option.
 fn has_option(words: &[String]) -> bool
     ensures no { result ≡ false → AreNoOptions (map string_bytes words.now) }
     ensures yes { result ≡ true → AreNoOptions (map string_bytes words.now) → ⊥ }
@@ -527,7 +527,7 @@ fn has_option(words: &[String]) -> bool
     first_option(words) < words.len()
 }
 
-/// How many words stand before the first option.
+// How many words stand before the first option.
 fn first_option(words: &[String]) -> usize
     ensures within { result ≤ length words.now }
     ensures before { (k : ℕ) (word : List ℕ) → k < result → slice_get (map string_bytes words.now) k ≡ Some word → IsOption word → ⊥ }
@@ -550,7 +550,7 @@ pub fn is_number(word: &str) -> bool
     matches!(word.as_bytes(), [b'0'..=b'9', ..])
 }
 
-/// How many words stand before the first that begins with a digit.
+// How many words stand before the first that begins with a digit.
 fn first_number(words: &[String]) -> usize
     ensures within { result ≤ length words.now }
     ensures before { (k : ℕ) (word : List ℕ) → k < result → slice_get (map string_bytes words.now) k ≡ Some word → BeginsWithDigit word → ⊥ }
@@ -566,7 +566,7 @@ fn first_number(words: &[String]) -> usize
     place
 }
 
-/// Whether a word is the option `--explain`.
+// Whether a word is the option `--explain`.
 fn is_explain(word: &str) -> bool
     ensures { result ≡ bytes_eq word.now (codes "--explain") }
 {
@@ -598,7 +598,7 @@ pub fn read_words(alloc: Global, words: &[String]) -> Result<Plain, AllocError>
     })
 }
 
-/// The flag of the words' command.
+// The flag of the words' command.
 fn own_flag(words: &[String]) -> Option<&'static str>
     ensures { option_map (λ flag. flag.now) result ≡ own_flag (map string_bytes words.now) }
 {
@@ -610,7 +610,7 @@ fn own_flag(words: &[String]) -> Option<&'static str>
     None
 }
 
-/// The flag of a command's own.
+// The flag of a command's own.
 fn flag_of(command: &str) -> Option<&'static str>
     ensures { option_map (λ flag. flag.now) result ≡ flag_of command.now }
 {
@@ -622,7 +622,7 @@ fn flag_of(command: &str) -> Option<&'static str>
     }
 }
 
-/// Whether a word is the flag, where there is one.
+// Whether a word is the flag, where there is one.
 fn is_flag(flag: Option<&str>, word: &str) -> bool
     ensures { result ≡ is_flag (option_map (λ flag. flag.now) flag.entry) word.now }
 {
@@ -632,7 +632,7 @@ fn is_flag(flag: Option<&str>, word: &str) -> bool
     }
 }
 
-/// Whether `--explain` is one of the words.
+// Whether `--explain` is one of the words.
 fn explains(words: &[String]) -> bool
     ensures { result ≡ explains (map string_bytes words.now) }
 {
@@ -644,7 +644,7 @@ fn explains(words: &[String]) -> bool
     false
 }
 
-/// Whether the flag is one of the words.
+// Whether the flag is one of the words.
 fn names_flag(flag: Option<&str>, words: &[String]) -> bool
     ensures { result ≡ names_flag (option_map (λ flag. flag.now) flag.entry) (map string_bytes words.now) }
 {
@@ -656,7 +656,7 @@ fn names_flag(flag: Option<&str>, words: &[String]) -> bool
     false
 }
 
-/// The words in place of each word.
+// The words in place of each word.
 fn plain_words(
     alloc: Global,
     words: &[String],
@@ -671,7 +671,7 @@ fn plain_words(
     Ok(plain)
 }
 
-/// Adds the words in place of a word.
+// Adds the words in place of a word.
 fn add_plain(
     alloc: Global,
     plain: &mut Vec<String>,
@@ -686,14 +686,14 @@ fn add_plain(
     add_word(alloc, plain, word)
 }
 
-/// An option and its value.
+// An option and its value.
 #[derive(Clone, Copy)]
 struct Valued<'w> {
     option: &'static str,
     value: &'w str,
 }
 
-/// The ROUND of `--fire=ROUND`.
+// The ROUND of `--fire=ROUND`.
 fn round_behind(word: &str) -> Option<&str>
     ensures some { IfSome result (λ round. word.now ≡ codes "--fire=" ++ round.now) }
     ensures none { IsNone result → (round : List ℕ) → word.now ≡ codes "--fire=" ++ round → ⊥ }
@@ -701,7 +701,7 @@ fn round_behind(word: &str) -> Option<&str>
     word.strip_prefix(FIRE_IS)
 }
 
-/// The TRACE of `--trace=TRACE`.
+// The TRACE of `--trace=TRACE`.
 fn trace_behind(word: &str) -> Option<&str>
     ensures some { IfSome result (λ trace. word.now ≡ codes "--trace=" ++ trace.now) }
     ensures none { IsNone result → (trace : List ℕ) → word.now ≡ codes "--trace=" ++ trace → ⊥ }
@@ -709,7 +709,7 @@ fn trace_behind(word: &str) -> Option<&str>
     word.strip_prefix(TRACE_IS)
 }
 
-/// The option and the value that stand in one word.
+// The option and the value that stand in one word.
 fn value_within(word: &str) -> Option<Valued<'_>>
     ensures { MatchOption result (cut_word word.now ≡ word.now ∷ []) (λ valued. cut_word word.now ≡ valued.option.now ∷ valued.value.now ∷ []) }
 {
@@ -726,7 +726,7 @@ fn value_within(word: &str) -> Option<Valued<'_>>
     })
 }
 
-/// Adds a word; two for an option with its value.
+// Adds a word; two for an option with its value.
 fn add_word(alloc: Global, plain: &mut Vec<String>, word: &str) -> Result<(), AllocError>
     ensures { OnOk result (map string_bytes plain.new.items ≡ map string_bytes plain.old.items ++ cut_word word.now) }
 {

@@ -44,7 +44,7 @@ pub fn is_serve(word: &str) -> bool
     word == "serve"
 }
 
-/// What `serve` is asked for by the words behind it.
+// What `serve` is asked for by the words behind it.
 fn serving_given(rest: &[String]) -> Option<Serving<'_>>
     ensures some { IfSome result (TakesToServe (map string_bytes rest.now)) }
     ensures none { IsNone result → (serving : Serving) → TakesToServe (map string_bytes rest.now) serving → ⊥ }

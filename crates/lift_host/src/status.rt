@@ -2,14 +2,14 @@
 
 ghost use Rattle.std.specs.Prelude.{◌≡◌, ◌++◌, true, OnOk, OnErr, decimal};
 ghost use Rattle.std.specs.Io.KnownBytes.{Appends};
-ghost use Rattle.lift_sink.specs.Writes.{AppendsFront};
+ghost use Rattle.lift_host.specs.Writes.{AppendsFront};
 ghost use Rattle.lift_host.specs.Messages.{message_of, status_of, code_of};
 
 use crate::files::{Cause, ReadFault};
 use crate::press::PressFault;
+use crate::sink::{Sink, SinkFault, put_all};
 use il_spec::fault::Refusal;
 use itoa::Buffer;
-use lift_sink::sink::{Sink, SinkFault, put_all};
 use std::alloc::AllocError;
 
 /// How a program ends.
@@ -151,7 +151,7 @@ impl Fault {
     }
 }
 
-/// Writes that a text is refused.
+// Writes that a text is refused.
 fn put_refusal<S: Sink>(sink: &mut S, number: u16, line: u32) -> Result<(), SinkFault>
     ensures ok { OnOk result (Appends (S.contents sink.old) (S.contents sink.new) (message_of (Fault.Refused number line))) }
     ensures failed { OnErr result (S.has_failed sink.new ≡ true) }
@@ -162,7 +162,7 @@ fn put_refusal<S: Sink>(sink: &mut S, number: u16, line: u32) -> Result<(), Sink
     put_all(sink, b"\n")
 }
 
-/// Writes a text and a number behind it.
+// Writes a text and a number behind it.
 fn put_numbered<S: Sink>(sink: &mut S, text: &[u8], number: u32) -> Result<(), SinkFault>
     ensures ok { OnOk result (Appends (S.contents sink.old) (S.contents sink.new) (text.now ++ decimal number)) }
     ensures failed { OnErr result (S.has_failed sink.new ≡ true) }
@@ -172,7 +172,7 @@ fn put_numbered<S: Sink>(sink: &mut S, text: &[u8], number: u32) -> Result<(), S
     put_number(sink, number)
 }
 
-/// Writes a decimal, without sign or leading zeros.
+// Writes a decimal, without sign or leading zeros.
 fn put_number<S: Sink>(sink: &mut S, number: u32) -> Result<(), SinkFault>
     ensures ok { OnOk result (Appends (S.contents sink.old) (S.contents sink.new) (decimal number)) }
     ensures failed { OnErr result (S.has_failed sink.new ≡ true) }

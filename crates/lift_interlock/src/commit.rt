@@ -5,10 +5,10 @@ ghost use Rattle.lift_spec.specs.Settle.{fields_of, outputs_of, other_running, d
 
 use crate::motor::{granted, is_at_end, is_fire_up, reverses};
 use crate::settled::{Settled, listed, open_denial};
-use lift_image::{CarFields, CarOutputs, Image, Motor};
 use lift_spec::report::Rule;
+use lift_spec::{CarFields, CarOutputs, Image, Motor};
 
-/// The order in which rules deny a motor wish.
+// The order in which rules deny a motor wish.
 const WISH_ORDER: [Rule; 5] = [
     Rule::Reversal,
     Rule::Unlocked,

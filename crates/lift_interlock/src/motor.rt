@@ -3,8 +3,8 @@
 ghost use Rattle.std.specs.Prelude.{◌≡◌};
 ghost use Rattle.lift_spec.specs.Settle.{reverses, is_at_end, is_fire_up, granted};
 
-use lift_image::{CarFields, Motor};
 use lift_spec::report::Rule;
+use lift_spec::{CarFields, Motor};
 
 /// From a committed motor to the opposite one.
 pub fn reverses(committed: Motor, wish: Motor) -> bool

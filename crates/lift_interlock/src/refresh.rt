@@ -6,10 +6,10 @@ ghost use Rattle.lift_interlock.specs.Beside.{first_cars, settled_beside};
 
 use crate::motor::{granted, is_at_end, is_fire_up};
 use crate::settled::{AllSettled, Settled, listed, open_denial};
-use lift_image::{Bounded, CarFields, CarOutputs, Fields, Outputs};
 use lift_spec::report::{Denial, Rule};
+use lift_spec::{Bounded, CarFields, CarOutputs, Fields, Outputs};
 
-/// The order in which rules deny a running motor.
+// The order in which rules deny a running motor.
 const RUNNING_ORDER: [Rule; 4] = [Rule::Unlocked, Rule::AtEnd, Rule::Fire, Rule::Crowded];
 
 // Whether a rule denies a running car to run on under the new fields of all cars, beside so many cars that do.

@@ -3,8 +3,8 @@
 ghost use Rattle.std.specs.Prelude.{◌≡◌, ◌++◌};
 ghost use Rattle.lift_spec.specs.Settle.{listed, open_denial};
 
-use lift_image::{Bounded, CarOutputs, Outputs};
 use lift_spec::report::{Denial, Rule};
+use lift_spec::{Bounded, CarOutputs, Outputs};
 use std::marker::Model;
 
 /// The outputs of one car, and the rules that denied, 4 first.

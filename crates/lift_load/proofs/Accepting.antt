@@ -12,7 +12,7 @@ use Rattle.il_spec.specs.Grammar.{AfterLines, SpellsConfig}
 use Rattle.il_rules.specs.Faults.{HasNoFault, IsRefusedBy}
 use Rattle.il_run.specs.Annotation.{Annotated}
 use Rattle.il_ranges.specs.Lacking.{BreaksRanges, lacks_ranges}
-use Rattle.il_budget.specs.Costs.{IsTooLong}
+use Rattle.il_verify.specs.Costs.{IsTooLong}
 use Rattle.il_parse.specs.Refused.{IsSmall, IsFault}
 use Rattle.lift_load.specs.Loading.{IsSpelled, IsAccepted, IsUnbroken, IsRefusedFor, by_declarations, by_types, by_order, by_ranges, by_budgets}
 

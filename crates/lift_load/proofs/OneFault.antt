@@ -16,7 +16,7 @@ use Rattle.il_grammar_laws.proofs.FaultPlaces.{broken_place}
 use Rattle.il_grammar_laws.proofs.FirstLines.{first_at_one_line}
 use Rattle.il_run.specs.Annotation.{Annotated}
 use Rattle.il_ranges.specs.Lacking.{BreaksRanges, lacks_ranges}
-use Rattle.il_budget.specs.Costs.{IsTooLong, too_long}
+use Rattle.il_verify.specs.Costs.{IsTooLong, too_long}
 use Rattle.il_machine.specs.Scanning.{Program}
 use Rattle.il_parse.specs.Refused.{IsFault}
 use Rattle.lift_load.specs.Loading.{SpellsOnly, IsRefusedFor, by_declarations, by_types, by_order, by_ranges, by_budgets, IsSpelledWith}

@@ -11,7 +11,7 @@ use Rattle.il_rules.specs.Faults.{HasNoFault, IsRefusedBy, BreaksDeclarations, B
 use Rattle.il_rules.specs.Written.{IsWritten, IsNested}
 use Rattle.il_parse.specs.Refused.{IsFault}
 use Rattle.il_ranges.specs.Lacking.{BreaksRanges}
-use Rattle.il_budget.specs.Costs.{IsTooLong}
+use Rattle.il_verify.specs.Costs.{IsTooLong}
 use Rattle.il_run.specs.Annotation.{Annotated}
 use Rattle.il_machine.specs.Scanning.{Program}
 use Rattle.lift_run_laws.specs.Runs.{RunsWell}

@@ -32,7 +32,7 @@ use Rattle.il_rules.specs.Types.{difference_numbers, any_difference_numbers, sca
 use Rattle.il_rules.specs.Faults.{BreaksDeclarations, duplicate, unknown, empty_range, initial_outside, bad_task, other_type, BreaksTypes, of_instruction, unknown_label, backward_jump, two_writers, unreached, BreaksOrder, recursive, long_chain, too_many_slots}
 use Rattle.il_ranges.specs.Lacking.{BreaksRanges, lacks_ranges, IsRangeNumber, zero_divisor, out_of_type, out_of_array, otherwise, other_number, function_number}
 use Rattle.il_run.specs.Annotation.{Knowledge}
-use Rattle.il_budget.specs.Costs.{IsTooLong, too_long}
+use Rattle.il_verify.specs.Costs.{IsTooLong, too_long}
 use Rattle.il_grammar_laws.proofs.Members.{none_in, first_or_later}
 use Rattle.lift_load.specs.Loading.{IsRefusedFor, by_declarations, by_types, by_order, by_ranges, by_budgets}
 

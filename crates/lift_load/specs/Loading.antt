@@ -10,7 +10,7 @@ use Rattle.il_text.specs.LexicalErrors.{IsFaultOfText}
 use Rattle.il_rules.specs.Faults.{IsRefusedBy, BreaksDeclarations, Typing, Ordering, HasNoFault, Broken}
 use Rattle.il_run.specs.Annotation.{Annotated}
 use Rattle.il_ranges.specs.Lacking.{BreaksRanges}
-use Rattle.il_budget.specs.Costs.{IsTooLong}
+use Rattle.il_verify.specs.Costs.{IsTooLong}
 
 -- The text spells the configuration within the limits.
 pub record IsSpelled (text : List ℕ) (c : Config) : Type 0 where

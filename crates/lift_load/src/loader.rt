@@ -7,21 +7,25 @@ ghost use Rattle.il_rules.specs.Faults.{BreaksDeclarations, Broken, Typing, HasN
 ghost use Rattle.il_rules.specs.Written.{IsWritten, IsNested};
 ghost use Rattle.il_run.specs.Annotation.{Annotated};
 ghost use Rattle.il_parse.specs.Refused.{IsFault};
-ghost use Rattle.il_budget.specs.Costs.{IsTooLong, cost_of};
+ghost use Rattle.il_run.specs.Paths.{longest};
+ghost use Rattle.il_verify.specs.Costs.{IsTooLong, cost_of, path_of};
+ghost use Rattle.il_layout.specs.Program.{program_names};
+ghost use Rattle.il_layout.specs.Whole.{unit_code};
+ghost use Rattle.il_exec.specs.Quick.{AreAllQuick};
+ghost use Rattle.il_machine.specs.Sharing.{AreSeats};
 ghost use Rattle.lift_run_laws.specs.Runs.{RunsWell};
 ghost use Rattle.lift_load.specs.Loading.{IsSpelled, SpellsOnly, SpellsNone, IsUnbroken, IsAccepted, IsRefusedFor, IsSpelledWith, IsExplained, ReportsFaultOfText};
 
-use il_budget::budget;
 use il_code::{Code, code};
 use il_declare::declare;
-use il_machine::Verified;
+use il_machine::{Tables, Verified, tables_of};
 use il_order::{Ordered, ordered};
 use il_parse::{Written, parse};
 use il_spec::fault::Refusal;
 use il_spec::pair::both;
 use il_text::tokens;
 use il_typed::{Typed, typed};
-use il_verify::{Checked, verify};
+use il_verify::{Budget, Checked, Path, budget, verify};
 use std::alloc::Global;
 
 /// The configuration that a text spells, verified.
@@ -93,9 +97,23 @@ fn affordable(alloc: Global, checked: Checked) -> Result<Verified, Refusal>
     ensures costs { IfOk result (λ v. v.costs ≡ map (cost_of v.config) v.config.units) }
     ensures refused { IfErr result (IsRefusedBy (IsTooLong checked)) }
 {
-    let found = budget(alloc, &checked);
+    let found = parts(alloc, &checked);
     let (checked, found) = both(checked, found)?;
-    Ok(Verified::of(alloc, checked, found.0, found.1)?)
+    Ok(Verified::of(checked, found.0, found.1, found.2))
+}
+
+// What belongs to a configuration with ranges, or its first unit that costs too much.
+fn parts(alloc: Global, checked: &Checked) -> Result<(Budget, Path, Tables), Refusal>
+    ensures costs { IfOk result (λ p. p.0.units ≡ map (longest checked.now) checked.now.units) }
+    ensures lines { IfOk result (λ p. p.1.units ≡ map (path_of checked.now) checked.now.units) }
+    ensures seats { IfOk result (λ p. AreSeats checked.now p.2.seats) }
+    ensures quick { IfOk result (λ p. AreAllQuick p.2.quick (map (unit_code (program_names checked.now) checked.now) checked.now.units)) }
+    ensures affordable { IfOk result (λ _. HasNoFault (IsTooLong checked.now)) }
+    ensures refused { IfErr result (IsRefusedBy (IsTooLong checked.now)) }
+{
+    let found = budget(alloc, checked)?;
+    let tables = tables_of(alloc, checked)?;
+    Ok((found.0, found.1, tables))
 }
 
 // The code of a configuration each of whose instructions has ranges, or the first fault before.

@@ -7,14 +7,7 @@ use Rattle.lift_trace.specs.declared.format.Format.{Format}
 use Rattle.lift_trace.specs.declared.format.Format.TheVariants.{One, Two}
 use Rattle.lift_trace.specs.Text.{line_of, last_line, trace_lines, text_of_lines, text_of}
 use Rattle.lift_trace.specs.Reading.{Reads, greatest_trace}
-
-lines_long : (lines : List (List ℕ)) → length lines ≤ length (text_of_lines lines)
-lines_long [] = omega arith
-lines_long (line ∷ lines) =
-    let rest = lines_long lines in
-    let both = length-append (line ++ 10 ∷ []) (text_of_lines lines) in
-    let first = length-append line (10 ∷ []) in
-    omega (arith, rest, both, first)
+use Rattle.lift_trace.proofs.Once.{lines_long}
 
 events_long : (format : Format) (events : List TraceEvent) → length events ≤ length (text_of format events)
 events_long format events =

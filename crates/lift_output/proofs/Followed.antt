@@ -5,7 +5,7 @@ use Rattle.lift_host.specs.declared.request.Following.{Following}
 use Rattle.lift_host.specs.declared.status.Fault.TheVariants as fault
 use Rattle.lift_output.specs.Outcomes.{IsFollowed, event}
 use Rattle.lift_output.specs.Parts.{AreFollowed}
-use Rattle.lift_show.specs.Outputs.{Outcome}
+use Rattle.lift_messages.specs.Outputs.{Outcome}
 use Rattle.lift_spec.specs.declared.trace.TraceEvent.{TraceEvent}
 use Rattle.lift_spec.specs.Image.{sizes_of}
 use Rattle.lift_trace.specs.Reading.{Reads}

@@ -10,7 +10,7 @@ use Rattle.lift_host.specs.Requests.{AreNamesFirst, words_of}
 use Rattle.lift_output.specs.Outcomes.{AreDriven, IsUndriven, IsWatchOutcome}
 use Rattle.lift_output.specs.Parts.{IsWatched}
 use Rattle.lift_watch.specs.Names.{upper_case}
-use Rattle.lift_show.specs.Outputs.{Outcome}
+use Rattle.lift_messages.specs.Outputs.{Outcome}
 use Rattle.lift_spec.specs.Image.{sizes_of}
 
 module _ (program : Program) (asked : Rounds) (names : List (List ℕ)) (behind : Words) (split : AreNamesFirst (words_of asked.presses) names (words_of behind)) where

@@ -6,8 +6,8 @@ use Rattle.il_table.specs.NameMap.{get}
 use Rattle.il_run.specs.State.{Values}
 use Rattle.il_run.specs.declared.value.Value.{Value}
 use Rattle.il_run.specs.declared.value.Value.TheVariants.{Boolean, Integer}
-use Rattle.il_slots.specs.declared.flat.Cell.{Cell}
-use Rattle.il_slots.specs.Program.{global_cells}
+use Rattle.il_layout.specs.declared.flat.Cell.{Cell}
+use Rattle.il_layout.specs.Program.{global_cells}
 use Rattle.lift_spec.specs.declared.calls.Slot.{Slot}
 use Rattle.lift_spec.specs.declared.calls.Slot.TheVariants.{Free, Waiting, Told}
 use Rattle.lift_spec.specs.declared.image.CarFields.{CarFields}

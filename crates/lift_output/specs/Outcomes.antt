@@ -1,7 +1,7 @@
 -- What a request gives of a verified configuration (own rules).
 use Rattle.std.specs.Prelude.{◌≡◌, ◌<◌, ℕ, ◌+◌, ◌++◌, Bool, true, false, List, length, map, Option, Some, None, option_map, Ok, Err, IfOk, string_bytes}
 use Rattle.il_spec.specs.declared.tree.Config.{Config}
-use Rattle.il_shown.specs.Texts.{AreRangesShown}
+use Rattle.il_reports.specs.RangeTexts.{AreRangesShown}
 use Rattle.il_machine.specs.Scanning.{Program}
 use Rattle.lift_host.specs.declared.files.Reading.{Reading}
 use Rattle.lift_host.specs.declared.files.Reading.TheVariants.{Text, Failed}
@@ -26,7 +26,7 @@ use Rattle.lift_output.specs.ImageText.{image_text}
 use Rattle.lift_output.specs.Listing.{listing}
 use Rattle.lift_runs.specs.Driven.{IsSimulated}
 use Rattle.lift_runs.specs.Shown.{IsShown}
-use Rattle.lift_show.specs.Outputs.{Outcome, bytes_of, warnings_of}
+use Rattle.lift_messages.specs.Outputs.{Outcome, bytes_of, warnings_of}
 use Rattle.lift_spec.specs.declared.event.EventFault.{EventFault}
 use Rattle.lift_spec.specs.declared.journal.Entry.{Entry}
 use Rattle.lift_spec.specs.declared.trace.TraceEvent.{TraceEvent}
@@ -36,8 +36,8 @@ use Rattle.lift_spec.specs.World.{World, opening}
 use Rattle.lift_trace.specs.declared.fault.TraceFault.TheVariants.{BadLine, Truncated}
 use Rattle.lift_trace.specs.Reading.{Reads}
 use Rattle.lift_trace.specs.Written.{text_of_entries}
-use Rattle.lift_warnings.specs.Warnings.{warnings_text}
-use Rattle.lift_xref.specs.Xref.{xref_text}
+use Rattle.il_reports.specs.Warnings.{warnings_text}
+use Rattle.il_reports.specs.Xref.{xref_text}
 use Rattle.lift_watch.specs.declared.names.Watched.{Watched}
 use Rattle.lift_watch.specs.Denials.{denied}
 use Rattle.lift_watch.specs.Names.{upper_case}

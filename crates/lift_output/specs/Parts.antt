@@ -12,7 +12,7 @@ use Rattle.lift_host.specs.declared.status.Fault.TheVariants as fault
 use Rattle.lift_journal.specs.Rounds.{TakesAll, IsRefusedAt}
 use Rattle.lift_host.specs.declared.request.Following.{Following}
 use Rattle.lift_output.specs.Outcomes.{Says}
-use Rattle.lift_show.specs.Outputs.{Outcome, bytes_of}
+use Rattle.lift_messages.specs.Outputs.{Outcome, bytes_of}
 use Rattle.lift_spec.specs.declared.event.EventFault.{EventFault}
 use Rattle.lift_spec.specs.declared.trace.TraceEvent.{TraceEvent}
 use Rattle.lift_spec.specs.EventFaults.{event_fault_number}

@@ -2,15 +2,15 @@
 
 ghost use Rattle.std.specs.Prelude.{◌≡◌, ◌++◌, ◌∷◌, [], length, IfOk, OnOk, string_bytes};
 ghost use Rattle.il_table.specs.NameMap.{get};
-ghost use Rattle.il_slots.specs.declared.flat.Cell.{Cell as CellOf};
-ghost use Rattle.il_slots.specs.Program.{global_cells};
+ghost use Rattle.il_layout.specs.declared.flat.Cell.{Cell as CellOf};
+ghost use Rattle.il_layout.specs.Program.{global_cells};
 ghost use Rattle.lift_spec.specs.Snapshot.{motor_number};
 ghost use Rattle.lift_trace.specs.Text.{flag, flags};
 ghost use Rattle.lift_output.specs.ImageText.{truth_text, fields_text, car_text, cars_text, slot_text, slots_text, global_text, globals_text, image_text};
 
 use il_machine::Value;
-use lift_image::{CarFields, CarOutputs, Fields, Motor};
 use lift_spec::calls::Slot;
+use lift_spec::{CarFields, CarOutputs, Fields, Motor};
 use lift_world::World;
 use std::alloc::{AllocError, Global};
 
@@ -33,14 +33,14 @@ pub fn image_text(alloc: Global, world: &World) -> Result<String, AllocError>
     Ok(text)
 }
 
-/// TRUE or FALSE.
+// TRUE or FALSE.
 fn truth(truth: bool) -> &'static str
     ensures { result.now ≡ truth_text truth }
 {
     if truth { "TRUE" } else { "FALSE" }
 }
 
-/// 1 or 0.
+// 1 or 0.
 fn digit(set: bool) -> &'static str
     ensures { result.now ≡ flag set ∷ [] }
 {
@@ -55,7 +55,7 @@ fn put_fields(text: &mut String, fields: &Fields) -> Result<(), AllocError>
     writeln!(text, "\nFIRE {}", truth(fields.fire))
 }
 
-/// LEVEL, TOP, BOTTOM, LOCKED and OPENED.
+// LEVEL, TOP, BOTTOM, LOCKED and OPENED.
 fn put_flags(text: &mut String, car: &CarFields) -> Result<(), AllocError>
     ensures { OnOk result (string_bytes text.new ≡ string_bytes text.old ++ flags car.now) }
 {
@@ -66,7 +66,7 @@ fn put_flags(text: &mut String, car: &CarFields) -> Result<(), AllocError>
     text.push_str(digit(car.opened))
 }
 
-/// A motor as a number: 1 is up, -1 is down.
+// A motor as a number: 1 is up, -1 is down.
 fn number_of(motor: Motor) -> i8
     ensures { result ≡ motor_number motor }
 {

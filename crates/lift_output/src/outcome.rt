@@ -17,19 +17,18 @@ ghost use Rattle.lift_workers.specs.Ran.{IsRun};
 use crate::check::check_text;
 use crate::image::image_text;
 use il_machine::Verified;
-use il_shown::ranges_text;
+use il_reports::{ranges_text, warnings_text, xref_text};
 use lift_draw::{Stop, drawing};
 use lift_host::files::Reading;
 use lift_host::press::{Press, fire_round, presses};
 use lift_host::request::{Following, Name, Named, Request, Rounds, Showing, Simulating, Words};
 use lift_host::status::Fault;
+use lift_messages::output::{Output, Warned};
 use lift_runs::replay::{Refused, replay};
 use lift_runs::sim::{Drive, simulate, simulate_before, simulate_on};
-use lift_show::output::{Output, Warned};
 use lift_spec::trace::TraceEvent;
 use lift_trace::fault::TraceFault;
 use lift_trace::read::read_trace;
-use lift_warnings::warnings_text;
 use lift_watch::denials::Denials;
 use lift_watch::names::upper_names;
 use lift_watch::watch::Watch;
@@ -37,7 +36,6 @@ use lift_workers::RunFault;
 use lift_workers::gate::{Open, Together};
 use lift_workers::run::{Plan, Ran, run};
 use lift_world::World;
-use lift_xref::xref_text;
 use lists::Items;
 use std::alloc::Global;
 use std::sync::Wait;
@@ -63,7 +61,7 @@ pub fn outcome(
     }
 }
 
-/// What a simulation in one thread is asked for.
+// What a simulation in one thread is asked for.
 fn rounds_outcome(
     alloc: Global,
     verified: Verified,
@@ -93,7 +91,7 @@ fn checked(alloc: Global, verified: Verified, warns: bool) -> Result<Output, Fau
     output
 }
 
-/// The tasks and units of a verified configuration, with what is in vain in it, where that is asked for.
+// The tasks and units of a verified configuration, with what is in vain in it, where that is asked for.
 fn listed(alloc: Global, verified: &Verified, warns: bool) -> Result<Output, Fault>
     ensures is { IsCheckOutcome verified.now result }
     ensures warned { HasWarnings (asked_warnings warns verified.now) result }
@@ -107,7 +105,7 @@ fn listed(alloc: Global, verified: &Verified, warns: bool) -> Result<Output, Fau
     Ok(Output::Warned(Warned { text, warnings }))
 }
 
-/// What a command shows of a verified configuration.
+// What a command shows of a verified configuration.
 fn shown(alloc: Global, verified: Verified, command: Showing) -> Result<Output, Fault>
     ensures is { IsShowOutcome command verified result }
     ensures warned { HasWarnings None result }
@@ -121,14 +119,14 @@ fn shown(alloc: Global, verified: Verified, command: Showing) -> Result<Output, 
     Ok(Output::Text(text?))
 }
 
-/// What drives a simulation.
+// What drives a simulation.
 #[derive(Drop)]
 struct Driven {
     presses: Items<Press>,
     fire: Option<u16>,
 }
 
-/// The round that a word spells from which on FIRE holds.
+// The round that a word spells from which on FIRE holds.
 fn fire_of(alloc: Global, word: Option<&str>, rounds: u16) -> Result<Option<u16>, Fault>
     ensures ok { IfOk result (IsFire rounds (option_map (λ w. w.now) word.entry)) }
     ensures err { IfErr result (IsNoFire rounds (option_map (λ w. w.now) word.entry)) }
@@ -142,7 +140,7 @@ fn fire_of(alloc: Global, word: Option<&str>, rounds: u16) -> Result<Option<u16>
     }
 }
 
-/// The presses and the FIRE that words spell, for a group of so many floors.
+// The presses and the FIRE that words spell, for a group of so many floors.
 fn drive_of(alloc: Global, asked: Rounds<'_>, floors: u16) -> Result<Driven, Fault>
     ensures ok { IfOk result (λ d. AreDriven floors asked.entry d.presses d.fire) }
     ensures err { IfErr result (IsUndriven floors asked.entry) }
@@ -221,7 +219,7 @@ fn watched(alloc: Global, verified: Verified, asked: Rounds<'_>) -> Result<Outpu
     }
 }
 
-/// The values of names, in upper case, behind each of so many rounds of a world that opens.
+// The values of names, in upper case, behind each of so many rounds of a world that opens.
 fn watched_names(
     alloc: Global,
     world: &mut World,
@@ -238,7 +236,7 @@ fn watched_names(
     watched_world(alloc, world, &names, drive, rounds)
 }
 
-/// The values of names behind each of so many rounds of a world that opens.
+// The values of names behind each of so many rounds of a world that opens.
 fn watched_world(
     alloc: Global,
     world: &mut World,
@@ -256,7 +254,7 @@ fn watched_world(
     Ok(Output::Text(watch.text))
 }
 
-/// How many tasks the group has.
+// How many tasks the group has.
 fn tasks_of(verified: &Verified) -> u8 {
     verified
         .sizes()
@@ -264,7 +262,7 @@ fn tasks_of(verified: &Verified) -> u8 {
         .saturating_add(u8::from(verified.has_task(0)))
 }
 
-/// What a run in threads leaves, whose rounds end for all before the next begins, or pass one another.
+// What a run in threads leaves, whose rounds end for all before the next begins, or pass one another.
 fn run_in_threads<R: Threads + Wait + Sync>(
     rt: &R,
     alloc: Global,
@@ -315,7 +313,7 @@ pub fn ran<R: Threads + Wait + Sync>(
     }
 }
 
-/// What is wrong with a trace that was read.
+// What is wrong with a trace that was read.
 fn fault_of(fault: TraceFault) -> Fault
     requires { fault ≢ TraceFault.Write }
     ensures { result ≡ fault_of_trace fault }
@@ -328,7 +326,7 @@ fn fault_of(fault: TraceFault) -> Fault
     }
 }
 
-/// The events of a trace's text.
+// The events of a trace's text.
 fn events_of(alloc: Global, text: &[u8], cars: u8) -> Result<Vec<TraceEvent>, Fault>
     ensures ok { IfOk result (λ events. Reads cars text.now (Ok events.items)) }
     ensures err { IfErr result (IsTraceUnread cars text.now) }
@@ -339,7 +337,7 @@ fn events_of(alloc: Global, text: &[u8], cars: u8) -> Result<Vec<TraceEvent>, Fa
     }
 }
 
-/// What a command says of a world that opens, behind events.
+// What a command says of a world that opens, behind events.
 fn said_after(
     alloc: Global,
     world: &mut World,
@@ -357,7 +355,7 @@ fn said_after(
     }
 }
 
-/// The image of a world that opens, behind events.
+// The image of a world that opens, behind events.
 fn image_after(alloc: Global, world: &mut World, events: &[TraceEvent]) -> Result<Output, Fault>
     requires opening { world.old.world ≡ opening world.old.program.config }
     requires few { length events.now ≤ greatest_trace }
@@ -370,7 +368,7 @@ fn image_after(alloc: Global, world: &mut World, events: &[TraceEvent]) -> Resul
     }
 }
 
-/// The picture of events in a world that opens.
+// The picture of events in a world that opens.
 fn picture_of(alloc: Global, world: &mut World, events: &[TraceEvent]) -> Result<Output, Fault>
     requires opening { world.old.world ≡ opening world.old.program.config }
     requires few { length events.now ≤ greatest_trace }
@@ -384,7 +382,7 @@ fn picture_of(alloc: Global, world: &mut World, events: &[TraceEvent]) -> Result
     }
 }
 
-/// The fault of an event that was refused. The first event of a trace stands in line 2.
+// The fault of an event that was refused. The first event of a trace stands in line 2.
 fn fault_of_event(refused: Refused) -> Fault
     requires few { refused.index ≤ greatest_trace }
     ensures { result ≡ Fault.Refused (event_fault_number refused.fault) (refused.index + 2) }
@@ -395,7 +393,7 @@ fn fault_of_event(refused: Refused) -> Fault
     }
 }
 
-/// The outcome of a trace's text.
+// The outcome of a trace's text.
 fn followed_text(
     alloc: Global,
     verified: Verified,

@@ -5,7 +5,7 @@ ghost use Rattle.lift_spec.specs.Plant.{kept_within, moved, fields_of_car};
 ghost use Rattle.lift_spec.specs.Snapshot.{motor_number};
 ghost use Rattle.lift_plant.specs.Cars.{placed, IsPlaced};
 
-use lift_image::{CarFields, CarOutputs, Motor};
+use lift_spec::{CarFields, CarOutputs, Motor};
 
 /// Where a car is, ten to a floor with 0 at floor 1, and how far its door is open, 5 being wholly.
 #[derive(Clone, Copy, Default)]
@@ -14,7 +14,7 @@ pub struct Car {
     pub door: u8,
 }
 
-/// The number from `low` to `high` that is nearest to `number`.
+// The number from `low` to `high` that is nearest to `number`.
 fn nearest(low: i16, high: i16, number: i16) -> i16
     requires { low ≤ℤ high }
     ensures value { result ≡ kept_within low high number }
@@ -30,7 +30,7 @@ fn nearest(low: i16, high: i16, number: i16) -> i16
     }
 }
 
-/// How far a motor takes its car in one step.
+// How far a motor takes its car in one step.
 fn motor_step(motor: Motor) -> i16
     ensures { result ≡ motor_number motor }
 {

@@ -9,10 +9,10 @@ ghost use Rattle.lift_plant.specs.Cars.{placed, IsPlaced};
 ghost use Rattle.lift_plant.specs.Safe.{IsSafeStep};
 
 use crate::car::{Car, car_fields, moved_car};
-use lift_image::{Bounded, CarFields, CarOutputs, Fields, Outputs};
+use lift_spec::{Bounded, CarFields, CarOutputs, Fields, Outputs};
 use std::marker::Model;
 
-/// The latest NOW in milliseconds, the largest TIME.
+// The latest NOW in milliseconds, the largest TIME.
 const LAST_TIME: u32 = 2_147_483_647;
 
 /// Where the cars of a group and their doors are, and NOW in milliseconds.
@@ -92,7 +92,7 @@ impl Plant {
     }
 }
 
-/// The cars after one step, each under its outputs.
+// The cars after one step, each under its outputs.
 fn moved_cars(floors: u8, cars: &[Car], outputs: &[CarOutputs]) -> Bounded<Car, 8>
     requires floors { floors ≤ 16 }
     requires cars { All (IsPlaced floors) cars.now }
@@ -109,7 +109,7 @@ fn moved_cars(floors: u8, cars: &[Car], outputs: &[CarOutputs]) -> Bounded<Car, 
     moved
 }
 
-/// What the plant reports of its cars.
+// What the plant reports of its cars.
 fn all_fields(floors: u8, cars: &[Car]) -> Bounded<CarFields, 8>
     requires floors { (2 ≤ floors) × (floors ≤ 16) }
     requires cars { All (IsPlaced floors) cars.now }

@@ -5,8 +5,8 @@ ghost use Rattle.lift_journal.specs.Rounds.{tasks_in_order};
 
 use crate::notice::Notices;
 use crate::rounds::{round, tasks_in};
-use lift_image::{Bounded, Fields};
 use lift_spec::report::Report;
+use lift_spec::{Bounded, Fields};
 use lift_world::World;
 
 /// A world, and what its rounds go on with from one to the next: the tasks that they run, the notices of the last, and room for a report. A

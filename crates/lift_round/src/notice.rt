@@ -122,7 +122,7 @@ pub(crate) fn add_answers(notices: &mut Notices, task: u8, answers: &[Answered])
     }
 }
 
-/// A tell or a serve, if it was done.
+// A tell or a serve, if it was done.
 fn notice_of(task: u8, answered: Answered) -> Option<Notice>
     ensures { notices_of result ≡ done_notice task answered.car answered.ticket answered.answer }
 {
@@ -135,7 +135,7 @@ fn notice_of(task: u8, answered: Answered) -> Option<Notice>
     }
 }
 
-/// GROUP tells, and a car serves.
+// GROUP tells, and a car serves.
 fn done(task: u8, ticket: u64, car: u8) -> Notice
     ensures { result ≡ done_by task ticket car }
 {

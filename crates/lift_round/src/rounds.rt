@@ -16,14 +16,14 @@ ghost use Rattle.lift_round.specs.Rounds.{IsRoundOf, ScansNoticed, most_of_scans
 
 use crate::notice::{Notices, add_answers, add_denials, add_entered};
 use il_machine::Verified;
-use lift_image::{Bounded, Fields, Sizes};
 use lift_runs::scan::scan;
 use lift_runs::sim::gather_all;
 use lift_spec::event::Event;
 use lift_spec::report::Report;
+use lift_spec::{Bounded, Fields, Sizes};
 use lift_world::World;
 
-/// A whole scan of a task, and what it has to tell.
+// A whole scan of a task, and what it has to tell.
 fn scan_one(world: &mut World, task: u8, notices: &mut Notices, report: &mut Report)
     requires task { HasTask world.old.program.config task }
     requires closed { IsClosed world.old.world }
@@ -40,7 +40,7 @@ fn scan_one(world: &mut World, task: u8, notices: &mut Notices, report: &mut Rep
     add_answers(notices, task, report.answers.as_slice());
 }
 
-/// A whole scan of each of some tasks, and what they have to tell.
+// A whole scan of each of some tasks, and what they have to tell.
 fn scan_all(world: &mut World, tasks: &[u8], notices: &mut Notices, report: &mut Report)
     requires tasks { AreTasks world.old.program.config tasks.now }
     requires closed { IsClosed world.old.world }
@@ -54,7 +54,7 @@ fn scan_all(world: &mut World, tasks: &[u8], notices: &mut Notices, report: &mut
     }
 }
 
-/// A refresh with fields in range, and what it has to tell.
+// A refresh with fields in range, and what it has to tell.
 fn refresh(world: &mut World, fields: Fields, notices: &mut Notices, report: &mut Report)
     requires inside { FieldsInRange (sizes_of world.old.program.config) fields }
     requires none { notices.old ≡ [] }

@@ -22,11 +22,11 @@ use Rattle.lift_spec.specs.Snapshot.{scan_begins, written_globals, assigned, wis
 use Rattle.lift_spec.specs.World.{World, TaskState, Group, happens, task_at, scan_at, beginning_of, started_group, starts, starts_from, instructs, instructs_in, instructs_scan, stepped, reply_to, counted, commits, commits_scan, commits_ended, committed_group, tickets_or_none, closed_tasks, refreshes, refreshed_group, entered_from, presses, presses_floors, presses_new, gathers, gathers_from, InRanges}
 use Rattle.lift_spec.proofs.Interlock.{commit_obeys}
 use Rattle.lift_spec.proofs.Refreshed.{refresh_obeys}
-use Rattle.lift_spec.proofs.Laws.{fields_in_range_means}
+use Rattle.lift_spec.proofs.Laws.{fields_in_range_means, both_true}
 use Rattle.lift_run_laws.specs.Tasks.{IsTaskOf, IsSized, budget_of}
 use Rattle.lift_run_laws.specs.Scans.{ScansWell, ScanHolds}
 use Rattle.lift_run_laws.specs.Holding.{TicketsHold, IsOpen, TaskHolds, SeatHolds, WorldHolds, Leads}
-use Rattle.lift_run_laws.proofs.Lists.{both_true, at_most, get_other, length_set}
+use Rattle.lift_run_laws.proofs.Lists.{at_most, get_other, length_set}
 use Rattle.lift_run_laws.proofs.Slots.{CallsHold, tell_all_holds, serve_wish_holds, EntersWell, enter_all_holds}
 use Rattle.lift_run_laws.proofs.Sets.{with_call_set, with_calls_set, filter_set}
 use Rattle.lift_run_laws.proofs.Kept.{globals_kept, variables_kept, assigned_cars}

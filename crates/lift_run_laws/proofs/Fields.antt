@@ -30,7 +30,7 @@ starts_keeps : (c : Config) (w : World) (t : ℕ) (o : Option TaskState) → Kee
 starts_keeps c w t None = refl
 starts_keeps c w t (Some task) = starts_from_keeps c w t task (scan_at w t)
 
-stepped_keeps : (w : World) (t : ℕ) (o : Outcome) → Keeps w (stepped w t o)
+pub stepped_keeps : (w : World) (t : ℕ) (o : Outcome) → Keeps w (stepped w t o)
 stepped_keeps w t (Trapped trap) = tt
 stepped_keeps w t Stuck = tt
 stepped_keeps w t (Goes s) = refl

@@ -58,7 +58,7 @@ none_cond true = refl
 none_cond false = refl
 
 -- what is left of the entries of a map's paths
-get_entries_at : (end : Values) (es : List (Text × Value)) (q : Text) → get (from_entries (entries_at end (map (λ e. e.0) es))) q ≡ cond (is_some (find order q es)) (get end q) None
+pub get_entries_at : (end : Values) (es : List (Text × Value)) (q : Text) → get (from_entries (entries_at end (map (λ e. e.0) es))) q ≡ cond (is_some (find order q es)) (get end q) None
 get_entries_at end [] q = get-empty q
 get_entries_at end (e ∷ es) q = by (get_entries_at end es q) (get end e.0) refl
   where

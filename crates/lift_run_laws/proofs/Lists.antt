@@ -6,10 +6,6 @@ use Rattle.std.proofs.lemmas.List.Elements.{All-cons, All-head, All-tail}
 pub false_true : {A : Type 0} → false ≡ true → A
 false_true e = cc
 
-pub both_true : (a b : Bool) → (a && b) ≡ true → (a ≡ true) × (b ≡ true)
-both_true true b h = (refl, h)
-both_true false b h = false_true h
-
 pub at_most : (m n : ℕ) → nat_le m n ≡ true → m ≤ n
 at_most m n h = grind (arith, leb_tells, h)
 

@@ -6,7 +6,8 @@ use Rattle.lift_spec.specs.declared.calls.Call.{Call}
 use Rattle.lift_spec.specs.Calls.{IsCall}
 use Rattle.lift_spec.specs.Hands.{with_call, with_calls, is_before, same_call, FirstIsBehind, IsInOrder}
 use Rattle.lift_run_laws.specs.Holding.{IsSetOf}
-use Rattle.lift_run_laws.proofs.Lists.{false_true, both_true}
+use Rattle.lift_run_laws.proofs.Lists.{false_true}
+use Rattle.lift_spec.proofs.Laws.{both_true}
 
 -- MEMBERS
 
@@ -32,7 +33,7 @@ below_yes m n h = grind (arith, ltb→lt, h)
 yes_below : (m n : ℕ) → m < n → nat_lt m n ≡ true
 yes_below m n h = grind (arith, lt→ltb, h)
 
-before_means : (a b : Call) → is_before a b ≡ true → Before a b
+pub before_means : (a b : Call) → is_before a b ≡ true → Before a b
 before_means a b h = by (nat_lt a.from b.from) refl h
   where
     by : (x : Bool) → nat_lt a.from b.from ≡ x → (x || ((a.from == b.from) && nat_lt a.to b.to)) ≡ true → Before a b
@@ -43,7 +44,7 @@ or_true : (a b : Bool) → b ≡ true → (a || b) ≡ true
 or_true true b h = refl
 or_true false b h = h
 
-means_before : (a b : Call) → Before a b → is_before a b ≡ true
+pub means_before : (a b : Call) → Before a b → is_before a b ≡ true
 means_before a b (inl h) = ap (λ x. x || ((a.from == b.from) && nat_lt a.to b.to)) (yes_below a.from b.from h)
 means_before a b (inr h) = or_true (nat_lt a.from b.from) ((a.from == b.from) && nat_lt a.to b.to) (ap (λ x. x && nat_lt a.to b.to) (eq-eqb a.from b.from h.0) ∙ yes_below a.to b.to h.1)
 

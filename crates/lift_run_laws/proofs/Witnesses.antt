@@ -32,6 +32,7 @@ use Rattle.il_scan_laws.proofs.Words.{all_of, are_apart_by, contains_all, first_
 use Rattle.lift_run_laws.specs.Accepted.{IsSound}
 use Rattle.lift_run_laws.specs.Runs.{RunsWell}
 use Rattle.lift_run_laws.proofs.Accepted.{accepted_runs_well}
+use Rattle.il_rules.proofs.Accepted.{three}
 
 abbrev body : ProgramUnit
 body = program 10 (codes "C") [] [] []
@@ -58,12 +59,6 @@ again_in_one name x y (b ∷ before, after, e, c) = too_short before after y (ap
 
 again_in_none : {X : Type 0} (name : X → Text) (y : X) → IsAgain name [] y → ⊥
 again_in_none name y (before, after, e, c) = too_short before after y e
-
-three : {X : Type 0} (P : X → Type 0) (x y w z : X) → P x → P y → P w → Contains (x ∷ y ∷ w ∷ []) z → P z
-three P x y w z first second third (zero, low, e) = subst P e first
-three P x y w z first second third (suc zero, low, e) = subst P e second
-three P x y w z first second third (suc (suc zero), low, e) = subst P e third
-three P x y w z first second third (suc (suc (suc k)), low, e) = absurd (omega arith)
 
 -- DECLARATIONS
 

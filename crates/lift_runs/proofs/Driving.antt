@@ -20,6 +20,7 @@ use Rattle.lift_run_laws.specs.Tasks.{IsTaskOf}
 use Rattle.lift_journal.specs.Rounds.{Happen, Scans, ScanEach, IsRound, Rounds, counting_from, is_fire_in, scan_entries, tasks_in_order}
 use Rattle.lift_journal.proofs.Taking.{happen_one, happen_more, press_taken, gather_taken}
 use Rattle.lift_runs.specs.Driven.{call_of, calls_in, ArePressed, AreTasks}
+use Rattle.lift_spec.proofs.Interlock.{filter_fits as filtered_length}
 
 -- LISTS
 
@@ -43,14 +44,6 @@ filter_append p (x ∷ xs) ys = by (p x) (filter_append p xs ys)
     by : (b : Bool) → filter p (xs ++ ys) ≡ filter p xs ++ filter p ys → (if b then x ∷ filter p (xs ++ ys) else filter p (xs ++ ys)) ≡ (if b then x ∷ filter p xs else filter p xs) ++ filter p ys
     by true rest = ap (λ l. x ∷ l) rest
     by false rest = rest
-
-filtered_length : (p : ℕ → Bool) (xs : List ℕ) → length (filter p xs) ≤ length xs
-filtered_length p [] = omega arith
-filtered_length p (x ∷ xs) = by (p x) (filtered_length p xs)
-  where
-    by : (b : Bool) → length (filter p xs) ≤ length xs → length (if b then x ∷ filter p xs else filter p xs) ≤ length (x ∷ xs)
-    by true rest = omega (arith, rest)
-    by false rest = omega (arith, rest)
 
 pub counting_next : (first k : ℕ) → counting_from first (k + 1) ≡ counting_from first k ++ (first + k) ∷ []
 counting_next first zero = let same : first ≡ first + 0 = omega arith in ap (λ n. n ∷ []) same

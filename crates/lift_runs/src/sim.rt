@@ -22,7 +22,6 @@ use crate::scan::scan;
 use il_machine::Verified;
 use il_spec::fault::Refusal;
 use lift_host::press::Press;
-use lift_image::{Fields, Sizes};
 use lift_journal::entered::calls_of;
 use lift_journal::fire::is_fire_in;
 use lift_plant::plant::{Plant, plant_step};
@@ -30,6 +29,7 @@ use lift_spec::calls::Call;
 use lift_spec::event::Event;
 use lift_spec::journal::Entry;
 use lift_spec::report::Report;
+use lift_spec::{Fields, Sizes};
 use lift_world::World;
 use std::alloc::{AllocError, Global};
 
@@ -40,7 +40,7 @@ pub struct Drive<'d> {
     pub fire: Option<u16>,
 }
 
-/// The call of a press.
+// The call of a press.
 fn call_of(press: &Press) -> Call
     requires from { press.now.from ≤ 255 }
     requires to { press.now.to ≤ 255 }
@@ -52,7 +52,7 @@ fn call_of(press: &Press) -> Call
     }
 }
 
-/// The presses of a round, in their order.
+// The presses of a round, in their order.
 fn press_all(world: &mut World, presses: &[Press], round: u16, report: &mut Report)
     requires calls { ArePressed (sizes_of world.old.program.config) presses.now }
     ensures taken { Happen world.old.program.config world.old.world (map PressOf (calls_in presses.now round)) world.new.world }
@@ -78,7 +78,7 @@ pub fn gather_all(world: &mut World, report: &mut Report)
     }
 }
 
-/// The presses of a round, and the gatherings. Where there is no press at all, there is nothing to gather.
+// The presses of a round, and the gatherings. Where there is no press at all, there is nothing to gather.
 fn desk(world: &mut World, presses: &[Press], round: u16, report: &mut Report)
     requires calls { ArePressed (sizes_of world.old.program.config) presses.now }
     requires idle { presses.now ≡ [] → world.old.world.desk ≡ [] }
@@ -93,7 +93,7 @@ fn desk(world: &mut World, presses: &[Press], round: u16, report: &mut Report)
     gather_all(world, report);
 }
 
-/// A refresh with fields in range, and its entry.
+// A refresh with fields in range, and its entry.
 fn refresh(
     world: &mut World,
     fields: Fields,
@@ -115,7 +115,7 @@ fn refresh(
     }
 }
 
-/// A scan of each of the tasks in a round, and their entries.
+// A scan of each of the tasks in a round, and their entries.
 fn scan_all<O: Observer>(
     world: &mut World,
     number: u16,
@@ -141,7 +141,7 @@ fn scan_all<O: Observer>(
     Ok(())
 }
 
-/// One round: its presses and gatherings, a step of the plant, a refresh, and a scan of each task.
+// One round: its presses and gatherings, a step of the plant, a refresh, and a scan of each task.
 fn round<O: Observer>(
     world: &mut World,
     plant: Plant,
@@ -175,7 +175,7 @@ fn round<O: Observer>(
     Ok(plant)
 }
 
-/// The tasks that the group has, in the order in which a round runs them: CAR1 to CARn, and then GROUP.
+// The tasks that the group has, in the order in which a round runs them: CAR1 to CARn, and then GROUP.
 fn tasks_of(alloc: Global, verified: &Verified) -> Result<Vec<u8>, AllocError>
     ensures { IfOk result (λ tasks. tasks.items ≡ tasks_in_order verified.now.config) }
 {
@@ -192,7 +192,7 @@ fn tasks_of(alloc: Global, verified: &Verified) -> Result<Vec<u8>, AllocError>
     Ok(tasks)
 }
 
-/// So many rounds of a world that opens.
+// So many rounds of a world that opens.
 fn run_rounds<O: Observer>(
     world: &mut World,
     drive: Drive<'_>,

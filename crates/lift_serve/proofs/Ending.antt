@@ -4,8 +4,8 @@ use Rattle.std.specs.Io.KnownBytes.{Appends, Consumes}
 use Rattle.il_spec.specs.declared.tree.Config.{Config}
 use Rattle.il_machine.specs.Scanning.{Program}
 use Rattle.lift_spec.specs.World.{World, opening}
-use Rattle.lift_sink.specs.Writes.{AppendsFront}
-use Rattle.lift_sink.proofs.Known.{appends_more}
+use Rattle.lift_host.specs.Writes.{AppendsFront}
+use Rattle.lift_host.proofs.Known.{appends_more}
 use Rattle.lift_trace.specs.Text.{text_of_lines}
 use Rattle.lift_serve.specs.declared.group.Halt.TheVariants as halt
 use Rattle.lift_serve.specs.declared.input.Came.TheVariants.{Whole, Ended, TooLong, Failed}

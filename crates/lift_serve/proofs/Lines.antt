@@ -5,8 +5,8 @@ use Rattle.std.proofs.lemmas.List.{append_assoc}
 use Rattle.il_spec.specs.declared.tree.Config.{Config}
 use Rattle.il_machine.specs.Scanning.{Program}
 use Rattle.lift_spec.specs.World.{World}
-use Rattle.lift_sink.specs.Writes.{AppendsFront}
-use Rattle.lift_sink.proofs.Known.{appends_more}
+use Rattle.lift_host.specs.Writes.{AppendsFront}
+use Rattle.lift_host.proofs.Known.{appends_more}
 use Rattle.lift_trace.specs.Reading.{IsOneLine}
 use Rattle.lift_trace.specs.Text.{text_of_lines}
 use Rattle.lift_trace.proofs.Texts.{text_append}

@@ -5,8 +5,8 @@ use Rattle.std.specs.Io.KnownBytes.{Appends}
 use Rattle.std.proofs.lemmas.List.{append_assoc}
 use Rattle.il_spec.specs.declared.tree.Config.{Config}
 use Rattle.lift_spec.specs.World.{World}
-use Rattle.lift_sink.specs.Writes.{AppendsFront}
-use Rattle.lift_sink.proofs.Known.{appends_more}
+use Rattle.lift_host.specs.Writes.{AppendsFront}
+use Rattle.lift_host.proofs.Known.{appends_more}
 use Rattle.lift_serve.specs.declared.said.Said.{Said}
 use Rattle.lift_serve.specs.declared.server.ServeFault.{ServeFault}
 use Rattle.lift_serve.specs.declared.server.ServeFault.TheVariants as fault

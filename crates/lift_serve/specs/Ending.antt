@@ -3,7 +3,7 @@ use Rattle.std.specs.Prelude.{◌≡◌, ℕ, Bool, false, List, [], ◌∷◌, 
 use Rattle.std.specs.Io.KnownBytes.{Appends}
 use Rattle.il_spec.specs.declared.tree.Config.{Config}
 use Rattle.lift_spec.specs.World.{World, opening}
-use Rattle.lift_sink.specs.Writes.{AppendsFront}
+use Rattle.lift_host.specs.Writes.{AppendsFront}
 use Rattle.lift_trace.specs.declared.format.Format.TheVariants.{Two}
 use Rattle.lift_spec.specs.declared.trace.TraceEvent.{TraceEvent}
 use Rattle.lift_journal.specs.Rounds.{TakesAll}

@@ -14,9 +14,9 @@ ghost use Rattle.lift_serve.specs.Answers.{notice_line, outputs_line, press_line
 
 use crate::answer::{put_notices, put_outputs, put_press};
 use crate::said::Said;
-use lift_image::Fields;
 use lift_round::notice::Notices;
 use lift_round::round;
+use lift_spec::Fields;
 use lift_spec::calls::Call;
 use lift_spec::event::Event;
 use lift_spec::report::Report;
@@ -30,7 +30,7 @@ pub struct Scratch {
     pub report: Report,
 }
 
-/// A round, and what is answered of it.
+// A round, and what is answered of it.
 fn act_round(
     world: &mut World,
     tasks: &[u8],
@@ -61,7 +61,7 @@ fn act_round(
     put_outputs(text, outputs.as_slice())
 }
 
-/// A press, and what is answered to it.
+// A press, and what is answered to it.
 fn act_press(
     world: &mut World,
     call: Call,

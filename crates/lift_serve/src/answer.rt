@@ -6,14 +6,14 @@ ghost use Rattle.lift_spec.specs.Replies.{reply_with};
 ghost use Rattle.lift_trace.specs.Text.{flag};
 ghost use Rattle.lift_serve.specs.Answers.{entered_line, denied_line, told_line, served_line, notice_line, output_part, outputs_line, press_line, press_word};
 
-use lift_image::{CarOutputs, Motor};
 use lift_round::notice::Notice;
 use lift_spec::calls::Call;
 use lift_spec::event::Reply;
 use lift_spec::report::{Denial, EnteredCall, Report, Rule};
+use lift_spec::{CarOutputs, Motor};
 use std::alloc::AllocError;
 
-/// A motor as a number: 1 is up, -1 is down.
+// A motor as a number: 1 is up, -1 is down.
 fn number_of(motor: Motor) -> i8
     ensures { result ≡ motor_number motor }
 {
@@ -24,7 +24,7 @@ fn number_of(motor: Motor) -> i8
     }
 }
 
-/// 1 or 0.
+// 1 or 0.
 fn digit(set: bool) -> &'static str
     ensures { result.now ≡ flag set ∷ [] }
 {
@@ -119,7 +119,7 @@ pub(crate) fn put_notices(text: &mut String, notices: &[Notice]) -> Result<(), A
     Ok(())
 }
 
-/// What became of a press.
+// What became of a press.
 fn put_word(text: &mut String, reply: Reply, report: &Report) -> Result<(), AllocError>
     ensures { OnOk result (string_bytes text.new ≡ string_bytes text.old ++ press_word (reply_with reply report.now)) }
 {

@@ -2,13 +2,13 @@
 
 ghost use Rattle.std.specs.Prelude.{◌≡◌, OnOk, IfErr};
 ghost use Rattle.std.specs.Io.KnownBytes.{Appends, Consumes};
-ghost use Rattle.lift_sink.specs.Writes.{AppendsFront};
+ghost use Rattle.lift_host.specs.Writes.{AppendsFront};
 ghost use Rattle.lift_serve.specs.Ending.{Ends, IsEnded, IsHalted, IsHaltWritten};
 
 use crate::serve::{Stop, Stopped, serve};
 use crate::server::{ServeFault, Server};
 use il_machine::Verified;
-use lift_sink::sink::{Sink, put_all};
+use lift_host::sink::{Sink, put_all};
 use std::alloc::Global;
 use std::io::Read;
 
@@ -53,7 +53,7 @@ pub fn serve_group<R: Read, O: Sink, T: Sink>(
     }
 }
 
-/// Writes the stop, unless it was the output that failed.
+// Writes the stop, unless it was the output that failed.
 fn write_stop<O: Sink>(stop: Stop, text: &[u8], out: &mut O)
     ensures { IsHaltWritten stop (O.contents out.old) (O.contents out.new) (O.has_failed out.new) text.now }
 {
@@ -63,7 +63,7 @@ fn write_stop<O: Sink>(stop: Stop, text: &[u8], out: &mut O)
     }
 }
 
-/// Writes the stop.
+// Writes the stop.
 fn put_stop<O: Sink>(text: &[u8], out: &mut O)
     ensures { Ends (O.contents out.old) (O.contents out.new) (O.has_failed out.new) text.now }
 {

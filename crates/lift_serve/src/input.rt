@@ -5,7 +5,7 @@ ghost use Rattle.lift_serve.specs.Coming.{ByteComes, LineComes};
 
 use std::io::{ErrorKind, Read};
 
-/// What came: a byte, the end of the input, or an error of the reader.
+// What came: a byte, the end of the input, or an error of the reader.
 #[derive(Clone, Copy)]
 enum NextByte {
     Of(u8),
@@ -22,10 +22,10 @@ pub enum Came {
     Failed,
 }
 
-/// The most bytes of a line, without its line feed.
+// The most bytes of a line, without its line feed.
 const MOST: usize = 128;
 
-/// The next byte. A read that a signal interrupts is tried again.
+// The next byte. A read that a signal interrupts is tried again.
 fn next_byte<R: Read>(reader: &mut R) -> NextByte
     ensures { ByteComes result (R.remaining reader.old) (R.remaining reader.new) }
 {

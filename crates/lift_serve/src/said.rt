@@ -5,9 +5,9 @@ ghost use Rattle.lift_spec.specs.Image.{sizes_of};
 ghost use Rattle.lift_serve.specs.Saying.{IsSpelled, IsTaken, said_line, Says, SaysNothing, is_call};
 ghost use Rattle.lift_serve.specs.declared.said.Said.{Said as SaidOf};
 
-use lift_image::{Fields, Sizes, in_range, is_floor};
 use lift_spec::calls::Call;
 use lift_spec::trace::TraceEvent;
+use lift_spec::{Fields, Sizes, in_range, is_floor};
 use lift_trace::event::event;
 use lift_trace::format::Format;
 use lift_world::World;
@@ -36,7 +36,7 @@ pub(crate) fn is_call(call: Call, sizes: Sizes) -> bool
     is_floor(call.from, sizes) && is_floor(call.to, sizes) && call.from != call.to
 }
 
-/// Whether the fields of a round lie in their ranges.
+// Whether the fields of a round lie in their ranges.
 fn is_taken(world: &World, said: &Said) -> bool
     ensures { IsTrue result ↔ IsTaken world.now.program.config said.now }
 {
@@ -66,7 +66,7 @@ fn is_end(line: &[u8]) -> bool
     line == b"E".as_slice()
 }
 
-/// What a line spells, whether or not its fields are in range.
+// What a line spells, whether or not its fields are in range.
 fn spelled(world: &World, line: &[u8]) -> Option<Said>
     ensures found { IfSome result (λ said. IsSpelled world.now.program.config said × (line.now ≡ said_line said)) }
     ensures none { IfNone result ((said : SaidOf) → IsSpelled world.now.program.config said → line.now ≡ said_line said → ⊥) }

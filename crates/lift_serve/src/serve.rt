@@ -2,12 +2,12 @@
 
 ghost use Rattle.std.specs.Prelude.{◌≡◌, ◌≤◌, OnOk, IfErr, vec_capacity};
 ghost use Rattle.std.specs.Io.KnownBytes.{Appends, Consumes};
-ghost use Rattle.lift_sink.specs.Writes.{AppendsFront};
+ghost use Rattle.lift_host.specs.Writes.{AppendsFront};
 ghost use Rattle.lift_serve.specs.Serving.{IsServer, IsServed, IsStopped};
 
 use crate::input::{Came, next_line};
 use crate::server::{ServeFault, Server};
-use lift_sink::sink::Sink;
+use lift_host::sink::Sink;
 use std::io::Read;
 
 /// Why serving ends before the end was said.
@@ -28,7 +28,7 @@ pub struct Stopped {
     pub line: u64,
 }
 
-/// So many lines can be counted, and the number of the one behind them.
+// So many lines can be counted, and the number of the one behind them.
 const MOST_LINES: u64 = 18_446_744_073_709_551_614;
 
 /// Answers each line of a reader before it reads the next, up to the end.

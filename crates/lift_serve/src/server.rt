@@ -5,7 +5,7 @@ ghost use Rattle.std.specs.Io.KnownBytes.{Appends};
 ghost use Rattle.lift_spec.specs.World.{opening};
 ghost use Rattle.lift_spec.specs.declared.trace.TraceEvent.TheVariants.{Gather};
 ghost use Rattle.lift_spec.specs.Image.{sizes_of, FieldsInRange, Obeys};
-ghost use Rattle.lift_sink.specs.Writes.{AppendsFront};
+ghost use Rattle.lift_host.specs.Writes.{AppendsFront};
 ghost use Rattle.lift_trace.specs.Text.{last_line};
 ghost use Rattle.lift_trace.specs.Writing.{events_text};
 ghost use Rattle.lift_journal.specs.Rounds.{TakesAll, counting_from};
@@ -20,11 +20,11 @@ use crate::said::{Said, WrongLine, is_call, read_said};
 use il_machine::Verified;
 use il_spec::fault::Refusal;
 use itoa::Buffer;
-use lift_image::{Bounded, Sizes};
+use lift_host::sink::{Sink, put_all};
 use lift_round::notice::Notices;
 use lift_round::tasks_in;
-use lift_sink::sink::{Sink, put_all};
 use lift_spec::report::Report;
+use lift_spec::{Bounded, Sizes};
 use lift_world::World;
 use std::alloc::{AllocError, Global};
 
@@ -74,7 +74,7 @@ impl Drop for Server {
     }
 }
 
-/// The lines that are traced of the gatherings of a round.
+// The lines that are traced of the gatherings of a round.
 #[tactic(auto, unfolding(lift_trace::specs::Text::line_of))]
 fn gathers_text(alloc: Global, floors: u8) -> Result<String, AllocError>
     ensures { IfOk result (λ text. string_bytes text ≡ events_text (map Gather (counting_from 1 floors))) }
@@ -101,7 +101,7 @@ fn put_scan(text: &mut String, task: u8) -> Result<(), AllocError>
     writeln!(text, "C {}", task)
 }
 
-/// The lines that are traced of a scan of each of some tasks.
+// The lines that are traced of a scan of each of some tasks.
 fn scans_text(alloc: Global, tasks: &[u8]) -> Result<String, AllocError>
     ensures { IfOk result (λ text. string_bytes text ≡ events_text (flat_map scan_events tasks.now)) }
 {
@@ -129,7 +129,7 @@ fn put_end(traced: &mut Vec<u8>, count: u64) -> Result<(), AllocError>
     Ok(traced.push(b'\n')?)
 }
 
-/// What is traced of a line, by the texts of its group.
+// What is traced of a line, by the texts of its group.
 fn put_said(
     traced: &mut Vec<u8>,
     gathers: &[u8],
@@ -189,7 +189,7 @@ impl Server {
         })
     }
 
-    /// How many events are traced of it.
+    // How many events are traced of it.
     fn events_in(&self, said: &Said) -> u64
         requires { IsServer self.now }
         ensures { result ≡ length (events_of self.now.world.program.config said.now) }
@@ -204,7 +204,7 @@ impl Server {
         }
     }
 
-    /// What a line says is traced.
+    // What a line says is traced.
     fn trace_said<T: Sink>(
         &mut self,
         line: &[u8],
@@ -248,7 +248,7 @@ impl Server {
         Ok(())
     }
 
-    /// What is said is done, and answered.
+    // What is said is done, and answered.
     fn answer_said<O: Sink>(&mut self, said: Said, out: &mut O) -> Result<(), ServeFault>
         requires server { IsServer self.old }
         requires numbers { IsSpelled self.old.world.program.config said }
@@ -310,7 +310,7 @@ impl Server {
     }
 }
 
-/// The outputs of a world, as a line.
+// The outputs of a world, as a line.
 fn stop_of(alloc: Global, world: &World) -> Result<String, AllocError>
     ensures line { IfOk result (λ text. string_bytes text ≡ outputs_line world.now.world.group.image.outputs) }
     ensures short { IfOk result (λ text. length (string_bytes text) ≤ greatest_answer) }
@@ -322,7 +322,7 @@ fn stop_of(alloc: Global, world: &World) -> Result<String, AllocError>
     Ok(text)
 }
 
-/// Whether it is the end.
+// Whether it is the end.
 fn is_last(said: &Said) -> bool
     ensures { result ≡ is_end said.now }
 {

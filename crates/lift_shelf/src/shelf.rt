@@ -97,7 +97,7 @@ impl Shelf {
         Ok(text.lines().filter(|line| line.starts_with(start)).count())
     }
 
-    /// The bytes of the file to which is added.
+    // The bytes of the file to which is added.
     fn last(&mut self) -> io::Result<&mut Vec<u8>> {
         match self.files.last_mut() {
             Some(file) => Ok(&mut file.bytes),

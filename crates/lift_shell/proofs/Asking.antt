@@ -9,7 +9,7 @@ use Rattle.lift_host.specs.declared.request.Request.TheVariants as request
 use Rattle.lift_host.specs.declared.request.Simulating.TheVariants as simulating
 use Rattle.lift_host.specs.Requests.{Asks, with_flag}
 use Rattle.lift_shell.specs.Runs.{AskForRun, IsAnswerOf, IsFileAnswer, IsForRun, asked, runs}
-use Rattle.lift_show.specs.Outputs.{Outcome}
+use Rattle.lift_messages.specs.Outputs.{Outcome}
 
 -- a request that is `run` with its flag is `run`
 runs_plain : (words : List (List ℕ)) (flag : Bool) (asked : Request) → Asks words asked → runs (with_flag flag asked) ≡ true → AskForRun words

@@ -2,10 +2,10 @@
 use Rattle.std.proofs.Common.{◌≡◌, ◌⊎◌, ◌++◌, ℕ, List, [], Bool, true, Ok, Err, IfOk, IfErr, inl, inr, sym, refl, ap, ◌∙◌}
 use Rattle.std.specs.Io.KnownBytes.{Appends, Keeps}
 use Rattle.lift_host.specs.Messages.{status_of, message_of}
-use Rattle.lift_show.specs.declared.output.Output.{Output}
+use Rattle.lift_messages.specs.declared.output.Output.{Output}
 use Rattle.lift_shell.specs.Runs.{Held, HasPrinted}
-use Rattle.lift_show.specs.Outputs.{Outcome, Warns, bytes_of}
-use Rattle.lift_sink.specs.Writes.{AppendsFront, Writes}
+use Rattle.lift_messages.specs.Outputs.{Outcome, Warns, bytes_of}
+use Rattle.lift_host.specs.Writes.{AppendsFront, Writes}
 use Rattle.lift_host.specs.declared.status.Fault.{Fault}
 use Rattle.lift_host.specs.declared.status.Fault.TheVariants as fault
 use Rattle.lift_host.specs.declared.status.Status.{Status}

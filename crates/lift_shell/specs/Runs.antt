@@ -17,11 +17,11 @@ use Rattle.lift_host.specs.declared.status.Status.TheVariants as status
 use Rattle.lift_host.specs.Messages.{fault_of_reading, message_of, status_of, text_of, cause_sentence}
 use Rattle.lift_host.specs.Requests.{Asks, BeginsWithDigit, name_of, with_flag}
 use Rattle.lift_help.specs.Helps.{ask_for_help}
-use Rattle.lift_show.specs.declared.output.Output.{Output}
-use Rattle.lift_show.specs.Outputs.{Outcome, Warns, bytes_of, warnings_of}
-use Rattle.lift_sink.specs.Writes.{AppendsFront, Writes}
-use Rattle.lift_source.specs.Notices.{word_notice, file_notice, plain_notice}
-use Rattle.lift_source.specs.Places.{IsShownBelow}
+use Rattle.lift_messages.specs.declared.output.Output.{Output}
+use Rattle.lift_messages.specs.Outputs.{Outcome, Warns, bytes_of, warnings_of}
+use Rattle.lift_host.specs.Writes.{AppendsFront, Writes}
+use Rattle.lift_messages.specs.Notices.{word_notice, file_notice, plain_notice}
+use Rattle.lift_messages.specs.Places.{IsShownBelow}
 use Rattle.lift_shell.specs.Cuts.{completed}
 
 -- the bytes of a file that are read: one more than a text may have

@@ -6,12 +6,12 @@ ghost use Rattle.lift_host.specs.declared.files.Reading.{Reading};
 ghost use Rattle.lift_host.specs.declared.request.Request.{Request};
 ghost use Rattle.lift_host.specs.declared.status.Fault.TheVariants.{CannotWrite};
 ghost use Rattle.lift_shell.specs.Runs.{runs};
-ghost use Rattle.lift_show.specs.Outputs.{Outcome};
+ghost use Rattle.lift_messages.specs.Outputs.{Outcome};
 
 use lift_host::files::Reading;
 use lift_host::request::{Request, Simulating};
 use lift_host::status::Fault;
-use lift_show::output::Output;
+use lift_messages::output::Output;
 use std::alloc::Global;
 use std::sync::Wait;
 use std::thread::Threads;

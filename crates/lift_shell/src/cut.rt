@@ -7,7 +7,7 @@ use itoa::Buffer;
 use memchr::memrchr;
 use std::alloc::AllocError;
 
-/// How many bytes the whole lines of a text take.
+// How many bytes the whole lines of a text take.
 fn whole_length(text: &[u8]) -> usize
     ensures is { result ≡ whole_length text.now }
     ensures within { result ≤ length text.now }
@@ -18,7 +18,7 @@ fn whole_length(text: &[u8]) -> usize
     }
 }
 
-/// The last one of whole lines.
+// The last one of whole lines.
 fn last_line(lines: &[u8]) -> &[u8]
     ensures { result.now ≡ last_line lines.now }
 {
@@ -26,21 +26,21 @@ fn last_line(lines: &[u8]) -> &[u8]
     &lines[whole_length(front)..]
 }
 
-/// Whether no end is put behind whole lines.
+// Whether no end is put behind whole lines.
 fn have_end(lines: &[u8]) -> bool
     ensures { result ≡ have_end lines.now }
 {
     lines.is_empty() || begins_with_e(last_line(lines))
 }
 
-/// Whether a line is the last of a trace, by its first letter.
+// Whether a line is the last of a trace, by its first letter.
 fn begins_with_e(line: &[u8]) -> bool
     ensures { result ≡ (slice_index line.now 0 == 69) }
 {
     matches!(line, [b'E', ..])
 }
 
-/// How many lines there are.
+// How many lines there are.
 fn line_count(lines: &[u8]) -> usize
     ensures { result ≡ count_by is_feed lines.now }
 {
@@ -60,7 +60,7 @@ pub(crate) fn complete(text: &mut Vec<u8>) -> Result<(), AllocError>
     put_end(text, lines)
 }
 
-/// The line at the end of a trace of so many lines.
+// The line at the end of a trace of so many lines.
 fn put_end(text: &mut Vec<u8>, lines: usize) -> Result<(), AllocError>
     ensures { OnOk result (text.new.items ≡ text.old.items ++ end_line lines) }
 {

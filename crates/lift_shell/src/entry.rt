@@ -3,7 +3,7 @@
 use lift_host::status::Fault;
 use std::{env, io};
 
-/// In bytes: more than any block that is reserved for a text.
+// In bytes: more than any block that is reserved for a text.
 const LARGE_BLOCK: usize = 4 * 1024 * 1024;
 
 /// The words of the command line, without the program's name.
@@ -14,7 +14,7 @@ pub fn words(rt: &HostRuntime) -> Result<Vec<String>, Fault> {
     }
 }
 
-/// Why words can't be read: an allocation failed, or one of them is no text.
+// Why words can't be read: an allocation failed, or one of them is no text.
 fn unread(rt: &HostRuntime, kind: io::ErrorKind) -> Fault {
     match kind {
         io::ErrorKind::OutOfMemory => Fault::NoMemory,

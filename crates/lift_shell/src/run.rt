@@ -4,8 +4,8 @@ ghost use Rattle.std.specs.Prelude.{◌≡◌, ◌≢◌, ◌||◌, ◌↔◌, [
 ghost use Rattle.lift_host.specs.Messages.{fault_of_reading};
 ghost use Rattle.lift_host.specs.Requests.{name_of};
 ghost use Rattle.lift_shell.specs.Runs.{AskForRun, IsForRun, IsAnswerOf, IsFileAnswer, IsWordsOutcome, IsTraceRead, IsTraceText, IsTraceFault, IsExplained, IsOutcomeExplained, IsFaultBelow, IsUnreadBelow, IsLateName, HasPrinted, stream, most_bytes, most_trace_bytes, runs, source_of, trace_name, press_sentence};
-ghost use Rattle.lift_source.specs.Notices.{word_notice};
-ghost use Rattle.lift_source.specs.Places.{IsShownBelow};
+ghost use Rattle.lift_messages.specs.Notices.{word_notice};
+ghost use Rattle.lift_messages.specs.Places.{IsShownBelow};
 
 use crate::commands::{Commands, runs};
 use crate::cut::complete;
@@ -13,12 +13,12 @@ use crate::explained::Explained;
 use lift_help::command::{Answer, answer_of};
 use lift_host::files::{ReadFault, Reading, TextFiles};
 use lift_host::request::{Plain, Request, Simulating, Traced, asked, is_number};
+use lift_host::sink::Sink;
 use lift_host::status::{Fault, Status};
-use lift_show::output::Output;
-use lift_show::show::show;
-use lift_sink::sink::Sink;
-use lift_source::notice::{file_notice, plain_notice, word_notice};
-use lift_source::place::below;
+use lift_messages::notice::{file_notice, plain_notice, word_notice};
+use lift_messages::output::Output;
+use lift_messages::place::below;
+use lift_messages::show::show;
 use lift_trace::read::GREATEST_TRACE;
 use std::alloc::{AllocError, Global};
 use std::sync::Wait;
@@ -67,14 +67,14 @@ pub fn run_alone<F: TextFiles, C: Commands, O: Sink, E: Sink>(
     }
 }
 
-/// The outcome of words, and what stands below its fault.
+// The outcome of words, and what stands below its fault.
 #[derive(Drop)]
 struct Answered {
     outcome: Result<Output, Fault>,
     below: Vec<u8>,
 }
 
-/// The answer to words.
+// The answer to words.
 fn answer<R: Threads + Wait + Sync, F: TextFiles, C: Commands>(
     rt: &R,
     alloc: Global,
@@ -95,7 +95,7 @@ fn answer<R: Threads + Wait + Sync, F: TextFiles, C: Commands>(
     }
 }
 
-/// The answer to words without threads; of words that ask for `run` the request.
+// The answer to words without threads; of words that ask for `run` the request.
 fn answer_alone<'w, F: TextFiles, C: Commands>(
     alloc: Global,
     words: &'w Plain,
@@ -130,7 +130,7 @@ pub fn is_wanted(always: bool, said: bool) -> bool
     always || said
 }
 
-/// The outcome of words that ask for nothing.
+// The outcome of words that ask for nothing.
 fn outcome_of_words(alloc: Global, words: &[String]) -> Result<Output, Fault>
     ensures is { IsWordsOutcome (map string_bytes words.now) result }
     ensures unwritten { result ≢ Err Fault.CannotWrite }
@@ -142,7 +142,7 @@ fn outcome_of_words(alloc: Global, words: &[String]) -> Result<Output, Fault>
     }
 }
 
-/// The answer to a request that isn't `run`.
+// The answer to a request that isn't `run`.
 fn file_answer<F: TextFiles, C: Commands>(
     alloc: Global,
     request: Request<'_>,
@@ -163,7 +163,7 @@ fn file_answer<F: TextFiles, C: Commands>(
     }
 }
 
-/// The answer to `run`.
+// The answer to `run`.
 fn run_answer<R: Threads + Wait + Sync, F: TextFiles, C: Commands>(
     rt: &R,
     alloc: Global,
@@ -185,14 +185,14 @@ fn run_answer<R: Threads + Wait + Sync, F: TextFiles, C: Commands>(
     }
 }
 
-/// What was read of the files of a request.
+// What was read of the files of a request.
 #[derive(Drop)]
 struct Texts {
     text: Vec<u8>,
     trace: Reading,
 }
 
-/// Reads the files of a request: FILE, and the trace, if it has one.
+// Reads the files of a request: FILE, and the trace, if it has one.
 fn read_texts<F: TextFiles>(
     alloc: Global,
     request: Request<'_>,
@@ -207,7 +207,7 @@ fn read_texts<F: TextFiles>(
     Ok(Texts { text, trace })
 }
 
-/// An outcome, with what stands below it.
+// An outcome, with what stands below it.
 fn with_below(
     alloc: Global,
     request: Request<'_>,
@@ -240,7 +240,7 @@ impl From<Explained> for Answered {
     }
 }
 
-/// The answer where FILE can't be read.
+// The answer where FILE can't be read.
 fn unread_answer(alloc: Global, request: Request<'_>, why: ReadFault, wanted: bool) -> Answered
     ensures is { IsOutcomeExplained wanted (λ _. IsUnreadBelow (name_of request.entry) why) (Err (fault_of_reading why)) result.outcome result.below.items }
     ensures unwritten { result.outcome ≢ Err Fault.CannotWrite }
@@ -248,7 +248,7 @@ fn unread_answer(alloc: Global, request: Request<'_>, why: ReadFault, wanted: bo
     Answered::from(unread_explained(alloc, request.file(), why, wanted))
 }
 
-/// What is read of the trace of a request, which another has none of.
+// What is read of the trace of a request, which another has none of.
 fn trace_of<F: TextFiles>(alloc: Global, request: Request<'_>, files: &F) -> Reading
     ensures { IsTraceRead (F.gives files.now) (F.fails files.now) request.entry result }
 {
@@ -261,7 +261,7 @@ fn trace_of<F: TextFiles>(alloc: Global, request: Request<'_>, files: &F) -> Rea
     }
 }
 
-/// What is read of a trace, up to its last whole line where it may be cut off.
+// What is read of a trace, up to its last whole line where it may be cut off.
 fn read_trace<F: TextFiles>(
     alloc: Global,
     traced: Traced<'_>,
@@ -277,7 +277,7 @@ fn read_trace<F: TextFiles>(
     Ok(text)
 }
 
-/// A fault of a request, with what stands below it, where that is wanted; `NoMemory` where memory for that is missing.
+// A fault of a request, with what stands below it, where that is wanted; `NoMemory` where memory for that is missing.
 fn fault_explained(
     alloc: Global,
     request: Request<'_>,
@@ -296,7 +296,7 @@ fn fault_explained(
     }
 }
 
-/// What stands below a fault.
+// What stands below a fault.
 fn fault_below(
     alloc: Global,
     request: Request<'_>,
@@ -332,7 +332,7 @@ const NO_PRESS: &str =
 
 const LATE_NAME: &str = "the names of `watch` stand before the presses";
 
-/// The line of a refusal in what was read, and what its number means.
+// The line of a refusal in what was read, and what its number means.
 fn refusal_below(
     alloc: Global,
     request: Request<'_>,
@@ -347,7 +347,7 @@ fn refusal_below(
     below(alloc, source.name, source.text, number, line)
 }
 
-/// What is wrong with a word that is no press.
+// What is wrong with a word that is no press.
 fn press_below(alloc: Global, request: Request<'_>, word: &str) -> Result<Vec<u8>, AllocError>
     ensures { IfOk result (λ below. (late : Bool) × (IsTrue late ↔ IsLateName request.entry word.now) × (below.items ≡ word_notice word.now (press_sentence late))) }
 {
@@ -361,7 +361,7 @@ fn press_sentence(late: bool) -> &'static str
     if late { LATE_NAME } else { NO_PRESS }
 }
 
-/// Whether a word among the presses looks like a name of `watch`.
+// Whether a word among the presses looks like a name of `watch`.
 fn is_late_name(request: Request<'_>, word: &str) -> bool
     ensures { IsTrue result ↔ IsLateName request.entry word.now }
 {
@@ -387,7 +387,7 @@ pub fn unread_explained(alloc: Global, name: &str, why: ReadFault, wanted: bool)
     }
 }
 
-/// What stands below a FILE that can't be read.
+// What stands below a FILE that can't be read.
 fn unread_below(alloc: Global, name: &str, why: ReadFault) -> Result<Vec<u8>, AllocError>
     ensures { IfOk result (λ below. IsUnreadBelow name.now why below.items) }
 {
@@ -397,17 +397,17 @@ fn unread_below(alloc: Global, name: &str, why: ReadFault) -> Result<Vec<u8>, Al
     }
 }
 
-/// A file, and what was read of it.
+// A file, and what was read of it.
 #[derive(Clone, Copy)]
 struct Source<'w> {
     name: &'w str,
     text: &'w [u8],
 }
 
-/// The least number that a trace is refused with, or one of its events.
+// The least number that a trace is refused with, or one of its events.
 const LEAST_OF_TRACE: u16 = 60;
 
-/// The file to which the number of a refusal belongs.
+// The file to which the number of a refusal belongs.
 fn source_of<'w>(
     number: u16,
     request: Request<'w>,
@@ -429,7 +429,7 @@ fn source_of<'w>(
     }
 }
 
-/// The name of the trace of a request.
+// The name of the trace of a request.
 fn trace_name(request: Request<'_>) -> &str
     ensures { result.now ≡ trace_name request.entry }
 {

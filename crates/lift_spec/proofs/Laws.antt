@@ -17,7 +17,7 @@ use Rattle.il_run.specs.State.{State}
 use Rattle.il_run.specs.Scan.{has_ended}
 use Rattle.lift_spec.specs.World.{World, TaskState, Next, ChangesScanOnly, stepped, instructs, instructs_in, instructs_scan, scan_at, task_at, happens}
 
-both_true : (a b : Bool) → (a && b) ≡ true → (a ≡ true) × (b ≡ true)
+pub both_true : (a b : Bool) → (a && b) ≡ true → (a ≡ true) × (b ≡ true)
 both_true true true h = (refl, refl)
 both_true true false h = false_true h
 both_true false b h = false_true h

@@ -30,9 +30,3 @@ reply_with answer.Already report = Already
 reply_with (answer.Gathered mask) report = Gathered mask
 reply_with answer.Held report = Held
 reply_with (answer.Refused fault) report = Refused fault
-
--- whether an answer has a report beside it
-abbrev pub HasReport : Answer → Type 0
-HasReport answer.Committed = Unit {0}
-HasReport answer.Refreshed = Unit {0}
-HasReport _ = ⊥

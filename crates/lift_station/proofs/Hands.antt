@@ -11,8 +11,8 @@ use Rattle.lift_desk.specs.Account.{times, membership}
 use Rattle.lift_desk.specs.Passes.{AreCalls, IsPart}
 use Rattle.lift_desk.proofs.Sums.{times-append}
 use Rattle.lift_journal.proofs.Orders.{Before, Each, before_all, order_right}
-use Rattle.lift_run_laws.proofs.Lists.{both_true}
 use Rattle.std.proofs.lemmas.Bool.{and_left, and_right}
+use Rattle.lift_spec.proofs.Laws.{both_true}
 
 same_self : (c : Call) → same_call c c ≡ true
 same_self c = grind (arith, nat_tests)

@@ -22,11 +22,11 @@ use crate::passes::TaskPass;
 use crate::tally::Tally;
 use il_machine::{OpenScan, Scanned, Store, Verified};
 use lift_book::Book;
-use lift_image::{Fields, Image};
 use lift_journal::fault::StationFault;
 use lift_plant::plant::{Plant, plant_step};
 use lift_spec::hand::Hand;
 use lift_spec::report::Report;
+use lift_spec::{Fields, Image};
 use std::marker::Model;
 
 /// What lies under the lock: the book, the totals, the plant, which is at the journal's end where all refreshes came from it, and the tally

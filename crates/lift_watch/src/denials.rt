@@ -51,7 +51,7 @@ impl Observer for Denials {
     }
 }
 
-/// The denials of a refresh.
+// The denials of a refresh.
 fn put_refresh(
     text: &mut String,
     all: bool,
@@ -81,7 +81,7 @@ fn put_refresh_denial(
     }
 }
 
-/// Whether a rule stops a running car at an end of its shaft.
+// Whether a rule stops a running car at an end of its shaft.
 fn is_end_stop(rule: Rule) -> bool
     ensures { result ≡ is_end_stop rule }
 {
@@ -95,7 +95,7 @@ fn is_end_stop(rule: Rule) -> bool
     }
 }
 
-/// The denials of a commit.
+// The denials of a commit.
 fn put_denials(text: &mut String, round: u16, denials: &[Denial]) -> Result<(), AllocError>
     ensures { OnOk result (string_bytes text.new ≡ string_bytes text.old ++ denials_text round denials.now) }
 {
@@ -145,7 +145,7 @@ fn put_answer(
     }
 }
 
-/// `round R commit TASK slot S answer`.
+// `round R commit TASK slot S answer`.
 #[tactic(auto, unfolding(crate::specs::Denials::undone_text))]
 fn put_undone(
     text: &mut String,
@@ -161,7 +161,7 @@ fn put_undone(
     writeln!(text, " slot {} {}", slot, answer)
 }
 
-/// The name of a task: 0 is GROUP, k is CARk.
+// The name of a task: 0 is GROUP, k is CARk.
 fn put_task(text: &mut String, task: u8) -> Result<(), AllocError>
     ensures { OnOk result (string_bytes text.new ≡ string_bytes text.old ++ task_name task) }
 {

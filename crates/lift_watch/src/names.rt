@@ -45,7 +45,7 @@ pub enum Watched<'n> {
     Global(&'n str),
 }
 
-/// A task, and what stands behind its name and a period.
+// A task, and what stands behind its name and a period.
 #[derive(Clone, Copy)]
 struct InTask<'n> {
     task: u8,
@@ -53,7 +53,7 @@ struct InTask<'n> {
 }
 
 impl Shared {
-    /// The name of a word.
+    // The name of a word.
     fn of(word: &str) -> Option<Shared>
         ensures some { IfSome result (λ shared. word.now ≡ word_of_shared shared) }
         ensures none { IsNone result → (shared : Shared) → word.now ≡ word_of_shared shared → ⊥ }
@@ -68,7 +68,7 @@ impl Shared {
 }
 
 impl CarName {
-    /// The name of a word.
+    // The name of a word.
     fn of(word: &str) -> Option<CarName>
         ensures some { IfSome result (λ name. word.now ≡ word_of_car_name name) }
         ensures none { IsNone result → (name : CarName) → word.now ≡ word_of_car_name name → ⊥ }
@@ -120,7 +120,7 @@ pub fn read(name: &str) -> Watched<'_>
     }
 }
 
-/// What a name stands for behind that of a task.
+// What a name stands for behind that of a task.
 fn read_in(task: u8, rest: &str) -> Watched<'_>
     ensures { IsReadIn task rest.now result }
 {
@@ -130,7 +130,7 @@ fn read_in(task: u8, rest: &str) -> Watched<'_>
     }
 }
 
-/// The task whose name stands before the first period.
+// The task whose name stands before the first period.
 fn in_task(name: &str) -> Option<InTask<'_>>
     ensures some { IfSome result (λ it. IsInTask name.now it.task it.rest.now) }
     ensures none { IsNone result → (task : ℕ) (rest : List ℕ) → IsInTask name.now task rest → ⊥ }
@@ -140,7 +140,7 @@ fn in_task(name: &str) -> Option<InTask<'_>>
     Some(InTask { task, rest })
 }
 
-/// The task of a name.
+// The task of a name.
 fn task_of(word: &str) -> Option<u8>
     ensures some { IfSome result (λ task. (task ≤ 8) × (word.now ≡ task_name task)) }
     ensures none { IsNone result → (task : ℕ) → task ≤ 8 → word.now ≡ task_name task → ⊥ }

@@ -7,9 +7,9 @@ ghost use Rattle.lift_watch.specs.Values.{shared_value, value_in_car, car_value_
 use crate::names::{CarName, Shared, Watched, read};
 use il_machine::Value;
 use lift_host::status::Fault;
-use lift_image::{CarFields, CarOutputs, Fields, Image, Motor};
 use lift_runs::observer::Observer;
 use lift_spec::report::Report;
+use lift_spec::{CarFields, CarOutputs, Fields, Image, Motor};
 use lift_world::World;
 use lists::Items;
 use std::alloc::{AllocError, Global};
@@ -57,7 +57,7 @@ impl Observer for Watch<'_> {
     }
 }
 
-/// What names stand for, where each has a value.
+// What names stand for, where each has a value.
 fn watched_of<'n>(
     alloc: Global,
     world: &World,
@@ -77,7 +77,7 @@ fn watched_of<'n>(
     Ok(watched)
 }
 
-/// The line of the names.
+// The line of the names.
 fn header(alloc: Global, names: &[String]) -> Result<String, AllocError>
     ensures { IfOk result (λ text. string_bytes text ≡ header_text (map string_bytes names.now)) }
 {
@@ -97,7 +97,7 @@ fn put_names(text: &mut String, names: &[String]) -> Result<(), AllocError>
     Ok(())
 }
 
-/// The number of the round, and the values.
+// The number of the round, and the values.
 fn put_row(
     text: &mut String,
     round: u16,
@@ -131,7 +131,7 @@ fn put_value(text: &mut String, value: Option<Value>) -> Result<(), AllocError>
     }
 }
 
-/// The value in a world.
+// The value in a world.
 fn value_of(world: &World, watched: Watched<'_>) -> Option<Value>
     ensures { result ≡ value_of watched.entry world.now.world }
 {
@@ -153,7 +153,7 @@ fn shared_value(fields: &Fields, name: Shared) -> Value
     }
 }
 
-/// The value of a car's name; cars count from 1.
+// The value of a car's name; cars count from 1.
 fn car_value(image: &Image, car: u8, name: CarName) -> Option<Value>
     ensures { result ≡ car_value_in car name image.now }
 {
@@ -178,7 +178,7 @@ fn value_in_car(name: CarName, fields: &CarFields, outputs: &CarOutputs) -> Valu
     }
 }
 
-/// A motor as a number: 1 is up, -1 is down.
+// A motor as a number: 1 is up, -1 is down.
 fn number_of(motor: Motor) -> i64
     ensures { result ≡ motor_number motor }
 {

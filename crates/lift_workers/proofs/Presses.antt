@@ -15,10 +15,7 @@ use Rattle.lift_host.specs.declared.press.Press.{Press}
 use Rattle.lift_runs.specs.Driven.{call_of}
 use Rattle.lift_spec.specs.declared.calls.Call.{Call}
 use Rattle.lift_workers.specs.Panels.{IsPressAt, is_at, calls_at, HasPressed, IsIdle, at_panel, pressed}
-
-both_true : (a b : Bool) → (a && b) ≡ true → (a ≡ true) × (b ≡ true)
-both_true true b e = (refl, e)
-both_true false b e = cc
+use Rattle.lift_spec.proofs.Laws.{both_true}
 
 -- CALLS OF A PANEL
 

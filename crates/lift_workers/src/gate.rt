@@ -36,7 +36,7 @@ impl Gate for Open {
     fn gives_up(&self, _rt: &impl Wait) {}
 }
 
-/// How far a run is.
+// How far a run is.
 #[derive(Clone, Copy, Drop)]
 struct Progress {
     /// How many refreshes were made.

@@ -19,7 +19,7 @@ use crate::{panel, refresher, task};
 use il_machine::Verified;
 use lift_desk::{Desk, DeskClosed, HandPass, PanelPass};
 use lift_host::press::Press;
-use lift_image::Sizes;
+use lift_spec::Sizes;
 use lift_spec::journal::Entry;
 use lift_station::{Blanks, Closed, Naming, RefreshPass, Station, TaskPass};
 use std::alloc::{AllocError, Global};
@@ -55,7 +55,7 @@ pub struct Passes<G: Naming> {
     pub panels: Vec<PanelPass>,
 }
 
-/// The panels whose workers were started, and those that nobody presses.
+// The panels whose workers were started, and those that nobody presses.
 #[derive(Drop)]
 struct Panels<'p> {
     pressed: Vec<PanelHandle<'p>>,
@@ -303,7 +303,7 @@ fn run_at<G: Naming + Send + Sync, T: Gate + Sync, R: Threads + Wait + Sync>(
     }
 }
 
-/// A desk as it opens, with all passes.
+// A desk as it opens, with all passes.
 #[derive(Drop)]
 struct Opened {
     desk: Desk,

@@ -4,7 +4,7 @@ use Rattle.std.specs.Prelude.{slice_set}
 use Rattle.il_spec.specs.declared.tree.Config.{Config}
 use Rattle.il_run.specs.State.{Values}
 use Rattle.il_run.specs.Scan.{restricted}
-use Rattle.il_slots.specs.Layout.{Rows}
+use Rattle.il_layout.specs.Layout.{Rows}
 use Rattle.il_machine.specs.Scanning.{variables_in}
 use Rattle.lift_spec.specs.declared.image.Image.{Image}
 use Rattle.lift_spec.specs.declared.image.Fields.{Fields}

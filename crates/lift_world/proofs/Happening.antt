@@ -57,9 +57,6 @@ first_not a b e = ap (λ x. x && b) e
 pub second_not : (a b : Bool) → a ≡ true → b ≡ false → (a && b) ≡ false
 second_not a b e f = rw (e, f) refl
 
-pub both_so : (a b : Bool) → a ≡ true → b ≡ true → (a && b) ≡ true
-both_so a b e f = rw (e, f) refl
-
 pub same_so : (a b : ℕ) → a ≡ b → (a == b) ≡ true
 same_so a b e = grind (arith, nat_tests)
 

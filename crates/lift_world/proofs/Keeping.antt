@@ -2,7 +2,7 @@
 use Rattle.std.proofs.Common.{◌≡◌, ℕ, inl, inr, List, length, Option, Some, sym, ap, ◌∙◌, subst}
 use Rattle.std.specs.Prelude.{slice_get, slice_set, is_some}
 use Rattle.il_spec.specs.declared.tree.Config.{Config}
-use Rattle.il_slots.specs.Layout.{Rows}
+use Rattle.il_layout.specs.Layout.{Rows}
 use Rattle.il_machine.specs.Scanning.{OwnsDeclared, FitsOwn, variables_in}
 use Rattle.il_machine.specs.Standing.{Standing, IsOf}
 use Rattle.lift_spec.specs.World.{TaskState, flat}

@@ -5,7 +5,7 @@ use Rattle.il_spec.specs.declared.tree.Config.{Config}
 use Rattle.il_spec.specs.declared.tree.Unit.{Unit as Organized}
 use Rattle.il_run.specs.State.{Values}
 use Rattle.il_run.specs.Scan.{opening_variables}
-use Rattle.il_slots.specs.Layout.{Rows}
+use Rattle.il_layout.specs.Layout.{Rows}
 use Rattle.il_machine.specs.Scanning.{HasTask, variables_in}
 use Rattle.il_machine.specs.Standing.{Standing, IsOf}
 use Rattle.lift_spec.specs.Image.{sizes_of}

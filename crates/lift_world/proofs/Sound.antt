@@ -17,12 +17,12 @@ use Rattle.lift_run_laws.proofs.Accepted.{accepted_runs_well}
 use Rattle.lift_run_laws.proofs.Histories.{accepted_calls_go_well, event_is_run}
 use Rattle.lift_run_laws.proofs.Following.{goes_on}
 use Rattle.il_machine.specs.Scanning.{Program, IsRunnable}
-use Rattle.il_budget.specs.Costs.{cost_of}
+use Rattle.il_verify.specs.Costs.{cost_of}
 use Rattle.il_machine.specs.Listing.{TaskLine, task_line}
 use Rattle.il_machine.proofs.Lines.{prints_budgets}
 use Rattle.il_machine.proofs.Shown.{lists_tasks}
 use Rattle.il_machine.proofs.Scans.{sound_of}
-use Rattle.il_cost_laws.proofs.Accepted.{has_longest}
+use Rattle.il_scan_laws.proofs.Accepted.{has_longest}
 use Rattle.il_scan_laws.proofs.Named.{found_unit}
 use Rattle.il_scan_laws.proofs.Meant.{program_is}
 use Rattle.lift_world.specs.Worlds.{PrintsEachBudget}

@@ -4,7 +4,7 @@ use Rattle.il_spec.specs.declared.tree.Config.{Config}
 use Rattle.il_run.specs.State.{Values}
 use Rattle.il_machine.specs.Scanning.{IsRunnable, OwnsDeclared, FitsOwn, variables_in}
 use Rattle.il_machine.specs.Sharing.{globals_in, FitsGlobals}
-use Rattle.il_slots.specs.Layout.{Rows}
+use Rattle.il_layout.specs.Layout.{Rows}
 use Rattle.lift_spec.specs.Image.{sizes_of, Obeys}
 use Rattle.lift_spec.specs.World.{Group, TaskState, flat, committed_group, InRanges}
 use Rattle.lift_spec.specs.declared.image.Image.{Image}

@@ -3,7 +3,7 @@ use Rattle.std.specs.Prelude.{◌≡◌, ◌≢◌, ℕ, ◌≤◌, [], map, Opt
 use Rattle.std.specs.Coded.{Coded, code_by, coded×}
 use Rattle.il_spec.specs.declared.tree.Config.{Config}
 use Rattle.il_spec.specs.declared.tree.Unit.{Unit as Organized}
-use Rattle.il_budget.specs.Costs.{cost_of}
+use Rattle.il_verify.specs.Costs.{cost_of}
 use Rattle.il_run.specs.Scan.{Reaches}
 use Rattle.il_run.specs.Step.{step, Next}
 use Rattle.il_machine.specs.Listing.{TaskLine, task_line}

@@ -6,7 +6,7 @@ ghost use Rattle.lift_spec.specs.Settle.{denials_of};
 ghost use Rattle.lift_spec.specs.World.{flat, serve_with, serve_wish, tell_with, tell_all};
 
 use lift_calls::book::CallBook;
-use lift_image::Bounded;
+use lift_spec::Bounded;
 use lift_spec::calls::{Answer, Entering};
 use lift_spec::hand::Hand;
 use lift_spec::report::{Answered, Denial, EnteredCall, Rule};

@@ -21,11 +21,11 @@ use crate::held::{Held, refresh};
 use crate::replies::Replies;
 use il_machine::{Stepped, Store, Value, Verified, finish, step};
 use il_spec::pair::both;
-use lift_image::{Fields, Image, in_range, is_floor};
 use lift_spec::calls::Call;
 use lift_spec::event::{Event, EventFault, Reply};
 use lift_spec::hand::Hand;
 use lift_spec::report::Report;
+use lift_spec::{Fields, Image, in_range, is_floor};
 use std::alloc::{AllocError, Global};
 
 /// A lift group: its verified configuration, what its tasks share, where each task's scan stands, the calls on the desk and those

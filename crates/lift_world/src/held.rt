@@ -7,7 +7,7 @@ ghost use Rattle.lift_spec.specs.Image.{sizes_of, FieldsInRange};
 ghost use Rattle.lift_spec.specs.World.{refreshed_group};
 
 use crate::group::Core;
-use lift_image::Fields;
+use lift_spec::Fields;
 use lift_spec::hand::Hand;
 use lift_spec::report::Report;
 use std::marker::Model;

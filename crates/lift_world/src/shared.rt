@@ -6,7 +6,7 @@ ghost use Rattle.il_table.specs.NameMap as values;
 ghost use Rattle.il_run.specs.Ranges.{HoldGlobals};
 ghost use Rattle.il_run.specs.Scan.{restricted};
 ghost use Rattle.lift_world.specs.declared.shared.Seat.{Seat as SeatOf};
-ghost use Rattle.il_slots.specs.Layout.{Rows as RowsOf};
+ghost use Rattle.il_layout.specs.Layout.{Rows as RowsOf};
 ghost use Rattle.il_machine.specs.Scanning.{FitsOwn, OwnsDeclared, variables_in};
 ghost use Rattle.il_machine.specs.Standing.{IsOf};
 ghost use Rattle.lift_spec.specs.Image.{sizes_of, FieldsInRange};
@@ -22,11 +22,11 @@ use crate::taking::{take_fields, take_outputs};
 use crate::tickets::Tickets;
 use il_machine::{Begin, FirstRows, Rows, Store, Value, Verified, opening_image, variable};
 use lift_calls::book::CallBook;
-use lift_image::{Bounded, Fields, Image, Motor};
 use lift_interlock::{settle_car, settle_each};
 use lift_spec::calls::Slot;
 use lift_spec::hand::Hand;
 use lift_spec::report::Report;
+use lift_spec::{Bounded, Fields, Image, Motor};
 use std::alloc::{AllocError, Global};
 
 /// A task: its variables as its last commit left them, and the tickets of the call slots that its open scan saw, if it has one.

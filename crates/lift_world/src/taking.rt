@@ -2,7 +2,7 @@
 
 ghost use Rattle.std.specs.Prelude.{◌≡◌, true};
 
-use lift_image::{Bounded, CarFields, CarOutputs, Fields, Motor, Outputs};
+use lift_spec::{Bounded, CarFields, CarOutputs, Fields, Motor, Outputs};
 
 // Whether two motors are the same.
 fn is_same_motor(one: Motor, other: Motor) -> bool

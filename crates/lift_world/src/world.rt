@@ -21,10 +21,10 @@ use crate::controller::Controller;
 use crate::replies::Replies;
 use il_machine::{Value, Verified};
 use il_spec::fault::Refusal;
-use lift_image::{Bounded, Image, Sizes};
 use lift_spec::calls::Slot;
 use lift_spec::event::{Event, EventFault, Reply};
 use lift_spec::report::Report;
+use lift_spec::{Bounded, Image, Sizes};
 use std::alloc::Global;
 use std::marker::Model;
 

@@ -13,13 +13,9 @@ use Rattle.il_machine.specs.Scanning.{Program}
 use Rattle.il_machine.specs.Listing.{TaskLine, UnitLine, task_by, task_of, program_line_of, unit_of, unit_lines, is_task_name, task_among, task_line, task_order, tasks_of}
 use Rattle.lift_spec.specs.Snapshot.{task_name}
 use Rattle.liftplc_c.specs.Budgets.{named_line}
+use Rattle.il_parse.proofs.Ascii.{both_true as first_of_and}
 
 -- NAMES
-
-first_of_and : (a b : Bool) → (a && b) ≡ true → (a ≡ true) × (b ≡ true)
-first_of_and true true e = (refl, refl)
-first_of_and true false e = cc
-first_of_and false b e = cc
 
 named : (name : Text) (n : ℕ) → is_task_name name n ≡ true → (n ≤ 8) × (name ≡ task_name n)
 named name n is =

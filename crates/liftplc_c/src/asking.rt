@@ -11,17 +11,17 @@ use il_machine::verified::is_task_name;
 use il_machine::{TaskInfo, Verified};
 use std::alloc::Global;
 
-/// The version of these exports.
+// The version of these exports.
 const VERSION: u32 = 1;
 
-/// The first task that is listed under the name of a number.
+// The first task that is listed under the name of a number.
 fn listed(verified: &Verified, task: u8) -> Option<TaskInfo<'_>>
     ensures { option_map task_shown result ≡ named_line verified.now task }
 {
     verified.tasks().find(|line| is_task_name(line.name, task))
 }
 
-/// Its budget, or 0.
+// Its budget, or 0.
 fn listed_budget(verified: &Verified, task: u8) -> u32
     ensures { result ≡ budget_in (named_line verified.now task) }
 {
@@ -31,7 +31,7 @@ fn listed_budget(verified: &Verified, task: u8) -> u32
     }
 }
 
-/// The budget of a task, the greatest number of instructions of a scan, or 0: GROUP is 0, CARk is k.
+// The budget of a task, the greatest number of instructions of a scan, or 0: GROUP is 0, CARk is k.
 fn task_budget(verified: &Verified, task: u8) -> u32
     ensures listed { result ≡ budget_in (task_line verified.now task) }
     ensures budget { (u : Organized) → IsTaskOf verified.now.config task u → result ≡ budget_of verified.now.config task }

@@ -3,7 +3,7 @@
 ghost use Rattle.std.specs.Prelude.{◌≡◌, ◌≤◌, is_some, IfSome};
 ghost use Rattle.liftplc_c.specs.Inputs.{are_taken, car_of, fields_of};
 
-use lift_image::{Bounded, CarFields, Fields, Sizes, in_range};
+use lift_spec::{Bounded, CarFields, Fields, Sizes, in_range};
 
 /// What C reports of a car: the floor that it is at or next to, and its five sensors.
 #[repr(C)]
@@ -41,7 +41,7 @@ fn car_of(car: CarInput) -> CarFields
     }
 }
 
-/// The fields of so many cars as are counted.
+// The fields of so many cars as are counted.
 fn fields_of(fields: &FieldsInput) -> Fields
     requires { fields.now.car_count ≤ 8 }
     ensures { result ≡ fields_of fields.now }

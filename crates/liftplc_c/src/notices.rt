@@ -19,7 +19,7 @@ pub struct NoticeOutput {
     pub to: u8,
 }
 
-/// A notice of a ticket and a car.
+// A notice of a ticket and a car.
 fn of_car(kind: u8, ticket: u64, car: u8) -> NoticeOutput
     ensures { result ≡ record { ticket = ticket; kind = kind; car = car; rule = 0; slot = 0; from = 0; to = 0 } }
 {

@@ -27,7 +27,7 @@ pub struct TextRefusal {
     pub line: u32,
 }
 
-/// The world of a text as it opens.
+// The world of a text as it opens.
 fn opened(alloc: Global, text: &[u8]) -> Result<Box<Rounds, Global>, Refusal>
     ensures accepted { IfOk result (λ b. IsAccepted text.now b.value.world.program.config) }
     ensures runs { IfOk result (λ b. RunsWell b.value.world.program.config) }

@@ -4,9 +4,9 @@ ghost use Rattle.std.specs.Prelude.{◌≡◌, ◌≤◌, length, map, take};
 ghost use Rattle.liftplc_c.specs.Outputs.{car_output, slot_output, TellsCars, TellsNotices, TellsSlots};
 
 use crate::notices::{NoticeOutput, put_notices};
-use lift_image::{CarOutputs, Motor};
 use lift_round::notice::Notices;
 use lift_spec::calls::Slot;
+use lift_spec::{CarOutputs, Motor};
 use lift_world::World;
 
 /// What a car is to do: 1 is up, -1 is down, 0 is still; and whether its door is to be open.
@@ -82,7 +82,7 @@ fn slot_output(slot: Slot) -> SlotOutput
     }
 }
 
-/// The outputs of the cars go to the front of the room, car 1 first.
+// The outputs of the cars go to the front of the room, car 1 first.
 fn put_cars(room: &mut [CarOutput], cars: &[CarOutputs])
     requires { length cars.now ≤ length room.old }
     ensures { take (length cars.now) room.new ≡ map car_output cars.now }
@@ -92,7 +92,7 @@ fn put_cars(room: &mut [CarOutput], cars: &[CarOutputs])
     }
 }
 
-/// How many call slots the group has.
+// How many call slots the group has.
 fn slot_count(world: &World) -> u8
     ensures count { result ≡ length world.now.world.group.calls.slots }
     ensures few { result ≤ 64 }
@@ -102,7 +102,7 @@ fn slot_count(world: &World) -> u8
     world.sizes().slots
 }
 
-/// The call slots, of which there are so many, go to the front of the room, slot 1 first.
+// The call slots, of which there are so many, go to the front of the room, slot 1 first.
 fn put_slots(room: &mut [SlotOutput], world: &World, count: u8)
     requires count { count ≡ length world.now.world.group.calls.slots }
     requires room { count ≤ length room.old }

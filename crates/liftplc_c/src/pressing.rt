@@ -16,7 +16,7 @@ use lift_spec::calls::Call;
 use lift_spec::event::{Event, EventFault, Reply};
 use std::alloc::Global;
 
-/// A press is refused for a floor that the group doesn't have, or for a call to its own floor.
+// A press is refused for a floor that the group doesn't have, or for a call to its own floor.
 fn refusal_status(fault: EventFault) -> u32
     ensures { result ≡ refusal_status fault }
 {
@@ -37,7 +37,7 @@ fn press_status(reply: Reply) -> u32
     }
 }
 
-/// A press: the status of what is answered to it.
+// A press: the status of what is answered to it.
 fn press(rounds: &mut Rounds, call: Call) -> u32
     requires { Rests rounds.old.world.world }
     ensures pressed { (answer : AnswerOf) × Presses call rounds.old.world rounds.new.world answer × (result ≡ press_status answer) }

@@ -12,11 +12,11 @@ use crate::handle::Handle;
 use crate::history::led;
 use crate::outputs::{RoundOutputs, put};
 use crate::status::Status;
-use lift_image::Fields;
 use lift_round::kept::Rounds;
+use lift_spec::Fields;
 use std::alloc::Global;
 
-/// A round under fields in their ranges, and what it left.
+// A round under fields in their ranges, and what it left.
 fn go_round(rounds: &mut Rounds, fields: Fields, outputs: &mut RoundOutputs)
     requires inside { FieldsInRange (sizes_of rounds.old.world.program.config) fields }
     requires rests { Rests rounds.old.world.world }
@@ -27,7 +27,7 @@ fn go_round(rounds: &mut Rounds, fields: Fields, outputs: &mut RoundOutputs)
     put(outputs, &rounds.world, &rounds.notices);
 }
 
-/// A round, if the fields lie in their ranges: whether they did.
+// A round, if the fields lie in their ranges: whether they did.
 fn step(rounds: &mut Rounds, fields: &FieldsInput, outputs: &mut RoundOutputs) -> bool
     requires { Rests rounds.old.world.world }
     ensures answered { result ≡ are_taken (sizes_of rounds.old.world.program.config) fields.now }

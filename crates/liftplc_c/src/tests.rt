@@ -9,7 +9,7 @@ use crate::outputs::{CarOutput, RoundOutputs, SlotOutput};
 use crate::pressing::liftplc_press;
 use crate::stepping::liftplc_round;
 
-/// A car that stays where it is, and no GROUP.
+// A car that stays where it is, and no GROUP.
 const IDLE: &[u8] = b"PROGRAM IDLE
 END_PROGRAM
 CONFIGURATION SHAFT
@@ -21,7 +21,7 @@ END_RESOURCE
 END_CONFIGURATION
 ";
 
-/// A car at floor 1, shut and locked.
+// A car at floor 1, shut and locked.
 fn fields() -> FieldsInput {
     let car = CarInput {
         pos: 1,
@@ -40,7 +40,7 @@ fn fields() -> FieldsInput {
     }
 }
 
-/// Outputs that no round has written yet.
+// Outputs that no round has written yet.
 fn no_outputs() -> RoundOutputs {
     let car = CarOutput {
         motor: 1,

@@ -15,7 +15,7 @@ use lift_spec::report::Report;
 use std::alloc::{AllocError, Global};
 use std::io::Print;
 
-/// How many entries the journal has room for: those of a refresh and of a scan.
+// How many entries the journal has room for: those of a refresh and of a scan.
 const ENTRIES: usize = 3;
 
 // A refresh: whether it is done.

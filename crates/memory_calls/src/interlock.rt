@@ -3,12 +3,12 @@
 ghost use Rattle.std.specs.Prelude.{◌≡◌, length};
 
 use crate::text::FLOORS;
-use lift_image::{
+use lift_interlock::{commit_keeps_obeying, refresh_gives_obeying, settle_all, settle_car};
+use lift_plant::plant::{Plant, plant_step, step_is_safe};
+use lift_spec::{
     Bounded, CarFields, CarOutputs, Fields, Image, Motor, Outputs, Sizes, in_range, is_floor,
     range_is_tested,
 };
-use lift_interlock::{commit_keeps_obeying, refresh_gives_obeying, settle_all, settle_car};
-use lift_plant::plant::{Plant, plant_step, step_is_safe};
 
 const SIZES: Sizes = Sizes {
     cars: 2,

@@ -8,6 +8,7 @@ mod desk;
 mod group;
 mod interlock;
 mod lines;
+mod numbers;
 mod program;
 mod scans;
 mod station;
@@ -27,6 +28,14 @@ use std::sync::Wait;
 // The calls of values.
 fn of_values<R: Print>(rt: &R) {
     no_allocation(rt);
+    print(
+        rt,
+        "Interval::add, sub, mul, div, mod_, abs, min, max, limit, join, within, narrow",
+        &numbers::ranges(),
+    );
+    print(rt, "sr, rs, r_trig, f_trig", &numbers::flags());
+    print(rt, "ctu, ctd, ctud", &numbers::counters());
+    print(rt, "ton, tof, tp", &numbers::timers());
     print(rt, "CallBook::enter, tell, serve", &calls::changes());
     print(
         rt,

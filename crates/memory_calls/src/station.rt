@@ -17,7 +17,7 @@ use std::io::Print;
 use std::marker::Brand;
 use std::sync::Wait;
 
-/// How many entries the journal has room for: those of two refreshes and of three scans.
+// How many entries the journal has room for: those of two refreshes and of three scans.
 const ENTRIES: usize = 8;
 
 // A refresh by the plant, and one with the fields that the image then has: whether they are done, and how many calls are left in the hand.

@@ -1,7 +1,7 @@
 // The calls that write and read a trace.
 
 use crate::lines::print;
-use lift_sink::sink::Memory;
+use lift_host::sink::Memory;
 use lift_spec::journal::Entry;
 use lift_trace::fault::TraceFault;
 use lift_trace::read::read_trace;

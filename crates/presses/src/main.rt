@@ -11,7 +11,7 @@ use std::sync::Wait;
 use std::thread::{JoinHandle, Scope, Threads};
 use std::{env, io, thread};
 
-/// How many presses were answered so.
+// How many presses were answered so.
 #[derive(Clone, Copy)]
 struct Answers {
     new: u64,

@@ -10,10 +10,10 @@ use std::sync::Wait;
 use std::thread::Threads;
 use std::{io, str};
 
-/// The file that is the standard input of a run.
+// The file that is the standard input of a run.
 const INPUT: &str = "input";
 
-/// The file that has the trace which the last run of `serve` wrote, if it wrote one.
+// The file that has the trace which the last run of `serve` wrote, if it wrote one.
 const TRACE: &str = "traced";
 
 /// What the lines so far have made: the files, and how many bytes the standard output of the next
@@ -70,7 +70,7 @@ impl Cases {
         }
     }
 
-    /// Runs the program on the words of a line.
+    // Runs the program on the words of a line.
     fn outcome<R: Threads + Wait + Sync>(&mut self, rt: &R, line: &str) -> io::Result<Outcome> {
         let words = words_of(self.alloc, line)?;
         let input = self.shelf.bytes(INPUT);
@@ -84,8 +84,8 @@ impl Cases {
     }
 }
 
-/// Prints the words of a run, its exit status and all that it wrote. A `\` stands for the end of an
-/// output that ends within a line, and `! ` before each line of the standard error.
+// Prints the words of a run, its exit status and all that it wrote. A `\` stands for the end of an
+// output that ends within a line, and `! ` before each line of the standard error.
 fn write_run<W: Write + Drop>(line: &str, outcome: &Outcome, to: &mut W) -> io::Result<()> {
     write!(to, "{line} -> {}\n", outcome.status.code())?;
     write_output(outcome.out.bytes(), to)?;
@@ -110,7 +110,7 @@ fn write_errors<W: Write + Drop>(bytes: &[u8], to: &mut W) -> io::Result<()> {
     Ok(())
 }
 
-/// Prints the words of a run, its exit status and where it wrote something.
+// Prints the words of a run, its exit status and where it wrote something.
 fn write_status<W: Write + Drop>(line: &str, outcome: &Outcome, to: &mut W) -> io::Result<()> {
     write!(to, "{line} -> {}", outcome.status.code())?;
     if !outcome.out.bytes().is_empty() {

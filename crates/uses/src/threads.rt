@@ -13,10 +13,10 @@ use std::marker::Brand;
 use std::sync::Wait;
 use std::thread::{Threads, join};
 
-/// How many scans each car runs.
+// How many scans each car runs.
 const SCANS: u32 = 100;
 
-/// Two entries for each scan of both cars.
+// Two entries for each scan of both cars.
 const ENTRIES: usize = 400;
 
 // Runs the scans of one car, until one is refused.

@@ -6,7 +6,7 @@ use lift_calls::book::CallBook;
 use lift_calls::{Answer, Call, Entering, Sizes, Slot};
 use std::process::Abort;
 
-/// A call of the book, with its answer.
+// A call of the book, with its answer.
 #[derive(Clone, Copy)]
 enum Step {
     Enter(Call, Entering),
@@ -28,7 +28,7 @@ fn book_of(slots: u8) -> CallBook
     })
 }
 
-/// Makes the calls in turn, and compares the answers.
+// Makes the calls in turn, and compares the answers.
 fn follow(rt: &impl Abort, book: &mut CallBook, steps: &[Step]) {
     for step in steps {
         match *step {

@@ -212,10 +212,10 @@ fn refreshed_at(alloc: Global, text: &[u8]) -> Result<Option<Entering>, Refusal>
     Ok(left?)
 }
 
-/// From floor 1 to 2.
+// From floor 1 to 2.
 const ASCENT: Call = Call { from: 1, to: 2 };
 
-/// From floor 2 to 1.
+// From floor 2 to 1.
 const DESCENT: Call = Call { from: 2, to: 1 };
 
 #[test]

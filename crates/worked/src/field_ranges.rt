@@ -1,6 +1,6 @@
 // Fields in range and outside.
 
-use lift_image::{Bounded, CarFields, Fields, Sizes, in_range};
+use lift_spec::{Bounded, CarFields, Fields, Sizes, in_range};
 
 fn fields(pos: u8, run_limit: u8, time: u32) -> Fields {
     let mut cars = Bounded::new();

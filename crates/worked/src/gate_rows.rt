@@ -11,13 +11,13 @@ use std::test::Fail;
 use std::thread;
 use std::time::{Clock, Duration};
 
-/// How often a held worker looks whether the other has got on, and how many milliseconds it sleeps between.
+// How often a held worker looks whether the other has got on, and how many milliseconds it sleeps between.
 const TURNS: u32 = 1000;
 
 const TURN: u64 = 10;
 
-/// Holds car 2 after its first start until car 1 has started, and car 1 until car 2 has committed; once one has waited for so many turns,
-/// it holds nobody.
+// Holds car 2 after its first start until car 1 has started, and car 1 until car 2 has committed; once one has waited for so many turns,
+// it holds nobody.
 #[derive(Drop)]
 struct HoldsCars<'c, C: Clock + Sync> {
     clock: &'c C,
@@ -84,7 +84,7 @@ fn cars_run_at_once(rt: HostRuntime) -> Result<(), Fail> {
     Ok(())
 }
 
-/// Whether entries are a refresh, and then a start and a commit of each of two cars.
+// Whether entries are a refresh, and then a start and a commit of each of two cars.
 fn is_round(entries: &[Entry]) -> bool {
     let [Entry::Refresh { .. }, behind @ ..] = entries else {
         return false;
@@ -92,7 +92,7 @@ fn is_round(entries: &[Entry]) -> bool {
     [1, 2].iter().all(|car| has_scanned(behind, *car))
 }
 
-/// Whether a task was started and committed in the entries, once.
+// Whether a task was started and committed in the entries, once.
 fn has_scanned(entries: &[Entry], task: u8) -> bool {
     let mut starts = 0u8;
     let mut commits = 0u8;

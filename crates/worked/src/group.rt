@@ -1,11 +1,11 @@
 // Groups made from texts, and what events leave of them.
 
 use il_spec::fault::Refusal;
-use lift_image::{Bounded, CarFields, Fields};
 use lift_load::load;
 use lift_spec::calls::{Call, Slot};
 use lift_spec::event::{Event, Reply};
 use lift_spec::report::{EnteredCall, Report};
+use lift_spec::{Bounded, CarFields, Fields};
 use lift_world::{Replies, World};
 use std::alloc::{AllocError, Global};
 use std::mem;

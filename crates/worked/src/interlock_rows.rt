@@ -2,9 +2,9 @@
 
 ghost use Rattle.std.specs.Prelude.{◌≡◌, length};
 
-use lift_image::{Bounded, CarFields, CarOutputs, Fields, Image, Motor, Outputs};
 use lift_interlock::{commit_keeps_obeying, refresh_gives_obeying, settle_all, settle_car};
 use lift_spec::report::{Denial, Rule};
+use lift_spec::{Bounded, CarFields, CarOutputs, Fields, Image, Motor, Outputs};
 
 // A car at a level, between the ends.
 fn car(locked: bool) -> CarFields {

@@ -34,6 +34,4 @@ mod texts;
 #[cfg(test)]
 mod token_places;
 #[cfg(test)]
-mod value_rows;
-#[cfg(test)]
 mod world_rows;

@@ -2,8 +2,8 @@
 
 ghost use Rattle.std.specs.Prelude.{◌≡◌, length};
 
-use lift_image::{CarFields, CarOutputs, Motor, Outputs};
 use lift_plant::plant::{Plant, plant_step, step_is_safe};
+use lift_spec::{CarFields, CarOutputs, Motor, Outputs};
 
 // The outputs of a group of one car.
 fn outputs_of(motor: Motor, opens: bool) -> Outputs

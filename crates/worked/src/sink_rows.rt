@@ -2,14 +2,14 @@
 
 ghost use Rattle.std.specs.Prelude.{Some};
 
-use lift_image::{Bounded, CarFields, Fields};
-use lift_sink::sink::{Sink, SinkFault};
+use lift_host::sink::{Sink, SinkFault};
 use lift_spec::hand::Hand;
 use lift_spec::journal::Entry;
+use lift_spec::{Bounded, CarFields, Fields};
 use lift_trace::fault::TraceFault;
 use lift_trace::write::write_trace;
 
-/// A sink that takes a byte a call, so often as calls are left, and then fails.
+// A sink that takes a byte a call, so often as calls are left, and then fails.
 #[derive(Drop)]
 struct ByteByByte {
     taken: Vec<u8>,
@@ -35,7 +35,7 @@ impl Sink for ByteByByte {
     }
 }
 
-/// What one car reports at floor 1.
+// What one car reports at floor 1.
 fn fields() -> Fields {
     let mut cars = Bounded::new();
     cars.push(CarFields {

@@ -3,8 +3,8 @@
 use crate::stations::{Played, Step, play};
 use crate::texts::{STILL, TELLING, TWO_IDLE, TWO_RISING, TWO_SLOTS, UP};
 use il_machine::Value;
-use lift_image::CarOutputs;
-use lift_sink::sink::Memory;
+use lift_host::sink::Memory;
+use lift_spec::CarOutputs;
 use lift_spec::calls::{Answer, Call, Slot};
 use lift_spec::journal::Entry;
 use lift_spec::report::{Answered, Denial, Rule};
@@ -61,34 +61,34 @@ END_RESOURCE
 END_CONFIGURATION
 ";
 
-/// Whether the trace of a journal is this text.
+// Whether the trace of a journal is this text.
 fn has_trace(alloc: Global, journal: &[Entry], text: &str) -> bool {
     let mut written = Memory::new(alloc);
     write_trace(journal, &mut written).is_ok() && written.bytes() == text.as_bytes()
 }
 
-/// Whether the steps were answered so, and the trace of the journal is this.
+// Whether the steps were answered so, and the trace of the journal is this.
 fn went(alloc: Global, played: &Played, answers: &[u64], text: &str) -> bool {
     played.answers.as_slice() == answers && has_trace(alloc, played.journal.as_slice(), text)
 }
 
-/// Whether the outputs at the end are these.
+// Whether the outputs at the end are these.
 fn has_outputs(played: &Played, outputs: &[CarOutputs]) -> bool {
     played.outputs.as_slice() == outputs
 }
 
-/// Whether it is this number.
+// Whether it is this number.
 fn has_value(value: Option<Value>, number: i64) -> bool {
     matches!(value, Some(Value::Integer(it)) if it == number)
 }
 
-/// Whether the globals G and H have these values at the end.
+// Whether the globals G and H have these values at the end.
 fn has_globals(played: &Played, g: i64, h: i64) -> bool {
     let [first, second] = played.globals;
     has_value(first, g) && has_value(second, h)
 }
 
-/// Whether the last refresh entered just these calls, in this order.
+// Whether the last refresh entered just these calls, in this order.
 fn has_entered(played: &Played, calls: &[Call]) -> bool {
     let entered = played.report.entered.as_slice();
     if entered.len() != calls.len() {
@@ -110,7 +110,7 @@ const COMMIT_1: Step = Step::Commit { scan: 1, by: 1 };
 
 const COMMIT_2: Step = Step::Commit { scan: 2, by: 2 };
 
-/// One car at floor 1.
+// One car at floor 1.
 const STANDS: Step = Step::Refresh {
     cars: 1,
     time: 100,
@@ -234,13 +234,13 @@ fn held_floors_and_a_call_that_enters(rt: HostRuntime) -> Result<(), Fail> {
     Ok(())
 }
 
-/// From floor 1 to 2.
+// From floor 1 to 2.
 const ASCENT: Call = Call { from: 1, to: 2 };
 
-/// From floor 2 to 1.
+// From floor 2 to 1.
 const DESCENT: Call = Call { from: 2, to: 1 };
 
-/// Both calls are pressed and gathered, and two cars stand at floor 1.
+// Both calls are pressed and gathered, and two cars stand at floor 1.
 const TWO_CALLS: [Step; 4] = [
     Step::Press {
         from: 2,

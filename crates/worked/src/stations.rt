@@ -7,11 +7,11 @@ ghost use Rattle.lift_spec.specs.Image.{sizes_of};
 use il_machine::{Scanned, Value, Verified, scan};
 use il_spec::fault::Refusal;
 use lift_desk::{Desk, DeskClosed, HandPass, PanelPass, Pressed};
-use lift_image::{Bounded, CarFields, Fields, Motor, Outputs, Sizes};
 use lift_load::load;
 use lift_spec::calls::Slot;
 use lift_spec::journal::Entry;
 use lift_spec::report::Report;
+use lift_spec::{Bounded, CarFields, Fields, Motor, Outputs, Sizes};
 use lift_station::{Blanks, Closed, Naming, RefreshPass, Station, TaskPass};
 use std::alloc::{AllocError, Global};
 use std::marker::Brand;
@@ -56,43 +56,43 @@ pub struct Played {
     pub desk: DeskClosed,
 }
 
-/// A scan that was run.
+// A scan that was run.
 #[derive(Drop)]
 struct Run<'s> {
     task: u8,
     scanned: Scanned<'s>,
 }
 
-/// The passes of the tasks, and the scans that were run.
+// The passes of the tasks, and the scans that were run.
 #[derive(Drop)]
 struct Crew<'s, G: Naming> {
     passes: Vec<TaskPass<G>>,
     runs: Vec<Run<'s>>,
 }
 
-/// The passes of a desk.
+// The passes of a desk.
 #[derive(Drop)]
 struct Hall {
     panels: Vec<PanelPass>,
     collector: HandPass,
 }
 
-/// Answered where a row names a task or a scan that isn't there.
+// Answered where a row names a task or a scan that isn't there.
 const NOBODY: u64 = 255;
 
-/// Takes the pass of a task.
+// Takes the pass of a task.
 fn take_pass<G: Naming>(passes: &mut Vec<TaskPass<G>>, task: u8) -> Option<TaskPass<G>> {
     let at = passes.iter().position(|pass| pass.task() == task)?;
     Some(passes.swap_remove(at))
 }
 
-/// Takes the scan of a task.
+// Takes the scan of a task.
 fn take_run<'s>(runs: &mut Vec<Run<'s>>, task: u8) -> Option<Scanned<'s>> {
     let at = runs.iter().position(|run| run.task == task)?;
     Some(runs.swap_remove(at).scanned)
 }
 
-/// A scan of a task begins and runs to its end.
+// A scan of a task begins and runs to its end.
 fn start<'s, G: Naming, R: Wait>(
     rt: &R,
     station: &'s Station<G>,
@@ -115,7 +115,7 @@ fn start<'s, G: Naming, R: Wait>(
     Ok(answer)
 }
 
-/// The scan of a task is committed with the pass of another.
+// The scan of a task is committed with the pass of another.
 fn commit<'s, G: Naming, R: Wait>(
     rt: &R,
     station: &Station<G>,
@@ -142,7 +142,7 @@ fn commit<'s, G: Naming, R: Wait>(
     Ok(answer)
 }
 
-/// The fields of so many cars at floor 1.
+// The fields of so many cars at floor 1.
 fn fields(cars: u8, time: u32, run_limit: u8, level: bool) -> Fields
     requires { cars ≤ 8 }
 {
@@ -163,7 +163,7 @@ fn fields(cars: u8, time: u32, run_limit: u8, level: bool) -> Fields
     }
 }
 
-/// Presses at a panel, if it is the one that is meant.
+// Presses at a panel, if it is the one that is meant.
 fn press_if(
     desk: &Desk,
     pass: PanelPass,
@@ -182,7 +182,7 @@ fn press_if(
     (pass, None)
 }
 
-/// Presses at one of the panels.
+// Presses at one of the panels.
 fn press(
     alloc: Global,
     desk: &Desk,
@@ -206,7 +206,7 @@ fn press(
     Ok((after, answer))
 }
 
-/// The number of an answer to a press.
+// The number of an answer to a press.
 fn number_of(answer: Option<Pressed>) -> u64 {
     match answer {
         Some(Pressed::New) => 0,
@@ -216,7 +216,7 @@ fn number_of(answer: Option<Pressed>) -> u64 {
     }
 }
 
-/// How many cars are asked to go up.
+// How many cars are asked to go up.
 fn rising<G: Naming, R: Wait>(
     rt: &R,
     station: &Station<G>,
@@ -232,7 +232,7 @@ fn rising<G: Naming, R: Wait>(
     (pass, count)
 }
 
-/// The image is refreshed with these fields: 0, or the number of the fault.
+// The image is refreshed with these fields: 0, or the number of the fault.
 fn refresh<G: Naming, R: Wait>(
     rt: &R,
     station: &Station<G>,
@@ -251,7 +251,7 @@ fn refresh<G: Naming, R: Wait>(
     }
 }
 
-/// The plant goes a step without FIRE, and the image takes what it reports: 0, or the number of the fault.
+// The plant goes a step without FIRE, and the image takes what it reports: 0, or the number of the fault.
 fn drive<G: Naming, R: Wait>(
     rt: &R,
     station: &Station<G>,
@@ -270,7 +270,7 @@ fn drive<G: Naming, R: Wait>(
     }
 }
 
-/// Each floor is gathered: the calls from one of them that are then in the hand.
+// Each floor is gathered: the calls from one of them that are then in the hand.
 fn gather(desk: &Desk, collector: HandPass, from: u8) -> (HandPass, u64)
     requires { collector.table ≡ desk.now.table }
     ensures { (result.0.table ≡ collector.table) × (result.0.floors ≡ collector.floors) }
@@ -283,7 +283,7 @@ fn gather(desk: &Desk, collector: HandPass, from: u8) -> (HandPass, u64)
     (collector, u64::from(mask))
 }
 
-/// The word of a floor.
+// The word of a floor.
 fn show(desk: &Desk, collector: HandPass, from: u8) -> (HandPass, u64)
     requires { collector.table ≡ desk.now.table }
     ensures { (result.0.table ≡ collector.table) × (result.0.floors ≡ collector.floors) }
@@ -294,7 +294,7 @@ fn show(desk: &Desk, collector: HandPass, from: u8) -> (HandPass, u64)
     desk.shown(collector, from)
 }
 
-/// A step of a task, if it is one: what it answers.
+// A step of a task, if it is one: what it answers.
 fn of_task<'s, G: Naming, R: Wait>(
     rt: &R,
     station: &'s Station<G>,
@@ -309,7 +309,7 @@ fn of_task<'s, G: Naming, R: Wait>(
     }
 }
 
-/// A press, if the step is one: what it answers.
+// A press, if the step is one: what it answers.
 fn of_panel(
     alloc: Global,
     desk: &Desk,
@@ -331,7 +331,7 @@ fn of_panel(
     }
 }
 
-/// A step of the collector, if it is one: what it answers.
+// A step of the collector, if it is one: what it answers.
 fn of_collector(desk: &Desk, collector: HandPass, step: Step) -> (HandPass, Option<u64>)
     requires { collector.table ≡ desk.now.table }
     ensures { (result.0.table ≡ collector.table) × (result.0.floors ≡ collector.floors) }
@@ -349,7 +349,7 @@ fn of_collector(desk: &Desk, collector: HandPass, step: Step) -> (HandPass, Opti
     }
 }
 
-/// A step of the refresher, if it is one: what it answers.
+// A step of the refresher, if it is one: what it answers.
 fn of_refresher<G: Naming, R: Wait>(
     rt: &R,
     station: &Station<G>,
@@ -387,7 +387,7 @@ fn of_refresher<G: Naming, R: Wait>(
     (pass, collector, Some(answer))
 }
 
-/// One step, and what it answers.
+// One step, and what it answers.
 fn take_step<'s, G: Naming, R: Wait>(
     rt: &R,
     alloc: Global,
@@ -418,7 +418,7 @@ fn take_step<'s, G: Naming, R: Wait>(
     Ok((refresher, Hall { panels, collector }, answer))
 }
 
-/// The passes behind the steps, and what the steps answered.
+// The passes behind the steps, and what the steps answered.
 #[derive(Drop)]
 struct Rest<G: Naming> {
     passes: Vec<TaskPass<G>>,
@@ -428,7 +428,7 @@ struct Rest<G: Naming> {
     answers: Vec<u64>,
 }
 
-/// The steps of a row, one behind the other.
+// The steps of a row, one behind the other.
 fn steps<'s, G: Naming, R: Wait>(
     rt: &R,
     alloc: Global,
@@ -480,7 +480,7 @@ fn steps<'s, G: Naming, R: Wait>(
     })
 }
 
-/// Closes a station and its desk: what the steps left.
+// Closes a station and its desk: what the steps left.
 fn closed<G: Naming>(station: Station<G>, desk: Desk, rest: Rest<G>) -> Played
     requires table { rest.hall.collector.table ≡ desk.table }
     requires panels { AreAllPanels desk rest.hall.panels.items }
@@ -507,7 +507,7 @@ fn closed<G: Naming>(station: Station<G>, desk: Desk, rest: Rest<G>) -> Played
     }
 }
 
-/// Takes the steps of a row on the station of a program, with room for so many entries, and closes it and its desk.
+// Takes the steps of a row on the station of a program, with room for so many entries, and closes it and its desk.
 fn play_in<G: Naming, R: Wait>(
     rt: &R,
     alloc: Global,
@@ -537,7 +537,7 @@ fn play_in<G: Naming, R: Wait>(
     }
 }
 
-/// A desk with so many panels on each floor, and its passes.
+// A desk with so many panels on each floor, and its passes.
 fn desk_of(
     alloc: Global,
     sizes: Sizes,
@@ -555,7 +555,7 @@ fn desk_of(
     }
 }
 
-/// Takes the steps of a row on the station of a program and a desk.
+// Takes the steps of a row on the station of a program and a desk.
 fn play_on<R: Wait>(
     rt: &R,
     alloc: Global,

@@ -1,6 +1,6 @@
 // Texts and outputs that several rows use.
 
-use lift_image::{CarOutputs, Motor};
+use lift_spec::{CarOutputs, Motor};
 
 /// Two cars with one empty program, and one call slot.
 pub const TWO_IDLE: &[u8] = b"PROGRAM C

@@ -2,10 +2,10 @@
 
 use crate::group::{Given, Left, play, runs_so};
 use crate::texts::{STILL, TELLING, TWO_RISING, UP};
-use lift_image::{CarOutputs, Motor};
 use lift_spec::calls::{Answer, Call, Slot};
 use lift_spec::event::{EventFault, Reply};
 use lift_spec::report::{Answered, Denial, Rule};
+use lift_spec::{CarOutputs, Motor};
 use std::test::Fail;
 
 // One car with an empty program; a scan has one step.

@@ -1,7 +1,7 @@
 use Rattle.std.proofs.Common.{◌≡◌, subst, sym}
 use Rattle.std.specs.Prelude.{IfOk}
 use Rattle.il_rules.specs.Faults.{HasNoFault, BreaksDeclarations, BreaksOrder}
-use Rattle.il_found.specs.Least.{IsLeast}
+use Rattle.il_rules.specs.Least.{IsLeast}
 use Rattle.il_order.specs.Breaks.{reached}
 use Rattle.il_order.proofs.checked.Goals as goal
 

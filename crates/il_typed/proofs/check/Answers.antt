@@ -1,4 +1,4 @@
-use Rattle.il_typing_laws.proofs.Units.{refused_by}
+use Rattle.il_typed.proofs.Units.{refused_by}
 use Rattle.std.proofs.Common.{subst}
 use Rattle.il_rules.specs.Written.{HasFewInstructions}
 use Rattle.il_typed.proofs.Short.{few_short}

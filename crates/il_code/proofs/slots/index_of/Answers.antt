@@ -1,7 +1,7 @@
 use Rattle.std.proofs.Common.{◌∙◌, arith, ap, sym}
 use Rattle.il_table.specs.NameMap.{get, get-empty}
 use Rattle.il_code.proofs.Indexed.{place_next, indexed}
-use Rattle.il_slots.specs.declared.flat.Cell.{Cell}
+use Rattle.il_layout.specs.declared.flat.Cell.{Cell}
 use Rattle.il_code.proofs.slots.index_of.Goals as goal
 
 pub loop-slot-init : goal.loop-slot-init

@@ -2,7 +2,7 @@ use Rattle.std.proofs.Common.{◌∙◌, arith, subst, ap}
 use Rattle.std.specs.Prelude.{flat_map}
 use Rattle.il_spec.specs.declared.tree.Declaration.{Declaration}
 use Rattle.il_spec.specs.declared.tree.Named.{Named}
-use Rattle.il_found.specs.Least.{IsLeast}
+use Rattle.il_rules.specs.Least.{IsLeast}
 use Rattle.il_scope.proofs.Filled.{take_all}
 use Rattle.il_declare.specs.Again.{NamedAgain, after}
 use Rattle.il_declare.proofs.Againness.{so_far_nothing, so_far_lists}

@@ -1,6 +1,6 @@
 use Rattle.std.proofs.Common.{◌∙◌, arith, subst, ap, refl}
 use Rattle.il_spec.specs.declared.tree.Named.{Named}
-use Rattle.il_found.specs.Least.{IsLeast}
+use Rattle.il_rules.specs.Least.{IsLeast}
 use Rattle.il_scope.proofs.Filled.{take_all}
 use Rattle.il_declare.specs.Again.{NamedAgain, after}
 use Rattle.il_declare.proofs.Againness.{so_far_none, so_far_next}

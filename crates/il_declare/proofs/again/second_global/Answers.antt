@@ -1,7 +1,7 @@
 use Rattle.std.proofs.Common.{subst}
 use Rattle.std.specs.Prelude.{IfOk}
 use Rattle.il_rules.specs.Declarations.{names_in}
-use Rattle.il_found.specs.Least.{IsLeast}
+use Rattle.il_rules.specs.Least.{IsLeast}
 use Rattle.il_declare.specs.Again.{NamedAgain}
 use Rattle.il_declare.proofs.again.second_global.Goals as goal
 

@@ -2,7 +2,7 @@ use Rattle.std.proofs.Common.{◌++◌, ◌∙◌, ap, subst}
 use Rattle.std.specs.Prelude.{flat_map}
 use Rattle.il_table.specs.NameMap.{empty}
 use Rattle.il_spec.specs.declared.tree.Step.{Step}
-use Rattle.il_found.specs.Least.{IsLeast}
+use Rattle.il_rules.specs.Least.{IsLeast}
 use Rattle.il_declare.specs.Again.{NamedAgain}
 use Rattle.il_declare.proofs.Againness.{two_lists}
 use Rattle.il_declare.proofs.again.second_label.Goals as goal

@@ -1,7 +1,7 @@
 use Rattle.std.proofs.Common.{arith, subst}
 use Rattle.il_spec.specs.declared.tree.ProgramLine.{ProgramLine as Item}
 use Rattle.il_table.specs.NameMap.{empty}
-use Rattle.il_found.specs.Least.{IsLeast}
+use Rattle.il_rules.specs.Least.{IsLeast}
 use Rattle.il_scope.proofs.Filled.{take_all}
 use Rattle.il_declare.specs.Again.{AgainFrom}
 use Rattle.il_declare.proofs.Againness.{so_far_none, so_far_next}

@@ -1,7 +1,7 @@
 use Rattle.std.proofs.Common.{◌∙◌, ap, nat_eq, rules}
 use Rattle.std.specs.HashSet as bag
-use Rattle.il_found.specs.Least.{fault_of}
-use Rattle.il_found.proofs.Least.{least_if}
+use Rattle.il_rules.specs.Least.{fault_of}
+use Rattle.il_rules.proofs.Least.{least_if}
 use Rattle.il_declare.proofs.CarLaws.{is_missed, missed_is}
 use Rattle.il_declare.proofs.cars.missing_fault.Goals as goal
 

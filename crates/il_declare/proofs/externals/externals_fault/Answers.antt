@@ -1,9 +1,9 @@
 use Rattle.std.proofs.Common.{◌<◌, length, arith, refl}
 use Rattle.std.proofs.lemmas.Option.{slice_get_read}
-use Rattle.il_found.proofs.Least.{least_next}
+use Rattle.il_rules.proofs.Least.{least_next}
 use Rattle.il_declare.proofs.Lowest.{least_among}
 use Rattle.std.proofs.Common.{subst}
-use Rattle.il_found.specs.Least.{IsLeast}
+use Rattle.il_rules.specs.Least.{IsLeast}
 use Rattle.il_declare.specs.Places.{Among}
 use Rattle.il_declare.specs.Externals.{BreaksExternal, BreaksExternals}
 use Rattle.il_declare.proofs.externals.externals_fault.Goals as goal

@@ -1,4 +1,4 @@
-use Rattle.il_found.specs.Least.{IsLeast, Below}
+use Rattle.il_rules.specs.Least.{IsLeast, Below}
 use Rattle.il_declare.specs.Externals.{BreaksExternals}
 use Rattle.il_declare.proofs.externals.externals_fault.Given as goal
 

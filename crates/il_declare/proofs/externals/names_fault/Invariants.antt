@@ -1,4 +1,4 @@
-use Rattle.il_found.specs.Least.{IsLeast, Below}
+use Rattle.il_rules.specs.Least.{IsLeast, Below}
 use Rattle.il_declare.specs.Externals.{BreaksExternal}
 use Rattle.il_declare.proofs.externals.names_fault.Given as goal
 

@@ -1,6 +1,6 @@
 use Rattle.std.proofs.Common.{◌<◌, length, arith, refl}
 use Rattle.std.proofs.lemmas.Option.{slice_get_read}
-use Rattle.il_found.proofs.Least.{least_next}
+use Rattle.il_rules.proofs.Least.{least_next}
 use Rattle.il_declare.proofs.Lowest.{least_among, least_at}
 use Rattle.il_spec.specs.declared.tree.Step.{Step}
 use Rattle.il_rules.specs.Declarations.{name_numbers}

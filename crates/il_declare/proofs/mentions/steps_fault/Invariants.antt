@@ -1,4 +1,4 @@
-use Rattle.il_found.specs.Least.{IsLeast, Below}
+use Rattle.il_rules.specs.Least.{IsLeast, Below}
 use Rattle.il_spec.specs.declared.tree.Step.{Step}
 use Rattle.il_rules.specs.Declarations.{name_numbers}
 use Rattle.il_declare.specs.Places.{At}

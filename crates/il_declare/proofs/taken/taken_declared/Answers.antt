@@ -1,8 +1,8 @@
 use Rattle.std.proofs.Common.{◌<◌, length, arith, refl, subst}
-use Rattle.il_found.specs.Least.{IsLeast}
+use Rattle.il_rules.specs.Least.{IsLeast}
 use Rattle.il_declare.specs.Places.{Among}
 use Rattle.std.proofs.lemmas.Option.{slice_get_read}
-use Rattle.il_found.proofs.Least.{least_next}
+use Rattle.il_rules.proofs.Least.{least_next}
 use Rattle.il_declare.proofs.Lowest.{least_among}
 use Rattle.il_declare.specs.Taken.{TakenName, TakenNames}
 use Rattle.il_declare.proofs.taken.taken_declared.Goals as goal

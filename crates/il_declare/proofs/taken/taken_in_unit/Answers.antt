@@ -1,6 +1,6 @@
 use Rattle.std.proofs.Common.{ap, sym, ◌∙◌}
 use Rattle.il_rules.specs.Names.{is_predeclared}
-use Rattle.il_found.proofs.Least.{least_both, least_if}
+use Rattle.il_rules.proofs.Least.{least_both, least_if}
 use Rattle.il_declare.proofs.taken.taken_in_unit.Goals as goal
 
 pub returns : goal.returns

@@ -1,6 +1,6 @@
 use Rattle.std.proofs.Common.{◌<◌, length, arith, refl, sym, ap, ◌∙◌, ◌||◌}
 use Rattle.std.proofs.lemmas.Option.{slice_get_read}
-use Rattle.il_found.proofs.Least.{least_next, least_if}
+use Rattle.il_rules.proofs.Least.{least_next, least_if}
 use Rattle.il_rules.specs.Names.{is_one_of, is_predeclared}
 use Rattle.il_rules.specs.Declarations.{names_of_units}
 use Rattle.il_declare.proofs.Lowest.{least_among}

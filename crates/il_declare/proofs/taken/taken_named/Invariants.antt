@@ -1,4 +1,4 @@
-use Rattle.il_found.specs.Least.{IsLeast, Below}
+use Rattle.il_rules.specs.Least.{IsLeast, Below}
 use Rattle.il_declare.specs.Taken.{TakenName}
 use Rattle.il_declare.proofs.taken.taken_named.Given as goal
 

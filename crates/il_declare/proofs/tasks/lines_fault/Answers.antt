@@ -1,7 +1,7 @@
 use Rattle.std.proofs.Common.{◌<◌, ◌∙◌, length, arith, refl, sym}
 use Rattle.std.proofs.lemmas.Option.{slice_get_read}
-use Rattle.il_found.specs.Least.{When}
-use Rattle.il_found.proofs.Least.{least_next, least_if}
+use Rattle.il_rules.specs.Least.{When}
+use Rattle.il_rules.proofs.Least.{least_next, least_if}
 use Rattle.il_declare.proofs.Lowest.{least_among}
 use Rattle.il_declare.specs.TaskRules.{BreaksLine}
 use Rattle.il_declare.proofs.TaskLaws.{line_breaks, breaks_line}

@@ -1,4 +1,4 @@
-use Rattle.il_found.specs.Least.{IsLeast, Below, When}
+use Rattle.il_rules.specs.Least.{IsLeast, Below, When}
 use Rattle.il_declare.specs.TaskRules.{BreaksLine}
 use Rattle.il_declare.proofs.tasks.lines_fault.Given as goal
 

@@ -1,5 +1,5 @@
 use Rattle.std.proofs.Common.{◌∙◌, ap, subst}
-use Rattle.il_found.specs.Least.{IsLeast, When}
+use Rattle.il_rules.specs.Least.{IsLeast, When}
 use Rattle.il_declare.specs.Places.{Among}
 use Rattle.il_declare.specs.TaskRules.{BreaksLine}
 use Rattle.il_declare.proofs.tasks.program_lines_fault.Goals as goal

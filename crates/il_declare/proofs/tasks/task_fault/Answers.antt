@@ -1,7 +1,7 @@
 use Rattle.std.proofs.Common.{ap, ◌∙◌, sym, map, not}
 use Rattle.il_rules.specs.Names.{task_role}
-use Rattle.il_found.specs.Least.{fault_of}
-use Rattle.il_found.proofs.Least.{least_both, least_if}
+use Rattle.il_rules.specs.Least.{fault_of}
+use Rattle.il_rules.proofs.Least.{least_both, least_if}
 use Rattle.il_declare.proofs.TaskLaws.{none_is, is_none_of, set_not_in, set_in_none}
 use Rattle.il_declare.proofs.tasks.task_fault.Goals as goal
 

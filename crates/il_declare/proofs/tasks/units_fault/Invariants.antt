@@ -1,6 +1,6 @@
 use Rattle.std.proofs.Common.{List}
 use Rattle.il_rules.specs.Names.{Spelling}
-use Rattle.il_found.specs.Least.{IsLeast, Below, When}
+use Rattle.il_rules.specs.Least.{IsLeast, Below, When}
 use Rattle.il_declare.specs.TaskRules.{IsSet, IsUnusedOf}
 use Rattle.il_declare.proofs.tasks.units_fault.Given as goal
 

@@ -1,5 +1,5 @@
 use Rattle.std.proofs.Common.{◌∙◌, ap, subst, map}
-use Rattle.il_found.specs.Least.{IsLeast, When}
+use Rattle.il_rules.specs.Least.{IsLeast, When}
 use Rattle.il_declare.specs.Places.{Among}
 use Rattle.il_declare.specs.TaskRules.{IsSet, IsUnusedOf}
 use Rattle.il_declare.proofs.tasks.unused_fault.Goals as goal

@@ -1,5 +1,5 @@
 use Rattle.il_rules.specs.Declarations.{type_numbers}
-use Rattle.il_found.proofs.Least.{least_both}
+use Rattle.il_rules.proofs.Least.{least_both}
 use Rattle.il_declare.specs.Places.{At}
 use Rattle.il_declare.specs.Written.{shown, BreaksInitial}
 use Rattle.il_declare.proofs.Lowest.{least_at}

@@ -1,6 +1,6 @@
 use Rattle.std.proofs.Common.{◌<◌, length, arith, refl}
 use Rattle.std.proofs.lemmas.Option.{slice_get_read}
-use Rattle.il_found.proofs.Least.{least_next}
+use Rattle.il_rules.proofs.Least.{least_next}
 use Rattle.il_declare.specs.Written.{shown, Misdeclared}
 use Rattle.il_declare.proofs.Lowest.{least_among}
 use Rattle.il_declare.proofs.types.declarations_fault.Goals as goal

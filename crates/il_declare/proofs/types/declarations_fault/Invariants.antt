@@ -1,4 +1,4 @@
-use Rattle.il_found.specs.Least.{IsLeast, Below}
+use Rattle.il_rules.specs.Least.{IsLeast, Below}
 use Rattle.il_declare.specs.Written.{shown, Misdeclared}
 use Rattle.il_declare.proofs.types.declarations_fault.Given as goal
 

@@ -1,4 +1,4 @@
-use Rattle.il_found.proofs.Least.{least_both}
+use Rattle.il_rules.proofs.Least.{least_both}
 use Rattle.il_declare.proofs.units.again_fault.Goals as goal
 
 pub returns : goal.returns

@@ -1,8 +1,8 @@
 use Rattle.std.proofs.Common.{subst, ap, ◌∙◌}
 use Rattle.il_spec.specs.declared.tree.Step.{Step}
 use Rattle.il_rules.specs.Declarations.{name_numbers}
-use Rattle.il_found.specs.Least.{IsLeast, Either}
-use Rattle.il_found.proofs.Least.{least_both}
+use Rattle.il_rules.specs.Least.{IsLeast, Either}
+use Rattle.il_rules.proofs.Least.{least_both}
 use Rattle.il_declare.specs.Places.{At, Among}
 use Rattle.il_declare.specs.Externals.{BreaksExternals}
 use Rattle.il_declare.specs.Taken.{TakenInUnit}

@@ -1,6 +1,6 @@
 use Rattle.std.proofs.Common.{subst}
 use Rattle.il_rules.specs.Declarations.{admitted_variables, ScalarsAlone, ScalarsAndArrays}
-use Rattle.il_found.specs.Least.{IsLeast}
+use Rattle.il_rules.specs.Least.{IsLeast}
 use Rattle.il_declare.specs.Places.{Among}
 use Rattle.il_declare.specs.Written.{Misdeclared}
 use Rattle.il_declare.proofs.InLists.{four_found}

@@ -1,6 +1,6 @@
 use Rattle.std.proofs.Common.{subst, sym}
 use Rattle.il_rules.specs.Declarations.{subrange_numbers}
-use Rattle.il_found.specs.Least.{IsLeast}
+use Rattle.il_rules.specs.Least.{IsLeast}
 use Rattle.il_declare.specs.Units.{BreaksResult}
 use Rattle.il_declare.proofs.Lowest.{least_at}
 use Rattle.il_declare.proofs.units.result_fault.Goals as goal

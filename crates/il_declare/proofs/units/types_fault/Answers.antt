@@ -1,4 +1,4 @@
-use Rattle.il_found.proofs.Least.{least_both}
+use Rattle.il_rules.proofs.Least.{least_both}
 use Rattle.il_declare.specs.Units.{BreaksResult, BreaksLists}
 use Rattle.il_declare.proofs.units.types_fault.Goals as goal
 

@@ -1,7 +1,7 @@
 use Rattle.std.proofs.Common.{◌<◌, ◌∙◌, length, arith, refl, ap, subst}
 use Rattle.std.proofs.lemmas.Option.{slice_get_read}
-use Rattle.il_found.specs.Least.{IsLeast}
-use Rattle.il_found.proofs.Least.{least_next}
+use Rattle.il_rules.specs.Least.{IsLeast}
+use Rattle.il_rules.proofs.Least.{least_next}
 use Rattle.il_declare.specs.Places.{Among}
 use Rattle.il_declare.specs.Units.{UnitBreaks}
 use Rattle.il_declare.proofs.Lowest.{least_among}

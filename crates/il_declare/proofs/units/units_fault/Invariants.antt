@@ -1,4 +1,4 @@
-use Rattle.il_found.specs.Least.{IsLeast, Below}
+use Rattle.il_rules.specs.Least.{IsLeast, Below}
 use Rattle.il_declare.specs.Units.{UnitBreaks}
 use Rattle.il_declare.proofs.units.units_fault.Given as goal
 

@@ -1,4 +1,4 @@
-use Rattle.il_found.proofs.Least.{least_both, least_wider}
+use Rattle.il_rules.proofs.Least.{least_both, least_wider}
 use Rattle.il_rules.specs.Faults.{BreaksDeclarations}
 use Rattle.il_declare.specs.Whole.{AllBreak}
 use Rattle.il_declare.proofs.AllBroken.{is_broken, broken_is}

@@ -1,6 +1,6 @@
 use Rattle.std.proofs.Common.{◌∙◌, ap, subst}
-use Rattle.il_found.specs.Least.{IsLeast}
-use Rattle.il_found.proofs.Least.{least_both}
+use Rattle.il_rules.specs.Least.{IsLeast}
+use Rattle.il_rules.proofs.Least.{least_both}
 use Rattle.il_table.specs.NameMap.{empty}
 use Rattle.il_rules.specs.Declarations.{ScalarsAndArrays, names_in}
 use Rattle.il_declare.specs.Places.{Among}

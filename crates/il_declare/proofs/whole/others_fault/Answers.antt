@@ -1,6 +1,6 @@
 use Rattle.std.proofs.Common.{subst}
-use Rattle.il_found.specs.Least.{IsLeast}
-use Rattle.il_found.proofs.Least.{least_both}
+use Rattle.il_rules.specs.Least.{IsLeast}
+use Rattle.il_rules.proofs.Least.{least_both}
 use Rattle.il_declare.specs.Whole.{SecondNames}
 use Rattle.il_declare.proofs.whole.others_fault.Goals as goal
 

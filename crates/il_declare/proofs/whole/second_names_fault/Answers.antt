@@ -2,8 +2,8 @@ use Rattle.std.proofs.Common.{subst}
 use Rattle.il_spec.specs.declared.tree.Unit.{Unit as ProgramUnit}
 use Rattle.il_spec.specs.declared.tree.Task.{Task}
 use Rattle.il_spec.specs.declared.tree.ProgramLine.{ProgramLine}
-use Rattle.il_found.specs.Least.{IsLeast}
-use Rattle.il_found.proofs.Least.{least_both}
+use Rattle.il_rules.specs.Least.{IsLeast}
+use Rattle.il_rules.proofs.Least.{least_both}
 use Rattle.il_table.specs.NameMap.{empty}
 use Rattle.il_declare.specs.Again.{AgainFrom}
 use Rattle.il_declare.proofs.whole.second_names_fault.Goals as goal

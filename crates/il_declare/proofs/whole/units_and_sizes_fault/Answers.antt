@@ -1,5 +1,5 @@
 use Rattle.std.proofs.Common.{◌∙◌, ap}
-use Rattle.il_found.proofs.Least.{least_both}
+use Rattle.il_rules.proofs.Least.{least_both}
 use Rattle.il_declare.specs.Sizes.{sizes_found}
 use Rattle.il_declare.proofs.SizeLaws.{least_sizes}
 use Rattle.il_declare.proofs.whole.units_and_sizes_fault.Goals as goal

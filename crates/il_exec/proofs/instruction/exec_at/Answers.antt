@@ -1,7 +1,7 @@
 use Rattle.std.proofs.Common.{sym, ap, subst}
 use Rattle.std.specs.Prelude.{IsSome}
-use Rattle.il_slots.specs.declared.flat.Flat.TheVariants.{Apply}
-use Rattle.il_slots.specs.Layout.{rows}
+use Rattle.il_layout.specs.declared.flat.Flat.TheVariants.{Apply}
+use Rattle.il_layout.specs.Layout.{rows}
 use Rattle.il_exec.specs.Effect.{applied, effect, is_straight}
 use Rattle.il_exec.proofs.Running.{applied_there}
 use Rattle.il_exec.proofs.instruction.exec_at.Goals as goal

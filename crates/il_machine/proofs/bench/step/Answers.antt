@@ -1,6 +1,6 @@
 use Rattle.std.proofs.Common.{◌≡◌, sym, ap, ◌∙◌, subst, length}
-use Rattle.il_slots.specs.Coded.{Code}
-use Rattle.il_slots.specs.Program.{program_code}
+use Rattle.il_layout.specs.Coded.{Code}
+use Rattle.il_layout.specs.Program.{program_code}
 use Rattle.il_exec.specs.Going.{Stored, runs_of, runs_in}
 use Rattle.il_exec.specs.Framing.{IsFramedScan, Goes}
 use Rattle.il_machine.proofs.Scans.{goes, stepped}

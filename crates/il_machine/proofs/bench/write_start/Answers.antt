@@ -1,6 +1,6 @@
 use Rattle.std.proofs.Common.{ℕ, ◌+◌, ◌∙◌, ap, refl, length}
 use Rattle.std.proofs.lemmas.List.{length-map}
-use Rattle.il_image.specs.Image.{filled, image_values}
+use Rattle.il_snapshot.specs.Image.{filled, image_values}
 use Rattle.il_machine.specs.Starting.{shared_value, listed_values}
 use Rattle.il_machine.proofs.Restarts.{start_room, start_written}
 use Rattle.il_machine.proofs.bench.write_start.Goals as goal

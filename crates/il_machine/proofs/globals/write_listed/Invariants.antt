@@ -1,5 +1,5 @@
 use Rattle.std.proofs.Common.{◌≡◌, ◌+◌, drop, length, map}
-use Rattle.il_image.specs.Image.{filled}
+use Rattle.il_snapshot.specs.Image.{filled}
 use Rattle.il_machine.specs.Starting.{shared_value}
 use Rattle.il_machine.proofs.globals.write_listed.Given as goal
 

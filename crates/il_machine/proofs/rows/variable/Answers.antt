@@ -1,7 +1,7 @@
 use Rattle.std.proofs.Common.{sym, ap, ◌∙◌}
 use Rattle.std.specs.Prelude.{option_and_then}
-use Rattle.il_slots.specs.Paths.{slot_at}
-use Rattle.il_slots.specs.Program.{program_cells}
+use Rattle.il_layout.specs.Paths.{slot_at}
+use Rattle.il_layout.specs.Program.{program_cells}
 use Rattle.il_machine.specs.Scanning.{value_at}
 use Rattle.il_machine.proofs.Reading.{reads_variable}
 use Rattle.il_machine.proofs.rows.variable.Goals as goal

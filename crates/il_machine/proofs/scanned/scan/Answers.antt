@@ -1,6 +1,6 @@
 use Rattle.std.proofs.Common.{◌≡◌, sym, ap, ap₂, ◌∙◌, subst, refl, length, arith}
 use Rattle.std.proofs.lemmas.List.{take_all}
-use Rattle.il_slots.specs.Layout.{Rows, rows}
+use Rattle.il_layout.specs.Layout.{Rows, rows}
 use Rattle.il_exec.specs.Going.{Stored}
 use Rattle.il_machine.specs.Standing.{Standing}
 use Rattle.il_machine.specs.Ran.{Begins, IsRan}

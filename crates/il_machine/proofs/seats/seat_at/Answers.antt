@@ -4,8 +4,8 @@ use Rattle.il_spec.specs.declared.tree.Config.{Config}
 use Rattle.il_spec.specs.declared.tree.Step.{Step}
 use Rattle.il_spec.specs.declared.tree.Unit.{Unit as ProgramUnit}
 use Rattle.il_scope.proofs.Seen.{read_at}
-use Rattle.il_slots.specs.declared.flat.Cell.{Cell}
-use Rattle.il_slots.specs.Program.{global_cells}
+use Rattle.il_layout.specs.declared.flat.Cell.{Cell}
+use Rattle.il_layout.specs.Program.{global_cells}
 use Rattle.il_machine.specs.Sharing.{slot_in, transfers, external_cells}
 use Rattle.il_machine.proofs.Lines.{got_within, line_of_task}
 use Rattle.il_machine.proofs.seats.seat_at.Goals as goal

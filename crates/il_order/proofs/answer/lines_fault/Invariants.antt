@@ -1,4 +1,4 @@
-use Rattle.il_found.specs.Least.{IsLeast}
+use Rattle.il_rules.specs.Least.{IsLeast}
 use Rattle.il_order.specs.Breaks.{LinesBreak}
 use Rattle.il_order.proofs.answer.lines_fault.Given as goal
 

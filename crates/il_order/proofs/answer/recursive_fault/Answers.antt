@@ -1,6 +1,6 @@
 use Rattle.std.proofs.Common.{◌≡◌, true, arith, ap, sym, ◌∙◌}
-use Rattle.il_found.specs.Least.{When}
-use Rattle.il_found.proofs.Least.{least_next, least_if}
+use Rattle.il_rules.specs.Least.{When}
+use Rattle.il_rules.proofs.Least.{least_next, least_if}
 use Rattle.il_scope.proofs.Seen.{read_at}
 use Rattle.il_order.specs.Related.{holds}
 use Rattle.il_order.proofs.answer.recursive_fault.Goals as goal

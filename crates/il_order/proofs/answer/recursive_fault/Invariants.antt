@@ -1,4 +1,4 @@
-use Rattle.il_found.specs.Least.{IsLeast}
+use Rattle.il_rules.specs.Least.{IsLeast}
 use Rattle.il_order.specs.Breaks.{RecursionsBreak}
 use Rattle.il_order.proofs.answer.recursive_fault.Given as goal
 

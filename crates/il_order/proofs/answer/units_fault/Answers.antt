@@ -1,5 +1,5 @@
 use Rattle.std.proofs.Common.{◌≡◌, true, [], List, length, arith, refl, ap, sym, subst, ◌∙◌}
-use Rattle.il_found.specs.Least.{IsLeast, When, Either, fault_of, earlier_of}
+use Rattle.il_rules.specs.Least.{IsLeast, When, Either, fault_of, earlier_of}
 use Rattle.il_order.specs.declared.dead_ends.DeadEnd.{DeadEnd}
 use Rattle.il_scope.proofs.Seen.{read_at}
 use Rattle.il_order.specs.Chained.{AreDead, is_long}

@@ -1,5 +1,5 @@
 use Rattle.std.proofs.Common.{◌≡◌, length}
-use Rattle.il_found.specs.Least.{IsLeast, Either}
+use Rattle.il_rules.specs.Least.{IsLeast, Either}
 use Rattle.il_order.specs.Breaks.{RecursionsBreak, ChainsBreak}
 use Rattle.il_order.specs.Chained.{AreDead}
 use Rattle.il_order.proofs.answer.units_fault.Given as goal

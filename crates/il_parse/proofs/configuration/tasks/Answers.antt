@@ -3,7 +3,7 @@ use Rattle.il_spec.specs.declared.keyword.Keyword.TheVariants as word
 use Rattle.il_spec.specs.Grammar.{TheWord}
 use Rattle.il_grammar_laws.proofs.Configurations.{task_one}
 use Rattle.il_read.proofs.Chain.{up, goes_on, item_refused, ended}
-use Rattle.il_body.proofs.Missing.{it_stands, it_is_missing}
+use Rattle.il_parse.proofs.Missing.{it_stands, it_is_missing}
 use Rattle.il_parse.proofs.configuration.tasks.Goals as goal
 
 pub returns-in_err-task-clause-refused : goal.returns-in_err-task-clause-refused

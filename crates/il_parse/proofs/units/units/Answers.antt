@@ -1,7 +1,7 @@
 use Rattle.il_spec.specs.declared.keyword.Keyword.TheVariants as word
 use Rattle.il_spec.specs.Grammar.{TheWord}
 use Rattle.il_read.proofs.Chain.{up, goes_on, item_refused, ended, was_there, was_missing, too_many, within_refused, within_read}
-use Rattle.il_body.proofs.OneUnit.{small_unit_one}
+use Rattle.il_parse.proofs.OneUnit.{small_unit_one}
 use Rattle.il_parse.proofs.Parts.{few_more}
 use Rattle.il_parse.proofs.units.units.Goals as goal
 

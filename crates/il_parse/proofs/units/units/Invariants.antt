@@ -1,7 +1,7 @@
 use Rattle.std.proofs.Common.{length, ◌≤◌, ◌-◌}
 use Rattle.il_spec.specs.declared.keyword.Keyword.TheVariants as word
 use Rattle.il_spec.specs.Grammar.{TheWord}
-use Rattle.il_body.specs.Units.{SpellsSmallUnit}
+use Rattle.il_parse.specs.Units.{SpellsSmallUnit}
 use Rattle.il_read.proofs.Chain.{HasRead}
 use Rattle.il_parse.proofs.units.units.Given as goal
 

@@ -1,4 +1,4 @@
-use Rattle.il_typing_laws.proofs.Units.{least_all}
+use Rattle.il_typed.proofs.Units.{least_all}
 use Rattle.il_typed.proofs.answer.types_fault.Goals as goal
 
 pub returns : goal.returns

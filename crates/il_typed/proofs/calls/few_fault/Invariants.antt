@@ -1,7 +1,7 @@
 use Rattle.std.proofs.Common.{◌≡◌, [], take, Some}
 use Rattle.il_rules.specs.Names.{BlockVariables}
 use Rattle.il_rules.specs.Types.{arguments_numbers, instance_block}
-use Rattle.il_found.specs.Lowest.{lowest}
+use Rattle.il_rules.specs.Lowest.{lowest}
 use Rattle.il_typed.proofs.calls.few_fault.Given as goal
 
 abbrev pub invariant-loop-at : goal.invariant-loop-at

@@ -2,7 +2,7 @@ use Rattle.std.proofs.Common.{◌≡◌, [], take, Some}
 use Rattle.std.specs.Prelude.{is_some}
 use Rattle.il_rules.specs.Names.{Spelling, BlockVariables, is_one_of}
 use Rattle.il_rules.specs.Types.{arguments_numbers, instance_block}
-use Rattle.il_found.specs.Lowest.{lowest}
+use Rattle.il_rules.specs.Lowest.{lowest}
 use Rattle.il_table.specs.NameMap.{get}
 use Rattle.il_typed.specs.Types.{words_onto}
 use Rattle.il_typed.proofs.calls.many_fault.Given as goal

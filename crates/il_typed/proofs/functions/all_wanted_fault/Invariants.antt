@@ -1,6 +1,6 @@
 use Rattle.std.proofs.Common.{◌≡◌, take, flat_map}
 use Rattle.il_rules.specs.Types.{wanted_numbers}
-use Rattle.il_found.specs.Lowest.{lowest}
+use Rattle.il_rules.specs.Lowest.{lowest}
 use Rattle.il_typed.proofs.functions.all_wanted_fault.Given as goal
 
 abbrev pub invariant-loop-operand : goal.invariant-loop-operand

@@ -1,6 +1,6 @@
 use Rattle.std.proofs.Common.{◌≡◌, take, flat_map}
 use Rattle.il_rules.specs.Types.{index_numbers}
-use Rattle.il_found.specs.Lowest.{lowest}
+use Rattle.il_rules.specs.Lowest.{lowest}
 use Rattle.il_typed.proofs.functions.indices_fault.Given as goal
 
 abbrev pub invariant-loop-operand : goal.invariant-loop-operand

@@ -1,6 +1,6 @@
 use Rattle.std.proofs.Common.{None, get_or, sym, ap, ◌∙◌}
 use Rattle.std.proofs.lemmas.Option.{slice_get-get_or}
-use Rattle.il_found.specs.Lowest.{lowest}
+use Rattle.il_rules.specs.Lowest.{lowest}
 use Rattle.il_typed.proofs.Inputs.{none_yet, one_more, one_past}
 use Rattle.il_typed.proofs.functions.inputs_fault.Goals as goal
 use Rattle.il_typed.proofs.functions.inputs_fault.Goals.{then-at-scalars, else-at-scalars}

@@ -1,6 +1,6 @@
 use Rattle.std.proofs.Common.{ap, ◌∙◌}
 use Rattle.il_rules.specs.Types.{any_difference_numbers}
-use Rattle.il_found.specs.Lowest.{lowest}
+use Rattle.il_rules.specs.Lowest.{lowest}
 use Rattle.il_typed.proofs.Wanted.{wanted_is}
 use Rattle.il_typed.proofs.operands.wanted_fault.Goals as goal
 

@@ -1,6 +1,6 @@
 use Rattle.std.proofs.Common.{◌≡◌, arith, ap, refl, subst, length, ◌∙◌}
-use Rattle.il_found.specs.Least.{IsLeast, Below}
-use Rattle.il_found.proofs.Least.{least_none, least_next}
+use Rattle.il_rules.specs.Least.{IsLeast, Below}
+use Rattle.il_rules.proofs.Least.{least_none, least_next}
 use Rattle.il_scope.proofs.Seen.{read_at}
 use Rattle.il_typed.specs.Writers.{HasSharedStore}
 use Rattle.il_typed.proofs.writers.shared_fault.Goals as goal

@@ -1,4 +1,4 @@
-use Rattle.il_found.specs.Least.{IsLeast, Below}
+use Rattle.il_rules.specs.Least.{IsLeast, Below}
 use Rattle.il_typed.specs.Writers.{HasSharedStore}
 use Rattle.il_typed.proofs.writers.shared_fault.Given as goal
 

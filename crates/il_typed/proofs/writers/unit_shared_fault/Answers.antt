@@ -2,8 +2,8 @@ use Rattle.std.proofs.Common.{◌≡◌, true, arith, ap, refl, sym, subst, leng
 use Rattle.std.specs.List.{list_any}
 use Rattle.il_spec.specs.declared.tree.Step.{Step}
 use Rattle.il_rules.specs.Types.{stored_names}
-use Rattle.il_found.specs.Least.{IsLeast, Below, When}
-use Rattle.il_found.proofs.Least.{least_none, least_next, least_if}
+use Rattle.il_rules.specs.Least.{IsLeast, Below, When}
+use Rattle.il_rules.proofs.Least.{least_none, least_next, least_if}
 use Rattle.il_scope.proofs.Seen.{read_at}
 use Rattle.il_typed.specs.Writers.{is_shared, stores_shared}
 use Rattle.il_typed.proofs.writers.unit_shared_fault.Goals as goal

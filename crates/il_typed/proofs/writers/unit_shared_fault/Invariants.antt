@@ -1,5 +1,5 @@
 use Rattle.std.proofs.Common.{◌≡◌, true}
-use Rattle.il_found.specs.Least.{IsLeast, Below, When}
+use Rattle.il_rules.specs.Least.{IsLeast, Below, When}
 use Rattle.il_typed.specs.Writers.{stores_shared}
 use Rattle.il_typed.proofs.writers.unit_shared_fault.Given as goal
 

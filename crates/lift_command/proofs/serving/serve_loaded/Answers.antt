@@ -1,6 +1,6 @@
 use Rattle.std.proofs.Common.{refl, sym, ◌∙◌, ap, append-nil, subst}
 use Rattle.lift_host.specs.Messages.{message_of, status_of}
-use Rattle.lift_sink.specs.Writes.{Writes}
+use Rattle.lift_host.specs.Writes.{Writes}
 use Rattle.lift_command.specs.Servings as s
 use Rattle.lift_serve.proofs.Serving.{if_ok}
 use Rattle.lift_command.proofs.serving.serve_loaded.Goals as goal

@@ -1,7 +1,7 @@
 use Rattle.std.proofs.Common.{◌≡◌, ◌++◌, ◌∙◌, ℕ, List, ap, append_assoc, decimal, subst}
 use Rattle.std.specs.Prelude.{codes, OnErr}
 use Rattle.std.proofs.KnownBytes.{Appends-trans}
-use Rattle.lift_sink.specs.Writes.{AppendsFront}
+use Rattle.lift_host.specs.Writes.{AppendsFront}
 use Rattle.lift_host.specs.declared.status.Fault.TheVariants.{Refused}
 use Rattle.lift_host.specs.Messages.{message_of}
 use Rattle.lift_host.proofs.Fronts.{front_of, front_behind, fails_behind, on_err}

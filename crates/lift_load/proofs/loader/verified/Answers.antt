@@ -1,7 +1,7 @@
 use Rattle.std.proofs.Common.{◌≡◌, ◌∙◌, subst}
 use Rattle.il_rules.specs.Faults.{HasNoFault, IsRefusedBy}
 use Rattle.il_run.specs.Annotation.{Annotated}
-use Rattle.il_budget.specs.Costs.{IsTooLong}
+use Rattle.il_verify.specs.Costs.{IsTooLong}
 use Rattle.il_machine.specs.Scanning.{Program}
 use Rattle.lift_load.specs.Loading.{IsUnbroken, IsRefusedFor}
 use Rattle.lift_load.proofs.Explaining.{handed_as, if_ok, if_err}

@@ -1,7 +1,7 @@
 use Rattle.std.proofs.Common.{◌++◌, IfErr, subst}
 use Rattle.lift_host.specs.Messages.{message_of}
 use Rattle.lift_shell.specs.Runs.{IsAnswerOf, stream}
-use Rattle.lift_sink.specs.Writes.{Writes}
+use Rattle.lift_host.specs.Writes.{Writes}
 use Rattle.lift_shell.proofs.Asking.{asks_for_run}
 use Rattle.lift_shell.proofs.Ending.{printed_of}
 use Rattle.lift_shell.proofs.run.run_alone.Goals as goal

@@ -1,5 +1,5 @@
 use Rattle.std.proofs.Common.{◌≡◌, [], drop}
-use Rattle.il_slots.specs.Layout.{rows}
+use Rattle.il_layout.specs.Layout.{rows}
 use Rattle.il_code.specs.Laying.{with_values}
 use Rattle.il_code.proofs.rows.FirstRows.of.Given as goal
 

@@ -1,8 +1,8 @@
 use Rattle.std.proofs.Common.{◌≡◌, ◌∙◌, Some, sym, ap, slice_get}
 use Rattle.std.specs.Prelude.{option_map}
 use Rattle.il_scope.proofs.Seen.{read_at, none_at}
-use Rattle.il_slots.specs.declared.flat.Cell.{Cell}
-use Rattle.il_slots.proofs.Paired.{path_placed}
+use Rattle.il_layout.specs.declared.flat.Cell.{Cell}
+use Rattle.il_layout.proofs.Paired.{path_placed}
 use Rattle.il_code.specs.Tasks.{TaskLayout}
 use Rattle.il_code.proofs.task.TaskCode.name_of.Goals as goal
 

@@ -1,6 +1,6 @@
 use Rattle.std.proofs.Common.{ap, ◌∙◌}
-use Rattle.il_slots.specs.Paths.{slot_at}
-use Rattle.il_slots.proofs.Paired.{slot_named}
+use Rattle.il_layout.specs.Paths.{slot_at}
+use Rattle.il_layout.proofs.Paired.{slot_named}
 use Rattle.il_code.specs.Tasks.{TaskLayout}
 use Rattle.il_code.proofs.task.TaskCode.slot_of.Goals as goal
 

@@ -2,7 +2,7 @@ use Rattle.std.proofs.Common.{◌<◌, ◌^◌, [], None, ◌++◌, ◌∙◌, a
 use Rattle.std.proofs.lemmas.List.{length-map}
 use Rattle.il_exec.specs.Going.{going}
 use Rattle.lift_spec.specs.declared.image.Sizes.{Sizes}
-use Rattle.il_image.specs.Image.{image_values}
+use Rattle.il_snapshot.specs.Image.{image_values}
 use Rattle.il_machine.specs.Starting.{shared_value, listed_values}
 use Rattle.il_machine.proofs.Restarts.{room, given_values, starts_as, starts_scan}
 use Rattle.il_machine.proofs.bench.Bench.begin.Goals as goal

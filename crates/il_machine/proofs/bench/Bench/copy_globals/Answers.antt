@@ -1,8 +1,8 @@
 use Rattle.std.proofs.Common.{◌<◌, ◌∙◌, ap, ap₂, sym, subst, All, ℕ, List, length}
-use Rattle.il_slots.specs.declared.flat.Cell.{Cell}
-use Rattle.il_slots.specs.Layout.{Rows}
+use Rattle.il_layout.specs.declared.flat.Cell.{Cell}
+use Rattle.il_layout.specs.Layout.{Rows}
 use Rattle.il_machine.specs.declared.sharing.Transfer.{Transfer}
-use Rattle.il_slots.specs.Program.{program_cells, global_cells}
+use Rattle.il_layout.specs.Program.{program_cells, global_cells}
 use Rattle.il_machine.specs.Sharing.{taken, transfers, external_cells}
 use Rattle.il_machine.proofs.Shared.{takes, takes_fits, takes_within}
 use Rattle.il_machine.proofs.bench.Bench.copy_globals.Goals as goal

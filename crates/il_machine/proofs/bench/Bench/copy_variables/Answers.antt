@@ -1,5 +1,5 @@
 use Rattle.std.proofs.Common.{◌≡◌, rules, subst, sym, take, length}
-use Rattle.il_slots.specs.Layout.{rows}
+use Rattle.il_layout.specs.Layout.{rows}
 use Rattle.il_machine.specs.Scanning.{OwnsDeclared}
 use Rattle.il_machine.proofs.Keeping.{variables_declared, left_so, takes_variables}
 use Rattle.il_machine.proofs.bench.Bench.copy_variables.Goals as goal

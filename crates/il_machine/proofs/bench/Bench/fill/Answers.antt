@@ -1,7 +1,7 @@
 use Rattle.std.proofs.Common.{sym, ap, ◌∙◌, length}
 use Rattle.std.proofs.lemmas.List.{length-map}
 use Rattle.il_exec.specs.Going.{Stored}
-use Rattle.il_image.specs.Image.{image_values}
+use Rattle.il_snapshot.specs.Image.{image_values}
 use Rattle.il_machine.specs.declared.bench.Bench.TheInside.{Inside}
 use Rattle.il_machine.specs.Starting.{shared_value, listed_values}
 use Rattle.il_machine.proofs.Values.{written_long}

@@ -5,7 +5,7 @@ use Rattle.lift_spec.specs.Snapshot.{scan_begins}
 use Rattle.il_machine.specs.Scanning.{variables_in}
 use Rattle.il_machine.specs.Sharing.{globals_in}
 use Rattle.il_spec.specs.declared.tree.Unit.{Unit as ProgramUnit}
-use Rattle.il_slots.specs.Program.{program_cells}
+use Rattle.il_layout.specs.Program.{program_cells}
 use Rattle.il_machine.proofs.Restarts.{same_unit}
 use Rattle.lift_spec.specs.declared.image.Sizes.{Sizes}
 use Rattle.il_machine.proofs.Opened.{opening_in}

@@ -1,5 +1,5 @@
 use Rattle.std.proofs.Common.{rules, ◌≡◌, ◌↔◌, true, Some, ap, ◌∙◌, subst, refl}
-use Rattle.il_slots.specs.Layout.{Rows}
+use Rattle.il_layout.specs.Layout.{Rows}
 use Rattle.lift_spec.specs.Snapshot.{program_of}
 use Rattle.il_machine.specs.Standing.{Standing, Finished, BeganAs}
 use Rattle.il_machine.specs.Ran.{Ran, Begins, HaveSameValues, standing}

@@ -1,5 +1,5 @@
 use Rattle.std.proofs.Common.{rules, ◌≡◌, refl, subst, inr, string_bytes, ◌∙◌}
-use Rattle.lift_sink.specs.Writes.{AppendsFront}
+use Rattle.lift_host.specs.Writes.{AppendsFront}
 use Rattle.lift_serve.specs.Serving.{record_text}
 use Rattle.lift_serve.proofs.Tracing.{record_is}
 use Rattle.lift_serve.proofs.server.Server.trace_said.Goals as goal

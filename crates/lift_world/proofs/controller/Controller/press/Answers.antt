@@ -1,9 +1,10 @@
 use Rattle.std.proofs.Common.{◌∙◌, sym}
 use Rattle.lift_world.specs.Worlds.{world_in}
 use Rattle.lift_world.proofs.Events.{press_nowhere, press_same, press_again, press_new}
-use Rattle.lift_world.proofs.Happening.{told, floor_fits, first_not, second_not, both_so, same_so, other_so}
+use Rattle.lift_world.proofs.Happening.{told, floor_fits, first_not, second_not, same_so, other_so}
 use Rattle.lift_world.proofs.controller.Controller.press.Goals.{then-not-is_floor-via-then-not-is_floor, then-not-is_floor-via-else-not-is_floor+then-not-is_floor-2}
 use Rattle.lift_world.proofs.controller.Controller.press.Goals as goal
+use Rattle.il_scan_laws.proofs.Fresh.{both as both_so}
 
 pub returns-then-not-is_floor-clause-model : goal.returns-then-not-is_floor-clause-model
 returns-then-not-is_floor-clause-model c = λ _.

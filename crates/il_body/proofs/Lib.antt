@@ -1,5 +1,0 @@
-pub mod Labels
-pub mod Entries
-pub mod Missing
-pub mod External
-pub mod OneUnit

@@ -1,5 +1,0 @@
-pub mod Bodies
-pub mod Lists
-pub mod Insides
-pub mod Headings
-pub mod Units

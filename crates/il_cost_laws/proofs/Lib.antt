@@ -1,3 +1,0 @@
-pub mod Table
-pub mod Longest
-pub mod Accepted

@@ -1,3 +1,0 @@
-mod Tables
-mod Joins
-mod Seen

@@ -1,0 +1,125 @@
+// The offsets of all names.
+
+ghost use Rattle.std.specs.Prelude.{◌≡◌, ◌<◌, ◌≤◌, ◌^◌, length, map, drop, slice_get, Some, IfOk, OnOk};
+ghost use Rattle.il_layout.specs.Making.{shown, added, block_lists, sizes_of, offsets_of, unit_offsets, all_offsets};
+ghost use Rattle.il_spec.specs.declared.tree.Unit.{Unit as ProgramUnit};
+ghost use Rattle.il_run.specs.Meaning.{own_entities};
+
+use crate::offsets::offsets_of;
+use crate::sizes::block_sizes;
+use crate::variables::{Variable, other_variables};
+use il_scope::Scoped;
+use il_spec::tree::Unit;
+use il_table::Table;
+use lists::Items;
+use std::alloc::{AllocError, Global};
+
+// The offsets of a unit's names.
+#[tactic(auto, using(crate::proofs::Counted::unit_list))]
+fn unit_offsets(
+    alloc: Global,
+    names: &Scoped,
+    sizes: &[usize],
+    own: &[Variable],
+    unit: &Unit,
+) -> Result<Table<usize>, AllocError>
+    requires few { length names.now.units < 2 ^ 63 }
+    requires sizes { sizes.now ≡ sizes_of names.now }
+    requires own { own.now ≡ map (shown names.now) (own_entities unit.now) }
+    ensures { IfOk result (λ t. t ≡ unit_offsets names.now unit.now) }
+{
+    let units = names.config().units.as_slice().len();
+    let others = other_variables(alloc, names, unit)?;
+    offsets_of(alloc, units, sizes, own, others.as_slice())
+}
+
+// The offsets of the names of the unit of a number.
+fn table_at(
+    alloc: Global,
+    names: &Scoped,
+    sizes: &[usize],
+    lists: &[Items<Variable>],
+    at: usize,
+) -> Result<Table<usize>, AllocError>
+    requires few { length names.now.units < 2 ^ 63 }
+    requires sizes { sizes.now ≡ sizes_of names.now }
+    requires lists { lists.now ≡ block_lists names.now }
+    requires at { at < length names.now.units }
+    ensures { IfOk result (λ t. (u : ProgramUnit) → slice_get names.now.units at ≡ Some u → t ≡ unit_offsets names.now u) }
+{
+    let unit = &names.config().units.as_slice()[at];
+    let own = lists[at].as_slice();
+    unit_offsets(alloc, names, sizes, own, unit)
+}
+
+// The offsets of each unit's names.
+fn units_offsets(
+    alloc: Global,
+    names: &Scoped,
+    sizes: &[usize],
+    lists: &[Items<Variable>],
+) -> Result<Items<Table<usize>>, AllocError>
+    requires few { length names.now.units < 2 ^ 63 }
+    requires sizes { sizes.now ≡ sizes_of names.now }
+    requires lists { lists.now ≡ block_lists names.now }
+    ensures { IfOk result (λ ts. ts ≡ map (unit_offsets names.now) names.now.units) }
+{
+    let units = names.config().units.as_slice().len();
+    let mut tables = Items::new(alloc);
+    for at in 0..units {
+        tables.push(table_at(alloc, names, sizes, lists, at)?)?;
+    }
+    Ok(tables)
+}
+
+// Adds the offsets of the words of standard blocks.
+fn add_standard(
+    alloc: Global,
+    units: usize,
+    sizes: &[usize],
+    lists: &[Items<Variable>],
+    tables: &mut Items<Table<usize>>,
+) -> Result<(), AllocError>
+    requires { units < 2 ^ 63 }
+    ensures { OnOk result (tables.new ≡ added tables.old (map (λ vs. offsets_of units sizes.now vs) lists.now)) }
+{
+    'lists: for list in lists {
+        tables.push(offsets_of(alloc, units, sizes, list.as_slice(), &[])?)?;
+    }
+    Ok(())
+}
+
+// The same behind the offsets of the units, where the lists of standard blocks stand behind those of the units.
+fn with_standard(
+    alloc: Global,
+    units: usize,
+    sizes: &[usize],
+    lists: &[Items<Variable>],
+    tables: Items<Table<usize>>,
+) -> Result<Items<Table<usize>>, AllocError>
+    requires few { units < 2 ^ 63 }
+    requires room { units ≤ length lists.now }
+    ensures { IfOk result (λ ts. ts ≡ added tables (map (λ vs. offsets_of units sizes.now vs) (drop units lists.now))) }
+{
+    let mut tables = tables;
+    add_standard(alloc, units, sizes, &lists[units..], &mut tables)?;
+    Ok(tables)
+}
+
+/// The offsets of each unit's names, and behind them those of the words of the standard blocks, from the variables of all blocks.
+#[tactic(auto, using(crate::proofs::Counted::sizes_found))]
+pub fn all_offsets(
+    alloc: Global,
+    names: &Scoped,
+    lists: &[Items<Variable>],
+) -> Result<Items<Table<usize>>, AllocError>
+    requires few { length names.now.units < 2 ^ 63 }
+    requires lists { lists.now ≡ block_lists names.now }
+    ensures { IfOk result (λ ts. ts ≡ all_offsets names.now) }
+{
+    let units = names.config().units.as_slice().len();
+    let sizes = block_sizes(alloc, units, lists)?;
+    let tables = units_offsets(alloc, names, sizes.as_slice(), lists)?;
+    let all = with_standard(alloc, units, sizes.as_slice(), lists, tables)?;
+    Ok(all)
+}

@@ -1,0 +1,228 @@
+-- What comes next in a body.
+use Rattle.std.proofs.Common.{◌≡◌, ℕ, zero, suc, ◌+◌, ◌<◌, ◌≤◌, Bool, true, false, not, ◌&&◌, List, [], ◌∷◌, ◌++◌, length, length-append, append-nil, refl, sym, ◌∙◌, ap, inl, inr, Option, Some, None, arith}
+use Rattle.std.proofs.lemmas.Bool.{cases_lt}
+use Rattle.std.proofs.lemmas.Bool.Decides.{nat_tests}
+use Rattle.std.specs.Prelude.{IsTrue, IsFalse, ◌==◌, max}
+use Rattle.il_spec.specs.declared.token.Token.{Token}
+use Rattle.il_spec.specs.declared.token.Sign.TheVariants.{CloseParenthesis, Ampersand}
+use Rattle.il_spec.specs.declared.keyword.Keyword.{Keyword}
+use Rattle.il_spec.specs.declared.keyword.Keyword.TheVariants as word
+use Rattle.il_spec.specs.declared.tree.Place.{Place}
+use Rattle.il_spec.specs.declared.tree.Named.{Named}
+use Rattle.il_spec.specs.declared.tree.Operator.{Operator}
+use Rattle.il_spec.specs.declared.tree.Operator.TheVariants as operator
+use Rattle.il_spec.specs.declared.tree.Logic.TheVariants.{Conjunction, Disjunction, Exclusive}
+use Rattle.il_spec.specs.declared.tree.Instruction.{Instruction}
+use Rattle.il_spec.specs.declared.tree.Instruction.TheVariants as instruction
+use Rattle.il_spec.specs.declared.tree.Step.{Step}
+use Rattle.il_spec.specs.declared.tree.Body.{Body}
+use Rattle.il_spec.specs.Grammar.{Front, At, skip_line_ends, Repeats, TheWord, SpellsOperator, SpellsShortly, SpellsAmpersand, SpellsInstruction, SpellsLabelled, SpellsStep, SpellsLabelLine, may_stand, closes, leaves, is_load, depth_after, needs_load, is_nested, greatest_depth}
+use Rattle.il_grammar_laws.proofs.Leads.{at_holds, reserved}
+use Rattle.il_grammar_laws.proofs.Instructions.{sort_at, none}
+use Rattle.il_grammar_laws.proofs.Bodies.{step_one, step_no_end}
+use Rattle.il_read.specs.Lead.{lead_at}
+use Rattle.il_read.specs.Reads.{IsFault, Reads, Refuses, HasRoom, IsPlaceOf, SpellsRoomy}
+use Rattle.il_read.specs.declared.lead.Lead.{Lead}
+use Rattle.il_read.specs.declared.lead.Lead.TheVariants as lead
+use Rattle.il_read.specs.declared.stop.Stop.{Stop}
+use Rattle.il_read.proofs.Leaves.{word_lead, sign_lead, the_name_lead}
+use Rattle.il_read.proofs.Chain.{HasRead, goes_on, ended}
+use Rattle.il_read.specs.Settings.{TakesWord}
+use Rattle.il_read.proofs.Nesting.{IsOpen, one_open, closed}
+use Rattle.il_parse.specs.Bodies.{closes_lead, leaves_lead, loads_lead, may_begin, bare, SpellsPlaced, HasLabels, TakesEnd, SpellsNext, IsLast, SpellsSteps}
+use Rattle.il_parse.specs.declared.bodies.Entry.{Entry}
+use Rattle.il_parse.specs.declared.bodies.Entry.TheVariants as entry
+
+-- what its first token tells of an instruction
+record Tells (l : Lead) (i : Instruction) : Type 0 where
+  closing : closes_lead l ≡ closes i
+  leaving : leaves_lead l ≡ leaves i
+  loading : loads_lead l ≡ is_load i
+
+-- a word that ends a body begins no instruction
+pub last_none : (k : Keyword) → IsLast k → sort_at (reserved k) ≡ none
+last_none word.EndFunction is = refl
+last_none word.EndFunctionBlock is = refl
+last_none word.EndProgram is = refl
+last_none k is = absurd is
+
+-- a successor is not zero
+not_zero : (d : ℕ) → (suc d == 0) ≡ false
+not_zero d = grind (arith, nat_tests)
+
+both_left : (a b : Bool) → (a && b) ≡ true → a ≡ true
+both_left true b e = refl
+both_left false b e = e
+
+zero_is : (d : ℕ) → (d == 0) ≡ true → d ≡ 0
+zero_is zero e = refl
+zero_is (suc d) e = let bad : false ≡ true = sym (not_zero d) ∙ e in absurd cc
+
+module _ (text : List ℕ) where
+  ampersand_lead : (b : Bool) (ts r : List Token) → SpellsAmpersand text b ts r → lead_at text ts ≡ lead.Sign Ampersand
+  ampersand_lead b [] r p = absurd p
+  ampersand_lead b (t ∷ ts) r p = sign_lead text Ampersand (t ∷ ts) ts (p.0, refl)
+
+  short_lead : (o : Operator) (ts r : List Token) → SpellsShortly text o ts r → lead_at text ts ≡ lead.Sign Ampersand
+  short_lead (operator.Logic Conjunction negated) ts r p = ampersand_lead negated ts r p
+  short_lead (operator.Logic Disjunction negated) ts r p = absurd p
+  short_lead (operator.Logic Exclusive negated) ts r p = absurd p
+  short_lead (operator.Arithmetic a) ts r p = absurd p
+  short_lead (operator.Comparison c) ts r p = absurd p
+
+  operator_tells : (i : Instruction) (o : Operator) (ts r : List Token) → closes i ≡ false → leaves i ≡ false → is_load i ≡ false → SpellsOperator text o ts r → Tells (lead_at text ts) i
+  operator_tells i o ts r a b c (inl p) = rw (word_lead text (word.Operate o) ts r p) (record { closing = sym a; leaving = sym b; loading = sym c })
+  operator_tells i o ts r a b c (inr p) = rw (short_lead o ts r p) (record { closing = sym a; leaving = sym b; loading = sym c })
+
+  tells : (i : Instruction) (ts r : List Token) → SpellsInstruction text i ts r → Tells (lead_at text ts) i
+  tells (instruction.Load n o) ts r p = rw (word_lead text (word.Load n) ts p.0 p.1) (record { closing = refl; leaving = refl; loading = refl })
+  tells (instruction.Store k o) ts r p = rw (word_lead text (word.Store k) ts p.0 p.1) (record { closing = refl; leaving = refl; loading = refl })
+  tells instruction.Not ts r p = rw (word_lead text word.Not ts p.0 p.1) (record { closing = refl; leaving = refl; loading = refl })
+  tells (instruction.Operate op o) ts r p = operator_tells (instruction.Operate op o) op ts p.0 refl refl refl p.1
+  tells (instruction.Defer op o) ts r p = operator_tells (instruction.Defer op o) op ts p.0 refl refl refl p.1
+  tells instruction.Evaluate ts r p = rw (sign_lead text CloseParenthesis ts p.0 p.1) (record { closing = refl; leaving = refl; loading = refl })
+  tells (instruction.Jump k n) ts r p = rw (word_lead text (word.Jump k) ts p.0 p.1) (record { closing = refl; leaving = refl; loading = refl })
+  tells (instruction.Return k) ts r p = rw (word_lead text (word.Return k) ts p.0 p.1) (record { closing = refl; leaving = refl; loading = refl })
+  tells (instruction.Call k n a) ts r p = rw (word_lead text (word.Call k) ts p.0 p.1) (record { closing = refl; leaving = refl; loading = refl })
+  tells (instruction.Invoke f a) ts r p = rw (the_name_lead text f ts p.0 p.1) (record { closing = refl; leaving = refl; loading = refl })
+
+  -- the first token tells whether an instruction may stand there
+  pub may_so : (depth : ℕ) (load : Bool) (p : Place) (i : Instruction) (ts r : List Token) → SpellsInstruction text i ts r → may_begin depth load (lead_at text ts) ≡ may_stand depth load (bare p i)
+  may_so zero load p i ts r w = ap not (tells i ts r w).closing
+  may_so (suc depth) load p i ts r w = let t = tells i ts r w in rw (not_zero depth, t.leaving, t.loading) refl
+
+  -- it may not stand there
+  pub stands_not : (depth : ℕ) (load full : Bool) (ts : List Token) (e : Stop) → may_begin depth load (lead_at text ts) ≡ false → Refuses (SpellsPlaced text depth load full) ts e
+  stands_not depth load full ts e out = record {
+    never = λ is x r w.
+        let bad = sym out ∙ may_so depth load x.0 x.1 ts r (at_holds text (SpellsInstruction text x.1) x.0 ts r w.0) ∙ w.1 in
+        cc;
+  }
+
+  -- the body is full
+  pub full_refused : (depth : ℕ) (load full : Bool) (ts : List Token) (e : Stop) → full ≡ true → Refuses (SpellsPlaced text depth load full) ts e
+  full_refused depth load full ts e is_full = record { never = λ is x r w. let bad : not full ≡ true = w.3 in let same = ap not is_full in cc }
+
+  -- an instruction that is read, and may stand there
+  room_enough : (room : Bool) (depth : ℕ) (i : Instruction) → depth ≤ 16 → (IsTrue room → depth < 16) → HasRoom room i → depth_after depth i ≤ 16
+  room_enough room depth (instruction.Defer op first) small roomy has = let a = roomy has in omega arith
+  room_enough room zero instruction.Evaluate small roomy has = omega arith
+  room_enough room (suc depth) instruction.Evaluate small roomy has = let a : depth ≤ 16 = omega arith in a
+  room_enough room depth i small roomy has = small
+
+  at_there : (P : Front) (p : Place) (ts r : List Token) → IsPlaceOf p ts → P ts r → At p P ts r
+  at_there P p [] r here w = absurd here
+  at_there P p (t ∷ ts) r here w = (here.0, here.1, w)
+
+  pub placed_read : (room : Bool) (depth : ℕ) (load full : Bool) (p : Place) (i : Instruction) (ts r : List Token) → depth ≤ 16 → (IsTrue room → depth < 16) → IsPlaceOf p ts
+      → may_begin depth load (lead_at text ts) ≡ true → full ≡ false → Reads (SpellsRoomy text room) ts i r → Reads (SpellsPlaced text depth load full) ts (p, i) r
+  placed_read room depth load full p i ts r small roomy place may open_ here = record {
+    found = (
+      at_there (SpellsInstruction text i) p ts r place here.found.1,
+      sym (may_so depth load p i ts r here.found.1) ∙ may,
+      room_enough room depth i small roomy here.found.0,
+      ap not open_,
+    );
+  }
+
+  -- the word that ends the body, where it may stand
+  pub end_taken : (last : Keyword) (alone : Bool) (ts r : List Token) (o : Option Place) → IsTrue alone → TakesWord text last ts o r → TakesEnd text last alone ts o r
+  end_taken last alone ts r (Some p) is w = (is, w)
+  end_taken last alone ts r None is w = (w.0, λ p q at _. w.1 q (at_holds text (TheWord text last) p ts q at))
+
+  pub end_out : (last : Keyword) (alone : Bool) (ts : List Token) → alone ≡ false → TakesEnd text last alone ts None ts
+  end_out last alone ts off = (refl, λ p q at is. let bad : alone ≡ true = is in cc)
+
+  -- behind labels stands no instruction, and no end
+  pub outer_refused : (last : Keyword) (load full alone : Bool) (start m : List Token) (ns : List Named) (e : Stop) → HasLabels text start ns alone m
+      → ((p : Place) (r : List Token) → At p (TheWord text last) m r → IsTrue alone → ⊥) → Refuses (SpellsPlaced text 0 load full) m e → Refuses (SpellsNext text last 0 load full) start e
+  outer_refused last load full alone start m ns e labels out bad = record { never = go }
+    where
+      go : IsFault e → (x : Entry) (r : List Token) → SpellsNext text last 0 load full x start r → ⊥
+      go is (entry.Step s) r w =
+          let a = labels.no_other s.place s.instruction s.labels r w.0 in
+          bad.never is (s.place, s.instruction) r (a.1, w.1.0, w.1.1, w.1.2)
+      go is (entry.End ls p) r w = let a = labels.no_other_end last p ls r w.0 in out p r a.1 a.2
+
+  -- in parentheses stand no labels, and no end
+  pub inner_refused : (last : Keyword) (depth : ℕ) (load full : Bool) (ts : List Token) (e : Stop) → (depth ≡ 0 → ⊥) → Refuses (SpellsPlaced text depth load full) ts e → Refuses (SpellsNext text last depth load full) ts e
+  inner_refused last zero load full ts e inside bad = absurd (inside refl)
+  inner_refused last (suc depth) load full ts e inside bad = record { never = go }
+    where
+      unlabelled : IsFault e → (ls : List Named) (p : Place) (i : Instruction) (r : List Token) → SpellsLabelled text ls (At p (SpellsInstruction text i)) ts r
+          → IsTrue (may_stand (suc depth) load (record { labels = ls; place = p; instruction = i })) → depth_after (suc depth) i ≤ 16 → IsTrue (not full) → ⊥
+      unlabelled is [] p i r w may deep free = bad.never is (p, i) r (w, may, deep, free)
+      unlabelled is (l ∷ ls) p i r w may deep free = let bad : false ≡ true = sym (not_zero (length ls)) ∙ both_left _ _ (both_left _ _ may) in cc
+
+      go : IsFault e → (x : Entry) (r : List Token) → SpellsNext text last (suc depth) load full x ts r → ⊥
+      go is (entry.Step s) r w = unlabelled is s.labels s.place s.instruction r w.0 w.1.0 w.1.1 w.1.2
+      go is (entry.End ls p) r w = inside w.1
+
+  pub inner_read : (last : Keyword) (depth : ℕ) (load full : Bool) (ts r : List Token) (p : Place) (i : Instruction) → Reads (SpellsPlaced text depth load full) ts (p, i) r
+      → Reads (SpellsNext text last depth load full) ts (entry.Step (record { labels = []; place = p; instruction = i })) r
+  inner_read last depth load full ts r p i here = record { found = (here.found.0, (here.found.1, here.found.2, here.found.3)) }
+
+  -- the labels at the end of a body, and its end
+  abbrev pub TheEnds : Keyword → List Named × Place → Front
+  TheEnds last b = Repeats (SpellsLabelLine text) b.0 (At b.1 (TheWord text last))
+
+  -- the body has no such instructions
+  at_least : (d : ℕ) (xs : List Step) → d ≤ greatest_depth d xs
+  at_least d [] = omega arith
+  at_least d (x ∷ xs) = omega arith
+
+  free : (full : Bool) (n : ℕ) → (IsTrue full → n ≡ 4096) → n < 4096 → IsTrue (not full)
+  free true n is few = let a = is refl in absurd (omega (arith, a, few))
+  free false n is few = refl
+
+  pub steps_refused : (last : Keyword) (start ts : List Token) (xs : List Step) (depth : ℕ) (load full : Bool) (most : ℕ) (e : Stop) → (IsTrue full → length xs ≡ 4096) → IsOpen xs depth load most
+      → ((b : List Named × Place) → HasRead (SpellsStep text) (TheEnds last b) start xs ts) → Refuses (SpellsNext text last depth load full) ts e → Refuses (SpellsSteps text last) start e
+  steps_refused last start ts xs depth load full most e is_full opens so_far bad = record {
+    never = λ is b r w.
+        let l = (so_far (b.last_labels, b.end)).left b.steps r w.0 in
+        go is b r w l.0 l.1 l.2;
+  }
+    where
+      go : IsFault e → (b : Body) (r : List Token) → SpellsSteps text last b start r → (more : List Step) → b.steps ≡ xs ++ more → Repeats (SpellsStep text) more (TheEnds last (b.last_labels, b.end)) ts r → ⊥
+      go is b r w [] same left =
+          let here : b.steps ≡ xs = same ∙ append-nil xs in
+          let shut : (depth == 0) ≡ true = sym (closed xs depth load most opens) ∙ ap (λ ys. is_nested 0 false ys) (sym here) ∙ w.1 in
+          bad.never is (entry.End b.last_labels b.end) r (left, zero_is depth shut)
+      go is b r w (y ∷ more) same left =
+          let nested = sym (opens.nested (y ∷ more)) ∙ ap (λ ys. is_nested 0 false ys) (sym same) ∙ w.1 in
+          let may = both_left (may_stand depth load y) _ nested in
+          let deep = sym (opens.deep (y ∷ more)) ∙ ap (λ ys. greatest_depth 0 ys) (sym same) in
+          let least = at_least (depth_after depth y.instruction) more in
+          let small : depth_after depth y.instruction ≤ 16 = omega (arith, deep, least, w.3) in
+          let size = ap length same ∙ length-append xs (y ∷ more) in
+          let few : length xs < 4096 = omega (arith, size, w.2) in
+          bad.never is (entry.Step y) left.0 (left.1, (may, small, free full (length xs) is_full few))
+
+  pub steps_read : (last : Keyword) (start ts r : List Token) (xs : List Step) (depth : ℕ) (load full : Bool) (most : ℕ) (ls : List Named) (p : Place) → most ≤ 16 → depth ≤ 16 → length xs ≤ 4096 → IsOpen xs depth load most
+      → ((b : List Named × Place) → HasRead (SpellsStep text) (TheEnds last b) start xs ts) → Reads (SpellsNext text last depth load full) ts (entry.End ls p) r
+      → Reads (SpellsSteps text last) start (record { steps = xs; last_labels = ls; end = p }) r
+  steps_read last start ts r xs depth load full most ls p most_small small few opens so_far here =
+      let deep = sym (opens.deep []) ∙ ap (λ ys. greatest_depth 0 ys) (append-nil xs) in
+      record {
+        found = (
+          (ended _ _ start xs ts r (so_far (ls, p)) here.found.0).found,
+          closed xs depth load most opens ∙ ap (λ d. d == 0) here.found.1,
+          few,
+          omega (arith, deep, most_small, small),
+        );
+      }
+
+  pub step_on : (last : Keyword) → IsLast last → (start ts m : List Token) (xs : List Step) (depth : ℕ) (load full : Bool) (x : Step)
+      → ((b : List Named × Place) → HasRead (SpellsStep text) (TheEnds last b) start xs ts) → Reads (SpellsNext text last depth load full) ts (entry.Step x) m
+      → (b : List Named × Place) → HasRead (SpellsStep text) (TheEnds last b) start (xs ++ x ∷ []) (skip_line_ends m)
+  step_on last is start ts m xs depth load full x so_far here b =
+      goes_on _ _ (step_one text) start xs ts x m (λ r w. (step_no_end text last (last_none last is)).never x b ts m r here.found.0 w) (so_far b) (record { found = here.found.0 })
+
+  pub open_on : (last : Keyword) (ts m : List Token) (xs : List Step) (depth : ℕ) (load full : Bool) (most : ℕ) (x : Step) → IsOpen xs depth load most → Reads (SpellsNext text last depth load full) ts (entry.Step x) m
+      → IsOpen (xs ++ x ∷ []) (depth_after depth x.instruction) (needs_load x.instruction) (max most depth)
+  open_on last ts m xs depth load full most x opens here = one_open xs depth load most x opens here.found.1.0
+
+-- there is room for one more
+pub few_on : (full : Bool) (n : ℕ) → IsTrue (not full) → (IsFalse full → n ≡ 4096 → ⊥) → n ≤ 4096 → n + 1 ≤ 4096
+few_on true n free out le = absurd cc
+few_on false n free out le = elim (cases_lt n 4096) [ inl lt ↦ omega arith | inr ge ↦ absurd (out refl (omega arith)) ]

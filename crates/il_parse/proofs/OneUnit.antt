@@ -1,0 +1,234 @@
+-- Units of each kind, from their parts and back.
+use Rattle.std.proofs.Common.{◌≡◌, ℕ, ◌<◌, List, [], ◌∷◌, length, refl, sym, subst, arith}
+use Rattle.std.specs.Prelude.{Result, Ok, Err, IfErr}
+use Rattle.il_spec.specs.declared.token.Token.{Token}
+use Rattle.il_spec.specs.declared.keyword.Keyword.{Keyword}
+use Rattle.il_spec.specs.declared.keyword.Keyword.TheVariants as word
+use Rattle.il_spec.specs.declared.tree.Place.{Place}
+use Rattle.il_spec.specs.declared.tree.Named.{Named}
+use Rattle.il_spec.specs.declared.tree.Scalar.{Scalar}
+use Rattle.il_spec.specs.declared.tree.Declaration.{Declaration}
+use Rattle.il_spec.specs.declared.tree.Body.{Body}
+use Rattle.il_spec.specs.declared.tree.UnitKind.{UnitKind}
+use Rattle.il_spec.specs.declared.tree.UnitKind.TheVariants as unit
+use Rattle.il_spec.specs.declared.tree.Unit.{Unit as ProgramUnit}
+use Rattle.il_spec.specs.Grammar.{TheWord, SpellsFilledList, SpellsBody, unit_word}
+use Rattle.il_grammar_laws.specs.One.{IsDeterministic}
+use Rattle.il_grammar_laws.proofs.Leads.{word_lead, at_holds}
+use Rattle.il_grammar_laws.proofs.Units.{unit_lead, unit_one}
+use Rattle.il_read.specs.Reads.{Reads, Refuses}
+use Rattle.il_read.specs.declared.stop.Stop.{Stop}
+use Rattle.il_parse.specs.Bodies.{SpellsSmallBody}
+use Rattle.il_parse.specs.Lists.{IsFilled, SpellsFull}
+use Rattle.il_parse.specs.Insides.{LacksList, SpellsProgramInside, SpellsBlockInside, SpellsFunctionInside}
+use Rattle.il_parse.specs.Headings.{SpellsProgram, SpellsBlock, SpellsFunction}
+use Rattle.il_parse.specs.Units.{IsFew, SpellsSmallUnit, SpellsUnitOf}
+
+-- what refuses one thing refuses another
+pub refused_so : {X : Type 0} {P Q : Stop → Type 0} → ((e : Stop) → P e → Q e) → (r : Result X Stop) → IfErr r P → IfErr r Q
+refused_so f (Ok x) h = tt
+refused_so f (Err e) h = f e h
+
+module _ (text : List ℕ) where
+  -- a body within the limits
+  small_body : (last : Keyword) (b : Body) (ts r : List Token) → SpellsBody text last b ts r → IsFew b → SpellsSmallBody text last b ts r
+  small_body last b ts r w few = (w.1.0, w.1.1, (w.1.2, w.0, few.0, few.1))
+
+  -- a list that may be missing, and is empty
+  lacks : (k : Keyword) (ds : List Declaration) (ts r : List Token) → ds ≡ [] → SpellsFilledList text k ds ts r → LacksList text k ts r
+  lacks k ds ts r none w = subst (λ (xs : List Declaration). SpellsFilledList text k xs ts r) none w
+
+  -- a list that isn't empty
+  full : (k : Keyword) (ds : List Declaration) (ts r : List Token) → 0 < length ds → SpellsFilledList text k ds ts r → SpellsFull text k ds ts r
+  full k [] ts r some w = absurd (omega (arith, some))
+  full k (d ∷ ds) ts r some w = (tt, w)
+
+  filled : (k : Keyword) (ds : List Declaration) (ts r : List Token) → SpellsFull text k ds ts r → SpellsFilledList text k ds ts r
+  filled k [] ts r w = absurd w.0
+  filled k (d ∷ ds) ts r w = w.1
+
+  more_than_none : (ds : List Declaration) → IsFilled ds → 0 < length ds
+  more_than_none [] h = absurd h
+  more_than_none (d ∷ ds) h = omega arith
+
+  -- a program is its parts
+  program_parts : (k : UnitKind) (p : Place) (n : Named) (ins outs vs es : List Declaration) (b : Body) (ts r : List Token)
+      → SpellsUnitOf text word.Program (record { place = p; kind = k; name = n; inputs = ins; outputs = outs; variables = vs; externals = es; body = b }) ts r → SpellsProgram text (p, n, (vs, es, b)) ts r
+  program_parts unit.Program p n ins outs vs es b ts r w =
+      let u = w.1.0 in
+      let few = w.1.1 in
+      let name = u.1.2 in
+      let lists = name.2.2 in
+      let second = lists.2 in
+      let third = second.2 in
+      let fourth = third.2 in
+      let inside : SpellsProgramInside text (vs, es, b) name.2.0 r = (
+        lists.0,
+        lacks word.VarInput ins name.2.0 lists.0 u.0.0 lists.1,
+        (
+          second.0,
+          lacks word.VarOutput outs lists.0 second.0 u.0.1 second.1,
+          (third.0, third.1, (fourth.0, fourth.1, small_body word.EndProgram b fourth.0 r fourth.2 few)),
+        ),
+      ) in
+      (u.1.0, u.1.1, (name.0, name.1, subst (λ (m : List Token). SpellsProgramInside text (vs, es, b) m r) (sym name.2.1) inside))
+  program_parts unit.FunctionBlock p n ins outs vs es b ts r w = absurd (cc w.0)
+  program_parts (unit.Function s q) p n ins outs vs es b ts r w = absurd (cc w.0)
+
+  -- a program of its parts
+  pub program_read : (ts r : List Token) (p : Place) (n : Named) (vs es : List Declaration) (b : Body) → Reads (SpellsProgram text) ts (p, n, (vs, es, b)) r
+      → Reads (SpellsUnitOf text word.Program) ts (record { place = p; kind = unit.Program; name = n; inputs = []; outputs = []; variables = vs; externals = es; body = b }) r
+  program_read ts r p n vs es b here =
+      let h = here.found in
+      let name = h.2 in
+      let i = name.2 in
+      let second = i.2 in
+      let third = second.2 in
+      let fourth = third.2 in
+      let d = fourth.2 in
+      record {
+        found = (
+          refl,
+          (
+            ((refl, refl), (h.0, h.1, (name.0, name.1, (name.0, refl, (i.0, i.1, (second.0, second.1, (third.0, third.1, (fourth.0, fourth.1, (d.2.1, (d.0, d.1, d.2.0)))))))))),
+            (d.2.2, d.2.3),
+          ),
+        );
+      }
+
+  pub program_refused : (ts : List Token) (e : Stop) → Refuses (SpellsProgram text) ts e → Refuses (SpellsUnitOf text word.Program) ts e
+  program_refused ts e bad = record {
+    never = λ is u r w. bad.never is (u.place, u.name, (u.variables, u.externals, u.body)) r (program_parts u.kind u.place u.name u.inputs u.outputs u.variables u.externals u.body ts r w);
+  }
+
+  -- a function block is its parts
+  block_parts : (k : UnitKind) (p : Place) (n : Named) (ins outs vs es : List Declaration) (b : Body) (ts r : List Token)
+      → SpellsUnitOf text word.FunctionBlock (record { place = p; kind = k; name = n; inputs = ins; outputs = outs; variables = vs; externals = es; body = b }) ts r → SpellsBlock text (p, n, (ins, outs, vs, b)) ts r
+  block_parts unit.FunctionBlock p n ins outs vs es b ts r w =
+      let u = w.1.0 in
+      let few = w.1.1 in
+      let name = u.1.2 in
+      let lists = name.2.2 in
+      let second = lists.2 in
+      let third = second.2 in
+      let fourth = third.2 in
+      let inside : SpellsBlockInside text (ins, outs, vs, b) name.2.0 r =
+      (lists.0, lists.1, (second.0, second.1, (third.0, third.1, (fourth.0, fourth.1.1, small_body word.EndFunctionBlock b fourth.0 r fourth.2 few)))) in
+      (u.1.0, u.1.1, (name.0, name.1, subst (λ (m : List Token). SpellsBlockInside text (ins, outs, vs, b) m r) (sym name.2.1) inside))
+  block_parts unit.Program p n ins outs vs es b ts r w = absurd (cc w.0)
+  block_parts (unit.Function s q) p n ins outs vs es b ts r w = absurd (cc w.0)
+
+  -- a function block of its parts
+  pub block_read : (ts r : List Token) (p : Place) (n : Named) (ins outs vs : List Declaration) (b : Body) → Reads (SpellsBlock text) ts (p, n, (ins, outs, vs, b)) r
+      → Reads (SpellsUnitOf text word.FunctionBlock) ts (record { place = p; kind = unit.FunctionBlock; name = n; inputs = ins; outputs = outs; variables = vs; externals = []; body = b }) r
+  block_read ts r p n ins outs vs b here =
+      let h = here.found in
+      let name = h.2 in
+      let i = name.2 in
+      let second = i.2 in
+      let third = second.2 in
+      let fourth = third.2 in
+      let d = fourth.2 in
+      record {
+        found = (
+          refl,
+          (
+            (tt, (h.0, h.1, (name.0, name.1, (name.0, refl, (i.0, i.1, (second.0, second.1, (third.0, third.1, (fourth.0, (refl, fourth.1), (d.2.1, (d.0, d.1, d.2.0)))))))))),
+            (d.2.2, d.2.3),
+          ),
+        );
+      }
+
+  pub block_refused : (ts : List Token) (e : Stop) → Refuses (SpellsBlock text) ts e → Refuses (SpellsUnitOf text word.FunctionBlock) ts e
+  block_refused ts e bad = record {
+    never = λ is u r w. bad.never is (u.place, u.name, (u.inputs, u.outputs, u.variables, u.body)) r (block_parts u.kind u.place u.name u.inputs u.outputs u.variables u.externals u.body ts r w);
+  }
+
+  -- a function is its parts
+  function_parts : (k : UnitKind) (p : Place) (n : Named) (ins outs vs es : List Declaration) (b : Body) (ts r : List Token)
+      → SpellsUnitOf text word.Function (record { place = p; kind = k; name = n; inputs = ins; outputs = outs; variables = vs; externals = es; body = b }) ts r
+      → (x : Place × Scalar) × SpellsFunction text (p, n, x, (ins, vs, b)) ts r
+  function_parts (unit.Function s q) p n ins outs vs es b ts r w =
+      let u = w.1.0 in
+      let few = w.1.1 in
+      let name = u.1.2 in
+      let lists = name.2.2 in
+      let second = lists.2 in
+      let third = second.2 in
+      let fourth = third.2 in
+      let inside : SpellsFunctionInside text (ins, vs, b) name.2.0 r = (
+        lists.0,
+        full word.VarInput ins name.2.0 lists.0 u.0.0 lists.1,
+        (
+          second.0,
+          lacks word.VarOutput outs lists.0 second.0 u.0.1 second.1,
+          (third.0, third.1, (fourth.0, fourth.1.1, small_body word.EndFunction b fourth.0 r fourth.2 few)),
+        ),
+      ) in
+      ((q, s), (u.1.0, u.1.1, (name.0, name.1, (name.2.0, name.2.1, inside))))
+  function_parts unit.Program p n ins outs vs es b ts r w = absurd (cc w.0)
+  function_parts unit.FunctionBlock p n ins outs vs es b ts r w = absurd (cc w.0)
+
+  -- a function of its parts
+  pub function_read : (ts r : List Token) (p : Place) (n : Named) (q : Place) (s : Scalar) (ins vs : List Declaration) (b : Body) → Reads (SpellsFunction text) ts (p, n, (q, s), (ins, vs, b)) r
+      → Reads (SpellsUnitOf text word.Function) ts (record { place = p; kind = unit.Function s q; name = n; inputs = ins; outputs = []; variables = vs; externals = []; body = b }) r
+  function_read ts r p n q s ins vs b here =
+      let h = here.found in
+      let name = h.2 in
+      let outcome = name.2 in
+      let i = outcome.2 in
+      let second = i.2 in
+      let third = second.2 in
+      let fourth = third.2 in
+      let d = fourth.2 in
+      record {
+        found = (
+          refl,
+          (
+            ((more_than_none ins i.1.0, refl), (h.0, h.1, (name.0, name.1, (outcome.0, outcome.1, (i.0, filled word.VarInput ins outcome.0 i.0 i.1, (second.0, second.1, (third.0, third.1, (fourth.0, (refl, fourth.1), (d.2.1, (d.0, d.1, d.2.0)))))))))),
+            (d.2.2, d.2.3),
+          ),
+        );
+      }
+
+  pub function_refused : (ts : List Token) (e : Stop) → Refuses (SpellsFunction text) ts e → Refuses (SpellsUnitOf text word.Function) ts e
+  function_refused ts e bad = record {
+    never = λ is u r w.
+        let x = function_parts u.kind u.place u.name u.inputs u.outputs u.variables u.externals u.body ts r w in
+        bad.never is (u.place, u.name, x.0, (u.inputs, u.variables, u.body)) r x.1;
+  }
+
+  -- a unit of a kind is a unit
+  pub unit_read : (k : Keyword) (ts r : List Token) (u : ProgramUnit) → Reads (SpellsUnitOf text k) ts u r → Reads (SpellsSmallUnit text) ts u r
+  unit_read k ts r u here = record { found = here.found.1 }
+
+  -- behind the word of a kind stands a unit of this kind
+  same_word : (k : Keyword) (u : ProgramUnit) (ts m r : List Token) → TheWord text k ts m → SpellsSmallUnit text u ts r → unit_word u.kind ≡ k
+  same_word k u ts m r word w =
+      let a = word_lead text k ts m word in
+      let b = unit_lead text u ts r w.0 in
+      cc
+
+  pub unit_refused : (k : Keyword) (ts m : List Token) (e : Stop) → TheWord text k ts m → Refuses (SpellsUnitOf text k) ts e → Refuses (SpellsSmallUnit text) ts e
+  unit_refused k ts m e word bad = record { never = λ is u r w. bad.never is u r (same_word k u ts m r word w, w) }
+
+  -- a unit begins with a word that stands there
+  begins : (u : ProgramUnit) (ts r : List Token) → SpellsSmallUnit text u ts r → (m : List Token) × TheWord text (unit_word u.kind) ts m
+  begins u ts r w = (w.0.1.0, at_holds text (TheWord text (unit_word u.kind)) u.place ts w.0.1.0 w.0.1.1)
+
+  -- neither a program nor a function block stands there, and no function
+  is_other : (k : UnitKind) (ts : List Token) → ((m : List Token) → TheWord text word.Program ts m → ⊥) → ((m : List Token) → TheWord text word.FunctionBlock ts m → ⊥)
+      → (m : List Token) → TheWord text (unit_word k) ts m → unit_word k ≡ word.Function
+  is_other unit.Program ts p b m w = absurd (p m w)
+  is_other unit.FunctionBlock ts p b m w = absurd (b m w)
+  is_other (unit.Function s q) ts p b m w = refl
+
+  pub other_refused : (ts : List Token) (e : Stop) → ((m : List Token) → TheWord text word.Program ts m → ⊥) → ((m : List Token) → TheWord text word.FunctionBlock ts m → ⊥)
+      → Refuses (SpellsUnitOf text word.Function) ts e → Refuses (SpellsSmallUnit text) ts e
+  other_refused ts e p b bad = record {
+    never = λ is u r w. let first = begins u ts r w in bad.never is u r (is_other u.kind ts p b first.0 first.1, w);
+  }
+
+  -- a unit within the limits is one
+  pub small_unit_one : IsDeterministic (SpellsSmallUnit text)
+  small_unit_one = record { only = λ a b ts r s p q. (unit_one text).only a b ts r s p.0 q.0 }

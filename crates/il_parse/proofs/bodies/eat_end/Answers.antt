@@ -1,0 +1,8 @@
+use Rattle.il_parse.proofs.Entries.{end_taken, end_out}
+use Rattle.il_parse.proofs.bodies.eat_end.Goals as goal
+
+pub returns-then-not-alone-clause-takes : goal.returns-then-not-alone-clause-takes
+returns-then-not-alone-clause-takes c = end_out c.args.source.now c.args.last c.args.alone _ c.if-not-alone.true
+
+pub returns-clause-takes : goal.returns-clause-takes
+returns-clause-takes c = end_taken c.args.source.now c.args.last c.args.alone _ _ _ c.if-not-alone.false c.take_placed.ensures.takes

@@ -1,0 +1,13 @@
+use Rattle.std.proofs.Common.{sym, ◌∙◌, ap}
+use Rattle.il_parse.specs.Bodies.{may_begin}
+use Rattle.il_parse.proofs.Entries.{stands_not, placed_read}
+use Rattle.il_parse.proofs.bodies.placed.Goals as goal
+
+pub returns-then-not-may_begin-clause-refused : goal.returns-then-not-may_begin-clause-refused
+returns-then-not-may_begin-clause-refused c =
+    stands_not c.args.source.now _ _ _ _ _ (ap (λ l. may_begin c.args.depth c.args.load l) (sym c.requires.lead) ∙ sym c.may_begin.ensures ∙ c.if-not-may_begin.true)
+
+pub returns-clause-reads : goal.returns-clause-reads
+returns-clause-reads c =
+    placed_read c.args.source.now _ _ _ _ _ _ _ _ c.requires.depth c.has_room.ensures.yes c.in-Some.ensures
+    (ap (λ l. may_begin c.args.depth c.args.load l) (sym c.requires.lead) ∙ sym c.may_begin.ensures ∙ c.if-not-may_begin.false) c.if-full.false c.in_ok-instruction.ensures.reads

@@ -1,0 +1,93 @@
+-- What a reader of a body promises.
+use Rattle.std.specs.Prelude.{◌≡◌, ℕ, ◌<◌, ◌≤◌, Bool, true, false, not, ◌&&◌, ◌||◌, ◌==◌, if◌then◌else◌, IsTrue, List, [], length, Option, Some, None, ⊤}
+use Rattle.il_spec.specs.declared.token.Token.{Token}
+use Rattle.il_spec.specs.declared.token.Sign.TheVariants.{CloseParenthesis}
+use Rattle.il_spec.specs.declared.keyword.Keyword.{Keyword}
+use Rattle.il_spec.specs.declared.keyword.Keyword.TheVariants as word
+use Rattle.il_spec.specs.declared.tree.Place.{Place}
+use Rattle.il_spec.specs.declared.tree.Named.{Named}
+use Rattle.il_spec.specs.declared.tree.Instruction.{Instruction}
+use Rattle.il_spec.specs.declared.tree.Step.{Step}
+use Rattle.il_spec.specs.declared.tree.Body.{Body}
+use Rattle.il_spec.specs.Grammar.{Front, ◌⋯◌, At, Repeats, TheWord, TheLineEnd, SpellsInstruction, SpellsLabelled, SpellsStep, SpellsLabelLine, may_stand, depth_after, is_nested, greatest_depth}
+use Rattle.il_read.specs.declared.lead.Lead.{Lead}
+use Rattle.il_read.specs.declared.lead.Lead.TheVariants as lead
+use Rattle.il_parse.specs.declared.bodies.Entry.{Entry}
+use Rattle.il_parse.specs.declared.bodies.Entry.TheVariants as entry
+
+-- whether a `)` begins so
+abbrev pub closes_lead : Lead → Bool
+closes_lead (lead.Sign CloseParenthesis) = true
+closes_lead _ = false
+
+-- whether an instruction that leaves the body begins so
+abbrev pub leaves_lead : Lead → Bool
+leaves_lead (lead.Reserved (word.Jump condition)) = true
+leaves_lead (lead.Reserved (word.Return condition)) = true
+leaves_lead (lead.Reserved (word.Call condition)) = true
+leaves_lead _ = false
+
+-- whether a load begins so
+abbrev pub loads_lead : Lead → Bool
+loads_lead (lead.Reserved (word.Load negated)) = true
+loads_lead _ = false
+
+-- whether what begins so may stand where `depth` parentheses are open, and `load` says that a load has to follow
+abbrev pub may_begin : ℕ → Bool → Lead → Bool
+may_begin depth load l = if depth == 0 then not (closes_lead l) else (not (leaves_lead l) && (not load || loads_lead l))
+
+-- an instruction without labels
+abbrev pub bare : Place → Instruction → Step
+bare place i = record { labels = []; place = place; instruction = i }
+
+-- an instruction at its place, which may stand there and opens no 17th parenthesis; none where the body is full
+abbrev pub SpellsPlaced : List ℕ → ℕ → Bool → Bool → Place × Instruction → Front
+SpellsPlaced text depth load full x ts rest =
+    At x.0 (SpellsInstruction text x.1) ts rest × IsTrue (may_stand depth load (bare x.0 x.1)) × (depth_after depth x.1 ≤ 16) × IsTrue (not full)
+
+-- What labels were read: they name what stands behind them. Only where the last stands alone on its line may the body end there.
+pub record HasLabels (text : List ℕ) (start : List Token) (ns : List Named) (alone : Bool) (ts : List Token) : Type 0 where
+  pub names : (p : Place) (i : Instruction) (r : List Token) → At p (SpellsInstruction text i) ts r → SpellsLabelled text ns (At p (SpellsInstruction text i)) start r
+  pub no_other : (p : Place) (i : Instruction) (ys : List Named) (r : List Token) → SpellsLabelled text ys (At p (SpellsInstruction text i)) start r → (ys ≡ ns) × At p (SpellsInstruction text i) ts r
+  pub ends : IsTrue alone → (k : Keyword) (p : Place) (r : List Token) → At p (TheWord text k) ts r → Repeats (SpellsLabelLine text) ns (At p (TheWord text k)) start r
+  pub no_other_end : (k : Keyword) (p : Place) (ys : List Named) (r : List Token) → Repeats (SpellsLabelLine text) ys (At p (TheWord text k)) start r → (ys ≡ ns) × At p (TheWord text k) ts r × IsTrue alone
+
+-- the word that ends the body, which is taken where it may stand, or doesn't stand there
+abbrev pub TakesEnd : List ℕ → Keyword → Bool → List Token → Option Place → List Token → Type 0
+TakesEnd text last alone ts (Some p) rest = IsTrue alone × At p (TheWord text last) ts rest
+TakesEnd text last alone ts None rest = (rest ≡ ts) × ((p : Place) (r : List Token) → At p (TheWord text last) ts r → IsTrue alone → ⊥)
+
+-- an instruction with its labels, or the end of the body
+abbrev pub SpellsEntry : List ℕ → Keyword → Entry → Front
+SpellsEntry text last (entry.Step s) = SpellsStep text s
+SpellsEntry text last (entry.End labels place) = Repeats (SpellsLabelLine text) labels (At place (TheWord text last))
+
+-- whether it may come there
+abbrev pub MayCome : ℕ → Bool → Bool → Entry → Type 0
+MayCome depth load full (entry.Step s) = IsTrue (may_stand depth load s) × (depth_after depth s.instruction ≤ 16) × IsTrue (not full)
+MayCome depth load full (entry.End labels place) = depth ≡ 0
+
+abbrev pub SpellsNext : List ℕ → Keyword → ℕ → Bool → Bool → Entry → Front
+SpellsNext text last depth load full x ts rest = SpellsEntry text last x ts rest × MayCome depth load full x
+
+-- it leaves fewer tokens if it is an instruction
+abbrev pub Shortens : List Token → Entry → List Token → Type 0
+Shortens ts (entry.Step s) rest = length rest < length ts
+Shortens ts (entry.End labels place) rest = ⊤
+
+-- a word that ends a body
+abbrev pub IsLast : Keyword → Type 0
+IsLast word.EndFunction = ⊤
+IsLast word.EndFunctionBlock = ⊤
+IsLast word.EndProgram = ⊤
+IsLast _ = ⊥
+
+-- the instructions of a body and its end, within the limits
+abbrev pub SpellsSteps : List ℕ → Keyword → Body → Front
+SpellsSteps text last b ts rest =
+    Repeats (SpellsStep text) b.steps (Repeats (SpellsLabelLine text) b.last_labels (At b.end (TheWord text last))) ts rest
+    × IsTrue (is_nested 0 false b.steps) × (length b.steps ≤ 4096) × (greatest_depth 0 b.steps ≤ 16)
+
+-- a body within the limits
+abbrev pub SpellsSmallBody : List ℕ → Keyword → Body → Front
+SpellsSmallBody text last b = TheLineEnd ⋯ SpellsSteps text last b

@@ -1,0 +1,68 @@
+// What stands behind the heading of a unit (IEC 61131-3:2003, 2.5).
+
+ghost use Rattle.std.specs.Prelude.{IfOk, IfErr};
+ghost use Rattle.il_read.specs.Reads.{Reads, Refuses};
+ghost use Rattle.il_parse.specs.Insides.{SpellsProgramInside, SpellsBlockInside, SpellsFunctionInside};
+
+use crate::bodies::body;
+use crate::variables::{externals, filled_list, full_list, no_list, optional_list};
+use il_read::{Source, Stop, Tokens};
+use il_spec::keyword::Keyword;
+use il_spec::tree::{Body, Declaration};
+use lists::Items;
+
+/// The variables and the externals of a program, and its body.
+pub fn program_inside(
+    source: &Source,
+    tokens: &mut Tokens,
+) -> Result<(Items<Declaration>, Items<Declaration>, Body), Stop>
+    ensures reads { IfOk result (λ x. Reads (SpellsProgramInside source.now) tokens.old x tokens.new) }
+    ensures refused { IfErr result (λ e. Refuses (SpellsProgramInside source.now) tokens.old e) }
+{
+    no_list(source, tokens, Keyword::VarInput)?;
+    no_list(source, tokens, Keyword::VarOutput)?;
+    let variables = optional_list(source, tokens, Keyword::Var)?;
+    let externals = externals(source, tokens)?;
+    let body = body(source, tokens, Keyword::EndProgram)?;
+    Ok((variables, externals, body))
+}
+
+/// The inputs, the outputs and the variables of a function block, and its body.
+pub fn block_inside(
+    source: &Source,
+    tokens: &mut Tokens,
+) -> Result<
+    (
+        Items<Declaration>,
+        Items<Declaration>,
+        Items<Declaration>,
+        Body,
+    ),
+    Stop,
+>
+    ensures reads { IfOk result (λ x. Reads (SpellsBlockInside source.now) tokens.old x tokens.new) }
+    ensures refused { IfErr result (λ e. Refuses (SpellsBlockInside source.now) tokens.old e) }
+{
+    let inputs = filled_list(source, tokens, Keyword::VarInput)?;
+    let outputs = filled_list(source, tokens, Keyword::VarOutput)?;
+    let variables = optional_list(source, tokens, Keyword::Var)?;
+    no_list(source, tokens, Keyword::VarExternal)?;
+    let body = body(source, tokens, Keyword::EndFunctionBlock)?;
+    Ok((inputs, outputs, variables, body))
+}
+
+/// The inputs and the variables of a function, and its body.
+pub fn function_inside(
+    source: &Source,
+    tokens: &mut Tokens,
+) -> Result<(Items<Declaration>, Items<Declaration>, Body), Stop>
+    ensures reads { IfOk result (λ x. Reads (SpellsFunctionInside source.now) tokens.old x tokens.new) }
+    ensures refused { IfErr result (λ e. Refuses (SpellsFunctionInside source.now) tokens.old e) }
+{
+    let inputs = full_list(source, tokens, Keyword::VarInput)?;
+    no_list(source, tokens, Keyword::VarOutput)?;
+    let variables = optional_list(source, tokens, Keyword::Var)?;
+    no_list(source, tokens, Keyword::VarExternal)?;
+    let body = body(source, tokens, Keyword::EndFunction)?;
+    Ok((inputs, variables, body))
+}

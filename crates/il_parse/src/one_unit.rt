@@ -1,0 +1,82 @@
+// Units (IEC 61131-3:2003, 2.5).
+
+ghost use Rattle.std.specs.Prelude.{IfOk, IfErr};
+ghost use Rattle.il_spec.specs.declared.keyword.Keyword.TheVariants as word;
+ghost use Rattle.il_read.specs.Reads.{Reads, Refuses};
+ghost use Rattle.il_parse.specs.Units.{SpellsSmallUnit, SpellsUnitOf};
+
+use crate::headings::{block, function, program};
+use il_read::{Source, Stop, Tokens};
+use il_spec::keyword::Keyword;
+use il_spec::tree::{Unit, UnitKind};
+use lists::Items;
+
+// A program.
+fn program_unit(source: &Source, tokens: &mut Tokens) -> Result<Unit, Stop>
+    ensures reads { IfOk result (λ u. Reads (SpellsUnitOf source.now word.Program) tokens.old u tokens.new) }
+    ensures refused { IfErr result (λ e. Refuses (SpellsUnitOf source.now word.Program) tokens.old e) }
+{
+    let (place, name, (variables, externals, body)) = program(source, tokens)?;
+    Ok(Unit {
+        place,
+        kind: UnitKind::Program,
+        name,
+        inputs: Items::new(source.alloc()),
+        outputs: Items::new(source.alloc()),
+        variables,
+        externals,
+        body,
+    })
+}
+
+// A function block.
+fn block_unit(source: &Source, tokens: &mut Tokens) -> Result<Unit, Stop>
+    ensures reads { IfOk result (λ u. Reads (SpellsUnitOf source.now word.FunctionBlock) tokens.old u tokens.new) }
+    ensures refused { IfErr result (λ e. Refuses (SpellsUnitOf source.now word.FunctionBlock) tokens.old e) }
+{
+    let (place, name, (inputs, outputs, variables, body)) = block(source, tokens)?;
+    Ok(Unit {
+        place,
+        kind: UnitKind::FunctionBlock,
+        name,
+        inputs,
+        outputs,
+        variables,
+        externals: Items::new(source.alloc()),
+        body,
+    })
+}
+
+// A function.
+fn function_unit(source: &Source, tokens: &mut Tokens) -> Result<Unit, Stop>
+    ensures reads { IfOk result (λ u. Reads (SpellsUnitOf source.now word.Function) tokens.old u tokens.new) }
+    ensures refused { IfErr result (λ e. Refuses (SpellsUnitOf source.now word.Function) tokens.old e) }
+{
+    let (place, name, (result_place, scalar), (inputs, variables, body)) = function(
+        source, tokens,
+    )?;
+    Ok(Unit {
+        place,
+        kind: UnitKind::Function(scalar, result_place),
+        name,
+        inputs,
+        outputs: Items::new(source.alloc()),
+        variables,
+        externals: Items::new(source.alloc()),
+        body,
+    })
+}
+
+/// A unit of any kind.
+pub fn unit(source: &Source, tokens: &mut Tokens) -> Result<Unit, Stop>
+    ensures reads { IfOk result (λ u. Reads (SpellsSmallUnit source.now) tokens.old u tokens.new) }
+    ensures refused { IfErr result (λ e. Refuses (SpellsSmallUnit source.now) tokens.old e) }
+{
+    if source.word_stands(tokens, Keyword::Program) {
+        return program_unit(source, tokens);
+    }
+    if source.word_stands(tokens, Keyword::FunctionBlock) {
+        return block_unit(source, tokens);
+    }
+    function_unit(source, tokens)
+}

@@ -1,0 +1,65 @@
+// What the body of a unit uses, by name and manner.
+
+ghost use Rattle.std.specs.Prelude.{◌≡◌, ◌++◌, List, ℕ, IfOk, OnOk};
+ghost use Rattle.il_reports.specs.declared.uses.Manner.{Manner};
+ghost use Rattle.il_reports.specs.Uses.{is_used, use_shown};
+ghost use Rattle.il_reports.specs.Xref.{use_line, use_lines};
+ghost use Rattle.il_reports.specs.Lines.{line_of, AreSound, HaveUses};
+
+use crate::lines::Lines;
+use crate::uses::{Manner, Use, uses};
+use il_spec::tree::{Step, Unit};
+use std::alloc::{AllocError, Global};
+
+/// A unit, and the lines in which its body uses each name.
+#[derive(Drop)]
+pub struct UnitUses<'c> {
+    pub unit: &'c Unit,
+    lines: Lines,
+    ghost holds: { HaveUses lines unit.now.body.steps },
+}
+
+impl<'c> UnitUses<'c> {
+    /// The uses of a unit, in one pass over its body.
+    pub fn of(alloc: Global, unit: &'c Unit) -> Result<UnitUses<'c>, AllocError>
+        ensures { IfOk result (λ u. u.unit.now ≡ unit.now) }
+    {
+        let lines = lines_of(alloc, unit.body.steps.as_slice())?;
+        Ok(UnitUses { unit, lines })
+    }
+
+    /// The lines in which the body uses a name in a manner, each behind a blank.
+    pub fn lines(&self, manner: Manner, name: &str) -> &str
+        ensures { result.now ≡ use_lines self.now.unit.now.body.steps name.now manner }
+    {
+        self.lines.of(manner, name)
+    }
+
+    /// Whether the body uses a name in a manner.
+    pub fn is_used(&self, manner: Manner, name: &str) -> bool
+        ensures { result ≡ is_used manner name.now self.now.unit.now.body.steps }
+    {
+        !self.lines(manner, name).is_empty()
+    }
+}
+
+// The lines in which steps use names.
+fn lines_of(alloc: Global, steps: &[Step]) -> Result<Lines, AllocError>
+    ensures { IfOk result (λ l. HaveUses l steps.now) }
+{
+    let mut lines = Lines::new(alloc);
+    'uses: for used in uses(steps) {
+        add_use(alloc, &mut lines, &used)?;
+    }
+    Ok(lines)
+}
+
+// Adds the line of a use.
+fn add_use(alloc: Global, lines: &mut Lines, used: &Use<'_>) -> Result<(), AllocError>
+    requires { AreSound lines.old }
+    ensures sound { OnOk result (AreSound lines.new) }
+    ensures lines { OnOk result ((name : List ℕ) (manner : Manner) → line_of lines.new name manner ≡ line_of lines.old name manner ++ use_line manner name (use_shown used.now)) }
+{
+    let line = format!(in alloc; " {}", used.line)?;
+    lines.push(alloc, used.manner, used.name, line.as_str())
+}

@@ -1,5 +1,0 @@
-pub mod Joins
-pub mod Deferred
-pub mod Numbers
-pub mod Units
-pub mod Steps

@@ -1,3 +1,0 @@
-pub mod Arrivals
-pub mod Faults
-pub mod Steps

@@ -1,0 +1,2 @@
+pub mod Telling
+mod Splitting

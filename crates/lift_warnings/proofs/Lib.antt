@@ -1,2 +1,0 @@
-mod Rows
-mod Tables

@@ -1,5 +1,0 @@
-use Rattle.lift_xref.proofs.Seen.{has_none}
-use Rattle.lift_warnings.proofs.needed.blocks_of_instances.Goals as goal
-
-pub units-init : goal.units-init
-units-init c = has_none c.new-table.result c.new-table.ensures

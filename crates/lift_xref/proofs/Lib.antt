@@ -1,6 +1,0 @@
-mod Told
-mod Rows
-mod Bytes
-pub mod Seen
-mod Numbered
-mod Pushes

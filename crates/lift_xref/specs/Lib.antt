@@ -1,5 +1,0 @@
-pub mod Names
-pub mod Uses
-pub mod Xref
-pub mod Texts
-pub mod Lines

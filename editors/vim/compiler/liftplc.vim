@@ -1,0 +1,7 @@
+" `:compiler liftplc`, and then `:make` checks the file that is edited.
+if exists("current_compiler")
+  finish
+endif
+let current_compiler = "liftplc"
+CompilerSet makeprg=liftplc\ check\ %:S\ --explain
+CompilerSet errorformat=%-Grefused%.%#,%E%f:%l:%.%#,%Z%n:\ %m,%-G%.%#
