@@ -1177,8 +1177,13 @@ ST CHOSEN
 {each_slot}LD CHOSEN
 NE 0
 JMPC GIVE
-{nearest}
-(* It gets the call. *)
+
+(* Otherwise the next car gets it; after car {cars} it is car 1 again. *)
+LD TURN
+MOD {cars}
+ADD 1
+ST TURN
+ST CHOSEN
 GIVE:
 LD CHOSEN
 """
