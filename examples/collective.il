@@ -38,6 +38,8 @@ VAR
   WAITED : ARRAY [1..16] OF INT (0..9999); (* for how many scans he has waited for it *)
   LONGEST : INT (0..9999);  (* the longest wait of those who wait at this floor in this scan *)
   FIRST : INT (0..9999);    (* and in the scan before: who has waited that long gets in first *)
+  GOING_ON : INT (0..8);    (* how many are in the car and go on from this floor *)
+  KEPT : INT (0..8);        (* and in the scan before: if that is all, nobody else has room *)
 END_VAR
 
 (* Slot 1 begins anew. *)
@@ -53,8 +55,11 @@ ST OUT_HERE
 ST MOVED
 LD LONGEST
 ST FIRST
+LD GOING_ON
+ST KEPT
 LD 0
 ST LONGEST
+ST GOING_ON
 ST SERVED
 LD SHUT
 SEL PASSING, T#0s
@@ -86,8 +91,9 @@ LD FROM
 LT FLOOR
 JMPC WORK_BELOW
 
-(* He waits at this floor. A car that has to leave doesn't take him now, nor does a full one. Who
-   has waited longest gets in first, so nobody is left behind again and again. *)
+(* He waits at this floor. A car that has to leave doesn't take him now, nor does a full one from
+   which nobody gets out here. Who has waited longest gets in first, so nobody is left behind
+   again and again. *)
 LDN ADMITS
 JMPC LEFT
 LD LOAD
@@ -101,7 +107,7 @@ STAYS:
 LD WAITED[SLOT]
 MAX LONGEST
 ST LONGEST
-LD LOAD
+LD KEPT
 GE 8
 JMPC LEFT
 LD TO
@@ -130,6 +136,12 @@ MIN T#1m
 ADD T#1s
 ST PASSING
 INSIDE:
+LD TO
+NE FLOOR
+SEL 0, 1
+ADD GOING_ON
+MIN 8
+ST GOING_ON
 LD TO
 GT FLOOR
 JMPC WORK_ABOVE
@@ -184,6 +196,7 @@ VAR
   HERE : BOOL;              (* a passenger wants to get in or out at this floor *)
   CAME_FROM : INT (0..8);   (* the landing that the car has left; 0 for none *)
   OVER : BOOL;              (* the door has been open long enough *)
+  RECALLED : BOOL;          (* there was a fire recall in the scan before *)
   DWELL : TON;              (* how long nobody has passed the open door *)
   PASSAGE : TON;            (* how long the door has been open *)
   HELD : TON;               (* how long the car has stood though it has work *)
@@ -196,10 +209,14 @@ LD FIRE
 JMPC RECALL
 
 (* Where is work? The block looks at all call slots. A passenger gets in or out where the car
-   stands level with a floor, its door wholly open. *)
+   stands level with a floor, its door wholly open; not yet in the first scan behind a recall,
+   since the block then has to find out who has waited longest. *)
 LD OPENED
 AND LEVEL
+ANDN RECALLED
 ST CALLS.OPENED_HERE
+LD FALSE
+ST RECALLED
 LDN HELD.Q
 ST CALLS.ADMITS
 CAL CALLS(CAR := CARNO, FLOOR := POS, SHUT := LOCKED,
@@ -367,6 +384,8 @@ RET
 (* Fire: each car goes down to floor 1. Interlock rule 6 lets no car run up. The calls stay as
    they are, and the car goes on with them after the recall. *)
 RECALL:
+LD TRUE
+ST RECALLED
 CAL DWELL(IN := FALSE)
 CAL PASSAGE(IN := FALSE)
 CAL HELD(IN := FALSE)
