@@ -11,7 +11,8 @@ ghost use Rattle.il_grammar_laws.specs.Places.{places, AreInText, BreaksAtPlaces
 
 /// A law: tokens of a text spell at most one configuration.
 pub fn one_tree()
-    ensures { (text : List ℕ) (ts : List Token) (c d : Config) → AfterLines (SpellsConfig text c) ts [] → AfterLines (SpellsConfig text d) ts [] → c ≡ d }
+    ensures { (text : List ℕ) (ts : List Token) (c d : Config)
+        → AfterLines (SpellsConfig text c) ts [] → AfterLines (SpellsConfig text d) ts [] → c ≡ d }
 {}
 
 /// A law: a text spells at most one configuration.
@@ -36,5 +37,6 @@ pub fn faults_are_at_places()
 
 /// A law: a spelled tree has at most one first fault, by its number and its line.
 pub fn first_fault_is_at_one_line()
-    ensures { (text : List ℕ) (c : Config) (phase : Phase) → Spells text c → IsFirstAtOneLine (Broken phase c) }
+    ensures { (text : List ℕ) (c : Config) (phase : Phase) → Spells text c
+        → IsFirstAtOneLine (Broken phase c) }
 {}

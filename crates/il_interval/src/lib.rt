@@ -370,7 +370,8 @@ impl Interval {
     /// Whether this range lies in the other, by their ends (own rule).
     pub fn within(self, other: Interval) -> bool
         ensures ends { IsTrue result ↔ IsWithin self other }
-        ensures numbers { IsOrdered self → (IsTrue result ↔ ((z : ℤ) → IsIn self z → IsIn other z)) }
+        ensures numbers { IsOrdered self → (IsTrue result
+            ↔ ((z : ℤ) → IsIn self z → IsIn other z)) }
     {
         other.lo <= self.lo && self.hi <= other.hi
     }
@@ -388,5 +389,6 @@ pub fn ranges_grow()
     ensures max { Grows interval_max }
     ensures limit { Grows3 interval_limit }
     ensures join { Grows interval_join }
-    ensures narrow { (comparison : Comparing) (holds : Bool) (c : ℤ) → GrowsNarrowed (λ i. interval_narrow comparison holds i c) }
+    ensures narrow { (comparison : Comparing) (holds : Bool) (c : ℤ)
+        → GrowsNarrowed (λ i. interval_narrow comparison holds i c) }
 {}

@@ -41,7 +41,8 @@ pub fn accepted_scans_are_sound()
 
 /// A law: where all that an accepted program's scans keep holds, each variable of the program has a value of its declared set.
 pub fn kept_variables_hold()
-    ensures { (c : Config) (p : ProgramUnit) (values : Values) → IsAccepted c p → Holds c p values → HoldVariables c p values }
+    ensures { (c : Config) (p : ProgramUnit) (values : Values) → IsAccepted c p → Holds c p values
+        → HoldVariables c p values }
 {}
 
 /// A law: what the scans of an accepted program keep is a list of paths, each of one type: the task's variables, the
@@ -69,17 +70,22 @@ pub fn globals_are_shared()
 /// A law: where jumps go forward, and what callees cost is the greatest cost of a path of theirs, the table gives the
 /// greatest cost of a path of the unit.
 pub fn table_is_longest()
-    ensures { (longest : ProgramUnit → ℕ) (c : Config) (u : ProgramUnit) → IsForward u → CallsLongest longest c u → IsLongest c u (rest_at (table_of longest c u) 0 0).cost }
+    ensures { (longest : ProgramUnit → ℕ) (c : Config) (u : ProgramUnit) → IsForward u
+        → CallsLongest longest c u → IsLongest c u (rest_at (table_of longest c u) 0 0).cost }
 {}
 
 /// A law: the places that the table gives, one after another, are those of a path of that cost; where both ways cost the
 /// same, it doesn't jump, return or call.
 pub fn table_gives_path()
-    ensures { (longest : ProgramUnit → ℕ) (c : Config) (u : ProgramUnit) → IsForward u → CallsLongest longest c u → IsPathAt c u (rest_at (table_of longest c u) 0 0).cost (followed (length u.body.steps + 1) (table_of longest c u) (Some 0)) }
+    ensures { (longest : ProgramUnit → ℕ) (c : Config) (u : ProgramUnit) → IsForward u
+        → CallsLongest longest c u
+        → IsPathAt c u (rest_at (table_of longest c u) 0 0).cost
+        (followed (length u.body.steps + 1) (table_of longest c u) (Some 0)) }
 {}
 
 /// A law: in an accepted configuration `longest` is the greatest cost of a path of each unit, and `longest_path` has the
 /// places of a path of that cost; where both ways cost the same, it doesn't jump, return or call.
 pub fn accepted_costs_are_longest()
-    ensures { (c : Config) → HasNoFault (Broken Declaring c) → HasNoFault (Broken Typing c) → IsOrdered c → (u : ProgramUnit) → Contains c.units u → HasLongest c u }
+    ensures { (c : Config) → HasNoFault (Broken Declaring c) → HasNoFault (Broken Typing c)
+        → IsOrdered c → (u : ProgramUnit) → Contains c.units u → HasLongest c u }
 {}

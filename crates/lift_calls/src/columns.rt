@@ -93,7 +93,8 @@ fn write_four<T: Copy>(
     requires few { count ≤ 64 }
     requires room { 4 * count ≤ length row.old }
     requires within { index < count }
-    ensures { row.new ≡ set (set (set (set row.old index first) (count + index) second) (2 * count + index) third) (3 * count + index) fourth }
+    ensures { row.new ≡ set (set (set (set row.old index first) (count + index) second)
+        (2 * count + index) third) (3 * count + index) fourth }
 {
     row[index] = first;
     row[count + index] = second;
@@ -130,7 +131,8 @@ impl Columns {
     /// Replaces the slot at an index, which counts from 0.
     pub fn set(&mut self, index: usize, place: Slot)
         requires { (slots : List SlotOf) × (self.old ≡ shown_of slots) × (index < length slots) }
-        ensures { (slots : List SlotOf) → self.old ≡ shown_of slots → self.new ≡ shown_of (set slots index place) }
+        ensures { (slots : List SlotOf) → self.old ≡ shown_of slots → self.new
+            ≡ shown_of (set slots index place) }
     {
         let count = usize::from(self.count);
         write_four(

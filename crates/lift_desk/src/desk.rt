@@ -136,9 +136,12 @@ impl Desk {
         seat: &mut Seat<u64, View>,
     ) -> Result<Vec<PanelPass>, Refusal>
         requires table { seat.old.table_id ≡ self.now.table }
-        requires seat { (seat.old.me.1 ≡ []) × IsOpening self.now.floors self.now.panels 0 seat.old.me.0 }
+        requires seat { (seat.old.me.1 ≡ []) × IsOpening self.now.floors self.now.panels 0
+            seat.old.me.0 }
         ensures panels { IfOk result (λ v. AreNewPanels self.now v.items) }
-        ensures seat { IfOk result (λ v. (seat.new.table_id ≡ seat.old.table_id) × (seat.new.me.1 ≡ []) × IsOpening self.now.floors self.now.panels (self.now.floors * self.now.panels) seat.new.me.0) }
+        ensures seat { IfOk result (λ v. (seat.new.table_id ≡ seat.old.table_id)
+            × (seat.new.me.1 ≡ []) × IsOpening self.now.floors self.now.panels
+            (self.now.floors * self.now.panels) seat.new.me.0) }
         ensures memory { IfErr result (λ e. e ≡ Memory) }
     {
         let mut passes = Vec::new(alloc);
@@ -163,7 +166,8 @@ impl Desk {
         requires panels { (1 ≤ panels) × (panels ≤ 4) }
         ensures desk { IfOk result (λ r. (r.0.floors ≡ floors) × (r.0.panels ≡ panels)) }
         ensures panels { IfOk result (λ r. AreNewPanels r.0 r.1.items) }
-        ensures hand { IfOk result (λ r. r.2 ≡ record { table = r.0.table; floors = floors; hand = []; gathered = [] }) }
+        ensures hand { IfOk result (λ r. r.2 ≡ record
+            { table = r.0.table; floors = floors; hand = []; gathered = [] }) }
         ensures memory { IfErr result (λ e. e ≡ Memory) }
     {
         let words = [0; 16];

@@ -15,13 +15,22 @@ static STEPS: [u64; 19] = [
     500000, 1000000,
 ];
 
-// The most labels but the first.
-const MOST_LABELS: u64 = 11;
+// The least number of labels but the first, and how many pixels a label has in a wide picture.
+const FEW_LABELS: u64 = 11;
 
-// How many rounds lie between two labels.
-fn step_of(rounds: u64) -> u64 {
+const WIDE_LABEL: u64 = 200;
+
+// The most labels but the first.
+fn most_labels(frame: Frame) -> u64
+    ensures { result ≤ 12100 }
+{
+    (frame.width() / WIDE_LABEL).max(FEW_LABELS)
+}
+
+// How many rounds lie between two of so many labels.
+fn step_of(rounds: u64, labels: u64) -> u64 {
     'steps: for step in STEPS.iter() {
-        if rounds <= step.saturating_mul(MOST_LABELS) {
+        if rounds <= step.saturating_mul(labels) {
             return *step;
         }
     }
@@ -41,9 +50,10 @@ fn labelled(count: u64, step: u64, rounds: u64) -> Option<u64>
 
 /// A line down from each label's round.
 pub fn put_grid(text: &mut String, frame: Frame) -> Result<(), AllocError> {
-    let step = step_of(frame.rounds());
+    let labels = most_labels(frame);
+    let step = step_of(frame.rounds(), labels);
     text.push_str("<path stroke=\"#e4e4e4\" d=\"")?;
-    'lines: for count in 0..MOST_LABELS + 1 {
+    'lines: for count in 0..labels + 1 {
         if let Some(round) = labelled(count, step, frame.rounds()) {
             let x = frame.x(round);
             put_plumb(text, Point { x, y: frame.top() }, frame.bottom())?;
@@ -70,8 +80,9 @@ fn put_label(text: &mut String, story: &Story, frame: Frame, round: u64) -> Resu
 }
 
 fn put_labels(text: &mut String, story: &Story, frame: Frame) -> Result<(), AllocError> {
-    let step = step_of(frame.rounds());
-    'labels: for count in 0..MOST_LABELS + 1 {
+    let labels = most_labels(frame);
+    let step = step_of(frame.rounds(), labels);
+    'labels: for count in 0..labels + 1 {
         if let Some(round) = labelled(count, step, frame.rounds()) {
             put_label(text, story, frame, round)?;
         }

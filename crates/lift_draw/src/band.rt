@@ -3,7 +3,8 @@
 use crate::frame::{Frame, LEFT};
 use crate::places::{Change, Door, Place};
 use crate::svg::{
-    Point, close_group, end_path, open_group, put_box, put_level, put_line, put_move, put_number,
+    FinePoint, Point, close_group, end_path, open_group, put_box, put_level, put_line, put_move,
+    put_number,
 };
 use std::alloc::AllocError;
 
@@ -36,6 +37,20 @@ fn put_name(text: &mut String, frame: Frame, car: u64) -> Result<(), AllocError>
         text,
         "<text x=\"8\" y=\"{y}\" font-size=\"12\" font-weight=\"bold\" fill=\"#222\">CAR {car}</text>"
     )
+}
+
+// How far apart the names of a car stand in a wide picture.
+const APART: u64 = 1200;
+
+// The car's name again, above its band, where the picture is wide.
+fn put_names_along(text: &mut String, frame: Frame, car: u64) -> Result<(), AllocError> {
+    let y = frame.band_top(car).saturating_add(12);
+    open_group(text, "fill=\"#999\"")?;
+    'names: for nth in 0..frame.width() / APART {
+        let x = LEFT + (nth + 1) * APART;
+        writeln!(text, "<text x=\"{x}\" y=\"{y}\">CAR {car}</text>")?;
+    }
+    close_group(text)
 }
 
 // The door of a car, where it is so, from a change to a round.
@@ -93,7 +108,10 @@ fn is_same(from: Place, to: Place) -> bool {
 fn put_stand(text: &mut String, frame: Frame, from: Change, to: u64) -> Result<(), AllocError> {
     let last = to.saturating_sub(1);
     if from.place.level && last > from.round {
-        put_line(text, frame.at(from.car, last, u64::from(from.place.floor)))?;
+        put_line(
+            text,
+            frame.fine_at(from.car, last, u64::from(from.place.floor)),
+        )?;
     }
     Ok(())
 }
@@ -109,17 +127,17 @@ fn half_way(from: Place, to: &Change) -> u64 {
 
 // The line to a place: to the landing where the car is level with it, and half way where it is between two and nearer to another.
 fn put_turn(text: &mut String, frame: Frame, from: Change, to: &Change) -> Result<(), AllocError> {
-    let at = frame.at(to.car, to.round, u64::from(to.place.floor));
+    let at = frame.fine_at(to.car, to.round, u64::from(to.place.floor));
     if to.place.level {
         return put_line(text, at);
     }
     if from.place.level {
         return Ok(());
     }
-    let before = frame.y(from.car, u64::from(from.place.floor));
-    let y = (before / 2).saturating_add(at.y / 2);
-    let x = frame.x(half_way(from.place, to));
-    put_line(text, Point { x, y })
+    let turn = half_way(from.place, to);
+    let before = frame.fine_at(from.car, turn, u64::from(from.place.floor));
+    let y = (before.y / 2).saturating_add(at.y / 2);
+    put_line(text, FinePoint { x: before.x, y })
 }
 
 // The line from a change to the next.
@@ -130,13 +148,10 @@ fn put_way(text: &mut String, frame: Frame, from: Change, to: &Change) -> Result
 
 // The line from a change to the end of the last round.
 fn put_rest(text: &mut String, frame: Frame, from: Change) -> Result<(), AllocError> {
-    let y = frame.y(from.car, u64::from(from.place.floor));
+    let behind = frame.rounds().saturating_add(1);
     put_line(
         text,
-        Point {
-            x: frame.right(),
-            y,
-        },
+        frame.fine_at(from.car, behind, u64::from(from.place.floor)),
     )
 }
 
@@ -151,7 +166,7 @@ fn put_next(
         Some(from) => put_way(text, frame, from, change),
         None => put_move(
             text,
-            frame.at(change.car, change.round, u64::from(change.place.floor)),
+            frame.fine_at(change.car, change.round, u64::from(change.place.floor)),
         ),
     }
 }
@@ -214,7 +229,8 @@ fn put_doors(
 fn put_floors(text: &mut String, frame: Frame, car: u64) -> Result<(), AllocError> {
     put_floor_lines(text, frame, car)?;
     put_floor_numbers(text, frame, car)?;
-    put_name(text, frame, car)
+    put_name(text, frame, car)?;
+    put_names_along(text, frame, car)
 }
 
 /// A band for each car, one below the other.

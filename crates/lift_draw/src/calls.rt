@@ -1,15 +1,13 @@
 // The calls: in the bands of their cars, and in a strip of their own while they wait.
 
 use crate::frame::Frame;
+use crate::labels::{Labels, width_of};
 use crate::rides::{Ride, Told};
 use crate::svg::{Point, close_group, open_group, put_words};
-use std::alloc::AllocError;
+use std::alloc::{AllocError, Global};
 
 // The most calls that are labelled.
-const MOST_LABELLED: usize = 200;
-
-// The width of a label.
-const LABEL: u64 = 44;
+const MOST_LABELLED: usize = 1000;
 
 /// How many calls wait at the end.
 pub fn waiting(rides: &[Ride]) -> u64 {
@@ -39,31 +37,53 @@ fn next_lane(ride: &Ride, lane: u64) -> u64 {
     }
 }
 
-// The line of a call that was served: level until it was told its car, and straight to where and when it was served.
+// The round up to which a call's line is level: it boards or, where that was not seen, it is told its car.
+fn turn(ride: &Ride, told: Told) -> u64 {
+    ride.boarded.unwrap_or(told.round)
+}
+
+// The mark of the boarding, where it was seen.
+fn put_boarding(text: &mut String, ride: &Ride) -> Result<(), AllocError> {
+    match ride.boarded {
+        Some(_) => text.push_str(" marker-mid=\"url(#boarding)\""),
+        None => Ok(()),
+    }
+}
+
+// The line of a call that was served: level until it boarded, and straight to where and when it was served.
 fn put_served(
     text: &mut String,
-    frame: Frame,
+    ride: &Ride,
     from: Point,
-    told: Told,
+    turn: u64,
     end: Point,
 ) -> Result<(), AllocError> {
     let Point { x, y } = from;
-    let turn = frame.x(told.round);
     let Point {
         x: right,
         y: landing,
     } = end;
-    write!(text, "<path d=\"M{x} {y}H{turn}L{right} {landing}\">")
+    write!(text, "<path d=\"M{x} {y}H{turn}L{right} {landing}\"")?;
+    put_boarding(text, ride)?;
+    text.push_str(">")
 }
 
 // The line of a call that was not served: level to the end.
-fn put_unserved(text: &mut String, frame: Frame, from: Point) -> Result<(), AllocError> {
+fn put_unserved(
+    text: &mut String,
+    frame: Frame,
+    ride: &Ride,
+    from: Point,
+) -> Result<(), AllocError> {
     let Point { x, y } = from;
+    let turn = frame.x(ride.boarded.unwrap_or(ride.entered));
     let end = frame.right();
     write!(
         text,
-        "<path d=\"M{x} {y}H{end}\" stroke-dasharray=\"4 3\" marker-end=\"none\">"
-    )
+        "<path d=\"M{x} {y}H{turn}H{end}\" stroke-dasharray=\"4 3\" stroke-opacity=\".5\" marker-end=\"none\""
+    )?;
+    put_boarding(text, ride)?;
+    text.push_str(">")
 }
 
 // The line of a call.
@@ -71,9 +91,9 @@ fn put_line(text: &mut String, frame: Frame, ride: &Ride, from: Point) -> Result
     match (ride.told, ride.served) {
         (Some(told), Some(served)) => {
             let end = frame.at(told.car, served, u64::from(ride.call.to));
-            put_served(text, frame, from, told, end)
+            put_served(text, ride, from, frame.x(turn(ride, told)), end)
         }
-        _ => put_unserved(text, frame, from),
+        _ => put_unserved(text, frame, ride, from),
     }
 }
 
@@ -97,6 +117,14 @@ fn put_told(text: &mut String, told: Option<Told>) -> Result<(), AllocError> {
     }
 }
 
+// When its car stood at the landing with its door open.
+fn put_boarded(text: &mut String, boarded: Option<u64>) -> Result<(), AllocError> {
+    match boarded {
+        Some(round) => write!(text, ", could board in round {round}"),
+        None => Ok(()),
+    }
+}
+
 // When it was served.
 fn put_service(text: &mut String, served: Option<u64>) -> Result<(), AllocError> {
     match served {
@@ -110,6 +138,7 @@ fn put_ride(text: &mut String, frame: Frame, ride: &Ride, from: Point) -> Result
     put_line(text, frame, ride, from)?;
     put_call(text, ride)?;
     put_told(text, ride.told)?;
+    put_boarded(text, ride.boarded)?;
     put_service(text, ride.served)?;
     text.push_str("</title></path>\n")
 }
@@ -136,50 +165,38 @@ fn put_label(text: &mut String, at: Point, ride: &Ride) -> Result<(), AllocError
     )
 }
 
-// Whether a call begins where another does.
-fn is_beside(one: &Ride, other: &Ride) -> bool {
-    match (one.told, other.told) {
-        (Some(told), Some(before)) => {
-            told.car == before.car
-                && one.call.from == other.call.from
-                && one.entered == other.entered
-        }
-        _ => false,
+// Whether a call's line goes up from where it begins.
+fn goes_up(ride: &Ride) -> bool {
+    ride.told.is_some() && ride.call.from < ride.call.to
+}
+
+// The label of a call, where there is room for it.
+fn put_free_label(
+    text: &mut String,
+    frame: Frame,
+    labels: &mut Labels,
+    ride: &Ride,
+    lane: u64,
+) -> Result<(), AllocError> {
+    let from = entry(frame, ride, lane);
+    let width = width_of(ride.ticket, ride.call);
+    match labels.place(from, width, goes_up(ride))? {
+        Some(at) => put_label(text, at, ride),
+        None => Ok(()),
     }
 }
 
-// How many of the calls before begin where this one does.
-fn beside(before: &[Ride], ride: &Ride) -> u64 {
-    let mut count: u64 = 0;
-    'others: for other in before {
-        if is_beside(other, ride) {
-            count = count.saturating_add(1);
-        }
-    }
-    count
-}
-
-// Where the label of a call stands, beside so many others: not where its line goes.
-fn label_at(ride: &Ride, from: Point, beside: u64) -> Point {
-    let x = from
-        .x
-        .saturating_add(4)
-        .saturating_add(beside.saturating_mul(LABEL));
-    if ride.told.is_some() && ride.call.from < ride.call.to {
-        let y = from.y.saturating_add(11);
-        return Point { x, y };
-    }
-    let y = from.y.saturating_sub(3);
-    Point { x, y }
-}
-
-// The labels of the calls.
-fn put_labels(text: &mut String, frame: Frame, rides: &[Ride]) -> Result<(), AllocError> {
+// The labels of the calls. One that would overlap another is left out.
+fn put_labels(
+    text: &mut String,
+    alloc: Global,
+    frame: Frame,
+    rides: &[Ride],
+) -> Result<(), AllocError> {
+    let mut labels = Labels::new(alloc);
     let mut lane: u64 = 0;
-    'rides: for (index, ride) in rides.iter().enumerate() {
-        let from = entry(frame, ride, lane);
-        let at = label_at(ride, from, beside(&rides[..index], ride));
-        put_label(text, at, ride)?;
+    'rides: for ride in rides {
+        put_free_label(text, frame, &mut labels, ride, lane)?;
         lane = next_lane(ride, lane);
     }
     Ok(())
@@ -205,13 +222,18 @@ fn put_all(text: &mut String, frame: Frame, rides: &[Ride]) -> Result<(), AllocE
 }
 
 /// The calls, with their tickets and floors if they are few enough.
-pub fn put_calls(text: &mut String, frame: Frame, rides: &[Ride]) -> Result<(), AllocError> {
+pub fn put_calls(
+    text: &mut String,
+    alloc: Global,
+    frame: Frame,
+    rides: &[Ride],
+) -> Result<(), AllocError> {
     put_name(text, frame, rides)?;
     put_all(text, frame, rides)?;
     if rides.len() > MOST_LABELLED {
         return Ok(());
     }
     open_group(text, "fill=\"#1f5fbf\"")?;
-    put_labels(text, frame, rides)?;
+    put_labels(text, alloc, frame, rides)?;
     close_group(text)
 }

@@ -17,19 +17,20 @@ use lift_spec::trace::TraceEvent;
 use lift_world::World;
 use std::alloc::{AllocError, Global};
 
-// What the colours mean, and how a call's line begins and ends.
+// What the colours mean, and how a call's line begins, turns and ends.
 const LEGEND: &str = "\
 <defs>
 <marker id=\"entry\" markerWidth=\"6\" markerHeight=\"6\" refX=\"3\" refY=\"3\" markerUnits=\"userSpaceOnUse\"><circle cx=\"3\" cy=\"3\" r=\"2.5\" fill=\"#1f5fbf\"/></marker>
+<marker id=\"boarding\" markerWidth=\"6\" markerHeight=\"8\" refX=\"3\" refY=\"4\" markerUnits=\"userSpaceOnUse\"><path d=\"M3 0V8\" stroke=\"#1f5fbf\" stroke-width=\"2\"/></marker>
 <marker id=\"service\" markerWidth=\"6\" markerHeight=\"6\" refX=\"3\" refY=\"3\" markerUnits=\"userSpaceOnUse\"><path d=\"M1 1H5V5H1z\" fill=\"#1f5fbf\"/></marker>
 </defs>
 <g fill=\"#444\">
 <path d=\"M72 35H92\" stroke=\"#222\" stroke-width=\"1.5\"/><text x=\"96\" y=\"38\">car</text>
-<path d=\"M124 31H140V39H124z\" fill=\"#2e9e6b\"/><text x=\"144\" y=\"38\">door open</text>
-<path d=\"M202 31H218V39H202z\" fill=\"#b9e3cf\"/><text x=\"222\" y=\"38\">door moving</text>
-<path d=\"M292 35H312\" stroke=\"#1f5fbf\" marker-start=\"url(#entry)\" marker-end=\"url(#service)\"/><text x=\"319\" y=\"38\">call, ticket: from-to</text>
-<path d=\"M438 31l4 7h-8z\" fill=\"#c62828\"/><text x=\"446\" y=\"38\">denied by interlock</text>
-<path d=\"M552 31H568V39H552z\" fill=\"#fde3c8\"/><text x=\"572\" y=\"38\">FIRE</text>
+<path d=\"M122 31H138V39H122z\" fill=\"#2e9e6b\"/><text x=\"142\" y=\"38\">door open</text>
+<path d=\"M198 31H214V39H198z\" fill=\"#b9e3cf\"/><text x=\"218\" y=\"38\">door moving</text>
+<path d=\"M286 35H302H318\" stroke=\"#1f5fbf\" marker-start=\"url(#entry)\" marker-mid=\"url(#boarding)\" marker-end=\"url(#service)\"/><text x=\"325\" y=\"38\">call: entry, boarding, service</text>
+<path d=\"M478 31l4 7h-8z\" fill=\"#c62828\"/><text x=\"486\" y=\"38\">denied by interlock</text>
+<path d=\"M590 31H606V39H590z\" fill=\"#fde3c8\"/><text x=\"610\" y=\"38\">FIRE</text>
 </g>
 ";
 
@@ -83,22 +84,27 @@ fn put_title(text: &mut String, story: &Story) -> Result<(), AllocError> {
 }
 
 // What is along the time: FIRE, the bands of the cars, the calls, and what was denied.
-fn put_body(text: &mut String, story: &Story, frame: Frame) -> Result<(), AllocError> {
+fn put_body(
+    text: &mut String,
+    alloc: Global,
+    story: &Story,
+    frame: Frame,
+) -> Result<(), AllocError> {
     put_fire(text, frame, story.fires())?;
     put_grid(text, frame)?;
     put_bands(text, frame, story.places.changes())?;
-    put_calls(text, frame, story.rides.list())?;
+    put_calls(text, alloc, frame, story.rides.list())?;
     put_denials(text, frame, story.denials.list())
 }
 
 // The picture, as SVG.
-fn put_picture(text: &mut String, story: &Story) -> Result<(), AllocError> {
+fn put_picture(text: &mut String, alloc: Global, story: &Story) -> Result<(), AllocError> {
     let lanes = waiting(story.rides.list());
     let frame = Frame::new(story.sizes(), story.rounds(), lanes);
     put_head(text, frame)?;
     put_title(text, story)?;
     text.push_str(LEGEND)?;
-    put_body(text, story, frame)?;
+    put_body(text, alloc, story, frame)?;
     put_axes(text, story, frame)?;
     text.push_str("</svg>\n")
 }
@@ -106,14 +112,15 @@ fn put_picture(text: &mut String, story: &Story) -> Result<(), AllocError> {
 // The text of the picture.
 fn picture(alloc: Global, story: &Story) -> Result<String, AllocError> {
     let mut text = String::new(alloc);
-    put_picture(&mut text, story)?;
+    put_picture(&mut text, alloc, story)?;
     Ok(text)
 }
 
 /// The picture of a trace, as SVG: what happens along its events, from this world on, which is changed as they say. The text of the picture
 /// is no part of the promise.
 pub fn drawing(alloc: Global, world: &mut World, events: &[TraceEvent]) -> Result<String, Stop>
-    ensures taken { OnOk result (TakesAll world.old.program.config world.old.world events.now world.new.world) }
+    ensures taken { OnOk result (TakesAll world.old.program.config world.old.world events.now
+        world.new.world) }
     ensures stopped { IfErr result (IsStopped world.old.program.config world.old.world events.now) }
     ensures same { world.new.program ≡ world.old.program }
 {

@@ -31,7 +31,8 @@ fn note(
 
 /// The events of a trace, one behind the other, up to the first that is refused, and what happens along them.
 pub fn follow(world: &mut World, events: &[TraceEvent], story: &mut Story) -> Result<(), Stop>
-    ensures taken { OnOk result (TakesAll world.old.program.config world.old.world events.now world.new.world) }
+    ensures taken { OnOk result (TakesAll world.old.program.config world.old.world events.now
+        world.new.world) }
     ensures stopped { IfErr result (IsStopped world.old.program.config world.old.world events.now) }
     ensures same { world.new.program ≡ world.old.program }
 {

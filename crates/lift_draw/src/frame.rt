@@ -2,7 +2,7 @@
 
 ghost use Rattle.std.specs.Prelude.{◌≤◌};
 
-use crate::svg::Point;
+use crate::svg::{FinePoint, Point};
 use lift_spec::image::Sizes;
 
 /// The left edge of the bands. Their names and floors stand left of it.
@@ -11,13 +11,17 @@ pub const LEFT: u64 = 72;
 // What is right of the bands.
 const RIGHT: u64 = 24;
 
-// The least and the greatest width of the bands.
-const NARROW: u64 = 528;
+// The least width of the bands, and the greatest of rounds that are as wide as can be; then they get narrower, down to two pixels. The greatest width of all.
+const NARROW: u64 = 568;
 
 const WIDE: u64 = 2300;
 
-// How wide a round is, where there is room.
+const WIDEST: u64 = 12_000;
+
+// How wide a round is, where there is room, and where there is little.
 const ROUND: u64 = 4;
+
+const NARROW_ROUND: u64 = 2;
 
 // What is above the first band: the title and the legend.
 const TOP: u64 = 54;
@@ -70,16 +74,18 @@ impl Frame {
 
     // The width of the bands.
     fn inner(self) -> u64
-        ensures low { 528 ≤ result }
-        ensures high { result ≤ 2300 }
+        ensures low { 568 ≤ result }
+        ensures high { result ≤ 12000 }
     {
-        self.rounds.saturating_mul(ROUND).clamp(NARROW, WIDE)
+        let wide = self.rounds.saturating_mul(ROUND).clamp(NARROW, WIDE);
+        let legible = self.rounds.saturating_mul(NARROW_ROUND).min(WIDEST);
+        wide.max(legible)
     }
 
     /// The width of the picture.
     pub fn width(self) -> u64
-        ensures low { 600 ≤ result }
-        ensures high { result ≤ 2400 }
+        ensures low { 640 ≤ result }
+        ensures high { result ≤ 12100 }
     {
         LEFT + self.inner() + RIGHT
     }
@@ -92,14 +98,20 @@ impl Frame {
     /// The left edge of a round; of the one behind the last it is the right edge of the bands. It is never outside of them.
     pub fn x(self, round: u64) -> u64
         ensures low { 72 ≤ result }
-        ensures high { result ≤ 2372 }
+        ensures high { result ≤ 12072 }
+    {
+        LEFT + self.share(round, self.inner())
+    }
+
+    // What lies before a round, of a length for all of them.
+    fn share(self, round: u64, length: u64) -> u64
+        ensures { result ≤ length }
     {
         let past = round.saturating_sub(1).min(self.rounds);
         if self.rounds == 0 {
-            return LEFT;
+            return 0;
         }
-        let inner = self.inner();
-        LEFT + (inner.saturating_mul(past) / self.rounds).min(inner)
+        (length.saturating_mul(past) / self.rounds).min(length)
     }
 
     // From a floor to the next.
@@ -159,6 +171,19 @@ impl Frame {
             x: self.x(round),
             y: self.y(car, floor),
         }
+    }
+
+    /// The same to a tenth of a pixel.
+    pub fn fine_at(self, car: u64, round: u64, floor: u64) -> FinePoint {
+        FinePoint {
+            x: self.fine_x(round),
+            y: self.y(car, floor).saturating_mul(10),
+        }
+    }
+
+    /// The left edge of a round, in tenths of a pixel.
+    pub fn fine_x(self, round: u64) -> u64 {
+        LEFT * 10 + self.share(round, self.inner() * 10)
     }
 
     /// Where a waiting call begins, by its lane, from 0 on.

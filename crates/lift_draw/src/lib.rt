@@ -8,6 +8,7 @@ mod denials;
 mod draw;
 mod follow;
 mod frame;
+mod labels;
 mod marks;
 mod places;
 mod rides;

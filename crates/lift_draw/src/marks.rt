@@ -66,12 +66,44 @@ pub fn put_fire(text: &mut String, frame: Frame, fires: &[Switch]) -> Result<(),
     close_group(text)
 }
 
-// A triangle where a denial begins, and a bar to where it ends.
-fn put_triangle(text: &mut String, frame: Frame, denied: &Denied) -> Result<(), AllocError> {
+// The most cars of a group.
+const MOST_CARS: usize = 8;
+
+// The width of a triangle.
+const TRIANGLE: u64 = 8;
+
+// Where the next triangle of each car has room, by the car's index.
+#[derive(Clone, Copy)]
+struct Free {
+    from: [u64; MOST_CARS],
+}
+
+impl Free {
+    // Whether a triangle has room at this place in the band of a car; then it is taken.
+    fn take(&mut self, car: u64, x: u64) -> bool {
+        let index = car.saturating_sub(1) as usize;
+        if index >= MOST_CARS || x < self.from[index] {
+            return false;
+        }
+        self.from[index] = x.saturating_add(TRIANGLE);
+        true
+    }
+}
+
+// A triangle where a denial begins, if it has room, and a bar to where it ends.
+fn put_triangle(
+    text: &mut String,
+    frame: Frame,
+    free: &mut Free,
+    denied: &Denied,
+) -> Result<(), AllocError> {
     let x = frame.x(denied.first);
-    let end = frame.x(denied.last);
+    let end = frame.x(denied.last).max(x.saturating_add(1));
     let y = frame.band_top(denied.car).saturating_add(2);
     let base = y.saturating_add(7);
+    if !free.take(denied.car, x) {
+        return write!(text, "<path d=\"M{x} {base}H{end}\"><title>");
+    }
     write!(
         text,
         "<path d=\"M{x} {y}l4 7h-8zM{x} {base}H{end}\"><title>"
@@ -104,16 +136,26 @@ fn put_tick(text: &mut String, frame: Frame, denied: &Denied) -> Result<(), Allo
     write!(text, "<path stroke=\"#9e9e9e\" d=\"M{x} {y}v4\"><title>")
 }
 
-fn put_mark(text: &mut String, frame: Frame, denied: &Denied) -> Result<(), AllocError> {
+fn put_mark(
+    text: &mut String,
+    frame: Frame,
+    free: &mut Free,
+    denied: &Denied,
+) -> Result<(), AllocError> {
     if denied.is_end_stop {
         put_tick(text, frame, denied)
     } else {
-        put_triangle(text, frame, denied)
+        put_triangle(text, frame, free, denied)
     }
 }
 
-fn put_denied(text: &mut String, frame: Frame, denied: &Denied) -> Result<(), AllocError> {
-    put_mark(text, frame, denied)?;
+fn put_denied(
+    text: &mut String,
+    frame: Frame,
+    free: &mut Free,
+    denied: &Denied,
+) -> Result<(), AllocError> {
+    put_mark(text, frame, free, denied)?;
     put_rounds(text, denied)?;
     put_reason(text, denied)?;
     text.push_str("</title></path>\n")
@@ -122,8 +164,11 @@ fn put_denied(text: &mut String, frame: Frame, denied: &Denied) -> Result<(), Al
 /// What the interlock denied, at the upper edge of the cars' bands.
 pub fn put_denials(text: &mut String, frame: Frame, list: &[Denied]) -> Result<(), AllocError> {
     open_group(text, "fill=\"#c62828\" stroke=\"#c62828\"")?;
+    let mut free = Free {
+        from: [0; MOST_CARS],
+    };
     'denials: for denied in list {
-        put_denied(text, frame, denied)?;
+        put_denied(text, frame, &mut free, denied)?;
     }
     close_group(text)
 }

@@ -1,6 +1,7 @@
 // The calls, from their entry to their service.
 
 use lift_spec::calls::{Call, Slot};
+use lift_spec::image::CarFields;
 use lift_spec::report::EnteredCall;
 use std::alloc::{AllocError, Global};
 
@@ -14,13 +15,15 @@ pub struct Told {
     pub round: u64,
 }
 
-/// A call: the round in which a refresh entered it, its car, and the round in which it was served.
+/// A call: the round in which a refresh entered it, its car, the round of the first refresh in which this stood at the landing with its door open, and the
+/// round in which it was served.
 #[derive(Clone, Copy)]
 pub struct Ride {
     pub ticket: u64,
     pub call: Call,
     pub entered: u64,
     pub told: Option<Told>,
+    pub boarded: Option<u64>,
     pub served: Option<u64>,
 }
 
@@ -30,6 +33,17 @@ pub struct Rides {
     // the call in each slot, by its index
     held: [Option<usize>; MOST_SLOTS],
     list: Vec<Ride>,
+}
+
+// Whether the car of a call stands at its landing with its door open.
+fn is_ready(ride: &Ride, cars: &[CarFields]) -> bool {
+    match ride.told {
+        Some(told) => match cars.get((told.car as usize).saturating_sub(1)) {
+            Some(fields) => fields.pos == ride.call.from && fields.level && fields.opened,
+            None => false,
+        },
+        None => false,
+    }
 }
 
 impl Rides {
@@ -62,9 +76,27 @@ impl Rides {
             call: entered.call,
             entered: round,
             told: None,
+            boarded: None,
             served: None,
         })?;
         Ok(())
+    }
+
+    /// What a refresh reports of the cars, car 1 first: which calls can board.
+    pub fn board(&mut self, cars: &[CarFields], round: u64) {
+        'slots: for index in 0..MOST_SLOTS {
+            if let Some(at) = self.holder(index) {
+                self.board_call(at, cars, round);
+            }
+        }
+    }
+
+    fn board_call(&mut self, at: usize, cars: &[CarFields], round: u64) {
+        if let Some(ride) = self.list.get_mut(at) {
+            if ride.boarded.is_none() && is_ready(ride, cars) {
+                ride.boarded = Some(round);
+            }
+        }
     }
 
     /// The call slots behind a commit, slot 1 first: which calls were told a car, and which were served.

@@ -69,6 +69,7 @@ impl Story {
         let round = self.rounds();
         self.note_fire(fields.fire, round)?;
         self.places.note(fields.cars.as_slice(), round)?;
+        self.rides.board(fields.cars.as_slice(), round);
         self.rides.enter(report.entered.as_slice(), round)?;
         self.denials.note_refresh(report.denials.as_slice(), round)
     }

@@ -38,16 +38,40 @@ pub fn put_seconds(text: &mut String, time: u32) -> Result<(), AllocError> {
     write!(text, "{seconds}.{tenths}")
 }
 
+/// A point of the picture, in tenths of a pixel.
+#[derive(Clone, Copy)]
+pub struct FinePoint {
+    pub x: u64,
+    pub y: u64,
+}
+
+// A length in tenths of a pixel.
+fn put_tenths(text: &mut String, length: u64) -> Result<(), AllocError> {
+    let pixels = length / 10;
+    write!(text, "{pixels}")?;
+    let tenths = length % 10;
+    if tenths == 0 {
+        return Ok(());
+    }
+    write!(text, ".{tenths}")
+}
+
+fn put_fine(text: &mut String, at: FinePoint) -> Result<(), AllocError> {
+    put_tenths(text, at.x)?;
+    text.push_str(" ")?;
+    put_tenths(text, at.y)
+}
+
 /// A step of a path: a move to a point.
-pub fn put_move(text: &mut String, to: Point) -> Result<(), AllocError> {
-    let Point { x, y } = to;
-    write!(text, "M{x} {y}")
+pub fn put_move(text: &mut String, to: FinePoint) -> Result<(), AllocError> {
+    text.push_str("M")?;
+    put_fine(text, to)
 }
 
 /// A step of a path: a straight line to a point.
-pub fn put_line(text: &mut String, to: Point) -> Result<(), AllocError> {
-    let Point { x, y } = to;
-    write!(text, "L{x} {y}")
+pub fn put_line(text: &mut String, to: FinePoint) -> Result<(), AllocError> {
+    text.push_str("L")?;
+    put_fine(text, to)
 }
 
 /// A step of a path: a level line from a point.

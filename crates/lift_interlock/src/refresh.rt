@@ -20,7 +20,8 @@ fn denies_running(
     outputs: CarOutputs,
     rule: Rule,
 ) -> bool
-    ensures { result ≡ denies_running all.now (first_cars running) (running + 1) fields outputs rule }
+    ensures { result ≡ denies_running all.now (first_cars running) (running + 1) fields outputs
+        rule }
 {
     match rule {
         Rule::Reversal | Rule::NotLevel => false,

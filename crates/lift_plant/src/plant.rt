@@ -47,8 +47,10 @@ impl Plant {
         requires cars { (1 ≤ cars) × (cars ≤ 8) }
         requires floors { (2 ≤ floors) × (floors ≤ 16) }
         ensures plant { result ≡ opening_plant cars floors }
-        ensures sized { (slots : ℕ) → IsPlantOf (record { cars = cars; floors = floors; slots = slots }) result }
-        ensures opens { (slots : ℕ) → fields_of_plant result ≡ opening_fields (record { cars = cars; floors = floors; slots = slots }) }
+        ensures sized { (slots : ℕ) → IsPlantOf (record
+            { cars = cars; floors = floors; slots = slots }) result }
+        ensures opens { (slots : ℕ) → fields_of_plant result
+            ≡ opening_fields (record { cars = cars; floors = floors; slots = slots }) }
     {
         let mut placed = Bounded::new();
         for _ in 0..cars {
@@ -129,8 +131,10 @@ pub fn plant_step(plant: Plant, outputs: &Outputs) -> (Plant, Fields)
     ensures plant { result.0 ≡ plant_after plant outputs.now }
     ensures fields { result.1 ≡ fields_of_plant result.0 }
     ensures sized { (sizes : Sizes) → IsPlantOf sizes plant → IsPlantOf sizes result.0 }
-    ensures inside { (sizes : Sizes) → IsPlantOf sizes plant → 1 ≤ sizes.floors → FieldsInRange sizes result.1 }
-    ensures safe { (sizes : Sizes) → IsPlantOf sizes plant → 1 ≤ sizes.floors → ObeysWithOwnFields plant outputs.now → StaysSafe sizes plant result.0 }
+    ensures inside { (sizes : Sizes) → IsPlantOf sizes plant → 1 ≤ sizes.floors
+        → FieldsInRange sizes result.1 }
+    ensures safe { (sizes : Sizes) → IsPlantOf sizes plant → 1 ≤ sizes.floors
+        → ObeysWithOwnFields plant outputs.now → StaysSafe sizes plant result.0 }
 {
     let cars = moved_cars(plant.floors, plant.cars.as_slice(), outputs.as_slice());
     let time = u32::min(LAST_TIME, plant.time + 100);
@@ -153,5 +157,6 @@ pub fn plant_step(plant: Plant, outputs: &Outputs) -> (Plant, Fields)
 /// A law: a step under outputs that obey the interlock with what the plant reports moves no car whose door isn't
 /// shut, keeps each car that is in its shaft there, and reports fields in range.
 pub fn step_is_safe()
-    ensures { (sizes : Sizes) (plant : PlantState) (outputs : List CarOutputs) → IsSafeStep sizes plant outputs }
+    ensures { (sizes : Sizes) (plant : PlantState) (outputs : List CarOutputs)
+        → IsSafeStep sizes plant outputs }
 {}

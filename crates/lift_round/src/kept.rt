@@ -54,7 +54,8 @@ impl Rounds {
     pub fn go(&mut self, fields: Fields)
         requires inside { FieldsInRange (sizes_of self.old.world.program.config) fields }
         requires closed { IsClosed self.old.world.world }
-        ensures round { IsRoundOf self.old.world.program.config fields self.old.world.world self.new.world.world self.new.notices }
+        ensures round { IsRoundOf self.old.world.program.config fields self.old.world.world
+            self.new.world.world self.new.notices }
         ensures closed { IsClosed self.new.world.world }
         ensures same { self.new.world.program ≡ self.old.world.program }
     {

@@ -28,7 +28,8 @@ fn scan_one(world: &mut World, task: u8, notices: &mut Notices, report: &mut Rep
     requires task { HasTask world.old.program.config task }
     requires closed { IsClosed world.old.world }
     requires room { length notices.old + most_of_scans (task ∷ []) ≤ 168 }
-    ensures scan { ScansReporting world.old.program.config task world.old.world world.new.world report.new }
+    ensures scan { ScansReporting world.old.program.config task world.old.world world.new.world
+        report.new }
     ensures noticed { notices.new ≡ notices.old ++ commit_notices task report.new }
     ensures room { length notices.new ≤ length notices.old + most_of_scans (task ∷ []) }
     ensures closed { IsClosed world.new.world }
@@ -45,7 +46,8 @@ fn scan_all(world: &mut World, tasks: &[u8], notices: &mut Notices, report: &mut
     requires tasks { AreTasks world.old.program.config tasks.now }
     requires closed { IsClosed world.old.world }
     requires room { length notices.old + most_of_scans tasks.now ≤ 168 }
-    ensures noticed { (scanned : List NoticeOf) × (notices.new ≡ notices.old ++ scanned) × ScansNoticed world.old.program.config tasks.now world.old.world world.new.world scanned }
+    ensures noticed { (scanned : List NoticeOf) × (notices.new ≡ notices.old ++ scanned)
+        × ScansNoticed world.old.program.config tasks.now world.old.world world.new.world scanned }
     ensures closed { IsClosed world.new.world }
     ensures same { world.new.program ≡ world.old.program }
 {
@@ -58,7 +60,8 @@ fn scan_all(world: &mut World, tasks: &[u8], notices: &mut Notices, report: &mut
 fn refresh(world: &mut World, fields: Fields, notices: &mut Notices, report: &mut Report)
     requires inside { FieldsInRange (sizes_of world.old.program.config) fields }
     requires none { notices.old ≡ [] }
-    ensures taken { happens world.old.program.config world.old.world (RefreshOf fields) ≡ Ok (world.new.world, Refreshed report.new) }
+    ensures taken { happens world.old.program.config world.old.world (RefreshOf fields)
+        ≡ Ok (world.new.world, Refreshed report.new) }
     ensures noticed { notices.new ≡ refresh_notices report.new }
     ensures room { length notices.new ≤ 80 }
     ensures same { world.new.program ≡ world.old.program }
@@ -100,7 +103,8 @@ pub fn round(
     requires tasks { tasks.now ≡ tasks_in_order world.old.program.config }
     requires inside { FieldsInRange (sizes_of world.old.program.config) fields }
     requires closed { IsClosed world.old.world }
-    ensures round { IsRoundOf world.old.program.config fields world.old.world world.new.world notices.new }
+    ensures round { IsRoundOf world.old.program.config fields world.old.world world.new.world
+        notices.new }
     ensures closed { IsClosed world.new.world }
     ensures same { world.new.program ≡ world.old.program }
 {

@@ -97,7 +97,8 @@ pub fn image_is_seen()
 /// A law: a call that hands in events to such a configuration's world goes well: after every history that leads to the
 /// world, each prefix of the events runs to its end, and to a world that is well of both together.
 pub fn accepted_calls_go_well()
-    ensures { (c : Config) → IsSound c → (w : World) (events : List Event) → CallGoesWell c w events }
+    ensures { (c : Config) → IsSound c → (w : World) (events : List Event)
+        → CallGoesWell c w events }
 {}
 
 /// A law: one event alone is a run of one event.

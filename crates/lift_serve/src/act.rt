@@ -42,7 +42,10 @@ fn act_round(
     requires inside { FieldsInRange (sizes_of world.old.program.config) fields }
     requires closed { IsClosed world.old.world }
     requires empty { string_bytes text.old ≡ [] }
-    ensures acts { OnOk result ((notices : List NoticeOf) × IsRoundOf world.old.program.config fields world.old.world world.new.world notices × (string_bytes text.new ≡ flat_map notice_line notices ++ outputs_line world.new.world.group.image.outputs)) }
+    ensures acts { OnOk result ((notices : List NoticeOf)
+        × IsRoundOf world.old.program.config fields world.old.world world.new.world notices
+        × (string_bytes text.new ≡ flat_map notice_line notices
+        ++ outputs_line world.new.world.group.image.outputs)) }
     ensures room { OnOk result (length (string_bytes text.new) ≤ greatest_answer) }
     ensures closed { OnOk result (IsClosed world.new.world) }
     ensures same { world.new.program ≡ world.old.program }
@@ -72,7 +75,9 @@ fn act_press(
     requires numbers { (call.from ≤ 255) × (call.to ≤ 255) }
     requires empty { string_bytes text.old ≡ [] }
     ensures room { OnOk result (length (string_bytes text.new) ≤ greatest_answer) }
-    ensures acts { OnOk result ((reply : ReplyOf) × (happens world.old.program.config world.old.world (PressOf call) ≡ Ok (world.new.world, reply)) × (string_bytes text.new ≡ press_line call reply)) }
+    ensures acts { OnOk result ((reply : ReplyOf)
+        × (happens world.old.program.config world.old.world (PressOf call)
+        ≡ Ok (world.new.world, reply)) × (string_bytes text.new ≡ press_line call reply)) }
     ensures closed { IsClosed world.new.world }
     ensures same { world.new.program ≡ world.old.program }
 {
@@ -96,7 +101,8 @@ pub(crate) fn act(
     requires short { length stop.now ≤ greatest_answer }
     requires closed { IsClosed world.old.world }
     requires empty { string_bytes text.old ≡ [] }
-    ensures acts { OnOk result (Acts world.old.program.config said world.old.world world.new.world (string_bytes text.new)) }
+    ensures acts { OnOk result (Acts world.old.program.config said world.old.world world.new.world
+        (string_bytes text.new)) }
     // so the room for an answer never grows
     ensures room { OnOk result (length (string_bytes text.new) ≤ greatest_answer) }
     ensures closed { OnOk result (IsClosed world.new.world) }

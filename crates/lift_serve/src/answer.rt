@@ -44,7 +44,8 @@ fn put_output(text: &mut String, outputs: CarOutputs) -> Result<(), AllocError>
 }
 
 fn put_each(text: &mut String, outputs: &[CarOutputs]) -> Result<(), AllocError>
-    ensures { OnOk result (string_bytes text.new ≡ string_bytes text.old ++ flat_map output_part outputs.now) }
+    ensures { OnOk result (string_bytes text.new ≡ string_bytes text.old
+        ++ flat_map output_part outputs.now) }
 {
     'cars: for car in outputs {
         put_output(text, *car)?;
@@ -54,7 +55,8 @@ fn put_each(text: &mut String, outputs: &[CarOutputs]) -> Result<(), AllocError>
 
 /// The outputs of all cars.
 pub(crate) fn put_outputs(text: &mut String, outputs: &[CarOutputs]) -> Result<(), AllocError>
-    ensures { OnOk result (string_bytes text.new ≡ string_bytes text.old ++ outputs_line outputs.now) }
+    ensures { OnOk result (string_bytes text.new ≡ string_bytes text.old
+        ++ outputs_line outputs.now) }
 {
     text.push_str("outputs")?;
     put_each(text, outputs)?;
@@ -63,8 +65,15 @@ pub(crate) fn put_outputs(text: &mut String, outputs: &[CarOutputs]) -> Result<(
 
 #[tactic(auto, unfolding(crate::specs::Answers::entered_line))]
 fn put_entered(text: &mut String, ticket: u64, slot: u8, from: u8, to: u8) -> Result<(), AllocError>
-    ensures line { OnOk result (string_bytes text.new ≡ string_bytes text.old ++ entered_line (record { slot = slot; ticket = ticket; call = record { from = from; to = to } })) }
-    ensures few { length (entered_line (record { slot = slot; ticket = ticket; call = record { from = from; to = to } })) ≤ 41 }
+    ensures line { OnOk result (string_bytes text.new ≡ string_bytes text.old
+        ++ entered_line (record {
+          slot = slot;
+          ticket = ticket;
+          call = record
+              { from = from; to = to };
+        })) }
+    ensures few { length (entered_line (record
+        { slot = slot; ticket = ticket; call = record { from = from; to = to } })) ≤ 41 }
 {
     write!(text, "entered {} {}", ticket, slot)?;
     writeln!(text, " {} {}", from, to)
@@ -72,7 +81,8 @@ fn put_entered(text: &mut String, ticket: u64, slot: u8, from: u8, to: u8) -> Re
 
 #[tactic(auto, unfolding(crate::specs::Answers::denied_line))]
 fn put_denied(text: &mut String, car: u8, rule: Rule) -> Result<(), AllocError>
-    ensures line { OnOk result (string_bytes text.new ≡ string_bytes text.old ++ denied_line (record { car = car; rule = rule })) }
+    ensures line { OnOk result (string_bytes text.new ≡ string_bytes text.old
+        ++ denied_line (record { car = car; rule = rule })) }
     ensures few { length (denied_line (record { car = car; rule = rule })) ≤ 41 }
 {
     writeln!(text, "denied {} {}", car, rule.number())
@@ -80,7 +90,8 @@ fn put_denied(text: &mut String, car: u8, rule: Rule) -> Result<(), AllocError>
 
 #[tactic(auto, unfolding(crate::specs::Answers::told_line))]
 fn put_told(text: &mut String, ticket: u64, car: u8) -> Result<(), AllocError>
-    ensures line { OnOk result (string_bytes text.new ≡ string_bytes text.old ++ told_line ticket car) }
+    ensures line { OnOk result (string_bytes text.new ≡ string_bytes text.old
+        ++ told_line ticket car) }
     ensures few { length (told_line ticket car) ≤ 41 }
 {
     writeln!(text, "told {} {}", ticket, car)
@@ -88,14 +99,16 @@ fn put_told(text: &mut String, ticket: u64, car: u8) -> Result<(), AllocError>
 
 #[tactic(auto, unfolding(crate::specs::Answers::served_line))]
 fn put_served(text: &mut String, ticket: u64, car: u8) -> Result<(), AllocError>
-    ensures line { OnOk result (string_bytes text.new ≡ string_bytes text.old ++ served_line ticket car) }
+    ensures line { OnOk result (string_bytes text.new ≡ string_bytes text.old
+        ++ served_line ticket car) }
     ensures few { length (served_line ticket car) ≤ 41 }
 {
     writeln!(text, "served {} {}", ticket, car)
 }
 
 fn put_notice(text: &mut String, notice: Notice) -> Result<(), AllocError>
-    ensures line { OnOk result (string_bytes text.new ≡ string_bytes text.old ++ notice_line notice) }
+    ensures line { OnOk result (string_bytes text.new ≡ string_bytes text.old
+        ++ notice_line notice) }
     ensures few { length (notice_line notice) ≤ 41 }
 {
     match notice {
@@ -110,8 +123,10 @@ fn put_notice(text: &mut String, notice: Notice) -> Result<(), AllocError>
 
 /// A line for each notice, in their order.
 pub(crate) fn put_notices(text: &mut String, notices: &[Notice]) -> Result<(), AllocError>
-    ensures lines { OnOk result (string_bytes text.new ≡ string_bytes text.old ++ flat_map notice_line notices.now) }
-    ensures few { OnOk result (length (flat_map notice_line notices.now) ≤ 41 * length notices.now) }
+    ensures lines { OnOk result (string_bytes text.new ≡ string_bytes text.old
+        ++ flat_map notice_line notices.now) }
+    ensures few { OnOk result (length (flat_map notice_line notices.now) ≤ 41 * length
+        notices.now) }
 {
     'notices: for notice in notices {
         put_notice(text, *notice)?;
@@ -121,7 +136,8 @@ pub(crate) fn put_notices(text: &mut String, notices: &[Notice]) -> Result<(), A
 
 // What became of a press.
 fn put_word(text: &mut String, reply: Reply, report: &Report) -> Result<(), AllocError>
-    ensures { OnOk result (string_bytes text.new ≡ string_bytes text.old ++ press_word (reply_with reply report.now)) }
+    ensures { OnOk result (string_bytes text.new ≡ string_bytes text.old
+        ++ press_word (reply_with reply report.now)) }
 {
     match reply {
         Reply::New => text.push_str("new"),
@@ -139,7 +155,8 @@ pub(crate) fn put_press(
     reply: Reply,
     report: &Report,
 ) -> Result<(), AllocError>
-    ensures { OnOk result (string_bytes text.new ≡ string_bytes text.old ++ press_line call (reply_with reply report.now)) }
+    ensures { OnOk result (string_bytes text.new ≡ string_bytes text.old
+        ++ press_line call (reply_with reply report.now)) }
 {
     write!(text, "press {} {} ", call.from, call.to)?;
     put_word(text, reply, report)?;

@@ -31,8 +31,15 @@ pub fn serve_group<R: Read, O: Sink, T: Sink>(
     out: &mut O,
     trace: &mut T,
 ) -> Result<(), Halt>
-    ensures ended { OnOk result (IsEnded verified.config (Consumes (R.remaining reader.old) (R.remaining reader.new)) (Appends (O.contents out.old) (O.contents out.new)) (Appends (T.contents trace.old) (T.contents trace.new))) }
-    ensures halted { IfErr result (λ halt. IsHalted verified.config (Consumes (R.remaining reader.old) (R.remaining reader.new)) (O.contents out.old) (O.contents out.new) (O.has_failed out.new) (Appends (T.contents trace.old) (T.contents trace.new)) (AppendsFront (T.contents trace.old) (T.contents trace.new)) halt) }
+    ensures ended { OnOk result (IsEnded verified.config
+        (Consumes (R.remaining reader.old) (R.remaining reader.new))
+        (Appends (O.contents out.old) (O.contents out.new))
+        (Appends (T.contents trace.old) (T.contents trace.new))) }
+    ensures halted { IfErr result (λ halt. IsHalted verified.config
+        (Consumes (R.remaining reader.old) (R.remaining reader.new)) (O.contents out.old)
+        (O.contents out.new) (O.has_failed out.new)
+        (Appends (T.contents trace.old) (T.contents trace.new))
+        (AppendsFront (T.contents trace.old) (T.contents trace.new)) halt) }
 {
     let Ok(mut server) = Server::new(alloc, verified) else {
         return Err(Halt::Memory);
@@ -55,7 +62,8 @@ pub fn serve_group<R: Read, O: Sink, T: Sink>(
 
 // Writes the stop, unless it was the output that failed.
 fn write_stop<O: Sink>(stop: Stop, text: &[u8], out: &mut O)
-    ensures { IsHaltWritten stop (O.contents out.old) (O.contents out.new) (O.has_failed out.new) text.now }
+    ensures { IsHaltWritten stop (O.contents out.old) (O.contents out.new) (O.has_failed out.new)
+        text.now }
 {
     match stop {
         Stop::Line(ServeFault::Output) => {}

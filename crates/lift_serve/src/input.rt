@@ -47,7 +47,8 @@ fn next_byte<R: Read>(reader: &mut R) -> NextByte
 /// The next line, without its line feed, into room for it.
 pub fn next_line<R: Read>(reader: &mut R, line: &mut Vec<u8>) -> Came
     requires room { 128 ≤ vec_capacity line.old }
-    ensures comes { LineComes result (R.remaining reader.old) (R.remaining reader.new) line.new.items }
+    ensures comes { LineComes result (R.remaining reader.old) (R.remaining reader.new)
+        line.new.items }
     ensures room { 128 ≤ vec_capacity line.new }
 {
     line.clear();

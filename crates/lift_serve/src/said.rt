@@ -68,8 +68,10 @@ fn is_end(line: &[u8]) -> bool
 
 // What a line spells, whether or not its fields are in range.
 fn spelled(world: &World, line: &[u8]) -> Option<Said>
-    ensures found { IfSome result (λ said. IsSpelled world.now.program.config said × (line.now ≡ said_line said)) }
-    ensures none { IfNone result ((said : SaidOf) → IsSpelled world.now.program.config said → line.now ≡ said_line said → ⊥) }
+    ensures found { IfSome result (λ said. IsSpelled world.now.program.config said
+        × (line.now ≡ said_line said)) }
+    ensures none { IfNone result ((said : SaidOf) → IsSpelled world.now.program.config said
+        → line.now ≡ said_line said → ⊥) }
 {
     if is_end(line) {
         return Some(Said::End);

@@ -41,8 +41,18 @@ pub fn serve<R: Read, O: Sink, T: Sink>(
 ) -> Result<(), Stopped>
     requires server { IsServer server.old }
     requires room { 128 ≤ vec_capacity line.old }
-    ensures served { OnOk result (IsServed server.old.world.program.config server.old.world.world server.old.count server.new.world.world server.new.count (Consumes (R.remaining reader.old) (R.remaining reader.new)) (Appends (O.contents out.old) (O.contents out.new)) (Appends (T.contents trace.old) (T.contents trace.new))) }
-    ensures stopped { IfErr result (λ s. IsStopped server.old.world.program.config server.old.world.world server.old.count (Consumes (R.remaining reader.old) (R.remaining reader.new)) (Appends (O.contents out.old) (O.contents out.new)) (AppendsFront (O.contents out.old) (O.contents out.new)) (Appends (T.contents trace.old) (T.contents trace.new)) (AppendsFront (T.contents trace.old) (T.contents trace.new)) s.stop s.line) }
+    ensures served { OnOk result (IsServed server.old.world.program.config server.old.world.world
+        server.old.count server.new.world.world server.new.count
+        (Consumes (R.remaining reader.old) (R.remaining reader.new))
+        (Appends (O.contents out.old) (O.contents out.new))
+        (Appends (T.contents trace.old) (T.contents trace.new))) }
+    ensures stopped { IfErr result (λ s. IsStopped server.old.world.program.config
+        server.old.world.world server.old.count
+        (Consumes (R.remaining reader.old) (R.remaining reader.new))
+        (Appends (O.contents out.old) (O.contents out.new))
+        (AppendsFront (O.contents out.old) (O.contents out.new))
+        (Appends (T.contents trace.old) (T.contents trace.new))
+        (AppendsFront (T.contents trace.old) (T.contents trace.new)) s.stop s.line) }
     ensures stop { server.new.stop ≡ server.old.stop }
 {
     'lines: for before in 0..MOST_LINES {

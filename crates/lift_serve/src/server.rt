@@ -77,7 +77,8 @@ impl Drop for Server {
 // The lines that are traced of the gatherings of a round.
 #[tactic(auto, unfolding(lift_trace::specs::Text::line_of))]
 fn gathers_text(alloc: Global, floors: u8) -> Result<String, AllocError>
-    ensures { IfOk result (λ text. string_bytes text ≡ events_text (map Gather (counting_from 1 floors))) }
+    ensures { IfOk result (λ text. string_bytes text
+        ≡ events_text (map Gather (counting_from 1 floors))) }
 {
     let mut text = String::new(alloc);
     'floors: for below in 0..floors {
@@ -88,14 +89,16 @@ fn gathers_text(alloc: Global, floors: u8) -> Result<String, AllocError>
 
 #[tactic(auto, unfolding(lift_trace::specs::Text::line_of))]
 fn put_gather(text: &mut String, floor: u8) -> Result<(), AllocError>
-    ensures { OnOk result (string_bytes text.new ≡ string_bytes text.old ++ events_text (Gather floor ∷ [])) }
+    ensures { OnOk result (string_bytes text.new ≡ string_bytes text.old
+        ++ events_text (Gather floor ∷ [])) }
 {
     writeln!(text, "G {}", floor)
 }
 
 #[tactic(auto, unfolding(lift_trace::specs::Text::line_of))]
 fn put_scan(text: &mut String, task: u8) -> Result<(), AllocError>
-    ensures { OnOk result (string_bytes text.new ≡ string_bytes text.old ++ events_text (scan_events task)) }
+    ensures { OnOk result (string_bytes text.new ≡ string_bytes text.old
+        ++ events_text (scan_events task)) }
 {
     writeln!(text, "S {}", task)?;
     writeln!(text, "C {}", task)
@@ -103,7 +106,8 @@ fn put_scan(text: &mut String, task: u8) -> Result<(), AllocError>
 
 // The lines that are traced of a scan of each of some tasks.
 fn scans_text(alloc: Global, tasks: &[u8]) -> Result<String, AllocError>
-    ensures { IfOk result (λ text. string_bytes text ≡ events_text (flat_map scan_events tasks.now)) }
+    ensures { IfOk result (λ text. string_bytes text
+        ≡ events_text (flat_map scan_events tasks.now)) }
 {
     let mut text = String::new(alloc);
     'tasks: for task in tasks {
@@ -140,7 +144,8 @@ fn put_said(
     said: &Said,
 ) -> Result<(), AllocError>
     requires empty { traced.old.items ≡ [] }
-    ensures text { OnOk result (traced.new.items ≡ record_text gathers.now scans.now line.now count sizes said.now) }
+    ensures text { OnOk result (traced.new.items
+        ≡ record_text gathers.now scans.now line.now count sizes said.now) }
 {
     match said {
         Said::Round(_) => {
@@ -163,7 +168,8 @@ impl Server {
     /// A group that opens.
     pub fn new(alloc: Global, verified: Verified) -> Result<Server, Refusal>
         ensures server { IfOk result IsServer }
-        ensures opening { IfOk result (λ s. (s.world.program ≡ verified) × (s.world.world ≡ opening verified.config) × (s.count ≡ 0)) }
+        ensures opening { IfOk result (λ s. (s.world.program ≡ verified)
+            × (s.world.world ≡ opening verified.config) × (s.count ≡ 0)) }
     {
         let _config = verified.config();
         let tasks = tasks_in(&verified);
@@ -213,9 +219,15 @@ impl Server {
     ) -> Result<(), ServeFault>
         requires server { IsServer self.old }
         requires says { Says self.old.world.program.config line.now said.now }
-        ensures traced { OnOk result (Appends (T.contents trace.old) (T.contents trace.new) (traced_text self.old.world.program.config said.now self.old.count)) }
-        ensures counted { OnOk result (self.new.count ≡ self.old.count + length (events_of self.old.world.program.config said.now)) }
-        ensures fault { IfErr result (λ fault. ((fault ≡ ServeFault.Full) × Appends (T.contents trace.old) (T.contents trace.new) []) ⊎ (((fault ≡ ServeFault.Memory) ⊎ (fault ≡ ServeFault.Trace)) × AppendsFront (T.contents trace.old) (T.contents trace.new) (traced_text self.old.world.program.config said.now self.old.count))) }
+        ensures traced { OnOk result (Appends (T.contents trace.old) (T.contents trace.new)
+            (traced_text self.old.world.program.config said.now self.old.count)) }
+        ensures counted { OnOk result (self.new.count
+            ≡ self.old.count + length (events_of self.old.world.program.config said.now)) }
+        ensures fault { IfErr result (λ fault. ((fault ≡ ServeFault.Full)
+            × Appends (T.contents trace.old) (T.contents trace.new) [])
+            ⊎ (((fault ≡ ServeFault.Memory) ⊎ (fault ≡ ServeFault.Trace))
+            × AppendsFront (T.contents trace.old) (T.contents trace.new)
+            (traced_text self.old.world.program.config said.now self.old.count))) }
         ensures same { self.new.world ≡ self.old.world }
         ensures stop { self.new.stop ≡ self.old.stop }
         ensures server { IsServer self.new }
@@ -253,8 +265,15 @@ impl Server {
         requires server { IsServer self.old }
         requires numbers { IsSpelled self.old.world.program.config said }
         requires taken { IsTaken self.old.world.program.config said }
-        ensures answered { OnOk result ((text : List ℕ) × Acts self.old.world.program.config said self.old.world.world self.new.world.world text × Appends (O.contents out.old) (O.contents out.new) text) }
-        ensures fault { IfErr result (λ fault. ((fault ≡ ServeFault.Memory) × Appends (O.contents out.old) (O.contents out.new) []) ⊎ ((fault ≡ ServeFault.Output) × ((text : List ℕ) × Acts self.old.world.program.config said self.old.world.world self.new.world.world text × AppendsFront (O.contents out.old) (O.contents out.new) text))) }
+        ensures answered { OnOk result ((text : List ℕ)
+            × Acts self.old.world.program.config said self.old.world.world self.new.world.world
+            text × Appends (O.contents out.old) (O.contents out.new) text) }
+        ensures fault { IfErr result (λ fault. ((fault ≡ ServeFault.Memory)
+            × Appends (O.contents out.old) (O.contents out.new) [])
+            ⊎ ((fault ≡ ServeFault.Output)
+            × ((text : List ℕ) × Acts self.old.world.program.config said self.old.world.world
+            self.new.world.world text
+            × AppendsFront (O.contents out.old) (O.contents out.new) text))) }
         ensures same { self.new.world.program ≡ self.old.world.program }
         ensures count { self.new.count ≡ self.old.count }
         ensures stop { self.new.stop ≡ self.old.stop }
@@ -286,14 +305,28 @@ impl Server {
         trace: &mut T,
     ) -> Result<bool, ServeFault>
         requires { IsServer self.old }
-        ensures heard { IfOk result (λ ended. (said : SaidOf) × (text : List ℕ) × (events : List ℕ) × Hears self.old.world.program.config line.now said self.old.world.world self.new.world.world self.old.count self.new.count text events × Appends (O.contents out.old) (O.contents out.new) text × Appends (T.contents trace.old) (T.contents trace.new) events × (ended ≡ is_end said)) }
-        ensures unheard { IfErr result (λ fault. Unheard self.old.world.program.config line.now self.old.world.world self.old.count (Appends (O.contents out.old) (O.contents out.new)) (AppendsFront (O.contents out.old) (O.contents out.new)) (Appends (T.contents trace.old) (T.contents trace.new)) (AppendsFront (T.contents trace.old) (T.contents trace.new)) fault) }
+        ensures heard { IfOk result (λ ended. (said : SaidOf) × (text : List ℕ)
+            × (events : List ℕ) × Hears self.old.world.program.config line.now said
+            self.old.world.world self.new.world.world self.old.count self.new.count text events
+            × Appends (O.contents out.old) (O.contents out.new) text
+            × Appends (T.contents trace.old) (T.contents trace.new) events
+            × (ended ≡ is_end said)) }
+        ensures unheard { IfErr result (λ fault. Unheard self.old.world.program.config line.now
+            self.old.world.world self.old.count
+            (Appends (O.contents out.old) (O.contents out.new))
+            (AppendsFront (O.contents out.old) (O.contents out.new))
+            (Appends (T.contents trace.old) (T.contents trace.new))
+            (AppendsFront (T.contents trace.old) (T.contents trace.new)) fault) }
         ensures same { self.new.world.program ≡ self.old.world.program }
         ensures stop { self.new.stop ≡ self.old.stop }
         ensures server { OnOk result (IsServer self.new) }
         // the events that are traced of the line lead to the world behind it
-        ensures replays { OnOk result ((said : SaidOf) × Says self.old.world.program.config line.now said × TakesAll self.old.world.program.config self.old.world.world (events_of self.old.world.program.config said) self.new.world.world) }
-        ensures ranges { OnOk result (FieldsInRange (sizes_of self.old.world.program.config) self.new.world.world.group.image.fields) }
+        ensures replays { OnOk result ((said : SaidOf)
+            × Says self.old.world.program.config line.now said
+            × TakesAll self.old.world.program.config self.old.world.world
+            (events_of self.old.world.program.config said) self.new.world.world) }
+        ensures ranges { OnOk result (FieldsInRange (sizes_of self.old.world.program.config)
+            self.new.world.world.group.image.fields) }
         ensures obeys { OnOk result (Obeys self.new.world.world.group.image) }
     {
         let said = match read_said(&self.world, line) {
@@ -312,7 +345,8 @@ impl Server {
 
 // The outputs of a world, as a line.
 fn stop_of(alloc: Global, world: &World) -> Result<String, AllocError>
-    ensures line { IfOk result (λ text. string_bytes text ≡ outputs_line world.now.world.group.image.outputs) }
+    ensures line { IfOk result (λ text. string_bytes text
+        ≡ outputs_line world.now.world.group.image.outputs) }
     ensures short { IfOk result (λ text. length (string_bytes text) ≤ greatest_answer) }
 {
     let outputs = &world.image().outputs;

@@ -44,5 +44,6 @@ pub fn in_range(fields: &Fields, sizes: Sizes) -> bool
 /// A law: the test of fields says whether they lie in their ranges.
 #[tactic(auto, using(crate::proofs::Laws::range_test))]
 pub fn range_is_tested()
-    ensures { (sizes : Sizes) (fields : Fields) → IsTrue (fields_in_range sizes fields) ↔ FieldsInRange sizes fields }
+    ensures { (sizes : Sizes) (fields : Fields) → IsTrue (fields_in_range sizes fields)
+        ↔ FieldsInRange sizes fields }
 {}

@@ -80,7 +80,8 @@ pub fn start<'s, E>(
 ) -> Result<PanelHandle<'s>, AllocError>
     requires table { pass.table ≡ desk.now.table }
     requires presses { All (λ press. IsPressAt desk.now.floors press) presses.now }
-    ensures { IfOk result (λ h. (h.promise.before.value ≡ pass) × (h.promise.presses.value.now ≡ presses.now)) }
+    ensures { IfOk result (λ h. (h.promise.before.value ≡ pass)
+        × (h.promise.presses.value.now ≡ presses.now)) }
 {
     let promise = Pressing {
         before: Snapshot::of(&pass),

@@ -60,8 +60,10 @@ fn round<G: Naming, R: Wait>(
     requires floors { refresher.hand.floors ≡ (sizes_of G.program.config).floors }
     requires fire { fire ≡ G.fire (refresher.pass.refreshes + 1) }
     requires entered { IsEntered refresher.pass.entered refresher.hand }
-    ensures hand { IfOk result (λ r. (r.hand.table ≡ refresher.hand.table) × (r.hand.floors ≡ refresher.hand.floors)) }
-    ensures counts { IfOk result (λ r. (r.pass.refreshes ≡ refresher.pass.refreshes + 1) × (r.pass.driven ≡ refresher.pass.driven + 1)) }
+    ensures hand { IfOk result (λ r. (r.hand.table ≡ refresher.hand.table)
+        × (r.hand.floors ≡ refresher.hand.floors)) }
+    ensures counts { IfOk result (λ r. (r.pass.refreshes ≡ refresher.pass.refreshes + 1)
+        × (r.pass.driven ≡ refresher.pass.driven + 1)) }
     ensures entered { IfOk result (λ r. IsEntered r.pass.entered r.hand) }
 {
     let Refresher { pass, hand } = refresher;
@@ -85,7 +87,8 @@ pub fn work<G: Naming, T: Gate, R: Wait>(
     requires floors { refresher.hand.floors ≡ (sizes_of G.program.config).floors }
     requires fire { G.fire ≡ is_fire_in pace.fire }
     requires entered { IsEntered refresher.pass.entered refresher.hand }
-    ensures counts { IfOk result (λ d. (d.hand.table ≡ refresher.hand.table) × (d.pass.refreshes ≡ pace.rounds) × (d.pass.driven ≡ pace.rounds)) }
+    ensures counts { IfOk result (λ d. (d.hand.table ≡ refresher.hand.table)
+        × (d.pass.refreshes ≡ pace.rounds) × (d.pass.driven ≡ pace.rounds)) }
     ensures entered { IfOk result (λ d. IsEntered d.pass.entered d.hand) }
 {
     let mut refresher = refresher;
@@ -121,7 +124,8 @@ pub fn start<'s, E, G: Naming + Send + Sync, T: Gate + Sync, R: Threads + Wait +
     requires floors { refresher.hand.floors ≡ (sizes_of G.program.config).floors }
     requires fire { G.fire ≡ is_fire_in pace.fire }
     requires entered { IsEntered refresher.pass.entered refresher.hand }
-    ensures { IfOk result (λ h. (h.promise.rounds ≡ pace.rounds) × (h.promise.desk.value.table ≡ desk.now.table)) }
+    ensures { IfOk result (λ h. (h.promise.rounds ≡ pace.rounds)
+        × (h.promise.desk.value.table ≡ desk.now.table)) }
 {
     let job = move || -> Result<Refresher<G>, StationFault>
         requires new { (refresher.pass.refreshes ≡ 0) × (refresher.pass.driven ≡ 0) }
@@ -129,7 +133,9 @@ pub fn start<'s, E, G: Naming + Send + Sync, T: Gate + Sync, R: Threads + Wait +
         requires floors { refresher.hand.floors ≡ (sizes_of G.program.config).floors }
         requires fire { G.fire ≡ is_fire_in pace.fire }
         requires entered { IsEntered refresher.pass.entered refresher.hand }
-        ensures { IfOk result (λ d. (d.hand.table ≡ desk.entry.now.table) × (d.pass.refreshes ≡ pace.rounds) × (d.pass.driven ≡ pace.rounds) × IsEntered d.pass.entered d.hand) }
+        ensures { IfOk result (λ d. (d.hand.table ≡ desk.entry.now.table)
+            × (d.pass.refreshes ≡ pace.rounds) × (d.pass.driven ≡ pace.rounds)
+            × IsEntered d.pass.entered d.hand) }
     { work(rt, station, desk, gate, refresher, pace) };
     let promise = RefreshRounds {
         rounds: pace.rounds,

@@ -72,10 +72,14 @@ fn start_panels<'s, E>(
 ) -> Result<Panels<'s>, AllocError>
     requires new { All (λ pass. IsIdle desk.now.table pass) panels.items }
     requires presses { All (λ press. IsPressAt desk.now.floors press) presses.now }
-    ensures count { IfOk result (λ p. length p.pressed.items + length p.idle.items ≡ length panels.items) }
-    ensures pressed { IfOk result (λ p. All (λ h. IsIdle desk.now.table h.promise.before.value) p.pressed.items) }
+    ensures count { IfOk result (λ p. length p.pressed.items + length p.idle.items
+        ≡ length panels.items) }
+    ensures pressed { IfOk result (λ p. All (λ h. IsIdle desk.now.table h.promise.before.value)
+        p.pressed.items) }
     ensures idle { IfOk result (λ p. All (λ pass. IsIdle desk.now.table pass) p.idle.items) }
-    ensures made { IfOk result (λ p. (c : Call) → sum_by (λ h. at_panel c h.promise.presses.value.now h.promise.before.value) p.pressed.items ≡ sum_by (λ pass. at_panel c presses.now pass) panels.items) }
+    ensures made { IfOk result (λ p. (c : Call)
+        → sum_by (λ h. at_panel c h.promise.presses.value.now h.promise.before.value)
+        p.pressed.items ≡ sum_by (λ pass. at_panel c presses.now pass) panels.items) }
 {
     let mut panels = panels;
     let mut pressed = Vec::new(alloc);
@@ -96,12 +100,17 @@ fn join_panels<R: Threads>(
     desk: &Desk,
     panels: Panels<'_>,
 ) -> Result<Vec<PanelPass>, AllocError>
-    requires pressed { All (λ h. IsIdle desk.now.table h.promise.before.value) panels.pressed.items }
+    requires pressed { All (λ h. IsIdle desk.now.table h.promise.before.value)
+        panels.pressed.items }
     requires idle { All (λ pass. IsIdle desk.now.table pass) panels.idle.items }
-    ensures count { IfOk result (λ ps. length ps.items ≡ length panels.entry.pressed.items + length panels.entry.idle.items) }
+    ensures count { IfOk result (λ ps. length ps.items
+        ≡ length panels.entry.pressed.items + length panels.entry.idle.items) }
     ensures tables { IfOk result (λ ps. All (λ pass. pass.table ≡ desk.now.table) ps.items) }
-    ensures pressed { IfOk result (λ ps. (c : Call) → sum_by (λ p. times c p.pressed) ps.items ≡ sum_by (λ h. at_panel c h.promise.presses.value.now h.promise.before.value) panels.entry.pressed.items) }
-    ensures news { IfOk result (λ ps. (c : Call) → sum_by (λ p. times c p.news) ps.items ≤ sum_by (λ p. times c p.pressed) ps.items) }
+    ensures pressed { IfOk result (λ ps. (c : Call) → sum_by (λ p. times c p.pressed) ps.items
+        ≡ sum_by (λ h. at_panel c h.promise.presses.value.now h.promise.before.value)
+        panels.entry.pressed.items) }
+    ensures news { IfOk result (λ ps. (c : Call)
+        → sum_by (λ p. times c p.news) ps.items ≤ sum_by (λ p. times c p.pressed) ps.items) }
 {
     let Panels { pressed, idle } = panels;
     let mut pressed = pressed;
@@ -145,11 +154,15 @@ pub fn run_all<G: Naming + Send + Sync, T: Gate + Sync, R: Threads + Wait + Sync
     requires each { desk.now.panels ≡ 4 }
     requires panels { AreNewPanels desk.now crew.panels.items }
     requires presses { All (λ press. IsPressAt desk.now.floors press) plan.presses.now }
-    ensures tasks { IfOk result (λ p. map (λ q. q.task) p.tasks.items ≡ map (λ q. q.task) crew.tasks.items) }
-    ensures counts { IfOk result (λ p. All (λ q. q.count ≡ plan.entry.rounds + plan.entry.rounds) p.tasks.items) }
-    ensures refreshes { IfOk result (λ p. (p.refresher.pass.refreshes ≡ plan.entry.rounds) × (p.refresher.pass.driven ≡ plan.entry.rounds)) }
+    ensures tasks { IfOk result (λ p. map (λ q. q.task) p.tasks.items
+        ≡ map (λ q. q.task) crew.tasks.items) }
+    ensures counts { IfOk result (λ p. All (λ q. q.count ≡ plan.entry.rounds + plan.entry.rounds)
+        p.tasks.items) }
+    ensures refreshes { IfOk result (λ p. (p.refresher.pass.refreshes ≡ plan.entry.rounds)
+        × (p.refresher.pass.driven ≡ plan.entry.rounds)) }
     ensures entered { IfOk result (λ p. IsEntered p.refresher.pass.entered p.refresher.hand) }
-    ensures desk { IfOk result (λ p. (p.refresher.hand.table ≡ desk.now.table) × AreAllPanels desk.now p.panels.items) }
+    ensures desk { IfOk result (λ p. (p.refresher.hand.table ≡ desk.now.table)
+        × AreAllPanels desk.now p.panels.items) }
     ensures pressed { IfOk result (λ p. ArePressed plan.entry.presses.now p.panels.items) }
 {
     let Crew {
@@ -177,11 +190,15 @@ pub fn run_all<G: Naming + Send + Sync, T: Gate + Sync, R: Threads + Wait + Sync
             requires each { desk.now.panels ≡ 4 }
             requires panels { AreNewPanels desk.now panels.items }
             requires presses { All (λ press. IsPressAt desk.now.floors press) presses.now }
-            ensures tasks { IfOk result (λ p. map (λ q. q.task) p.tasks.items ≡ map (λ q. q.task) tasks.items) }
+            ensures tasks { IfOk result (λ p. map (λ q. q.task) p.tasks.items
+                ≡ map (λ q. q.task) tasks.items) }
             ensures counts { IfOk result (λ p. All (λ q. q.count ≡ rounds + rounds) p.tasks.items) }
-            ensures refreshes { IfOk result (λ p. (p.refresher.pass.refreshes ≡ rounds) × (p.refresher.pass.driven ≡ rounds)) }
-            ensures entered { IfOk result (λ p. IsEntered p.refresher.pass.entered p.refresher.hand) }
-            ensures desk { IfOk result (λ p. (p.refresher.hand.table ≡ desk.entry.now.table) × AreAllPanels desk.entry.now p.panels.items) }
+            ensures refreshes { IfOk result (λ p. (p.refresher.pass.refreshes ≡ rounds)
+                × (p.refresher.pass.driven ≡ rounds)) }
+            ensures entered { IfOk result (λ p. IsEntered p.refresher.pass.entered
+                p.refresher.hand) }
+            ensures desk { IfOk result (λ p. (p.refresher.hand.table ≡ desk.entry.now.table)
+                × AreAllPanels desk.entry.now p.panels.items) }
             ensures pressed { IfOk result (λ p. ArePressed presses.entry.now p.panels.items) }
         {
             let panels = start_panels(scope, alloc, desk, panels, presses)?;
@@ -247,15 +264,19 @@ pub struct Ran {
 
 // Closes the desk and the station.
 fn closed<G: Naming>(station: Station<G>, desk: Desk, passes: Passes<G>, plan: Plan<'_>) -> Ran
-    requires tasks { map (λ q. q.task) passes.tasks.items ≡ filter (is_task G.program.config) all_tasks }
+    requires tasks { map (λ q. q.task) passes.tasks.items
+        ≡ filter (is_task G.program.config) all_tasks }
     requires counts { All (λ q. q.count ≡ plan.rounds + plan.rounds) passes.tasks.items }
-    requires refreshes { (passes.refresher.pass.refreshes ≡ plan.rounds) × (passes.refresher.pass.driven ≡ plan.rounds) }
+    requires refreshes { (passes.refresher.pass.refreshes ≡ plan.rounds)
+        × (passes.refresher.pass.driven ≡ plan.rounds) }
     requires entered { IsEntered passes.refresher.pass.entered passes.refresher.hand }
     requires floors { desk.floors ≡ (sizes_of G.program.config).floors }
-    requires desk { (passes.refresher.hand.table ≡ desk.table) × AreAllPanels desk passes.panels.items }
+    requires desk { (passes.refresher.hand.table ≡ desk.table)
+        × AreAllPanels desk passes.panels.items }
     requires presses { All (λ press. IsPressAt desk.floors press) plan.presses.now }
     requires pressed { ArePressed plan.presses.now passes.panels.items }
-    ensures { IsRun G.program.config G.fire plan.entry.rounds plan.entry.presses.now result.journal.items result.left }
+    ensures { IsRun G.program.config G.fire plan.entry.rounds plan.entry.presses.now
+        result.journal.items result.left }
 {
     let Passes {
         tasks,
@@ -282,7 +303,8 @@ fn run_at<G: Naming + Send + Sync, T: Gate + Sync, R: Threads + Wait + Sync>(
     crew: Crew<G>,
     plan: Plan<'_>,
 ) -> Result<Ran, RunFault>
-    requires tasks { map (λ q. q.task) crew.tasks.items ≡ filter (is_task G.program.config) all_tasks }
+    requires tasks { map (λ q. q.task) crew.tasks.items
+        ≡ filter (is_task G.program.config) all_tasks }
     requires new { All (λ p. p.count ≡ 0) crew.tasks.items }
     requires refreshes { (crew.refresher.pass.refreshes ≡ 0) × (crew.refresher.pass.driven ≡ 0) }
     requires hand { crew.refresher.hand.table ≡ desk.table }
@@ -292,7 +314,8 @@ fn run_at<G: Naming + Send + Sync, T: Gate + Sync, R: Threads + Wait + Sync>(
     requires size { (desk.floors ≡ (sizes_of G.program.config).floors) × (desk.panels ≡ 4) }
     requires panels { AreNewPanels desk crew.panels.items }
     requires presses { All (λ press. IsPressAt desk.floors press) plan.presses.now }
-    ensures { IfOk result (λ ran. IsRun G.program.config G.fire plan.entry.rounds plan.entry.presses.now ran.journal.items ran.left) }
+    ensures { IfOk result (λ ran. IsRun G.program.config G.fire plan.entry.rounds
+        plan.entry.presses.now ran.journal.items ran.left) }
 {
     match run_all(rt, alloc, &station, &desk, gate, crew, plan) {
         Ok(passes) => Ok(closed(station, desk, passes, plan)),
@@ -315,7 +338,8 @@ struct Opened {
 fn desk_of(alloc: Global, sizes: Sizes) -> Result<Opened, AllocError>
     requires floors { (2 ≤ sizes.floors) × (sizes.floors ≤ 16) }
     ensures size { IfOk result (λ o. (o.desk.floors ≡ sizes.floors) × (o.desk.panels ≡ 4)) }
-    ensures hand { IfOk result (λ o. o.hand ≡ record { table = o.desk.table; floors = sizes.floors; hand = []; gathered = [] }) }
+    ensures hand { IfOk result (λ o. o.hand
+        ≡ record { table = o.desk.table; floors = sizes.floors; hand = []; gathered = [] }) }
     ensures panels { IfOk result (λ o. AreNewPanels o.desk o.panels.items) }
 {
     match Desk::new(alloc, sizes.floors, PANELS) {
@@ -336,8 +360,10 @@ fn run_in<G: Naming + Send + Sync, T: Gate + Sync, R: Threads + Wait + Sync>(
     requires fire { G.fire ≡ is_fire_in plan.fire }
     requires names { (i : ℕ) → slice_index_or blanks.ledgers i 0 ≡ G.names i }
     requires tally { blanks.tally ≡ G.tally }
-    requires presses { All (λ press. IsPressAt (sizes_of verified.config).floors press) plan.presses.now }
-    ensures { IfOk result (λ ran. IsRun G.program.config G.fire plan.entry.rounds plan.entry.presses.now ran.journal.items ran.left) }
+    requires presses { All (λ press. IsPressAt (sizes_of verified.config).floors press)
+        plan.presses.now }
+    ensures { IfOk result (λ ran. IsRun G.program.config G.fire plan.entry.rounds
+        plan.entry.presses.now ran.journal.items ran.left) }
 {
     let _config = verified.config();
     let sizes = verified.sizes();
@@ -375,8 +401,10 @@ pub fn run<T: Gate + Sync, R: Threads + Wait + Sync>(
     gate: &T,
     plan: Plan<'_>,
 ) -> Result<Ran, RunFault>
-    requires presses { All (λ press. IsPressAt (sizes_of verified.config).floors press) plan.presses.now }
-    ensures { IfOk result (λ ran. IsRun verified.config (is_fire_in plan.entry.fire) plan.entry.rounds plan.entry.presses.now ran.journal.items ran.left) }
+    requires presses { All (λ press. IsPressAt (sizes_of verified.config).floors press)
+        plan.presses.now }
+    ensures { IfOk result (λ ran. IsRun verified.config (is_fire_in plan.entry.fire)
+        plan.entry.rounds plan.entry.presses.now ran.journal.items ran.left) }
 {
     match prepared(alloc, plan.presses) {
         Ok((ordered, blanks)) => {

@@ -91,7 +91,8 @@ fn start<'s, E, G: Naming + Send + Sync, T: Gate + Sync, R: Threads + Wait + Syn
 {
     let task = pass.task();
     let job = move || -> Result<TaskPass<G>, StationFault>
-        ensures { IfOk result (λ p. (p.task ≡ pass.task) × (p.count ≡ pass.count + (rounds + rounds))) }
+        ensures { IfOk result (λ p. (p.task ≡ pass.task)
+            × (p.count ≡ pass.count + (rounds + rounds))) }
     { work(rt, station, gate, pass, rounds) };
     Ok(scope.spawn_with(TaskRounds { task, rounds }, job)?)
 }
@@ -114,7 +115,8 @@ pub fn start_all<'s, E, G: Naming + Send + Sync, T: Gate + Sync, R: Threads + Wa
     rounds: u16,
 ) -> Result<Vec<TaskHandle<G>>, AllocError>
     requires new { All (λ p. p.count ≡ 0) passes.items }
-    ensures tasks { IfOk result (λ hs. map (λ h. h.promise.task) hs.items ≡ map (λ p. p.task) passes.items) }
+    ensures tasks { IfOk result (λ hs. map (λ h. h.promise.task) hs.items
+        ≡ map (λ p. p.task) passes.items) }
     ensures rounds { IfOk result (λ hs. All (λ h. h.promise.rounds ≡ rounds) hs.items) }
 {
     let mut started = Vec::new(alloc);
@@ -133,7 +135,8 @@ pub fn join_all<G: Naming, R: Threads>(
     rounds: u16,
 ) -> Result<Vec<TaskPass<G>>, RunFault>
     requires rounds { All (λ h. h.promise.rounds ≡ rounds) started.items }
-    ensures tasks { IfOk result (λ ps. map (λ p. p.task) ps.items ≡ map (λ h. h.promise.task) started.items) }
+    ensures tasks { IfOk result (λ ps. map (λ p. p.task) ps.items
+        ≡ map (λ h. h.promise.task) started.items) }
     ensures counts { IfOk result (λ ps. All (λ p. p.count ≡ rounds + rounds) ps.items) }
 {
     let mut passes = Vec::new(alloc);

@@ -34,7 +34,8 @@ fn listed_budget(verified: &Verified, task: u8) -> u32
 // The budget of a task, the greatest number of instructions of a scan, or 0: GROUP is 0, CARk is k.
 fn task_budget(verified: &Verified, task: u8) -> u32
     ensures listed { result ≡ budget_in (task_line verified.now task) }
-    ensures budget { (u : Organized) → IsTaskOf verified.now.config task u → result ≡ budget_of verified.now.config task }
+    ensures budget { (u : Organized) → IsTaskOf verified.now.config task u → result
+        ≡ budget_of verified.now.config task }
 {
     let _config = verified.config();
     let _tasks = verified.tasks();
@@ -46,8 +47,11 @@ fn task_budget(verified: &Verified, task: u8) -> u32
 #[unsafe(no_mangle)]
 pub extern "C" fn liftplc_budget(alloc: Global, handle: &mut Handle, task: u8) -> u32
     ensures closed { handle.old.held.world ≡ None → result ≡ 0 }
-    ensures listed { IfSome handle.old.held.world (λ w. result ≡ budget_in (task_line w.program task)) }
-    ensures budget { IfSome handle.old.held.world (λ w. (u : Organized) → IsTaskOf w.program.config task u → result ≡ budget_of w.program.config task) }
+    ensures listed { IfSome handle.old.held.world
+        (λ w. result ≡ budget_in (task_line w.program task)) }
+    ensures budget { IfSome handle.old.held.world
+        (λ w. (u : Organized) → IsTaskOf w.program.config task u → result
+        ≡ budget_of w.program.config task) }
     ensures kept { handle.new.held.world ≡ handle.old.held.world }
 {
     let Some(rounds) = handle.take(alloc) else {

@@ -21,7 +21,16 @@ pub struct NoticeOutput {
 
 // A notice of a ticket and a car.
 fn of_car(kind: u8, ticket: u64, car: u8) -> NoticeOutput
-    ensures { result ≡ record { ticket = ticket; kind = kind; car = car; rule = 0; slot = 0; from = 0; to = 0 } }
+    ensures { result ≡ record {
+      ticket = ticket;
+      kind = kind;
+      car = car;
+      rule = 0;
+      slot = 0;
+      from
+          = 0;
+      to = 0;
+    } }
 {
     NoticeOutput {
         ticket,

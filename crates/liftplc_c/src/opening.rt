@@ -31,14 +31,17 @@ pub struct TextRefusal {
 fn opened(alloc: Global, text: &[u8]) -> Result<Box<Rounds, Global>, Refusal>
     ensures accepted { IfOk result (λ b. IsAccepted text.now b.value.world.program.config) }
     ensures runs { IfOk result (λ b. RunsWell b.value.world.program.config) }
-    ensures opening { IfOk result (λ b. b.value.world.world ≡ opening b.value.world.program.config) }
+    ensures opening { IfOk result (λ b. b.value.world.world
+        ≡ opening b.value.world.program.config) }
     ensures led { IfOk result (λ b. IsLed b.value.world) }
     ensures rests { IfOk result (λ b. Rests b.value.world.world) }
     ensures refused { IsFault result → (c : ConfigOf) → IsAccepted text.now c → ⊥ }
-    ensures named { IsFault result → (c : ConfigOf) → IsSpelled text.now c → IsErrAnd result (IsRefusedFor c) }
+    ensures named { IsFault result → (c : ConfigOf) → IsSpelled text.now c
+        → IsErrAnd result (IsRefusedFor c) }
     ensures number { IfErr result (IsExplained text.now) }
     ensures bytes { ReportsFaultOfText text.now result }
-    ensures one { IsFault result → (n l : ℕ) → IsSpelledWith text.now (Fault n l) → IsErrAnd result (λ e. e ≡ Fault n l) }
+    ensures one { IsFault result → (n l : ℕ) → IsSpelledWith text.now (Fault n l)
+        → IsErrAnd result (λ e. e ≡ Fault n l) }
 {
     let world = World::new(alloc, load(alloc, text)?)?;
     led(&world);
@@ -56,14 +59,19 @@ pub extern "C" fn liftplc_open(
 ) -> u32
     ensures status { result ≤ 3 }
     ensures answered { (result ≡ 3) ↔ (handle.old.is_open ≡ true) }
-    ensures opened { result ≡ 0 → (w : WorldOf) × (handle.new.held.world ≡ Some w) × IsAccepted text.now w.program.config × (w.world ≡ opening w.program.config) × RunsWell w.program.config }
+    ensures opened { result ≡ 0 → (w : WorldOf) × (handle.new.held.world ≡ Some w)
+        × IsAccepted text.now w.program.config × (w.world ≡ opening w.program.config)
+        × RunsWell w.program.config }
     ensures led { result ≡ 0 → (w : WorldOf) × (handle.new.held.world ≡ Some w) × IsLed w }
     ensures kept { result ≢ 0 → handle.new ≡ handle.old }
     ensures refused { result ≡ 1 → (c : ConfigOf) → IsAccepted text.now c → ⊥ }
-    ensures named { result ≡ 1 → (c : ConfigOf) → IsSpelled text.now c → IsRefusedFor c (Fault refusal.new.number refusal.new.line) }
+    ensures named { result ≡ 1 → (c : ConfigOf) → IsSpelled text.now c
+        → IsRefusedFor c (Fault refusal.new.number refusal.new.line) }
     ensures number { result ≡ 1 → IsExplained text.now (Fault refusal.new.number refusal.new.line) }
-    ensures bytes { (n l : ℕ) → IsFaultOfText text.now (Fault n l) → (result ≡ 2) ⊎ (result ≡ 3) ⊎ ((result ≡ 1) × (refusal.new.number ≡ n) × (refusal.new.line ≡ l)) }
-    ensures one { result ≡ 1 → (n l : ℕ) → IsSpelledWith text.now (Fault n l) → (refusal.new.number ≡ n) × (refusal.new.line ≡ l) }
+    ensures bytes { (n l : ℕ) → IsFaultOfText text.now (Fault n l) → (result ≡ 2) ⊎ (result ≡ 3)
+        ⊎ ((result ≡ 1) × (refusal.new.number ≡ n) × (refusal.new.line ≡ l)) }
+    ensures one { result ≡ 1 → (n l : ℕ) → IsSpelledWith text.now (Fault n l)
+        → (refusal.new.number ≡ n) × (refusal.new.line ≡ l) }
     ensures unwritten { result ≢ 1 → refusal.new ≡ refusal.old }
 {
     if handle.is_open {

@@ -40,8 +40,10 @@ fn press_status(reply: Reply) -> u32
 // A press: the status of what is answered to it.
 fn press(rounds: &mut Rounds, call: Call) -> u32
     requires { Rests rounds.old.world.world }
-    ensures pressed { (answer : AnswerOf) × Presses call rounds.old.world rounds.new.world answer × (result ≡ press_status answer) }
-    ensures well { CallGoesWell rounds.old.world.program.config rounds.old.world.world (PressOf call ∷ []) }
+    ensures pressed { (answer : AnswerOf) × Presses call rounds.old.world rounds.new.world answer
+        × (result ≡ press_status answer) }
+    ensures well { CallGoesWell rounds.old.world.program.config rounds.old.world.world
+        (PressOf call ∷ []) }
     ensures led { IsLed rounds.new.world }
     ensures kept { result ≢ 0 → rounds.new.world ≡ rounds.old.world }
     ensures rests { Rests rounds.new.world.world }
@@ -55,8 +57,12 @@ fn press(rounds: &mut Rounds, call: Call) -> u32
 /// floor. But for 0 nothing is changed.
 #[unsafe(no_mangle)]
 pub extern "C" fn liftplc_press(alloc: Global, handle: &mut Handle, from: u8, to: u8) -> u32
-    ensures answered { MatchOption handle.old.held.world (result ≡ 4) (λ w. (answer : AnswerOf) × (v : WorldOf) × (handle.new.held.world ≡ Some v) × Presses (record { from = from; to = to }) w v answer × (result ≡ press_status answer)) }
-    ensures well { IfSome handle.old.held.world (λ w. CallGoesWell w.program.config w.world (PressOf (record { from = from; to = to }) ∷ [])) }
+    ensures answered { MatchOption handle.old.held.world (result ≡ 4)
+        (λ w. (answer : AnswerOf) × (v : WorldOf) × (handle.new.held.world ≡ Some v)
+        × Presses (record { from = from; to = to }) w v answer × (result ≡ press_status answer)) }
+    ensures well { IfSome handle.old.held.world
+        (λ w. CallGoesWell w.program.config w.world
+        (PressOf (record { from = from; to = to }) ∷ [])) }
     ensures led { IfSome handle.new.held.world IsLed }
     ensures kept { result ≢ 0 → handle.new.held.world ≡ handle.old.held.world }
 {

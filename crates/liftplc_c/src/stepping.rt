@@ -31,9 +31,11 @@ fn go_round(rounds: &mut Rounds, fields: Fields, outputs: &mut RoundOutputs)
 fn step(rounds: &mut Rounds, fields: &FieldsInput, outputs: &mut RoundOutputs) -> bool
     requires { Rests rounds.old.world.world }
     ensures answered { result ≡ are_taken (sizes_of rounds.old.world.program.config) fields.now }
-    ensures round { result ≡ true → GoesRound (fields_of fields.now) rounds.old.world rounds.new.world outputs.new }
+    ensures round { result ≡ true → GoesRound (fields_of fields.now) rounds.old.world
+        rounds.new.world outputs.new }
     ensures led { IsLed rounds.new.world }
-    ensures kept { result ≡ false → (rounds.new.world ≡ rounds.old.world) × (outputs.new ≡ outputs.old) }
+    ensures kept { result ≡ false → (rounds.new.world ≡ rounds.old.world)
+        × (outputs.new ≡ outputs.old) }
     ensures rests { Rests rounds.new.world.world }
 {
     match fields_in(fields, rounds.world.sizes()) {
@@ -57,10 +59,13 @@ pub extern "C" fn liftplc_round(
     fields: &FieldsInput,
     outputs: &mut RoundOutputs,
 ) -> u32
-    ensures answered { MatchOption handle.old.held.world (result ≡ 4) (λ w. result ≡ round_status (sizes_of w.program.config) fields.now) }
-    ensures round { result ≡ 0 → (w v : WorldOf) × (handle.old.held.world ≡ Some w) × (handle.new.held.world ≡ Some v) × GoesRound (fields_of fields.now) w v outputs.new }
+    ensures answered { MatchOption handle.old.held.world (result ≡ 4)
+        (λ w. result ≡ round_status (sizes_of w.program.config) fields.now) }
+    ensures round { result ≡ 0 → (w v : WorldOf) × (handle.old.held.world ≡ Some w)
+        × (handle.new.held.world ≡ Some v) × GoesRound (fields_of fields.now) w v outputs.new }
     ensures led { IfSome handle.new.held.world IsLed }
-    ensures kept { result ≢ 0 → (handle.new.held.world ≡ handle.old.held.world) × (outputs.new ≡ outputs.old) }
+    ensures kept { result ≢ 0 → (handle.new.held.world ≡ handle.old.held.world)
+        × (outputs.new ≡ outputs.old) }
 {
     let Some(mut rounds) = handle.take(alloc) else {
         return Status::Closed as u32;

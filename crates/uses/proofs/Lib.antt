@@ -1,1 +1,4 @@
+mod Fitting
+mod Opens
+mod Panels
 pub mod Reaching

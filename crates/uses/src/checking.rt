@@ -16,13 +16,16 @@ use std::alloc::{AllocError, Global};
 /// The budget of each task of a text, CAR1 to CARn and then GROUP, or why the text is refused.
 pub fn budgets(alloc: Global, text: &[u8]) -> Result<Vec<u32>, Refusal>
     // the text spells a configuration that breaks no rule, and these are its budgets
-    ensures found { IfOk result (λ budgets. (p : Program) × IsAccepted text.now p.config × AreBudgets p budgets.items) }
+    ensures found { IfOk result (λ budgets. (p : Program) × IsAccepted text.now p.config
+        × AreBudgets p budgets.items) }
 
     // a refusal is the loader's: no configuration that the text spells is accepted, and its fault is the only one
     ensures refused { IsFault result → (c : Config) → IsAccepted text.now c → ⊥ }
-    ensures named { IsFault result → (c : Config) → IsSpelled text.now c → IsErrAnd result (IsRefusedFor c) }
+    ensures named { IsFault result → (c : Config) → IsSpelled text.now c
+        → IsErrAnd result (IsRefusedFor c) }
     ensures number { IfErr result (IsExplained text.now) }
-    ensures one { IsFault result → (n l : ℕ) → IsSpelledWith text.now (Fault n l) → IsErrAnd result (λ e. e ≡ Fault n l) }
+    ensures one { IsFault result → (n l : ℕ) → IsSpelledWith text.now (Fault n l)
+        → IsErrAnd result (λ e. e ≡ Fault n l) }
     ensures bytes { ReportsFaultOfText text.now result }
 {
     let verified = load(alloc, text)?;

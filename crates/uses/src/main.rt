@@ -1,7 +1,10 @@
-//! Three callers of the library: one that only loads texts, one that steps a world event by event, and one with two cars in threads of their own.
+//! Callers of the library. Three show its use: one only loads texts, one steps a world event by event, and one has two cars in threads of their own. The
+//! other two are for tools: calls where memory is refused (`memory`), and presses from several threads (`presses THREADS TIMES`).
 #![tactic(auto)]
 
 mod checking;
+mod memory;
+mod presses;
 mod stepping;
 mod texts;
 mod threads;
@@ -11,10 +14,10 @@ use il_machine::Value;
 use il_spec::fault::Refusal;
 use lift_station::Closed;
 use std::alloc::Global;
-use std::io;
 use std::io::Print;
 use std::sync::Wait;
 use std::thread::Threads;
+use std::{env, io};
 
 // What the loader found of a text.
 fn check<R: Print>(rt: &R, alloc: Global, text: &[u8]) -> io::Result<()> {
@@ -64,10 +67,52 @@ fn run<R: Print + Threads + Wait + Sync>(rt: &R, alloc: Global, text: &[u8]) -> 
     println!(rt; "{} entries of two cars", entries.len())
 }
 
+// The three examples.
+fn show<R: Print + Threads + Wait + Sync>(rt: &R, alloc: Global) -> io::Result<()> {
+    check(rt, alloc, COUNTS)?;
+    check(rt, alloc, RUNS_OVER)?;
+    step(rt, alloc, COUNTS)?;
+    run(rt, alloc, COUNTS)
+}
+
+// A word as a number.
+fn number_of(word: &str) -> io::Result<u32> {
+    match word.parse::<u32>() {
+        Ok(number) => Ok(number),
+        Err(_) => Err(io::ErrorKind::InvalidInput.into()),
+    }
+}
+
+// What the words name; without a word all of it.
+fn call<R: Print + Threads + Wait + Sync>(
+    rt: &R,
+    alloc: Global,
+    words: &[String],
+) -> io::Result<()> {
+    match words {
+        [] => {
+            show(rt, alloc)?;
+            memory::call_all(rt, alloc)?;
+            presses::press(rt, alloc, 4, 1000)
+        }
+        [word] if word.as_str() == "memory" => memory::call_all(rt, alloc),
+        [word, threads, times] if word.as_str() == "presses" => {
+            presses::press(rt, alloc, number_of(threads)?, number_of(times)?)
+        }
+        _ => Err(io::ErrorKind::InvalidInput.into()),
+    }
+}
+
+// The words behind the program's name.
+fn words_of(rt: &HostRuntime) -> io::Result<Vec<String>> {
+    Ok(env::args(rt)?.skip(1).collect(rt.alloc())?)
+}
+
 fn main(rt: HostRuntime) -> io::Result<()> {
-    let alloc = rt.alloc();
-    check(&rt, alloc, COUNTS)?;
-    check(&rt, alloc, RUNS_OVER)?;
-    step(&rt, alloc, COUNTS)?;
-    run(&rt, alloc, COUNTS)
+    // Where memory is refused, once more.
+    let words = match words_of(&rt) {
+        Ok(words) => words,
+        Err(_) => words_of(&rt)?,
+    };
+    call(&rt, rt.alloc(), &words)
 }

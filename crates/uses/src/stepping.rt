@@ -57,7 +57,8 @@ fn scan(world: &mut World, task: u8, report: &mut Report) -> Result<Reply, Event
 
 /// What the events left.
 pub fn read(world: &World) -> Seen
-    ensures n { result.n ≡ option_and_then (λ t. get t.variables (codes "N")) (task_at world.now.world.group 1) }
+    ensures n { result.n ≡ option_and_then (λ t. get t.variables (codes "N"))
+        (task_at world.now.world.group 1) }
     ensures last { result.last ≡ get world.now.world.group.globals (codes "LAST") }
     ensures time { result.time ≡ world.now.world.group.image.fields.time }
 {

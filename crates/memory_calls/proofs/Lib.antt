@@ -1,3 +1,0 @@
-mod Fitting
-mod Opens
-mod Panels

@@ -1,0 +1,21 @@
+(* Opens its door wherever it stands at a landing. *)
+PROGRAM OPENER
+VAR
+  SCANS : INT (0..99) := 0;
+END_VAR
+LD SCANS
+ADD 1
+MOD 100      (* counts round *)
+ST SCANS
+LD LEVEL     (* flush with a landing: ask for the door *)
+AND TRUE
+ST OPEN
+END_PROGRAM
+
+CONFIGURATION LIFT
+VAR_GLOBAL CONSTANT CARS : INT := 1; FLOORS : INT := 4; SLOTS : INT := 4; END_VAR
+RESOURCE CABINET ON PLC
+TASK CAR1 (INTERVAL := T#100ms, PRIORITY := 1);
+PROGRAM P1 WITH CAR1 : OPENER;
+END_RESOURCE
+END_CONFIGURATION
