@@ -36,19 +36,19 @@ use Rattle.il_code.specs.declared.operands.Known.{Known}
 use Rattle.il_layout.specs.Cells.{IsShort, HasShort, AreNamed, form_in, offset_in}
 use Rattle.il_layout.specs.Flattened.{Names, slot_of, index_in, operand_of, block_of}
 use Rattle.il_layout.specs.Places.{capped, form_width, block_width, unit_entities, declared_in}
-use Rattle.il_layout.specs.Making.{shown, standard_list, standard_number, standard_lists, sizes_of, offsets_of, unit_offsets, all_offsets, IsChecked}
+use Rattle.il_layout.specs.Making.{shown, unit_offsets, all_offsets, IsChecked}
 use Rattle.il_layout.specs.Program.{program_names}
 use Rattle.il_code.specs.Resolving.{known, known_by, word_offset, input_known, output_known, direct_operand, numbered_operand, indexed_operand, inside_by, member_by, member_operand, resolve, by_resolved, assigned_at, copied_at, with_input, with_output, inputs_at, outputs_at, IsSmall, IsShortType}
 use Rattle.il_layout.proofs.Declared.{own as is_own, declared_is as unit_declared, unit_form, words, block_is_standard, block_alone, block_is_no_function}
 use Rattle.il_layout.proofs.Tested.{image_is}
 use Rattle.il_layout.proofs.IsPlaced.{index_below, within_limits}
 use Rattle.il_layout.proofs.Distinct.{blocks_named, unit_entities_named}
-use Rattle.il_layout.proofs.Counted.{mapped_at, at_own, at_standard, IsBlock, of_standard, of_own, of_none, which_block, standard_is, standard_at, offset_found, offsets_are}
+use Rattle.il_layout.proofs.Counted.{mapped_at, IsBlock, of_standard, of_own, of_none, which_block, offset_found, offsets_are, standard_offset_is}
 use Rattle.il_layout.proofs.Tasks.{at_contains}
 
 -- the table of a unit stands at its number
 pub table_there : (c : Config) (u : ProgramUnit) (at : ℕ) (tables : List (NameMap ℕ)) → tables ≡ all_offsets c → slice_get c.units at ≡ Some u → slice_get tables at ≡ Some (unit_offsets c u)
-table_there c u at tables are there = ap (λ ts. slice_get ts at) are ∙ at_own c (unit_offsets c) (map (λ vs. offsets_of (length c.units) (sizes_of c) vs) standard_lists) at u there
+table_there c u at tables are there = ap (λ ts. slice_get ts at) are ∙ mapped_at (unit_offsets c) c.units at u there
 
 -- the indices of what stands under a name are of a size
 short_form : (es : List Entity) (name : Text) (f : Form) → AreNamed es → form_in es name ≡ Some f → HasShort f
@@ -112,28 +112,21 @@ pub record IsBlockOf (c : Config) (name : Text) (b : BlockType) : Type 0 where
   pub variables : variables_of_block c b ≡ block_variables c name
   pub offsets : (word : Text) → word_offset c b word ≡ offset_found (form_width (block_width 17 c)) (block_entities c name) word
 
-standard_table : (c : Config) (s : StandardBlock) → slice_get (map (λ vs. offsets_of (length c.units) (sizes_of c) vs) standard_lists) (standard_number s) ≡ Some (offsets_of (length c.units) (sizes_of c) (standard_list s))
-standard_table c s = mapped_at (λ vs. offsets_of (length c.units) (sizes_of c) vs) standard_lists (standard_number s) (standard_list s) (standard_at s)
-
 pub block_of_name : (c : Config) → IsChecked c → (name : Text) (b : BlockType) → block_type c name ≡ Some b → IsBlockOf c name b
 block_of_name c checked name b is = record { variables = ap (option_and_then (variables_of_block c)) (sym is) ∙ block_found c name; offsets = by_case (block_type c name) (which_block c name) is }
   where
     wide : Form → ℕ
     wide = form_width (block_width 17 c)
 
-    others : List (NameMap ℕ)
-    others = map (λ vs. offsets_of (length c.units) (sizes_of c) vs) standard_lists
-
     by_case : (o : Option BlockType) → IsBlock c name o → o ≡ Some b → (word : Text) → word_offset c b word ≡ offset_found wide (block_entities c name) word
     by_case _ (of_standard s o at e) h word =
         ap (λ d. word_offset c d word) (same_Some b (Standard s) (sym h ∙ e))
-        ∙ ap (option_and_then (λ t. get t word)) (at_standard c (unit_offsets c) others (standard_number s) ∙ standard_table c s)
-        ∙ ap (λ vs. get (offsets_of (length c.units) (sizes_of c) vs) word) (sym (ap (map (shown c)) (block_is_standard c name s at) ∙ standard_is c s)) ∙ offsets_are c (block_entities c name) word
+        ∙ standard_offset_is c s word ∙ ap (λ es. offset_found wide es word) (sym (block_is_standard c name s at))
     by_case _ (of_own k o v e) h word =
         let among : Contains c.units v.unit = at_contains c.units k v.unit v.there in
         let alone : unit_entities c v.unit ≡ block_entities c name = block_alone c name v.unit v.is (checked.written.externals v.unit among (block_is_no_function v.unit.kind (is_own c name v.unit v.is).kind).1) in
         ap (λ d. word_offset c d word) (same_Some b (Own k) (sym h ∙ e))
-        ∙ ap (option_and_then (λ t. get t word)) (at_own c (unit_offsets c) others k v.unit v.there)
+        ∙ ap (option_and_then (λ t. get t word)) (mapped_at (unit_offsets c) c.units k v.unit v.there)
         ∙ offsets_are c (unit_entities c v.unit) word ∙ ap (λ es. offset_found wide es word) alone
     by_case _ (of_none o at e) h word = let never : Some b ≡ None = sym h ∙ e in cc
 

@@ -40,7 +40,7 @@ use Rattle.il_spec.specs.declared.tree.Argument.TheVariants.{Input, Output}
 use Rattle.il_scope.specs.declared.entry.BlockType.TheVariants.{Standard, Own}
 use Rattle.il_layout.specs.Flattened.{slot_of, index_in, numbered, typed, untyped, slot_in}
 use Rattle.il_layout.specs.Places.{capped}
-use Rattle.il_layout.specs.Making.{shown, block_place, all_offsets}
+use Rattle.il_layout.specs.Making.{shown, all_offsets, standard_offset}
 use Rattle.il_layout.specs.Program.{program_names}
 
 -- a type with an offset, where both are there
@@ -54,7 +54,8 @@ known c u name = option_map (λ f. record { declared = type_of c f; offset = (pr
 
 -- the words of blocks
 abbrev pub word_offset : Config → BlockType → Text → Option ℕ
-word_offset c b word = option_and_then (λ t. get t word) (slice_get (all_offsets c) (block_place (length c.units) b))
+word_offset c (Own k) word = option_and_then (λ t. get t word) (slice_get (all_offsets c) k)
+word_offset c (Standard b) word = standard_offset b word
 
 abbrev pub input_known : Config → BlockType → Text → Option Known
 input_known c b word = known_by (option_map (type_of c) (option_and_then (λ v. entry_of v.inputs word) (variables_of_block c b))) (word_offset c b word)

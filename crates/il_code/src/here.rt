@@ -7,7 +7,7 @@ ghost use Rattle.il_layout.specs.Making.{IsChecked, all_offsets, unit_offsets};
 ghost use Rattle.il_code.specs.Resolving.{known, known_by, word_offset, input_known, output_known, function_known, unit_inputs, IsSmall};
 
 use crate::operands::Known;
-use il_layout::sizes::block_place;
+use il_layout::standard_offset;
 use il_layout::variables::{Variable, input_variables};
 use il_scope::UnitScope;
 use il_scope::entry::{BlockType, VariableType};
@@ -61,8 +61,10 @@ impl Here<'_> {
     fn word_offset(&self, block: BlockType, word: &str) -> Option<usize>
         ensures { result ≡ word_offset self.now.scope.config block word.now }
     {
-        let units = self.scope.names().config().units.as_slice().len();
-        offset_at(self.tables, block_place(units, block), word)
+        match block {
+            BlockType::Own(unit) => offset_at(self.tables, unit, word),
+            BlockType::Standard(block) => standard_offset(block, word),
+        }
     }
 
     /// An input of a block.

@@ -1,5 +1,5 @@
 -- Sizes and offsets are those of the layout.
-use Rattle.std.proofs.Common.{◌≡◌, ℕ, zero, suc, ◌+◌, ◌-◌, ◌<◌, ◌≤◌, get_or, Bool, true, false, List, [], ◌∷◌, ◌++◌, map, length, slice_get, refl, sym, ap, ap₂, ◌∙◌, Option, Some, None, drop, append_assoc, arith, length-append}
+use Rattle.std.proofs.Common.{◌≡◌, ℕ, zero, suc, ◌+◌, ◌-◌, ◌<◌, ◌≤◌, get_or, Bool, true, false, List, [], ◌∷◌, ◌++◌, map, length, slice_get, refl, sym, ap, ap₂, ◌∙◌, Option, Some, None, drop, append_assoc, arith, length-append, lit≤, ◌&&◌}
 use Rattle.std.specs.Prelude.{Result, Ok, Err, IfOk, option_map, option_and_then, bytes_eq, if◌then◌else◌}
 use Rattle.std.proofs.lemmas.Option.{same_Some}
 use Rattle.std.proofs.lemmas.Slice.Eq.{bytes_eq-Decides}
@@ -14,6 +14,7 @@ use Rattle.il_table.specs.NameMap.{NameMap, Text, get, get-empty}
 use Rattle.il_run.specs.Meaning.{Entity, own_entities, standard_entities, block_entities}
 use Rattle.il_scope.specs.declared.entry.BlockType.{BlockType}
 use Rattle.il_scope.specs.declared.entry.BlockType.TheVariants.{Standard, Own}
+use Rattle.il_scope.specs.Words.{is_name}
 use Rattle.il_scope.specs.Views.{type_of, passes, unit_number, block_type, function_block_number}
 use Rattle.il_scope.proofs.Filled.{get-with_new}
 use Rattle.il_scope.proofs.Laws.{function_block_found}
@@ -22,7 +23,7 @@ use Rattle.il_layout.specs.declared.variables.Variable.{Variable}
 use Rattle.il_layout.specs.declared.offsets.Offsets.{Offsets}
 use Rattle.il_layout.specs.Cells.{form_in, offset_in}
 use Rattle.il_layout.specs.Places.{capped, form_width, entities_width, block_width, unit_entities}
-use Rattle.il_layout.specs.Making.{shown, added, standard_list, standard_number, standard_lists, block_place, own_lists, block_lists, size_or_zero, block_size, variable_size, list_size, sizes_to, with_offset, with_offsets, no_offsets, offsets_of, sizes_of, unit_offsets, all_offsets}
+use Rattle.il_layout.specs.Making.{shown, added, standard_list, standard_number, standard_lists, block_place, own_lists, block_lists, size_or_zero, block_size, variable_size, list_size, sizes_to, with_offset, with_offsets, no_offsets, offsets_of, sizes_of, unit_offsets, place_from, standard_offset}
 use Rattle.il_layout.proofs.Declared.{block_is_own, block_is_standard}
 use Rattle.il_layout.proofs.Seen.{added_all}
 
@@ -307,24 +308,79 @@ next_made f xs i ts t after all low made grown rest =
 pub sizes_found : (c : Config) (n : ℕ) (lists : List (List Variable)) (ss : List ℕ) → n ≡ length c.units → lists ≡ block_lists c → ss ≡ sizes_to 16 n lists → ss ≡ sizes_of c
 sizes_found c n lists ss count is made = made ∙ ap₂ (sizes_to 16) count is
 
--- THE LISTS OF STANDARD BLOCKS
+-- THE WORDS OF STANDARD BLOCKS
 
-drop_front : {A : Type 0} (xs ys : List A) → drop (length xs) (xs ++ ys) ≡ ys
-drop_front [] ys = refl
-drop_front (x ∷ xs) ys = drop_front xs ys
+abbrev is_scalar : Form → Bool
+is_scalar (ScalarForm s) = true
+is_scalar (ArrayForm bounds element) = false
+is_scalar (BlockForm name) = false
 
--- they stand behind those of the units
-pub standard_behind : (c : Config) (n : ℕ) (lists : List (List Variable)) → n ≡ length c.units → lists ≡ block_lists c → drop n lists ≡ standard_lists
-standard_behind c n lists count is =
-    ap₂ (λ k ls. drop k ls) (count ∙ sym (length_mapped (λ u. map (shown c) (own_entities u)) c.units)) (is ∙ added_all (own_lists c) standard_lists)
-    ∙ drop_front (own_lists c) standard_lists
+-- whether each takes one slot
+abbrev are_scalars : List Entity → Bool
+are_scalars [] = true
+are_scalars (e ∷ es) = is_scalar e.form && are_scalars es
 
-pub standard_room : (c : Config) (n : ℕ) (lists : List (List Variable)) → n ≡ length c.units → lists ≡ block_lists c → n ≤ length lists
-standard_room c n lists count is =
-    omega (arith, count, ap length (is ∙ added_all (own_lists c) standard_lists), length-append (own_lists c) standard_lists, length_mapped (λ u. map (shown c) (own_entities u)) c.units)
+standard_scalars : (s : StandardBlock) → are_scalars (standard_entities (standard_variables s)) ≡ true
+standard_scalars Sr = refl
+standard_scalars Rs = refl
+standard_scalars RTrig = refl
+standard_scalars FTrig = refl
+standard_scalars Ctu = refl
+standard_scalars Ctd = refl
+standard_scalars Ctud = refl
+standard_scalars Tp = refl
+standard_scalars Ton = refl
+standard_scalars Tof = refl
 
-pub all_are : (c : Config) (n : ℕ) (lists : List (List Variable)) (ss : List ℕ) (old new : List (NameMap ℕ)) → n ≡ length c.units → lists ≡ block_lists c → ss ≡ sizes_of c → old ≡ map (unit_offsets c) c.units
-    → new ≡ added old (map (λ vs. offsets_of n ss vs) (drop n lists)) → new ≡ all_offsets c
-all_are c n lists ss old new count is sized made grown =
-    grown ∙ ap₂ (λ o ls. added o (map (λ vs. offsets_of n ss vs) ls)) made (standard_behind c n lists count is)
-    ∙ ap₂ (λ k ts. added (map (unit_offsets c) c.units) (map (λ vs. offsets_of k ts vs) standard_lists)) count sized
+standard_few : (s : StandardBlock) → length (standard_entities (standard_variables s)) ≤ 10
+standard_few Sr = lit≤ tt
+standard_few Rs = lit≤ tt
+standard_few RTrig = lit≤ tt
+standard_few FTrig = lit≤ tt
+standard_few Ctu = lit≤ tt
+standard_few Ctd = lit≤ tt
+standard_few Ctud = lit≤ tt
+standard_few Tp = lit≤ tt
+standard_few Ton = lit≤ tt
+standard_few Tof = lit≤ tt
+
+first_of_both : (a b : Bool) → (a && b) ≡ true → a ≡ true
+first_of_both true b both = refl
+first_of_both false b both = both
+
+second_of_both : (a b : Bool) → (a && b) ≡ true → b ≡ true
+second_of_both true b both = both
+second_of_both false b both = cc
+
+module _ (c : Config) where
+  one_wide : (f : Form) → is_scalar f ≡ true → form_width (block_width 17 c) f ≡ 1
+  one_wide (ScalarForm s) is = refl
+  one_wide (ArrayForm bounds element) is = cc
+  one_wide (BlockForm name) is = cc
+
+  -- where each takes one slot, the place of a name is its offset
+  placed : (es : List Entity) (k : ℕ) → are_scalars es ≡ true → k + length es ≤ 9223372036854775808 → (q : Text)
+      → place_from k (map (shown c) es) q ≡ option_map (λ f. capped (k + offset_in (form_width (block_width 17 c)) es q)) (form_in es q)
+  unfolding is_name
+  placed [] k all fits q = refl
+  placed (e ∷ es) k all fits q =
+      by_name (bytes_eq e.name q) (placed es (k + 1) (second_of_both (is_scalar e.form) (are_scalars es) all) (let h : k + 1 + length es ≤ 9223372036854775808 = omega (arith, fits) in h) q)
+    where
+      wide : Form → ℕ
+      wide = form_width (block_width 17 c)
+
+      next : k + 1 + offset_in (form_width (block_width 17 c)) es q ≡ k + (form_width (block_width 17 c) e.form + offset_in (form_width (block_width 17 c)) es q)
+      next = let w : form_width (block_width 17 c) e.form ≡ 1 = one_wide e.form (first_of_both (is_scalar e.form) (are_scalars es) all) in omega (arith, w)
+
+      by_name : (b : Bool) → place_from (k + 1) (map (shown c) es) q ≡ option_map (λ f. capped (k + 1 + offset_in (form_width (block_width 17 c)) es q)) (form_in es q)
+          → (if b then Some k else place_from (k + 1) (map (shown c) es) q)
+          ≡ option_map (λ f. capped (k + (if b then 0 else form_width (block_width 17 c) e.form + offset_in (form_width (block_width 17 c)) es q))) (if b then Some e.form else form_in es q)
+      by_name true rest = ap Some (let z : k ≡ capped (k + 0) = omega (arith, fits) in z)
+      by_name false rest = rest ∙ ap (λ n. option_map (λ f. capped n) (form_in es q)) next
+
+  -- the place of a word of a standard block is its offset
+  pub standard_offset_is : (s : StandardBlock) (q : Text) → standard_offset s q ≡ offset_found (form_width (block_width 17 c)) (standard_entities (standard_variables s)) q
+  standard_offset_is s q =
+      ap (λ vs. place_from 0 vs q) (sym (standard_is c s))
+      ∙ placed (standard_entities (standard_variables s)) 0 (standard_scalars s) (let few : length (standard_entities (standard_variables s)) ≤ 10 = standard_few s in omega (arith, few)) q
+      ∙ ap (λ k. option_map (λ f. capped k) (form_in (standard_entities (standard_variables s)) q)) (let z : 0 + offset_in (form_width (block_width 17 c)) (standard_entities (standard_variables s)) q ≡ offset_in (form_width (block_width 17 c)) (standard_entities (standard_variables s)) q = omega arith in z)

@@ -10,3 +10,4 @@ pub mod tables;
 pub mod variables;
 
 pub use laws::{flat_code_means_the_tree, paths_and_slots_are_paired};
+pub use standard::standard_offset;

@@ -1,137 +1,136 @@
 // The words of the standard blocks (IEC 61131-3:2003, 2.5.2.3).
 
-ghost use Rattle.std.specs.Prelude.{◌≡◌, ◌++◌, ◌∷◌, [], OnOk};
-ghost use Rattle.il_layout.specs.Making.{added, flag, ctu_list, ctd_list, ctud_list, timer_list, tp_list, standard_list, standard_number, standard_lists};
+ghost use Rattle.std.specs.Prelude.{◌≡◌, ◌++◌, ◌∷◌, [], map, OnOk};
+ghost use Rattle.il_scope.specs.Words.{is_name};
+ghost use Rattle.il_layout.specs.Making.{added, one, place_from, standard_list, standard_lists, standard_number, standard_offset};
 
-use crate::variables::{Variable, add_scalars, plain};
+use crate::variables::{Variable, add_scalars};
 use il_rules::names::StandardBlock;
-use il_spec::tree::Elementary;
+use il_spec::tree::{Elementary, Scalar};
 use lists::Items;
 use std::alloc::{AllocError, Global};
 
-// Adds three words of BOOL.
-fn add_flags(
-    alloc: Global,
-    list: &mut Items<Variable>,
-    first: &str,
-    second: &str,
-    third: &str,
-) -> Result<(), AllocError>
-    ensures { OnOk result (list.new ≡ added list.old (flag first.now ∷ flag second.now ∷ flag third.now ∷ [])) }
-{
-    let flag = plain(Elementary::Bool);
-    let words = [(first, flag), (second, flag), (third, flag)];
-    add_scalars(alloc, list, &words)
-}
+// The types of the words.
+const FLAG: Scalar = Scalar {
+    elementary: Elementary::Bool,
+    subrange: None,
+};
 
-// Adds the words of CTU.
-fn add_ctu(alloc: Global, list: &mut Items<Variable>) -> Result<(), AllocError>
-    ensures { OnOk result (list.new ≡ added list.old ctu_list) }
-{
-    let flag = plain(Elementary::Bool);
-    let count = plain(Elementary::Int);
-    let words = [
-        ("CU", flag),
-        ("R", flag),
-        ("PV", count),
-        ("Q", flag),
-        ("CV", count),
-        ("M", flag),
-    ];
-    add_scalars(alloc, list, &words)
-}
+const COUNT: Scalar = Scalar {
+    elementary: Elementary::Int,
+    subrange: None,
+};
 
-// Adds the words of CTD.
-fn add_ctd(alloc: Global, list: &mut Items<Variable>) -> Result<(), AllocError>
-    ensures { OnOk result (list.new ≡ added list.old ctd_list) }
-{
-    let flag = plain(Elementary::Bool);
-    let count = plain(Elementary::Int);
-    let words = [
-        ("CD", flag),
-        ("LD", flag),
-        ("PV", count),
-        ("Q", flag),
-        ("CV", count),
-        ("M", flag),
-    ];
-    add_scalars(alloc, list, &words)
-}
+const SPAN: Scalar = Scalar {
+    elementary: Elementary::Time,
+    subrange: None,
+};
 
-// Adds the words of CTUD.
-fn add_ctud(alloc: Global, list: &mut Items<Variable>) -> Result<(), AllocError>
-    ensures { OnOk result (list.new ≡ added list.old ctud_list) }
-{
-    let flag = plain(Elementary::Bool);
-    let count = plain(Elementary::Int);
-    let words = [
-        ("CU", flag),
-        ("CD", flag),
-        ("R", flag),
-        ("LD", flag),
-        ("PV", count),
-        ("QU", flag),
-        ("QD", flag),
-        ("CV", count),
-        ("MU", flag),
-        ("MD", flag),
-    ];
-    add_scalars(alloc, list, &words)
-}
+// The words of SR: inputs, outputs and inner variables, each in their order.
+static SR: [(&str, Scalar); 3] = [("S1", FLAG), ("R", FLAG), ("Q1", FLAG)];
 
-// Adds the words of TON and TOF.
-fn add_timer(alloc: Global, list: &mut Items<Variable>) -> Result<(), AllocError>
-    ensures { OnOk result (list.new ≡ added list.old timer_list) }
-{
-    let flag = plain(Elementary::Bool);
-    let time = plain(Elementary::Time);
-    let words = [
-        ("IN", flag),
-        ("PT", time),
-        ("Q", flag),
-        ("ET", time),
-        ("RUN", flag),
-        ("LAST", time),
-    ];
-    add_scalars(alloc, list, &words)
-}
+// The words of RS: inputs, outputs and inner variables, each in their order.
+static RS: [(&str, Scalar); 3] = [("S", FLAG), ("R1", FLAG), ("Q1", FLAG)];
 
-// Adds the words of TP.
-fn add_tp(alloc: Global, list: &mut Items<Variable>) -> Result<(), AllocError>
-    ensures { OnOk result (list.new ≡ added list.old tp_list) }
-{
-    let flag = plain(Elementary::Bool);
-    let time = plain(Elementary::Time);
-    let words = [
-        ("IN", flag),
-        ("PT", time),
-        ("Q", flag),
-        ("ET", time),
-        ("RUN", flag),
-        ("M", flag),
-        ("LAST", time),
-    ];
-    add_scalars(alloc, list, &words)
-}
+// The words of R_TRIG and F_TRIG: inputs, outputs and inner variables, each in their order.
+static TRIGGER: [(&str, Scalar); 3] = [("CLK", FLAG), ("Q", FLAG), ("M", FLAG)];
 
-// Adds the words of a block.
-fn add_standard(
-    alloc: Global,
-    list: &mut Items<Variable>,
-    block: StandardBlock,
-) -> Result<(), AllocError>
-    ensures { OnOk result (list.new ≡ added list.old (standard_list block)) }
+// The words of CTU: inputs, outputs and inner variables, each in their order.
+static CTU: [(&str, Scalar); 6] = [
+    ("CU", FLAG),
+    ("R", FLAG),
+    ("PV", COUNT),
+    ("Q", FLAG),
+    ("CV", COUNT),
+    ("M", FLAG),
+];
+
+// The words of CTD: inputs, outputs and inner variables, each in their order.
+static CTD: [(&str, Scalar); 6] = [
+    ("CD", FLAG),
+    ("LD", FLAG),
+    ("PV", COUNT),
+    ("Q", FLAG),
+    ("CV", COUNT),
+    ("M", FLAG),
+];
+
+// The words of CTUD: inputs, outputs and inner variables, each in their order.
+static CTUD: [(&str, Scalar); 10] = [
+    ("CU", FLAG),
+    ("CD", FLAG),
+    ("R", FLAG),
+    ("LD", FLAG),
+    ("PV", COUNT),
+    ("QU", FLAG),
+    ("QD", FLAG),
+    ("CV", COUNT),
+    ("MU", FLAG),
+    ("MD", FLAG),
+];
+
+// The words of TON and TOF: inputs, outputs and inner variables, each in their order.
+static DELAY: [(&str, Scalar); 6] = [
+    ("IN", FLAG),
+    ("PT", SPAN),
+    ("Q", FLAG),
+    ("ET", SPAN),
+    ("RUN", FLAG),
+    ("LAST", SPAN),
+];
+
+// The words of TP: inputs, outputs and inner variables, each in their order.
+static TP: [(&str, Scalar); 7] = [
+    ("IN", FLAG),
+    ("PT", SPAN),
+    ("Q", FLAG),
+    ("ET", SPAN),
+    ("RUN", FLAG),
+    ("M", FLAG),
+    ("LAST", SPAN),
+];
+
+// The words of a block, with their types.
+fn words_of(block: StandardBlock) -> &'static [(&'static str, Scalar)]
+    ensures { map (λ w. one w.0.now w.1) result.now ≡ standard_list block }
 {
     match block {
-        StandardBlock::Sr => add_flags(alloc, list, "S1", "R", "Q1"),
-        StandardBlock::Rs => add_flags(alloc, list, "S", "R1", "Q1"),
-        StandardBlock::RTrig | StandardBlock::FTrig => add_flags(alloc, list, "CLK", "Q", "M"),
-        StandardBlock::Ctu => add_ctu(alloc, list),
-        StandardBlock::Ctd => add_ctd(alloc, list),
-        StandardBlock::Ctud => add_ctud(alloc, list),
-        StandardBlock::Tp => add_tp(alloc, list),
-        StandardBlock::Ton | StandardBlock::Tof => add_timer(alloc, list),
+        StandardBlock::Sr => &SR,
+        StandardBlock::Rs => &RS,
+        StandardBlock::RTrig | StandardBlock::FTrig => &TRIGGER,
+        StandardBlock::Ctu => &CTU,
+        StandardBlock::Ctd => &CTD,
+        StandardBlock::Ctud => &CTUD,
+        StandardBlock::Tp => &TP,
+        StandardBlock::Ton | StandardBlock::Tof => &DELAY,
     }
+}
+
+// Whether a name is this word: a function of its own, so that no caller's proof sees the bytes.
+#[tactic(auto, unfolding(il_scope::specs::Words::is_name))]
+fn is_word(name: &str, word: &str) -> bool
+    ensures { result ≡ is_name word.now name.now }
+{
+    name.len() == word.len() && name == word
+}
+
+// The place of a word, counted from 0.
+fn place_of(words: &[(&str, Scalar)], word: &str) -> Option<usize>
+    ensures { result ≡ place_from 0 (map (λ w. one w.0.now w.1) words.now) word.now }
+{
+    for at in 0..words.len() {
+        if is_word(word, words[at].0) {
+            return Some(at);
+        }
+    }
+    None
+}
+
+/// How far a word of a standard block stands from the first.
+pub fn standard_offset(block: StandardBlock, word: &str) -> Option<usize>
+    ensures { result ≡ standard_offset block word.now }
+{
+    place_of(words_of(block), word)
 }
 
 // Adds the list of a block's words.
@@ -144,7 +143,7 @@ fn add_list(
     ensures { OnOk result (lists.new ≡ lists.old ++ standard_list block ∷ []) }
 {
     let mut list = Items::new(alloc);
-    add_standard(alloc, &mut list, block)?;
+    add_scalars(alloc, &mut list, words_of(block))?;
     lists.push(list)
 }
 

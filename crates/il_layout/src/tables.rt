@@ -72,41 +72,7 @@ fn units_offsets(
     Ok(tables)
 }
 
-// Adds the offsets of the words of standard blocks.
-fn add_standard(
-    alloc: Global,
-    units: usize,
-    sizes: &[usize],
-    lists: &[Items<Variable>],
-    tables: &mut Items<Table<usize>>,
-) -> Result<(), AllocError>
-    requires { units < 2 ^ 63 }
-    ensures { OnOk result (tables.new ≡ added tables.old (map (λ vs. offsets_of units sizes.now vs) lists.now)) }
-{
-    'lists: for list in lists {
-        tables.push(offsets_of(alloc, units, sizes, list.as_slice(), &[])?)?;
-    }
-    Ok(())
-}
-
-// The same behind the offsets of the units, where the lists of standard blocks stand behind those of the units.
-fn with_standard(
-    alloc: Global,
-    units: usize,
-    sizes: &[usize],
-    lists: &[Items<Variable>],
-    tables: Items<Table<usize>>,
-) -> Result<Items<Table<usize>>, AllocError>
-    requires few { units < 2 ^ 63 }
-    requires room { units ≤ length lists.now }
-    ensures { IfOk result (λ ts. ts ≡ added tables (map (λ vs. offsets_of units sizes.now vs) (drop units lists.now))) }
-{
-    let mut tables = tables;
-    add_standard(alloc, units, sizes, &lists[units..], &mut tables)?;
-    Ok(tables)
-}
-
-/// The offsets of each unit's names, and behind them those of the words of the standard blocks, from the variables of all blocks.
+/// The offsets of each unit's names, from the variables of all blocks.
 #[tactic(auto, using(crate::proofs::Counted::sizes_found))]
 pub fn all_offsets(
     alloc: Global,
@@ -119,7 +85,5 @@ pub fn all_offsets(
 {
     let units = names.config().units.as_slice().len();
     let sizes = block_sizes(alloc, units, lists)?;
-    let tables = units_offsets(alloc, names, sizes.as_slice(), lists)?;
-    let all = with_standard(alloc, units, sizes.as_slice(), lists, tables)?;
-    Ok(all)
+    units_offsets(alloc, names, sizes.as_slice(), lists)
 }

@@ -1,7 +1,6 @@
 // The variables of units, with the blocks of their types found.
 
 ghost use Rattle.std.specs.Prelude.{◌≡◌, ◌++◌, ◌∷◌, [], map, flat_map, IfOk, OnOk, option_map};
-ghost use Rattle.il_spec.specs.ElementaryTypes.{plain};
 ghost use Rattle.il_rules.specs.Names.{is_program_kind, program_role};
 ghost use Rattle.il_run.specs.Meaning.{entities, initial_value, own_entities, result_entities};
 ghost use Rattle.il_scope.specs.Views.{type_of};
@@ -153,16 +152,6 @@ fn add_result(
             None,
         ),
         _ => Ok(()),
-    }
-}
-
-/// An elementary type without a subrange.
-pub(crate) fn plain(elementary: Elementary) -> Scalar
-    ensures { result ≡ plain elementary }
-{
-    Scalar {
-        elementary,
-        subrange: None,
     }
 }
 
