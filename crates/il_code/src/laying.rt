@@ -45,13 +45,14 @@ fn member_path(alloc: Global, path: &str, name: &str) -> Result<String, AllocErr
 }
 
 // The path of a variable of a body (own rule).
-fn under(alloc: Global, path: &str, name: &str) -> Result<String, AllocError>
-    ensures { IfOk result (λ p. string_bytes p ≡ under path.now name.now) }
+fn under(alloc: Global, path: &str, name: &str) -> Result<Name, AllocError>
+    ensures { IfOk result (λ p. p ≡ under path.now name.now) }
 {
     if path.is_empty() {
-        return Ok(String::from_str(alloc, name)?);
+        return Name::of(alloc, name);
     }
-    member_path(alloc, path, name)
+    let path = member_path(alloc, path, name)?;
+    Name::of(alloc, path.as_str())
 }
 
 // The path of an element by its number.
