@@ -1,7 +1,7 @@
 use Rattle.std.proofs.Common.{◌≡◌, refl, sym, ap, ◌∙◌}
 use Rattle.il_machine.specs.Standing.{Standing}
 use Rattle.il_run.specs.Step.{step}
-use Rattle.il_machine.specs.declared.bench.Stepped.TheVariants as stepped
+use Rattle.il_machine.specs.declared.scanning.Stepped.TheVariants as stepped
 use Rattle.lift_world.proofs.Views.{the_seat}
 use Rattle.lift_world.proofs.controller.advance.Goals as goal
 
