@@ -5,6 +5,7 @@ ghost use Rattle.il_layout.specs.Layout.{rows};
 ghost use Rattle.il_code.specs.Laying.{with_value, with_values};
 
 use crate::laying::Opening;
+use il_layout::parts::parts_of;
 use il_run::value::Value;
 use std::alloc::{AllocError, Global};
 use std::marker::Model;
@@ -41,10 +42,7 @@ impl FirstRows {
     fn push(&mut self, value: Value) -> Result<(), AllocError>
         ensures { OnOk result (self.new ≡ with_value self.old value) }
     {
-        let (number, flag) = match value {
-            Value::Boolean(flag) => (0, flag),
-            Value::Integer(number) => (number, false),
-        };
+        let (number, flag) = parts_of(value);
         self.numbers.push(number)?;
         self.flags.push(flag)?;
         Ok(())

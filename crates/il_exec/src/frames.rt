@@ -80,7 +80,9 @@ impl Kept {
     #[inline(always)]
     fn of(operator: Operator, current: &Current) -> Kept
         requires { IsSome (left_of current.now) }
-        ensures { with_some (left_of current.now) (λ l. Some (record { operator = operator; left = l })) ≡ Some (pair_of result) }
+        ensures { with_some (left_of current.now)
+            (λ l. Some (record { operator = operator; left = l }))
+            ≡ Some (pair_of result) }
     {
         Kept {
             operator,
@@ -155,7 +157,9 @@ impl Pairs {
     pub fn defer(&mut self, operator: Operator, current: &Current)
         requires room { length self.old < 16 }
         requires some { IsSome (left_of current.now) }
-        ensures { with_some (left_of current.now) (λ l. Some (record { operator = operator; left = l } ∷ self.old)) ≡ Some self.new }
+        ensures { with_some (left_of current.now)
+            (λ l. Some (record { operator = operator; left = l } ∷ self.old))
+            ≡ Some self.new }
     {
         self.pairs.push(Kept::of(operator, current));
     }

@@ -194,7 +194,8 @@ fn loaded(negated: bool, operand: Content) -> Content
 #[inline(always)]
 pub fn magnitude(elementary: Elementary, number: i64) -> i64
     requires { IsSome (number_left elementary (pos (nat_abs number))) }
-    ensures { number_left elementary (pos (nat_abs number)) ≡ Some (content elementary (Integer result)) }
+    ensures { number_left elementary (pos (nat_abs number))
+        ≡ Some (content elementary (Integer result)) }
 {
     let _elementary = elementary;
     number.abs()
@@ -332,8 +333,11 @@ pub fn store(
     target: &Operand,
     put: Content,
 )
-    requires { IsSome (with_some (place (rows numbers.old flags.old) base target.now) (λ p. stored kind (rows numbers.old flags.old) p put)) }
-    ensures { with_some (place (rows numbers.old flags.old) base target.now) (λ p. stored kind (rows numbers.old flags.old) p put) ≡ Some (rows numbers.new flags.new) }
+    requires { IsSome (with_some (place (rows numbers.old flags.old) base target.now)
+        (λ p. stored kind (rows numbers.old flags.old) p put)) }
+    ensures { with_some (place (rows numbers.old flags.old) base target.now)
+        (λ p. stored kind (rows numbers.old flags.old) p put)
+        ≡ Some (rows numbers.new flags.new) }
 {
     match *target {
         Operand::At(slot) => put_down(numbers, flags, base, slot, kind, put),
@@ -360,7 +364,8 @@ fn put_down(
     put: Content,
 )
     requires { IsSome (stored kind (rows numbers.old flags.old) (from_base base slot) put) }
-    ensures { stored kind (rows numbers.old flags.old) (from_base base slot) put ≡ Some (rows numbers.new flags.new) }
+    ensures { stored kind (rows numbers.old flags.old) (from_base base slot) put
+        ≡ Some (rows numbers.new flags.new) }
 {
     match kind {
         Store::Plain => write(numbers, flags, base, slot, put),
@@ -388,9 +393,14 @@ pub fn exec_at(
     before: Option<Content>,
     instruction: &Flat,
 ) -> Option<Content>
-    requires { is_straight instruction.now ≡ true → IsSome (effect instruction.now (rows numbers.old flags.old) base before) }
-    ensures goes_on { (c : Left) → result ≡ Some c → effect instruction.now (rows numbers.old flags.old) base before ≡ Some ((rows numbers.new flags.new), c) }
-    ensures other { result ≡ None → (is_straight instruction.now ≡ false) × (numbers.new ≡ numbers.old) × (flags.new ≡ flags.old) }
+    requires { is_straight instruction.now ≡ true
+        → IsSome (effect instruction.now (rows numbers.old flags.old) base before) }
+    ensures goes_on { (c : Left) → result ≡ Some c
+        → effect instruction.now (rows numbers.old flags.old) base before
+        ≡ Some ((rows numbers.new flags.new), c) }
+    ensures other { result ≡ None
+        → (is_straight instruction.now ≡ false) × (numbers.new ≡ numbers.old)
+        × (flags.new ≡ flags.old) }
     ensures straight { IsSome result → is_straight instruction.now ≡ true }
 {
     match (instruction, before) {

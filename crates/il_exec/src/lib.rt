@@ -9,6 +9,6 @@ pub mod instruction;
 mod place;
 pub mod quick;
 pub mod rows;
-pub mod store;
+pub mod scan_state;
 
-pub use store::Store;
+pub use scan_state::ScanState;

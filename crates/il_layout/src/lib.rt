@@ -4,6 +4,7 @@
 pub mod flat;
 mod laws;
 mod offsets;
+pub mod parts;
 pub mod sizes;
 mod standard;
 pub mod tables;

@@ -16,6 +16,6 @@ pub mod Opened
 pub mod Copied
 pub mod Bases
 pub mod Shared
-pub mod Seated
+pub mod Planned
 pub mod Standing
 pub mod Shown

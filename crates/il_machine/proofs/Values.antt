@@ -10,8 +10,7 @@ use Rattle.il_table.specs.NameMap.{Text, get, insert}
 use Rattle.il_run.specs.State.{Frame, State}
 use Rattle.il_run.specs.Scan.{begins}
 use Rattle.il_layout.specs.declared.flat.Cell.{Cell}
-use Rattle.il_layout.specs.Whole.{first_rows}
-use Rattle.il_machine.specs.Starting.{joined}
+use Rattle.il_machine.specs.Starting.{FitsTask}
 use Rattle.il_layout.specs.Layout.{Rows, Fits, number_part, flag_part, value_by, view_of, view, AreOnce}
 use Rattle.il_layout.specs.Program.{program_cells}
 use Rattle.il_layout.proofs.Kept.{has}
@@ -101,11 +100,11 @@ module _ (c : Config) (runs : IsRunnable c) (task : ℕ) (u : ProgramUnit) (is :
 
 -- ROOM
 
--- two stores of a task have rows of one length
-pub same_length : (c : Config) (task : ℕ) (a b : Stored) → IsScanOf c task a → IsScanOf c task b → (length a.rows.numbers ≡ length b.rows.numbers) × (length a.rows.flags ≡ length b.rows.flags)
-same_length c task a b one other =
-    let also = scan_is c task b other one.0 one.1.program in
-    (one.2.framed.fits.numbers ∙ sym also.1.framed.fits.numbers, one.2.framed.fits.flags ∙ sym also.1.framed.fits.flags)
+-- rows for a task are as long as those of its scan
+pub as_long : (c : Config) (task : ℕ) (first : Rows) (s : Stored) → FitsTask c task first → IsScanOf c task s → (length first.numbers ≡ length s.rows.numbers) × (length first.flags ≡ length s.rows.flags)
+as_long c task first s room scan =
+    let also = scan_is c task s scan room.0 room.1.program in
+    (room.2.numbers ∙ sym also.1.framed.fits.numbers, room.2.flags ∙ sym also.1.framed.fits.flags)
 
 -- GOING
 
@@ -115,38 +114,6 @@ begins_going c task s b none =
     let plain = begins_plain c task b.scan.0 b.beginning b.scan.1.program in
     let bad : first_frames b.scan.0 ≡ [] = sym plain.0 ∙ ap (λ (x : State). x.frames) (sym b.begins) ∙ none in
     cc
-
--- ROOM
-
--- values under some path
-paired : List Value → List (Text × Value)
-paired [] = []
-paired (v ∷ values) = ([], v) ∷ paired values
-
-paired_values : (values : List Value) → map (λ (e : Text × Value). e.1) (paired values) ≡ values
-unfolding paired
-paired_values [] = refl
-paired_values (v ∷ values) = ap (λ l. v ∷ l) (paired_values values)
-
-paired_many : (values : List Value) → length (paired values) ≡ length values
-unfolding paired
-paired_many [] = refl
-paired_many (v ∷ values) = ap suc (paired_many values)
-
--- what is written as a scan's start is as long as what was there
-pub written_long : (old new v : Rows) (first second : List Value) (count : ℕ) → length first ≡ count → ((given : List (Text × Value)) → map (λ (e : Text × Value). e.1) given ≡ first ++ second → new ≡ joined v (first_rows given))
-    → length v.flags ≡ length v.numbers → length old.numbers ≡ length v.numbers + (count + length second) → length old.flags ≡ length v.numbers + (count + length second)
-    → (length new.numbers ≡ length old.numbers) × (length new.flags ≡ length old.flags)
-written_long old new v first second count many wrote same numbers flags =
-    let given = paired (first ++ second) in
-    let is = wrote given (paired_values (first ++ second)) in
-    let n : length given ≡ length (first ++ second) = paired_many (first ++ second) in
-    let both : length (first ++ second) ≡ length first + length second = length-append first second in
-    let a : length new.numbers ≡ length v.numbers + length (map (λ (w : Text × Value). number_part w.1) given) = ap (λ (r : Rows). length r.numbers) is ∙ length-append v.numbers (map (λ w. number_part w.1) given) in
-    let b : length new.flags ≡ length v.flags + length (map (λ (w : Text × Value). flag_part w.1) given) = ap (λ (r : Rows). length r.flags) is ∙ length-append v.flags (map (λ w. flag_part w.1) given) in
-    let d : length (map (λ (w : Text × Value). number_part w.1) given) ≡ length given = length-map given (λ w. number_part w.1) in
-    let e : length (map (λ (w : Text × Value). flag_part w.1) given) ≡ length given = length-map given (λ w. flag_part w.1) in
-    (omega (arith, a, d, n, both, many, numbers), omega (arith, b, e, n, both, many, flags, same))
 
 -- THE TEST
 

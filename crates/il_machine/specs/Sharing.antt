@@ -1,5 +1,5 @@
 -- What a task shares of the globals (own rules).
-use Rattle.std.specs.Prelude.{◌≡◌, ℕ, zero, suc, ◌+◌, ◌-◌, ◌*◌, ◌<◌, ◌==◌, Bool, is_some, if◌then◌else◌, List, [], ◌∷◌, map, filter, flat_map, take, drop, length, slice_get, Option, Some}
+use Rattle.std.specs.Prelude.{◌≡◌, ℕ, zero, suc, ◌+◌, ◌-◌, ◌*◌, ◌<◌, ◌==◌, ◌||◌, Bool, is_some, if◌then◌else◌, List, [], ◌∷◌, map, filter, flat_map, take, drop, length, slice_get, Option, Some}
 use Rattle.il_spec.specs.declared.tree.Config.{Config}
 use Rattle.il_spec.specs.declared.tree.Step.{Step}
 use Rattle.il_spec.specs.declared.tree.Unit.{Unit as ProgramUnit}
@@ -19,7 +19,7 @@ use Rattle.il_layout.specs.Whole.{number_in}
 use Rattle.lift_spec.specs.declared.image.Sizes.{Sizes}
 use Rattle.lift_run_laws.specs.Tasks.{IsTaskOf}
 use Rattle.il_machine.specs.declared.sharing.Transfer.{Transfer}
-use Rattle.il_machine.specs.declared.seats.Seat.{Seat}
+use Rattle.il_machine.specs.declared.plans.TaskPlan.{TaskPlan}
 use Rattle.il_snapshot.specs.Image.{with_slot}
 use Rattle.il_machine.specs.Starting.{shared_value}
 
@@ -67,6 +67,10 @@ is_stored steps name = is_one_of (flat_map (λ s. stored_names s.instruction) st
 abbrev pub HasStored : NameMap Bool → List Step → Type 0
 HasStored stored steps = (name : Text) → is_some (get stored name) ≡ is_stored steps name
 
+-- one has, beside what another has, just these names
+abbrev pub AddsNames : NameMap Bool → NameMap Bool → List Text → Type 0
+AddsNames old new added = (q : Text) → is_some (get new q) ≡ (is_some (get old q) || is_one_of added q)
+
 -- whether it stores into the variable of a cell
 abbrev pub stores_cell : List Step → Cell → Bool
 stores_cell steps x = is_stored steps (base_name x.path)
@@ -84,10 +88,10 @@ abbrev pub taken : Rows → Rows → List Cell → List Transfer → Rows
 taken r from cells [] = r
 taken r from cells (t ∷ ts) = taken (with_slot r t.to (shared_value cells from t.from)) from cells ts
 
--- SEATS
+-- TASKS AS THEY RUN
 
 -- What is known of a task as it runs: its PROGRAM line, its program's number, and the slots of what it shares of the globals.
-pub record IsSeat (c : Config) (u : ProgramUnit) (s : Seat) : Type 0 where
+pub record IsPlan (c : Config) (u : ProgramUnit) (s : TaskPlan) : Type 0 where
   pub within : s.line < length c.programs
   pub line : line_program c (slice_get c.programs s.line) ≡ Some u
   pub stands : slice_get c.units s.unit ≡ Some u
@@ -96,10 +100,10 @@ pub record IsSeat (c : Config) (u : ProgramUnit) (s : Seat) : Type 0 where
   pub written : s.written ≡ transfers u.body.steps (program_cells c u) (global_cells c) (external_cells c u)
 
 -- of a task that is there
-abbrev pub IsSeatOf : Config → ℕ → Option Seat → Type 0
-IsSeatOf c task o = (u : ProgramUnit) → IsTaskOf c task u → (s : Seat) × (o ≡ Some s) × IsSeat c u s
+abbrev pub IsPlanOf : Config → ℕ → Option TaskPlan → Type 0
+IsPlanOf c task o = (u : ProgramUnit) → IsTaskOf c task u → (s : TaskPlan) × (o ≡ Some s) × IsPlan c u s
 
 -- those of the tasks 0 to 8
-pub record AreSeats (c : Config) (seats : List (Option Seat)) : Type 0 where
-  pub count : length seats ≡ 9
-  pub each : (task : ℕ) (o : Option Seat) → slice_get seats task ≡ Some o → IsSeatOf c task o
+pub record ArePlans (c : Config) (plans : List (Option TaskPlan)) : Type 0 where
+  pub count : length plans ≡ 9
+  pub each : (task : ℕ) (o : Option TaskPlan) → slice_get plans task ≡ Some o → IsPlanOf c task o

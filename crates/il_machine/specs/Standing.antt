@@ -1,5 +1,5 @@
 -- Where a store's scan stands, and whole scans, as the definitions see them (own rules).
-use Rattle.std.specs.Prelude.{◌≡◌, ℕ, ◌≤◌, [], All, length, Option, Some, None, refl}
+use Rattle.std.specs.Prelude.{◌≡◌, ℕ, ◌≤◌, List, [], All, length, Option, Some, None, refl}
 use Rattle.std.specs.Coded.{Coded, code_by, coded×, coded_ℕ}
 use Rattle.il_spec.specs.declared.tree.Config.{Config}
 use Rattle.il_spec.specs.contracts.tree.Config as config
@@ -8,6 +8,9 @@ use Rattle.il_table.specs.NameMap.{empty}
 use Rattle.il_run.specs.State.{Values, State}
 use Rattle.il_run.specs.Ranges.{HoldGlobals}
 use Rattle.il_run.specs.Scan.{Reaches, opening_variables}
+use Rattle.il_layout.specs.Layout.{Rows}
+use Rattle.lift_spec.specs.declared.calls.Slot.{Slot}
+use Rattle.lift_spec.specs.declared.image.Image.{Image}
 use Rattle.lift_spec.specs.Calls.{SlotInRange}
 use Rattle.lift_spec.specs.Image.{sizes_of, FieldsInRange}
 use Rattle.lift_spec.specs.Snapshot.{Beginning, program_of, scan_begins}
@@ -48,9 +51,13 @@ opening_variables_by c (Some u) = opening_variables c u
 abbrev pub opening_beginning : Config → ℕ → Beginning
 opening_beginning c task = record { variables = opening_variables_by c (program_of c task); snapshot = snapshot_of (opening_group c) }
 
+-- what a scan begins with: a task's variables, and the image, call slots and globals that it sees
+abbrev pub beginning_with : Config → ℕ → Rows → Image → List Slot → Rows → Beginning
+beginning_with c task variables image slots globals = record { variables = variables_in c task variables; snapshot = record { image = image; slots = slots; globals = globals_in c globals } }
+
 -- what is lent to a scan's start
 abbrev pub beginning_in : Config → ℕ → Begin → Beginning
-beginning_in c task b = record { variables = variables_in c task b.variables.now; snapshot = record { image = b.image.now; slots = b.calls.now.slots; globals = globals_in c b.globals.now } }
+beginning_in c task b = beginning_with c task b.variables.now b.image.now b.calls.now.slots b.globals.now
 
 -- it fits the task, and lies in its ranges
 pub record IsBeginning (c : Config) (task : ℕ) (b : Begin) : Type 0 where
@@ -77,6 +84,10 @@ abbrev pub finished_code : Coded Finished
 finished_code =
     code_by (Config × (ℕ × (State × State))) (coded× config.the_row.coded (coded× coded_ℕ (coded× state_code state_code))) (λ f. (f.config, (f.task, (f.first, f.last))))
     (λ c. record { config = c.0; task = c.1.0; first = c.1.1.0; last = c.1.1.1 }) (λ _. refl)
+
+-- where it stands at its end
+abbrev pub at_its_end : Finished → Standing
+at_its_end f = record { config = f.config; task = f.task; state = f.last }
 
 -- It is the scan of its task from a beginning to its end.
 pub record IsScan (f : Finished) : Type 0 where

@@ -1,12 +1,12 @@
 //! The machine: it runs the tasks' programs, as flat code on rows of slots.
 #![tactic(auto)]
 
-mod bench;
 mod globals;
 mod outputs;
+mod plans;
 pub mod rows;
 pub mod scanned;
-mod seats;
+mod scanning;
 mod sharing;
 pub mod store;
 pub mod verified;

@@ -5,11 +5,12 @@ ghost use Rattle.il_run.specs.declared.value.Value.TheVariants.{Integer};
 ghost use Rattle.il_table.specs.NameMap.{get};
 ghost use Rattle.lift_spec.specs.Image.{sizes_of};
 ghost use Rattle.lift_spec.specs.Snapshot.{whole_of, truth_of, motor_of, wishes_of, assigned};
-ghost use Rattle.il_machine.specs.Scanning.{state_of, kept_of, value_at, IsScanOf};
+ghost use Rattle.il_machine.specs.Scanning.{value_at, IsScanOf};
+ghost use Rattle.il_machine.specs.Ran.{stands};
 
-use crate::bench::Bench;
 use crate::rows::value;
 use crate::verified::Verified;
+use il_exec::ScanState;
 use il_exec::rows::Rows;
 use il_layout::flat::Cell;
 use il_run::value::Value;
@@ -61,7 +62,8 @@ fn one_of(number: i64) -> u8
 // The number at a slot of these cells that keeps one.
 fn number_at(rows: &Rows, cells: &[Cell], slot: usize) -> i64
     requires there { slot < length rows.now.numbers }
-    requires number { value_at cells.now rows.now slot ≡ Some (Integer (get_or rows.now.numbers slot (pos 0))) }
+    requires number { value_at cells.now rows.now slot
+        ≡ Some (Integer (get_or rows.now.numbers slot (pos 0))) }
     ensures { result ≡ whole_of (value_at cells.now rows.now slot) }
 {
     let _cells = cells;
@@ -71,7 +73,8 @@ fn number_at(rows: &Rows, cells: &[Cell], slot: usize) -> i64
 // The car or the call slot that a slot of rows names, 0 for none.
 fn named_at(rows: &Rows, cells: &[Cell], slot: usize) -> u8
     requires there { slot < length rows.now.numbers }
-    requires number { value_at cells.now rows.now slot ≡ Some (Integer (get_or rows.now.numbers slot (pos 0))) }
+    requires number { value_at cells.now rows.now slot
+        ≡ Some (Integer (get_or rows.now.numbers slot (pos 0))) }
     requires least { pos 0 ≤ℤ whole_of (value_at cells.now rows.now slot) }
     requires most { whole_of (value_at cells.now rows.now slot) ≤ℤ pos 64 }
     ensures { result ≡ nat_abs (whole_of (value_at cells.now rows.now slot)) }
@@ -79,37 +82,37 @@ fn named_at(rows: &Rows, cells: &[Cell], slot: usize) -> u8
     one_of(number_at(rows, cells, slot))
 }
 
-impl Bench {
-    /// MOTOR, OPEN and SERVE, as a car's scan left them. Their slots are the last.
-    #[tactic(auto, unfolding(lift_spec::specs::Snapshot::wishes_of))]
-    pub fn wishes(&self, verified: &Verified, car: u8) -> Wishes
-        requires car { 1 ≤ car }
-        requires scan { IsScanOf verified.now.config car self.now }
-        ensures { result ≡ wishes_of (state_of (kept_of verified.now.config car self.now)).values }
-    {
-        let _config = verified.config();
-        let cells = verified.task_code(car).cells();
-        let first = cells.len() - 3;
-        Wishes {
-            motor: motor_of(whole_of(value(self.rows(), cells, first))),
-            opens: truth_of(value(self.rows(), cells, first + 1)),
-            serve: named_at(self.rows(), cells, first + 2),
-        }
+// MOTOR, OPEN and SERVE, as a car's scan left them. Their slots are the last.
+#[tactic(auto, unfolding(lift_spec::specs::Snapshot::wishes_of))]
+pub fn wishes(verified: &Verified, car: u8, scan: &ScanState) -> Wishes
+    requires car { 1 ≤ car }
+    requires scan { IsScanOf verified.now.config car scan.now }
+    ensures { result ≡ wishes_of (stands verified.now.config car scan.now).values }
+{
+    let cells = verified.task_code(car).cells();
+    let rows = &scan.rows;
+    let first = cells.len() - 3;
+    Wishes {
+        motor: motor_of(whole_of(value(rows, cells, first))),
+        opens: truth_of(value(rows, cells, first + 1)),
+        serve: named_at(rows, cells, first + 2),
     }
+}
 
-    /// ASSIGN, as GROUP's scan left it: a car for each call slot, 0 for none.
-    pub fn assigned(&self, verified: &Verified) -> Bounded<u8, 64>
-        requires scan { IsScanOf verified.now.config 0 self.now }
-        ensures { result ≡ assigned (sizes_of verified.now.config).slots (state_of (kept_of verified.now.config 0 self.now)).values }
-    {
-        let _config = verified.config();
-        let count = verified.sizes().slots as usize;
-        let cells = verified.task_code(0).cells();
-        let first = cells.len() - count;
-        let mut cars = Bounded::new();
-        'slots: for slot in 0..count {
-            cars.push(named_at(self.rows(), cells, first + slot));
-        }
-        cars
+// ASSIGN, as GROUP's scan left it: a car for each call slot, 0 for none.
+pub fn assigned(verified: &Verified, scan: &ScanState) -> Bounded<u8, 64>
+    requires scan { IsScanOf verified.now.config 0 scan.now }
+    ensures { result
+        ≡ assigned (sizes_of verified.now.config).slots
+        (stands verified.now.config 0 scan.now).values }
+{
+    let count = verified.sizes().slots as usize;
+    let cells = verified.task_code(0).cells();
+    let rows = &scan.rows;
+    let first = cells.len() - count;
+    let mut cars = Bounded::new();
+    'slots: for slot in 0..count {
+        cars.push(named_at(rows, cells, first + slot));
     }
+    cars
 }

@@ -33,7 +33,9 @@ pub(crate) fn copied(alloc: Global, first: &FirstRows) -> Result<Rows, AllocErro
 pub fn take_front(all: &mut Rows, first: &Rows)
     requires numbers { length first.now.numbers ≤ length all.old.numbers }
     requires flags { length first.now.flags ≤ length all.old.flags }
-    ensures { all.new ≡ rows (first.now.numbers ++ drop (length first.now.numbers) all.old.numbers) (first.now.flags ++ drop (length first.now.flags) all.old.flags) }
+    ensures { all.new
+        ≡ rows (first.now.numbers ++ drop (length first.now.numbers) all.old.numbers)
+        (first.now.flags ++ drop (length first.now.flags) all.old.flags) }
 {
     copy_to_front(all.numbers.as_mut_slice(), first.numbers.as_slice());
     copy_to_front(all.flags.as_mut_slice(), first.flags.as_slice());
@@ -43,7 +45,9 @@ pub fn take_front(all: &mut Rows, first: &Rows)
 pub fn copy_front(first: &mut Rows, all: &Rows)
     requires numbers { length first.old.numbers ≤ length all.now.numbers }
     requires flags { length first.old.flags ≤ length all.now.flags }
-    ensures { first.new ≡ rows (take (length first.old.numbers) all.now.numbers) (take (length first.old.flags) all.now.flags) }
+    ensures { first.new
+        ≡ rows (take (length first.old.numbers) all.now.numbers)
+        (take (length first.old.flags) all.now.flags) }
 {
     let (numbers, _) = all.numbers.split_at(first.numbers.len());
     let (flags, _) = all.flags.split_at(first.flags.len());
@@ -69,7 +73,6 @@ pub fn variable(variables: &Rows, verified: &Verified, task: u8, path: &str) -> 
     requires fits { FitsOwn verified.now.config task variables.now }
     ensures { result ≡ get (variables_in verified.now.config task variables.now) path.now }
 {
-    let _config = verified.config();
     let code = verified.task_code(task);
     let slot = code.slot_of(path)?;
     value(variables, code.cells(), slot)

@@ -8,7 +8,7 @@ use crate::rows::{copy_front, value};
 use crate::store::Store;
 use crate::verified::Verified;
 use il_equal::same::Same;
-use il_exec::Store as Scan;
+use il_exec::ScanState;
 use il_exec::rows::Rows;
 use il_layout::flat::Cell;
 use il_run::value::Value;
@@ -39,9 +39,9 @@ impl Model for OpenScan {
 pub struct Scanned<'v> {
     verified: &'v Verified,
     task: u8,
-    scan: Scan,
+    scan: ScanState,
     first: Rows,
-    began: Snapshot<Scan>,
+    began: Snapshot<ScanState>,
 }
 
 impl<'v> Model for Scanned<'v> {
@@ -53,9 +53,16 @@ impl<'v> Model for Scanned<'v> {
 
     ghost coded = { finished_code };
 
-    ghost view = { λ s. finished record { config = s.verified.now.config; task = s.task; first = s.began.value; last = s.scan } };
+    ghost view = { λ s. finished record
+        { config = s.verified.now.config; task = s.task; first = s.began.value; last = s.scan } };
 
-    ghost invariant = { λ s. (s.first ≡ s.began.value.rows) × IsRan record { config = s.verified.now.config; task = s.task; first = s.began.value; last = s.scan } };
+    ghost invariant = { λ s. (s.first ≡ s.began.value.rows)
+        × IsRan record {
+          config = s.verified.now.config;
+          task = s.task;
+          first = s.began.value;
+          last = s.scan;
+        } };
 }
 
 impl OpenScan {
@@ -82,7 +89,6 @@ pub fn scan<'v>(verified: &'v Verified, begun: OpenScan) -> Scanned<'v>
     ensures task { result.task ≡ begun.task }
     ensures first { result.first ≡ begun.state }
 {
-    let _config = verified.config();
     let OpenScan { store } = begun;
     let (task, mut scan, mut first) = store.into_parts();
     copy_front(&mut first, &scan.rows);
@@ -164,7 +170,12 @@ impl<'v> Scanned<'v> {
 
     /// The store of the scan, at its end. No allocation.
     pub fn into_store(self) -> Store
-        ensures { result ≡ record { config = self.entry.config; task = self.entry.task; state = self.entry.last } }
+        ensures { result
+            ≡ record {
+              config = self.entry.config;
+              task = self.entry.task;
+              state = self.entry.last;
+            } }
     {
         let Scanned {
             verified,

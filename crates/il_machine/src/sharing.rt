@@ -1,11 +1,8 @@
 // The slots of what a task shares of the globals.
 
-ghost use Rattle.std.specs.Prelude.{◌≡◌, ◌≤◌, ◌||◌, ◌∷◌, [], map, drop, length, flat_map, is_some, IfOk, OnOk};
-ghost use Rattle.il_rules.specs.Names.{is_one_of};
+ghost use Rattle.std.specs.Prelude.{◌≡◌, ◌≤◌, ◌∷◌, [], map, drop, length, flat_map, IfOk, OnOk};
 ghost use Rattle.il_rules.specs.Types.{named_variable, argument_targets, stored_names};
-ghost use Rattle.il_table.specs.NameMap.{Text};
-ghost use Rattle.il_table.specs.NameMap as names;
-ghost use Rattle.il_machine.specs.Sharing.{image_count, between, slot_in, base_name, HasStored, stores_cell, transfer, transfers};
+ghost use Rattle.il_machine.specs.Sharing.{image_count, between, slot_in, base_name, HasStored, AddsNames, stores_cell, transfer, transfers};
 
 use il_code::TaskCode;
 use il_layout::flat::Cell;
@@ -82,7 +79,7 @@ fn base_name(path: &str) -> &str
 
 // Adds a name to those that are stored into.
 fn add_name(alloc: Global, stored: &mut Table<bool>, name: &str) -> Result<(), AllocError>
-    ensures { OnOk result ((q : Text) → is_some (names.get stored.new q) ≡ (is_some (names.get stored.old q) || is_one_of (name.now ∷ []) q)) }
+    ensures { OnOk result (AddsNames stored.old stored.new (name.now ∷ [])) }
 {
     stored.put_new(alloc, name, true)?;
     Ok(())
@@ -91,7 +88,7 @@ fn add_name(alloc: Global, stored: &mut Table<bool>, name: &str) -> Result<(), A
 // Adds the variable of the target of a store, or of whose element it is.
 #[tactic(auto, using(crate::proofs::Bases::none_more))]
 fn add_target(alloc: Global, stored: &mut Table<bool>, target: &Reference) -> Result<(), AllocError>
-    ensures { OnOk result ((q : Text) → is_some (names.get stored.new q) ≡ (is_some (names.get stored.old q) || is_one_of (named_variable target.now) q)) }
+    ensures { OnOk result (AddsNames stored.old stored.new (named_variable target.now)) }
 {
     match target {
         Reference::Variable(variable) => add_name(alloc, stored, variable.as_str()),
@@ -107,7 +104,7 @@ fn add_output(
     stored: &mut Table<bool>,
     argument: &Argument,
 ) -> Result<(), AllocError>
-    ensures { OnOk result ((q : Text) → is_some (names.get stored.new q) ≡ (is_some (names.get stored.old q) || is_one_of (argument_targets argument.now) q)) }
+    ensures { OnOk result (AddsNames stored.old stored.new (argument_targets argument.now)) }
 {
     match argument {
         Argument::Output { target, .. } => add_name(alloc, stored, target.name.as_str()),
@@ -121,7 +118,8 @@ fn add_outputs(
     stored: &mut Table<bool>,
     arguments: &[Argument],
 ) -> Result<(), AllocError>
-    ensures { OnOk result ((q : Text) → is_some (names.get stored.new q) ≡ (is_some (names.get stored.old q) || is_one_of (flat_map argument_targets arguments.now) q)) }
+    ensures { OnOk result
+        (AddsNames stored.old stored.new (flat_map argument_targets arguments.now)) }
 {
     for argument in arguments {
         add_output(alloc, stored, argument)?;
@@ -136,7 +134,7 @@ fn add_stored(
     stored: &mut Table<bool>,
     instruction: &Instruction,
 ) -> Result<(), AllocError>
-    ensures { OnOk result ((q : Text) → is_some (names.get stored.new q) ≡ (is_some (names.get stored.old q) || is_one_of (stored_names instruction.now) q)) }
+    ensures { OnOk result (AddsNames stored.old stored.new (stored_names instruction.now)) }
 {
     match instruction {
         Instruction::Store { target, .. } => add_target(alloc, stored, &target.reference),
@@ -180,7 +178,8 @@ pub fn transfers(
     globals: &TaskCode,
     cells: &[Cell],
 ) -> Result<Items<Transfer>, AllocError>
-    ensures { IfOk result (λ ts. ts ≡ transfers steps.now layout.now.cells globals.now.cells cells.now) }
+    ensures { IfOk result
+        (λ ts. ts ≡ transfers steps.now layout.now.cells globals.now.cells cells.now) }
 {
     let names = stored_by(alloc, steps)?;
     let stores = Stores { steps, names };

@@ -185,8 +185,10 @@ pub fn write_image(
 )
     requires fields { task ≤ length image.now.fields.cars }
     requires outputs { task ≤ length image.now.outputs }
-    requires numbers { at + length (image_values sizes task image.now calls.now.slots) ≤ length rows.old.numbers }
-    requires flags { at + length (image_values sizes task image.now calls.now.slots) ≤ length rows.old.flags }
+    requires numbers { at + length (image_values sizes task image.now calls.now.slots)
+        ≤ length rows.old.numbers }
+    requires flags { at + length (image_values sizes task image.now calls.now.slots)
+        ≤ length rows.old.flags }
     ensures { rows.new ≡ filled rows.old at (image_values sizes task image.now calls.now.slots) }
 {
     let _room = rows.numbers.len();

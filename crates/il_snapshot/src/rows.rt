@@ -6,27 +6,8 @@ ghost use Rattle.il_layout.specs.Layout.{rows, number_part, flag_part};
 ghost use Rattle.il_snapshot.specs.Image.{with_slot, filled, spliced};
 
 use il_exec::rows::Rows;
+use il_layout::parts::parts_of;
 use il_run::value::Value;
-
-// What the row of numbers keeps of a value.
-fn number_part(value: Value) -> i64
-    ensures { result ≡ number_part value }
-{
-    match value {
-        Value::Boolean(_) => 0,
-        Value::Integer(number) => number,
-    }
-}
-
-// What the row of Booleans keeps of a value.
-fn flag_part(value: Value) -> bool
-    ensures { result ≡ flag_part value }
-{
-    match value {
-        Value::Boolean(truth) => truth,
-        Value::Integer(_) => false,
-    }
-}
 
 /// Gives a slot a value.
 pub fn put(all: &mut Rows, at: usize, value: Value)
@@ -34,8 +15,9 @@ pub fn put(all: &mut Rows, at: usize, value: Value)
     requires flags { at < length all.old.flags }
     ensures { all.new ≡ with_slot all.old at value }
 {
-    all.numbers[at] = number_part(value);
-    all.flags[at] = flag_part(value);
+    let (number, flag) = parts_of(value);
+    all.numbers[at] = number;
+    all.flags[at] = flag;
 }
 
 // Copies numbers or Booleans into a row from a slot on.
@@ -54,7 +36,8 @@ fn copy_at<T: Copy>(row: &mut [T], at: usize, some: &[T])
 fn copy_parts(all: &mut Rows, at: usize, numbers: &[i64], flags: &[bool])
     requires numbers { at + length numbers.now ≤ length all.old.numbers }
     requires flags { at + length flags.now ≤ length all.old.flags }
-    ensures { all.new ≡ rows (spliced all.old.numbers at numbers.now) (spliced all.old.flags at flags.now) }
+    ensures { all.new
+        ≡ rows (spliced all.old.numbers at numbers.now) (spliced all.old.flags at flags.now) }
 {
     copy_at(all.numbers.as_mut_slice(), at, numbers);
     copy_at(all.flags.as_mut_slice(), at, flags);
@@ -65,7 +48,8 @@ fn copy_parts(all: &mut Rows, at: usize, numbers: &[i64], flags: &[bool])
 pub fn put_parts(all: &mut Rows, at: usize, numbers: &[i64], flags: &[bool])
     requires numbers { at + length numbers.now ≤ length all.old.numbers }
     requires flags { at + length flags.now ≤ length all.old.flags }
-    ensures { (values : List Written) → map number_part values ≡ numbers.now → map flag_part values ≡ flags.now → all.new ≡ filled all.old at values }
+    ensures { (values : List Written) → map number_part values ≡ numbers.now
+        → map flag_part values ≡ flags.now → all.new ≡ filled all.old at values }
 {
     copy_parts(all, at, numbers, flags);
 }

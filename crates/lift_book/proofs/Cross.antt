@@ -3,7 +3,8 @@ use denote.Param.Send.{IsSend, sendable, view_send}
 use denote.Param.SendFields.{declared_send}
 use Rattle.std.proofs.Crossing.{crosses}
 use Rattle.il_machine.specs.contracts.store.Store as Store
-use Rattle.il_machine.proofs.bench.Bench.TheSendSync as bench
+use Rattle.il_exec.proofs.rows.Rows.TheSendSync as rows
+use Rattle.il_exec.proofs.scan_state.ScanState.TheSendSync as scan
 use Rattle.lift_world.specs.contracts.group.Core as Core
 use Rattle.lift_world.specs.contracts.group.Core.TheInside as CoreInside
 use Rattle.lift_world.proofs.shared.Shared.TheSendSync as shared
@@ -13,7 +14,7 @@ use Rattle.lift_book.specs.contracts.book.Book as Book
 use Rattle.lift_book.specs.contracts.book.Book.TheInside as Inside
 
 pub Store-send : IsSend Store.the_row
-Store-send = search (sendable, crosses, bench.the_send) depth 40 fits 10000
+Store-send = search (sendable, crosses, scan.the_send, rows.the_send) depth 40 fits 10000
 
 CoreInside-send : IsSend CoreInside.the_row
 CoreInside-send = declared_send CoreInside.the_type (search (sendable, crosses) depth 20, (shared.the_send, tt))

@@ -4,7 +4,7 @@ ghost use Rattle.std.specs.Prelude.{◌≡◌, ◌++◌, ◌∷◌, [], map, Som
 ghost use Rattle.il_table.specs.NameMap as values;
 ghost use Rattle.lift_spec.specs.Calls.{told_car};
 ghost use Rattle.il_machine.specs.Scanning.{HasTask};
-ghost use Rattle.il_machine.specs.Standing.{IsOf};
+ghost use Rattle.il_machine.specs.Standing.{IsOf, at_its_end};
 ghost use Rattle.lift_spec.specs.Image.{sizes_of, Obeys};
 ghost use Rattle.lift_spec.specs.Replies.{Started, Committed, Refreshed};
 ghost use Rattle.lift_spec.specs.World.{opening, InRanges};
@@ -54,7 +54,13 @@ impl Model for Book {
 impl Book {
     /// The book of a program, in its opening world, with room for so many entries in its journal.
     pub fn new(alloc: Global, verified: &Verified, capacity: usize) -> Result<Book, AllocError>
-        ensures page { IfOk result (λ b. b ≡ record { config = verified.now.config; capacity = capacity; journal = []; world = opening verified.now.config }) }
+        ensures page { IfOk result (λ b. b
+            ≡ record {
+              config = verified.now.config;
+              capacity = capacity;
+              journal = [];
+              world = opening verified.now.config;
+            }) }
     {
         let ledger = Ledger::new(alloc, verified, capacity)?;
         Ok(Book { ledger })
@@ -81,7 +87,8 @@ impl Book {
         requires of { IsOf verified.now.config task store }
         ensures fault { fault_of result ≡ start_fault self.old task }
         ensures done { OnOk result (Adds self.old (entry.Start task) Started self.new) }
-        ensures begins { IfOk result (λ o. IsOf verified.now.config task o × SnappedNow self.old task o.state) }
+        ensures begins { IfOk result
+            (λ o. IsOf verified.now.config task o × SnappedNow self.old task o.state) }
         ensures refused { IfErr result (λ r. (self.new ≡ self.old) × (r.1 ≡ store)) }
     {
         self.ledger.start(verified, task, store)
@@ -96,11 +103,15 @@ impl Book {
         report: &mut Report,
     ) -> Result<Store, (StationFault, Scanned<'v>)>
         requires { verified.now.config ≡ self.old.config }
-        ensures open { IsOpenHere self.old task scanned.entry → fault_of result ≡ full_fault self.old }
-        ensures other { ¬ (IsOpenHere self.old task scanned.entry) → fault_of result ≡ Some NotOpen }
+        ensures open { IsOpenHere self.old task scanned.entry
+            → fault_of result ≡ full_fault self.old }
+        ensures other { ¬ (IsOpenHere self.old task scanned.entry)
+            → fault_of result ≡ Some NotOpen }
         ensures mine { OnOk result (IsOpenHere self.old task scanned.entry) }
-        ensures done { IfOk result (λ s. Adds self.old (entry.Commit task) (Committed report.new) self.new × (s ≡ record { config = scanned.entry.config; task = scanned.entry.task; state = scanned.entry.last })) }
-        ensures refused { IfErr result (λ r. (self.new ≡ self.old) × (report.new ≡ report.old) × (r.1 ≡ scanned.entry)) }
+        ensures done { IfOk result (λ s. Adds self.old (entry.Commit task) (Committed report.new)
+            self.new × (s ≡ at_its_end scanned.entry)) }
+        ensures refused { IfErr result
+            (λ r. (self.new ≡ self.old) × (report.new ≡ report.old) × (r.1 ≡ scanned.entry)) }
     {
         if !scanned.is_of(verified) {
             return Err((StationFault::NotOpen, scanned));
@@ -118,11 +129,15 @@ impl Book {
     ) -> Result<Store, (StationFault, Scanned<'v>)>
         requires program { verified.now.config ≡ self.old.config }
         requires own { scanned.config ≡ verified.now.config }
-        ensures open { IsOpenHere self.old task scanned.entry → fault_of result ≡ full_fault self.old }
-        ensures other { ¬ (IsOpenHere self.old task scanned.entry) → fault_of result ≡ Some NotOpen }
+        ensures open { IsOpenHere self.old task scanned.entry
+            → fault_of result ≡ full_fault self.old }
+        ensures other { ¬ (IsOpenHere self.old task scanned.entry)
+            → fault_of result ≡ Some NotOpen }
         ensures mine { OnOk result (IsOpenHere self.old task scanned.entry) }
-        ensures done { IfOk result (λ s. Adds self.old (entry.Commit task) (Committed report.new) self.new × (s ≡ record { config = scanned.entry.config; task = scanned.entry.task; state = scanned.entry.last })) }
-        ensures refused { IfErr result (λ r. (self.new ≡ self.old) × (report.new ≡ report.old) × (r.1 ≡ scanned.entry)) }
+        ensures done { IfOk result (λ s. Adds self.old (entry.Commit task) (Committed report.new)
+            self.new × (s ≡ at_its_end scanned.entry)) }
+        ensures refused { IfErr result
+            (λ r. (self.new ≡ self.old) × (report.new ≡ report.old) × (r.1 ≡ scanned.entry)) }
     {
         self.ledger.commit(verified, task, scanned, report)
     }
@@ -138,10 +153,17 @@ impl Book {
         requires program { verified.now.config ≡ self.old.config }
         requires calls { AllCalls (sizes_of verified.now.config) hand.old }
         ensures fault { fault_in result ≡ refresh_fault self.old fields }
-        ensures done { OnOk result (Adds self.old (entry.Refresh fields (map (λ (d : EnteredOf). d.call) report.new.entered)) (Refreshed report.new) self.new) }
-        ensures exact { OnOk result (map (λ (d : EnteredOf). d.call) report.new.entered ≡ calls_entering self.old.world.group.calls hand.old) }
-        ensures hand { OnOk result (hand.old ≡ map (λ (d : EnteredOf). d.call) report.new.entered ++ hand.new) }
-        ensures refused { OnErr result ((self.new ≡ self.old) × (hand.new ≡ hand.old) × (report.new ≡ report.old)) }
+        ensures done { OnOk result
+            (Adds self.old
+            (entry.Refresh fields (map (λ (d : EnteredOf). d.call) report.new.entered))
+            (Refreshed report.new) self.new) }
+        ensures exact { OnOk result
+            (map (λ (d : EnteredOf). d.call) report.new.entered
+            ≡ calls_entering self.old.world.group.calls hand.old) }
+        ensures hand { OnOk result
+            (hand.old ≡ map (λ (d : EnteredOf). d.call) report.new.entered ++ hand.new) }
+        ensures refused { OnErr result
+            ((self.new ≡ self.old) × (hand.new ≡ hand.old) × (report.new ≡ report.old)) }
     {
         self.ledger.refresh(verified, fields, hand, report)
     }

@@ -2,7 +2,7 @@
 
 ghost use Rattle.std.specs.Prelude.{◌≡◌, ◌≤◌, ◌↔◌, [], ◌++◌, ◌∷◌, map, length, Some, IfOk, IfErr, OnOk, OnErr, IsSome, true};
 ghost use Rattle.il_machine.specs.Scanning.{HasTask};
-ghost use Rattle.il_machine.specs.Standing.{Standing, IsOf};
+ghost use Rattle.il_machine.specs.Standing.{Standing, IsOf, at_its_end};
 ghost use Rattle.lift_spec.specs.Image.{sizes_of};
 ghost use Rattle.lift_spec.specs.Replies.{Started, Committed, Refreshed};
 ghost use Rattle.lift_spec.specs.Snapshot.{scan_begins};
@@ -44,9 +44,13 @@ fn begin(core: &mut Core, verified: &Verified, task: u8, own: &mut Option<Store>
     requires own_of { (s : Standing) → own.old ≡ Some s → IsOf verified.now.config task s }
     requires of { IsOf verified.now.config task store.old }
     ensures config { core.new.config ≡ core.old.config }
-    ensures group { (x : TaskState) → task_at core.old.group task ≡ Some x → core.new.group ≡ started_group core.old.group task x }
-    ensures own { (x : TaskState) → task_at core.old.group task ≡ Some x → (s : Standing) × (own.new ≡ Some s) × IsOf verified.now.config task s × (s.state ≡ scan_begins verified.now.config task (beginning_of core.old.group x)) }
-    ensures store { (x : TaskState) → task_at core.old.group task ≡ Some x → store.new.state ≡ scan_begins verified.now.config task (beginning_of core.old.group x) }
+    ensures group { (x : TaskState) → task_at core.old.group task ≡ Some x
+        → core.new.group ≡ started_group core.old.group task x }
+    ensures own { (x : TaskState) → task_at core.old.group task ≡ Some x
+        → (s : Standing) × (own.new ≡ Some s) × IsOf verified.now.config task s
+        × (s.state ≡ scan_begins verified.now.config task (beginning_of core.old.group x)) }
+    ensures store { (x : TaskState) → task_at core.old.group task ≡ Some x
+        → store.new.state ≡ scan_begins verified.now.config task (beginning_of core.old.group x) }
     ensures of { IsOf verified.now.config task store.new }
 {
     if let Some(own) = own {
@@ -58,7 +62,13 @@ fn begin(core: &mut Core, verified: &Verified, task: u8, own: &mut Option<Store>
 impl Ledger {
     /// The group as it opens, with an empty journal that has room for so many entries.
     pub fn new(alloc: Global, verified: &Verified, capacity: usize) -> Result<Ledger, AllocError>
-        ensures page { IfOk result (λ l. page_of l ≡ record { config = verified.now.config; capacity = capacity; journal = []; world = opening verified.now.config }) }
+        ensures page { IfOk result (λ l. page_of l
+            ≡ record {
+              config = verified.now.config;
+              capacity = capacity;
+              journal = [];
+              world = opening verified.now.config;
+            }) }
         ensures program { IfOk result (λ l. l.program.value ≡ verified.now) }
         ensures kept { IfOk result IsLedger }
     {
@@ -109,8 +119,10 @@ impl Ledger {
         requires of { IsOf verified.now.config task store }
         requires kept { IsLedger self.old }
         ensures fault { fault_of result ≡ start_fault (page_of self.old) task }
-        ensures done { OnOk result (Adds (page_of self.old) (entry.Start task) Started (page_of self.new)) }
-        ensures begins { IfOk result (λ o. IsOf verified.now.config task o × SnappedNow (page_of self.old) task o.state) }
+        ensures done { OnOk result
+            (Adds (page_of self.old) (entry.Start task) Started (page_of self.new)) }
+        ensures begins { IfOk result
+            (λ o. IsOf verified.now.config task o × SnappedNow (page_of self.old) task o.state) }
         ensures refused { IfErr result (λ r. (self.new ≡ self.old) × (r.1 ≡ store)) }
         ensures kept { IsLedger self.new }
         ensures same { self.new.program ≡ self.old.program }
@@ -144,11 +156,15 @@ impl Ledger {
         requires program { verified.now.config ≡ self.old.program.value.config }
         requires own { scanned.config ≡ verified.now.config }
         requires kept { IsLedger self.old }
-        ensures open { IsOpenHere (page_of self.old) task scanned.entry → fault_of result ≡ full_fault (page_of self.old) }
-        ensures other { ¬ (IsOpenHere (page_of self.old) task scanned.entry) → fault_of result ≡ Some NotOpen }
+        ensures open { IsOpenHere (page_of self.old) task scanned.entry
+            → fault_of result ≡ full_fault (page_of self.old) }
+        ensures other { ¬ (IsOpenHere (page_of self.old) task scanned.entry)
+            → fault_of result ≡ Some NotOpen }
         ensures mine { OnOk result (IsOpenHere (page_of self.old) task scanned.entry) }
-        ensures done { IfOk result (λ s. Adds (page_of self.old) (entry.Commit task) (Committed report.new) (page_of self.new) × (s ≡ record { config = scanned.entry.config; task = scanned.entry.task; state = scanned.entry.last })) }
-        ensures refused { IfErr result (λ r. (self.new ≡ self.old) × (report.new ≡ report.old) × (r.1 ≡ scanned.entry)) }
+        ensures done { IfOk result (λ s. Adds (page_of self.old) (entry.Commit task)
+            (Committed report.new) (page_of self.new) × (s ≡ at_its_end scanned.entry)) }
+        ensures refused { IfErr result
+            (λ r. (self.new ≡ self.old) × (report.new ≡ report.old) × (r.1 ≡ scanned.entry)) }
         ensures kept { IsLedger self.new }
         ensures same { self.new.program ≡ self.old.program }
     {
@@ -177,10 +193,17 @@ impl Ledger {
         requires calls { AllCalls (sizes_of verified.now.config) hand.old }
         requires kept { IsLedger self.old }
         ensures fault { fault_in result ≡ refresh_fault (page_of self.old) fields }
-        ensures done { OnOk result (Adds (page_of self.old) (entry.Refresh fields (map (λ (d : EnteredOf). d.call) report.new.entered)) (Refreshed report.new) (page_of self.new)) }
-        ensures exact { OnOk result (map (λ (d : EnteredOf). d.call) report.new.entered ≡ calls_entering (page_of self.old).world.group.calls hand.old) }
-        ensures hand { OnOk result (hand.old ≡ map (λ (d : EnteredOf). d.call) report.new.entered ++ hand.new) }
-        ensures refused { OnErr result ((self.new ≡ self.old) × (hand.new ≡ hand.old) × (report.new ≡ report.old)) }
+        ensures done { OnOk result
+            (Adds (page_of self.old)
+            (entry.Refresh fields (map (λ (d : EnteredOf). d.call) report.new.entered))
+            (Refreshed report.new) (page_of self.new)) }
+        ensures exact { OnOk result
+            (map (λ (d : EnteredOf). d.call) report.new.entered
+            ≡ calls_entering (page_of self.old).world.group.calls hand.old) }
+        ensures hand { OnOk result
+            (hand.old ≡ map (λ (d : EnteredOf). d.call) report.new.entered ++ hand.new) }
+        ensures refused { OnErr result
+            ((self.new ≡ self.old) × (hand.new ≡ hand.old) × (report.new ≡ report.old)) }
         ensures kept { IsLedger self.new }
         ensures same { self.new.program ≡ self.old.program }
     {

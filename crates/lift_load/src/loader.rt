@@ -12,7 +12,7 @@ ghost use Rattle.il_verify.specs.Costs.{IsTooLong, cost_of, path_of};
 ghost use Rattle.il_layout.specs.Program.{program_names};
 ghost use Rattle.il_layout.specs.Whole.{unit_code};
 ghost use Rattle.il_exec.specs.Quick.{AreAllQuick};
-ghost use Rattle.il_machine.specs.Sharing.{AreSeats};
+ghost use Rattle.il_machine.specs.Sharing.{ArePlans};
 ghost use Rattle.lift_run_laws.specs.Runs.{RunsWell};
 ghost use Rattle.lift_load.specs.Loading.{IsSpelled, SpellsOnly, SpellsNone, IsUnbroken, IsAccepted, IsRefusedFor, IsSpelledWith, IsExplained, ReportsFaultOfText};
 
@@ -106,7 +106,7 @@ fn affordable(alloc: Global, checked: Checked) -> Result<Verified, Refusal>
 fn parts(alloc: Global, checked: &Checked) -> Result<(Budget, Path, Tables), Refusal>
     ensures costs { IfOk result (λ p. p.0.units ≡ map (longest checked.now) checked.now.units) }
     ensures lines { IfOk result (λ p. p.1.units ≡ map (path_of checked.now) checked.now.units) }
-    ensures seats { IfOk result (λ p. AreSeats checked.now p.2.seats) }
+    ensures plans { IfOk result (λ p. ArePlans checked.now p.2.plans) }
     ensures quick { IfOk result (λ p. AreAllQuick p.2.quick (map (unit_code (program_names checked.now) checked.now) checked.now.units)) }
     ensures affordable { IfOk result (λ _. HasNoFault (IsTooLong checked.now)) }
     ensures refused { IfErr result (IsRefusedBy (IsTooLong checked.now)) }

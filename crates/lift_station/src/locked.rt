@@ -2,7 +2,7 @@
 
 ghost use Rattle.std.specs.Prelude.{◌≡◌, ◌↔◌, ◌%◌, ◌+◌, false, [], ◌++◌, length, replicate, Some, Err, ◌≤◌, ℕ, IfOk, IfErr, IfSome, OnOk, OnErr};
 ghost use Rattle.il_machine.specs.Scanning.{HasTask};
-ghost use Rattle.il_machine.specs.Standing.{IsOf};
+ghost use Rattle.il_machine.specs.Standing.{IsOf, at_its_end};
 ghost use Rattle.lift_spec.specs.Calls.{told_car};
 ghost use Rattle.lift_spec.specs.Image.{sizes_of, fields_in_range, Obeys};
 ghost use Rattle.lift_spec.specs.Plant.{PlantState, IsPlantOf};
@@ -50,7 +50,9 @@ impl<G: Naming> Model for Locked<G> {
 
     ghost view = { λ l. l.book };
 
-    ghost invariant = { λ l. (l.book.config ≡ G.program.config) × Counted l.counts l.book.journal × IsAtPlant G.program.config G.fire l.counts l.book l.plant × (l.entered ≡ calls_entered l.book.journal) };
+    ghost invariant = { λ l. (l.book.config ≡ G.program.config) × Counted l.counts l.book.journal
+        × IsAtPlant G.program.config G.fire l.counts l.book l.plant
+        × (l.entered ≡ calls_entered l.book.journal) };
 }
 
 impl<G: Naming> Locked<G> {
@@ -99,9 +101,13 @@ impl<G: Naming> Locked<G> {
         ensures fault { fault_of result ≡ start_fault self.old (task_of share.old) }
         ensures odd { count_of share.old % 2 ≡ 1 → fault_of result ≡ Some AlreadyOpen }
         ensures even { count_of share.old % 2 ≡ 0 → IsNoneOrFull (fault_of result) }
-        ensures done { OnOk result (Adds self.old (entry.Start (task_of share.old)) Started self.new × CountsOne share.old share.new) }
-        ensures begins { IfOk result (λ o. IsOf G.program.config (task_of share.old) o × IsSnapped G.program.config (task_of share.old) (count_of share.old) o.state) }
-        ensures refused { IfErr result (λ r. (self.new ≡ self.old) × (share.new ≡ share.old) × (r.1 ≡ store)) }
+        ensures done { OnOk result
+            (Adds self.old (entry.Start (task_of share.old)) Started self.new
+            × CountsOne share.old share.new) }
+        ensures begins { IfOk result (λ o. IsOf G.program.config (task_of share.old) o
+            × IsSnapped G.program.config (task_of share.old) (count_of share.old) o.state) }
+        ensures refused { IfErr result
+            (λ r. (self.new ≡ self.old) × (share.new ≡ share.old) × (r.1 ≡ store)) }
     {
         self.audit(share);
         let _config = verified.config();
@@ -125,13 +131,21 @@ impl<G: Naming> Locked<G> {
         requires program { verified.now ≡ G.program }
         requires own { scanned.config ≡ G.program.config }
         requires there { HasTask G.program.config (task_of share.old) }
-        ensures open { IsOpenHere self.old (task_of share.old) scanned.entry → fault_of result ≡ full_fault self.old }
-        ensures other { ¬ (IsOpenHere self.old (task_of share.old) scanned.entry) → fault_of result ≡ Some NotOpen }
+        ensures open { IsOpenHere self.old (task_of share.old) scanned.entry
+            → fault_of result ≡ full_fault self.old }
+        ensures other { ¬ (IsOpenHere self.old (task_of share.old) scanned.entry)
+            → fault_of result ≡ Some NotOpen }
         ensures even { count_of share.old % 2 ≡ 0 → fault_of result ≡ Some NotOpen }
-        ensures done { OnOk result (Adds self.old (entry.Commit (task_of share.old)) (Committed report.new) self.new × CountsOne share.old share.new) }
-        ensures report { OnOk result (IsCommitted G.program.config (task_of share.old) (count_of share.old) scanned.entry report.new) }
-        ensures store { IfOk result (λ s. (s ≡ record { config = scanned.entry.config; task = scanned.entry.task; state = scanned.entry.last }) × IsOf G.program.config (task_of share.old) s) }
-        ensures refused { IfErr result (λ r. (self.new ≡ self.old) × (share.new ≡ share.old) × (report.new ≡ report.old) × (r.1 ≡ scanned.entry)) }
+        ensures done { OnOk result
+            (Adds self.old (entry.Commit (task_of share.old)) (Committed report.new) self.new
+            × CountsOne share.old share.new) }
+        ensures report { OnOk result
+            (IsCommitted G.program.config (task_of share.old) (count_of share.old) scanned.entry
+            report.new) }
+        ensures store { IfOk result
+            (λ s. (s ≡ at_its_end scanned.entry) × IsOf G.program.config (task_of share.old) s) }
+        ensures refused { IfErr result (λ r. (self.new ≡ self.old) × (share.new ≡ share.old)
+            × (report.new ≡ report.old) × (r.1 ≡ scanned.entry)) }
     {
         self.audit(share);
         let _config = verified.config();
@@ -157,7 +171,9 @@ impl<G: Naming> Locked<G> {
         ensures obeys { Obeys self.old.world.group.image }
         ensures refreshes { pass.old.refreshes ≡ entries_by refresher self.old.journal }
         ensures entered { pass.old.entered ≡ calls_entered self.old.journal }
-        ensures driven { pass.old.driven ≡ pass.old.refreshes → (plant : PlantState) × IsDrivenJournal G.program.config G.fire self.old.journal plant self.old.world }
+        ensures driven { pass.old.driven ≡ pass.old.refreshes
+            → (plant : PlantState)
+            × IsDrivenJournal G.program.config G.fire self.old.journal plant self.old.world }
     {
         self.counts.audit_refreshes(pass);
         self.entered.audit(&mut pass.entered);
@@ -176,13 +192,27 @@ impl<G: Naming> Locked<G> {
         requires program { verified.now ≡ G.program }
         requires calls { AllCalls (sizes_of G.program.config) hand.old }
         ensures fault { fault_in result ≡ refresh_fault self.old fields }
-        ensures out_of_range { (fields_in_range (sizes_of G.program.config) fields ≡ false) ↔ (result ≡ Err FieldOutOfRange) }
-        ensures done { OnOk result (Adds self.old (entry.Refresh fields (calls_in report.new)) (Refreshed report.new) self.new) }
-        ensures pass { OnOk result (pass.new ≡ record { refreshes = pass.old.refreshes + 1; entered = pass.old.entered ++ calls_in report.new; driven = pass.old.driven }) }
-        ensures report { OnOk result (IsRefreshed G.program.config pass.old.refreshes pass.old.entered fields hand.old report.new) }
-        ensures exact { OnOk result (calls_in report.new ≡ calls_entering self.old.world.group.calls hand.old) }
+        ensures out_of_range { (fields_in_range (sizes_of G.program.config) fields ≡ false)
+            ↔ (result ≡ Err FieldOutOfRange) }
+        ensures done { OnOk result
+            (Adds self.old (entry.Refresh fields (calls_in report.new)) (Refreshed report.new)
+            self.new) }
+        ensures pass { OnOk result
+            (pass.new
+            ≡ record {
+              refreshes = pass.old.refreshes + 1;
+              entered = pass.old.entered ++ calls_in report.new;
+              driven = pass.old.driven;
+            }) }
+        ensures report { OnOk result
+            (IsRefreshed G.program.config pass.old.refreshes pass.old.entered fields hand.old
+            report.new) }
+        ensures exact { OnOk result
+            (calls_in report.new ≡ calls_entering self.old.world.group.calls hand.old) }
         ensures hand { OnOk result (hand.old ≡ calls_in report.new ++ hand.new) }
-        ensures refused { OnErr result ((self.new ≡ self.old) × (pass.new ≡ pass.old) × (hand.new ≡ hand.old) × (report.new ≡ report.old)) }
+        ensures refused { OnErr result
+            ((self.new ≡ self.old) × (pass.new ≡ pass.old) × (hand.new ≡ hand.old)
+            × (report.new ≡ report.old)) }
     {
         self.audit_refreshes(pass);
         self.book.refresh(verified, fields, hand, report)?;
@@ -205,11 +235,22 @@ impl<G: Naming> Locked<G> {
         requires fire { fire ≡ G.fire (pass.old.refreshes + 1) }
         requires calls { AllCalls (sizes_of G.program.config) hand.old }
         ensures full { IsNoneOrFull (fault_in result) }
-        ensures pass { OnOk result (pass.new ≡ record { refreshes = pass.old.refreshes + 1; entered = pass.old.entered ++ calls_in report.new; driven = pass.old.driven + 1 }) }
-        ensures report { OnOk result (IsDrivenOn G.program.config pass.old.refreshes pass.old.entered fire hand.old report.new) }
-        ensures exact { OnOk result (calls_in report.new ≡ calls_entering self.old.world.group.calls hand.old) }
+        ensures pass { OnOk result
+            (pass.new
+            ≡ record {
+              refreshes = pass.old.refreshes + 1;
+              entered = pass.old.entered ++ calls_in report.new;
+              driven = pass.old.driven + 1;
+            }) }
+        ensures report { OnOk result
+            (IsDrivenOn G.program.config pass.old.refreshes pass.old.entered fire hand.old
+            report.new) }
+        ensures exact { OnOk result
+            (calls_in report.new ≡ calls_entering self.old.world.group.calls hand.old) }
         ensures hand { OnOk result (hand.old ≡ calls_in report.new ++ hand.new) }
-        ensures refused { OnErr result ((self.new ≡ self.old) × (pass.new ≡ pass.old) × (hand.new ≡ hand.old) × (report.new ≡ report.old)) }
+        ensures refused { OnErr result
+            ((self.new ≡ self.old) × (pass.new ≡ pass.old) × (hand.new ≡ hand.old)
+            × (report.new ≡ report.old)) }
     {
         self.audit_refreshes(pass);
         let _config = verified.config();

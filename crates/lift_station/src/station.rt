@@ -99,7 +99,8 @@ fn passes_of<G: Naming>(
 ) -> Result<Vec<TaskPass<G>>, AllocError>
     requires program { verified.now ≡ G.program }
     requires new { All (λ s. count_of s ≡ 0) shares.items }
-    ensures tasks { IfOk result (λ ps. map (λ p. p.task) ps.items ≡ filter (is_task G.program.config) (map task_of shares.items)) }
+    ensures tasks { IfOk result (λ ps. map (λ p. p.task) ps.items
+        ≡ filter (is_task G.program.config) (map task_of shares.items)) }
     ensures counts { IfOk result (λ ps. All (λ p. p.count ≡ 0) ps.items) }
 {
     let mut passes = Vec::new(alloc);
@@ -118,8 +119,12 @@ fn add_pass<G: Naming>(
 ) -> Result<(), AllocError>
     requires program { verified.now ≡ G.program }
     requires new { count_of share ≡ 0 }
-    ensures tasks { OnOk result (map (λ p. p.task) passes.new.items ≡ map (λ p. p.task) passes.old.items ++ filter (is_task G.program.config) (task_of share ∷ [])) }
-    ensures counts { All (λ p. p.count ≡ 0) passes.old.items → OnOk result (All (λ p. p.count ≡ 0) passes.new.items) }
+    ensures tasks { OnOk result
+        (map (λ p. p.task) passes.new.items
+        ≡ map (λ p. p.task) passes.old.items
+        ++ filter (is_task G.program.config) (task_of share ∷ [])) }
+    ensures counts { All (λ p. p.count ≡ 0) passes.old.items
+        → OnOk result (All (λ p. p.count ≡ 0) passes.new.items) }
 {
     if !is_task(verified, share.task()) {
         return Ok(());
@@ -148,9 +153,11 @@ fn opened<G: Naming>(
     requires program { verified.now ≡ G.program }
     requires names { (i : ℕ) → slice_index_or blanks.ledgers i 0 ≡ G.names i }
     requires tally { blanks.tally ≡ G.tally }
-    ensures tasks { IfOk result (λ r. map (λ p. p.task) r.1.items ≡ filter (is_task G.program.config) all_tasks) }
+    ensures tasks { IfOk result
+        (λ r. map (λ p. p.task) r.1.items ≡ filter (is_task G.program.config) all_tasks) }
     ensures counts { IfOk result (λ r. All (λ p. p.count ≡ 0) r.1.items) }
-    ensures refreshes { IfOk result (λ r. r.2 ≡ record { refreshes = 0; entered = []; driven = 0 }) }
+    ensures refreshes { IfOk result
+        (λ r. r.2 ≡ record { refreshes = 0; entered = []; driven = 0 }) }
 {
     let Books {
         counts,
@@ -190,9 +197,11 @@ impl<G: Naming> Station<G> {
         requires program { verified ≡ G.program }
         requires names { (i : ℕ) → slice_index_or blanks.ledgers i 0 ≡ G.names i }
         requires tally { blanks.tally ≡ G.tally }
-        ensures tasks { IfOk result (λ r. map (λ p. p.task) r.1.items ≡ filter (is_task G.program.config) all_tasks) }
+        ensures tasks { IfOk result
+            (λ r. map (λ p. p.task) r.1.items ≡ filter (is_task G.program.config) all_tasks) }
         ensures counts { IfOk result (λ r. All (λ p. p.count ≡ 0) r.1.items) }
-        ensures refreshes { IfOk result (λ r. r.2 ≡ record { refreshes = 0; entered = []; driven = 0 }) }
+        ensures refreshes { IfOk result
+            (λ r. r.2 ≡ record { refreshes = 0; entered = []; driven = 0 }) }
         ensures memory { IfErr result (λ e. e ≡ Memory) }
     {
         let opened = opened::<G>(alloc, blanks, &verified, capacity);
@@ -230,7 +239,8 @@ impl<G: Naming> Station<G> {
         ensures odd { pass.count % 2 ≡ 1 → result.1 ≡ Err AlreadyOpen }
         ensures even { pass.count % 2 ≡ 0 → IsNoneOrFull (fault_in result.1) }
         ensures done { OnOk result.1 (result.0 ≡ counts_one pass) }
-        ensures begins { IfOk result.1 (λ o. IsOf G.program.config pass.task o × IsSnapped G.program.config pass.task pass.count o.state) }
+        ensures begins { IfOk result.1 (λ o. IsOf G.program.config pass.task o
+            × IsSnapped G.program.config pass.task pass.count o.state) }
         ensures refused { OnErr result.1 (result.0 ≡ pass) }
     {
         pass.task();
@@ -267,8 +277,10 @@ impl<G: Naming> Station<G> {
     ) -> (TaskPass<G>, Result<(), (StationFault, Scanned<'v>)>)
         ensures even { pass.count % 2 ≡ 0 → fault_of result.1 ≡ Some NotOpen }
         ensures done { OnOk result.1 (result.0 ≡ counts_one pass) }
-        ensures report { OnOk result.1 (IsCommitted G.program.config pass.task pass.count scanned.entry report.new) }
-        ensures refused { IfErr result.1 (λ r. (result.0 ≡ pass) × (report.new ≡ report.old) × (r.1 ≡ scanned.entry)) }
+        ensures report { OnOk result.1
+            (IsCommitted G.program.config pass.task pass.count scanned.entry report.new) }
+        ensures refused { IfErr result.1
+            (λ r. (result.0 ≡ pass) × (report.new ≡ report.old) × (r.1 ≡ scanned.entry)) }
     {
         pass.task();
         if !scanned.is_of(self.program.program()) {
@@ -301,13 +313,26 @@ impl<G: Naming> Station<G> {
         report: &mut Report,
     ) -> (RefreshPass<G>, HandPass, Result<(), StationFault>)
         requires { collector.floors ≡ (sizes_of G.program.config).floors }
-        ensures out_of_range { (fields_in_range (sizes_of G.program.config) fields ≡ false) ↔ (result.2 ≡ Err FieldOutOfRange) }
-        ensures pass { OnOk result.2 (result.0 ≡ record { refreshes = pass.refreshes + 1; entered = pass.entered ++ calls_in report.new; driven = pass.driven }) }
-        ensures report { OnOk result.2 (IsRefreshed G.program.config pass.refreshes pass.entered fields collector.hand report.new) }
+        ensures out_of_range { (fields_in_range (sizes_of G.program.config) fields ≡ false)
+            ↔ (result.2 ≡ Err FieldOutOfRange) }
+        ensures pass { OnOk result.2
+            (result.0
+            ≡ record {
+              refreshes = pass.refreshes + 1;
+              entered = pass.entered ++ calls_in report.new;
+              driven = pass.driven;
+            }) }
+        ensures report { OnOk result.2
+            (IsRefreshed G.program.config pass.refreshes pass.entered fields collector.hand
+            report.new) }
         ensures hand { OnOk result.2 (collector.hand ≡ calls_in report.new ++ result.1.hand) }
-        ensures left { OnOk result.2 ((c : Call) → times c (calls_in report.new) + membership result.1.hand c ≡ membership collector.hand c) }
+        ensures left { OnOk result.2
+            ((c : Call)
+            → times c (calls_in report.new) + membership result.1.hand c
+            ≡ membership collector.hand c) }
         ensures rest { result.1 ≡ record collector { hand = result.1.hand } }
-        ensures refused { OnErr result.2 ((result.0 ≡ pass) × (result.1 ≡ collector) × (report.new ≡ report.old)) }
+        ensures refused { OnErr result.2
+            ((result.0 ≡ pass) × (result.1 ≡ collector) × (report.new ≡ report.old)) }
     {
         let mut pass = pass;
         let mut collector = collector;
@@ -336,12 +361,24 @@ impl<G: Naming> Station<G> {
         requires floors { collector.floors ≡ (sizes_of G.program.config).floors }
         requires fire { fire ≡ G.fire (pass.refreshes + 1) }
         ensures full { IsNoneOrFull (fault_in result.2) }
-        ensures pass { OnOk result.2 (result.0 ≡ record { refreshes = pass.refreshes + 1; entered = pass.entered ++ calls_in report.new; driven = pass.driven + 1 }) }
-        ensures report { OnOk result.2 (IsDrivenOn G.program.config pass.refreshes pass.entered fire collector.hand report.new) }
+        ensures pass { OnOk result.2
+            (result.0
+            ≡ record {
+              refreshes = pass.refreshes + 1;
+              entered = pass.entered ++ calls_in report.new;
+              driven = pass.driven + 1;
+            }) }
+        ensures report { OnOk result.2
+            (IsDrivenOn G.program.config pass.refreshes pass.entered fire collector.hand
+            report.new) }
         ensures hand { OnOk result.2 (collector.hand ≡ calls_in report.new ++ result.1.hand) }
-        ensures left { OnOk result.2 ((c : Call) → times c (calls_in report.new) + membership result.1.hand c ≡ membership collector.hand c) }
+        ensures left { OnOk result.2
+            ((c : Call)
+            → times c (calls_in report.new) + membership result.1.hand c
+            ≡ membership collector.hand c) }
         ensures rest { result.1 ≡ record collector { hand = result.1.hand } }
-        ensures refused { OnErr result.2 ((result.0 ≡ pass) × (result.1 ≡ collector) × (report.new ≡ report.old)) }
+        ensures refused { OnErr result.2
+            ((result.0 ≡ pass) × (result.1 ≡ collector) × (report.new ≡ report.old)) }
     {
         let mut pass = pass;
         let mut collector = collector;
@@ -392,7 +429,10 @@ impl<G: Naming> Station<G> {
         ensures tasks { All (λ p. p.count ≡ entries_by p.task result.book.journal) tasks.items }
         ensures refreshes { pass.refreshes ≡ entries_by refresher result.book.journal }
         ensures entered { pass.entered ≡ calls_entered result.book.journal }
-        ensures driven { pass.driven ≡ pass.refreshes → (plant : PlantState) × IsDrivenJournal G.program.config G.fire result.book.journal plant result.book.world }
+        ensures driven { pass.driven ≡ pass.refreshes
+            → (plant : PlantState)
+            × IsDrivenJournal G.program.config G.fire result.book.journal plant
+            result.book.world }
     {
         let Station { program, book } = self;
         let mut locked = book.into_inner();

@@ -90,7 +90,8 @@ impl Model for BlankTally {
 
     ghost view = { λ t. t.table.shared.table_id };
 
-    ghost invariant = { λ t. (t.table.shared.table_id.words ≡ 1) × (t.both.table_id ≡ t.table.shared.table_id) × (t.both.views ≡ opening_view 0 ∷ []) };
+    ghost invariant = { λ t. (t.table.shared.table_id.words ≡ 1)
+        × (t.both.table_id ≡ t.table.shared.table_id) × (t.both.views ≡ opening_view 0 ∷ []) };
 }
 
 /// The half that lies under the lock. Contracts see it as the calls that were entered.
@@ -123,7 +124,8 @@ impl<G: Naming> Model for Tally<G> {
 
     ghost view = { λ t. known t.half.views };
 
-    ghost invariant = { λ t. (t.table.shared.table_id.words ≡ 1) × (t.table.shared.table_id ≡ G.tally) × (t.half.table_id ≡ G.tally) × IsHalf t.half.views };
+    ghost invariant = { λ t. (t.table.shared.table_id.words ≡ 1)
+        × (t.table.shared.table_id ≡ G.tally) × (t.half.table_id ≡ G.tally) × IsHalf t.half.views };
 }
 
 /// The half that the refresher's pass has. Contracts see it as the calls that were entered.
@@ -208,7 +210,8 @@ impl<G: Naming> Tally<G> {
     fn meet_for<E: Entering>(&mut self, mark: &mut Mark<G>, report: &Report)
         requires { calls_in report.now ≡ E.calls }
         ensures same { self.old ≡ mark.old }
-        ensures more { (self.new ≡ self.old ++ calls_in report.now) × (mark.new ≡ mark.old ++ calls_in report.now) }
+        ensures more { (self.new ≡ self.old ++ calls_in report.now)
+            × (mark.new ≡ mark.old ++ calls_in report.now) }
     {
         let _entered = report;
         self.meet::<E>(mark)
@@ -217,7 +220,8 @@ impl<G: Naming> Tally<G> {
     /// Adds the calls that a report names as entered.
     pub fn add(&mut self, mark: &mut Mark<G>, report: &Report)
         ensures same { self.old ≡ mark.old }
-        ensures more { (self.new ≡ self.old ++ calls_in report.now) × (mark.new ≡ mark.old ++ calls_in report.now) }
+        ensures more { (self.new ≡ self.old ++ calls_in report.now)
+            × (mark.new ≡ mark.old ++ calls_in report.now) }
     {
         self.meet_for::<Brand>(mark, report)
     }

@@ -17,51 +17,51 @@ use Rattle.lift_spec.specs.Calls.{Calls, Entered, enter_all}
 use Rattle.lift_spec.specs.Settle.{Settled, AllSettled, settled_car, settled_all, with_outputs, denials_of}
 use Rattle.lift_spec.specs.Snapshot.{program_of, wishes_of, assigned, assigned_from, written_globals}
 use Rattle.lift_spec.specs.World.{Group, committed_group, car_commits, refreshed_group, refreshed_as, tell_all, serve_wish}
-use Rattle.lift_world.specs.declared.shared.Seat.{Seat}
+use Rattle.lift_world.specs.declared.shared.TaskMemory.{TaskMemory}
 use Rattle.lift_world.specs.Running.{task_in, tasks_in, group_by}
 use Rattle.lift_world.proofs.Views.{task_put}
 
 -- a refresh, by what it settles and what enters
-pub refresh_group : (c : Config) (i : Image) (k : Calls) (g : Values) (seats : List (Option Seat)) (fields : Fields) (hand : List Call) (settled : AllSettled) (entered : Entered)
+pub refresh_group : (c : Config) (i : Image) (k : Calls) (g : Values) (memories : List (Option TaskMemory)) (fields : Fields) (hand : List Call) (settled : AllSettled) (entered : Entered)
     → settled ≡ settled_all i.outputs fields → enter_all k [] hand ≡ entered
-    → refreshed_group (group_by c i k g seats) fields hand ≡ (group_by c (record { fields = fields; outputs = settled.outputs }) entered.calls g seats, record { outputs = settled.outputs; denials = settled.denials; answers = []; entered = entered.done })
+    → refreshed_group (group_by c i k g memories) fields hand ≡ (group_by c (record { fields = fields; outputs = settled.outputs }) entered.calls g memories, record { outputs = settled.outputs; denials = settled.denials; answers = []; entered = entered.done })
 unfolding refreshed_group
-refresh_group c i k g seats fields hand settled entered settles enters = ap₂ (refreshed_as (group_by c i k g seats) fields) (sym settles) enters
+refresh_group c i k g memories fields hand settled entered settles enters = ap₂ (refreshed_as (group_by c i k g memories) fields) (sym settles) enters
 
-module _ (c : Config) (i : Image) (k : Calls) (g : Values) (seats : List (Option Seat)) (s : Seat) (tickets : List (Option ℕ)) (values : Values) (v : Rows) (calls : Calls) (after : Values) (answers : List Answered) where
+module _ (c : Config) (i : Image) (k : Calls) (g : Values) (memories : List (Option TaskMemory)) (s : TaskMemory) (tickets : List (Option ℕ)) (values : Values) (v : Rows) (calls : Calls) (after : Values) (answers : List Answered) where
   -- the tasks once one is between scans
-  abbrev closed : ℕ → List (Option Seat)
-  closed t = slice_set seats t (Some (record { variables = v; tickets = None }))
+  abbrev closed : ℕ → List (Option TaskMemory)
+  closed t = slice_set memories t (Some (record { variables = v; tickets = None }))
 
   -- GROUP's commit, by what it tells
   pub commit_group : (cars : List ℕ) → cars ≡ assigned (length tickets) values → tell_all k [] 1 tickets cars ≡ (calls, answers)
       → variables_in c 0 v ≡ restricted (variables_in c 0 s.variables) values → after ≡ written_globals (program_of c 0) g values
-      → committed_group c (group_by c i k g seats) 0 (task_in c 0 s) tickets values ≡ (group_by c i calls after (closed 0), record { outputs = i.outputs; denials = []; answers = answers; entered = [] })
+      → committed_group c (group_by c i k g memories) 0 (task_in c 0 s) tickets values ≡ (group_by c i calls after (closed 0), record { outputs = i.outputs; denials = []; answers = answers; entered = [] })
   unfolding committed_group
   commit_group cars asked tells keeps writes =
       ap (λ l. left (tell_all k [] 1 tickets l) (written_globals (program_of c 0) g values) (restricted (variables_in c 0 s.variables) values)) (sym asked)
       ∙ ap (λ x. left x (written_globals (program_of c 0) g values) (restricted (variables_in c 0 s.variables) values)) tells
       ∙ ap (λ x. left (calls, answers) x (restricted (variables_in c 0 s.variables) values)) (sym writes) ∙ ap (left (calls, answers) after) (sym keeps)
-      ∙ ap (λ ts. (record { image = i; calls = calls; globals = after; tasks = ts }, record { outputs = i.outputs; denials = []; answers = answers; entered = [] })) (sym (task_put c seats 0 (record { variables = v; tickets = None })))
+      ∙ ap (λ ts. (record { image = i; calls = calls; globals = after; tasks = ts }, record { outputs = i.outputs; denials = []; answers = answers; entered = [] })) (sym (task_put c memories 0 (record { variables = v; tickets = None })))
     where
       left : Calls × List Answered → Values → Values → Group × Report
       left told globals variables = (
-        record { image = i; calls = told.0; globals = globals; tasks = slice_set (tasks_in c 0 seats) 0 (Some (record { variables = variables; tickets = None })) },
+        record { image = i; calls = told.0; globals = globals; tasks = slice_set (tasks_in c 0 memories) 0 (Some (record { variables = variables; tickets = None })) },
         record { outputs = i.outputs; denials = []; answers = told.1; entered = [] },
       )
 
   -- a car's commit, by what it settles and what it serves
   pub commit_car : (t : ℕ) (wishes : Wishes) → 1 ≤ t → wishes ≡ wishes_of values → serve_wish k t tickets wishes.serve ≡ (calls, answers)
       → variables_in c t v ≡ restricted (variables_in c t s.variables) values → after ≡ written_globals (program_of c t) g values
-      → committed_group c (group_by c i k g seats) t (task_in c t s) tickets values
+      → committed_group c (group_by c i k g memories) t (task_in c t s) tickets values
       ≡ (group_by c (record { fields = i.fields; outputs = with_outputs i.outputs t (settled_car i t wishes.motor wishes.opens).outputs }) calls after (closed t), record { outputs = with_outputs i.outputs t (settled_car i t wishes.motor wishes.opens).outputs; denials = denials_of t (settled_car i t wishes.motor wishes.opens).denials; answers = answers; entered = [] })
   unfolding committed_group
   commit_car zero wishes least asked serves keeps writes = absurd (omega (arith, least))
   commit_car (suc n) wishes least asked serves keeps writes =
-      ap (car_commits c (group_by c i k g seats) (suc n) (task_in c (suc n) s) tickets values) (sym asked)
+      ap (car_commits c (group_by c i k g memories) (suc n) (task_in c (suc n) s) tickets values) (sym asked)
       ∙ ap (λ x. left x (written_globals (program_of c (suc n)) g values) (restricted (variables_in c (suc n) s.variables) values)) serves
       ∙ ap (λ x. left (calls, answers) x (restricted (variables_in c (suc n) s.variables) values)) (sym writes) ∙ ap (left (calls, answers) after) (sym keeps)
-      ∙ ap (λ ts. (record { image = record { fields = i.fields; outputs = outputs }; calls = calls; globals = after; tasks = ts }, record { outputs = outputs; denials = denials_of (suc n) settled.denials; answers = answers; entered = [] })) (sym (task_put c seats (suc n) (record { variables = v; tickets = None })))
+      ∙ ap (λ ts. (record { image = record { fields = i.fields; outputs = outputs }; calls = calls; globals = after; tasks = ts }, record { outputs = outputs; denials = denials_of (suc n) settled.denials; answers = answers; entered = [] })) (sym (task_put c memories (suc n) (record { variables = v; tickets = None })))
     where
       settled : Settled
       settled = settled_car i (suc n) wishes.motor wishes.opens
@@ -71,7 +71,7 @@ module _ (c : Config) (i : Image) (k : Calls) (g : Values) (seats : List (Option
 
       left : Calls × List Answered → Values → Values → Group × Report
       left served globals variables = (
-        record { image = record { fields = i.fields; outputs = outputs }; calls = served.0; globals = globals; tasks = slice_set (tasks_in c 0 seats) (suc n) (Some (record { variables = variables; tickets = None })) },
+        record { image = record { fields = i.fields; outputs = outputs }; calls = served.0; globals = globals; tasks = slice_set (tasks_in c 0 memories) (suc n) (Some (record { variables = variables; tickets = None })) },
         record { outputs = outputs; denials = denials_of (suc n) settled.denials; answers = served.1; entered = [] },
       )
 

@@ -26,50 +26,50 @@ use Rattle.lift_run_laws.proofs.Openings as openings
 use Rattle.lift_run_laws.proofs.Slots.{EntersWell, enter_all_holds}
 use Rattle.lift_run_laws.proofs.Tasks.{is_sized}
 use Rattle.lift_world.specs.declared.shared.Shared.{Shared}
-use Rattle.lift_world.specs.declared.shared.Seat.{Seat}
-use Rattle.lift_world.specs.Running.{seat_at, open_by, task_in, seated, tasks_in, group_in, with_seat, SharedFits, HasOpenScan, Commits, HoldsShared}
+use Rattle.lift_world.specs.declared.shared.TaskMemory.{TaskMemory}
+use Rattle.lift_world.specs.Running.{memory_at, open_by, task_in, task_by, tasks_in, group_in, with_memory, SharedFits, HasOpenScan, Commits, HoldsShared}
 use Rattle.lift_world.specs.Groups.{GroupOf, holds_tickets, is_open_in}
 use Rattle.lift_world.proofs.Views.{length_set, after_set, task_here, task_put}
-use Rattle.lift_world.proofs.Keeping.{seats_put}
+use Rattle.lift_world.proofs.Keeping.{memories_put}
 use Rattle.lift_world.proofs.Opens.{all_idle, tasks_many}
 
 -- THE TASKS
 
--- the task of a seat
-pub task_is : (c : Config) (k : Shared) (t : ℕ) → task_at (group_in c k) t ≡ seated c t (seat_at k t)
-task_is c k t = task_here c k.seats.items t
+-- the task of a memory
+pub task_is : (c : Config) (k : Shared) (t : ℕ) → task_at (group_in c k) t ≡ task_by c t (memory_at k t)
+task_is c k t = task_here c k.memories.items t
 
-seat_of : (c : Config) (t : ℕ) (o : Option Seat) (x : TaskState) → seated c t o ≡ Some x → (s : Seat) × (o ≡ Some s) × (task_in c t s ≡ x)
-seat_of c t None x e = let bad : ◌≡◌ {A = Option TaskState} None (Some x) = e in cc
-seat_of c t (Some s) x e = (s, refl, same e)
+memory_of : (c : Config) (t : ℕ) (o : Option TaskMemory) (x : TaskState) → task_by c t o ≡ Some x → (s : TaskMemory) × (o ≡ Some s) × (task_in c t s ≡ x)
+memory_of c t None x e = let bad : ◌≡◌ {A = Option TaskState} None (Some x) = e in cc
+memory_of c t (Some s) x e = (s, refl, same e)
   where
     same : {X : Type 0} {a b : X} → Some a ≡ Some b → a ≡ b
     same e = cc
 
--- and the seat of a task
-pub seat_there : (c : Config) (k : Shared) (t : ℕ) (x : TaskState) → task_at (group_in c k) t ≡ Some x → (s : Seat) × (seat_at k t ≡ Some s) × (task_in c t s ≡ x)
-seat_there c k t x e = seat_of c t (seat_at k t) x (sym (task_is c k t) ∙ e)
+-- and the memory of a task
+pub memory_there : (c : Config) (k : Shared) (t : ℕ) (x : TaskState) → task_at (group_in c k) t ≡ Some x → (s : TaskMemory) × (memory_at k t ≡ Some s) × (task_in c t s ≡ x)
+memory_there c k t x e = memory_of c t (memory_at k t) x (sym (task_is c k t) ∙ e)
 
-seated_some : (c : Config) (t : ℕ) (o : Option Seat) → is_some (seated c t o) ≡ is_some o
-seated_some c t None = refl
-seated_some c t (Some s) = refl
+task_by_some : (c : Config) (t : ℕ) (o : Option TaskMemory) → is_some (task_by c t o) ≡ is_some o
+task_by_some c t None = refl
+task_by_some c t (Some s) = refl
 
-seated_open : (c : Config) (t : ℕ) (o : Option Seat) → open_by o ≡ holds_tickets (seated c t o)
-seated_open c t None = refl
-seated_open c t (Some s) = refl
+task_by_open : (c : Config) (t : ℕ) (o : Option TaskMemory) → open_by o ≡ holds_tickets (task_by c t o)
+task_by_open c t None = refl
+task_by_open c t (Some s) = refl
 
-pub task_some : (c : Config) (k : Shared) (t : ℕ) → is_some (task_at (group_in c k) t) ≡ is_some (seat_at k t)
-task_some c k t = ap is_some (task_is c k t) ∙ seated_some c t (seat_at k t)
+pub task_some : (c : Config) (k : Shared) (t : ℕ) → is_some (task_at (group_in c k) t) ≡ is_some (memory_at k t)
+task_some c k t = ap is_some (task_is c k t) ∙ task_by_some c t (memory_at k t)
 
-pub open_is : (c : Config) (k : Shared) (t : ℕ) → open_by (seat_at k t) ≡ is_open_in (group_in c k) t
-open_is c k t = seated_open c t (seat_at k t) ∙ ap holds_tickets (sym (task_is c k t))
+pub open_is : (c : Config) (k : Shared) (t : ℕ) → open_by (memory_at k t) ≡ is_open_in (group_in c k) t
+open_is c k t = task_by_open c t (memory_at k t) ∙ ap holds_tickets (sym (task_is c k t))
 
-copied_some : (o : Option (Bor Seat)) (x : Option Seat) → option_copied o ≡ x → is_some o ≡ is_some x
+copied_some : (o : Option (Bor TaskMemory)) (x : Option TaskMemory) → option_copied o ≡ x → is_some o ≡ is_some x
 copied_some None x e = ap is_some e
 copied_some (Some b) x e = ap is_some e
 
-pub seat_some : (c : Config) (k : Shared) (t : ℕ) (o : Option (Bor Seat)) → option_copied o ≡ seat_at k t → is_some o ≡ is_some (task_at (group_in c k) t)
-seat_some c k t o e = copied_some o (seat_at k t) e ∙ sym (task_some c k t)
+pub memory_some : (c : Config) (k : Shared) (t : ℕ) (o : Option (Bor TaskMemory)) → option_copied o ≡ memory_at k t → is_some o ≡ is_some (task_at (group_in c k) t)
+memory_some c k t o e = copied_some o (memory_at k t) e ∙ sym (task_some c k t)
 
 -- a core, by its parts
 module _ (k : Config) (shared : Shared) (g : GroupOf) (view_is : ◌≡◌ {A = GroupOf} (record { config = k; group = group_in k shared }) g) where
@@ -89,9 +89,9 @@ opening_holds c runs k group fits = record {
   ranges = subst (InRanges c) (sym group) opens.ranges;
   obeys = subst (λ (g : Group). Obeys g.image) (sym group) opens.obeys;
   tickets = subst (λ (g : Group). TicketsHold g.calls) (sym group) opens.tickets;
-  many = sym (tasks_length c 0 k.seats.items) ∙ tasks_many c (group_in c k) group;
+  many = sym (tasks_length c 0 k.memories.items) ∙ tasks_many c (group_in c k) group;
   saw = λ t s tickets there saw.
-      (let idle : (task_in c t s).tickets ≡ None = all_idle c 0 (suc (sizes_of c).cars) t (task_in c t s) (ap (λ (g : Group). task_at g t) (sym group) ∙ task_is c k t ∙ ap (seated c t) there) in
+      (let idle : (task_in c t s).tickets ≡ None = all_idle c 0 (suc (sizes_of c).cars) t (task_in c t s) (ap (λ (g : Group). task_at g t) (sym group) ∙ task_is c k t ∙ ap (task_by c t) there) in
       let bad : None ≡ Some tickets = sym idle ∙ saw in
       cc);
 }
@@ -99,21 +99,21 @@ opening_holds c runs k group fits = record {
     opens : WorldHolds c (λ _. 0) (opening c)
     opens = openings.world_opens c (opens_well c (sound_of c runs))
 
-    tasks_length : (c : Config) (n : ℕ) (seats : List (Option Seat)) → length (tasks_in c n seats) ≡ length seats
+    tasks_length : (c : Config) (n : ℕ) (memories : List (Option TaskMemory)) → length (tasks_in c n memories) ≡ length memories
     tasks_length c n [] = refl
-    tasks_length c n (s ∷ seats) = ap suc (tasks_length c (n + 1) seats)
+    tasks_length c n (s ∷ memories) = ap suc (tasks_length c (n + 1) memories)
 
 -- START
 
-module _ (c : Config) (k after : Shared) (holds : HoldsShared c k) (t : ℕ) (s : Seat) (there : seat_at k t ≡ Some s) (image : after.image ≡ k.image) (calls : after.calls ≡ k.calls) (globals : after.globals ≡ k.globals)
-    (put : after.seats.items ≡ with_seat k t s.variables (Some (map ticket_of k.calls.slots))) where
-  abbrev seat : Seat
-  seat = record { variables = s.variables; tickets = Some (map ticket_of k.calls.slots) }
+module _ (c : Config) (k after : Shared) (holds : HoldsShared c k) (t : ℕ) (s : TaskMemory) (there : memory_at k t ≡ Some s) (image : after.image ≡ k.image) (calls : after.calls ≡ k.calls) (globals : after.globals ≡ k.globals)
+    (put : after.memories.items ≡ with_memory k t s.variables (Some (map ticket_of k.calls.slots))) where
+  abbrev memory : TaskMemory
+  memory = record { variables = s.variables; tickets = Some (map ticket_of k.calls.slots) }
 
   pub group_started : (x : TaskState) → task_at (group_in c k) t ≡ Some x → group_in c after ≡ started_group (group_in c k) t x
   group_started x e =
-      let same : task_in c t s ≡ x = some_same _ _ (sym (task_is c k t ∙ ap (seated c t) there) ∙ e) in
-      rw (image, calls, globals, put) (ap (λ ts. record { image = k.image; calls = k.calls; globals = globals_in c k.globals; tasks = ts }) (task_put c k.seats.items t seat))
+      let same : task_in c t s ≡ x = some_same _ _ (sym (task_is c k t ∙ ap (task_by c t) there) ∙ e) in
+      rw (image, calls, globals, put) (ap (λ ts. record { image = k.image; calls = k.calls; globals = globals_in c k.globals; tasks = ts }) (task_put c k.memories.items t memory))
       ∙ ap (started_group (group_in c k) t) same
     where
       some_same : (a b : TaskState) → Some a ≡ Some b → a ≡ b
@@ -123,16 +123,16 @@ module _ (c : Config) (k after : Shared) (holds : HoldsShared c k) (t : ℕ) (s 
   started_holds = record {
     runnable = holds.runnable;
     fits =
-        (let own = holds.fits.seats t s there in
-        record { seats = seats_put c k after t s.variables (Some (map ticket_of k.calls.slots)) holds.fits.seats put own.0 own.1; globals = rw globals holds.fits.globals });
+        (let own = holds.fits.memories t s there in
+        record { memories = memories_put c k after t s.variables (Some (map ticket_of k.calls.slots)) holds.fits.memories put own.0 own.1; globals = rw globals holds.fits.globals });
     ranges = rw (image, calls, globals) (record { fields = holds.ranges.fields; outputs = holds.ranges.outputs; slots = holds.ranges.slots; each_slot = holds.ranges.each_slot; globals = holds.ranges.globals });
     obeys = rw image holds.obeys;
     tickets = rw calls holds.tickets;
-    many = ap length put ∙ length_set k.seats.items t (Some seat) ∙ holds.many;
+    many = ap length put ∙ length_set k.memories.items t (Some memory) ∙ holds.many;
     saw = λ j x tickets at saw.
-        elim (after_set k.seats.items t j seat x (ap (λ l. flat (slice_get l j)) (sym put) ∙ at)) [
+        elim (after_set k.memories.items t j memory x (ap (λ l. flat (slice_get l j)) (sym put) ∙ at)) [
           | inl now ↦
-              (let same : Some (map ticket_of k.calls.slots) ≡ Some tickets = ap (λ (y : Seat). y.tickets) now.1 ∙ saw in
+              (let same : Some (map ticket_of k.calls.slots) ≡ Some tickets = ap (λ (y : TaskMemory). y.tickets) now.1 ∙ saw in
               let is : map ticket_of k.calls.slots ≡ tickets = cc in
               ap length (sym is) ∙ length-map k.calls.slots ticket_of ∙ holds.ranges.slots)
           | inr was ↦ holds.saw j x tickets was saw
@@ -144,25 +144,25 @@ module _ (c : Config) (k after : Shared) (holds : HoldsShared c k) (t : ℕ) (s 
 -- the scan of a task that holds tickets
 pub open_scan : (c : Config) (k : Shared) → HoldsShared c k → (t : ℕ) (x : TaskState) (tickets : List (Option ℕ)) → task_at (group_in c k) t ≡ Some x → x.tickets ≡ Some tickets → HasOpenScan c k t
 open_scan c k holds t x tickets e saw =
-    let s = seat_there c k t x e in
+    let s = memory_there c k t x e in
     let is : (s.0).tickets ≡ Some tickets = ap (λ (y : TaskState). y.tickets) s.2 ∙ saw in
-    record { seat = s.0; there = s.1; tickets = tickets; saw = is; each = holds.saw t s.0 tickets s.1 is }
+    record { memory = s.0; there = s.1; tickets = tickets; saw = is; each = holds.saw t s.0 tickets s.1 is }
 
 module _ (c : Config) (k after : Shared) (holds : HoldsShared c k) (t : ℕ) (scan : State) (report : Report) (commits : Commits c t k scan.values after report) (known : (u : ProgramUnit) → IsTaskOf c t u → ScanHolds c t u 0 scan) (open_so : HasOpenScan c k t) where
   pub group_committed : (x : TaskState) (tickets : List (Option ℕ)) → task_at (group_in c k) t ≡ Some x → x.tickets ≡ Some tickets → committed_group c (group_in c k) t x tickets scan.values ≡ (group_in c after, report)
   group_committed x tickets e saw =
-      let s = seat_there c k t x e in
+      let s = memory_there c k t x e in
       ap (λ y. committed_group c (group_in c k) t y tickets scan.values) (sym s.2) ∙ commits.group s.0 tickets s.1 (ap (λ (y : TaskState). y.tickets) s.2 ∙ saw)
 
-  left : committed_group c (group_in c k) t (task_in c t open_so.seat) open_so.tickets scan.values ≡ (group_in c after, report)
-  left = commits.group open_so.seat open_so.tickets open_so.there open_so.saw
+  left : committed_group c (group_in c k) t (task_in c t open_so.memory) open_so.tickets scan.values ≡ (group_in c after, report)
+  left = commits.group open_so.memory open_so.tickets open_so.there open_so.saw
 
-  well : CommitsWell c (group_in c k) t (task_in c t open_so.seat) scan.values (committed_group c (group_in c k) t (task_in c t open_so.seat) open_so.tickets scan.values).0
+  well : CommitsWell c (group_in c k) t (task_in c t open_so.memory) scan.values (committed_group c (group_in c k) t (task_in c t open_so.memory) open_so.tickets scan.values).0
   well =
-      let own = holds.fits.seats t open_so.seat open_so.there in
-      commits_well c (group_in c k) t 0 own.0.0 (task_in c t open_so.seat) open_so.tickets scan (is_sized c holds.runnable.declared) holds.ranges (record { slots = holds.ranges.slots; each = holds.ranges.each_slot; tickets = holds.tickets }) holds.obeys own.0.1 (known own.0.0 own.0.1) open_so.each
+      let own = holds.fits.memories t open_so.memory open_so.there in
+      commits_well c (group_in c k) t 0 own.0.0 (task_in c t open_so.memory) open_so.tickets scan (is_sized c holds.runnable.declared) holds.ranges (record { slots = holds.ranges.slots; each = holds.ranges.each_slot; tickets = holds.tickets }) holds.obeys own.0.1 (known own.0.0 own.0.1) open_so.each
 
-  after_is : (committed_group c (group_in c k) t (task_in c t open_so.seat) open_so.tickets scan.values).0 ≡ group_in c after
+  after_is : (committed_group c (group_in c k) t (task_in c t open_so.memory) open_so.tickets scan.values).0 ≡ group_in c after
   after_is = ap (λ (r : Group × Report). r.0) left
 
   pub committed_holds : HoldsShared c after
@@ -172,10 +172,10 @@ module _ (c : Config) (k after : Shared) (holds : HoldsShared c k) (t : ℕ) (sc
     ranges = subst (InRanges c) after_is well.ranges;
     obeys = subst (λ (g : Group). Obeys g.image) after_is well.obeys;
     tickets = subst (λ (g : Group). TicketsHold g.calls) after_is well.tickets;
-    many = ap length commits.closed.1 ∙ length_set k.seats.items t _ ∙ holds.many;
+    many = ap length commits.closed.1 ∙ length_set k.memories.items t _ ∙ holds.many;
     saw = λ j x tickets at saw.
-        elim (after_set k.seats.items t j (record { variables = commits.closed.0; tickets = None }) x (ap (λ l. flat (slice_get l j)) (sym commits.closed.1) ∙ at)) [
-          | inl now ↦ (let bad : None ≡ Some tickets = ap (λ (y : Seat). y.tickets) now.1 ∙ saw in cc)
+        elim (after_set k.memories.items t j (record { variables = commits.closed.0; tickets = None }) x (ap (λ l. flat (slice_get l j)) (sym commits.closed.1) ∙ at)) [
+          | inl now ↦ (let bad : None ≡ Some tickets = ap (λ (y : TaskMemory). y.tickets) now.1 ∙ saw in cc)
           | inr was ↦ holds.saw j x tickets was saw
         ];
   }
@@ -183,7 +183,7 @@ module _ (c : Config) (k after : Shared) (holds : HoldsShared c k) (t : ℕ) (sc
 -- REFRESH
 
 module _ (c : Config) (k after : Shared) (holds : HoldsShared c k) (fields : Fields) (hand : List Call) (report : Report) (inside : FieldsInRange (sizes_of c) fields) (each : All (IsCall (sizes_of c)) hand) (in_order : IsInOrder hand)
-    (group : refreshed_group (group_in c k) fields hand ≡ (group_in c after, report)) (seats : after.seats ≡ k.seats) (globals : after.globals ≡ k.globals) where
+    (group : refreshed_group (group_in c k) fields hand ≡ (group_in c after, report)) (memories : after.memories ≡ k.memories) (globals : after.globals ≡ k.globals) where
   after_refresh : (refreshed_group (group_in c k) fields hand).0 ≡ group_in c after
   after_refresh = ap (λ (r : Group × Report). r.0) group
 
@@ -208,10 +208,10 @@ module _ (c : Config) (k after : Shared) (holds : HoldsShared c k) (fields : Fie
   pub refreshed_holds : HoldsShared c after
   refreshed_holds = record {
     runnable = holds.runnable;
-    fits = record { seats = λ j s there. holds.fits.seats j s (ap (λ l. flat (slice_get l.items j)) (sym seats) ∙ there); globals = rw globals holds.fits.globals };
+    fits = record { memories = λ j s there. holds.fits.memories j s (ap (λ l. flat (slice_get l.items j)) (sym memories) ∙ there); globals = rw globals holds.fits.globals };
     ranges = subst (InRanges c) after_refresh refreshed_ranges;
     obeys = subst (λ (g : Group). Obeys g.image) after_refresh refreshed_obeys;
     tickets = subst (λ (g : Group). TicketsHold g.calls) after_refresh refreshed_tickets;
-    many = ap (λ l. length l.items) seats ∙ holds.many;
-    saw = λ j s tickets there saw. holds.saw j s tickets (ap (λ l. flat (slice_get l.items j)) (sym seats) ∙ there) saw;
+    many = ap (λ l. length l.items) memories ∙ holds.many;
+    saw = λ j s tickets there saw. holds.saw j s tickets (ap (λ l. flat (slice_get l.items j)) (sym memories) ∙ there) saw;
   }

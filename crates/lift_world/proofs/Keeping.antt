@@ -7,27 +7,27 @@ use Rattle.il_machine.specs.Scanning.{OwnsDeclared, FitsOwn, variables_in}
 use Rattle.il_machine.specs.Standing.{Standing, IsOf}
 use Rattle.lift_spec.specs.World.{TaskState, flat}
 use Rattle.lift_world.specs.declared.shared.Shared.{Shared}
-use Rattle.lift_world.specs.declared.shared.Seat.{Seat}
-use Rattle.lift_world.specs.Running.{with_seat, SeatsFit, SharedFits}
+use Rattle.lift_world.specs.declared.shared.TaskMemory.{TaskMemory}
+use Rattle.lift_world.specs.Running.{with_memory, MemoriesFit, SharedFits}
 use Rattle.lift_world.specs.Groups.{StoresFit}
 use Rattle.il_machine.specs.Sharing.{FitsGlobals}
 use Rattle.lift_world.proofs.Views.{length_set, after_set, there_set}
 
 -- the rows fit once a task has others that do
-pub seats_put : (c : Config) (k after : Shared) (t : ℕ) (v : Rows) (tickets : Option (List (Option ℕ))) → SeatsFit c k → after.seats.items ≡ with_seat k t v tickets → FitsOwn c t v → OwnsDeclared c t (variables_in c t v) → SeatsFit c after
-seats_put c k after t v tickets before put fits own j s there =
-    elim (after_set k.seats.items t j (record { variables = v; tickets = tickets }) s (ap (λ l. flat (slice_get l j)) (sym put) ∙ there)) [
-      | inl now ↦ subst (λ (x : Seat). FitsOwn c j x.variables × OwnsDeclared c j (variables_in c j x.variables)) now.1 (subst (λ n. FitsOwn c n v × OwnsDeclared c n (variables_in c n v)) (sym now.0) (fits, own))
+pub memories_put : (c : Config) (k after : Shared) (t : ℕ) (v : Rows) (tickets : Option (List (Option ℕ))) → MemoriesFit c k → after.memories.items ≡ with_memory k t v tickets → FitsOwn c t v → OwnsDeclared c t (variables_in c t v) → MemoriesFit c after
+memories_put c k after t v tickets before put fits own j s there =
+    elim (after_set k.memories.items t j (record { variables = v; tickets = tickets }) s (ap (λ l. flat (slice_get l j)) (sym put) ∙ there)) [
+      | inl now ↦ subst (λ (x : TaskMemory). FitsOwn c j x.variables × OwnsDeclared c j (variables_in c j x.variables)) now.1 (subst (λ n. FitsOwn c n v × OwnsDeclared c n (variables_in c n v)) (sym now.0) (fits, own))
       | inr was ↦ before j s was
     ]
 
 -- and so do all rows, once the globals have others that do
-pub rows_put : (c : Config) (k after : Shared) (t : ℕ) (v : Rows) (tickets : Option (List (Option ℕ))) → SharedFits c k → after.seats.items ≡ with_seat k t v tickets → FitsOwn c t v → OwnsDeclared c t (variables_in c t v) → FitsGlobals c after.globals → SharedFits c after
-rows_put c k after t v tickets before put fits own globals = record { seats = seats_put c k after t v tickets before.seats put fits own; globals = globals }
+pub rows_put : (c : Config) (k after : Shared) (t : ℕ) (v : Rows) (tickets : Option (List (Option ℕ))) → SharedFits c k → after.memories.items ≡ with_memory k t v tickets → FitsOwn c t v → OwnsDeclared c t (variables_in c t v) → FitsGlobals c after.globals → SharedFits c after
+rows_put c k after t v tickets before put fits own globals = record { memories = memories_put c k after t v tickets before.memories put fits own; globals = globals }
 
 -- the same rows fit
-pub seats_same : (c : Config) (k after : Shared) → SeatsFit c k → after.seats ≡ k.seats → SeatsFit c after
-seats_same c k after before same j s there = before j s (ap (λ l. flat (slice_get l.items j)) (sym same) ∙ there)
+pub memories_same : (c : Config) (k after : Shared) → MemoriesFit c k → after.memories ≡ k.memories → MemoriesFit c after
+memories_same c k after before same j s there = before j s (ap (λ l. flat (slice_get l.items j)) (sym same) ∙ there)
 
 -- one store goes on
 pub stores_step : (c : Config) (tasks : List (Option TaskState)) (stores : List (Option Standing)) (t : ℕ) (s new : Standing) → StoresFit c tasks stores → IsOf c t new → flat (slice_get stores t) ≡ Some s → StoresFit c tasks (slice_set stores t (Some new))

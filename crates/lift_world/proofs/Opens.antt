@@ -13,8 +13,8 @@ use Rattle.lift_spec.specs.Snapshot.{program_of, has_task}
 use Rattle.lift_spec.specs.World.{Group, TaskState, flat, task_at, opening, opening_group, opening_task, opening_tasks_from}
 use Rattle.std.proofs.lemmas.List.{length-append}
 use Rattle.std.proofs.lemmas.Bool.{cases_eq, cases_lt}
-use Rattle.lift_world.specs.declared.shared.Seat.{Seat}
-use Rattle.lift_world.specs.Running.{task_in, seated, tasks_in}
+use Rattle.lift_world.specs.declared.shared.TaskMemory.{TaskMemory}
+use Rattle.lift_world.specs.Running.{task_in, task_by, tasks_in}
 use Rattle.lift_world.specs.Groups.{scan_by, scans_by, world_by, StoresFit}
 use Rattle.lift_world.proofs.Views.{flat_of, beyond}
 
@@ -24,9 +24,9 @@ there_is None e = cc
 there_is (Some x) e = (x, refl)
 
 -- a task whose rows hold the opening variables opens so
-pub seat_opens : (c : Config) (t : ℕ) (v : Rows) → has_task c t ≡ true → ((u : Organized) → program_of c t ≡ Some u → variables_in c t v ≡ opening_variables c u)
+pub memory_opens : (c : Config) (t : ℕ) (v : Rows) → has_task c t ≡ true → ((u : Organized) → program_of c t ≡ Some u → variables_in c t v ≡ opening_variables c u)
     → Some (task_in c t (record { variables = v; tickets = None })) ≡ opening_task c (program_of c t)
-seat_opens c t v there opens =
+memory_opens c t v there opens =
     let found = there_is (program_of c t) there in
     ap (λ (m : Values). Some (record { variables = m; tickets = None })) (opens found.0 found.1) ∙ ap (opening_task c) (sym found.1)
 
@@ -36,11 +36,11 @@ task_there c t few there = let found = there_is (program_of c t) there in (found
 
 -- ONE MORE
 
-pub tasks_more : (c : Config) (n : ℕ) (seats : List (Option Seat)) (s : Option Seat) → tasks_in c n (seats ++ s ∷ []) ≡ tasks_in c n seats ++ seated c (n + length seats) s ∷ []
-tasks_more c n [] s = let e : n ≡ n + 0 = omega arith in ap (λ m. seated c m s ∷ []) e
-tasks_more c n (x ∷ seats) s =
-    let e : (n + 1) + length seats ≡ n + length (x ∷ seats) = omega arith in
-    ap (λ ts. seated c n x ∷ ts) (tasks_more c (n + 1) seats s ∙ ap (λ m. tasks_in c (n + 1) seats ++ seated c m s ∷ []) e)
+pub tasks_more : (c : Config) (n : ℕ) (memories : List (Option TaskMemory)) (s : Option TaskMemory) → tasks_in c n (memories ++ s ∷ []) ≡ tasks_in c n memories ++ task_by c (n + length memories) s ∷ []
+tasks_more c n [] s = let e : n ≡ n + 0 = omega arith in ap (λ m. task_by c m s ∷ []) e
+tasks_more c n (x ∷ memories) s =
+    let e : (n + 1) + length memories ≡ n + length (x ∷ memories) = omega arith in
+    ap (λ ts. task_by c n x ∷ ts) (tasks_more c (n + 1) memories s ∙ ap (λ m. tasks_in c (n + 1) memories ++ task_by c m s ∷ []) e)
 
 pub opening_more : (c : Config) (n k : ℕ) → opening_tasks_from c n (suc k) ≡ opening_tasks_from c n k ++ opening_task c (program_of c (n + k)) ∷ []
 opening_more c n zero = let e : n ≡ n + 0 = omega arith in ap (λ m. opening_task c (program_of c m) ∷ []) e
@@ -62,14 +62,14 @@ last_or_before (y ∷ xs) o (suc t) x e =
 pub length_more : {X : Type 0} (xs : List X) (x : X) → length (xs ++ x ∷ []) ≡ length xs + 1
 length_more xs x = length-append xs (x ∷ [])
 
--- the seats so far, and one more
-pub seats_more : (c : Config) (seats : List (Option Seat)) (o : Option Seat) (t : ℕ) → length seats ≡ t → tasks_in c 0 seats ≡ opening_tasks_from c 0 t → seated c t o ≡ opening_task c (program_of c t)
-    → tasks_in c 0 (seats ++ o ∷ []) ≡ opening_tasks_from c 0 (t + 1)
-seats_more c seats o t as_many so_far next =
+-- the memories so far, and one more
+pub memories_more : (c : Config) (memories : List (Option TaskMemory)) (o : Option TaskMemory) (t : ℕ) → length memories ≡ t → tasks_in c 0 memories ≡ opening_tasks_from c 0 t → task_by c t o ≡ opening_task c (program_of c t)
+    → tasks_in c 0 (memories ++ o ∷ []) ≡ opening_tasks_from c 0 (t + 1)
+memories_more c memories o t as_many so_far next =
     let e : t + 1 ≡ suc t = omega arith in
-    let many : 0 + length seats ≡ t = omega (arith, as_many) in
+    let many : 0 + length memories ≡ t = omega (arith, as_many) in
     let here : 0 + t ≡ t = omega arith in
-    tasks_more c 0 seats o ∙ ap₂ (λ ts n. ts ++ seated c n o ∷ []) so_far many ∙ ap (λ s. opening_tasks_from c 0 t ++ s ∷ []) next
+    tasks_more c 0 memories o ∙ ap₂ (λ ts n. ts ++ task_by c n o ∷ []) so_far many ∙ ap (λ s. opening_tasks_from c 0 t ++ s ∷ []) next
     ∙ ap (λ m. opening_tasks_from c 0 t ++ opening_task c (program_of c m) ∷ []) (sym here) ∙ sym (opening_more c 0 t) ∙ ap (opening_tasks_from c 0) (sym e)
 
 -- STORES

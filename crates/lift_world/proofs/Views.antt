@@ -6,8 +6,8 @@ use Rattle.il_table.specs.NameMap.{get}
 use Rattle.il_machine.specs.Scanning.{variables_in}
 use Rattle.il_machine.specs.Standing.{Standing}
 use Rattle.lift_spec.specs.World.{TaskState, flat}
-use Rattle.lift_world.specs.declared.shared.Seat.{Seat}
-use Rattle.lift_world.specs.Running.{task_in, seated, tasks_in}
+use Rattle.lift_world.specs.declared.shared.TaskMemory.{TaskMemory}
+use Rattle.lift_world.specs.Running.{task_in, task_by, tasks_in}
 use Rattle.lift_world.specs.Groups.{scan_by, scans_by}
 
 -- OPTIONS IN LISTS
@@ -82,20 +82,20 @@ beyond (y ∷ ys) (suc k) past = beyond ys k (omega (arith, past))
 
 -- TASKS
 
-pub task_get : (c : Config) (n : ℕ) (seats : List (Option Seat)) (k : ℕ) → flat (slice_get (tasks_in c n seats) k) ≡ seated c (n + k) (flat (slice_get seats k))
+pub task_get : (c : Config) (n : ℕ) (memories : List (Option TaskMemory)) (k : ℕ) → flat (slice_get (tasks_in c n memories) k) ≡ task_by c (n + k) (flat (slice_get memories k))
 task_get c n [] zero = refl
 task_get c n [] (suc k) = refl
-task_get c n (None ∷ seats) zero = refl
-task_get c n (Some s ∷ seats) zero = let e : n ≡ n + 0 = omega arith in ap (λ m. Some (task_in c m s)) e
-task_get c n (s ∷ seats) (suc k) = let e : (n + 1) + k ≡ n + suc k = omega arith in task_get c (n + 1) seats k ∙ ap (λ m. seated c m (flat (slice_get seats k))) e
+task_get c n (None ∷ memories) zero = refl
+task_get c n (Some s ∷ memories) zero = let e : n ≡ n + 0 = omega arith in ap (λ m. Some (task_in c m s)) e
+task_get c n (s ∷ memories) (suc k) = let e : (n + 1) + k ≡ n + suc k = omega arith in task_get c (n + 1) memories k ∙ ap (λ m. task_by c m (flat (slice_get memories k))) e
 
-pub task_set : (c : Config) (n : ℕ) (seats : List (Option Seat)) (k : ℕ) (s : Seat) → tasks_in c n (slice_set seats k (Some s)) ≡ slice_set (tasks_in c n seats) k (Some (task_in c (n + k) s))
+pub task_set : (c : Config) (n : ℕ) (memories : List (Option TaskMemory)) (k : ℕ) (s : TaskMemory) → tasks_in c n (slice_set memories k (Some s)) ≡ slice_set (tasks_in c n memories) k (Some (task_in c (n + k) s))
 task_set c n [] zero s = refl
 task_set c n [] (suc k) s = refl
-task_set c n (x ∷ seats) zero s = let e : n ≡ n + 0 = omega arith in ap (λ m. Some (task_in c m s) ∷ tasks_in c (n + 1) seats) e
-task_set c n (x ∷ seats) (suc k) s =
+task_set c n (x ∷ memories) zero s = let e : n ≡ n + 0 = omega arith in ap (λ m. Some (task_in c m s) ∷ tasks_in c (n + 1) memories) e
+task_set c n (x ∷ memories) (suc k) s =
     let e : (n + 1) + k ≡ n + suc k = omega arith in
-    ap (λ ts. seated c n x ∷ ts) (task_set c (n + 1) seats k s ∙ ap (λ m. slice_set (tasks_in c (n + 1) seats) k (Some (task_in c m s))) e)
+    ap (λ ts. task_by c n x ∷ ts) (task_set c (n + 1) memories k s ∙ ap (λ m. slice_set (tasks_in c (n + 1) memories) k (Some (task_in c m s))) e)
 
 -- SCANS
 
@@ -130,8 +130,8 @@ stands_at (Some y ∷ xs) zero d x e below = e
 stands_at (y ∷ xs) (suc k) d x e below = stands_at xs k d x e (omega (arith, below))
 
 -- the value that is found is the one that stands there
-pub the_seat : {X : Type 0} (o : Option X) (x y : X) → o ≡ Some x → o ≡ Some y → x ≡ y
-the_seat o x y a b = let both : Some x ≡ Some y = sym a ∙ b in cc
+pub the_memory : {X : Type 0} (o : Option X) (x y : X) → o ≡ Some x → o ≡ Some y → x ≡ y
+the_memory o x y a b = let both : Some x ≡ Some y = sym a ∙ b in cc
 
 -- what an index lends is what stands there
 lent : {X : Type 0} (xs : List (Option X)) (k : ℕ) (o : Option X) → o ≡ slice_index_or xs k o → is_some (flat (slice_get xs k)) ≡ true → flat (slice_get xs k) ≡ o
@@ -150,15 +150,15 @@ some_of (Some x) e = (x, refl)
 
 -- THE SAME FROM THE FIRST ON
 
-pub task_here : (c : Config) (seats : List (Option Seat)) (k : ℕ) → flat (slice_get (tasks_in c 0 seats) k) ≡ seated c k (flat (slice_get seats k))
-task_here c seats k = let e : 0 + k ≡ k = omega arith in task_get c 0 seats k ∙ ap (λ m. seated c m (flat (slice_get seats k))) e
+pub task_here : (c : Config) (memories : List (Option TaskMemory)) (k : ℕ) → flat (slice_get (tasks_in c 0 memories) k) ≡ task_by c k (flat (slice_get memories k))
+task_here c memories k = let e : 0 + k ≡ k = omega arith in task_get c 0 memories k ∙ ap (λ m. task_by c m (flat (slice_get memories k))) e
 
-pub task_put : (c : Config) (seats : List (Option Seat)) (k : ℕ) (s : Seat) → tasks_in c 0 (slice_set seats k (Some s)) ≡ slice_set (tasks_in c 0 seats) k (Some (task_in c k s))
-task_put c seats k s = let e : 0 + k ≡ k = omega arith in task_set c 0 seats k s ∙ ap (λ m. slice_set (tasks_in c 0 seats) k (Some (task_in c m s))) e
+pub task_put : (c : Config) (memories : List (Option TaskMemory)) (k : ℕ) (s : TaskMemory) → tasks_in c 0 (slice_set memories k (Some s)) ≡ slice_set (tasks_in c 0 memories) k (Some (task_in c k s))
+task_put c memories k s = let e : 0 + k ≡ k = omega arith in task_set c 0 memories k s ∙ ap (λ m. slice_set (tasks_in c 0 memories) k (Some (task_in c m s))) e
 
 -- VARIABLES
 
 -- the value of a variable of a task, by its rows
-pub variable_of : (c : Config) (t : ℕ) (path : List ℕ) (o : Option Seat) → option_and_then (λ (s : Seat). get (variables_in c t s.variables) path) o ≡ option_and_then (λ (task : TaskState). get task.variables path) (seated c t o)
+pub variable_of : (c : Config) (t : ℕ) (path : List ℕ) (o : Option TaskMemory) → option_and_then (λ (s : TaskMemory). get (variables_in c t s.variables) path) o ≡ option_and_then (λ (task : TaskState). get task.variables path) (task_by c t o)
 variable_of c t path None = refl
 variable_of c t path (Some s) = refl

@@ -19,7 +19,7 @@ use Rattle.lift_spec.specs.declared.event.Event.{Event}
 use Rattle.lift_spec.specs.declared.event.Event.TheVariants.{Instruction, Commit, Refresh}
 use Rattle.lift_run_laws.specs.Holding.{TicketsHold}
 use Rattle.lift_world.specs.declared.shared.Shared.{Shared}
-use Rattle.lift_world.specs.declared.shared.Seat.{Seat}
+use Rattle.lift_world.specs.declared.shared.TaskMemory.{TaskMemory}
 
 -- the replies so far, and how many there is room for in all
 pub record Answers : Type 0 where
@@ -90,52 +90,56 @@ reporting (e ∷ events) = may_report e + reporting events
 
 -- TASKS
 
--- the task of a number, if it is there
-abbrev pub seat_at : Shared → ℕ → Option Seat
-seat_at k t = flat (slice_get k.seats.items t)
+-- what the task of a number keeps, if it is there
+abbrev pub memory_at : Shared → ℕ → Option TaskMemory
+memory_at k t = flat (slice_get k.memories.items t)
 
 -- whether a scan of the task is open
-abbrev pub open_by : Option Seat → Bool
+abbrev pub open_by : Option TaskMemory → Bool
 open_by None = false
 open_by (Some s) = is_some s.tickets
 
 abbrev pub is_open : Shared → ℕ → Bool
-is_open k t = open_by (seat_at k t)
+is_open k t = open_by (memory_at k t)
 
 -- a task with its variables by name
-abbrev pub task_in : Config → ℕ → Seat → TaskState
+abbrev pub task_in : Config → ℕ → TaskMemory → TaskState
 task_in c t s = record { variables = variables_in c t s.variables; tickets = s.tickets }
 
-abbrev pub seated : Config → ℕ → Option Seat → Option TaskState
-seated c t None = None
-seated c t (Some s) = Some (task_in c t s)
+abbrev pub task_by : Config → ℕ → Option TaskMemory → Option TaskState
+task_by c t None = None
+task_by c t (Some s) = Some (task_in c t s)
 
 -- the tasks, of which the first has this number
-abbrev pub tasks_in : Config → ℕ → List (Option Seat) → List (Option TaskState)
+abbrev pub tasks_in : Config → ℕ → List (Option TaskMemory) → List (Option TaskState)
 tasks_in c t [] = []
-tasks_in c t (s ∷ seats) = seated c t s ∷ tasks_in c (t + 1) seats
+tasks_in c t (s ∷ memories) = task_by c t s ∷ tasks_in c (t + 1) memories
 
 -- the group of the definitions, by its parts
-abbrev pub group_by : Config → Image → Calls → Values → List (Option Seat) → Group
-group_by c image calls globals seats = record { image = image; calls = calls; globals = globals; tasks = tasks_in c 0 seats }
+abbrev pub group_by : Config → Image → Calls → Values → List (Option TaskMemory) → Group
+group_by c image calls globals memories = record { image = image; calls = calls; globals = globals; tasks = tasks_in c 0 memories }
 
 abbrev pub group_in : Config → Shared → Group
-group_in c k = group_by c k.image k.calls (globals_in c k.globals) k.seats.items
+group_in c k = group_by c k.image k.calls (globals_in c k.globals) k.memories.items
 
 -- WHAT HOLDS OF IT
 
--- each task that is there has a row for each of its variables, each with a value of its declared set
-abbrev pub SeatsFit : Config → Shared → Type 0
-SeatsFit c k = (t : ℕ) (s : Seat) → seat_at k t ≡ Some s → FitsOwn c t s.variables × OwnsDeclared c t (variables_in c t s.variables)
+-- rows have a value of its declared set for each variable of a task
+abbrev pub FitDeclared : Config → ℕ → Rows → Type 0
+FitDeclared c t r = FitsOwn c t r × OwnsDeclared c t (variables_in c t r)
+
+-- those of each task that is there
+abbrev pub MemoriesFit : Config → Shared → Type 0
+MemoriesFit c k = (t : ℕ) (s : TaskMemory) → memory_at k t ≡ Some s → FitDeclared c t s.variables
 
 -- the rows of what the tasks share fit: those of each task, and those of the globals
 pub record SharedFits (c : Config) (k : Shared) : Type 0 where
-  pub seats : SeatsFit c k
+  pub memories : MemoriesFit c k
   pub globals : FitsGlobals c k.globals
 
 -- the tasks once one has another variables and tickets
-abbrev pub with_seat : Shared → ℕ → Rows → Option (List (Option ℕ)) → List (Option Seat)
-with_seat k t v tickets = slice_set k.seats.items t (Some (record { variables = v; tickets = tickets }))
+abbrev pub with_memory : Shared → ℕ → Rows → Option (List (Option ℕ)) → List (Option TaskMemory)
+with_memory k t v tickets = slice_set k.memories.items t (Some (record { variables = v; tickets = tickets }))
 
 -- what holds of what the tasks share: the rows fit, all lies in its ranges, the image obeys the interlock, and an open scan saw the ticket
 -- of each slot
@@ -145,23 +149,23 @@ pub record HoldsShared (c : Config) (k : Shared) : Type 0 where
   pub ranges : InRanges c (group_in c k)
   pub obeys : Obeys k.image
   pub tickets : TicketsHold k.calls
-  pub many : length k.seats.items ≡ suc (sizes_of c).cars
-  pub saw : (t : ℕ) (s : Seat) (tickets : List (Option ℕ)) → seat_at k t ≡ Some s → s.tickets ≡ Some tickets → length tickets ≡ (sizes_of c).slots
+  pub many : length k.memories.items ≡ suc (sizes_of c).cars
+  pub saw : (t : ℕ) (s : TaskMemory) (tickets : List (Option ℕ)) → memory_at k t ≡ Some s → s.tickets ≡ Some tickets → length tickets ≡ (sizes_of c).slots
 
 -- COMMITS
 
 -- a task whose scan is open, with the ticket of each slot
 pub record HasOpenScan (c : Config) (k : Shared) (t : ℕ) : Type 0 where
-  pub seat : Seat
-  pub there : seat_at k t ≡ Some seat
+  pub memory : TaskMemory
+  pub there : memory_at k t ≡ Some memory
   pub tickets : List (Option ℕ)
-  pub saw : seat.tickets ≡ Some tickets
+  pub saw : memory.tickets ≡ Some tickets
   pub each : length tickets ≡ (sizes_of c).slots
 
 -- what the commit of a task leaves, whose scan left these values: the definitions' group and report; the task is between scans, and the rows fit
 pub record Commits (c : Config) (t : ℕ) (before : Shared) (values : Values) (after : Shared) (report : Report) : Type 0 where
-  pub group : (s : Seat) (tickets : List (Option ℕ)) → seat_at before t ≡ Some s → s.tickets ≡ Some tickets → committed_group c (group_in c before) t (task_in c t s) tickets values ≡ (group_in c after, report)
-  pub closed : (v : Rows) × (after.seats.items ≡ with_seat before t v None)
+  pub group : (s : TaskMemory) (tickets : List (Option ℕ)) → memory_at before t ≡ Some s → s.tickets ≡ Some tickets → committed_group c (group_in c before) t (task_in c t s) tickets values ≡ (group_in c after, report)
+  pub closed : (v : Rows) × (after.memories.items ≡ with_memory before t v None)
   pub fits : SharedFits c after
 
 -- how many slots are free

@@ -1,5 +1,5 @@
 -- A group that was verified, and its world (own rules).
-use Rattle.std.specs.Prelude.{◌≡◌, ◌≢◌, ℕ, ◌≤◌, [], map, Option, Some, refl}
+use Rattle.std.specs.Prelude.{◌≡◌, ◌≢◌, ℕ, ◌≤◌, [], map, Option, Some, Ok, refl}
 use Rattle.std.specs.Coded.{Coded, code_by, coded×}
 use Rattle.il_spec.specs.declared.tree.Config.{Config}
 use Rattle.il_spec.specs.declared.tree.Unit.{Unit as Organized}
@@ -9,7 +9,9 @@ use Rattle.il_run.specs.Step.{step, Next}
 use Rattle.il_machine.specs.Listing.{TaskLine, task_line}
 use Rattle.il_machine.specs.Scanning.{Program, verified_code, IsRunnable}
 use Rattle.il_machine.specs.Standing.{Standing, IsOf}
-use Rattle.lift_spec.specs.World.{World}
+use Rattle.lift_spec.specs.Replies.{Reply}
+use Rattle.lift_spec.specs.World.{World, happens}
+use Rattle.lift_spec.specs.declared.event.Event.{Event}
 use Rattle.lift_spec.specs.WorldCodes.{world_code}
 use Rattle.lift_spec.specs.declared.event.Reply.{Reply as Answer}
 use Rattle.lift_spec.specs.declared.event.Reply.TheVariants as answer
@@ -30,6 +32,10 @@ world_of_code = code_by (Program × World) (coded× verified_code world_code) (�
 -- the world of a controller
 abbrev pub world_in : Controller → World
 world_in w = world_by w.core.group w.stores.items w.desk w.hand
+
+-- an event leads from one controller's world to another's, and is answered so
+abbrev pub Happens : Controller → Event → Controller → Reply → Type 0
+Happens before event after reply = happens before.verified.config (world_in before) event ≡ Ok (world_in after, reply)
 
 -- what holds of every controller: there is a store for each task, and some history of events has led to its world from the opening
 pub record IsController (w : Controller) : Type 0 where

@@ -94,7 +94,9 @@ fn tell(
     answers: &mut Bounded<Answered, 64>,
 )
     requires { length answers.old < 64 }
-    ensures told { (tickets : List (Option ℕ)) (cars : List ℕ) → tell_all calls.old answers.old slot (ticket ∷ tickets) (car ∷ cars) ≡ tell_all calls.new answers.new (slot + 1) tickets cars }
+    ensures told { (tickets : List (Option ℕ)) (cars : List ℕ)
+        → tell_all calls.old answers.old slot (ticket ∷ tickets) (car ∷ cars)
+        ≡ tell_all calls.new answers.new (slot + 1) tickets cars }
     ensures room { length answers.new ≤ length answers.old + 1 }
 {
     if car == 0 {
@@ -128,7 +130,8 @@ pub fn tell_all(
 
 /// The calls of the hand enter in its order; from the first without a slot on they stay.
 pub fn enter_all(calls: &mut CallBook, hand: &mut Hand, done: &mut Bounded<EnteredCall, 64>)
-    ensures { enter_all calls.old [] hand.old ≡ record { calls = calls.new; hand = hand.new; done = done.new } }
+    ensures { enter_all calls.old [] hand.old
+        ≡ record { calls = calls.new; hand = hand.new; done = done.new } }
 {
     let _slots = calls.count();
     clear(done);

@@ -14,7 +14,7 @@ ghost use Rattle.lift_spec.specs.World.{TaskState, task_at};
 ghost use Rattle.lift_spec.specs.World as model;
 ghost use Rattle.lift_world.specs.Running.{reports_by, may_report, reporting, instructions, up_to_end};
 ghost use Rattle.lift_world.specs.Groups.{StoresFit};
-ghost use Rattle.lift_world.specs.Worlds.{world_in, IsController, Steps, RunsOut};
+ghost use Rattle.lift_world.specs.Worlds.{world_in, IsController, Happens, Steps, RunsOut};
 
 use crate::group::Core;
 use crate::held::{Held, refresh};
@@ -61,8 +61,11 @@ fn opening_stores(
     requires few { cars ≤ 8 }
     requires all { cars ≡ (sizes_of verified.now.config).cars }
     ensures as_many { IfOk result (λ ss. length ss.items ≡ suc cars) }
-    ensures there { IfOk result (λ ss. (t : ℕ) → t ≤ cars → is_some (model.flat (slice_get ss.items t)) ≡ is_some (program_of verified.now.config t)) }
-    ensures each { IfOk result (λ ss. (t : ℕ) (s : Standing) → model.flat (slice_get ss.items t) ≡ Some s → IsOf verified.now.config t s) }
+    ensures there { IfOk result (λ ss. (t : ℕ) → t ≤ cars
+        → is_some (model.flat (slice_get ss.items t))
+        ≡ is_some (program_of verified.now.config t)) }
+    ensures each { IfOk result (λ ss. (t : ℕ) (s : Standing)
+        → model.flat (slice_get ss.items t) ≡ Some s → IsOf verified.now.config t s) }
 {
     let mut stores = Vec::new(alloc);
     for task in 0..cars + 1 {
@@ -78,8 +81,12 @@ fn begin(core: &mut Core, verified: &Verified, task: u8, store: &mut Option<Stor
     requires kept { IsSome store.old }
     requires of { (s : Standing) → store.old ≡ Some s → IsOf verified.now.config task s }
     ensures config { core.new.config ≡ core.old.config }
-    ensures group { (x : TaskState) → task_at core.old.group task ≡ Some x → core.new.group ≡ model.started_group core.old.group task x }
-    ensures store { (x : TaskState) → task_at core.old.group task ≡ Some x → (s : Standing) × (store.new ≡ Some s) × IsOf verified.now.config task s × (s.state ≡ scan_begins verified.now.config task (model.beginning_of core.old.group x)) }
+    ensures group { (x : TaskState) → task_at core.old.group task ≡ Some x
+        → core.new.group ≡ model.started_group core.old.group task x }
+    ensures store { (x : TaskState) → task_at core.old.group task ≡ Some x
+        → (s : Standing) × (store.new ≡ Some s) × IsOf verified.now.config task s
+        × (s.state
+        ≡ scan_begins verified.now.config task (model.beginning_of core.old.group x)) }
 {
     if let Some(store) = store {
         core.start(verified, task, store);
@@ -90,8 +97,10 @@ fn begin(core: &mut Core, verified: &Verified, task: u8, store: &mut Option<Stor
 fn advance(verified: &Verified, task: u8, store: &mut Option<Store>) -> Reply
     requires kept { IsSome store.old }
     requires of { (s : Standing) → store.old ≡ Some s → IsOf verified.now.config task s }
-    ensures ended { (s : Standing) → store.old ≡ Some s → s.state.frames ≡ [] → (result ≡ Reply.Refused NoOpenScan) × (store.new ≡ store.old) }
-    ensures step { (s : Standing) → store.old ≡ Some s → s.state.frames ≢ [] → Steps verified.now.config task s store.new result }
+    ensures ended { (s : Standing) → store.old ≡ Some s → s.state.frames ≡ []
+        → (result ≡ Reply.Refused NoOpenScan) × (store.new ≡ store.old) }
+    ensures step { (s : Standing) → store.old ≡ Some s → s.state.frames ≢ []
+        → Steps verified.now.config task s store.new result }
     ensures plain { reports_by result ≡ 0 }
 {
     match store {
@@ -112,8 +121,10 @@ fn advance(verified: &Verified, task: u8, store: &mut Option<Store>) -> Reply
 fn run_out(verified: &Verified, task: u8, store: &mut Option<Store>) -> Result<u32, EventFault>
     requires kept { IsSome store.old }
     requires of { (s : Standing) → store.old ≡ Some s → IsOf verified.now.config task s }
-    ensures ended { IfErr result (λ fault. (fault ≡ NoOpenScan) × (store.new ≡ store.old) × ((s : Standing) → store.old ≡ Some s → s.state.frames ≡ [])) }
-    ensures steps { IfOk result (λ n. (s : Standing) → store.old ≡ Some s → RunsOut verified.now.config task s store.new n) }
+    ensures ended { IfErr result (λ fault. (fault ≡ NoOpenScan) × (store.new ≡ store.old)
+        × ((s : Standing) → store.old ≡ Some s → s.state.frames ≡ [])) }
+    ensures steps { IfOk result (λ n. (s : Standing) → store.old ≡ Some s
+        → RunsOut verified.now.config task s store.new n) }
 {
     match store {
         Some(store) => {
@@ -137,7 +148,8 @@ pub struct Opened {
 pub fn opening(alloc: Global, verified: &Verified) -> Result<Opened, AllocError>
     ensures config { IfOk result (λ o. o.core.config ≡ verified.now.config) }
     ensures group { IfOk result (λ o. o.core.group ≡ model.opening_group verified.now.config) }
-    ensures stores { IfOk result (λ o. StoresFit verified.now.config o.core.group.tasks o.stores.items) }
+    ensures stores { IfOk result
+        (λ o. StoresFit verified.now.config o.core.group.tasks o.stores.items) }
 {
     let _config = verified.config();
     let core = Core::new(alloc, verified)?;
@@ -178,7 +190,8 @@ impl Controller {
     pub fn image(&self) -> &Image
         requires { IsController self.now }
         ensures image { result.now ≡ self.now.core.group.image }
-        ensures ranges { FieldsInRange (sizes_of self.now.verified.config) self.now.core.group.image.fields }
+        ensures ranges { FieldsInRange (sizes_of self.now.verified.config)
+            self.now.core.group.image.fields }
         ensures obeys { Obeys self.now.core.group.image }
     {
         self.core.holds();
@@ -196,7 +209,9 @@ impl Controller {
     /// The value of a variable of a task, as its last commit left it.
     pub fn variable(&self, task: u8, path: &str) -> Option<Value>
         requires { IsController self.now }
-        ensures { result ≡ option_and_then (λ t. values.get t.variables path.now) (task_at self.now.core.group task) }
+        ensures { result
+            ≡ option_and_then (λ t. values.get t.variables path.now)
+            (task_at self.now.core.group task) }
     {
         self.core.variable(&self.verified, task, path)
     }
@@ -204,11 +219,13 @@ impl Controller {
     // Start: the task's scan begins.
     fn start(&mut self, task: u8) -> Reply
         requires { IsController self.old }
-        ensures model { (r : ReportOf) → model.happens self.old.verified.config (world_in self.old) (event.Start task) ≡ Ok (world_in self.new, reply_with result r) }
+        ensures model { (r : ReportOf)
+            → Happens self.old (event.Start task) self.new (reply_with result r) }
         ensures plain { reports_by result ≡ 0 }
         ensures same { self.new.verified ≡ self.old.verified }
         ensures core { self.new.core.config ≡ self.old.core.config }
-        ensures stores { StoresFit self.old.verified.config self.new.core.group.tasks self.new.stores.items }
+        ensures stores { StoresFit self.old.verified.config self.new.core.group.tasks
+            self.new.stores.items }
     {
         if !self.core.has_task(task) {
             return Reply::Refused(EventFault::NoSuchActor);
@@ -228,11 +245,13 @@ impl Controller {
     // Instruction: one step of the task's open scan.
     fn instruction(&mut self, task: u8) -> Reply
         requires { IsController self.old }
-        ensures model { (r : ReportOf) → model.happens self.old.verified.config (world_in self.old) (event.Instruction task) ≡ Ok (world_in self.new, reply_with result r) }
+        ensures model { (r : ReportOf)
+            → Happens self.old (event.Instruction task) self.new (reply_with result r) }
         ensures plain { reports_by result ≡ 0 }
         ensures same { self.new.verified ≡ self.old.verified }
         ensures core { self.new.core.config ≡ self.old.core.config }
-        ensures stores { StoresFit self.old.verified.config self.new.core.group.tasks self.new.stores.items }
+        ensures stores { StoresFit self.old.verified.config self.new.core.group.tasks
+            self.new.stores.items }
     {
         if !self.core.has_task(task) {
             return Reply::Refused(EventFault::NoSuchActor);
@@ -246,12 +265,14 @@ impl Controller {
     // Commit: the task's scan, which has ended, hands over what it left.
     fn commit(&mut self, task: u8, report: &mut Report) -> Reply
         requires { IsController self.old }
-        ensures model { model.happens self.old.verified.config (world_in self.old) (event.Commit task) ≡ Ok (world_in self.new, reply_with result report.new) }
+        ensures model { Happens self.old (event.Commit task) self.new
+            (reply_with result report.new) }
         ensures kept { reports_by result ≡ 0 → report.new ≡ report.old }
         ensures one { reports_by result ≤ 1 }
         ensures same { self.new.verified ≡ self.old.verified }
         ensures core { self.new.core.config ≡ self.old.core.config }
-        ensures stores { StoresFit self.old.verified.config self.new.core.group.tasks self.new.stores.items }
+        ensures stores { StoresFit self.old.verified.config self.new.core.group.tasks
+            self.new.stores.items }
     {
         if !self.core.has_task(task) {
             return Reply::Refused(EventFault::NoSuchActor);
@@ -272,12 +293,14 @@ impl Controller {
     // Refresh: the image takes the plant's fields, and the calls of the hand enter.
     fn refresh(&mut self, fields: &Fields, report: &mut Report) -> Reply
         requires { IsController self.old }
-        ensures model { model.happens self.old.verified.config (world_in self.old) (event.Refresh fields.now) ≡ Ok (world_in self.new, reply_with result report.new) }
+        ensures model { Happens self.old (event.Refresh fields.now) self.new
+            (reply_with result report.new) }
         ensures kept { reports_by result ≡ 0 → report.new ≡ report.old }
         ensures one { reports_by result ≤ 1 }
         ensures same { self.new.verified ≡ self.old.verified }
         ensures core { self.new.core.config ≡ self.old.core.config }
-        ensures stores { StoresFit self.old.verified.config self.new.core.group.tasks self.new.stores.items }
+        ensures stores { StoresFit self.old.verified.config self.new.core.group.tasks
+            self.new.stores.items }
     {
         if !in_range(fields, self.verified.sizes()) {
             return Reply::Refused(EventFault::FieldOutOfRange);
@@ -289,11 +312,13 @@ impl Controller {
     // Press: the call is put on the desk.
     fn press(&mut self, call: Call) -> Reply
         requires { IsController self.old }
-        ensures model { (r : ReportOf) → model.happens self.old.verified.config (world_in self.old) (event.Press call) ≡ Ok (world_in self.new, reply_with result r) }
+        ensures model { (r : ReportOf)
+            → Happens self.old (event.Press call) self.new (reply_with result r) }
         ensures plain { reports_by result ≡ 0 }
         ensures same { self.new.verified ≡ self.old.verified }
         ensures core { self.new.core.config ≡ self.old.core.config }
-        ensures stores { StoresFit self.old.verified.config self.new.core.group.tasks self.new.stores.items }
+        ensures stores { StoresFit self.old.verified.config self.new.core.group.tasks
+            self.new.stores.items }
     {
         let sizes = self.verified.sizes();
         if !is_floor(call.from, sizes) || !is_floor(call.to, sizes) {
@@ -312,11 +337,13 @@ impl Controller {
     // Gather: the calls from a floor go from the desk to the hand, where the hand has none from there.
     fn gather(&mut self, floor: u8) -> Reply
         requires { IsController self.old }
-        ensures model { (r : ReportOf) → model.happens self.old.verified.config (world_in self.old) (event.Gather floor) ≡ Ok (world_in self.new, reply_with result r) }
+        ensures model { (r : ReportOf)
+            → Happens self.old (event.Gather floor) self.new (reply_with result r) }
         ensures plain { reports_by result ≡ 0 }
         ensures same { self.new.verified ≡ self.old.verified }
         ensures core { self.new.core.config ≡ self.old.core.config }
-        ensures stores { StoresFit self.old.verified.config self.new.core.group.tasks self.new.stores.items }
+        ensures stores { StoresFit self.old.verified.config self.new.core.group.tasks
+            self.new.stores.items }
     {
         if !is_floor(floor, self.verified.sizes()) {
             return Reply::Refused(EventFault::NoSuchActor);
@@ -331,7 +358,7 @@ impl Controller {
     #[inline(always)]
     pub fn happen(&mut self, event: &Event, report: &mut Report) -> Reply
         requires { IsController self.old }
-        ensures model { model.happens self.old.verified.config (world_in self.old) event.now ≡ Ok (world_in self.new, reply_with result report.new) }
+        ensures model { Happens self.old event.now self.new (reply_with result report.new) }
         ensures kept { reports_by result ≡ 0 → report.new ≡ report.old }
         ensures reports { reports_by result ≤ may_report event.now }
         ensures same { self.new.verified ≡ self.old.verified }
@@ -351,8 +378,11 @@ impl Controller {
     pub fn run(&mut self, events: &[Event], replies: &mut Replies)
         requires world { IsController self.old }
         requires room { length replies.old.items + length events.now ≤ replies.old.room }
-        requires report_room { replies.old.reports + reporting events.now ≤ replies.old.report_room }
-        ensures model { model.run self.old.verified.config (world_in self.old) replies.old.items events.now ≡ Ok (world_in self.new, replies.new.items) }
+        requires report_room { replies.old.reports + reporting events.now
+            ≤ replies.old.report_room }
+        ensures model { model.run self.old.verified.config (world_in self.old) replies.old.items
+            events.now
+            ≡ Ok (world_in self.new, replies.new.items) }
         ensures count { length replies.new.items ≡ length replies.old.items + length events.now }
         ensures room { replies.old.room ≤ replies.new.room }
         ensures reports { replies.new.reports ≤ replies.old.reports + reporting events.now }
@@ -370,8 +400,12 @@ impl Controller {
     /// The open scan of a task runs to its end. The answer is how many instructions that took, or why there is nothing to run.
     pub fn finish(&mut self, task: u8) -> Result<u32, EventFault>
         requires { IsController self.old }
-        ensures model { IfOk result (λ n. (1 ≤ n) × (model.run self.old.verified.config (world_in self.old) [] (instructions task n) ≡ Ok (world_in self.new, up_to_end n))) }
-        ensures refused { IfErr result (λ fault. (world_in self.new ≡ world_in self.old) × (model.happens self.old.verified.config (world_in self.old) (event.Instruction task) ≡ Ok (world_in self.old, replies.Refused fault))) }
+        ensures model { IfOk result (λ n. (1 ≤ n)
+            × (model.run self.old.verified.config (world_in self.old) [] (instructions task n)
+            ≡ Ok (world_in self.new, up_to_end n))) }
+        ensures refused { IfErr result (λ fault. (world_in self.new ≡ world_in self.old)
+            × (model.happens self.old.verified.config (world_in self.old) (event.Instruction task)
+            ≡ Ok (world_in self.old, replies.Refused fault))) }
         ensures same { self.new.verified ≡ self.old.verified }
         ensures world { IsController self.new }
     {

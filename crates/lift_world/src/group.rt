@@ -44,7 +44,10 @@ impl Model for Core {
 
     ghost coded = { group_of_code };
 
-    ghost view = { λ k. record { config = k.program.value.config; group = group_in k.program.value.config k.shared } };
+    ghost view = { λ k. record {
+      config = k.program.value.config;
+      group = group_in k.program.value.config k.shared;
+    } };
 
     ghost invariant = { λ k. HoldsShared k.program.value.config k.shared };
 }
@@ -96,7 +99,7 @@ impl Core {
     pub fn has_task(&self, task: u8) -> bool
         ensures { result ≡ is_some (task_at self.now.group task) }
     {
-        self.shared.seat(task).is_some()
+        self.shared.memory(task).is_some()
     }
 
     /// Whether a scan of a task is open.
@@ -109,7 +112,8 @@ impl Core {
     /// The value of a variable of a task, as its last commit left it.
     pub fn variable(&self, verified: &Verified, task: u8, path: &str) -> Option<Value>
         requires { self.now.config ≡ verified.now.config }
-        ensures { result ≡ option_and_then (λ t. values.get t.variables path.now) (task_at self.now.group task) }
+        ensures { result
+            ≡ option_and_then (λ t. values.get t.variables path.now) (task_at self.now.group task) }
     {
         self.shared.variable(verified, task, path)
     }
@@ -128,8 +132,11 @@ impl Core {
         requires there { IsSome (task_at self.old.group task) }
         requires of { IsOf verified.now.config task store.old }
         ensures config { self.new.config ≡ self.old.config }
-        ensures group { (x : TaskState) → task_at self.old.group task ≡ Some x → self.new.group ≡ started_group self.old.group task x }
-        ensures begins { (x : TaskState) → task_at self.old.group task ≡ Some x → store.new.state ≡ scan_begins verified.now.config task (beginning_of self.old.group x) }
+        ensures group { (x : TaskState) → task_at self.old.group task ≡ Some x
+            → self.new.group ≡ started_group self.old.group task x }
+        ensures begins { (x : TaskState) → task_at self.old.group task ≡ Some x
+            → store.new.state
+            ≡ scan_begins verified.now.config task (beginning_of self.old.group x) }
         ensures of { IsOf verified.now.config task store.new }
     {
         self.shared.start(verified, task, store);
@@ -139,10 +146,15 @@ impl Core {
     /// call; GROUP tells each call to the car that it assigned. No allocation.
     pub fn commit(&mut self, verified: &Verified, task: u8, store: &Store, report: &mut Report)
         requires program { self.old.config ≡ verified.now.config }
-        requires open { (x : TaskState) × (tickets : List (Option ℕ)) × (task_at self.old.group task ≡ Some x) × (x.tickets ≡ Some tickets) }
+        requires open { (x : TaskState) × (tickets : List (Option ℕ))
+            × (task_at self.old.group task ≡ Some x) × (x.tickets ≡ Some tickets) }
         requires of { IsOf verified.now.config task store.now }
         ensures config { self.new.config ≡ self.old.config }
-        ensures group { (x : TaskState) (tickets : List (Option ℕ)) → task_at self.old.group task ≡ Some x → x.tickets ≡ Some tickets → committed_group verified.now.config self.old.group task x tickets store.now.state.values ≡ (self.new.group, report.new) }
+        ensures group { (x : TaskState) (tickets : List (Option ℕ))
+            → task_at self.old.group task ≡ Some x → x.tickets ≡ Some tickets
+            → committed_group verified.now.config self.old.group task x tickets
+            store.now.state.values
+            ≡ (self.new.group, report.new) }
     {
         store.holds();
         self.shared.commit(verified, task, store, report);
@@ -153,7 +165,8 @@ impl Core {
         requires fields { FieldsInRange (sizes_of self.old.config) fields.now }
         requires calls { All (IsCall (sizes_of self.old.config)) hand.old }
         ensures config { self.new.config ≡ self.old.config }
-        ensures group { refreshed_group self.old.group fields.now hand.old ≡ (self.new.group, report.new) }
+        ensures group { refreshed_group self.old.group fields.now hand.old
+            ≡ (self.new.group, report.new) }
         ensures hand { hand.new ≡ (enter_all self.old.group.calls [] hand.old).hand }
     {
         hand.in_order();
@@ -164,7 +177,8 @@ impl Core {
     pub(crate) fn refresh_alone(&mut self, fields: &Fields, report: &mut Report)
         requires { FieldsInRange (sizes_of self.old.config) fields.now }
         ensures config { self.new.config ≡ self.old.config }
-        ensures group { refreshed_group self.old.group fields.now [] ≡ (self.new.group, report.new) }
+        ensures group { refreshed_group self.old.group fields.now []
+            ≡ (self.new.group, report.new) }
     {
         self.shared.refresh_alone(fields, report);
     }

@@ -75,7 +75,8 @@ pub fn refresh(core: &mut Core, fields: &Fields, hand: &mut Held, report: &mut R
     requires fields { FieldsInRange (sizes_of core.old.config) fields.now }
     requires calls { All (IsCall (sizes_of core.old.config)) hand.old }
     ensures config { core.new.config ≡ core.old.config }
-    ensures group { refreshed_group core.old.group fields.now hand.old ≡ (core.new.group, report.new) }
+    ensures group { refreshed_group core.old.group fields.now hand.old
+        ≡ (core.new.group, report.new) }
     ensures hand { hand.new ≡ (enter_all core.old.group.calls [] hand.old).hand }
 {
     if hand.is_blank {

@@ -24,7 +24,12 @@ impl Model for Replies {
 
     ghost Value = { Answers };
 
-    ghost view = { λ r. record { items = replies_of r.replies.items r.reports.items; room = vec_capacity r.replies; reports = length r.reports.items; report_room = vec_capacity r.reports } };
+    ghost view = { λ r. record {
+      items = replies_of r.replies.items r.reports.items;
+      room = vec_capacity r.replies;
+      reports = length r.reports.items;
+      report_room = vec_capacity r.reports;
+    } };
 
     ghost invariant = { λ r. AreReports r.replies.items r.reports.items };
 }

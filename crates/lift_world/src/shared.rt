@@ -5,16 +5,16 @@ ghost use Rattle.il_spec.specs.declared.tree.Config.{Config as ConfigOf};
 ghost use Rattle.il_table.specs.NameMap as values;
 ghost use Rattle.il_run.specs.Ranges.{HoldGlobals};
 ghost use Rattle.il_run.specs.Scan.{restricted};
-ghost use Rattle.lift_world.specs.declared.shared.Seat.{Seat as SeatOf};
+ghost use Rattle.lift_world.specs.declared.shared.TaskMemory.{TaskMemory as MemoryOf};
 ghost use Rattle.il_layout.specs.Layout.{Rows as RowsOf};
 ghost use Rattle.il_machine.specs.Scanning.{FitsOwn, OwnsDeclared, variables_in};
-ghost use Rattle.il_machine.specs.Standing.{IsOf};
+ghost use Rattle.il_machine.specs.Standing.{IsOf, beginning_with};
 ghost use Rattle.lift_spec.specs.Image.{sizes_of, FieldsInRange};
 ghost use Rattle.lift_spec.specs.Calls.{ticket_of, enter_all, SlotInRange};
 ghost use Rattle.lift_spec.specs.Settle.{settled_car, settled_all, with_outputs, denials_of};
 ghost use Rattle.lift_spec.specs.Snapshot.{scan_begins, program_of, written_globals};
 ghost use Rattle.lift_spec.specs.World.{InRanges, flat, opening_task, opening_tasks_from, opening_group, beginning_of, refreshed_group};
-ghost use Rattle.lift_world.specs.Running.{seat_at, task_in, seated, tasks_in, group_in, is_open, SharedFits, with_seat, HasOpenScan, Commits};
+ghost use Rattle.lift_world.specs.Running.{memory_at, task_in, task_by, tasks_in, group_in, is_open, FitDeclared, SharedFits, with_memory, HasOpenScan, Commits};
 ghost use Rattle.il_machine.specs.Sharing.{globals_in, FitsGlobals};
 
 use crate::calling::{clear, enter_all, report_denials, serve, tell_all};
@@ -29,19 +29,19 @@ use lift_spec::report::Report;
 use lift_spec::{Bounded, Fields, Image, Motor};
 use std::alloc::{AllocError, Global};
 
-/// A task: its variables as its last commit left them, and the tickets of the call slots that its open scan saw, if it has one.
+/// What a task keeps: its variables as its last commit left them, and the tickets of the call slots that its open scan saw, if it has one.
 #[derive(Drop)]
-pub struct Seat {
+pub struct TaskMemory {
     variables: Rows,
     tickets: Tickets,
 }
 
-/// What the tasks of a group share, and the tasks: GROUP first, then CAR1 and so on; none where the group has no such task.
+/// What the tasks of a group share, and what each keeps: GROUP first, then CAR1 and so on; none where the group has no such task.
 pub struct Shared {
     image: Image,
     calls: CallBook,
     globals: Rows,
-    seats: Vec<Option<Seat>>,
+    memories: Vec<Option<TaskMemory>>,
 }
 
 // Written by hand, since who drops a type whose drop is derived proves the drop of each type inside again.
@@ -51,7 +51,7 @@ impl Drop for Shared {
             image: _image,
             calls: _calls,
             globals: _globals,
-            seats: _seats,
+            memories: _memories,
         } = self;
     }
 }
@@ -64,43 +64,51 @@ fn copied(alloc: Global, first: &FirstRows) -> Result<Rows, AllocError>
 }
 
 // A task as it opens, if the group has it.
-fn opening_seat(alloc: Global, verified: &Verified, task: u8) -> Result<Option<Seat>, AllocError>
+fn opening_memory(
+    alloc: Global,
+    verified: &Verified,
+    task: u8,
+) -> Result<Option<TaskMemory>, AllocError>
     requires { task ≤ (sizes_of verified.now.config).cars }
-    ensures task { IfOk result (λ s. seated verified.now.config task s ≡ opening_task verified.now.config (program_of verified.now.config task)) }
-    ensures fits { IfOk result (λ o. (s : SeatOf) → o ≡ Some s → FitsOwn verified.now.config task s.variables × OwnsDeclared verified.now.config task (variables_in verified.now.config task s.variables)) }
+    ensures task { IfOk result (λ s. task_by verified.now.config task s
+        ≡ opening_task verified.now.config (program_of verified.now.config task)) }
+    ensures fits { IfOk result
+        (λ o. (s : MemoryOf) → o ≡ Some s → FitDeclared verified.now.config task s.variables) }
 {
     let _config = verified.config();
     if !verified.has_task(task) {
         return Ok(None);
     }
     let variables = copied(alloc, verified.opening_variables(task))?;
-    Ok(Some(Seat {
+    Ok(Some(TaskMemory {
         variables,
         tickets: Tickets::none(),
     }))
 }
 
 // The tasks as they open: GROUP, and then the cars'.
-fn opening_seats(
+fn opening_memories(
     alloc: Global,
     verified: &Verified,
     cars: u8,
-) -> Result<Vec<Option<Seat>>, AllocError>
+) -> Result<Vec<Option<TaskMemory>>, AllocError>
     requires few { cars ≤ 8 }
     requires all { cars ≡ (sizes_of verified.now.config).cars }
-    ensures tasks { IfOk result (λ ss. tasks_in verified.now.config 0 ss.items ≡ opening_tasks_from verified.now.config 0 (suc cars)) }
-    ensures fits { IfOk result (λ ss. (t : ℕ) (s : SeatOf) → flat (slice_get ss.items t) ≡ Some s → FitsOwn verified.now.config t s.variables × OwnsDeclared verified.now.config t (variables_in verified.now.config t s.variables)) }
+    ensures tasks { IfOk result (λ ss. tasks_in verified.now.config 0 ss.items
+        ≡ opening_tasks_from verified.now.config 0 (suc cars)) }
+    ensures fits { IfOk result (λ ss. (t : ℕ) (s : MemoryOf) → flat (slice_get ss.items t) ≡ Some s
+        → FitDeclared verified.now.config t s.variables) }
 {
-    let mut seats = Vec::new(alloc);
+    let mut memories = Vec::new(alloc);
     for task in 0..cars + 1 {
-        seats.push(opening_seat(alloc, verified, task)?)?;
+        memories.push(opening_memory(alloc, verified, task)?)?;
     }
-    Ok(seats)
+    Ok(memories)
 }
 
 // A task's scan begins, and the task holds the tickets of the slots.
-fn start_seat(
-    seat: &mut Option<Seat>,
+fn start_task(
+    memory: &mut Option<TaskMemory>,
     verified: &Verified,
     task: u8,
     globals: &Rows,
@@ -108,50 +116,70 @@ fn start_seat(
     calls: &CallBook,
     store: &mut Store,
 )
-    requires there { IsSome seat.old }
-    requires variables { (s : SeatOf) → seat.old ≡ Some s → FitsOwn verified.now.config task s.variables × OwnsDeclared verified.now.config task (variables_in verified.now.config task s.variables) }
+    requires there { IsSome memory.old }
+    requires variables { (s : MemoryOf) → memory.old ≡ Some s
+        → FitDeclared verified.now.config task s.variables }
     requires globals { FitsGlobals verified.now.config globals.now }
     requires shared { HoldGlobals verified.now.config (globals_in verified.now.config globals.now) }
     requires fields { FieldsInRange (sizes_of verified.now.config) image.now.fields }
     requires outputs { length image.now.outputs ≡ (sizes_of verified.now.config).cars }
     requires slots { length calls.now.slots ≡ (sizes_of verified.now.config).slots }
-    requires each { (last : ℕ) × All (SlotInRange (sizes_of verified.now.config) last) calls.now.slots }
+    requires each { (last : ℕ)
+        × All (SlotInRange (sizes_of verified.now.config) last) calls.now.slots }
     requires of { IsOf verified.now.config task store.old }
-    ensures seat { (s : SeatOf) → seat.old ≡ Some s → seat.new ≡ Some (record { variables = s.variables; tickets = Some (map ticket_of calls.now.slots) }) }
-    ensures begins { (s : SeatOf) → seat.old ≡ Some s → store.new.state ≡ scan_begins verified.now.config task (record { variables = variables_in verified.now.config task s.variables; snapshot = record { image = image.now; slots = calls.now.slots; globals = globals_in verified.now.config globals.now } }) }
+    ensures memory { (s : MemoryOf) → memory.old ≡ Some s
+        → memory.new
+        ≡ Some (record {
+          variables = s.variables;
+          tickets = Some (map ticket_of calls.now.slots);
+        }) }
+    ensures begins { (s : MemoryOf) → memory.old ≡ Some s
+        → store.new.state
+        ≡ scan_begins verified.now.config task
+        (beginning_with verified.now.config task s.variables image.now calls.now.slots
+        globals.now) }
     ensures of { IsOf verified.now.config task store.new }
 {
-    if let Some(seat) = seat {
+    if let Some(memory) = memory {
         let begin = Begin {
-            variables: &seat.variables,
+            variables: &memory.variables,
             globals,
             image,
             calls,
         };
         store.restart(verified, task, &begin);
-        seat.tickets.open(calls);
+        memory.tickets.open(calls);
     }
 }
 
 // A task between scans, with what its scan left of its variables.
-fn close_seat(seat: &mut Option<Seat>, verified: &Verified, task: u8, store: &Store)
-    requires variables { (s : SeatOf) → seat.old ≡ Some s → FitsOwn verified.now.config task s.variables }
+fn close_task(memory: &mut Option<TaskMemory>, verified: &Verified, task: u8, store: &Store)
+    requires variables { (s : MemoryOf) → memory.old ≡ Some s
+        → FitsOwn verified.now.config task s.variables }
     requires of { IsOf verified.now.config task store.now }
-    ensures { (s : SeatOf) → seat.old ≡ Some s → (v : RowsOf) × (seat.new ≡ Some (record { variables = v; tickets = None })) × FitsOwn verified.now.config task v × OwnsDeclared verified.now.config task (variables_in verified.now.config task v) × (variables_in verified.now.config task v ≡ restricted (variables_in verified.now.config task s.variables) store.now.state.values) }
+    ensures { (s : MemoryOf) → memory.old ≡ Some s
+        → (v : RowsOf) × (memory.new ≡ Some (record { variables = v; tickets = None }))
+        × FitsOwn verified.now.config task v
+        × OwnsDeclared verified.now.config task (variables_in verified.now.config task v)
+        × (variables_in verified.now.config task v
+        ≡ restricted (variables_in verified.now.config task s.variables)
+        store.now.state.values) }
 {
-    if let Some(seat) = seat {
-        store.copy_variables(verified, &mut seat.variables);
-        seat.tickets.shut();
+    if let Some(memory) = memory {
+        store.copy_variables(verified, &mut memory.variables);
+        memory.tickets.shut();
     }
 }
 
 // The tickets of the slots, as the open scan of a task saw them.
-fn saw(seat: &Option<Seat>) -> &[Option<u64>]
-    requires { (s : SeatOf) × (tickets : List (Option ℕ)) × (seat.now ≡ Some s) × (s.tickets ≡ Some tickets) }
-    ensures { (s : SeatOf) (tickets : List (Option ℕ)) → seat.now ≡ Some s → s.tickets ≡ Some tickets → result.now ≡ tickets }
+fn saw(memory: &Option<TaskMemory>) -> &[Option<u64>]
+    requires { (s : MemoryOf) × (tickets : List (Option ℕ)) × (memory.now ≡ Some s)
+        × (s.tickets ≡ Some tickets) }
+    ensures { (s : MemoryOf) (tickets : List (Option ℕ)) → memory.now ≡ Some s
+        → s.tickets ≡ Some tickets → result.now ≡ tickets }
 {
-    match seat {
-        Some(seat) => seat.tickets.saw(),
+    match memory {
+        Some(memory) => memory.tickets.saw(),
         None => unreachable!(),
     }
 }
@@ -160,8 +188,20 @@ fn saw(seat: &Option<Seat>) -> &[Option<u64>]
 fn settle(image: &mut Image, car: u8, motor: Motor, opens: bool, report: &mut Report)
     requires car { (1 ≤ car) × (car ≤ length image.old.fields.cars) }
     requires outputs { length image.old.outputs ≡ length image.old.fields.cars }
-    ensures image { image.new ≡ record { fields = image.old.fields; outputs = with_outputs image.old.outputs car (settled_car image.old car motor opens).outputs } }
-    ensures report { report.new ≡ record { outputs = with_outputs image.old.outputs car (settled_car image.old car motor opens).outputs; denials = denials_of car (settled_car image.old car motor opens).denials; answers = report.old.answers; entered = [] } }
+    ensures image { image.new
+        ≡ record {
+          fields = image.old.fields;
+          outputs = with_outputs image.old.outputs car
+              (settled_car image.old car motor opens).outputs;
+        } }
+    ensures report { report.new
+        ≡ record {
+          outputs = with_outputs image.old.outputs car
+              (settled_car image.old car motor opens).outputs;
+          denials = denials_of car (settled_car image.old car motor opens).denials;
+          answers = report.old.answers;
+          entered = [];
+        } }
 {
     let _room = image.outputs.len();
     let settled = settle_car(image, car, motor, opens);
@@ -174,8 +214,18 @@ fn settle(image: &mut Image, car: u8, motor: Motor, opens: bool, report: &mut Re
 // The image takes fields of as many cars, and the outputs of all are settled under them, and reported.
 fn settle_cars(image: &mut Image, fields: &Fields, report: &mut Report)
     requires { length image.old.outputs ≡ length fields.now.cars }
-    ensures image { image.new ≡ record { fields = fields.now; outputs = (settled_all image.old.outputs fields.now).outputs } }
-    ensures report { report.new ≡ record { outputs = (settled_all image.old.outputs fields.now).outputs; denials = (settled_all image.old.outputs fields.now).denials; answers = []; entered = report.old.entered } }
+    ensures image { image.new
+        ≡ record {
+          fields = fields.now;
+          outputs = (settled_all image.old.outputs fields.now).outputs;
+        } }
+    ensures report { report.new
+        ≡ record {
+          outputs = (settled_all image.old.outputs fields.now).outputs;
+          denials = (settled_all image.old.outputs fields.now).denials;
+          answers = [];
+          entered = report.old.entered;
+        } }
 {
     settle_each(&mut image.outputs, fields, &mut report.denials);
     take_fields(&mut image.fields, fields);
@@ -186,18 +236,19 @@ fn settle_cars(image: &mut Image, fields: &Fields, report: &mut Report)
 impl Shared {
     /// What the tasks share as the group opens, and the tasks (own rule).
     pub fn new(alloc: Global, verified: &Verified) -> Result<Shared, AllocError>
-        ensures group { IfOk result (λ k. group_in verified.now.config k ≡ opening_group verified.now.config) }
+        ensures group { IfOk result
+            (λ k. group_in verified.now.config k ≡ opening_group verified.now.config) }
         ensures fits { IfOk result (SharedFits verified.now.config) }
     {
         let _config = verified.config();
         let sizes = verified.sizes();
         let globals = copied(alloc, verified.opening_globals())?;
-        let seats = opening_seats(alloc, verified, sizes.cars)?;
+        let memories = opening_memories(alloc, verified, sizes.cars)?;
         Ok(Shared {
             image: opening_image(sizes),
             calls: CallBook::new(sizes),
             globals,
-            seats,
+            memories,
         })
     }
 
@@ -223,19 +274,22 @@ impl Shared {
     }
 
     /// The task of a number, if the group has it.
-    pub fn seat(&self, task: u8) -> Option<&Seat>
-        ensures { option_copied result ≡ seat_at self.now task }
+    pub fn memory(&self, task: u8) -> Option<&TaskMemory>
+        ensures { option_copied result ≡ memory_at self.now task }
     {
-        self.seats.as_slice().get(usize::from(task))?.as_ref()
+        self.memories.as_slice().get(usize::from(task))?.as_ref()
     }
 
     /// The value of a variable of a task, as its last commit left it.
     pub fn variable(&self, verified: &Verified, task: u8, path: &str) -> Option<Value>
         requires { SharedFits verified.now.config self.now }
-        ensures { result ≡ option_and_then (λ s. values.get (variables_in verified.now.config task s.variables) path.now) (seat_at self.now task) }
+        ensures { result
+            ≡ option_and_then
+            (λ s. values.get (variables_in verified.now.config task s.variables) path.now)
+            (memory_at self.now task) }
     {
-        let seat = self.seat(task)?;
-        variable(&seat.variables, verified, task, path)
+        let memory = self.memory(task)?;
+        variable(&memory.variables, verified, task, path)
     }
 
     /// The value of a global, as the last commit left it.
@@ -250,25 +304,33 @@ impl Shared {
     pub fn is_open(&self, task: u8) -> bool
         ensures { result ≡ is_open self.now task }
     {
-        match self.seats.as_slice().get(usize::from(task)) {
-            Some(Some(seat)) => seat.tickets.is_open(),
+        match self.memories.as_slice().get(usize::from(task)) {
+            Some(Some(memory)) => memory.tickets.is_open(),
             _ => false,
         }
     }
 
     /// A task's scan begins, and the task holds the tickets that it sees. No scan of it is open.
     pub fn start(&mut self, verified: &Verified, task: u8, store: &mut Store)
-        requires there { IsSome (seat_at self.old task) }
+        requires there { IsSome (memory_at self.old task) }
         requires fits { SharedFits verified.now.config self.old }
         requires ranges { InRanges verified.now.config (group_in verified.now.config self.old) }
         requires of { IsOf verified.now.config task store.old }
-        ensures begins { (s : SeatOf) → seat_at self.old task ≡ Some s → store.new.state ≡ scan_begins verified.now.config task (beginning_of (group_in verified.now.config self.old) (task_in verified.now.config task s)) }
-        ensures shared { (self.new.image ≡ self.old.image) × (self.new.calls ≡ self.old.calls) × (self.new.globals ≡ self.old.globals) }
-        ensures seats { (s : SeatOf) → seat_at self.old task ≡ Some s → self.new.seats.items ≡ with_seat self.old task s.variables (Some (map ticket_of self.old.calls.slots)) }
+        ensures begins { (s : MemoryOf) → memory_at self.old task ≡ Some s
+            → store.new.state
+            ≡ scan_begins verified.now.config task
+            (beginning_of (group_in verified.now.config self.old)
+            (task_in verified.now.config task s)) }
+        ensures shared { (self.new.image ≡ self.old.image) × (self.new.calls ≡ self.old.calls)
+            × (self.new.globals ≡ self.old.globals) }
+        ensures memories { (s : MemoryOf) → memory_at self.old task ≡ Some s
+            → self.new.memories.items
+            ≡ with_memory self.old task s.variables
+            (Some (map ticket_of self.old.calls.slots)) }
         ensures of { IsOf verified.now.config task store.new }
     {
-        start_seat(
-            &mut self.seats[usize::from(task)],
+        start_task(
+            &mut self.memories[usize::from(task)],
             verified,
             task,
             &self.globals,
@@ -285,7 +347,8 @@ impl Shared {
         requires fits { SharedFits verified.now.config self.old }
         requires ranges { InRanges verified.now.config (group_in verified.now.config self.old) }
         requires of { IsOf verified.now.config task store.now }
-        ensures { Commits verified.now.config task self.old store.now.state.values self.new report.new }
+        ensures { Commits verified.now.config task self.old store.now.state.values self.new
+            report.new }
     {
         if task == 0 {
             self.commit_group(verified, store, report);
@@ -301,11 +364,12 @@ impl Shared {
         requires fits { SharedFits verified.now.config self.old }
         requires ranges { InRanges verified.now.config (group_in verified.now.config self.old) }
         requires of { IsOf verified.now.config car store.now }
-        ensures { Commits verified.now.config car self.old store.now.state.values self.new report.new }
+        ensures { Commits verified.now.config car self.old store.now.state.values self.new
+            report.new }
     {
         let wishes = store.wishes(verified);
         settle(&mut self.image, car, wishes.motor, wishes.opens, report);
-        let tickets = saw(&self.seats[usize::from(car)]);
+        let tickets = saw(&self.memories[usize::from(car)]);
         serve(
             &mut self.calls,
             car,
@@ -322,12 +386,13 @@ impl Shared {
         requires fits { SharedFits verified.now.config self.old }
         requires ranges { InRanges verified.now.config (group_in verified.now.config self.old) }
         requires of { IsOf verified.now.config 0 store.now }
-        ensures { Commits verified.now.config 0 self.old store.now.state.values self.new report.new }
+        ensures { Commits verified.now.config 0 self.old store.now.state.values self.new
+            report.new }
     {
         let _config = verified.config();
         let _room = self.image.outputs.len();
         let cars = store.assigned(verified);
-        let tickets = saw(&self.seats[0]);
+        let tickets = saw(&self.memories[0]);
         tell_all(
             &mut self.calls,
             tickets,
@@ -342,24 +407,32 @@ impl Shared {
 
     // A task between scans, with what its scan left of its variables and of the globals that its program writes.
     fn close(&mut self, verified: &Verified, task: u8, store: &Store)
-        requires there { IsSome (seat_at self.old task) }
+        requires there { IsSome (memory_at self.old task) }
         requires fits { SharedFits verified.now.config self.old }
         requires of { IsOf verified.now.config task store.now }
         ensures shared { (self.new.image ≡ self.old.image) × (self.new.calls ≡ self.old.calls) }
-        ensures globals { globals_in verified.now.config self.new.globals ≡ written_globals (program_of verified.now.config task) (globals_in verified.now.config self.old.globals) store.now.state.values }
-        ensures closed { (s : SeatOf) → seat_at self.old task ≡ Some s → (v : RowsOf) × (self.new.seats.items ≡ with_seat self.old task v None) × (variables_in verified.now.config task v ≡ restricted (variables_in verified.now.config task s.variables) store.now.state.values) }
+        ensures globals { globals_in verified.now.config self.new.globals
+            ≡ written_globals (program_of verified.now.config task)
+            (globals_in verified.now.config self.old.globals) store.now.state.values }
+        ensures closed { (s : MemoryOf) → memory_at self.old task ≡ Some s
+            → (v : RowsOf) × (self.new.memories.items ≡ with_memory self.old task v None)
+            × (variables_in verified.now.config task v
+            ≡ restricted (variables_in verified.now.config task s.variables)
+            store.now.state.values) }
         ensures fits { SharedFits verified.now.config self.new }
     {
         store.copy_globals(verified, &mut self.globals);
-        close_seat(&mut self.seats[usize::from(task)], verified, task, store);
+        close_task(&mut self.memories[usize::from(task)], verified, task, store);
     }
 
     /// The image takes fields of as many cars, the outputs are settled under them, and the calls of the hand enter.
     pub fn refresh(&mut self, fields: &Fields, hand: &mut Hand, report: &mut Report)
         requires cars { length self.old.image.outputs ≡ length fields.now.cars }
-        ensures group { (c : ConfigOf) → refreshed_group (group_in c self.old) fields.now hand.old ≡ (group_in c self.new, report.new) }
+        ensures group { (c : ConfigOf)
+            → refreshed_group (group_in c self.old) fields.now hand.old
+            ≡ (group_in c self.new, report.new) }
         ensures hand { hand.new ≡ (enter_all self.old.calls [] hand.old).hand }
-        ensures seats { self.new.seats ≡ self.old.seats }
+        ensures memories { self.new.memories ≡ self.old.memories }
         ensures globals { self.new.globals ≡ self.old.globals }
     {
         settle_cars(&mut self.image, fields, report);
@@ -369,8 +442,10 @@ impl Shared {
     /// The image takes fields of as many cars, and the outputs are settled under them. No call is in the hand.
     pub fn refresh_alone(&mut self, fields: &Fields, report: &mut Report)
         requires cars { length self.old.image.outputs ≡ length fields.now.cars }
-        ensures group { (c : ConfigOf) → refreshed_group (group_in c self.old) fields.now [] ≡ (group_in c self.new, report.new) }
-        ensures seats { self.new.seats ≡ self.old.seats }
+        ensures group { (c : ConfigOf)
+            → refreshed_group (group_in c self.old) fields.now []
+            ≡ (group_in c self.new, report.new) }
+        ensures memories { self.new.memories ≡ self.old.memories }
         ensures globals { self.new.globals ≡ self.old.globals }
     {
         settle_cars(&mut self.image, fields, report);

@@ -71,11 +71,13 @@ impl World {
     /// changes nothing.
     #[inline(always)]
     pub fn apply(&mut self, event: &Event, report: &mut Report) -> Reply
-        ensures model { model.happens self.old.program.config self.old.world event.now ≡ Ok (self.new.world, reply_with result report.new) }
+        ensures model { model.happens self.old.program.config self.old.world event.now
+            ≡ Ok (self.new.world, reply_with result report.new) }
         ensures kept { reports_by result ≡ 0 → report.new ≡ report.old }
         ensures same { self.new.program ≡ self.old.program }
         // an Instruction leaves the group and all other scans as they were
-        ensures scan_only { (task : ℕ) → event.now ≡ Instruction task → model.ChangesScanOnly task self.old.world self.new.world }
+        ensures scan_only { (task : ℕ) → event.now ≡ Instruction task
+            → model.ChangesScanOnly task self.old.world self.new.world }
         ensures well { CallGoesWell self.old.program.config self.old.world (event.now ∷ []) }
         ensures reached { IsReached self.old.program.config self.old.world }
         ensures printed { PrintsEachBudget self.old.program }
@@ -86,9 +88,12 @@ impl World {
     /// A run over a list of events, with a reply for each, behind those that are there. What room is left is left for a further run.
     pub fn run(&mut self, events: &[Event], replies: &mut Replies)
         requires room { length replies.old.items + length events.now ≤ replies.old.room }
-        requires report_room { replies.old.reports + reporting events.now ≤ replies.old.report_room }
+        requires report_room { replies.old.reports + reporting events.now
+            ≤ replies.old.report_room }
         // the run is the definitions'
-        ensures model { model.run self.old.program.config self.old.world replies.old.items events.now ≡ Ok (self.new.world, replies.new.items) }
+        ensures model { model.run self.old.program.config self.old.world replies.old.items
+            events.now
+            ≡ Ok (self.new.world, replies.new.items) }
         ensures same { self.new.program ≡ self.old.program }
 
         // a reply for each event, and no more reports than events that may have one
@@ -103,7 +108,10 @@ impl World {
         ensures reached { IsReached self.old.program.config self.old.world }
 
         // and the budget is the one that is printed, of each task
-        ensures printed { (task : ℕ) (line : TaskLine) (u : Organized) → task_line self.old.program task ≡ Some line → program_of self.old.program.config task ≡ Some u → line.budget ≡ budget_of self.old.program.config task }
+        ensures printed { (task : ℕ) (line : TaskLine) (u : Organized)
+            → task_line self.old.program task ≡ Some line
+            → program_of self.old.program.config task ≡ Some u
+            → line.budget ≡ budget_of self.old.program.config task }
         ensures each { PrintsEachBudget self.old.program }
     {
         self.group.run(events, replies);
@@ -112,11 +120,16 @@ impl World {
     /// The open scan of a task runs to its end. The answer is the number of its instructions since now, or why there is no scan to run;
     /// then nothing changes.
     pub fn finish(&mut self, task: u8) -> Result<u32, EventFault>
-        ensures model { IfOk result (λ n. (1 ≤ n) × (model.run self.old.program.config self.old.world [] (instructions task n) ≡ Ok (self.new.world, up_to_end n))) }
-        ensures refused { IfErr result (λ fault. (self.new.world ≡ self.old.world) × (model.happens self.old.program.config self.old.world (Instruction task) ≡ Ok (self.old.world, Refused fault))) }
+        ensures model { IfOk result (λ n. (1 ≤ n)
+            × (model.run self.old.program.config self.old.world [] (instructions task n)
+            ≡ Ok (self.new.world, up_to_end n))) }
+        ensures refused { IfErr result (λ fault. (self.new.world ≡ self.old.world)
+            × (model.happens self.old.program.config self.old.world (Instruction task)
+            ≡ Ok (self.old.world, Refused fault))) }
         ensures same { self.new.program ≡ self.old.program }
         ensures scan_only { model.ChangesScanOnly task self.old.world self.new.world }
-        ensures well { (n : ℕ) → CallGoesWell self.old.program.config self.old.world (instructions task n) }
+        ensures well { (n : ℕ)
+            → CallGoesWell self.old.program.config self.old.world (instructions task n) }
         ensures reached { IsReached self.old.program.config self.old.world }
         ensures printed { PrintsEachBudget self.old.program }
     {
@@ -126,7 +139,8 @@ impl World {
     /// The image. It lies in its ranges and obeys the interlock.
     pub fn image(&self) -> &Image
         ensures image { result.now ≡ self.now.world.group.image }
-        ensures ranges { FieldsInRange (sizes_of self.now.program.config) self.now.world.group.image.fields }
+        ensures ranges { FieldsInRange (sizes_of self.now.program.config)
+            self.now.world.group.image.fields }
         ensures obeys { Obeys self.now.world.group.image }
         ensures reached { IsReached self.now.program.config self.now.world }
     {
@@ -170,7 +184,9 @@ impl World {
 
     /// The value of a variable of a task, as its last commit left it.
     pub fn variable(&self, task: u8, path: &str) -> Option<Value>
-        ensures { result ≡ option_and_then (λ t. values.get t.variables path.now) (model.task_at self.now.world.group task) }
+        ensures { result
+            ≡ option_and_then (λ t. values.get t.variables path.now)
+            (model.task_at self.now.world.group task) }
     {
         self.group.variable(task, path)
     }

@@ -6,7 +6,7 @@ use Rattle.il_machine.specs.Standing.{Standing}
 use Rattle.il_machine.specs.Ran.{Begins, IsRan}
 use Rattle.il_machine.proofs.Standing.{begun_of}
 use Rattle.il_machine.proofs.Ending.{end_there, run_out}
-use Rattle.il_machine.proofs.Values.{begins_going}
+use Rattle.il_machine.proofs.Values.{as_long, begins_going}
 use Rattle.il_machine.proofs.scanned.scan.Goals as goal
 
 pub run-requires-clause-ends : goal.run-requires-clause-ends
@@ -16,7 +16,7 @@ run-requires-clause-ends c =
     let task = c.into_parts-task.result.0 in
     let scan = c.into_parts-task.result.1 in
     let begun : Begins config task scan = begun_of store.config task scan store c.into_parts-task.ensures.stands c.into_parts-task.ensures.scan c.begun.invariant config (ap (λ (x : Standing). x.config) c.begun.view_is ∙ c.requires) in
-    end_there config c.config-config.ensures.runnable task scan _ refl begun.scan (begins_going config task scan begun) _ c.running.ensures.runs _ c.budget-budget.ensures
+    end_there config c.running.ensures.runnable task scan _ refl begun.scan (begins_going config task scan begun) _ c.running.ensures.runs _ c.budget-budget.ensures
 
 pub invariant_of-result : goal.invariant_of-result
 invariant_of-result c =
@@ -25,10 +25,11 @@ invariant_of-result c =
     let task = c.into_parts-task.result.0 in
     let scan = c.into_parts-task.result.1 in
     let begun : Begins config task scan = begun_of store.config task scan store c.into_parts-task.ensures.stands c.into_parts-task.ensures.scan c.begun.invariant config (ap (λ (x : Standing). x.config) c.begun.view_is ∙ c.requires) in
-    let out = run_out config c.config-config.ensures.runnable task scan _ c.run.new.self c.run.result refl begun.scan (begins_going config task scan begun) _ c.running.ensures.runs _ c.budget-budget.ensures c.run.ensures in
+    let out = run_out config c.running.ensures.runnable task scan _ c.run.new.self c.run.result refl begun.scan (begins_going config task scan begun) _ c.running.ensures.runs _ c.budget-budget.ensures c.run.ensures in
     let held = ap (λ (s : Stored). s.rows) c.scan.view_is in
-    let n = c.into_parts-task.ensures.numbers in
-    let f = c.into_parts-task.ensures.flags in
+    let long = as_long store.config task c.into_parts-task.result.2 scan c.into_parts-task.ensures.room c.into_parts-task.ensures.scan in
+    let n = long.0 in
+    let f = long.1 in
     let m = ap (λ (r : Rows). length r.numbers) held in
     let g = ap (λ (r : Rows). length r.flags) held in
     let copied : c.copy_front.new.first ≡ scan.rows =
@@ -36,5 +37,5 @@ invariant_of-result c =
     in (
       copied ∙ ap (λ (s : Stored). s.rows) (sym c.of-began.ensures),
       subst (λ (s : Stored). IsRan record { config = config; task = task; first = s; last = c.run.new.self }) (sym c.of-began.ensures)
-          (record { runnable = c.config-config.ensures.runnable; begins = begun; scan = out.scan; ended = out.over; count = c.run.result; some = out.some; reaches = out.reaches }),
+          (record { runnable = c.running.ensures.runnable; begins = begun; scan = out.scan; ended = out.over; count = c.run.result; some = out.some; reaches = out.reaches }),
     )

@@ -5,7 +5,7 @@ use Rattle.il_verify.specs.Costs.{cost_of, path_of}
 use Rattle.il_layout.specs.Program.{program_names}
 use Rattle.il_layout.specs.Whole.{unit_code}
 use Rattle.il_exec.specs.Quick.{AreAllQuick}
-use Rattle.il_machine.specs.Sharing.{AreSeats}
+use Rattle.il_machine.specs.Sharing.{ArePlans}
 use Rattle.lift_load.proofs.loader.affordable.Goals as goal
 
 pub of-requires-clause-budget : goal.of-requires-clause-budget
@@ -18,10 +18,10 @@ of-requires-clause-path c =
     subst (λ (k : Config). c.in_ok-checked.found.1.units ≡ map (path_of k) k.units) (sym c.in_ok-checked.ensures.ok.0)
     (subst (λ r. IfOk r (λ p. p.1.units ≡ map (path_of c.args.checked) c.args.checked.units)) c.in_ok-checked.ensures.ok.1 c.parts-found.ensures.lines)
 
-pub of-requires-clause-seats : goal.of-requires-clause-seats
-of-requires-clause-seats c =
-    subst (λ (k : Config). AreSeats k c.in_ok-checked.found.2.seats) (sym c.in_ok-checked.ensures.ok.0)
-    (subst (λ r. IfOk r (λ p. AreSeats c.args.checked p.2.seats)) c.in_ok-checked.ensures.ok.1 c.parts-found.ensures.seats)
+pub of-requires-clause-plans : goal.of-requires-clause-plans
+of-requires-clause-plans c =
+    subst (λ (k : Config). ArePlans k c.in_ok-checked.found.2.plans) (sym c.in_ok-checked.ensures.ok.0)
+    (subst (λ r. IfOk r (λ p. ArePlans c.args.checked p.2.plans)) c.in_ok-checked.ensures.ok.1 c.parts-found.ensures.plans)
 
 pub of-requires-clause-quick : goal.of-requires-clause-quick
 of-requires-clause-quick c =

@@ -1,7 +1,7 @@
 use Rattle.std.proofs.Common.{refl, subst}
 use Rattle.il_machine.specs.Standing.{Standing}
 use Rattle.il_run.specs.Scan.{Reaches}
-use Rattle.lift_world.proofs.Views.{the_seat}
+use Rattle.lift_world.proofs.Views.{the_memory}
 use Rattle.lift_world.proofs.controller.run_out.Goals as goal
 
 pub returns-clause-steps : goal.returns-clause-steps
@@ -11,6 +11,6 @@ returns-clause-steps c = λ s is.
       is = refl;
       of = c.finish.ensures.of;
       some = c.finish.ensures.some;
-      steps = subst (λ (x : Standing). Reaches c.args.verified.now.config c.finish.result x.state c.finish.new.store.state) (the_seat c.args.store.now c.in-Some.store s c.in-Some.is is) c.finish.ensures.steps;
+      steps = subst (λ (x : Standing). Reaches c.args.verified.now.config c.finish.result x.state c.finish.new.store.state) (the_memory c.args.store.now c.in-Some.store s c.in-Some.is is) c.finish.ensures.steps;
       ended = c.finish.ensures.ended;
     }

@@ -18,7 +18,7 @@ returns c =
     let own : c.self.inside.task ≡ c.task.result = search rules in
     let same : r.task ≡ task = own ∙ c.task.ensures in
     let is : program_of config c.self.inside.task ≡ Some scan.0 = ap (program_of config) same ∙ scan.1.program in
-    let cells = c.cells.ensures ∙ (c.task_code.ensures scan.0 is).cells in
+    let cells = c.cells.ensures ∙ (c.task_code.ensures.code scan.0 is).cells in
     let test = subst (λ (x : Rows). (c.same_values.result ≡ true) ↔ HaveSameValues c.cells.result.now c.self.inside.first x) rows c.same_values.ensures in
     subst (λ (x : Standing). (c.same_values.result ≡ true) ↔ BeganAs c.args.self.now x) stands
     (subst (λ (f : Finished). (c.same_values.result ≡ true) ↔ BeganAs f (standing config task s)) c.self.view_is

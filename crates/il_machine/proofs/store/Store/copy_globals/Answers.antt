@@ -6,14 +6,14 @@ use Rattle.il_machine.specs.Sharing.{globals_in, FitsGlobals}
 use Rattle.il_machine.proofs.store.Store.copy_globals.Goals as goal
 
 pub copy_globals-requires-clause-scan : goal.copy_globals-requires-clause-scan
-copy_globals-requires-clause-scan c = scan_here c.self.inside.program.value.config c.self.inside.task c.self.inside.bench c.args.self.now c.self.view_is c.args.verified.now.config c.self.inside.task (own_task c.self.inside.program.value.config c.self.inside.task c.self.inside.bench c.args.self.now c.self.view_is c.args.verified.now.config c.requires.program) c.self.inside.bench c.self.invariant.1
+copy_globals-requires-clause-scan c = scan_here c.self.inside.program.value.config c.self.inside.task c.self.inside.scan c.args.self.now c.self.view_is c.args.verified.now.config c.self.inside.task (own_task c.self.inside.program.value.config c.self.inside.task c.self.inside.scan c.args.self.now c.self.view_is c.args.verified.now.config c.requires.program) c.self.inside.scan c.self.invariant.1
 
 pub copy_globals-requires-clause-fits : goal.copy_globals-requires-clause-fits
-copy_globals-requires-clause-fits c = subst (λ (s : Standing). FitsGlobals s.config c.args.globals.now) (sym (now_is c.self.inside.program.value.config c.self.inside.task c.self.inside.bench c.args.self.now c.self.view_is c.args.verified.now.config c.self.inside.task (own_task c.self.inside.program.value.config c.self.inside.task c.self.inside.bench c.args.self.now c.self.view_is c.args.verified.now.config c.requires.program))) c.requires.fits
+copy_globals-requires-clause-fits c = subst (λ (s : Standing). FitsGlobals s.config c.args.globals.now) (sym (now_is c.self.inside.program.value.config c.self.inside.task c.self.inside.scan c.args.self.now c.self.view_is c.args.verified.now.config c.self.inside.task (own_task c.self.inside.program.value.config c.self.inside.task c.self.inside.scan c.args.self.now c.self.view_is c.args.verified.now.config c.requires.program))) c.requires.fits
 
 pub returns-clause-globals : goal.returns-clause-globals
 returns-clause-globals c =
-    subst (λ (s : Standing). globals_in s.config c.copy_globals.new.globals ≡ written_globals (program_of s.config s.task) (globals_in s.config c.args.globals.now) s.state.values) (now_is c.self.inside.program.value.config c.self.inside.task c.self.inside.bench c.args.self.now c.self.view_is c.args.verified.now.config c.self.inside.task (own_task c.self.inside.program.value.config c.self.inside.task c.self.inside.bench c.args.self.now c.self.view_is c.args.verified.now.config c.requires.program)) c.copy_globals.ensures.globals
+    subst (λ (s : Standing). globals_in s.config c.copy_globals.new.globals ≡ written_globals (program_of s.config s.task) (globals_in s.config c.args.globals.now) s.state.values) (now_is c.self.inside.program.value.config c.self.inside.task c.self.inside.scan c.args.self.now c.self.view_is c.args.verified.now.config c.self.inside.task (own_task c.self.inside.program.value.config c.self.inside.task c.self.inside.scan c.args.self.now c.self.view_is c.args.verified.now.config c.requires.program)) c.copy_globals.ensures.globals
 
 pub returns-clause-fits : goal.returns-clause-fits
-returns-clause-fits c = subst (λ (s : Standing). FitsGlobals s.config c.copy_globals.new.globals) (now_is c.self.inside.program.value.config c.self.inside.task c.self.inside.bench c.args.self.now c.self.view_is c.args.verified.now.config c.self.inside.task (own_task c.self.inside.program.value.config c.self.inside.task c.self.inside.bench c.args.self.now c.self.view_is c.args.verified.now.config c.requires.program)) c.copy_globals.ensures.fits
+returns-clause-fits c = subst (λ (s : Standing). FitsGlobals s.config c.copy_globals.new.globals) (now_is c.self.inside.program.value.config c.self.inside.task c.self.inside.scan c.args.self.now c.self.view_is c.args.verified.now.config c.self.inside.task (own_task c.self.inside.program.value.config c.self.inside.task c.self.inside.scan c.args.self.now c.self.view_is c.args.verified.now.config c.requires.program)) c.copy_globals.ensures.fits

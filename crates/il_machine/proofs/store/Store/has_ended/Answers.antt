@@ -1,10 +1,10 @@
-use Rattle.std.proofs.Common.{◌≡◌, subst, true, ◌↔◌, []}
+use Rattle.std.proofs.Common.{◌≡◌, ◌∙◌, ap, sym, subst, is_some, true, ◌↔◌, []}
+use Rattle.il_machine.specs.declared.store.Store.TheInside.{Inside}
 use Rattle.il_machine.specs.Standing.{Standing}
-use Rattle.il_machine.proofs.Standing.{now_is, own_task, scan_here}
+use Rattle.il_machine.proofs.Ending.{ended_by}
 use Rattle.il_machine.proofs.store.Store.has_ended.Goals as goal
 
-pub has_ended-requires : goal.has_ended-requires
-has_ended-requires c = record { scan = scan_here c.self.inside.program.value.config c.self.inside.task c.self.inside.bench c.args.self.now c.self.view_is c.args.verified.now.config c.self.inside.task (own_task c.self.inside.program.value.config c.self.inside.task c.self.inside.bench c.args.self.now c.self.view_is c.args.verified.now.config c.requires) c.self.inside.bench c.self.invariant.1 }
-
 pub returns : goal.returns
-returns c = subst (λ (s : Standing). (c.has_ended.result ≡ true) ↔ (s.state.frames ≡ [])) (now_is c.self.inside.program.value.config c.self.inside.task c.self.inside.bench c.args.self.now c.self.view_is c.args.verified.now.config c.self.inside.task (own_task c.self.inside.program.value.config c.self.inside.task c.self.inside.bench c.args.self.now c.self.view_is c.args.verified.now.config c.requires)) c.has_ended.ensures
+returns c =
+    subst (λ (s : Standing). (c.is_none.result ≡ true) ↔ (s.state.frames ≡ [])) c.self.view_is
+    (ended_by c.self.inside.program.value.config c.self.invariant.0 c.self.inside.task c.self.inside.scan c.self.invariant.1 c.is_none.result (sym (ap (λ (i : Inside). is_some i.scan.running) c.self-inside.view_is) ∙ c.is_none.ensures))

@@ -8,7 +8,7 @@ pub wishes-requires-clause-car : goal.wishes-requires-clause-car
 wishes-requires-clause-car c = subst (λ (s : Standing). 1 ≤ s.task) (sym c.self.view_is) c.requires.car
 
 pub wishes-requires-clause-scan : goal.wishes-requires-clause-scan
-wishes-requires-clause-scan c = scan_here c.self.inside.program.value.config c.self.inside.task c.self.inside.bench c.args.self.now c.self.view_is c.args.verified.now.config c.self.inside.task (own_task c.self.inside.program.value.config c.self.inside.task c.self.inside.bench c.args.self.now c.self.view_is c.args.verified.now.config c.requires.program) c.self.inside.bench c.self.invariant.1
+wishes-requires-clause-scan c = scan_here c.self.inside.program.value.config c.self.inside.task c.self.inside.scan c.args.self.now c.self.view_is c.args.verified.now.config c.self.inside.task (own_task c.self.inside.program.value.config c.self.inside.task c.self.inside.scan c.args.self.now c.self.view_is c.args.verified.now.config c.requires.program) c.self.inside.scan c.self.invariant.1
 
 pub returns : goal.returns
-returns c = subst (λ (s : Standing). c.wishes.result ≡ wishes_of s.state.values) (now_is c.self.inside.program.value.config c.self.inside.task c.self.inside.bench c.args.self.now c.self.view_is c.args.verified.now.config c.self.inside.task (own_task c.self.inside.program.value.config c.self.inside.task c.self.inside.bench c.args.self.now c.self.view_is c.args.verified.now.config c.requires.program)) c.wishes.ensures
+returns c = subst (λ (s : Standing). c.wishes.result ≡ wishes_of s.state.values) (now_is c.self.inside.program.value.config c.self.inside.task c.self.inside.scan c.args.self.now c.self.view_is c.args.verified.now.config c.self.inside.task (own_task c.self.inside.program.value.config c.self.inside.task c.self.inside.scan c.args.self.now c.self.view_is c.args.verified.now.config c.requires.program)) c.wishes.ensures

@@ -2,7 +2,7 @@ use Rattle.std.proofs.Common.{rules, ◌≡◌, ℕ, List, Option, Some, subst, 
 use Rattle.std.specs.Prelude.{is_some}
 use Rattle.il_machine.specs.Standing.{Standing}
 use Rattle.lift_spec.specs.World.{TaskState, task_at, committed_group}
-use Rattle.lift_world.proofs.Views.{the_seat}
+use Rattle.lift_world.proofs.Views.{the_memory}
 use Rattle.lift_world.proofs.Happening.{none_there, found, tickets_so, store_within, lent_is, lent_of, commit_none, commit_without, commit_early, open_so, committed, committed_stores}
 use Rattle.lift_world.proofs.controller.Controller.commit.Goals as goal
 
@@ -32,7 +32,7 @@ pub returns-then-not-has_ended-clause-model : goal.returns-then-not-has_ended-cl
 returns-then-not-has_ended-clause-model c =
     let w = c.args.self.now in
     let x = found c.args.self.now c.requires c.args.task _ c.has_task.ensures c.if-not-has_task.false in
-    let same : c.in-Some.store ≡ x.store = the_seat _ c.in-Some.store x.store c.in-Some.is (lent_is c.args.self.now c.requires c.args.task x _ _ c.from.ensures c.index.ensures) in
+    let same : c.in-Some.store ≡ x.store = the_memory _ c.in-Some.store x.store c.in-Some.is (lent_is c.args.self.now c.requires c.args.task x _ _ c.from.ensures c.index.ensures) in
     commit_early w c.requires c.args.task x (tickets_so w c.requires c.args.task x _ true c.is_open.ensures c.if-not-is_open.false)
     (λ over. (let bad : false ≡ true = c.if-not-has_ended.ensures.1 (ap (λ (s : Standing). s.state.frames) same ∙ over) in cc))
 
@@ -52,7 +52,7 @@ pub returns-clause-model : goal.returns-clause-model
 returns-clause-model c =
     let w = c.args.self.now in
     let x = found c.args.self.now c.requires c.args.task _ c.has_task.ensures c.if-not-has_task.false in
-    let same : c.in-Some.store ≡ x.store = the_seat _ c.in-Some.store x.store c.in-Some.is (lent_is c.args.self.now c.requires c.args.task x _ _ c.from.ensures c.index.ensures) in
+    let same : c.in-Some.store ≡ x.store = the_memory _ c.in-Some.store x.store c.in-Some.is (lent_is c.args.self.now c.requires c.args.task x _ _ c.from.ensures c.index.ensures) in
     let group =
     subst (λ (s : Standing). (y : TaskState) (ts : List (Option ℕ)) → task_at w.core.group c.args.task ≡ Some y → y.tickets ≡ Some ts → committed_group w.verified.config w.core.group c.args.task y ts s.state.values ≡ (c.commit.new.self.group, c.commit.new.report)) same
     c.commit.ensures.group
@@ -63,7 +63,7 @@ pub returns-clause-stores : goal.returns-clause-stores
 returns-clause-stores c =
     let w = c.args.self.now in
     let x = found c.args.self.now c.requires c.args.task _ c.has_task.ensures c.if-not-has_task.false in
-    let same : c.in-Some.store ≡ x.store = the_seat _ c.in-Some.store x.store c.in-Some.is (lent_is c.args.self.now c.requires c.args.task x _ _ c.from.ensures c.index.ensures) in
+    let same : c.in-Some.store ≡ x.store = the_memory _ c.in-Some.store x.store c.in-Some.is (lent_is c.args.self.now c.requires c.args.task x _ _ c.from.ensures c.index.ensures) in
     let group =
     subst (λ (s : Standing). (y : TaskState) (ts : List (Option ℕ)) → task_at w.core.group c.args.task ≡ Some y → y.tickets ≡ Some ts → committed_group w.verified.config w.core.group c.args.task y ts s.state.values ≡ (c.commit.new.self.group, c.commit.new.report)) same
     c.commit.ensures.group

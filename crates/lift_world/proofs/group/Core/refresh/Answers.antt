@@ -10,4 +10,4 @@ pub invariant_of-self : goal.invariant_of-self
 invariant_of-self c =
     refreshed_holds c.self.inside.program.value.config c.self.inside.shared c.refresh.new.self c.self.invariant c.args.fields.now c.args.hand.now c.refresh.new.report
     (subst (λ (k : GroupOf). FieldsInRange (sizes_of k.config) c.args.fields.now) (sym c.self.view_is) c.requires.fields) (subst (λ (k : GroupOf). All (IsCall (sizes_of k.config)) c.args.hand.now) (sym c.self.view_is) c.requires.calls) c.in_order.ensures
-    (c.refresh.ensures.group c.self.inside.program.value.config) c.refresh.ensures.seats c.refresh.ensures.globals
+    (c.refresh.ensures.group c.self.inside.program.value.config) c.refresh.ensures.memories c.refresh.ensures.globals

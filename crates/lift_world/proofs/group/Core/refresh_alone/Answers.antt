@@ -8,4 +8,4 @@ pub invariant_of-self : goal.invariant_of-self
 invariant_of-self c =
     refreshed_holds c.self.inside.program.value.config c.self.inside.shared c.refresh_alone.new.self c.self.invariant c.args.fields.now [] c.refresh_alone.new.report
     (subst (λ (k : GroupOf). FieldsInRange (sizes_of k.config) c.args.fields.now) (sym c.self.view_is) c.requires) (λ k d low. absurd (omega (arith, low))) tt
-    (c.refresh_alone.ensures.group c.self.inside.program.value.config) c.refresh_alone.ensures.seats c.refresh_alone.ensures.globals
+    (c.refresh_alone.ensures.group c.self.inside.program.value.config) c.refresh_alone.ensures.memories c.refresh_alone.ensures.globals

@@ -3,8 +3,8 @@ use Rattle.lift_spec.specs.declared.image.Sizes.{Sizes}
 use Rattle.il_machine.proofs.Sizes.{sizes_fit}
 use Rattle.lift_world.proofs.shared.Shared.new.Goals as goal
 
-pub opening_seats-requires-clause-few : goal.opening_seats-requires-clause-few
-opening_seats-requires-clause-few c = subst (λ (s : Sizes). s.cars ≤ 8) (sym c.sizes-sizes.ensures) (sizes_fit _ c.config-config.ensures.runnable).0.1
+pub opening_memories-requires-clause-few : goal.opening_memories-requires-clause-few
+opening_memories-requires-clause-few c = subst (λ (s : Sizes). s.cars ≤ 8) (sym c.sizes-sizes.ensures) (sizes_fit _ c.config-config.ensures.runnable).0.1
 
 pub opening_image-requires : goal.opening_image-requires
 opening_image-requires c = subst (λ (s : Sizes). s.cars ≤ 8) (sym c.sizes-sizes.ensures) (sizes_fit _ c.config-config.ensures.runnable).0.1

@@ -8,4 +8,4 @@ pub returns-clause-group : goal.returns-clause-group
 returns-clause-group c = λ config.
     let before = c.args.self.now in
     rw (c.settle_cars.ensures.image, c.settle_cars.ensures.report)
-    (refresh_group config before.image before.calls (globals_in config before.globals) before.seats.items c.args.fields.now c.args.hand.now (settled_all before.image.outputs c.args.fields.now) _ refl c.enter_all.ensures)
+    (refresh_group config before.image before.calls (globals_in config before.globals) before.memories.items c.args.fields.now c.args.hand.now (settled_all before.image.outputs c.args.fields.now) _ refl c.enter_all.ensures)

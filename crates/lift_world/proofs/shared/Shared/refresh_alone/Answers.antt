@@ -10,4 +10,4 @@ returns-clause-group c = λ config.
     let before = c.args.self.now in
     let none : Entered = record { calls = before.calls; hand = []; done = [] } in
     rw (c.clear.ensures, c.settle_cars.ensures.image, c.settle_cars.ensures.report)
-    (refresh_group config before.image before.calls (globals_in config before.globals) before.seats.items c.args.fields.now [] (settled_all before.image.outputs c.args.fields.now) none refl refl)
+    (refresh_group config before.image before.calls (globals_in config before.globals) before.memories.items c.args.fields.now [] (settled_all before.image.outputs c.args.fields.now) none refl refl)
