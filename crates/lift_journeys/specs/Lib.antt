@@ -1,0 +1,4 @@
+pub mod Lines
+pub mod Logs
+pub mod Presses
+pub mod Summaries
