@@ -31,7 +31,10 @@ fn place_of(labels: &Table<usize>, name: &str) -> usize
 
 // The operand of a short form.
 fn short_form(here: &Here, first: &Option<Written>) -> Option<Operand>
-    ensures { result ≡ option_map (λ o. operand_of (program_names here.now.scope.config here.now.scope.unit.name.name) (λ l. typed (natural (Constant l)) l) (denotation here.now.scope.config here.now.scope.unit o.reference)) first.now }
+    ensures { result ≡ option_map (λ o.
+        operand_of (program_names here.now.scope.config here.now.scope.unit.name.name)
+        (λ l. typed (natural (Constant l)) l)
+        (denotation here.now.scope.config here.now.scope.unit o.reference)) first.now }
 {
     match first {
         Some(operand) => Some(loaded(here, &operand.reference)),
@@ -46,8 +49,11 @@ fn flat(
     labels: &Table<usize>,
     instruction: &Instruction,
 ) -> Result<Flat, AllocError>
-    requires { (name : Spelling) → map.get labels.now name ≡ label_place here.now.scope.unit.body name }
-    ensures { IfOk result (λ f. f ≡ flat (program_names here.now.scope.config here.now.scope.unit.name.name) here.now.scope.config here.now.scope.unit instruction.now) }
+    requires { (name : Spelling) → map.get labels.now name
+        ≡ label_place here.now.scope.unit.body name }
+    ensures { IfOk result (λ f. f ≡ flat
+        (program_names here.now.scope.config here.now.scope.unit.name.name) here.now.scope.config
+        here.now.scope.unit instruction.now) }
 {
     match instruction {
         Instruction::Load { negated, operand } => Ok(Flat::Load {
@@ -88,8 +94,11 @@ fn flat(
 
 // The flat code of the written instructions.
 fn steps_code(alloc: Global, here: &Here, labels: &Table<usize>) -> Result<Items<Flat>, AllocError>
-    requires { (name : Spelling) → map.get labels.now name ≡ label_place here.now.scope.unit.body name }
-    ensures { IfOk result (λ code. code ++ Flat.Return Condition.Always ∷ [] ≡ flat_code (program_names here.now.scope.config here.now.scope.unit.name.name) here.now.scope.config here.now.scope.unit here.now.scope.unit.body.steps) }
+    requires { (name : Spelling) → map.get labels.now name
+        ≡ label_place here.now.scope.unit.body name }
+    ensures { IfOk result (λ code. code ++ Flat.Return Condition.Always ∷ []
+        ≡ flat_code (program_names here.now.scope.config here.now.scope.unit.name.name)
+        here.now.scope.config here.now.scope.unit here.now.scope.unit.body.steps) }
 {
     let mut code = Items::new(alloc);
     for step in here.scope.tree().body.steps.as_slice() {
@@ -100,7 +109,9 @@ fn steps_code(alloc: Global, here: &Here, labels: &Table<usize>) -> Result<Items
 
 // The same, where the labels are not known yet.
 fn body_code(alloc: Global, here: &Here) -> Result<Items<Flat>, AllocError>
-    ensures { IfOk result (λ code. code ++ Flat.Return Condition.Always ∷ [] ≡ flat_code (program_names here.now.scope.config here.now.scope.unit.name.name) here.now.scope.config here.now.scope.unit here.now.scope.unit.body.steps) }
+    ensures { IfOk result (λ code. code ++ Flat.Return Condition.Always ∷ []
+        ≡ flat_code (program_names here.now.scope.config here.now.scope.unit.name.name)
+        here.now.scope.config here.now.scope.unit here.now.scope.unit.body.steps) }
 {
     let labels = label_table(alloc, &here.scope.tree().body)?;
     steps_code(alloc, here, &labels)
@@ -108,7 +119,9 @@ fn body_code(alloc: Global, here: &Here) -> Result<Items<Flat>, AllocError>
 
 /// The flat code of a unit's body: one instruction for each written one, and the implicit RET.
 pub fn flat_code(alloc: Global, here: &Here) -> Result<Items<Flat>, AllocError>
-    ensures { IfOk result (λ code. code ≡ flat_code (program_names here.now.scope.config here.now.scope.unit.name.name) here.now.scope.config here.now.scope.unit here.now.scope.unit.body.steps) }
+    ensures { IfOk result (λ code. code
+        ≡ flat_code (program_names here.now.scope.config here.now.scope.unit.name.name)
+        here.now.scope.config here.now.scope.unit here.now.scope.unit.body.steps) }
 {
     let mut code = body_code(alloc, here)?;
     code.push(Flat::Return {

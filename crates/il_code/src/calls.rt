@@ -32,7 +32,8 @@ fn assignment(
     word: &Named,
     from: &Written,
 ) -> Assignment
-    ensures { result ≡ assigned_at here.now.scope.config here.now.scope.unit block base word.now from.now }
+    ensures { result ≡ assigned_at here.now.scope.config here.now.scope.unit block base word.now
+        from.now }
 {
     let input = here.input(block, word.name.as_str());
     Assignment {
@@ -43,7 +44,8 @@ fn assignment(
 
 // An output of a call, and where it is copied to.
 fn copied(here: &Here, block: BlockType, base: usize, word: &Named, to: &Named) -> Copied
-    ensures { result ≡ copied_at here.now.scope.config here.now.scope.unit block base word.now to.now }
+    ensures { result ≡ copied_at here.now.scope.config here.now.scope.unit block base word.now
+        to.now }
 {
     let output = here.output(block, word.name.as_str());
     Copied {
@@ -60,7 +62,8 @@ fn add_input(
     inputs: &mut Items<Assignment>,
     argument: &Argument,
 ) -> Result<(), AllocError>
-    ensures { OnOk result (inputs.new ≡ with_input here.now.scope.config here.now.scope.unit block base inputs.old argument.now) }
+    ensures { OnOk result (inputs.new ≡ with_input here.now.scope.config here.now.scope.unit block
+        base inputs.old argument.now) }
 {
     match argument {
         Argument::Input { word, operand } => {
@@ -78,7 +81,9 @@ fn add_output(
     outputs: &mut Items<Copied>,
     argument: &Argument,
 ) -> Result<(), AllocError>
-    ensures { OnOk result (outputs.new ≡ with_output here.now.scope.config here.now.scope.unit block base outputs.old argument.now) }
+    ensures { OnOk result (outputs.new
+        ≡ with_output here.now.scope.config here.now.scope.unit block base outputs.old
+        argument.now) }
 {
     match argument {
         Argument::Output { word, target } => {
@@ -96,7 +101,8 @@ fn inputs_at(
     base: usize,
     arguments: &[Argument],
 ) -> Result<Items<Assignment>, AllocError>
-    ensures { IfOk result (λ is. is ≡ inputs_at here.now.scope.config here.now.scope.unit block base arguments.now) }
+    ensures { IfOk result (λ is. is ≡ inputs_at here.now.scope.config here.now.scope.unit block
+        base arguments.now) }
 {
     let mut inputs = Items::new(alloc);
     for argument in arguments {
@@ -113,7 +119,8 @@ fn outputs_at(
     base: usize,
     arguments: &[Argument],
 ) -> Result<Items<Copied>, AllocError>
-    ensures { IfOk result (λ os. os ≡ outputs_at here.now.scope.config here.now.scope.unit block base arguments.now) }
+    ensures { IfOk result (λ os. os ≡ outputs_at here.now.scope.config here.now.scope.unit block
+        base arguments.now) }
 {
     let mut outputs = Items::new(alloc);
     for argument in arguments {
@@ -131,7 +138,8 @@ fn block_call(
     arguments: &[Argument],
     block: BlockType,
 ) -> Result<Flat, AllocError>
-    ensures { IfOk result (λ f. f ≡ block_call here.now.scope.config here.now.scope.unit condition base arguments.now block) }
+    ensures { IfOk result (λ f. f ≡ block_call here.now.scope.config here.now.scope.unit condition
+        base arguments.now block) }
 {
     let inputs = inputs_at(alloc, here, block, base, arguments)?;
     let outputs = outputs_at(alloc, here, block, base, arguments)?;
@@ -161,7 +169,8 @@ fn call_of(
     arguments: &[Argument],
     known: Option<Known>,
 ) -> Result<Flat, AllocError>
-    ensures { IfOk result (λ f. f ≡ call_of here.now.scope.config here.now.scope.unit condition arguments.now known) }
+    ensures { IfOk result (λ f. f ≡ call_of here.now.scope.config here.now.scope.unit condition
+        arguments.now known) }
 {
     let Some(known) = known else {
         return Ok(Flat::Not);
@@ -182,7 +191,10 @@ pub fn call(
     instance: &Named,
     arguments: &[Argument],
 ) -> Result<Flat, AllocError>
-    ensures { IfOk result (λ f. f ≡ calls_form (program_names here.now.scope.config here.now.scope.unit.name.name) here.now.scope.config here.now.scope.unit condition instance.now.name arguments.now (form_named here.now.scope.config here.now.scope.unit instance.now.name)) }
+    ensures { IfOk result (λ f. f ≡ calls_form
+        (program_names here.now.scope.config here.now.scope.unit.name.name) here.now.scope.config
+        here.now.scope.unit condition instance.now.name arguments.now
+        (form_named here.now.scope.config here.now.scope.unit instance.now.name)) }
 {
     let known = here.known(instance.name.as_str());
     call_of(alloc, here, condition, arguments, known)

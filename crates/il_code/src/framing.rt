@@ -34,7 +34,8 @@ pub fn add_openings(
     path: &str,
     list: &[Variable],
 ) -> Result<(), AllocError>
-    ensures { OnOk result ((es : List Entity) → list.now ≡ map (shown blocks.now.names.now) es → openings.new ≡ openings.old ++ openings_to depth blocks.now.names.now path.now es) }
+    ensures { OnOk result ((es : List Entity) → list.now ≡ map (shown blocks.now.names.now) es
+        → openings.new ≡ openings.old ++ openings_to depth blocks.now.names.now path.now es) }
 {
     add_variables(alloc, blocks, openings, depth, path, list)
 }
@@ -46,7 +47,8 @@ fn add_function(
     openings: &mut Items<Opening>,
     unit: &Unit,
 ) -> Result<(), AllocError>
-    ensures { OnOk result (openings.new ≡ openings.old ++ openings_of blocks.now.names.now unit.now.name.name (function_entities unit.now)) }
+    ensures { OnOk result (openings.new ≡ openings.old
+        ++ openings_of blocks.now.names.now unit.now.name.name (function_entities unit.now)) }
 {
     let list = function_variables(alloc, blocks.names, unit)?;
     let path = unit.name.name.as_str();
@@ -61,7 +63,8 @@ fn add_frame(
     unit: &Unit,
     framed: bool,
 ) -> Result<(), AllocError>
-    ensures { OnOk result (frames.new ≡ with_frame blocks.now.names.now frames.old unit.now framed) }
+    ensures { OnOk result (frames.new ≡ with_frame blocks.now.names.now frames.old unit.now
+        framed) }
 {
     if !framed {
         return frames.bases.push(None);
@@ -84,7 +87,8 @@ fn is_framed(unit: &Unit, used: bool) -> bool
 // Whether a unit has a frame in the task of the program of a number: it is a function that the program uses (IEC 61131-3:2003, 2.5).
 fn has_frame(ordered: &Ordered, program: usize, at: usize, unit: &Unit) -> bool
     requires { slice_get ordered.now.units at ≡ Some unit.now }
-    ensures { (p : ProgramUnit) → slice_get ordered.now.units program ≡ Some p → result ≡ has_frame ordered.now p unit.now }
+    ensures { (p : ProgramUnit) → slice_get ordered.now.units program ≡ Some p → result
+        ≡ has_frame ordered.now p unit.now }
 {
     let _config = ordered.config();
     is_framed(unit, ordered.needs(program, at))
@@ -97,7 +101,8 @@ pub fn framed_units(
     program: usize,
 ) -> Result<Items<bool>, AllocError>
     ensures count { IfOk result (λ r. length r ≡ length ordered.now.units) }
-    ensures framed { IfOk result (λ r. (p : ProgramUnit) → slice_get ordered.now.units program ≡ Some p → r ≡ map (has_frame ordered.now p) ordered.now.units) }
+    ensures framed { IfOk result (λ r. (p : ProgramUnit) → slice_get ordered.now.units program
+        ≡ Some p → r ≡ map (has_frame ordered.now p) ordered.now.units) }
 {
     let units = ordered.config().units.as_slice();
     let mut framed = Items::new(alloc);
@@ -110,7 +115,8 @@ pub fn framed_units(
 /// The frames of the units that have one.
 pub fn frames_of(alloc: Global, blocks: &Blocks, framed: &[bool]) -> Result<Frames, AllocError>
     requires { length framed.now ≡ length blocks.now.names.now.units }
-    ensures { IfOk result (λ f. f ≡ with_frames blocks.now.names.now no_frames blocks.now.names.now.units framed.now) }
+    ensures { IfOk result (λ f. f ≡ with_frames blocks.now.names.now no_frames
+        blocks.now.names.now.units framed.now) }
 {
     let units = blocks.names.config().units.as_slice();
     let mut frames = Frames {
@@ -155,7 +161,8 @@ pub fn add_own(
     openings: &mut Items<Opening>,
     unit: &Unit,
 ) -> Result<(), AllocError>
-    ensures { OnOk result (openings.new ≡ openings.old ++ openings_of blocks.now.names.now [] (own_entities unit.now)) }
+    ensures { OnOk result (openings.new ≡ openings.old
+        ++ openings_of blocks.now.names.now [] (own_entities unit.now)) }
 {
     let list = own_variables(alloc, blocks.names, unit)?;
     add_openings(alloc, blocks, openings, DEPTH, "", list.as_slice())

@@ -85,7 +85,8 @@ impl Here<'_> {
 
     // The offset of a variable of the unit of a number.
     fn offset_in(&self, unit: usize, name: &str) -> Option<usize>
-        ensures { result ≡ option_and_then (λ t. map.get t name.now) (slice_get (all_offsets self.now.scope.config) unit) }
+        ensures { result ≡ option_and_then (λ t. map.get t name.now)
+            (slice_get (all_offsets self.now.scope.config) unit) }
     {
         offset_at(self.tables, unit, name)
     }

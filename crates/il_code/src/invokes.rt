@@ -43,7 +43,9 @@ fn operands(
     function: StandardFunction,
     from: &[Written],
 ) -> Result<Items<Operand>, AllocError>
-    ensures { IfOk result (λ os. os ≡ map (λ o. by_resolved (literal_beside function) (resolve here.now.scope.config here.now.scope.unit o.reference)) from.now) }
+    ensures { IfOk result (λ os. os ≡ map
+        (λ o. by_resolved (literal_beside function)
+        (resolve here.now.scope.config here.now.scope.unit o.reference)) from.now) }
 {
     let mut operands = Items::new(alloc);
     for written in from {
@@ -54,7 +56,8 @@ fn operands(
 
 // An input of an own function, and what it is given.
 fn argument(here: &Here, unit: usize, input: &Variable, from: &Written) -> Assignment
-    ensures { result ≡ argument_at here.now.scope.config here.now.scope.unit unit input.now from.now }
+    ensures { result ≡ argument_at here.now.scope.config here.now.scope.unit unit input.now
+        from.now }
 {
     let known = here.function_variable(unit, input);
     Assignment {
@@ -71,7 +74,8 @@ fn arguments(
     inputs: &[Variable],
     from: &[Written],
 ) -> Result<Items<Assignment>, AllocError>
-    ensures { IfOk result (λ xs. xs ≡ arguments_at here.now.scope.config here.now.scope.unit unit inputs.now from.now) }
+    ensures { IfOk result (λ xs. xs ≡ arguments_at here.now.scope.config here.now.scope.unit unit
+        inputs.now from.now) }
 {
     let mut all = Items::new(alloc);
     let count = inputs.len().min(from.len());
@@ -98,7 +102,8 @@ fn own_call(
     unit: usize,
     from: &[Written],
 ) -> Result<Items<Assignment>, AllocError>
-    ensures { IfOk result (λ xs. xs ≡ arguments_at here.now.scope.config here.now.scope.unit unit (drop 1 (unit_inputs here.now.scope.config unit)) from.now) }
+    ensures { IfOk result (λ xs. xs ≡ arguments_at here.now.scope.config here.now.scope.unit unit
+        (drop 1 (unit_inputs here.now.scope.config unit)) from.now) }
 {
     let inputs = here.inputs_of(alloc, unit)?;
     arguments(alloc, here, unit, further(inputs.as_slice()), from)
@@ -112,7 +117,8 @@ fn invoke_of(
     standard: Option<StandardFunction>,
     own: Option<usize>,
 ) -> Result<Flat, AllocError>
-    ensures { IfOk result (λ f. f ≡ invoke_of here.now.scope.config here.now.scope.unit from.now standard own) }
+    ensures { IfOk result (λ f. f ≡ invoke_of here.now.scope.config here.now.scope.unit from.now
+        standard own) }
 {
     match (standard, own) {
         (Some(function), _) => Ok(Flat::Apply {
@@ -134,7 +140,10 @@ pub fn invoke(
     function: &Named,
     from: &[Written],
 ) -> Result<Flat, AllocError>
-    ensures { IfOk result (λ f. f ≡ invokes (program_names here.now.scope.config here.now.scope.unit.name.name) here.now.scope.config here.now.scope.unit function.now.name from.now (standard_function function.now.name) (function_named here.now.scope.config function.now.name)) }
+    ensures { IfOk result (λ f. f ≡ invokes
+        (program_names here.now.scope.config here.now.scope.unit.name.name) here.now.scope.config
+        here.now.scope.unit function.now.name from.now (standard_function function.now.name)
+        (function_named here.now.scope.config function.now.name)) }
 {
     let name = function.name.as_str();
     invoke_of(

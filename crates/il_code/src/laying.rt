@@ -102,7 +102,8 @@ fn add_element(
     element: Scalar,
     before: usize,
 ) -> Result<(), AllocError>
-    ensures { OnOk result (openings.new ≡ openings.old ++ element_opening path.now lower element before ∷ []) }
+    ensures { OnOk result (openings.new ≡ openings.old
+        ++ element_opening path.now lower element before ∷ []) }
 {
     let path = path_of_element(alloc, path, lower, before)?;
     push(
@@ -123,7 +124,8 @@ fn add_elements(
     element: Scalar,
     count: usize,
 ) -> Result<(), AllocError>
-    ensures { OnOk result (openings.new ≡ openings.old ++ tabulate count (element_opening path.now lower element)) }
+    ensures { OnOk result (openings.new ≡ openings.old
+        ++ tabulate count (element_opening path.now lower element)) }
 {
     'elements: for before in 0..count {
         add_element(alloc, openings, path, lower, element, before)?;
@@ -161,7 +163,8 @@ fn add_instance(
     path: &str,
     block: Option<BlockType>,
 ) -> Result<(), AllocError>
-    ensures { OnOk result (openings.new ≡ openings.old ++ block_openings depth blocks.now.units blocks.now.lists.now path.now block) }
+    ensures { OnOk result (openings.new ≡ openings.old
+        ++ block_openings depth blocks.now.units blocks.now.lists.now path.now block) }
 {
     if depth == 0 {
         return Ok(());
@@ -180,7 +183,9 @@ fn add_variable(
     path: &str,
     variable: &Variable,
 ) -> Result<(), AllocError>
-    ensures { OnOk result (openings.new ≡ openings.old ++ variable_openings (block_openings depth blocks.now.units blocks.now.lists.now) path.now variable.now.initial variable.now.declared) }
+    ensures { OnOk result (openings.new ≡ openings.old
+        ++ variable_openings (block_openings depth blocks.now.units blocks.now.lists.now) path.now
+        variable.now.initial variable.now.declared) }
 {
     match variable.declared {
         VariableType::Scalar(scalar) => {
@@ -207,7 +212,9 @@ pub fn add_variables(
     path: &str,
     list: &[Variable],
 ) -> Result<(), AllocError>
-    ensures { OnOk result (openings.new ≡ openings.old ++ list_openings (block_openings depth blocks.now.units blocks.now.lists.now) path.now list.now) }
+    ensures { OnOk result (openings.new ≡ openings.old
+        ++ list_openings (block_openings depth blocks.now.units blocks.now.lists.now) path.now
+        list.now) }
 {
     'variables: for variable in list {
         let path = under(alloc, path, variable.name.as_str())?;

@@ -109,7 +109,8 @@ fn index_in(bounds: Subrange, number: i64) -> usize
 fn numbered(bounds: Subrange, element: Scalar, offset: usize, number: i64) -> Operand
     requires short { IsShort bounds.lower (width bounds) }
     requires small { offset ≤ 2 ^ 63 }
-    ensures { result ≡ numbered (is_within bounds number) (slot_of element (offset + index_in bounds number)) }
+    ensures { result ≡ numbered (is_within bounds number)
+        (slot_of element (offset + index_in bounds number)) }
 {
     if !is_within(bounds, number) {
         return Operand::Outside;
@@ -183,7 +184,8 @@ fn member_operand(here: &Here, instance: Option<Known>, word: &str) -> Operand
 
 // An element by its index.
 fn element_operand(here: &Here, name: &str, index: &Index) -> Operand
-    ensures { result ≡ element_operand (known here.now.scope.config here.now.scope.unit) name.now index.now }
+    ensures { result ≡ element_operand (known here.now.scope.config here.now.scope.unit) name.now
+        index.now }
 {
     match index {
         Index::Number(number) => numbered_operand(here.known(name), *number),
@@ -262,14 +264,18 @@ pub fn operand_for(known: Option<Known>, resolved: Resolved) -> Operand
 
 /// The operand of LD, and of a short form.
 pub fn loaded(here: &Here, from: &Reference) -> Operand
-    ensures { result ≡ operand_of (program_names here.now.scope.config here.now.scope.unit.name.name) (λ l. typed (natural (Constant l)) l) (denotation here.now.scope.config here.now.scope.unit from.now) }
+    ensures { result ≡ operand_of (program_names here.now.scope.config
+        here.now.scope.unit.name.name) (λ l. typed (natural (Constant l)) l)
+        (denotation here.now.scope.config here.now.scope.unit from.now) }
 {
     loaded_by(resolve(here, from))
 }
 
 /// An operand beside a current result.
 pub fn beside(here: &Here, from: &Reference) -> Operand
-    ensures { result ≡ operand_of (program_names here.now.scope.config here.now.scope.unit.name.name) untyped (denotation here.now.scope.config here.now.scope.unit from.now) }
+    ensures { result ≡ operand_of (program_names here.now.scope.config
+        here.now.scope.unit.name.name) untyped
+        (denotation here.now.scope.config here.now.scope.unit from.now) }
 {
     untyped_by(resolve(here, from))
 }

@@ -24,7 +24,8 @@ use std::alloc::{AllocError, Global};
 #[tactic(auto, using(crate::proofs::Laid::seen_list))]
 fn seen_openings(alloc: Global, blocks: &Blocks, unit: &Unit) -> Result<Items<Opening>, AllocError>
     requires { is_program unit.now ≡ true }
-    ensures { IfOk result (λ os. os ≡ openings_to 17 blocks.now.names.now [] (entities unit.now.externals ++ seen_image blocks.now.names.now unit.now)) }
+    ensures { IfOk result (λ os. os ≡ openings_to 17 blocks.now.names.now []
+        (entities unit.now.externals ++ seen_image blocks.now.names.now unit.now)) }
 {
     let list = other_variables(alloc, blocks.names, unit)?;
     let mut openings = Items::new(alloc);
@@ -41,7 +42,9 @@ fn task_with(
     bases: Items<usize>,
 ) -> Result<TaskCode, AllocError>
     requires { is_program unit.now ≡ true }
-    ensures { IfOk result (λ t. t ≡ laid_task own.now (openings_to 17 blocks.now.names.now [] (entities unit.now.externals ++ seen_image blocks.now.names.now unit.now)) bases) }
+    ensures { IfOk result (λ t. t ≡ laid_task own.now
+        (openings_to 17 blocks.now.names.now []
+        (entities unit.now.externals ++ seen_image blocks.now.names.now unit.now)) bases) }
 {
     let seen = seen_openings(alloc, blocks, unit)?;
     TaskCode::of(alloc, own, seen.as_slice(), bases)
@@ -91,7 +94,8 @@ fn unit_task(
     framed: &[bool],
 ) -> Result<TaskCode, AllocError>
     requires { length framed.now ≡ length blocks.now.names.now.units }
-    ensures { IfOk result (λ t. is_program unit.now ≡ true → t ≡ program_task blocks.now.names.now unit.now framed.now) }
+    ensures { IfOk result (λ t. is_program unit.now ≡ true → t
+        ≡ program_task blocks.now.names.now unit.now framed.now) }
 {
     if is_program(unit.kind) {
         program_task(alloc, blocks, unit, framed)
@@ -108,7 +112,8 @@ fn task_of(
     at: usize,
 ) -> Result<TaskCode, AllocError>
     requires { blocks.now.names.now ≡ ordered.now }
-    ensures { IfOk result (λ t. (p : ProgramUnit) → slice_get blocks.now.names.now.units at ≡ Some p → IsAccepted blocks.now.names.now p → IsTaskOf blocks.now.names.now p t) }
+    ensures { IfOk result (λ t. (p : ProgramUnit) → slice_get blocks.now.names.now.units at
+        ≡ Some p → IsAccepted blocks.now.names.now p → IsTaskOf blocks.now.names.now p t) }
 {
     let units = blocks.names.config().units.as_slice();
     if at >= units.len() {
@@ -129,7 +134,9 @@ fn line_task(
     line: &ProgramLine,
 ) -> Result<TaskCode, AllocError>
     requires { blocks.now.names.now ≡ ordered.now }
-    ensures { IfOk result (λ t. (p : ProgramUnit) → program_named blocks.now.names.now line.now.program.name ≡ Some p → IsAccepted blocks.now.names.now p → IsTaskOf blocks.now.names.now p t) }
+    ensures { IfOk result (λ t. (p : ProgramUnit)
+        → program_named blocks.now.names.now line.now.program.name ≡ Some p
+        → IsAccepted blocks.now.names.now p → IsTaskOf blocks.now.names.now p t) }
 {
     match blocks.names.program(line.program.name.as_str()) {
         Some(at) => {
@@ -162,7 +169,8 @@ fn line_tasks(
 
 // The slots of the globals, with the values with which they begin.
 fn global_openings(alloc: Global, blocks: &Blocks) -> Result<Items<Opening>, AllocError>
-    ensures { IfOk result (λ os. os ≡ openings_to 0 blocks.now.names.now [] (entities blocks.now.names.now.globals)) }
+    ensures { IfOk result (λ os. os ≡ openings_to 0 blocks.now.names.now []
+        (entities blocks.now.names.now.globals)) }
 {
     let list = global_variables(alloc, blocks.names)?;
     let mut openings = Items::new(alloc);
@@ -172,7 +180,8 @@ fn global_openings(alloc: Global, blocks: &Blocks) -> Result<Items<Opening>, All
 
 // The slots of the globals, with those of no task behind them.
 fn laid_globals(alloc: Global, blocks: &Blocks) -> Result<TaskCode, AllocError>
-    ensures { IfOk result (λ t. t ≡ laid_task (openings_to 0 blocks.now.names.now [] (entities blocks.now.names.now.globals)) [] []) }
+    ensures { IfOk result (λ t. t ≡ laid_task
+        (openings_to 0 blocks.now.names.now [] (entities blocks.now.names.now.globals)) [] []) }
 {
     let openings = global_openings(alloc, blocks)?;
     TaskCode::of(alloc, openings.as_slice(), &[], Items::new(alloc))
@@ -189,7 +198,8 @@ pub fn tasks_and_globals(
     requires lists { lists.now ≡ block_lists names.now }
     requires count { length names.now.units < 2 ^ 63 }
     ensures tasks { IfOk result (λ p. AreTasksOf names.now names.now.programs p.0) }
-    ensures globals { IfOk result (λ p. p.1 ≡ laid_task (openings_to 0 names.now [] (entities names.now.globals)) [] []) }
+    ensures globals { IfOk result (λ p. p.1 ≡ laid_task
+        (openings_to 0 names.now [] (entities names.now.globals)) [] []) }
 {
     let blocks = Blocks {
         names,

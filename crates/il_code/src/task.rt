@@ -113,7 +113,8 @@ impl TaskCode {
     /// The path of a slot, if there is one. No two slots of a task have one path, nor two of the globals.
     pub fn name_of(&self, slot: usize) -> Option<&str>
         ensures path { option_map (λ s. s.now) result ≡ path_at self.now.cells slot }
-        ensures back { AreOnce self.now.cells → IfSome result (λ path. slot_at self.now.cells path.now ≡ Some slot) }
+        ensures back { AreOnce self.now.cells → IfSome result
+            (λ path. slot_at self.now.cells path.now ≡ Some slot) }
     {
         match self.cells.as_slice().get(slot) {
             Some(cell) => Some(cell.path.as_str()),

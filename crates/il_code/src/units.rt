@@ -68,7 +68,9 @@ fn first_of(here: &Here, inputs: &[Variable]) -> Slot
 
 // What calls of a function need.
 fn function_code(alloc: Global, here: &Here) -> Result<FunctionCode, AllocError>
-    ensures { IfOk result (λ f. f ≡ function_code_of here.now.scope.config here.now.scope.unit (map (shown here.now.scope.config) (entities here.now.scope.unit.inputs)) (map (shown here.now.scope.config) (function_entities here.now.scope.unit))) }
+    ensures { IfOk result (λ f. f ≡ function_code_of here.now.scope.config here.now.scope.unit
+        (map (shown here.now.scope.config) (entities here.now.scope.unit.inputs))
+        (map (shown here.now.scope.config) (function_entities here.now.scope.unit))) }
 {
     let names = here.scope.names();
     let unit = here.scope.tree();
@@ -83,7 +85,9 @@ fn function_code(alloc: Global, here: &Here) -> Result<FunctionCode, AllocError>
 
 // What calls of a unit need, if it is a function.
 fn function_by(alloc: Global, here: &Here) -> Result<Option<FunctionCode>, AllocError>
-    ensures { IfOk result (λ f. f ≡ function_by (program_names here.now.scope.config here.now.scope.unit.name.name) here.now.scope.config here.now.scope.unit here.now.scope.unit.kind) }
+    ensures { IfOk result (λ f. f ≡ function_by
+        (program_names here.now.scope.config here.now.scope.unit.name.name) here.now.scope.config
+        here.now.scope.unit here.now.scope.unit.kind) }
 {
     match here.scope.tree().kind {
         UnitKind::Function(..) => Ok(Some(function_code(alloc, here)?)),
@@ -93,7 +97,9 @@ fn function_by(alloc: Global, here: &Here) -> Result<Option<FunctionCode>, Alloc
 
 // The flat code of a unit.
 fn unit_code(alloc: Global, here: &Here) -> Result<UnitCode, AllocError>
-    ensures { IfOk result (λ code. code ≡ unit_code (program_names here.now.scope.config) here.now.scope.config here.now.scope.unit) }
+    ensures { IfOk result (λ code. code
+        ≡ unit_code (program_names here.now.scope.config) here.now.scope.config
+        here.now.scope.unit) }
 {
     Ok(UnitCode {
         name: Name::of(alloc, here.scope.tree().name.name.as_str())?,
@@ -112,7 +118,8 @@ fn code_at(
     requires checked { IsChecked names.now }
     requires tables { tables.now ≡ all_offsets names.now }
     requires at { at < length names.now.units }
-    ensures { IfOk result (λ code. (u : ProgramUnit) → slice_get names.now.units at ≡ Some u → code ≡ unit_code (program_names names.now) names.now u) }
+    ensures { IfOk result (λ code. (u : ProgramUnit) → slice_get names.now.units at ≡ Some u
+        → code ≡ unit_code (program_names names.now) names.now u) }
 {
     let unit = &names.config().units.as_slice()[at];
     let here = Here {
@@ -131,7 +138,8 @@ fn codes(
 ) -> Result<Items<UnitCode>, AllocError>
     requires checked { IsChecked names.now }
     requires tables { tables.now ≡ all_offsets names.now }
-    ensures { IfOk result (λ codes. codes ≡ map (unit_code (program_names names.now) names.now) names.now.units) }
+    ensures { IfOk result (λ codes. codes
+        ≡ map (unit_code (program_names names.now) names.now) names.now.units) }
 {
     let units = names.config().units.as_slice().len();
     let mut codes = Items::new(alloc);
@@ -149,7 +157,8 @@ pub fn unit_codes(
 ) -> Result<Items<UnitCode>, AllocError>
     requires checked { IsChecked names.now }
     requires lists { lists.now ≡ block_lists names.now }
-    ensures { IfOk result (λ codes. codes ≡ map (unit_code (program_names names.now) names.now) names.now.units) }
+    ensures { IfOk result (λ codes. codes
+        ≡ map (unit_code (program_names names.now) names.now) names.now.units) }
 {
     let tables = all_offsets(alloc, names, lists)?;
     codes(alloc, names, tables.as_slice())

@@ -46,7 +46,8 @@ fn again_declared(
     declarations: &[Declaration],
     seen: &mut Table<()>,
 ) -> Result<Option<Found<DeclareFault>>, AllocError>
-    ensures found { IfOk result (λ found. IsLeast found (NamedAgain seen.old (names_in declarations.now))) }
+    ensures found { IfOk result (λ found. IsLeast found
+        (NamedAgain seen.old (names_in declarations.now))) }
     ensures seen { OnOk result (seen.new ≡ after seen.old (names_in declarations.now)) }
 {
     let mut found = None;
@@ -63,7 +64,8 @@ fn again_labels(
     steps: &[Step],
     seen: &mut Table<()>,
 ) -> Result<Option<Found<DeclareFault>>, AllocError>
-    ensures found { IfOk result (λ found. IsLeast found (NamedAgain seen.old (flat_map (λ s. s.labels) steps.now))) }
+    ensures found { IfOk result (λ found. IsLeast found
+        (NamedAgain seen.old (flat_map (λ s. s.labels) steps.now))) }
     ensures seen { OnOk result (seen.new ≡ after seen.old (flat_map (λ s. s.labels) steps.now)) }
 {
     let mut found = None;
@@ -112,7 +114,8 @@ pub fn second_label(alloc: Global, body: &Body) -> Result<Option<Found<DeclareFa
 
 /// The first unit that has an earlier one's name.
 pub fn second_unit(alloc: Global, units: &[Unit]) -> Result<Option<Found<DeclareFault>>, AllocError>
-    ensures { IfOk result (λ found. IsLeast found (AgainFrom (λ x. x.name.name) (λ x. x.place) 20 table.empty units.now)) }
+    ensures { IfOk result (λ found. IsLeast found
+        (AgainFrom (λ x. x.name.name) (λ x. x.place) 20 table.empty units.now)) }
 {
     let mut seen = Table::new(alloc);
     let mut found = None;
@@ -125,7 +128,8 @@ pub fn second_unit(alloc: Global, units: &[Unit]) -> Result<Option<Found<Declare
 
 /// The first task that has an earlier one's name.
 pub fn second_task(alloc: Global, tasks: &[Task]) -> Result<Option<Found<DeclareFault>>, AllocError>
-    ensures { IfOk result (λ found. IsLeast found (AgainFrom (λ x. x.name.name) (λ x. x.place) 20 table.empty tasks.now)) }
+    ensures { IfOk result (λ found. IsLeast found
+        (AgainFrom (λ x. x.name.name) (λ x. x.place) 20 table.empty tasks.now)) }
 {
     let mut seen = Table::new(alloc);
     let mut found = None;
@@ -141,7 +145,8 @@ pub fn second_program_line(
     alloc: Global,
     lines: &[ProgramLine],
 ) -> Result<Option<Found<DeclareFault>>, AllocError>
-    ensures { IfOk result (λ found. IsLeast found (AgainFrom (λ x. x.name.name) (λ x. x.place) 20 table.empty lines.now)) }
+    ensures { IfOk result (λ found. IsLeast found
+        (AgainFrom (λ x. x.name.name) (λ x. x.place) 20 table.empty lines.now)) }
 {
     let mut seen = Table::new(alloc);
     let mut found = None;
@@ -157,7 +162,8 @@ pub fn second_line_of_task(
     alloc: Global,
     lines: &[ProgramLine],
 ) -> Result<Option<Found<DeclareFault>>, AllocError>
-    ensures { IfOk result (λ found. IsLeast found (AgainFrom (λ x. x.task.name) (λ x. x.place) 24 table.empty lines.now)) }
+    ensures { IfOk result (λ found. IsLeast found
+        (AgainFrom (λ x. x.task.name) (λ x. x.place) 24 table.empty lines.now)) }
 {
     let mut seen = Table::new(alloc);
     let mut found = None;

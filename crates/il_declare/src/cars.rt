@@ -20,7 +20,8 @@ pub fn missing_fault(
     alloc: Global,
     names: &Scoped,
 ) -> Result<Option<Found<DeclareFault>>, AllocError>
-    ensures { IfOk result (λ found. IsLeast found (When (MissesCar names.now) 24 names.now.end_resource)) }
+    ensures { IfOk result (λ found. IsLeast found
+        (When (MissesCar names.now) 24 names.now.end_resource)) }
 {
     let config = names.config();
     let numbers = car_numbers(alloc, config.cars.value, config.tasks.as_slice())?;
@@ -30,7 +31,8 @@ pub fn missing_fault(
 
 // The numbers of the cars that have tasks.
 fn car_numbers(alloc: Global, cars: i64, tasks: &[Task]) -> Result<HashSet<u64>, AllocError>
-    ensures { IfOk result (λ s. (k : ℕ) → bag.contains nat_eq s k ≡ list_any (λ t. is_number k (car_of cars t.name.name)) tasks.now) }
+    ensures { IfOk result (λ s. (k : ℕ) → bag.contains nat_eq s k
+        ≡ list_any (λ t. is_number k (car_of cars t.name.name)) tasks.now) }
 {
     let mut numbers = HashSet::new(alloc);
     for task in tasks {
@@ -41,7 +43,8 @@ fn car_numbers(alloc: Global, cars: i64, tasks: &[Task]) -> Result<HashSet<u64>,
 
 // Adds the number of a task's car.
 fn put_number(cars: i64, task: &Task, numbers: &mut HashSet<u64>) -> Result<(), AllocError>
-    ensures { IfOk result (λ _. (k : ℕ) → bag.contains nat_eq numbers.new k ≡ (is_number k (car_of cars task.now.name.name) || bag.contains nat_eq numbers.old k)) }
+    ensures { IfOk result (λ _. (k : ℕ) → bag.contains nat_eq numbers.new k
+        ≡ (is_number k (car_of cars task.now.name.name) || bag.contains nat_eq numbers.old k)) }
 {
     if let Some(number) = car_number(cars, task.name.name.as_str()) {
         numbers.insert(number)?;
@@ -51,8 +54,10 @@ fn put_number(cars: i64, task: &Task, numbers: &mut HashSet<u64>) -> Result<(), 
 
 // Whether a car of so many has no task. It ends after as many cars as there are tasks, and one.
 fn misses_car(cars: i64, numbers: &HashSet<u64>) -> bool
-    ensures some { result ≡ true → (k : ℕ) × (1 ≤ k) × (pos k ≤ℤ cars) × (bag.contains nat_eq numbers.now k ≡ false) }
-    ensures all { result ≡ false → (k : ℕ) → 1 ≤ k → pos k ≤ℤ cars → bag.contains nat_eq numbers.now k ≡ true }
+    ensures some { result ≡ true → (k : ℕ) × (1 ≤ k) × (pos k ≤ℤ cars)
+        × (bag.contains nat_eq numbers.now k ≡ false) }
+    ensures all { result ≡ false → (k : ℕ) → 1 ≤ k → pos k ≤ℤ cars
+        → bag.contains nat_eq numbers.now k ≡ true }
 {
     let Ok(limit) = u64::try_from(cars) else {
         return false;

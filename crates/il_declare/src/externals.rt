@@ -63,7 +63,8 @@ fn external_fault(
 
 // Whether a scalar's or an array's type is not the global's. That of an instance is no external's in any case.
 fn is_other_type(form: &Form, global: VariableType) -> bool
-    ensures { (config : Config) (other : WrittenForm) → global ≡ type_of config other → IsOther form.now other result }
+    ensures { (config : Config) (other : WrittenForm) → global ≡ type_of config other
+        → IsOther form.now other result }
 {
     match (form, global) {
         (Form::Scalar(own), VariableType::Scalar(other)) => !is_same_scalar(*own, other),

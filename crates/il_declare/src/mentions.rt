@@ -24,7 +24,8 @@ pub enum Access {
 
 /// The first instruction with a name that its place doesn't take.
 pub fn steps_fault(here: &UnitScope, steps: &[Step]) -> Option<Found<DeclareFault>>
-    ensures { IsLeast result (Among (λ s. At (name_numbers here.now.config here.now.unit s.instruction) s.place) steps.now) }
+    ensures { IsLeast result (Among (λ s.
+        At (name_numbers here.now.config here.now.unit s.instruction) s.place) steps.now) }
 {
     let mut found = None;
     for step in steps {
@@ -43,7 +44,8 @@ fn instruction_fault(
     instruction: &Instruction,
     place: Place,
 ) -> Option<Found<DeclareFault>>
-    ensures { result ≡ lowest_at (name_numbers here.now.config here.now.unit instruction.now) place }
+    ensures { result ≡ lowest_at (name_numbers here.now.config here.now.unit instruction.now)
+        place }
 {
     match instruction {
         Instruction::Load { operand, .. } => operand_fault(here, Access::Reads, operand, place),
@@ -68,7 +70,8 @@ fn short_form_fault(
     first: &Option<Operand>,
     place: Place,
 ) -> Option<Found<DeclareFault>>
-    ensures { result ≡ lowest_at (short_form_name_numbers here.now.config here.now.unit first.now) place }
+    ensures { result ≡ lowest_at (short_form_name_numbers here.now.config here.now.unit first.now)
+        place }
 {
     match first {
         Some(operand) => operand_fault(here, Access::Reads, operand, place),
@@ -83,7 +86,9 @@ fn call_fault(
     arguments: &[Argument],
     place: Place,
 ) -> Option<Found<DeclareFault>>
-    ensures { result ≡ lowest_at (called_numbers (meaning here.now.config here.now.unit instance.now.name) ++ flat_map (argument_name_numbers here.now.config here.now.unit) arguments.now) place }
+    ensures { result ≡ lowest_at (called_numbers
+        (meaning here.now.config here.now.unit instance.now.name)
+        ++ flat_map (argument_name_numbers here.now.config here.now.unit) arguments.now) place }
 {
     let called = called_name_fault(here, instance.name.as_str(), place);
     earlier(called, arguments_fault(here, arguments, place))
@@ -96,7 +101,10 @@ fn invoke_fault(
     operands: &[Operand],
     place: Place,
 ) -> Option<Found<DeclareFault>>
-    ensures { result ≡ lowest_at ((if is_some (standard_function function.now.name) then [] else unless (is_some (function_named here.now.config function.now.name)) 21) ++ flat_map (λ o. reference_numbers here.now.config here.now.unit Reads o.reference) operands.now) place }
+    ensures { result ≡ lowest_at ((if is_some (standard_function function.now.name) then [] else
+        unless (is_some (function_named here.now.config function.now.name)) 21)
+        ++ flat_map (λ o. reference_numbers here.now.config here.now.unit Reads o.reference)
+        operands.now) place }
 {
     let unknown = function_fault(here.names(), function.name.as_str(), place);
     earlier(unknown, operands_fault(here, operands, place))
@@ -104,7 +112,8 @@ fn invoke_fault(
 
 // What the name of a function breaks: it is a standard one's or an own one's.
 fn function_fault(names: &Scoped, name: &str, place: Place) -> Option<Found<DeclareFault>>
-    ensures { result ≡ lowest_at (if is_some (standard_function name.now) then [] else unless (is_some (function_named names.now name.now)) 21) place }
+    ensures { result ≡ lowest_at (if is_some (standard_function name.now) then [] else unless
+        (is_some (function_named names.now name.now)) 21) place }
 {
     if standard_function(name).is_some() {
         return None;
@@ -119,7 +128,8 @@ fn arguments_fault(
     arguments: &[Argument],
     place: Place,
 ) -> Option<Found<DeclareFault>>
-    ensures { result ≡ lowest_at (flat_map (argument_name_numbers here.now.config here.now.unit) arguments.now) place }
+    ensures { result ≡ lowest_at (flat_map (argument_name_numbers here.now.config here.now.unit)
+        arguments.now) place }
 {
     let mut found = None;
     for argument in arguments {
@@ -134,7 +144,9 @@ fn operands_fault(
     operands: &[Operand],
     place: Place,
 ) -> Option<Found<DeclareFault>>
-    ensures { result ≡ lowest_at (flat_map (λ o. reference_numbers here.now.config here.now.unit Reads o.reference) operands.now) place }
+    ensures { result ≡ lowest_at (flat_map
+        (λ o. reference_numbers here.now.config here.now.unit Reads o.reference) operands.now)
+        place }
 {
     let mut found = None;
     for operand in operands {
@@ -149,7 +161,8 @@ fn argument_fault(
     argument: &Argument,
     place: Place,
 ) -> Option<Found<DeclareFault>>
-    ensures { result ≡ lowest_at (argument_name_numbers here.now.config here.now.unit argument.now) place }
+    ensures { result ≡ lowest_at (argument_name_numbers here.now.config here.now.unit
+        argument.now) place }
 {
     match argument {
         Argument::Input { operand, .. } => operand_fault(here, Access::Reads, operand, place),
@@ -165,7 +178,8 @@ fn operand_fault(
     operand: &Operand,
     place: Place,
 ) -> Option<Found<DeclareFault>>
-    ensures { result ≡ lowest_at (reference_numbers here.now.config here.now.unit (shown_access access) operand.now.reference) place }
+    ensures { result ≡ lowest_at (reference_numbers here.now.config here.now.unit
+        (shown_access access) operand.now.reference) place }
 {
     match &operand.reference {
         Reference::Literal(_) => None,
@@ -184,7 +198,8 @@ fn element_fault(
     index: &Index,
     place: Place,
 ) -> Option<Found<DeclareFault>>
-    ensures { result ≡ lowest_at (array_numbers (meaning here.now.config here.now.unit name.now) ++ index_name_numbers here.now.config here.now.unit index.now) place }
+    ensures { result ≡ lowest_at (array_numbers (meaning here.now.config here.now.unit name.now)
+        ++ index_name_numbers here.now.config here.now.unit index.now) place }
 {
     let array = array_name_fault(here, name, place);
     earlier(array, index_fault(here, index, place))
@@ -192,7 +207,8 @@ fn element_fault(
 
 // What the name of an index breaks: it is a scalar variable's.
 fn index_fault(here: &UnitScope, index: &Index, place: Place) -> Option<Found<DeclareFault>>
-    ensures { result ≡ lowest_at (index_name_numbers here.now.config here.now.unit index.now) place }
+    ensures { result ≡ lowest_at (index_name_numbers here.now.config here.now.unit index.now)
+        place }
 {
     match index {
         Index::Number(_) => None,
@@ -202,7 +218,8 @@ fn index_fault(here: &UnitScope, index: &Index, place: Place) -> Option<Found<De
 
 // What a name where a scalar variable stands breaks.
 fn scalar_name_fault(here: &UnitScope, name: &str, place: Place) -> Option<Found<DeclareFault>>
-    ensures { result ≡ lowest_at (scalar_numbers (meaning here.now.config here.now.unit name.now)) place }
+    ensures { result ≡ lowest_at (scalar_numbers (meaning here.now.config here.now.unit name.now))
+        place }
 {
     scalar_fault(here.meaning(name), place)
 }
@@ -230,7 +247,8 @@ fn scalar_type_fault(declared: VariableType, place: Place) -> Option<Found<Decla
 
 // What a name before an index breaks.
 fn array_name_fault(here: &UnitScope, name: &str, place: Place) -> Option<Found<DeclareFault>>
-    ensures { result ≡ lowest_at (array_numbers (meaning here.now.config here.now.unit name.now)) place }
+    ensures { result ≡ lowest_at (array_numbers (meaning here.now.config here.now.unit name.now))
+        place }
 {
     array_fault(here.meaning(name), place)
 }
@@ -258,7 +276,8 @@ fn array_type_fault(declared: VariableType, place: Place) -> Option<Found<Declar
 
 // What a name behind CAL breaks.
 fn called_name_fault(here: &UnitScope, name: &str, place: Place) -> Option<Found<DeclareFault>>
-    ensures { result ≡ lowest_at (called_numbers (meaning here.now.config here.now.unit name.now)) place }
+    ensures { result ≡ lowest_at (called_numbers (meaning here.now.config here.now.unit name.now))
+        place }
 {
     called_fault(here.meaning(name), place)
 }
@@ -292,7 +311,8 @@ fn member_name_fault(
     word: &str,
     place: Place,
 ) -> Option<Found<DeclareFault>>
-    ensures { result ≡ lowest_at (member_numbers here.now.config (shown_access access) word.now (meaning here.now.config here.now.unit name.now)) place }
+    ensures { result ≡ lowest_at (member_numbers here.now.config (shown_access access) word.now
+        (meaning here.now.config here.now.unit name.now)) place }
 {
     member_fault(here.names(), access, word, here.meaning(name), place)
 }
@@ -305,7 +325,8 @@ fn member_fault(
     binding: Option<Binding>,
     place: Place,
 ) -> Option<Found<DeclareFault>>
-    ensures { result ≡ lowest_at (member_of names.now (shown_access access) word.now binding) place }
+    ensures { result ≡ lowest_at (member_of names.now (shown_access access) word.now binding)
+        place }
 {
     match binding {
         Some(Binding::Variable(variable)) => {
@@ -324,7 +345,8 @@ fn member_type_fault(
     declared: VariableType,
     place: Place,
 ) -> Option<Found<DeclareFault>>
-    ensures { result ≡ lowest_at (member_type_numbers names.now (shown_access access) word.now declared) place }
+    ensures { result ≡ lowest_at (member_type_numbers names.now (shown_access access) word.now
+        declared) place }
 {
     match declared {
         VariableType::Instance(block) => fault_if(
@@ -338,7 +360,8 @@ fn member_type_fault(
 
 // Whether a word is an output of a block, or an input where it is stored into.
 fn is_visible(names: &Scoped, access: Access, block: Option<BlockType>, word: &str) -> bool
-    ensures { result ≡ is_visible (shown_access access) (option_and_then (variables_of_block names.now) block) word.now }
+    ensures { result ≡ is_visible (shown_access access)
+        (option_and_then (variables_of_block names.now) block) word.now }
 {
     let Some(block) = block else {
         return false;
@@ -351,14 +374,16 @@ fn is_visible(names: &Scoped, access: Access, block: Option<BlockType>, word: &s
 
 // Whether a word is an output of a block.
 fn has_output(names: &Scoped, block: BlockType, word: &str) -> bool
-    ensures { result ≡ is_some (option_and_then (λ b. entry_of b.outputs word.now) (variables_of_block names.now block)) }
+    ensures { result ≡ is_some (option_and_then (λ b. entry_of b.outputs word.now)
+        (variables_of_block names.now block)) }
 {
     names.block_output(block, word).is_some()
 }
 
 // Whether a word is an input of a block.
 fn has_input(names: &Scoped, block: BlockType, word: &str) -> bool
-    ensures { result ≡ is_some (option_and_then (λ b. entry_of b.inputs word.now) (variables_of_block names.now block)) }
+    ensures { result ≡ is_some (option_and_then (λ b. entry_of b.inputs word.now)
+        (variables_of_block names.now block)) }
 {
     names.block_input(block, word).is_some()
 }

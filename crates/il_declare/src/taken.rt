@@ -57,7 +57,8 @@ fn taken_named(names: &Scoped, named: &[Named]) -> Option<Found<DeclareFault>>
 
 // Whether a name is predeclared or a unit's.
 fn is_taken(names: &Scoped, name: &str) -> bool
-    ensures { result ≡ (is_predeclared names.now name.now || is_one_of (names_of_units names.now) name.now) }
+    ensures { result ≡ (is_predeclared names.now name.now || is_one_of (names_of_units names.now)
+        name.now) }
 {
     names.is_predeclared(name) || names.is_unit(name)
 }

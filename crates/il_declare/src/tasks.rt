@@ -65,7 +65,8 @@ pub fn program_lines_fault(
     alloc: Global,
     names: &Scoped,
 ) -> Result<Option<Found<DeclareFault>>, AllocError>
-    ensures { IfOk result (λ found. IsLeast found (Among (λ l. When (BreaksLine names.now l) 24 l.place) names.now.programs)) }
+    ensures { IfOk result (λ found. IsLeast found
+        (Among (λ l. When (BreaksLine names.now l) 24 l.place) names.now.programs)) }
 {
     let config = names.config();
     let tasks = task_names(alloc, config.tasks.as_slice())?;
@@ -99,7 +100,8 @@ fn is_wrong_line(names: &Scoped, tasks: &Table<()>, line: &ProgramLine) -> bool
 
 // Whether a PROGRAM line names a task that is not among these.
 fn lacks_task(tasks: &Table<()>, line: &ProgramLine) -> bool
-    ensures { (names : List Spelling) → IsSet names tasks.now → result ≡ not (is_one_of names line.now.task.name) }
+    ensures { (names : List Spelling) → IsSet names tasks.now → result
+        ≡ not (is_one_of names line.now.task.name) }
 {
     !has_name(tasks, line.task.name.as_str())
 }
@@ -137,7 +139,9 @@ pub fn unused_fault(
     alloc: Global,
     names: &Scoped,
 ) -> Result<Option<Found<DeclareFault>>, AllocError>
-    ensures { IfOk result (λ found. IsLeast found (Among (λ u. When (IsUnusedOf (map (λ l. l.program.name) names.now.programs) u) 24 u.place) names.now.units)) }
+    ensures { IfOk result (λ found. IsLeast found
+        (Among (λ u. When (IsUnusedOf (map (λ l. l.program.name) names.now.programs) u) 24
+        u.place) names.now.units)) }
 {
     let config = names.config();
     let lines = lines_programs(alloc, config.programs.as_slice())?;
@@ -146,7 +150,8 @@ pub fn unused_fault(
 
 // The first program that is unused.
 fn units_fault(lines: &Table<()>, units: &[Unit]) -> Option<Found<DeclareFault>>
-    ensures { (programs : List Spelling) → IsSet programs lines.now → IsLeast result (Among (λ u. When (IsUnusedOf programs u) 24 u.place) units.now) }
+    ensures { (programs : List Spelling) → IsSet programs lines.now
+        → IsLeast result (Among (λ u. When (IsUnusedOf programs u) 24 u.place) units.now) }
 {
     let mut found = None;
     for unit in units {
@@ -160,7 +165,8 @@ fn units_fault(lines: &Table<()>, units: &[Unit]) -> Option<Found<DeclareFault>>
 
 // Whether a unit is a program that is not among these.
 fn is_unused(lines: &Table<()>, unit: &Unit) -> bool
-    ensures { (programs : List Spelling) → IsSet programs lines.now → result ≡ (is_program unit.now && not (is_one_of programs unit.now.name.name)) }
+    ensures { (programs : List Spelling) → IsSet programs lines.now → result
+        ≡ (is_program unit.now && not (is_one_of programs unit.now.name.name)) }
 {
     is_program(unit.kind) && !has_name(lines, unit.name.name.as_str())
 }

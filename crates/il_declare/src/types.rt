@@ -60,7 +60,8 @@ fn type_fault(
     admitted: Admitted,
     declared: &WrittenType,
 ) -> Option<Found<DeclareFault>>
-    ensures { result ≡ lowest_at (type_numbers names.now (shown admitted) declared.now.form) declared.now.place }
+    ensures { result ≡ lowest_at (type_numbers names.now (shown admitted) declared.now.form)
+        declared.now.place }
 {
     let place = declared.place;
     match &declared.form {
@@ -77,7 +78,8 @@ fn array_fault(
     element: Scalar,
     place: Place,
 ) -> Option<Found<DeclareFault>>
-    ensures { result ≡ lowest_at (unless (admits_arrays (shown admitted)) 25 ++ bounds_numbers bounds ++ subrange_numbers element.elementary element.subrange) place }
+    ensures { result ≡ lowest_at (unless (admits_arrays (shown admitted)) 25
+        ++ bounds_numbers bounds ++ subrange_numbers element.elementary element.subrange) place }
 {
     let misplaced = fault_if(!admits_arrays(admitted), DeclareFault::TypeDiffers, place);
     earlier(
@@ -116,7 +118,8 @@ fn bounds_fault(bounds: Subrange, place: Place) -> Option<Found<DeclareFault>>
 
 // Whether bounds are those of an array.
 fn are_bounds(bounds: Subrange) -> bool
-    ensures { result ≡ (has_value Int bounds.lower && has_value Int bounds.upper && int_le bounds.lower bounds.upper && int_lt (bounds.upper -ℤ bounds.lower) (pos 256)) }
+    ensures { result ≡ (has_value Int bounds.lower && has_value Int bounds.upper && int_le
+        bounds.lower bounds.upper && int_lt (bounds.upper -ℤ bounds.lower) (pos 256)) }
 {
     has_value(Elementary::Int, bounds.lower)
         && has_value(Elementary::Int, bounds.upper)
@@ -154,7 +157,8 @@ fn instance_fault(
     name: &str,
     place: Place,
 ) -> Option<Found<DeclareFault>>
-    ensures { result ≡ lowest_at (instance_numbers (shown admitted) (block_variables names.now name.now)) place }
+    ensures { result ≡ lowest_at (instance_numbers (shown admitted)
+        (block_variables names.now name.now)) place }
 {
     if names.block(name).is_none() {
         return fault_if(true, DeclareFault::Unknown, place);

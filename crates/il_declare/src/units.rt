@@ -64,7 +64,8 @@ fn checked_fault(here: &UnitScope) -> Option<Found<DeclareFault>>
 
 // The first fault of the types and initial values that a unit writes.
 fn types_fault(names: &Scoped, unit: &Unit) -> Option<Found<DeclareFault>>
-    ensures { IsLeast result (Either (BreaksResult unit.now.kind) (BreaksLists names.now unit.now)) }
+    ensures { IsLeast result (Either (BreaksResult unit.now.kind)
+        (BreaksLists names.now unit.now)) }
 {
     earlier(result_fault(unit.kind), lists_fault(names, unit))
 }

@@ -39,7 +39,8 @@ fn units_and_sizes_fault(
     alloc: Global,
     names: &Scoped,
 ) -> Result<Option<Found<DeclareFault>>, AllocError>
-    ensures { IfOk result (λ found. IsLeast found (Either (SizesBreak names.now) (Among (UnitBreaks names.now) names.now.units))) }
+    ensures { IfOk result (λ found. IsLeast found
+        (Either (SizesBreak names.now) (Among (UnitBreaks names.now) names.now.units))) }
 {
     let units = units_fault(alloc, names)?;
     Ok(earlier(sizes_fault(names.config()), units))
@@ -47,7 +48,8 @@ fn units_and_sizes_fault(
 
 // The first fault of globals, of names of units, tasks and PROGRAM lines, and of tasks.
 fn others_fault(alloc: Global, names: &Scoped) -> Result<Option<Found<DeclareFault>>, AllocError>
-    ensures { IfOk result (λ found. IsLeast found (Either (GlobalsBreak names.now) (Either (SecondNames names.now) (TasksBreak names.now)))) }
+    ensures { IfOk result (λ found. IsLeast found
+        (Either (GlobalsBreak names.now) (Either (SecondNames names.now) (TasksBreak names.now)))) }
 {
     let globals = globals_fault(alloc, names)?;
     let second = second_names_fault(alloc, names.config())?;

@@ -15,5 +15,6 @@ pub fn paths_and_slots_are_paired()
 
 /// A law: the flat code and the slots of the task of a program mean its tree, where the slots can be counted.
 pub fn flat_code_means_the_tree()
-    ensures { (c : Config) (p : ProgramUnit) → IsAccepted c p → length (program_cells c p) < 2 ^ 63 → MeansTree c p }
+    ensures { (c : Config) (p : ProgramUnit) → IsAccepted c p
+        → length (program_cells c p) < 2 ^ 63 → MeansTree c p }
 {}

@@ -45,7 +45,8 @@ fn table_at(
     requires sizes { sizes.now ≡ sizes_of names.now }
     requires lists { lists.now ≡ block_lists names.now }
     requires at { at < length names.now.units }
-    ensures { IfOk result (λ t. (u : ProgramUnit) → slice_get names.now.units at ≡ Some u → t ≡ unit_offsets names.now u) }
+    ensures { IfOk result (λ t. (u : ProgramUnit) → slice_get names.now.units at ≡ Some u → t
+        ≡ unit_offsets names.now u) }
 {
     let unit = &names.config().units.as_slice()[at];
     let own = lists[at].as_slice();

@@ -69,7 +69,8 @@ fn add_names(
     declared: VariableType,
     initial: Option<Literal>,
 ) -> Result<(), AllocError>
-    ensures { OnOk result (list.new ≡ added list.old (map (λ n. variable n.name declared initial) names.now)) }
+    ensures { OnOk result (list.new ≡ added list.old
+        (map (λ n. variable n.name declared initial) names.now)) }
 {
     'names: for named in names {
         push(alloc, list, named.name.as_str(), declared, initial)?;
@@ -94,7 +95,8 @@ fn add_declarations(
     list: &mut Items<Variable>,
     declarations: &[Declaration],
 ) -> Result<(), AllocError>
-    ensures { OnOk result (list.new ≡ added list.old (map (shown names.now) (entities declarations.now))) }
+    ensures { OnOk result (list.new ≡ added list.old
+        (map (shown names.now) (entities declarations.now))) }
 {
     'lists: for declaration in declarations {
         let declared = names.type_of(&declaration.declared.form);
@@ -112,7 +114,8 @@ fn add_own(
     list: &mut Items<Variable>,
     unit: &Unit,
 ) -> Result<(), AllocError>
-    ensures { OnOk result (list.new ≡ added list.old (map (shown names.now) (own_entities unit.now))) }
+    ensures { OnOk result (list.new ≡ added list.old
+        (map (shown names.now) (own_entities unit.now))) }
 {
     add_declarations(alloc, names, list, unit.inputs.as_slice())?;
     add_declarations(alloc, names, list, unit.outputs.as_slice())?;
@@ -140,7 +143,8 @@ fn add_result(
     list: &mut Items<Variable>,
     unit: &Unit,
 ) -> Result<(), AllocError>
-    ensures { OnOk result (list.new ≡ added list.old (map (shown names.now) (result_entities unit.now.kind unit.now.name.name))) }
+    ensures { OnOk result (list.new ≡ added list.old
+        (map (shown names.now) (result_entities unit.now.kind unit.now.name.name))) }
 {
     let _config = names.config();
     match unit.kind {
@@ -197,7 +201,8 @@ fn add_row(
     part: Part,
     row: &ImageRow,
 ) -> Result<(), AllocError>
-    ensures { OnOk result (list.new ≡ added list.old (seen_entry role part (named names.now row.now))) }
+    ensures { OnOk result (list.new ≡ added list.old
+        (seen_entry role part (named names.now row.now))) }
 {
     let image = names.image_name(row);
     if is_in_part(part, image.audience) && is_seen_by(role, image.audience) {
@@ -216,7 +221,8 @@ fn add_rows(
     part: Part,
     rows: &[ImageRow],
 ) -> Result<(), AllocError>
-    ensures { OnOk result (list.new ≡ added list.old (flat_map (seen_entry role part) (map (named names.now) rows.now))) }
+    ensures { OnOk result (list.new ≡ added list.old
+        (flat_map (seen_entry role part) (map (named names.now) rows.now))) }
 {
     'all: for row in rows {
         add_row(alloc, names, list, role, part, row)?;
@@ -246,7 +252,8 @@ fn add_seen(
     list: &mut Items<Variable>,
     unit: &Unit,
 ) -> Result<(), AllocError>
-    ensures { OnOk result (list.new ≡ added list.old (map (shown names.now) (seen_image names.now unit.now))) }
+    ensures { OnOk result (list.new ≡ added list.old
+        (map (shown names.now) (seen_image names.now unit.now))) }
 {
     if !is_program(unit.kind) {
         return Ok(());
@@ -261,7 +268,8 @@ pub fn other_variables(
     names: &Scoped,
     unit: &Unit,
 ) -> Result<Items<Variable>, AllocError>
-    ensures { IfOk result (λ vs. map (shown names.now) (own_entities unit.now) ++ vs ≡ map (shown names.now) (unit_entities names.now unit.now)) }
+    ensures { IfOk result (λ vs. map (shown names.now) (own_entities unit.now) ++ vs
+        ≡ map (shown names.now) (unit_entities names.now unit.now)) }
 {
     let mut list = Items::new(alloc);
     add_result(alloc, names, &mut list, unit)?;

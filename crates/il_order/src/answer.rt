@@ -115,7 +115,8 @@ fn with_chain(
     requires dead { AreDead (length ends.old.items) uses.now ends.old.items }
     ensures units { IfOk result (λ _. length ends.new.items ≡ length ends.old.items) }
     ensures dead { IfOk result (λ _. AreDead (length ends.old.items) uses.now ends.new.items) }
-    ensures first { IfOk result (λ r. r ≡ earlier_of found (fault_of (is_long (length ends.old.items) uses.now at) 46 place)) }
+    ensures first { IfOk result (λ r. r ≡ earlier_of found
+        (fault_of (is_long (length ends.old.items) uses.now at) 46 place)) }
 {
     if !precedes(place, &found) {
         return Ok(found);
@@ -165,7 +166,8 @@ fn lines_fault(
     reached: &Relation,
     counted: &Items<usize>,
 ) -> Option<Found<OrderFault>>
-    ensures { IsLeast result (LinesBreak names.now reached.now counted.now (length names.now.programs)) }
+    ensures { IsLeast result (LinesBreak names.now reached.now counted.now
+        (length names.now.programs)) }
 {
     let lines = names.config().programs.as_slice();
     let mut found = None;

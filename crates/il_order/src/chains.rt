@@ -60,9 +60,11 @@ fn leads_on(
     ensures same { IfOk result (λ _. way.new.items ≡ way.old.items) }
     ensures units { IfOk result (λ _. length ends.new.items ≡ length ends.old.items) }
     ensures dead { IfOk result (λ _. AreDead (length ends.old.items) uses.now ends.new.items) }
-    ensures found { IfOk result (λ o. o ≡ None → leads_on (length ends.old.items) uses.now left way.old.items from ≡ true) }
+    ensures found { IfOk result (λ o. o ≡ None
+        → leads_on (length ends.old.items) uses.now left way.old.items from ≡ true) }
     ensures among { IfOk result (λ o. IfSome o (λ reason. AreAmong reason way.old.items)) }
-    ensures none { IfOk result (λ o. IfSome o (λ reason. leads_on (length ends.old.items) uses.now left reason from ≡ false)) }
+    ensures none { IfOk result (λ o. IfSome o
+        (λ reason. leads_on (length ends.old.items) uses.now left reason from ≡ false)) }
 {
     if left == 0 {
         return Ok(None);
@@ -100,7 +102,9 @@ fn shut(
 ) -> Result<Items<usize>, AllocError>
     requires { from < length ends.old.items }
     ensures same { IfOk result (λ r. r ≡ others) }
-    ensures noted { IfOk result (λ _. (d : _) → ends.new.items ≡ slice_set ends.old.items from (get_or ends.old.items from d ++ record { left = left; on_way = others } ∷ [])) }
+    ensures noted { IfOk result (λ _. (d : _) → ends.new.items
+        ≡ slice_set ends.old.items from
+        (get_or ends.old.items from d ++ record { left = left; on_way = others } ∷ [])) }
 {
     let on_way = others.try_copy(alloc)?;
     note(ends, from, DeadEnd { left, on_way })?;
@@ -121,8 +125,10 @@ fn is_shut(
     requires dead { AreDead (length ends.now.items) uses.now ends.now.items }
     ensures more { IfOk result (λ _. AreAmong reason.old reason.new) }
     ensures among { IfOk result (λ _. AreAmong reason.old way.now → AreAmong reason.new way.now) }
-    ensures shut { IfOk result (λ b. b ≡ true → holds uses.now from to ≡ true → is_shut (length ends.now.items) uses.now left reason.new to ≡ true) }
-    ensures open { IfOk result (λ b. b ≡ false → holds uses.now from to ≡ true × (is_among way.now to ≡ false)) }
+    ensures shut { IfOk result (λ b. b ≡ true → holds uses.now from to ≡ true
+        → is_shut (length ends.now.items) uses.now left reason.new to ≡ true) }
+    ensures open { IfOk result (λ b. b ≡ false → holds uses.now from to ≡ true
+        × (is_among way.now to ≡ false)) }
 {
     if !holds(uses, from, to) {
         return Ok(true);

@@ -65,7 +65,8 @@ impl Ordered {
     /// Whether a unit needs another, by their numbers: it uses it, directly or through others (IEC 61131-3:2003, 2.5). A declaration
     /// without a name, which no text spells, is no use.
     pub fn needs(&self, unit: usize, other: usize) -> bool
-        ensures { (U V : ProgramUnit) → slice_get self.now.units unit ≡ Some U → slice_get self.now.units other ≡ Some V → (result ≡ true) ↔ Needs self.now U V }
+        ensures { (U V : ProgramUnit) → slice_get self.now.units unit ≡ Some U
+            → slice_get self.now.units other ≡ Some V → (result ≡ true) ↔ Needs self.now U V }
     {
         let _config = self.typed.config();
         holds(&self.relation, unit, other)

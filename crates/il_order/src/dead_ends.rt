@@ -71,7 +71,9 @@ pub fn without(alloc: Global, one: usize, numbers: &[usize]) -> Result<Items<usi
 
 /// The place of a dead end that is met with these units on the way. Newer ones are looked at first.
 pub fn met(ends: &[DeadEnd], left: usize, way: &[usize]) -> Option<usize>
-    ensures { IfSome result (λ i. i < length ends.now × ((d : _) → ((get_or ends.now i d).left ≤ left) × (are_among (get_or ends.now i d).on_way way.now ≡ true))) }
+    ensures { IfSome result (λ i. i < length ends.now
+        × ((d : _) → ((get_or ends.now i d).left ≤ left)
+        × (are_among (get_or ends.now i d).on_way way.now ≡ true))) }
 {
     for newer in 0..ends.len() {
         let at = ends.len() - 1 - newer;
@@ -86,7 +88,8 @@ pub fn met(ends: &[DeadEnd], left: usize, way: &[usize]) -> Option<usize>
 /// Notes a dead end of a unit.
 pub fn note(ends: &mut DeadEnds, unit: usize, end: DeadEnd) -> Result<(), AllocError>
     requires { unit < length ends.old.items }
-    ensures { IfOk result (λ _. (d : _) → ends.new.items ≡ slice_set ends.old.items unit (get_or ends.old.items unit d ++ end ∷ [])) }
+    ensures { IfOk result (λ _. (d : _) → ends.new.items
+        ≡ slice_set ends.old.items unit (get_or ends.old.items unit d ++ end ∷ [])) }
 {
     ends[unit].push(end)
 }

@@ -141,7 +141,8 @@ fn used_by_few(
     made: &[usize],
     most: usize,
 ) -> Result<Items<bool>, AllocError>
-    ensures { IfOk result (λ r. r ≡ tabulate count (λ u. is_used_by_few count uses.now made.now most u)) }
+    ensures { IfOk result (λ r. r ≡ tabulate count
+        (λ u. is_used_by_few count uses.now made.now most u)) }
 {
     let mut row = Items::new(alloc);
     for unit in 0..count {
@@ -164,7 +165,8 @@ pub fn cut_off(
     requires limits { AreLimits (length uses.now) uses.now limits.now }
     requires away { is_among way.now from ≡ false }
     ensures among { IfOk result (λ o. IfSome o (λ r. AreAmong r way.now)) }
-    ensures none { IfOk result (λ o. IfSome o (λ r. leads_on (length uses.now) uses.now left r from ≡ false)) }
+    ensures none { IfOk result (λ o. IfSome o
+        (λ r. leads_on (length uses.now) uses.now left r from ≡ false)) }
 {
     let count = uses.as_slice().len();
     if !is_cut_off(limits, count, left, way, from) {
@@ -187,7 +189,8 @@ pub fn cut_off(
 
 // Whether fewer units, or names of the cover, are left than uses.
 fn is_cut_off(limits: &Limits, count: usize, left: usize, way: &[usize], from: usize) -> bool
-    ensures { result ≡ (nat_lt (others_left count limits.now way.now from) left || nat_lt (users_left count limits.now way.now from + used_left count limits.now way.now from) left) }
+    ensures { result ≡ (nat_lt (others_left count limits.now way.now from) left || nat_lt
+        (users_left count limits.now way.now from + used_left count limits.now way.now from) left) }
 {
     let users = users_left(limits, count, way, from);
     others_left(limits, count, way, from) < left

@@ -157,7 +157,8 @@ pub fn is_over(
 
 // The slots of a program, and of the functions that it reaches.
 fn task_count(names: &Scoped, reached: &Relation, counted: &Items<usize>, program: usize) -> usize
-    ensures { result ≡ task_count names.now reached.now counted.now program (length names.now.units) }
+    ensures { result ≡ task_count names.now reached.now counted.now program
+        (length names.now.units) }
 {
     let count = names.config().units.as_slice().len();
     let mut total = number_at(counted.as_slice(), program);

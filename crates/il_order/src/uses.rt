@@ -129,7 +129,8 @@ fn note_variables(
     declarations: &[Declaration],
     used: &mut Items<usize>,
 ) -> Result<(), AllocError>
-    ensures { IfOk result (λ _. used.new ≡ used.old ++ declared_by names.now nameless declarations.now) }
+    ensures { IfOk result (λ _. used.new ≡ used.old
+        ++ declared_by names.now nameless declarations.now) }
 {
     for declaration in declarations {
         note_declaration(names, nameless, declaration, used)?;
@@ -144,7 +145,8 @@ fn note_declaration(
     declaration: &Declaration,
     used: &mut Items<usize>,
 ) -> Result<(), AllocError>
-    ensures { IfOk result (λ _. used.new ≡ used.old ++ counted_in names.now nameless declaration.now) }
+    ensures { IfOk result (λ _. used.new ≡ used.old
+        ++ counted_in names.now nameless declaration.now) }
 {
     if nameless || has_name(declaration.names.as_slice()) {
         note_form(names, &declaration.declared.form, used)

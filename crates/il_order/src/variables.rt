@@ -56,7 +56,8 @@ fn note_all(
     declarations: &[Declaration],
     variables: &mut Items<Variables>,
 ) -> Result<(), AllocError>
-    ensures { IfOk result (λ _. variables.new ≡ variables.old ++ all_listed names.now declarations.now) }
+    ensures { IfOk result (λ _. variables.new ≡ variables.old
+        ++ all_listed names.now declarations.now) }
 {
     for declaration in declarations {
         variables.push(listed(names, declaration))?;

@@ -100,8 +100,10 @@ fn placed(
 ) -> Result<(Place, Instruction), Stop>
     requires depth { depth ≤ 16 }
     requires lead { lead ≡ lead_at source.now tokens.old }
-    ensures reads { IfOk result (λ x. Reads (SpellsPlaced source.now depth load full) tokens.old x tokens.new) }
-    ensures refused { IfErr result (λ e. Refuses (SpellsPlaced source.now depth load full) tokens.old e) }
+    ensures reads { IfOk result (λ x. Reads (SpellsPlaced source.now depth load full) tokens.old x
+        tokens.new) }
+    ensures refused { IfErr result (λ e. Refuses (SpellsPlaced source.now depth load full)
+        tokens.old e) }
     ensures shorter { IfOk result (λ _. length tokens.new < length tokens.old) }
 {
     let Some(place) = tokens.place() else {
@@ -179,8 +181,10 @@ fn outer(
     load: bool,
     full: bool,
 ) -> Result<Entry, Stop>
-    ensures reads { IfOk result (λ x. Reads (SpellsNext source.now last 0 load full) tokens.old x tokens.new) }
-    ensures refused { IfErr result (λ e. Refuses (SpellsNext source.now last 0 load full) tokens.old e) }
+    ensures reads { IfOk result (λ x. Reads (SpellsNext source.now last 0 load full) tokens.old x
+        tokens.new) }
+    ensures refused { IfErr result (λ e. Refuses (SpellsNext source.now last 0 load full)
+        tokens.old e) }
     ensures shorter { IfOk result (λ x. Shortens tokens.old x tokens.new) }
 {
     let (labels, alone) = labels(source, tokens)?;
@@ -207,8 +211,10 @@ fn next_entry(
     full: bool,
 ) -> Result<Entry, Stop>
     requires { depth ≤ 16 }
-    ensures reads { IfOk result (λ x. Reads (SpellsNext source.now last depth load full) tokens.old x tokens.new) }
-    ensures refused { IfErr result (λ e. Refuses (SpellsNext source.now last depth load full) tokens.old e) }
+    ensures reads { IfOk result (λ x. Reads (SpellsNext source.now last depth load full)
+        tokens.old x tokens.new) }
+    ensures refused { IfErr result (λ e. Refuses (SpellsNext source.now last depth load full)
+        tokens.old e) }
     ensures shorter { IfOk result (λ x. Shortens tokens.old x tokens.new) }
 {
     if depth == 0 {
@@ -285,7 +291,8 @@ fn steps(source: &Source, tokens: &mut Tokens, last: Keyword) -> Result<Body, St
 /// The body of a unit, up to the word that ends it.
 pub fn body(source: &Source, tokens: &mut Tokens, last: Keyword) -> Result<Body, Stop>
     requires { IsLast last }
-    ensures reads { IfOk result (λ b. Reads (SpellsSmallBody source.now last) tokens.old b tokens.new) }
+    ensures reads { IfOk result (λ b. Reads (SpellsSmallBody source.now last) tokens.old b
+        tokens.new) }
     ensures refused { IfErr result (λ e. Refuses (SpellsSmallBody source.now last) tokens.old e) }
 {
     source.line_end(tokens)?;

@@ -35,7 +35,8 @@ fn global_list(source: &Source, tokens: &mut Tokens) -> Result<(Place, Items<Dec
 
 // The globals, which may be missing.
 fn globals(source: &Source, tokens: &mut Tokens) -> Result<Globals, Stop>
-    ensures reads { IfOk result (λ x. Reads (SpellsSomeGlobals source.now) tokens.old x tokens.new) }
+    ensures reads { IfOk result (λ x. Reads (SpellsSomeGlobals source.now) tokens.old x
+        tokens.new) }
     ensures refused { IfErr result (λ e. Refuses (SpellsSomeGlobals source.now) tokens.old e) }
 {
     if !comes(source, tokens, Keyword::VarGlobal) {
@@ -141,7 +142,19 @@ fn group(source: &Source, tokens: &mut Tokens) -> Result<(Sizes, Globals, Lines)
 
 // The configuration of these units, sizes, globals and lines.
 fn config_of(units: Items<Unit>, sizes: Sizes, globals: Globals, lines: Lines) -> Config
-    ensures { result ≡ record { units = units; cars = sizes.0; floors = sizes.1.0; slots = sizes.1.1; globals_place = globals.0; globals = globals.1; tasks = lines.0; programs = lines.1; end_resource = lines.2 } }
+    ensures { result ≡ record {
+      units = units;
+      cars = sizes.0;
+      floors = sizes.1.0;
+      slots =
+          sizes.1.1;
+      globals_place = globals.0;
+      globals = globals.1;
+      tasks = lines.0;
+      programs =
+          lines.1;
+      end_resource = lines.2;
+    } }
 {
     let (cars, (floors, slots)) = sizes;
     let (globals_place, globals) = globals;

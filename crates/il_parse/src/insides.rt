@@ -16,7 +16,8 @@ pub fn program_inside(
     source: &Source,
     tokens: &mut Tokens,
 ) -> Result<(Items<Declaration>, Items<Declaration>, Body), Stop>
-    ensures reads { IfOk result (λ x. Reads (SpellsProgramInside source.now) tokens.old x tokens.new) }
+    ensures reads { IfOk result (λ x. Reads (SpellsProgramInside source.now) tokens.old x
+        tokens.new) }
     ensures refused { IfErr result (λ e. Refuses (SpellsProgramInside source.now) tokens.old e) }
 {
     no_list(source, tokens, Keyword::VarInput)?;
@@ -40,7 +41,8 @@ pub fn block_inside(
     ),
     Stop,
 >
-    ensures reads { IfOk result (λ x. Reads (SpellsBlockInside source.now) tokens.old x tokens.new) }
+    ensures reads { IfOk result (λ x. Reads (SpellsBlockInside source.now) tokens.old x
+        tokens.new) }
     ensures refused { IfErr result (λ e. Refuses (SpellsBlockInside source.now) tokens.old e) }
 {
     let inputs = filled_list(source, tokens, Keyword::VarInput)?;
@@ -56,7 +58,8 @@ pub fn function_inside(
     source: &Source,
     tokens: &mut Tokens,
 ) -> Result<(Items<Declaration>, Items<Declaration>, Body), Stop>
-    ensures reads { IfOk result (λ x. Reads (SpellsFunctionInside source.now) tokens.old x tokens.new) }
+    ensures reads { IfOk result (λ x. Reads (SpellsFunctionInside source.now) tokens.old x
+        tokens.new) }
     ensures refused { IfErr result (λ e. Refuses (SpellsFunctionInside source.now) tokens.old e) }
 {
     let inputs = full_list(source, tokens, Keyword::VarInput)?;

@@ -46,13 +46,15 @@ pub fn parse(alloc: Global, text: &[u8], tokens: &[Token]) -> Result<Written, Re
     ensures limits { IfOk result (λ c. length text.now ≤ 262144 → IsWithinLimits text.now c) }
 
     // What is spelled within the limits is read, unless memory runs out.
-    ensures refused { IsFault result → (c : Config) → AfterLines (SpellsConfig text.now c) tokens.now [] → IsSmall c → ⊥ }
+    ensures refused { IsFault result → (c : Config)
+        → AfterLines (SpellsConfig text.now c) tokens.now [] → IsSmall c → ⊥ }
 
     // What is refused is 10, what no text goes on with, 11, too many open parentheses, or 12, too many units or instructions.
     ensures number { IfErr result (λ e. IsOfParser e) }
 
     // And nothing else is spelled.
-    ensures only { IfOk result (λ c. (d : Config) → AfterLines (SpellsConfig text.now d) tokens.now [] → d ≡ c) }
+    ensures only { IfOk result (λ c. (d : Config)
+        → AfterLines (SpellsConfig text.now d) tokens.now [] → d ≡ c) }
 {
     match read(alloc, text, tokens) {
         Ok(tree) => Ok(Written::of(tree)),

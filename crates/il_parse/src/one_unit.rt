@@ -13,8 +13,10 @@ use lists::Items;
 
 // A program.
 fn program_unit(source: &Source, tokens: &mut Tokens) -> Result<Unit, Stop>
-    ensures reads { IfOk result (λ u. Reads (SpellsUnitOf source.now word.Program) tokens.old u tokens.new) }
-    ensures refused { IfErr result (λ e. Refuses (SpellsUnitOf source.now word.Program) tokens.old e) }
+    ensures reads { IfOk result (λ u. Reads (SpellsUnitOf source.now word.Program) tokens.old u
+        tokens.new) }
+    ensures refused { IfErr result (λ e. Refuses (SpellsUnitOf source.now word.Program) tokens.old
+        e) }
 {
     let (place, name, (variables, externals, body)) = program(source, tokens)?;
     Ok(Unit {
@@ -31,8 +33,10 @@ fn program_unit(source: &Source, tokens: &mut Tokens) -> Result<Unit, Stop>
 
 // A function block.
 fn block_unit(source: &Source, tokens: &mut Tokens) -> Result<Unit, Stop>
-    ensures reads { IfOk result (λ u. Reads (SpellsUnitOf source.now word.FunctionBlock) tokens.old u tokens.new) }
-    ensures refused { IfErr result (λ e. Refuses (SpellsUnitOf source.now word.FunctionBlock) tokens.old e) }
+    ensures reads { IfOk result (λ u. Reads (SpellsUnitOf source.now word.FunctionBlock)
+        tokens.old u tokens.new) }
+    ensures refused { IfErr result (λ e. Refuses (SpellsUnitOf source.now word.FunctionBlock)
+        tokens.old e) }
 {
     let (place, name, (inputs, outputs, variables, body)) = block(source, tokens)?;
     Ok(Unit {
@@ -49,8 +53,10 @@ fn block_unit(source: &Source, tokens: &mut Tokens) -> Result<Unit, Stop>
 
 // A function.
 fn function_unit(source: &Source, tokens: &mut Tokens) -> Result<Unit, Stop>
-    ensures reads { IfOk result (λ u. Reads (SpellsUnitOf source.now word.Function) tokens.old u tokens.new) }
-    ensures refused { IfErr result (λ e. Refuses (SpellsUnitOf source.now word.Function) tokens.old e) }
+    ensures reads { IfOk result (λ u. Reads (SpellsUnitOf source.now word.Function) tokens.old u
+        tokens.new) }
+    ensures refused { IfErr result (λ e. Refuses (SpellsUnitOf source.now word.Function)
+        tokens.old e) }
 {
     let (place, name, (result_place, scalar), (inputs, variables, body)) = function(
         source, tokens,

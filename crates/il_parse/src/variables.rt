@@ -24,8 +24,10 @@ pub fn comes(source: &Source, tokens: &Tokens, keyword: Keyword) -> bool
 
 /// A list of this word that is not there.
 pub fn no_list(source: &Source, tokens: &Tokens, keyword: Keyword) -> Result<(), Stop>
-    ensures reads { IfOk result (λ _. Stands (No (AfterLines (TheWord source.now keyword))) tokens.now tokens.now) }
-    ensures refused { IfErr result (λ e. Misses (No (AfterLines (TheWord source.now keyword))) tokens.now e) }
+    ensures reads { IfOk result (λ _. Stands (No (AfterLines (TheWord source.now keyword)))
+        tokens.now tokens.now) }
+    ensures refused { IfErr result (λ e. Misses (No (AfterLines (TheWord source.now keyword)))
+        tokens.now e) }
 {
     if comes(source, tokens, keyword) {
         let mut ahead = tokens.ahead();
@@ -37,8 +39,10 @@ pub fn no_list(source: &Source, tokens: &Tokens, keyword: Keyword) -> Result<(),
 
 // A list of this word.
 fn list(source: &Source, tokens: &mut Tokens, keyword: Keyword) -> Result<Items<Declaration>, Stop>
-    ensures reads { IfOk result (λ ds. Reads (SpellsList source.now keyword (SpellsDeclaration source.now)) tokens.old ds tokens.new) }
-    ensures refused { IfErr result (λ e. Refuses (SpellsList source.now keyword (SpellsDeclaration source.now)) tokens.old e) }
+    ensures reads { IfOk result (λ ds. Reads
+        (SpellsList source.now keyword (SpellsDeclaration source.now)) tokens.old ds tokens.new) }
+    ensures refused { IfErr result (λ e. Refuses
+        (SpellsList source.now keyword (SpellsDeclaration source.now)) tokens.old e) }
 {
     tokens.skip_lines();
     source.word(tokens, keyword)?;
@@ -52,7 +56,8 @@ pub fn full_list(
     tokens: &mut Tokens,
     keyword: Keyword,
 ) -> Result<Items<Declaration>, Stop>
-    ensures reads { IfOk result (λ ds. Reads (SpellsFull source.now keyword) tokens.old ds tokens.new) }
+    ensures reads { IfOk result (λ ds. Reads (SpellsFull source.now keyword) tokens.old ds
+        tokens.new) }
     ensures refused { IfErr result (λ e. Refuses (SpellsFull source.now keyword) tokens.old e) }
 {
     tokens.skip_lines();
@@ -70,8 +75,10 @@ pub fn filled_list(
     tokens: &mut Tokens,
     keyword: Keyword,
 ) -> Result<Items<Declaration>, Stop>
-    ensures reads { IfOk result (λ ds. Reads (SpellsFilledList source.now keyword) tokens.old ds tokens.new) }
-    ensures refused { IfErr result (λ e. Refuses (SpellsFilledList source.now keyword) tokens.old e) }
+    ensures reads { IfOk result (λ ds. Reads (SpellsFilledList source.now keyword) tokens.old ds
+        tokens.new) }
+    ensures refused { IfErr result (λ e. Refuses (SpellsFilledList source.now keyword) tokens.old
+        e) }
 {
     if !comes(source, tokens, keyword) {
         return Ok(Items::new(source.alloc()));
@@ -85,8 +92,11 @@ pub fn optional_list(
     tokens: &mut Tokens,
     keyword: Keyword,
 ) -> Result<Items<Declaration>, Stop>
-    ensures reads { IfOk result (λ ds. Reads (SpellsOptionalList source.now keyword (SpellsDeclaration source.now)) tokens.old ds tokens.new) }
-    ensures refused { IfErr result (λ e. Refuses (SpellsOptionalList source.now keyword (SpellsDeclaration source.now)) tokens.old e) }
+    ensures reads { IfOk result (λ ds. Reads
+        (SpellsOptionalList source.now keyword (SpellsDeclaration source.now)) tokens.old ds
+        tokens.new) }
+    ensures refused { IfErr result (λ e. Refuses
+        (SpellsOptionalList source.now keyword (SpellsDeclaration source.now)) tokens.old e) }
 {
     if !comes(source, tokens, keyword) {
         return Ok(Items::new(source.alloc()));
@@ -118,7 +128,8 @@ fn external(source: &Source, tokens: &mut Tokens) -> Result<Declaration, Stop>
 
 // External declarations, and END_VAR.
 fn externals_inside(source: &Source, tokens: &mut Tokens) -> Result<Items<Declaration>, Stop>
-    ensures reads { IfOk result (λ ds. Reads (SpellsExternalsInside source.now) tokens.old ds tokens.new) }
+    ensures reads { IfOk result (λ ds. Reads (SpellsExternalsInside source.now) tokens.old ds
+        tokens.new) }
     ensures refused { IfErr result (λ e. Refuses (SpellsExternalsInside source.now) tokens.old e) }
 {
     let mut externals = Items::new(source.alloc());
@@ -132,8 +143,11 @@ fn externals_inside(source: &Source, tokens: &mut Tokens) -> Result<Items<Declar
 
 // A list of externals.
 fn external_list(source: &Source, tokens: &mut Tokens) -> Result<Items<Declaration>, Stop>
-    ensures reads { IfOk result (λ ds. Reads (SpellsList source.now word.VarExternal (SpellsExternal source.now)) tokens.old ds tokens.new) }
-    ensures refused { IfErr result (λ e. Refuses (SpellsList source.now word.VarExternal (SpellsExternal source.now)) tokens.old e) }
+    ensures reads { IfOk result (λ ds. Reads
+        (SpellsList source.now word.VarExternal (SpellsExternal source.now)) tokens.old ds
+        tokens.new) }
+    ensures refused { IfErr result (λ e. Refuses
+        (SpellsList source.now word.VarExternal (SpellsExternal source.now)) tokens.old e) }
 {
     tokens.skip_lines();
     source.word(tokens, Keyword::VarExternal)?;
@@ -143,8 +157,11 @@ fn external_list(source: &Source, tokens: &mut Tokens) -> Result<Items<Declarati
 
 /// The externals of a program, which may be missing.
 pub fn externals(source: &Source, tokens: &mut Tokens) -> Result<Items<Declaration>, Stop>
-    ensures reads { IfOk result (λ ds. Reads (SpellsOptionalList source.now word.VarExternal (SpellsExternal source.now)) tokens.old ds tokens.new) }
-    ensures refused { IfErr result (λ e. Refuses (SpellsOptionalList source.now word.VarExternal (SpellsExternal source.now)) tokens.old e) }
+    ensures reads { IfOk result (λ ds. Reads
+        (SpellsOptionalList source.now word.VarExternal (SpellsExternal source.now)) tokens.old ds
+        tokens.new) }
+    ensures refused { IfErr result (λ e. Refuses
+        (SpellsOptionalList source.now word.VarExternal (SpellsExternal source.now)) tokens.old e) }
 {
     if !comes(source, tokens, Keyword::VarExternal) {
         return Ok(Items::new(source.alloc()));

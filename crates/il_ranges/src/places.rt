@@ -67,7 +67,8 @@ pub trait Witness {
 
     /// An instruction that is reached, with what is known before it.
     fn reached(&mut self, step: &Step, known: &PlaceFacts) -> Result<(), AllocError>
-        ensures text { OnOk result (text self.new ≡ text self.old ++ shows self.old step.now (Some known.now)) }
+        ensures text { OnOk result (text self.new ≡ text self.old
+            ++ shows self.old step.now (Some known.now)) }
         ensures same { OnOk result (shows self.new ≡ shows self.old) };
 
     /// An instruction that nothing reaches.

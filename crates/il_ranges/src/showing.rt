@@ -57,7 +57,8 @@ fn showing_fault<W: Witness + Drop>(
 ) -> Result<(Option<Found<RangeFault>>, W), AllocError>
     requires steps { steps.now ≡ scope.now.unit.body.steps }
     requires setting { Setting scope.now numbering.now.declared }
-    ensures { IfOk result (λ r. IsShown scope.now.config scope.now.unit (W.shows witness) (W.text witness) (W.text r.1) r.0) }
+    ensures { IfOk result (λ r. IsShown scope.now.config scope.now.unit (W.shows witness)
+        (W.text witness) (W.text r.1) r.0) }
 {
     let entry = entry(alloc, numbering)?;
     let flow = UnitFlow { scope, steps };
@@ -83,7 +84,8 @@ pub fn shown_unit<W: Witness + Drop>(
     requires unit { slice_get names.now.units at ≡ Some unit.now }
     requires declared { HasNoFault (BreaksDeclarations names.now) }
     requires typed { HasNoFault (Broken Typing names.now) }
-    ensures { IfOk result (λ r. IsShown names.now unit.now (W.shows witness) (W.text witness) (W.text r.1) r.0) }
+    ensures { IfOk result (λ r. IsShown names.now unit.now (W.shows witness) (W.text witness)
+        (W.text r.1) r.0) }
 {
     let named = UnitScope::of(names, at, unit);
     let labels = label_table(alloc, &unit.body)?;

@@ -32,7 +32,8 @@ impl<'t> Source<'t> {
     /// The operands of a function, which may be none, and the end of the line.
     #[tactic(auto, unfolding(crate::specs::Lead::lead_at))]
     pub fn operands(&self, tokens: &mut Tokens) -> Result<Items<Operand>, Stop>
-        ensures reads { IfOk result (λ os. Reads (SpellsOperands self.now) tokens.old os tokens.new) }
+        ensures reads { IfOk result (λ os. Reads (SpellsOperands self.now) tokens.old os
+            tokens.new) }
         ensures refused { IfErr result (λ e. Refuses (SpellsOperands self.now) tokens.old e) }
         ensures shorter { IfOk result (λ _. length tokens.new < length tokens.old) }
     {
@@ -77,7 +78,8 @@ impl<'t> Source<'t> {
 
     /// The arguments of a call, which may be none, with or without parentheses, and the end of the line.
     pub fn arguments(&self, tokens: &mut Tokens) -> Result<Items<Argument>, Stop>
-        ensures reads { IfOk result (λ xs. Reads (SpellsArguments self.now) tokens.old xs tokens.new) }
+        ensures reads { IfOk result (λ xs. Reads (SpellsArguments self.now) tokens.old xs
+            tokens.new) }
         ensures refused { IfErr result (λ e. Refuses (SpellsArguments self.now) tokens.old e) }
         ensures shorter { IfOk result (λ _. length tokens.new < length tokens.old) }
     {

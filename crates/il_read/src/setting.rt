@@ -83,7 +83,8 @@ impl<'t> Source<'t> {
 
     /// This word, which is no reserved one.
     pub fn plain_word(&self, tokens: &mut Tokens, word: &str) -> Result<(), Stop>
-        ensures reads { IfOk result (λ u. Stands (TheText self.now word.now) tokens.old tokens.new) }
+        ensures reads { IfOk result (λ u. Stands (TheText self.now word.now) tokens.old
+            tokens.new) }
         ensures refused { IfErr result (λ e. Misses (TheText self.now word.now) tokens.old e) }
         ensures shorter { IfOk result (λ _. length tokens.new < length tokens.old) }
     {
@@ -163,7 +164,8 @@ impl<'t> Source<'t> {
 
     /// CARS, FLOORS or SLOTS, its type and its value.
     pub fn size(&self, tokens: &mut Tokens, word: &str) -> Result<Size, Stop>
-        ensures reads { IfOk result (λ s. Reads (SpellsSize self.now word.now) tokens.old s tokens.new) }
+        ensures reads { IfOk result (λ s. Reads (SpellsSize self.now word.now) tokens.old s
+            tokens.new) }
         ensures refused { IfErr result (λ e. Refuses (SpellsSize self.now word.now) tokens.old e) }
         ensures shorter { IfOk result (λ _. length tokens.new < length tokens.old) }
     {
@@ -223,7 +225,8 @@ impl<'t> Source<'t> {
 
     /// A reserved word with its place.
     pub fn placed_word(&self, tokens: &mut Tokens, keyword: Keyword) -> Result<Place, Stop>
-        ensures reads { IfOk result (λ p. Reads (PlacedWord self.now keyword) tokens.old p tokens.new) }
+        ensures reads { IfOk result (λ p. Reads (PlacedWord self.now keyword) tokens.old p
+            tokens.new) }
         ensures refused { IfErr result (λ e. Refuses (PlacedWord self.now keyword) tokens.old e) }
         ensures shorter { IfOk result (λ _. length tokens.new < length tokens.old) }
     {
@@ -257,7 +260,8 @@ impl<'t> Source<'t> {
 
     // The name of a program, and a semicolon.
     fn program_name(&self, tokens: &mut Tokens) -> Result<Named, Stop>
-        ensures reads { IfOk result (λ n. Reads (SpellsProgramName self.now) tokens.old n tokens.new) }
+        ensures reads { IfOk result (λ n. Reads (SpellsProgramName self.now) tokens.old n
+            tokens.new) }
         ensures refused { IfErr result (λ e. Refuses (SpellsProgramName self.now) tokens.old e) }
         ensures shorter { IfOk result (λ _. length tokens.new < length tokens.old) }
     {
@@ -293,7 +297,8 @@ impl<'t> Source<'t> {
 
     /// A PROGRAM line.
     pub fn program_line(&self, tokens: &mut Tokens) -> Result<ProgramLine, Stop>
-        ensures reads { IfOk result (λ p. Reads (SpellsProgramLine self.now) tokens.old p tokens.new) }
+        ensures reads { IfOk result (λ p. Reads (SpellsProgramLine self.now) tokens.old p
+            tokens.new) }
         ensures refused { IfErr result (λ e. Refuses (SpellsProgramLine self.now) tokens.old e) }
         ensures shorter { IfOk result (λ _. length tokens.new < length tokens.old) }
     {
@@ -343,7 +348,12 @@ impl<'t> Source<'t> {
 
 // The task of this name with its interval and its priority.
 fn task_of(place: Place, name: Named, times: (i64, i64)) -> Task
-    ensures { result ≡ record { place = place; name = name; interval = times.0; priority = times.1 } }
+    ensures { result ≡ record {
+      place = place;
+      name = name;
+      interval = times.0;
+      priority = times.1;
+    } }
 {
     Task {
         place,

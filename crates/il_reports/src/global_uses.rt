@@ -61,7 +61,8 @@ fn places_of(alloc: Global, units: &[Unit]) -> Result<Lines, AllocError>
 fn add_unit(alloc: Global, lines: &mut Lines, unit: &Unit) -> Result<(), AllocError>
     requires { AreSound lines.old }
     ensures sound { OnOk result (AreSound lines.new) }
-    ensures lines { OnOk result ((name : List ℕ) (manner : Manner) → line_of lines.new name manner ≡ line_of lines.old name manner ++ unit_places manner name unit.now) }
+    ensures lines { OnOk result ((name : List ℕ) (manner : Manner) → line_of lines.new name manner
+        ≡ line_of lines.old name manner ++ unit_places manner name unit.now) }
 {
     if unit.externals.as_slice().is_empty() {
         return Ok(());
@@ -74,7 +75,8 @@ fn add_unit(alloc: Global, lines: &mut Lines, unit: &Unit) -> Result<(), AllocEr
 fn add_externals(alloc: Global, lines: &mut Lines, uses: &UnitUses<'_>) -> Result<(), AllocError>
     requires { AreSound lines.old }
     ensures sound { OnOk result (AreSound lines.new) }
-    ensures lines { OnOk result ((name : List ℕ) (manner : Manner) → line_of lines.new name manner ≡ line_of lines.old name manner ++ unit_places manner name uses.now.unit.now) }
+    ensures lines { OnOk result ((name : List ℕ) (manner : Manner) → line_of lines.new name manner
+        ≡ line_of lines.old name manner ++ unit_places manner name uses.now.unit.now) }
 {
     let mut seen = Table::new(alloc);
     'names: for declared in declared_names(uses.unit.externals.as_slice()) {
@@ -95,7 +97,9 @@ fn add_external(
 ) -> Result<(), AllocError>
     requires { AreSound lines.old }
     ensures sound { OnOk result (AreSound lines.new) }
-    ensures lines { OnOk result ((other : List ℕ) (manner : Manner) → line_of lines.new other manner ≡ line_of lines.old other manner ++ places_at uses.now.unit.now name.now other manner) }
+    ensures lines { OnOk result ((other : List ℕ) (manner : Manner)
+        → line_of lines.new other manner ≡ line_of lines.old other manner
+        ++ places_at uses.now.unit.now name.now other manner) }
 {
     add_places(alloc, lines, uses, Manner::Read, name)?;
     add_places(alloc, lines, uses, Manner::Written, name)?;
@@ -112,7 +116,8 @@ fn add_places(
 ) -> Result<(), AllocError>
     requires { AreSound lines.old }
     ensures sound { OnOk result (AreSound lines.new) }
-    ensures lines { OnOk result (ArePushed lines.old lines.new manner name.now (unit_lines manner name.now uses.now.unit.now)) }
+    ensures lines { OnOk result (ArePushed lines.old lines.new manner name.now
+        (unit_lines manner name.now uses.now.unit.now)) }
 {
     let places = uses.lines(manner, name);
     if places.is_empty() {

@@ -80,7 +80,8 @@ pub fn is_block(form: &Form) -> bool
 
 /// The names that a unit declares, externals among them, each with an entry.
 pub fn name_table(alloc: Global, unit: &Unit) -> Result<Table<bool>, AllocError>
-    ensures { IfOk result (λ table. (name : List ℕ) → is_some (get table name) ≡ declares unit.now name) }
+    ensures { IfOk result (λ table. (name : List ℕ) → is_some (get table name)
+        ≡ declares unit.now name) }
 {
     let mut table = Table::new(alloc);
     put_names(alloc, &mut table, unit.inputs.as_slice())?;
@@ -96,7 +97,8 @@ fn put_names(
     table: &mut Table<bool>,
     declarations: &[Declaration],
 ) -> Result<(), AllocError>
-    ensures { OnOk result ((name : List ℕ) → is_some (get table.new name) ≡ (is_some (get table.old name) || is_declared declarations.now name)) }
+    ensures { OnOk result ((name : List ℕ) → is_some (get table.new name)
+        ≡ (is_some (get table.old name) || is_declared declarations.now name)) }
 {
     'names: for declared in declared_names(declarations) {
         table.put(alloc, declared.name, true)?;

@@ -53,7 +53,8 @@ impl<'c> Needed<'c> {
 
 // The names that bodies call.
 fn called_names(alloc: Global, units: &[Unit]) -> Result<Table<bool>, AllocError>
-    ensures { IfOk result (λ table. (name : List ℕ) → is_some (get table name) ≡ list_any (λ (u : ProgramUnit). is_used IsCalled name u.body.steps) units.now) }
+    ensures { IfOk result (λ table. (name : List ℕ) → is_some (get table name)
+        ≡ list_any (λ (u : ProgramUnit). is_used IsCalled name u.body.steps) units.now) }
 {
     let mut table = Table::new(alloc);
     'units: for unit in units {
@@ -64,7 +65,8 @@ fn called_names(alloc: Global, units: &[Unit]) -> Result<Table<bool>, AllocError
 
 // Puts the names that steps call into a table.
 fn put_called(alloc: Global, table: &mut Table<bool>, steps: &[Step]) -> Result<(), AllocError>
-    ensures { OnOk result ((name : List ℕ) → is_some (get table.new name) ≡ (is_some (get table.old name) || is_used IsCalled name steps.now)) }
+    ensures { OnOk result ((name : List ℕ) → is_some (get table.new name)
+        ≡ (is_some (get table.old name) || is_used IsCalled name steps.now)) }
 {
     'uses: for used in uses(steps) {
         put_use(alloc, table, &used)?;
@@ -74,7 +76,8 @@ fn put_called(alloc: Global, table: &mut Table<bool>, steps: &[Step]) -> Result<
 
 // Puts the name of a use into a table, if it is called.
 fn put_use(alloc: Global, table: &mut Table<bool>, used: &Use<'_>) -> Result<(), AllocError>
-    ensures { OnOk result ((name : List ℕ) → is_some (get table.new name) ≡ (is_some (get table.old name) || is_use IsCalled name (use_shown used.now))) }
+    ensures { OnOk result ((name : List ℕ) → is_some (get table.new name)
+        ≡ (is_some (get table.old name) || is_use IsCalled name (use_shown used.now))) }
 {
     match used.manner {
         Manner::Read => Ok(()),
@@ -85,7 +88,8 @@ fn put_use(alloc: Global, table: &mut Table<bool>, used: &Use<'_>) -> Result<(),
 
 // The function blocks of which units declare an instance.
 fn blocks_of_instances(alloc: Global, units: &[Unit]) -> Result<Table<bool>, AllocError>
-    ensures { IfOk result (λ table. (name : List ℕ) → is_some (get table name) ≡ list_any (λ (u : ProgramUnit). have_instance name u.variables) units.now) }
+    ensures { IfOk result (λ table. (name : List ℕ) → is_some (get table name)
+        ≡ list_any (λ (u : ProgramUnit). have_instance name u.variables) units.now) }
 {
     let mut table = Table::new(alloc);
     'units: for unit in units {
@@ -100,7 +104,8 @@ fn put_blocks(
     table: &mut Table<bool>,
     declarations: &[Declaration],
 ) -> Result<(), AllocError>
-    ensures { OnOk result ((name : List ℕ) → is_some (get table.new name) ≡ (is_some (get table.old name) || have_instance name declarations.now)) }
+    ensures { OnOk result ((name : List ℕ) → is_some (get table.new name)
+        ≡ (is_some (get table.old name) || have_instance name declarations.now)) }
 {
     'declarations: for declaration in declarations {
         put_block(alloc, table, &declaration.declared.form)?;
@@ -110,7 +115,8 @@ fn put_blocks(
 
 // Puts a type into a table, if it is a function block.
 fn put_block(alloc: Global, table: &mut Table<bool>, form: &Form) -> Result<(), AllocError>
-    ensures { OnOk result ((name : List ℕ) → is_some (get table.new name) ≡ (is_some (get table.old name) || is_block_of name form.now)) }
+    ensures { OnOk result ((name : List ℕ) → is_some (get table.new name)
+        ≡ (is_some (get table.old name) || is_block_of name form.now)) }
 {
     match form {
         Form::Scalar(_) => Ok(()),

@@ -86,7 +86,8 @@ pub fn put_never(
     name: &str,
     never: Option<Never>,
 ) -> Result<(), AllocError>
-    ensures { OnOk result (string_bytes text.new ≡ string_bytes text.old ++ never_text line name.now never) }
+    ensures { OnOk result (string_bytes text.new ≡ string_bytes text.old
+        ++ never_text line name.now never) }
 {
     match never {
         Some(never) => put_never_line(text, line, name, never),
@@ -96,7 +97,8 @@ pub fn put_never(
 
 #[tactic(auto, unfolding(crate::specs::Warnings::never_line))]
 fn put_never_line(text: &mut String, line: u32, name: &str, never: Never) -> Result<(), AllocError>
-    ensures { OnOk result (string_bytes text.new ≡ string_bytes text.old ++ never_line line name.now never) }
+    ensures { OnOk result (string_bytes text.new ≡ string_bytes text.old
+        ++ never_line line name.now never) }
 {
     write!(text, "line {}: {} is never ", line, name)?;
     match never {

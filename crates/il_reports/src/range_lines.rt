@@ -46,7 +46,8 @@ impl Witness for Lines {
 
 // `line L: result R`, and the variables that the instruction names.
 fn put_reached(text: &mut String, step: &Step, known: &PlaceFacts) -> Result<(), AllocError>
-    ensures { OnOk result (string_bytes text.new ≡ string_bytes text.old ++ reached_text step.now known.now) }
+    ensures { OnOk result (string_bytes text.new ≡ string_bytes text.old
+        ++ reached_text step.now known.now) }
 {
     write!(text, "line {}: result ", step.place.line)?;
     put_result(text, known.result())?;
@@ -56,14 +57,16 @@ fn put_reached(text: &mut String, step: &Step, known: &PlaceFacts) -> Result<(),
 
 // `line L: not reached`
 fn put_not_reached(text: &mut String, step: &Step) -> Result<(), AllocError>
-    ensures { OnOk result (string_bytes text.new ≡ string_bytes text.old ++ not_reached_text step.now) }
+    ensures { OnOk result (string_bytes text.new ≡ string_bytes text.old
+        ++ not_reached_text step.now) }
 {
     writeln!(text, "line {}: not reached", step.place.line)
 }
 
 /// `line L: refused 43`, where the unit is refused.
 pub fn put_refused(text: &mut String, found: &Option<Found<RangeFault>>) -> Result<(), AllocError>
-    ensures { OnOk result (string_bytes text.new ≡ string_bytes text.old ++ refused_text found.now) }
+    ensures { OnOk result (string_bytes text.new ≡ string_bytes text.old
+        ++ refused_text found.now) }
 {
     match found {
         Some(found) => {

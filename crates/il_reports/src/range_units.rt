@@ -21,7 +21,9 @@ fn unit_lines(
     requires unit { slice_get names.now.units at ≡ Some unit.now }
     requires declared { HasNoFault (BreaksDeclarations names.now) }
     requires typed { HasNoFault (Broken Typing names.now) }
-    ensures { IfOk result (λ after. (one : List ℕ) × (string_bytes after.text ≡ string_bytes before.text ++ one) × IsUnitShown names.now unit.now one) }
+    ensures { IfOk result (λ after. (one : List ℕ)
+        × (string_bytes after.text ≡ string_bytes before.text ++ one)
+        × IsUnitShown names.now unit.now one) }
 {
     let mut heading = before;
     put_heading(&mut heading.text, unit)?;

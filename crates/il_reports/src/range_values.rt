@@ -35,7 +35,8 @@ fn put_range(text: &mut String, range: Interval) -> Result<(), AllocError>
 
 // A type and its range.
 fn put_ranged(text: &mut String, elementary: Elementary, range: Interval) -> Result<(), AllocError>
-    ensures { OnOk result (string_bytes text.new ≡ string_bytes text.old ++ (type_word elementary ++ range_text range)) }
+    ensures { OnOk result (string_bytes text.new ≡ string_bytes text.old
+        ++ (type_word elementary ++ range_text range)) }
 {
     text.push_str(type_word(elementary))?;
     put_range(text, range)
@@ -54,7 +55,8 @@ pub fn put_result(text: &mut String, found: Option<Known>) -> Result<(), AllocEr
 
 // `, NAME LO..HI`, where the variable has a range.
 fn put_variable(text: &mut String, known: &PlaceFacts, name: &str) -> Result<(), AllocError>
-    ensures { OnOk result (string_bytes text.new ≡ string_bytes text.old ++ variable_text known.now name.now) }
+    ensures { OnOk result (string_bytes text.new ≡ string_bytes text.old
+        ++ variable_text known.now name.now) }
 {
     match known.range(name) {
         Some(range) => {
@@ -68,7 +70,8 @@ fn put_variable(text: &mut String, known: &PlaceFacts, name: &str) -> Result<(),
 
 // The variable of an index.
 fn put_index(text: &mut String, known: &PlaceFacts, index: &Index) -> Result<(), AllocError>
-    ensures { OnOk result (string_bytes text.new ≡ string_bytes text.old ++ index_text known.now index.now) }
+    ensures { OnOk result (string_bytes text.new ≡ string_bytes text.old
+        ++ index_text known.now index.now) }
 {
     match index {
         Index::Number(_) => Ok(()),
@@ -82,7 +85,8 @@ fn put_reference(
     known: &PlaceFacts,
     reference: &Reference,
 ) -> Result<(), AllocError>
-    ensures { OnOk result (string_bytes text.new ≡ string_bytes text.old ++ reference_text known.now reference.now) }
+    ensures { OnOk result (string_bytes text.new ≡ string_bytes text.old
+        ++ reference_text known.now reference.now) }
 {
     match reference {
         Reference::Literal(_) => Ok(()),
@@ -98,7 +102,8 @@ fn put_first(
     known: &PlaceFacts,
     first: &Option<Operand>,
 ) -> Result<(), AllocError>
-    ensures { OnOk result (string_bytes text.new ≡ string_bytes text.old ++ first_text known.now first.now) }
+    ensures { OnOk result (string_bytes text.new ≡ string_bytes text.old
+        ++ first_text known.now first.now) }
 {
     match first {
         Some(operand) => put_reference(text, known, &operand.reference),
@@ -112,7 +117,8 @@ fn put_argument(
     known: &PlaceFacts,
     argument: &Argument,
 ) -> Result<(), AllocError>
-    ensures { OnOk result (string_bytes text.new ≡ string_bytes text.old ++ argument_text known.now argument.now) }
+    ensures { OnOk result (string_bytes text.new ≡ string_bytes text.old
+        ++ argument_text known.now argument.now) }
 {
     match argument {
         Argument::Input { operand, .. } => put_reference(text, known, &operand.reference),
@@ -126,7 +132,8 @@ fn put_operands(
     known: &PlaceFacts,
     operands: &[Operand],
 ) -> Result<(), AllocError>
-    ensures { OnOk result (string_bytes text.new ≡ string_bytes text.old ++ operands_text known.now operands.now) }
+    ensures { OnOk result (string_bytes text.new ≡ string_bytes text.old
+        ++ operands_text known.now operands.now) }
 {
     'operands: for operand in operands {
         put_reference(text, known, &operand.reference)?;
@@ -140,7 +147,8 @@ fn put_arguments(
     known: &PlaceFacts,
     arguments: &[Argument],
 ) -> Result<(), AllocError>
-    ensures { OnOk result (string_bytes text.new ≡ string_bytes text.old ++ arguments_text known.now arguments.now) }
+    ensures { OnOk result (string_bytes text.new ≡ string_bytes text.old
+        ++ arguments_text known.now arguments.now) }
 {
     'arguments: for argument in arguments {
         put_argument(text, known, argument)?;
@@ -154,7 +162,8 @@ pub fn put_variables(
     known: &PlaceFacts,
     instruction: &Instruction,
 ) -> Result<(), AllocError>
-    ensures { OnOk result (string_bytes text.new ≡ string_bytes text.old ++ variables_text known.now instruction.now) }
+    ensures { OnOk result (string_bytes text.new ≡ string_bytes text.old
+        ++ variables_text known.now instruction.now) }
 {
     match instruction {
         Instruction::Load { operand, .. } => put_reference(text, known, &operand.reference),

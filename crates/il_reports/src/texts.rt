@@ -53,7 +53,8 @@ impl Texts {
     pub fn push(&mut self, alloc: Global, name: &str, piece: &str) -> Result<(), AllocError>
         requires { IsSound self.old }
         ensures sound { OnOk result (IsSound self.new) }
-        ensures text { OnOk result ((other : List ℕ) → text_of self.new other ≡ text_of self.old other ++ piece_at name.now piece.now other) }
+        ensures text { OnOk result ((other : List ℕ) → text_of self.new other
+            ≡ text_of self.old other ++ piece_at name.now piece.now other) }
     {
         let number = self.number(alloc, name)?;
         self.push_at(number, piece)
@@ -63,7 +64,8 @@ impl Texts {
     fn number(&mut self, alloc: Global, name: &str) -> Result<usize, AllocError>
         requires { IsSound self.old }
         ensures sound { OnOk result (IsSound self.new) }
-        ensures same { OnOk result ((other : List ℕ) → text_of self.new other ≡ text_of self.old other) }
+        ensures same { OnOk result ((other : List ℕ) → text_of self.new other
+            ≡ text_of self.old other) }
         ensures found { IfOk result (λ number. get self.new.numbers name.now ≡ Some number) }
     {
         if let Some(number) = self.numbers.get(name) {
@@ -79,7 +81,8 @@ impl Texts {
     fn push_at(&mut self, number: usize, piece: &str) -> Result<(), AllocError>
         requires { number < vec_len self.old.texts }
         ensures numbers { self.new.numbers ≡ self.old.numbers }
-        ensures texts { OnOk result (IsPushed self.old.texts.items number piece.now self.new.texts.items) }
+        ensures texts { OnOk result (IsPushed self.old.texts.items number piece.now
+            self.new.texts.items) }
     {
         let text = &mut self.texts[number];
         text.push_str(piece)

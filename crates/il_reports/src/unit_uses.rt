@@ -58,7 +58,8 @@ fn lines_of(alloc: Global, steps: &[Step]) -> Result<Lines, AllocError>
 fn add_use(alloc: Global, lines: &mut Lines, used: &Use<'_>) -> Result<(), AllocError>
     requires { AreSound lines.old }
     ensures sound { OnOk result (AreSound lines.new) }
-    ensures lines { OnOk result ((name : List ℕ) (manner : Manner) → line_of lines.new name manner ≡ line_of lines.old name manner ++ use_line manner name (use_shown used.now)) }
+    ensures lines { OnOk result ((name : List ℕ) (manner : Manner) → line_of lines.new name manner
+        ≡ line_of lines.old name manner ++ use_line manner name (use_shown used.now)) }
 {
     let line = format!(in alloc; " {}", used.line)?;
     lines.push(alloc, used.manner, used.name, line.as_str())

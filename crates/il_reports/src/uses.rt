@@ -98,7 +98,8 @@ impl<'c> Iterator for UsesLeft<'c> {
 
 // The first use of what is left of an instruction, and what is left behind it.
 fn first_of_rest<'c>(rest: Rest<'c>) -> Option<(Found<'c>, Rest<'c>)>
-    ensures { MatchOption result (rest_shown rest.entry ≡ []) (λ r. rest_shown rest.entry ≡ found_shown r.0 ++ rest_shown r.1) }
+    ensures { MatchOption result (rest_shown rest.entry ≡ [])
+        (λ r. rest_shown rest.entry ≡ found_shown r.0 ++ rest_shown r.1) }
 {
     match rest {
         Rest::Operands(operands) => {
@@ -114,7 +115,8 @@ fn first_of_rest<'c>(rest: Rest<'c>) -> Option<(Found<'c>, Rest<'c>)>
 
 // The first operand that uses a name, and the operands behind it.
 fn first_of_operands<'c>(operands: &'c [Operand]) -> Option<(Found<'c>, &'c [Operand])>
-    ensures { MatchOption result (operands_uses operands.now ≡ []) (λ r. operands_uses operands.now ≡ found_shown r.0 ++ operands_uses r.1.now) }
+    ensures { MatchOption result (operands_uses operands.now ≡ [])
+        (λ r. operands_uses operands.now ≡ found_shown r.0 ++ operands_uses r.1.now) }
 {
     let mut left = operands;
     'operands: while let Some((operand, others)) = left.split_first() {
@@ -128,7 +130,8 @@ fn first_of_operands<'c>(operands: &'c [Operand]) -> Option<(Found<'c>, &'c [Ope
 
 // The first argument that uses a name, and the arguments behind it.
 fn first_of_arguments<'c>(arguments: &'c [Argument]) -> Option<(Found<'c>, &'c [Argument])>
-    ensures { MatchOption result (arguments_uses arguments.now ≡ []) (λ r. arguments_uses arguments.now ≡ found_shown r.0 ++ arguments_uses r.1.now) }
+    ensures { MatchOption result (arguments_uses arguments.now ≡ [])
+        (λ r. arguments_uses arguments.now ≡ found_shown r.0 ++ arguments_uses r.1.now) }
 {
     let mut left = arguments;
     'arguments: while let Some((argument, others)) = left.split_first() {
@@ -142,7 +145,8 @@ fn first_of_arguments<'c>(arguments: &'c [Argument]) -> Option<(Found<'c>, &'c [
 
 // The first step that uses a name, and the steps behind it.
 fn first_of_steps<'c>(steps: &'c [Step]) -> Option<(Head<'c>, &'c [Step])>
-    ensures { MatchOption result (uses steps.now ≡ []) (λ r. uses steps.now ≡ (found_shown r.0.found ++ rest_shown r.0.rest) ++ uses r.1.now) }
+    ensures { MatchOption result (uses steps.now ≡ [])
+        (λ r. uses steps.now ≡ (found_shown r.0.found ++ rest_shown r.0.rest) ++ uses r.1.now) }
 {
     let mut left = steps;
     'steps: while let Some((step, others)) = left.split_first() {

@@ -33,14 +33,16 @@ pub fn warnings_text(alloc: Global, config: &Config) -> Result<String, AllocErro
 }
 
 fn put_units(alloc: Global, text: &mut String, config: &Config) -> Result<(), AllocError>
-    ensures { OnOk result (string_bytes text.new ≡ string_bytes text.old ++ flat_map (unit_text config.now) config.now.units) }
+    ensures { OnOk result (string_bytes text.new ≡ string_bytes text.old
+        ++ flat_map (unit_text config.now) config.now.units) }
 {
     let needed = Needed::of(alloc, config)?;
     put_each_unit(alloc, text, &needed)
 }
 
 fn put_each_unit(alloc: Global, text: &mut String, needed: &Needed<'_>) -> Result<(), AllocError>
-    ensures { OnOk result (string_bytes text.new ≡ string_bytes text.old ++ flat_map (unit_text needed.now.config.now) needed.now.config.now.units) }
+    ensures { OnOk result (string_bytes text.new ≡ string_bytes text.old
+        ++ flat_map (unit_text needed.now.config.now) needed.now.config.now.units) }
 {
     let units = needed.config.units.as_slice();
     'units: for unit in units {
@@ -55,7 +57,8 @@ fn put_unit(
     needed: &Needed<'_>,
     unit: &Unit,
 ) -> Result<(), AllocError>
-    ensures { OnOk result (string_bytes text.new ≡ string_bytes text.old ++ unit_text needed.now.config.now unit.now) }
+    ensures { OnOk result (string_bytes text.new ≡ string_bytes text.old
+        ++ unit_text needed.now.config.now unit.now) }
 {
     let uses = UnitUses::of(alloc, unit)?;
     put_unit_uses(text, needed, &uses)
@@ -66,7 +69,8 @@ fn put_unit_uses(
     needed: &Needed<'_>,
     uses: &UnitUses<'_>,
 ) -> Result<(), AllocError>
-    ensures { OnOk result (string_bytes text.new ≡ string_bytes text.old ++ unit_text needed.now.config.now uses.now.unit.now) }
+    ensures { OnOk result (string_bytes text.new ≡ string_bytes text.old
+        ++ unit_text needed.now.config.now uses.now.unit.now) }
 {
     let unit = uses.unit;
     let name = unit.name.name.as_str();
@@ -86,7 +90,8 @@ fn put_names(
     uses: &UnitUses<'_>,
     declarations: &[Declaration],
 ) -> Result<(), AllocError>
-    ensures { OnOk result (string_bytes text.new ≡ string_bytes text.old ++ names_text origin uses.now.unit.now.body.steps declarations.now) }
+    ensures { OnOk result (string_bytes text.new ≡ string_bytes text.old
+        ++ names_text origin uses.now.unit.now.body.steps declarations.now) }
 {
     'names: for name in declared_names(declarations) {
         let never = name_never(origin, uses, &name);
@@ -109,7 +114,8 @@ fn name_never(origin: Origin, uses: &UnitUses<'_>, name: &Declared<'_>) -> Optio
 
 // What the program of a car does not store.
 fn put_outputs(text: &mut String, config: &Config, uses: &UnitUses<'_>) -> Result<(), AllocError>
-    ensures { OnOk result (string_bytes text.new ≡ string_bytes text.old ++ outputs_text config.now uses.now.unit.now) }
+    ensures { OnOk result (string_bytes text.new ≡ string_bytes text.old
+        ++ outputs_text config.now uses.now.unit.now) }
 {
     let unit = uses.unit;
     let programs = config.programs.as_slice();
@@ -121,7 +127,8 @@ fn put_outputs(text: &mut String, config: &Config, uses: &UnitUses<'_>) -> Resul
 }
 
 fn put_unstored(text: &mut String, uses: &UnitUses<'_>, name: &str) -> Result<(), AllocError>
-    ensures { OnOk result (string_bytes text.new ≡ string_bytes text.old ++ unstored_text uses.now.unit.now name.now) }
+    ensures { OnOk result (string_bytes text.new ≡ string_bytes text.old
+        ++ unstored_text uses.now.unit.now name.now) }
 {
     if uses.is_used(Manner::Written, name) {
         return Ok(());
@@ -131,7 +138,8 @@ fn put_unstored(text: &mut String, uses: &UnitUses<'_>, name: &str) -> Result<()
 
 #[tactic(auto, unfolding(crate::specs::Warnings::unstored_line))]
 fn put_unstored_line(text: &mut String, unit: &Unit, name: &str) -> Result<(), AllocError>
-    ensures { OnOk result (string_bytes text.new ≡ string_bytes text.old ++ unstored_line unit.now name.now) }
+    ensures { OnOk result (string_bytes text.new ≡ string_bytes text.old
+        ++ unstored_line unit.now name.now) }
 {
     write!(text, "line {}: ", unit.place.line)?;
     writeln!(text, "{} never stores {}", unit.name.name.as_str(), name)
@@ -143,7 +151,8 @@ fn put_globals(
     units: &[Unit],
     globals: &[Declaration],
 ) -> Result<(), AllocError>
-    ensures { OnOk result (string_bytes text.new ≡ string_bytes text.old ++ flat_map (global_text units.now) (declared_names globals.now)) }
+    ensures { OnOk result (string_bytes text.new ≡ string_bytes text.old
+        ++ flat_map (global_text units.now) (declared_names globals.now)) }
 {
     if globals.is_empty() {
         return Ok(());
@@ -157,7 +166,8 @@ fn put_each_global(
     uses: &GlobalUses<'_>,
     globals: &[Declaration],
 ) -> Result<(), AllocError>
-    ensures { OnOk result (string_bytes text.new ≡ string_bytes text.old ++ flat_map (global_text uses.now.units.now) (declared_names globals.now)) }
+    ensures { OnOk result (string_bytes text.new ≡ string_bytes text.old
+        ++ flat_map (global_text uses.now.units.now) (declared_names globals.now)) }
 {
     'names: for name in declared_names(globals) {
         let never = global_never(uses, &name);
@@ -186,7 +196,8 @@ fn put_tasks(text: &mut String, tasks: &[Task]) -> Result<(), AllocError>
 
 // The tasks that are unlike the first.
 fn put_unlike(text: &mut String, first: &Task, tasks: &[Task]) -> Result<(), AllocError>
-    ensures { OnOk result (string_bytes text.new ≡ string_bytes text.old ++ flat_map (task_text first.now) tasks.now) }
+    ensures { OnOk result (string_bytes text.new ≡ string_bytes text.old
+        ++ flat_map (task_text first.now) tasks.now) }
 {
     'tasks: for task in tasks {
         if !are_alike(first, task) {

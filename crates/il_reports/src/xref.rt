@@ -26,7 +26,8 @@ pub fn xref_text(alloc: Global, config: &Config) -> Result<String, AllocError>
 }
 
 fn put_units(alloc: Global, text: &mut String, units: &[Unit]) -> Result<(), AllocError>
-    ensures { OnOk result (string_bytes text.new ≡ string_bytes text.old ++ flat_map unit_text units.now) }
+    ensures { OnOk result (string_bytes text.new ≡ string_bytes text.old
+        ++ flat_map unit_text units.now) }
 {
     'units: for unit in units {
         put_unit(alloc, text, unit)?;
@@ -42,7 +43,8 @@ fn put_unit(alloc: Global, text: &mut String, unit: &Unit) -> Result<(), AllocEr
 }
 
 fn put_unit_uses(alloc: Global, text: &mut String, uses: &UnitUses<'_>) -> Result<(), AllocError>
-    ensures { OnOk result (string_bytes text.new ≡ string_bytes text.old ++ unit_text uses.now.unit.now) }
+    ensures { OnOk result (string_bytes text.new ≡ string_bytes text.old
+        ++ unit_text uses.now.unit.now) }
 {
     let unit = uses.unit;
     put_heading(text, unit)?;
@@ -82,7 +84,8 @@ fn put_declared(
     uses: &UnitUses<'_>,
     declarations: &[Declaration],
 ) -> Result<(), AllocError>
-    ensures { OnOk result (string_bytes text.new ≡ string_bytes text.old ++ declared_lines uses.now.unit.now.body.steps declarations.now) }
+    ensures { OnOk result (string_bytes text.new ≡ string_bytes text.old
+        ++ declared_lines uses.now.unit.now.body.steps declarations.now) }
 {
     'names: for name in declared_names(declarations) {
         put_declared_line(text, uses, &name)?;
@@ -96,7 +99,8 @@ fn put_declared_line(
     uses: &UnitUses<'_>,
     name: &Declared<'_>,
 ) -> Result<(), AllocError>
-    ensures { OnOk result (string_bytes text.new ≡ string_bytes text.old ++ declared_line uses.now.unit.now.body.steps (name_shown name.now)) }
+    ensures { OnOk result (string_bytes text.new ≡ string_bytes text.old
+        ++ declared_line uses.now.unit.now.body.steps (name_shown name.now)) }
 {
     write!(text, "  {}: declared {}", name.name, name.line)?;
     put_uses(text, uses, name.name, true)?;
@@ -105,7 +109,8 @@ fn put_declared_line(
 
 // The names that a unit uses and does not declare, each at its first use.
 fn put_others(alloc: Global, text: &mut String, unit: &UnitUses<'_>) -> Result<(), AllocError>
-    ensures { OnOk result (string_bytes text.new ≡ string_bytes text.old ++ other_lines unit.now.unit.now) }
+    ensures { OnOk result (string_bytes text.new ≡ string_bytes text.old
+        ++ other_lines unit.now.unit.now) }
 {
     let mut seen = name_table(alloc, unit.unit)?;
     'uses: for used in uses(unit.unit.body.steps.as_slice()) {
@@ -119,7 +124,8 @@ fn put_others(alloc: Global, text: &mut String, unit: &UnitUses<'_>) -> Result<(
 
 #[tactic(auto, unfolding(crate::specs::Xref::other_line))]
 fn put_other_line(text: &mut String, uses: &UnitUses<'_>, name: &str) -> Result<(), AllocError>
-    ensures { OnOk result (string_bytes text.new ≡ string_bytes text.old ++ other_line uses.now.unit.now.body.steps name.now) }
+    ensures { OnOk result (string_bytes text.new ≡ string_bytes text.old
+        ++ other_line uses.now.unit.now.body.steps name.now) }
 {
     write!(text, "  {}", name)?;
     put_uses(text, uses, name, false)?;
@@ -133,7 +139,8 @@ fn put_uses(
     name: &str,
     begun: bool,
 ) -> Result<(), AllocError>
-    ensures { OnOk result (string_bytes text.new ≡ string_bytes text.old ++ parts_text begun (used_parts (use_lines uses.now.unit.now.body.steps name.now))) }
+    ensures { OnOk result (string_bytes text.new ≡ string_bytes text.old
+        ++ parts_text begun (used_parts (use_lines uses.now.unit.now.body.steps name.now))) }
 {
     let begun = put_used(text, Manner::Read, uses.lines(Manner::Read, name), begun)?;
     let begun = put_used(
@@ -158,7 +165,8 @@ fn put_used(
     places: &str,
     begun: bool,
 ) -> Result<bool, AllocError>
-    ensures text { OnOk result (string_bytes text.new ≡ string_bytes text.old ++ behind (mark begun) (used_part manner places.now)) }
+    ensures text { OnOk result (string_bytes text.new ≡ string_bytes text.old
+        ++ behind (mark begun) (used_part manner places.now)) }
     ensures begun { IfOk result (λ b. b ≡ (begun || is_there (used_part manner places.now))) }
 {
     if places.is_empty() {
@@ -171,7 +179,8 @@ fn put_used(
 
 // The word of a manner, behind its mark.
 fn put_word(text: &mut String, manner: Manner, begun: bool) -> Result<(), AllocError>
-    ensures { OnOk result (string_bytes text.new ≡ string_bytes text.old ++ (mark begun ++ manner_word manner)) }
+    ensures { OnOk result (string_bytes text.new ≡ string_bytes text.old
+        ++ (mark begun ++ manner_word manner)) }
 {
     text.push_str(if begun { "," } else { ":" })?;
     match manner {
@@ -187,7 +196,8 @@ fn put_globals(
     units: &[Unit],
     globals: &[Declaration],
 ) -> Result<(), AllocError>
-    ensures { OnOk result (string_bytes text.new ≡ string_bytes text.old ++ globals_text units.now globals.now) }
+    ensures { OnOk result (string_bytes text.new ≡ string_bytes text.old
+        ++ globals_text units.now globals.now) }
 {
     if globals.is_empty() {
         return Ok(());
@@ -202,7 +212,8 @@ fn put_global_parts(
     units: &[Unit],
     globals: &[Declaration],
 ) -> Result<(), AllocError>
-    ensures { OnOk result (string_bytes text.new ≡ string_bytes text.old ++ flat_map (global_line units.now) (declared_names globals.now)) }
+    ensures { OnOk result (string_bytes text.new ≡ string_bytes text.old
+        ++ flat_map (global_line units.now) (declared_names globals.now)) }
 {
     let uses = GlobalUses::of(alloc, units)?;
     put_global_lines(text, &uses, globals)
@@ -213,7 +224,8 @@ fn put_global_lines(
     uses: &GlobalUses<'_>,
     globals: &[Declaration],
 ) -> Result<(), AllocError>
-    ensures { OnOk result (string_bytes text.new ≡ string_bytes text.old ++ flat_map (global_line uses.now.units.now) (declared_names globals.now)) }
+    ensures { OnOk result (string_bytes text.new ≡ string_bytes text.old
+        ++ flat_map (global_line uses.now.units.now) (declared_names globals.now)) }
 {
     'names: for name in declared_names(globals) {
         put_global_line(text, uses, &name)?;
@@ -227,7 +239,8 @@ fn put_global_line(
     uses: &GlobalUses<'_>,
     name: &Declared<'_>,
 ) -> Result<(), AllocError>
-    ensures { OnOk result (string_bytes text.new ≡ string_bytes text.old ++ global_line uses.now.units.now (name_shown name.now)) }
+    ensures { OnOk result (string_bytes text.new ≡ string_bytes text.old
+        ++ global_line uses.now.units.now (name_shown name.now)) }
 {
     write!(text, "  {}: declared {}", name.name, name.line)?;
     put_global_uses(text, uses, name.name)?;
@@ -236,7 +249,8 @@ fn put_global_line(
 
 // Where units use a global, in each manner, behind the line where it is declared.
 fn put_global_uses(text: &mut String, uses: &GlobalUses<'_>, name: &str) -> Result<(), AllocError>
-    ensures { OnOk result (string_bytes text.new ≡ string_bytes text.old ++ parts_text true (used_parts (global_places uses.now.units.now name.now))) }
+    ensures { OnOk result (string_bytes text.new ≡ string_bytes text.old
+        ++ parts_text true (used_parts (global_places uses.now.units.now name.now))) }
 {
     let begun = put_used(text, Manner::Read, uses.places(Manner::Read, name), true)?;
     let begun = put_used(
@@ -255,7 +269,8 @@ fn put_global_uses(text: &mut String, uses: &GlobalUses<'_>, name: &str) -> Resu
 }
 
 fn put_programs(text: &mut String, programs: &[ProgramLine]) -> Result<(), AllocError>
-    ensures { OnOk result (string_bytes text.new ≡ string_bytes text.old ++ programs_text programs.now) }
+    ensures { OnOk result (string_bytes text.new ≡ string_bytes text.old
+        ++ programs_text programs.now) }
 {
     if programs.is_empty() {
         return Ok(());
@@ -265,7 +280,8 @@ fn put_programs(text: &mut String, programs: &[ProgramLine]) -> Result<(), Alloc
 }
 
 fn put_program_lines(text: &mut String, programs: &[ProgramLine]) -> Result<(), AllocError>
-    ensures { OnOk result (string_bytes text.new ≡ string_bytes text.old ++ flat_map program_line programs.now) }
+    ensures { OnOk result (string_bytes text.new ≡ string_bytes text.old
+        ++ flat_map program_line programs.now) }
 {
     'lines: for line in programs {
         put_program_line(text, line)?;

@@ -38,14 +38,16 @@ fn uniform_function(name: &str) -> Option<StandardFunction>
 
 // The conversion from a signed type (2.5.1.5.1).
 fn signed_conversion(name: &str) -> Option<StandardFunction>
-    ensures { result ≡ or_else (entry_among from_sint name.now) (or_else (entry_among from_int name.now) (entry_among from_dint name.now)) }
+    ensures { result ≡ or_else (entry_among from_sint name.now)
+        (or_else (entry_among from_int name.now) (entry_among from_dint name.now)) }
 {
     from_sint(name).or(from_int(name).or(from_dint(name)))
 }
 
 // The conversion from an unsigned type (2.5.1.5.1).
 fn unsigned_conversion(name: &str) -> Option<StandardFunction>
-    ensures { result ≡ or_else (entry_among from_usint name.now) (or_else (entry_among from_uint name.now) (entry_among from_udint name.now)) }
+    ensures { result ≡ or_else (entry_among from_usint name.now)
+        (or_else (entry_among from_uint name.now) (entry_among from_udint name.now)) }
 {
     from_usint(name).or(from_uint(name).or(from_udint(name)))
 }

@@ -12,7 +12,8 @@ use std::alloc::{AllocError, Global};
 
 /// The place of each label of a body, counted from 0; the first with a name counts.
 pub fn label_table(alloc: Global, body: &Body) -> Result<Table<usize>, AllocError>
-    ensures { IfOk result (λ labels. (name : Spelling) → map.get labels name ≡ label_place body.now name) }
+    ensures { IfOk result (λ labels. (name : Spelling) → map.get labels name
+        ≡ label_place body.now name) }
 {
     let steps = body.steps.as_slice();
     let mut labels = Table::new(alloc);

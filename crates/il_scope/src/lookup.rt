@@ -19,14 +19,17 @@ use il_table::Table;
 
 /// Whether a unit has a name, predeclared or not.
 pub fn is_unit(units: &Table<usize>, name: &str) -> bool
-    ensures { (config : Config) → AreUnits config units.now → result ≡ is_one_of (names_of_units config) name.now }
+    ensures { (config : Config) → AreUnits config units.now → result
+        ≡ is_one_of (names_of_units config) name.now }
 {
     units.get(name).is_some()
 }
 
 /// The type of a block's input by its word (IEC 61131-3:2003, 2.5.2).
 pub fn block_input(tables: &Tables, block: BlockType, word: &str) -> Option<VariableType>
-    ensures { (config : Config) → AreTables config tables.now → result ≡ option_map (type_of config) (option_and_then (λ b. entry_of b.inputs word.now) (variables_of_block config block)) }
+    ensures { (config : Config) → AreTables config tables.now → result
+        ≡ option_map (type_of config) (option_and_then (λ b. entry_of b.inputs word.now)
+        (variables_of_block config block)) }
 {
     match block {
         BlockType::Standard(standard) => standard_input_type(standard, word),
@@ -36,7 +39,8 @@ pub fn block_input(tables: &Tables, block: BlockType, word: &str) -> Option<Vari
 
 // The type of a standard block's input by its word (2.5.2.3).
 fn standard_input_type(block: StandardBlock, word: &str) -> Option<VariableType>
-    ensures { (config : Config) → result ≡ option_map (type_of config) (entry_of (standard_inputs block) word.now) }
+    ensures { (config : Config) → result
+        ≡ option_map (type_of config) (entry_of (standard_inputs block) word.now) }
 {
     match standard_input(block, word) {
         Some(elementary) => Some(VariableType::Scalar(plain(elementary))),
@@ -46,7 +50,9 @@ fn standard_input_type(block: StandardBlock, word: &str) -> Option<VariableType>
 
 // The type of an own block's input by its word.
 fn own_input(tables: &Tables, number: usize, word: &str) -> Option<VariableType>
-    ensures { (config : Config) → AreTables config tables.now → result ≡ option_map (type_of config) (option_and_then (λ b. entry_of b.inputs word.now) (variables_of_block config (Own number))) }
+    ensures { (config : Config) → AreTables config tables.now → result
+        ≡ option_map (type_of config) (option_and_then (λ b. entry_of b.inputs word.now)
+        (variables_of_block config (Own number))) }
 {
     match tables.scopes.as_slice().get(number) {
         Some(scope) => scope.inputs.get(word),
@@ -56,7 +62,9 @@ fn own_input(tables: &Tables, number: usize, word: &str) -> Option<VariableType>
 
 /// The type of a block's output by its word (IEC 61131-3:2003, 2.5.2).
 pub fn block_output(tables: &Tables, block: BlockType, word: &str) -> Option<VariableType>
-    ensures { (config : Config) → AreTables config tables.now → result ≡ option_map (type_of config) (option_and_then (λ b. entry_of b.outputs word.now) (variables_of_block config block)) }
+    ensures { (config : Config) → AreTables config tables.now → result
+        ≡ option_map (type_of config) (option_and_then (λ b. entry_of b.outputs word.now)
+        (variables_of_block config block)) }
 {
     match block {
         BlockType::Standard(standard) => standard_output_type(standard, word),
@@ -66,7 +74,8 @@ pub fn block_output(tables: &Tables, block: BlockType, word: &str) -> Option<Var
 
 // The type of a standard block's output by its word (2.5.2.3).
 fn standard_output_type(block: StandardBlock, word: &str) -> Option<VariableType>
-    ensures { (config : Config) → result ≡ option_map (type_of config) (entry_of (standard_outputs block) word.now) }
+    ensures { (config : Config) → result
+        ≡ option_map (type_of config) (entry_of (standard_outputs block) word.now) }
 {
     match standard_output(block, word) {
         Some(elementary) => Some(VariableType::Scalar(plain(elementary))),
@@ -76,7 +85,9 @@ fn standard_output_type(block: StandardBlock, word: &str) -> Option<VariableType
 
 // The type of an own block's output by its word.
 fn own_output(tables: &Tables, number: usize, word: &str) -> Option<VariableType>
-    ensures { (config : Config) → AreTables config tables.now → result ≡ option_map (type_of config) (option_and_then (λ b. entry_of b.outputs word.now) (variables_of_block config (Own number))) }
+    ensures { (config : Config) → AreTables config tables.now → result
+        ≡ option_map (type_of config) (option_and_then (λ b. entry_of b.outputs word.now)
+        (variables_of_block config (Own number))) }
 {
     match tables.scopes.as_slice().get(number) {
         Some(scope) => scope.outputs.get(word),
@@ -86,8 +97,10 @@ fn own_output(tables: &Tables, number: usize, word: &str) -> Option<VariableType
 
 /// The scalar types of the inputs of the unit of a number, in their order.
 pub fn input_scalars(tables: &Tables, number: usize) -> Option<&[Option<Scalar>]>
-    ensures none { result ≡ None → (config : Config) → AreTables config tables.now → slice_get config.units number ≡ None }
-    ensures some { IfSome result (λ inputs. (config : Config) → AreTables config tables.now → AreInputsOf (slice_get config.units number) inputs.now) }
+    ensures none { result ≡ None → (config : Config) → AreTables config tables.now
+        → slice_get config.units number ≡ None }
+    ensures some { IfSome result (λ inputs. (config : Config) → AreTables config tables.now
+        → AreInputsOf (slice_get config.units number) inputs.now) }
 {
     match tables.scopes.as_slice().get(number) {
         Some(scope) => Some(scope.scalars.as_slice()),

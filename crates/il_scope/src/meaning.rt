@@ -19,7 +19,8 @@ use il_spec::tree::{Config, UnitKind};
 #[inline(always)]
 pub fn meaning(config: &Config, tables: &Tables, at: usize, name: &str) -> Option<Binding>
     requires { AreTables config.now tables.now }
-    ensures { (unit : ProgramUnit) → slice_get config.now.units at ≡ Some unit → result ≡ option_map (binding_of config.now) (meaning config.now unit name.now) }
+    ensures { (unit : ProgramUnit) → slice_get config.now.units at ≡ Some unit → result
+        ≡ option_map (binding_of config.now) (meaning config.now unit name.now) }
 {
     let Some(scope) = tables.scopes.as_slice().get(at) else {
         return None;
@@ -31,7 +32,8 @@ pub fn meaning(config: &Config, tables: &Tables, at: usize, name: &str) -> Optio
 #[inline(always)]
 fn meaning_in(config: &Config, tables: &Tables, scope: &Scope, name: &str) -> Option<Binding>
     requires { AreTables config.now tables.now }
-    ensures { (unit : ProgramUnit) → IsScope config.now unit scope.now → result ≡ option_map (binding_of config.now) (meaning config.now unit name.now) }
+    ensures { (unit : ProgramUnit) → IsScope config.now unit scope.now → result
+        ≡ option_map (binding_of config.now) (meaning config.now unit name.now) }
 {
     match scope.own.get(name) {
         Some(seen) => variable_binding(seen),

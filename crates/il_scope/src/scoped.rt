@@ -137,7 +137,8 @@ impl Scoped {
     /// What a name means in the unit of a number; none where it is unknown there (2.4.3).
     #[inline(always)]
     pub fn meaning(&self, at: usize, name: &str) -> Option<Binding>
-        ensures { (unit : ProgramUnit) → slice_get self.now.units at ≡ Some unit → result ≡ option_map (binding_of self.now) (meaning self.now unit name.now) }
+        ensures { (unit : ProgramUnit) → slice_get self.now.units at ≡ Some unit → result
+            ≡ option_map (binding_of self.now) (meaning self.now unit name.now) }
     {
         meaning(self.written.tree(), &self.tables, at, name)
     }
@@ -152,21 +153,26 @@ impl Scoped {
     /// The scalar types of the inputs of the unit of a number, in their order (2.4.3).
     pub fn inputs(&self, number: usize) -> Option<&[Option<Scalar>]>
         ensures none { result ≡ None → slice_get self.now.units number ≡ None }
-        ensures some { IfSome result (λ inputs. AreInputsOf (slice_get self.now.units number) inputs.now) }
+        ensures some { IfSome result (λ inputs.
+            AreInputsOf (slice_get self.now.units number) inputs.now) }
     {
         input_scalars(&self.tables, number)
     }
 
     /// The type of a block's input by its word (2.5.2).
     pub fn block_input(&self, block: BlockType, word: &str) -> Option<VariableType>
-        ensures { result ≡ option_map (type_of self.now) (option_and_then (λ b. entry_of b.inputs word.now) (variables_of_block self.now block)) }
+        ensures { result ≡ option_map (type_of self.now)
+            (option_and_then (λ b. entry_of b.inputs word.now)
+            (variables_of_block self.now block)) }
     {
         block_input(&self.tables, block, word)
     }
 
     /// The type of a block's output by its word (2.5.2).
     pub fn block_output(&self, block: BlockType, word: &str) -> Option<VariableType>
-        ensures { result ≡ option_map (type_of self.now) (option_and_then (λ b. entry_of b.outputs word.now) (variables_of_block self.now block)) }
+        ensures { result ≡ option_map (type_of self.now)
+            (option_and_then (λ b. entry_of b.outputs word.now)
+            (variables_of_block self.now block)) }
     {
         block_output(&self.tables, block, word)
     }

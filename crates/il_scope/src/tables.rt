@@ -70,7 +70,8 @@ fn scoped_tables(alloc: Global, config: &Config, units: Table<usize>) -> Result<
 
 // The number of the first unit of each name.
 fn unit_table(alloc: Global, units: &[Unit]) -> Result<Table<usize>, AllocError>
-    ensures { IfOk result (λ t. (name : Spelling) → table.get t name ≡ place_of (map (λ u. u.name.name) units.now) name) }
+    ensures { IfOk result (λ t. (name : Spelling) → table.get t name
+        ≡ place_of (map (λ u. u.name.name) units.now) name) }
 {
     let mut table = Table::new(alloc);
     for index in 0..units.len() {
@@ -232,7 +233,8 @@ fn put_result(
     unit: &Unit,
     own: &mut Table<Option<Variable>>,
 ) -> Result<(), AllocError>
-    ensures { OnOk result ((name : Spelling) → table.get own.new name ≡ or_else (table.get own.old name) (own_result unit.now.kind unit.now.name.name name)) }
+    ensures { OnOk result ((name : Spelling) → table.get own.new name
+        ≡ or_else (table.get own.old name) (own_result unit.now.kind unit.now.name.name name)) }
 {
     match unit.kind {
         UnitKind::Function(scalar, _) => {

@@ -38,7 +38,8 @@ impl<'n> Model for UnitScope<'n> {
 // The type of a scalar variable.
 #[inline(always)]
 fn scalar_type(declared: VariableType) -> Option<Scalar>
-    ensures { (config : Configuration) (form : Form) → declared ≡ type_of config form → result ≡ scalar_of (Some form) }
+    ensures { (config : Configuration) (form : Form) → declared ≡ type_of config form → result
+        ≡ scalar_of (Some form) }
 {
     match declared {
         VariableType::Scalar(scalar) => Some(scalar),
@@ -49,7 +50,8 @@ fn scalar_type(declared: VariableType) -> Option<Scalar>
 // The scalar type, if there is one.
 #[inline(always)]
 fn scalar_if(declared: Option<VariableType>) -> Option<Scalar>
-    ensures { (config : Configuration) (form : Option Form) → declared ≡ option_map (type_of config) form → result ≡ scalar_of form }
+    ensures { (config : Configuration) (form : Option Form) → declared
+        ≡ option_map (type_of config) form → result ≡ scalar_of form }
 {
     match declared {
         Some(declared) => scalar_type(declared),
@@ -59,7 +61,8 @@ fn scalar_if(declared: Option<VariableType>) -> Option<Scalar>
 
 // Whether it is the type of an instance.
 fn is_instance_type(declared: Option<VariableType>) -> bool
-    ensures { (config : Configuration) (form : Option Form) → declared ≡ option_map (type_of config) form → result ≡ is_block form }
+    ensures { (config : Configuration) (form : Option Form) → declared
+        ≡ option_map (type_of config) form → result ≡ is_block form }
 {
     matches!(declared, Some(VariableType::Instance(_)))
 }
@@ -67,9 +70,12 @@ fn is_instance_type(declared: Option<VariableType>) -> bool
 // The block of an instance.
 #[tactic(auto, using(crate::proofs::Laws::block_found, crate::proofs::Laws::block_there))]
 fn block_of(declared: VariableType) -> Option<BlockType>
-    ensures there { (config : Configuration) (form : Form) → declared ≡ type_of config form → is_some result ≡ is_some (rules.block_of config form) }
-    ensures is { (config : Configuration) (form : Form) → declared ≡ type_of config form → option_and_then (variables_of_block config) result ≡ rules.block_of config form }
-    ensures named { (config : Configuration) (block : Spelling) → declared ≡ type_of config (BlockForm block) → result ≡ block_type config block }
+    ensures there { (config : Configuration) (form : Form) → declared ≡ type_of config form
+        → is_some result ≡ is_some (rules.block_of config form) }
+    ensures is { (config : Configuration) (form : Form) → declared ≡ type_of config form
+        → option_and_then (variables_of_block config) result ≡ rules.block_of config form }
+    ensures named { (config : Configuration) (block : Spelling) → declared
+        ≡ type_of config (BlockForm block) → result ≡ block_type config block }
 {
     match declared {
         VariableType::Instance(block) => block,
@@ -114,7 +120,8 @@ impl<'n> UnitScope<'n> {
     /// What a name means in it; none where it is unknown there.
     #[inline(always)]
     pub fn meaning(&self, name: &str) -> Option<Binding>
-        ensures { result ≡ option_map (binding_of self.now.config) (meaning self.now.config self.now.unit name.now) }
+        ensures { result ≡ option_map (binding_of self.now.config)
+            (meaning self.now.config self.now.unit name.now) }
     {
         self.names.meaning(self.at, name)
     }
@@ -122,7 +129,8 @@ impl<'n> UnitScope<'n> {
     /// The variable that a name means.
     #[inline(always)]
     pub fn variable(&self, name: &str) -> Option<Variable>
-        ensures { result ≡ option_map (variable_of self.now.config) (variable_named self.now.config self.now.unit name.now) }
+        ensures { result ≡ option_map (variable_of self.now.config)
+            (variable_named self.now.config self.now.unit name.now) }
     {
         match self.meaning(name) {
             Some(Binding::Variable(variable)) => Some(variable),
@@ -133,7 +141,8 @@ impl<'n> UnitScope<'n> {
     /// The type of the variable that a name means.
     #[inline(always)]
     pub fn declared_type(&self, name: &str) -> Option<VariableType>
-        ensures { result ≡ option_map (type_of self.now.config) (form_named self.now.config self.now.unit name.now) }
+        ensures { result ≡ option_map (type_of self.now.config)
+            (form_named self.now.config self.now.unit name.now) }
     {
         match self.variable(name) {
             Some(variable) => Some(variable.declared),
@@ -158,8 +167,10 @@ impl<'n> UnitScope<'n> {
 
     /// The block of the instance of a name.
     pub fn block(&self, name: &str) -> Option<BlockType>
-        ensures there { is_some result ≡ is_some (rules.instance_block self.now.config self.now.unit name.now) }
-        ensures is { option_and_then (variables_of_block self.now.config) result ≡ rules.instance_block self.now.config self.now.unit name.now }
+        ensures there { is_some result ≡ is_some
+            (rules.instance_block self.now.config self.now.unit name.now) }
+        ensures is { option_and_then (variables_of_block self.now.config) result
+            ≡ rules.instance_block self.now.config self.now.unit name.now }
     {
         match self.variable(name) {
             Some(variable) => block_of(variable.declared),
@@ -169,7 +180,9 @@ impl<'n> UnitScope<'n> {
 
     /// The type of an input of the instance of a name, by its word.
     pub fn input(&self, name: &str, word: &str) -> Option<VariableType>
-        ensures { result ≡ option_map (type_of self.now.config) (option_and_then (λ b. entry_of b.inputs word.now) (rules.instance_block self.now.config self.now.unit name.now)) }
+        ensures { result ≡ option_map (type_of self.now.config)
+            (option_and_then (λ b. entry_of b.inputs word.now)
+            (rules.instance_block self.now.config self.now.unit name.now)) }
     {
         match self.block(name) {
             Some(block) => self.names.block_input(block, word),
@@ -179,7 +192,9 @@ impl<'n> UnitScope<'n> {
 
     /// The type of an output of the instance of a name, by its word.
     pub fn output(&self, name: &str, word: &str) -> Option<VariableType>
-        ensures { result ≡ option_map (type_of self.now.config) (option_and_then (λ b. entry_of b.outputs word.now) (rules.instance_block self.now.config self.now.unit name.now)) }
+        ensures { result ≡ option_map (type_of self.now.config)
+            (option_and_then (λ b. entry_of b.outputs word.now)
+            (rules.instance_block self.now.config self.now.unit name.now)) }
     {
         match self.block(name) {
             Some(block) => self.names.block_output(block, word),
@@ -189,7 +204,9 @@ impl<'n> UnitScope<'n> {
 
     /// The type of a word of the instance of a name: of its output, otherwise of its input.
     pub fn member(&self, name: &str, word: &str) -> Option<VariableType>
-        ensures { result ≡ option_map (type_of self.now.config) (option_and_then (rules.member_form word.now) (rules.instance_block self.now.config self.now.unit name.now)) }
+        ensures { result ≡ option_map (type_of self.now.config)
+            (option_and_then (rules.member_form word.now)
+            (rules.instance_block self.now.config self.now.unit name.now)) }
     {
         let block = self.block(name)?;
         self.names
@@ -199,21 +216,24 @@ impl<'n> UnitScope<'n> {
 
     /// The scalar type of an input of the instance of a name, by its word.
     pub fn input_scalar(&self, name: &str, word: &str) -> Option<Scalar>
-        ensures { result ≡ scalar_of (option_and_then (λ b. entry_of b.inputs word.now) (rules.instance_block self.now.config self.now.unit name.now)) }
+        ensures { result ≡ scalar_of (option_and_then (λ b. entry_of b.inputs word.now)
+            (rules.instance_block self.now.config self.now.unit name.now)) }
     {
         scalar_if(self.input(name, word))
     }
 
     /// The scalar type of an output of the instance of a name, by its word.
     pub fn output_scalar(&self, name: &str, word: &str) -> Option<Scalar>
-        ensures { result ≡ scalar_of (option_and_then (λ b. entry_of b.outputs word.now) (rules.instance_block self.now.config self.now.unit name.now)) }
+        ensures { result ≡ scalar_of (option_and_then (λ b. entry_of b.outputs word.now)
+            (rules.instance_block self.now.config self.now.unit name.now)) }
     {
         scalar_if(self.output(name, word))
     }
 
     /// The scalar type of a word of the instance of a name.
     pub fn member_scalar(&self, name: &str, word: &str) -> Option<Scalar>
-        ensures { result ≡ scalar_of (option_and_then (rules.member_form word.now) (rules.instance_block self.now.config self.now.unit name.now)) }
+        ensures { result ≡ scalar_of (option_and_then (rules.member_form word.now)
+            (rules.instance_block self.now.config self.now.unit name.now)) }
     {
         scalar_if(self.member(name, word))
     }
@@ -221,7 +241,8 @@ impl<'n> UnitScope<'n> {
     /// The scalar types of the inputs of the own function of a name, in their order (2.5.1).
     pub fn own_inputs(&self, name: &str) -> Option<&'n [Option<Scalar>]>
         ensures none { result ≡ None → function_named self.now.config name.now ≡ None }
-        ensures some { IfSome result (λ inputs. AreInputsOf (function_named self.now.config name.now) inputs.now) }
+        ensures some { IfSome result (λ inputs.
+            AreInputsOf (function_named self.now.config name.now) inputs.now) }
     {
         let number = self.names.function(name)?;
         self.names.inputs(number)

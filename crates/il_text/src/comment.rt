@@ -31,7 +31,8 @@ fn closes_comment(text: &[u8], at: usize) -> bool
 #[inline(always)]
 fn is_inside(text: &[u8], at: usize) -> bool
     requires { at < length text.now }
-    ensures { result ≡ (is_text_byte text.now at && (not (opens_comment text.now at) && not (closes_comment text.now at))) }
+    ensures { result ≡ (is_text_byte text.now at &&
+        (not (opens_comment text.now at) && not (closes_comment text.now at))) }
 {
     let byte = text[at];
     if byte > b'*' {
@@ -53,7 +54,8 @@ fn is_inside(text: &[u8], at: usize) -> bool
 fn closing_from(text: &[u8], from: usize) -> Option<usize>
     ensures within { IfSome result (λ to. from ≤ to × to + 2 ≤ length text.now) }
     ensures found { IfSome result (λ to. IsTrue (closes_comment text.now to)) }
-    ensures first { IfSome result (λ to. (k : ℕ) → from ≤ k → k < to → IsFalse (closes_comment text.now k)) }
+    ensures first { IfSome result (λ to. (k : ℕ) → from ≤ k → k < to
+        → IsFalse (closes_comment text.now k)) }
     ensures none { IfNone result ((k : ℕ) → from ≤ k → IsFalse (closes_comment text.now k)) }
 {
     let mut at = from;
@@ -87,8 +89,12 @@ fn plain_end(text: &[u8], from: usize) -> usize
 fn inside_end(text: &[u8], from: usize) -> usize
     requires { from ≤ length text.now }
     ensures within { from ≤ result × result ≤ length text.now }
-    ensures inside { (k : ℕ) → from ≤ k → k < result → IsTrue (is_text_byte text.now k && (not (opens_comment text.now k) && not (closes_comment text.now k))) }
-    ensures stops { result < length text.now → IsFalse (is_text_byte text.now result && (not (opens_comment text.now result) && not (closes_comment text.now result))) }
+    ensures inside { (k : ℕ) → from ≤ k → k < result
+        → IsTrue (is_text_byte text.now k &&
+        (not (opens_comment text.now k) && not (closes_comment text.now k))) }
+    ensures stops { result < length text.now
+        → IsFalse (is_text_byte text.now result &&
+        (not (opens_comment text.now result) && not (closes_comment text.now result))) }
 {
     let mut at = plain_end(text, from);
     'inside: while at < text.len() && is_inside(text, at) {

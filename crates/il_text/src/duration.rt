@@ -85,7 +85,8 @@ fn part_of<'a>(bytes: &'a [u8], unit: &[u8], milliseconds: u64) -> Part<'a>
 pub(crate) fn duration_of(bytes: &[u8]) -> Result<i64, LexicalError>
     ensures found { IfOk result (λ v. option_map pos (upper_duration_value bytes.now) ≡ Some v) }
     ensures small { IfOk result (λ v. IsValueOf Time v) }
-    ensures refused { IfErr result (λ _. (v : ℤ) → option_map pos (upper_duration_value bytes.now) ≡ Some v → IsValueOf Time v → ⊥) }
+    ensures refused { IfErr result (λ _. (v : ℤ) → option_map pos (upper_duration_value bytes.now)
+        ≡ Some v → IsValueOf Time v → ⊥) }
     ensures error { IfErr result (λ f. f ≡ form_or_size (upper_duration_value bytes.now)) }
 {
     if bytes.is_empty() {

@@ -72,7 +72,8 @@ fn word_at(text: &[u8], upper: &[u8], at: usize) -> Result<(Kind, usize), Lexica
     requires upper { upper.now ≡ upper_case text.now }
     ensures found { IfOk result (λ r. IsLexeme text.now r.0 at r.1) }
     ensures no_word { IfErr result (λ _. (j : ℕ) → IsLexeme text.now Word at j → ⊥) }
-    ensures no_literal { IfErr result (λ _. (l : Literal) (j : ℕ) → IsLexeme text.now (Typed l) at j → ⊥) }
+    ensures no_literal { IfErr result (λ _. (l : Literal) (j : ℕ)
+        → IsLexeme text.now (Typed l) at j → ⊥) }
     ensures error { IfErr result (λ f. f ≡ lexeme_error text.now at) }
 {
     let end = word_end(text, at);
@@ -98,7 +99,9 @@ fn number_at(text: &[u8], at: usize) -> Result<(Kind, usize), LexicalError>
     requires begins { IsTrue (is_ascii_digit (byte_at text.now (after_minus text.now at))) }
     ensures found { IfOk result (λ r. IsLexeme text.now r.0 at r.1) }
     ensures none { IfErr result (λ _. (v : ℤ) (j : ℕ) → IsLexeme text.now (Number v) at j → ⊥) }
-    ensures error { IfErr result (λ f. f ≡ form_or_size (number_value (slice_range text.now at (run_end is_literal_byte text.now (after_minus text.now at))))) }
+    ensures error { IfErr result (λ f. f ≡ form_or_size
+        (number_value (slice_range text.now at
+        (run_end is_literal_byte text.now (after_minus text.now at))))) }
 {
     let end = literal_end(text, after_minus(text, at));
     let value = number_of(&text[at..end])?;

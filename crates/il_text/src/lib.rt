@@ -98,22 +98,28 @@ pub fn tokens(alloc: Global, text: &[u8]) -> Result<Vec<Token>, Refusal>
 /// A text has at most one list of tokens.
 #[tactic(auto, using(crate::proofs::Cut::cut))]
 pub fn one_cut()
-    ensures { (text : List ℕ) (ts us : List Token) → AreTokens text 0 ts → AreTokens text 0 us → ts ≡ us }
+    ensures { (text : List ℕ) (ts us : List Token) → AreTokens text 0 ts → AreTokens text 0 us
+        → ts ≡ us }
 {}
 
 /// No token is empty, and each stands within its text.
 pub fn tokens_stand_within()
-    ensures { (text : List ℕ) (ts : List Token) → AreTokens text 0 ts → All (λ t. (t.start < t.end) × (t.end ≤ length text)) ts }
+    ensures { (text : List ℕ) (ts : List Token) → AreTokens text 0 ts
+        → All (λ t. (t.start < t.end) × (t.end ≤ length text)) ts }
 {}
 
 /// A word is text, and so is the name that it is in upper case.
 pub fn words_are_text()
-    ensures { (text : List ℕ) (at : ℕ) (t : Token) → IsToken text at t → t.kind ≡ Word → IsUtf8 (name_of text t) }
+    ensures { (text : List ℕ) (at : ℕ) (t : Token) → IsToken text at t → t.kind ≡ Word
+        → IsUtf8 (name_of text t) }
 {}
 
 /// A text has one fault of its bytes at most; its first lexical error is there where it has no tokens, and only there.
 pub fn one_fault_of_bytes()
-    ensures once { (text : List ℕ) (e f : Refusal) → IsFaultOfText text e → IsFaultOfText text f → e ≡ f }
-    ensures none { (text : List ℕ) (ts : List Token) (number line : ℕ) → AreTokens text 0 ts → IsFirstError text number line → ⊥ }
-    ensures some { (text : List ℕ) → HasNoTokens text → (number : ℕ) × ((line : ℕ) × IsFirstError text number line) }
+    ensures once { (text : List ℕ) (e f : Refusal) → IsFaultOfText text e → IsFaultOfText text f
+        → e ≡ f }
+    ensures none { (text : List ℕ) (ts : List Token) (number line : ℕ) → AreTokens text 0 ts
+        → IsFirstError text number line → ⊥ }
+    ensures some { (text : List ℕ) → HasNoTokens text → (number : ℕ)
+        × ((line : ℕ) × IsFirstError text number line) }
 {}

@@ -43,7 +43,8 @@ fn based_value(digits: &[u8], base: u32) -> Result<u32, LexicalError>
     requires low { 2 ≤ base }
     requires high { base ≤ 16 }
     ensures found { IfOk result (λ n. based_value base digits.now ≡ Some n) }
-    ensures refused { IfErr result (λ _. (n : ℕ) → based_value base digits.now ≡ Some n → 4294967295 < n) }
+    ensures refused { IfErr result (λ _. (n : ℕ) → based_value base digits.now ≡ Some n
+        → 4294967295 < n) }
     ensures error { IfErr result (λ f. f ≡ form_or_size (based_value base digits.now)) }
 {
     let value = capped_value(digits, base).ok_or(LexicalError::BadNumber)?;
@@ -75,7 +76,8 @@ fn magnitude(bytes: &[u8]) -> Result<u32, LexicalError>
 pub(crate) fn number_of(bytes: &[u8]) -> Result<i64, LexicalError>
     ensures found { IfOk result (λ v. number_value bytes.now ≡ Some v) }
     ensures small { IfOk result (λ v. nat_abs v ≤ 4294967295) }
-    ensures refused { IfErr result (λ _. (v : ℤ) → number_value bytes.now ≡ Some v → 4294967295 < nat_abs v) }
+    ensures refused { IfErr result (λ _. (v : ℤ) → number_value bytes.now ≡ Some v
+        → 4294967295 < nat_abs v) }
     ensures error { IfErr result (λ f. f ≡ form_or_size (number_value bytes.now)) }
 {
     if byte_at(bytes, 0) == b'-' {

@@ -14,7 +14,8 @@ pub trait Observer<K> {
 
     /// The pass has come to a place, and hands on next what has arrived there.
     fn see(&mut self, place: usize, facts: &Option<K>) -> Result<(), AllocError>
-        ensures text { OnOk result (text self.new ≡ text self.old ++ shows self.old place facts.now) }
+        ensures text { OnOk result (text self.new ≡ text self.old
+            ++ shows self.old place facts.now) }
         ensures same { OnOk result (shows self.new ≡ shows self.old) };
 }
 

@@ -108,8 +108,10 @@ fn step<F: Flow>(
     requires low { place + 1 < length waiting.old.items }
     requires own { F.holds flow.now place }
     requires fine { (k : F.Facts) → held waiting.old.items place ≡ Some k → F.takes flow.now k }
-    requires ahead { (k : F.Facts) (m : Moves F.Facts) → F.moves flow.now place k ≡ Some m → IsAheadOf (length waiting.old.items) place m.jump }
-    ensures { IfOk result (IsStepped F.join (F.moves flow.now) (F.refuses flow.now) place waiting.old.items waiting.new.items) }
+    requires ahead { (k : F.Facts) (m : Moves F.Facts) → F.moves flow.now place k ≡ Some m
+        → IsAheadOf (length waiting.old.items) place m.jump }
+    ensures { IfOk result (IsStepped F.join (F.moves flow.now) (F.refuses flow.now) place
+        waiting.old.items waiting.new.items) }
 {
     let Some(facts) = waiting[place].take() else {
         return Ok(None);
@@ -152,8 +154,10 @@ pub fn pass<F: Flow, O: Observer<F::Facts>>(
     requires own { (place : ℕ) → place < count → F.holds flow.now place }
     requires ahead { IsAheadBelow (F.moves flow.now) count }
     requires fine { IsFineBelow F.join (F.moves flow.now) (F.takes flow.now) entry count }
-    ensures passed { IfOk result (IsPassed F.join (F.moves flow.now) (F.refuses flow.now) entry count) }
-    ensures shown { IfOk result (IsPassedShowing F.join (F.moves flow.now) (F.refuses flow.now) entry count (O.shows observer.old) (O.text observer.old) (O.text observer.new)) }
+    ensures passed { IfOk result (IsPassed F.join (F.moves flow.now) (F.refuses flow.now) entry
+        count) }
+    ensures shown { IfOk result (IsPassedShowing F.join (F.moves flow.now) (F.refuses flow.now)
+        entry count (O.shows observer.old) (O.text observer.old) (O.text observer.new)) }
 {
     let mut waiting = fresh(alloc, entry, count)?;
     for place in 0..count {

@@ -34,7 +34,11 @@ fn jumped<S: Scope>(
     label: &str,
 ) -> Result<Option<Handed<Carried>>, AllocError>
     requires operands { IsFineTest facts.row test }
-    ensures { IfOk result (λ h. option_map moved h ≡ provided (is_bare facts.deferred) (provided (has_condition condition facts.result) (testing_in test (acts_at condition) facts (label_place (S.names scope.now).unit.body label.now)))) }
+    ensures { IfOk result (λ h. option_map moved h
+        ≡ provided (is_bare facts.deferred)
+        (provided (has_condition condition facts.result)
+        (testing_in test (acts_at condition) facts
+        (label_place (S.names scope.now).unit.body label.now)))) }
 {
     if facts.kept.deferred.as_slice().is_empty() && has_condition(condition, facts.kept.result) {
         tested(alloc, facts, test, acts_at(condition), scope.label(label))
@@ -52,7 +56,8 @@ fn hand_on_tested<S: Scope>(
     instruction: &Instruction,
 ) -> Result<Option<Handed<Carried>>, AllocError>
     requires operands { IsFineTest facts.row test }
-    ensures { IfOk result (λ h. option_map moved h ≡ test_jump_in (S.names scope.now) test facts instruction.now) }
+    ensures { IfOk result (λ h. option_map moved h
+        ≡ test_jump_in (S.names scope.now) test facts instruction.now) }
 {
     match instruction {
         Instruction::Jump { condition, label } => jumped(
@@ -78,7 +83,8 @@ pub fn hand_on<S: Scope>(
     requires fine { IsFine (S.names scope.now) facts }
     requires steps { steps.now ≡ (S.names scope.now).unit.body.steps }
     requires inside { place < length steps.now }
-    ensures { IfOk result (λ h. moves (S.names scope.now) (S.names scope.now).config (S.names scope.now).unit place facts ≡ option_map moved h) }
+    ensures { IfOk result (λ h. moves (S.names scope.now) (S.names scope.now).config
+        (S.names scope.now).unit place facts ≡ option_map moved h) }
 {
     let instruction = &steps[place].instruction;
     match test_at(scope, steps, place) {

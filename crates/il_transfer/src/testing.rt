@@ -159,7 +159,8 @@ fn test_of<S: Scope>(scope: &S, load: &Step, comparison: &Step, jump: &Step) -> 
 pub fn test_at<S: Scope>(scope: &S, steps: &[Step], place: usize) -> Option<VariableTest>
     requires steps { steps.now ≡ (S.names scope.now).unit.body.steps }
     requires inside { place < length steps.now }
-    ensures { AreForms (S.names scope.now) (test_at (S.names scope.now).config (S.names scope.now).unit place) result }
+    ensures { AreForms (S.names scope.now)
+        (test_at (S.names scope.now).config (S.names scope.now).unit place) result }
 {
     if place < 2 {
         return None;
@@ -204,7 +205,8 @@ fn handed(
     there: Option<Carried>,
     next: Option<Carried>,
 ) -> Option<Handed<Carried>>
-    ensures { option_map moved result ≡ option_map (λ jump. record { next = next; jump = jump }) (landing_in to there) }
+    ensures { option_map moved result ≡ option_map (λ jump. record { next = next; jump = jump })
+        (landing_in to there) }
 {
     match (to, there) {
         (_, None) => Some(Handed { next, jump: None }),

@@ -30,7 +30,8 @@ pub fn elementary(scalar: Option<Scalar>) -> Option<Elementary>
 // The type of a scalar variable.
 #[inline(always)]
 fn scalar_type(declared: VariableType) -> Option<Elementary>
-    ensures { (config : Configuration) (form : Form) → declared ≡ type_of config form → result ≡ rules.scalar_type form }
+    ensures { (config : Configuration) (form : Form) → declared ≡ type_of config form → result
+        ≡ rules.scalar_type form }
 {
     match declared {
         VariableType::Scalar(scalar) => Some(scalar.elementary),
@@ -40,7 +41,8 @@ fn scalar_type(declared: VariableType) -> Option<Elementary>
 
 // The type of an array's elements.
 fn element_type(declared: VariableType) -> Option<Elementary>
-    ensures { (config : Configuration) (form : Form) → declared ≡ type_of config form → result ≡ rules.element_type form }
+    ensures { (config : Configuration) (form : Form) → declared ≡ type_of config form → result
+        ≡ rules.element_type form }
 {
     match declared {
         VariableType::Array { element, .. } => Some(element.elementary),

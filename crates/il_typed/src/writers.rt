@@ -75,7 +75,9 @@ fn note_line(
     line: &ProgramLine,
     writers: &mut Table<Writer>,
 ) -> Result<(), AllocError>
-    ensures { IfOk result (λ _. writers.new ≡ noted_line names.now.programs number (program_named names.now line.now.program.name) writers.old) }
+    ensures { IfOk result (λ _. writers.new
+        ≡ noted_line names.now.programs number (program_named names.now line.now.program.name)
+        writers.old) }
 {
     let Some(at) = names.program(line.program.name.as_str()) else {
         return Ok(());
@@ -108,7 +110,8 @@ fn note_steps(
     steps: &[Step],
     writers: &mut Table<Writer>,
 ) -> Result<(), AllocError>
-    ensures { IfOk result (λ _. writers.new ≡ noted lines.now line scope.now.unit writers.old (names_stored steps.now)) }
+    ensures { IfOk result (λ _. writers.new
+        ≡ noted lines.now line scope.now.unit writers.old (names_stored steps.now)) }
 {
     for step in steps {
         note_stores(alloc, lines, line, scope, &step.instruction, writers)?;
@@ -125,7 +128,8 @@ fn note_stores(
     instruction: &Instruction,
     writers: &mut Table<Writer>,
 ) -> Result<(), AllocError>
-    ensures { IfOk result (λ _. writers.new ≡ noted lines.now line scope.now.unit writers.old (stored_names instruction.now)) }
+    ensures { IfOk result (λ _. writers.new
+        ≡ noted lines.now line scope.now.unit writers.old (stored_names instruction.now)) }
 {
     match instruction {
         Instruction::Store { target, .. } => {
@@ -147,7 +151,8 @@ fn note_target(
     target: &Reference,
     writers: &mut Table<Writer>,
 ) -> Result<(), AllocError>
-    ensures { IfOk result (λ _. writers.new ≡ noted lines.now line scope.now.unit writers.old (named_variable target.now)) }
+    ensures { IfOk result (λ _. writers.new
+        ≡ noted lines.now line scope.now.unit writers.old (named_variable target.now)) }
 {
     match target {
         Reference::Variable(name) => note(alloc, lines, line, scope, name.as_str(), writers),
@@ -165,7 +170,9 @@ fn note_outputs(
     arguments: &[Argument],
     writers: &mut Table<Writer>,
 ) -> Result<(), AllocError>
-    ensures { IfOk result (λ _. writers.new ≡ noted lines.now line scope.now.unit writers.old (flat_map argument_targets arguments.now)) }
+    ensures { IfOk result (λ _. writers.new
+        ≡ noted lines.now line scope.now.unit writers.old
+        (flat_map argument_targets arguments.now)) }
 {
     for argument in arguments {
         note_output(alloc, lines, line, scope, argument, writers)?;
@@ -182,7 +189,8 @@ fn note_output(
     argument: &Argument,
     writers: &mut Table<Writer>,
 ) -> Result<(), AllocError>
-    ensures { IfOk result (λ _. writers.new ≡ noted lines.now line scope.now.unit writers.old (argument_targets argument.now)) }
+    ensures { IfOk result (λ _. writers.new
+        ≡ noted lines.now line scope.now.unit writers.old (argument_targets argument.now)) }
 {
     match argument {
         Argument::Output { target, .. } => {
@@ -201,7 +209,8 @@ fn note(
     name: &str,
     writers: &mut Table<Writer>,
 ) -> Result<(), AllocError>
-    ensures { IfOk result (λ _. writers.new ≡ note lines.now line scope.now.unit writers.old name.now) }
+    ensures { IfOk result (λ _. writers.new
+        ≡ note lines.now line scope.now.unit writers.old name.now) }
 {
     if !is_external(scope, name) {
         return Ok(());
@@ -270,7 +279,8 @@ fn unit_shared_fault(
 
 // Whether an instruction stores into a global of several writers.
 fn stores_shared(scope: &UnitScope, writers: &Table<Writer>, instruction: &Instruction) -> bool
-    ensures { result ≡ list_any (is_shared scope.now.unit writers.now) (stored_names instruction.now) }
+    ensures { result ≡ list_any (is_shared scope.now.unit writers.now)
+        (stored_names instruction.now) }
 {
     match instruction {
         Instruction::Store { target, .. } => is_target_shared(scope, writers, &target.reference),
@@ -294,7 +304,8 @@ fn is_target_shared(scope: &UnitScope, writers: &Table<Writer>, target: &Referen
 
 // Whether the target of one of the outputs is such a global.
 fn is_output_shared(scope: &UnitScope, writers: &Table<Writer>, arguments: &[Argument]) -> bool
-    ensures { result ≡ list_any (is_shared scope.now.unit writers.now) (flat_map argument_targets arguments.now) }
+    ensures { result ≡ list_any (is_shared scope.now.unit writers.now)
+        (flat_map argument_targets arguments.now) }
 {
     let mut shared = false;
     for argument in arguments {
@@ -306,7 +317,8 @@ fn is_output_shared(scope: &UnitScope, writers: &Table<Writer>, arguments: &[Arg
 
 // The same of one argument.
 fn is_argument_shared(scope: &UnitScope, writers: &Table<Writer>, argument: &Argument) -> bool
-    ensures { result ≡ list_any (is_shared scope.now.unit writers.now) (argument_targets argument.now) }
+    ensures { result ≡ list_any (is_shared scope.now.unit writers.now)
+        (argument_targets argument.now) }
 {
     match argument {
         Argument::Output { target, .. } => is_shared(scope, writers, target.name.as_str()),

@@ -63,7 +63,8 @@ fn with_paths(
     requires ways { all.now ≡ map (unit_ways names.now) names.now.units }
     requires exact { AreExact names.now costs }
     ensures units { IfOk result (λ r. r.0.units ≡ map (longest names.now) names.now.units) }
-    ensures tasks { IfOk result (λ r. r.0.tasks ≡ map (task_cost names.now r.0.units) names.now.programs) }
+    ensures tasks { IfOk result (λ r. r.0.tasks
+        ≡ map (task_cost names.now r.0.units) names.now.programs) }
     ensures paths { IfOk result (λ r. r.1.units ≡ map (path_of names.now) names.now.units) }
 {
     let tasks = task_costs(alloc, names, &costs)?;

@@ -10,7 +10,8 @@ use std::alloc::{AllocError, Global};
 
 /// The lines of the path that begins at the first place.
 pub fn path(alloc: Global, body: &Body, rests: &[Rest]) -> Result<Items<u32>, AllocError>
-    ensures { IfOk result (λ lines. lines ≡ map (line_at body.now) (followed (length rests.now) rests.now (Some 0))) }
+    ensures { IfOk result (λ lines. lines
+        ≡ map (line_at body.now) (followed (length rests.now) rests.now (Some 0))) }
 {
     let mut lines = Items::new(alloc);
     let mut at = Some(0);

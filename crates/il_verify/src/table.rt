@@ -148,7 +148,8 @@ fn push_rest(
     at: usize,
 ) -> Result<(), AllocError>
     requires { at < length ways.now }
-    ensures { IfOk result (λ _. (way : Way) → slice_get ways.now at ≡ Some way → rests.new ≡ rests.old ++ way_rest costs.now rests.old (at + 1) way ∷ []) }
+    ensures { IfOk result (λ _. (way : Way) → slice_get ways.now at ≡ Some way → rests.new
+        ≡ rests.old ++ way_rest costs.now rests.old (at + 1) way ∷ []) }
 {
     let rest = way_rest(costs, rests.as_slice(), at + 1, ways[at]);
     rests.push(rest)

@@ -15,7 +15,8 @@ pub fn task_costs(
     names: &Scoped,
     costs: &Items<u32>,
 ) -> Result<Items<u32>, AllocError>
-    ensures { IfOk result (λ tasks. tasks ≡ map (task_cost names.now costs.now) names.now.programs) }
+    ensures { IfOk result (λ tasks. tasks
+        ≡ map (task_cost names.now costs.now) names.now.programs) }
 {
     let lines = names.config().programs.as_slice();
     let mut tasks = Items::new(alloc);

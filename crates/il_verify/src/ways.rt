@@ -35,7 +35,8 @@ pub enum Way {
 /// The ways of a unit's instructions.
 pub fn ways(alloc: Global, names: &Scoped, at: usize, unit: &Unit) -> Result<Items<Way>, AllocError>
     requires { slice_get names.now.units at ≡ Some unit.now }
-    ensures { IfOk result (λ ways. ways ≡ map (λ s. way_of names.now unit.now s.instruction) unit.now.body.steps) }
+    ensures { IfOk result (λ ways. ways
+        ≡ map (λ s. way_of names.now unit.now s.instruction) unit.now.body.steps) }
 {
     let labels = label_table(alloc, &unit.body)?;
     ways_by(alloc, names, at, unit, &labels)
@@ -51,7 +52,8 @@ fn ways_by(
 ) -> Result<Items<Way>, AllocError>
     requires unit { slice_get names.now.units at ≡ Some unit.now }
     requires labels { (name : Spelling) → map.get labels.now name ≡ label_place unit.now.body name }
-    ensures { IfOk result (λ ways. ways ≡ map (λ s. way_of names.now unit.now s.instruction) unit.now.body.steps) }
+    ensures { IfOk result (λ ways. ways
+        ≡ map (λ s. way_of names.now unit.now s.instruction) unit.now.body.steps) }
 {
     let mut ways = Items::new(alloc);
     'steps: for step in unit.body.steps.as_slice() {
@@ -62,7 +64,9 @@ fn ways_by(
 
 // The way of an instruction.
 fn way_of(names: &Scoped, at: usize, labels: &Table<usize>, instruction: &Instruction) -> Way
-    ensures { (unit : ProgramUnit) → slice_get names.now.units at ≡ Some unit → ((name : Spelling) → map.get labels.now name ≡ label_place unit.body name) → result ≡ way_of names.now unit instruction.now }
+    ensures { (unit : ProgramUnit) → slice_get names.now.units at ≡ Some unit
+        → ((name : Spelling) → map.get labels.now name ≡ label_place unit.body name) → result
+        ≡ way_of names.now unit instruction.now }
 {
     match instruction {
         Instruction::Jump { condition, label } => Way::Jump {
