@@ -39,7 +39,11 @@ pub fn command<R: Threads + Wait + Sync, F: TextFiles, T: TraceSink, I: Read, O:
     err: &mut E,
 ) -> Status
     requires { O.has_failed out.old ≡ false }
-    ensures { IsProgramAnswer (F.gives files.now) (F.fails files.now) explains (map string_bytes words.now) (streams (I.remaining input.old) (I.remaining input.new) (stream (O.contents out.old) (O.contents out.new) (O.has_failed out.new)) (stream (E.contents err.old) (E.contents err.new) (E.has_failed err.new)) (T.contents trace.old) (T.contents trace.new)) result }
+    ensures { IsProgramAnswer (F.gives files.now) (F.fails files.now) explains
+        (map string_bytes words.now) (streams (I.remaining input.old) (I.remaining input.new)
+        (stream (O.contents out.old) (O.contents out.new) (O.has_failed out.new))
+        (stream (E.contents err.old) (E.contents err.new) (E.has_failed err.new))
+        (T.contents trace.old) (T.contents trace.new)) result }
 {
     match command_alone(alloc, words, explains, files, trace, input, out, err) {
         Some(status) => status,
@@ -59,7 +63,12 @@ pub fn command_alone<F: TextFiles, T: TraceSink, I: Read, O: Sink, E: Sink>(
     err: &mut E,
 ) -> Option<Status>
     requires { O.has_failed out.old ≡ false }
-    ensures answered { IfSome result (IsProgramAnswer (F.gives files.now) (F.fails files.now) explains (map string_bytes words.now) (streams (I.remaining input.old) (I.remaining input.new) (stream (O.contents out.old) (O.contents out.new) (O.has_failed out.new)) (stream (E.contents err.old) (E.contents err.new) (E.has_failed err.new)) (T.contents trace.old) (T.contents trace.new))) }
+    ensures answered { IfSome result (IsProgramAnswer (F.gives files.now) (F.fails files.now)
+        explains (map string_bytes words.now)
+        (streams (I.remaining input.old) (I.remaining input.new)
+        (stream (O.contents out.old) (O.contents out.new) (O.has_failed out.new))
+        (stream (E.contents err.old) (E.contents err.new) (E.has_failed err.new))
+        (T.contents trace.old) (T.contents trace.new))) }
     ensures run { IsNone result → AskForRun (plain_words (map string_bytes words.now)) }
     ensures unread { IsNone result → (input.new ≡ input.old) × (trace.new ≡ trace.old) }
     ensures unwritten { IsNone result → (out.new ≡ out.old) × (err.new ≡ err.old) }
@@ -82,7 +91,12 @@ fn plain_alone<F: TextFiles, T: TraceSink, I: Read, O: Sink, E: Sink>(
     err: &mut E,
 ) -> Option<Status>
     requires { O.has_failed out.old ≡ false }
-    ensures answered { IfSome result (IsPlainAnswer (F.gives files.now) (F.fails files.now) (explains || words.now.explains) (map string_bytes words.now.words.items) words.now.flags (streams (I.remaining input.old) (I.remaining input.new) (stream (O.contents out.old) (O.contents out.new) (O.has_failed out.new)) (stream (E.contents err.old) (E.contents err.new) (E.has_failed err.new)) (T.contents trace.old) (T.contents trace.new))) }
+    ensures answered { IfSome result (IsPlainAnswer (F.gives files.now) (F.fails files.now)
+        (explains || words.now.explains) (map string_bytes words.now.words.items) words.now.flags
+        (streams (I.remaining input.old) (I.remaining input.new)
+        (stream (O.contents out.old) (O.contents out.new) (O.has_failed out.new))
+        (stream (E.contents err.old) (E.contents err.new) (E.has_failed err.new))
+        (T.contents trace.old) (T.contents trace.new))) }
     ensures run { IsNone result → AskForRun (map string_bytes words.now.words.items) }
     ensures unread { IsNone result → (input.new ≡ input.old) × (trace.new ≡ trace.old) }
     ensures unwritten { IsNone result → (out.new ≡ out.old) × (err.new ≡ err.old) }
@@ -107,7 +121,10 @@ fn command_run<R: Threads + Wait + Sync, F: TextFiles, O: Sink, E: Sink>(
     err: &mut E,
 ) -> Status
     requires { O.has_failed out.old ≡ false }
-    ensures { IsRunAnswer (F.gives files.now) (F.fails files.now) explains (map string_bytes words.now) (stream (O.contents out.old) (O.contents out.new) (O.has_failed out.new)) (stream (E.contents err.old) (E.contents err.new) (E.has_failed err.new)) result }
+    ensures { IsRunAnswer (F.gives files.now) (F.fails files.now) explains
+        (map string_bytes words.now) (stream (O.contents out.old) (O.contents out.new)
+        (O.has_failed out.new)) (stream (E.contents err.old) (E.contents err.new)
+        (E.has_failed err.new)) result }
 {
     match read_words(alloc, words) {
         Ok(plain) => run(rt, alloc, &plain, files, &Liftplc, explains, out, err),
@@ -117,7 +134,8 @@ fn command_run<R: Threads + Wait + Sync, F: TextFiles, O: Sink, E: Sink>(
 
 // Tells a fault, and ends with its status.
 fn ends_with<E: Sink>(fault: &Fault, err: &mut E) -> Status
-    ensures told { Writes (E.contents err.old) (E.contents err.new) (E.has_failed err.new) (message_of fault.now) }
+    ensures told { Writes (E.contents err.old) (E.contents err.new) (E.has_failed err.new)
+        (message_of fault.now) }
     ensures ends { result ≡ status_of fault.now }
 {
     tell(fault, b"", err);
@@ -182,7 +200,8 @@ pub fn tried<R: Threads + Wait + Sync, F: TextFiles>(
     input: &[u8],
     limit: usize,
 ) -> Outcome
-    ensures { HasLeft (F.gives files.now) (F.fails files.now) (map string_bytes words.now) input.now result }
+    ensures { HasLeft (F.gives files.now) (F.fails files.now) (map string_bytes words.now)
+        input.now result }
 {
     let mut out = Memory::with_limit(alloc, limit);
     let mut err = Memory::new(alloc);

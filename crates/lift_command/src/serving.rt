@@ -45,7 +45,11 @@ pub fn serve<F: TextFiles, T: TraceSink, I: Read, O: Sink, E: Sink>(
     out: &mut O,
     err: &mut E,
 ) -> Status
-    ensures { IsServeAnswer (F.gives files.now) (F.fails files.now) explains serving.entry (Consumes (I.remaining input.old) (I.remaining input.new)) (O.contents out.old) (O.contents out.new) (O.has_failed out.new) (T.contents trace.old) (T.contents trace.new) (Writes (E.contents err.old) (E.contents err.new) (E.has_failed err.new)) (E.contents err.new ≡ E.contents err.old) result }
+    ensures { IsServeAnswer (F.gives files.now) (F.fails files.now) explains serving.entry
+        (Consumes (I.remaining input.old) (I.remaining input.new)) (O.contents out.old)
+        (O.contents out.new) (O.has_failed out.new) (T.contents trace.old) (T.contents trace.new)
+        (Writes (E.contents err.old) (E.contents err.new) (E.has_failed err.new))
+        (E.contents err.new ≡ E.contents err.old) result }
 {
     match files.read(alloc, serving.file, MOST_BYTES) {
         Ok(text) => serve_text(alloc, serving, &text, explains, trace, input, out, err),
@@ -61,7 +65,8 @@ fn tell_unread<E: Sink>(
     explains: bool,
     err: &mut E,
 ) -> Status
-    ensures { IsUnreadAnswer explains name.now why (Writes (E.contents err.old) (E.contents err.new) (E.has_failed err.new)) result }
+    ensures { IsUnreadAnswer explains name.now why
+        (Writes (E.contents err.old) (E.contents err.new) (E.has_failed err.new)) result }
 {
     let explained = unread_explained(alloc, name, why, explains);
     tell_explained(&explained, err)
@@ -69,7 +74,8 @@ fn tell_unread<E: Sink>(
 
 // Tells a fault with what stands below it, and ends with its status.
 fn tell_explained<E: Sink>(explained: &Explained, err: &mut E) -> Status
-    ensures told { Writes (E.contents err.old) (E.contents err.new) (E.has_failed err.new) (message_of explained.now.fault ++ explained.now.below.items) }
+    ensures told { Writes (E.contents err.old) (E.contents err.new) (E.has_failed err.new)
+        (message_of explained.now.fault ++ explained.now.below.items) }
     ensures ends { result ≡ status_of explained.now.fault }
 {
     tell(&explained.fault, &explained.below, err);
@@ -87,7 +93,11 @@ fn serve_text<T: TraceSink, I: Read, O: Sink, E: Sink>(
     out: &mut O,
     err: &mut E,
 ) -> Status
-    ensures { IsTextAnswer explains serving.entry text.now (Consumes (I.remaining input.old) (I.remaining input.new)) (O.contents out.old) (O.contents out.new) (O.has_failed out.new) (T.contents trace.old) (T.contents trace.new) (Writes (E.contents err.old) (E.contents err.new) (E.has_failed err.new)) (E.contents err.new ≡ E.contents err.old) result }
+    ensures { IsTextAnswer explains serving.entry text.now
+        (Consumes (I.remaining input.old) (I.remaining input.new)) (O.contents out.old)
+        (O.contents out.new) (O.has_failed out.new) (T.contents trace.old) (T.contents trace.new)
+        (Writes (E.contents err.old) (E.contents err.new) (E.has_failed err.new))
+        (E.contents err.new ≡ E.contents err.old) result }
 {
     match loaded(alloc, text) {
         Ok(verified) => serve_loaded(alloc, verified, serving.trace, trace, input, out, err),
@@ -104,7 +114,8 @@ fn tell_refused<E: Sink>(
     explains: bool,
     err: &mut E,
 ) -> Status
-    ensures { IsRefusedAnswer explains name.now text.now fault (Writes (E.contents err.old) (E.contents err.new) (E.has_failed err.new)) result }
+    ensures { IsRefusedAnswer explains name.now text.now fault
+        (Writes (E.contents err.old) (E.contents err.new) (E.has_failed err.new)) result }
 {
     let explained = refusal_explained(alloc, name, text, fault, explains);
     tell_explained(&explained, err)
@@ -118,7 +129,8 @@ fn refusal_explained(
     fault: Fault,
     wanted: bool,
 ) -> Explained
-    ensures { IsExplained wanted (IsRefusalBelow name.now text.now fault) fault result.fault result.below.items }
+    ensures { IsExplained wanted (IsRefusalBelow name.now text.now fault) fault result.fault
+        result.below.items }
 {
     if !wanted {
         return Explained::alone(alloc, fault);
@@ -154,7 +166,11 @@ fn serve_loaded<T: TraceSink, I: Read, O: Sink, E: Sink>(
     out: &mut O,
     err: &mut E,
 ) -> Status
-    ensures { IsLoadedAnswer verified.config tracing.entry (Consumes (I.remaining input.old) (I.remaining input.new)) (O.contents out.old) (O.contents out.new) (O.has_failed out.new) (T.contents trace.old) (T.contents trace.new) (Writes (E.contents err.old) (E.contents err.new) (E.has_failed err.new)) (E.contents err.new ≡ E.contents err.old) result }
+    ensures { IsLoadedAnswer verified.config tracing.entry
+        (Consumes (I.remaining input.old) (I.remaining input.new)) (O.contents out.old)
+        (O.contents out.new) (O.has_failed out.new) (T.contents trace.old) (T.contents trace.new)
+        (Writes (E.contents err.old) (E.contents err.new) (E.has_failed err.new))
+        (E.contents err.new ≡ E.contents err.old) result }
 {
     if create(tracing, trace).is_err() {
         verified.release();

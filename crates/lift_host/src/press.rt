@@ -100,7 +100,9 @@ fn add_presses(
     rounds: u16,
     floors: u16,
 ) -> Result<(), PressFault>
-    ensures ok { OnOk result ((before : List (List ℕ)) → AreOfWords rounds floors before presses.old → AreOfWords rounds floors (before ++ map string_bytes words.now) presses.new) }
+    ensures ok { OnOk result ((before : List (List ℕ))
+        → AreOfWords rounds floors before presses.old
+        → AreOfWords rounds floors (before ++ map string_bytes words.now) presses.new) }
     ensures err { IfErr result (IsUnpressedWord rounds floors (map string_bytes words.now)) }
 {
     'words: for word in words {
@@ -145,8 +147,10 @@ fn press_by(
     rounds: u16,
     floors: u16,
 ) -> Option<Press>
-    ensures some { IfSome result (λ press. IsPressOf rounds floors round.now from.now to.now press × (press.panel ≡ panel)) }
-    ensures none { IsNone result → (press : Press) → IsPressOf rounds floors round.now from.now to.now press → ⊥ }
+    ensures some { IfSome result (λ press. IsPressOf rounds floors round.now from.now to.now press
+        × (press.panel ≡ panel)) }
+    ensures none { IsNone result → (press : Press)
+        → IsPressOf rounds floors round.now from.now to.now press → ⊥ }
 {
     let press = Press {
         round: number_to(rounds, round)?,

@@ -178,7 +178,8 @@ impl<'w> Words<'w> {
 
     /// The first word, and those behind it.
     pub fn split_first(self) -> Option<(&'w str, Words<'w>)>
-        ensures some { IfSome result (λ parts. words_of self.entry ≡ parts.0.now ∷ words_of parts.1) }
+        ensures some { IfSome result (λ parts. words_of self.entry
+            ≡ parts.0.now ∷ words_of parts.1) }
         ensures none { IsNone result → words_of self.entry ≡ [] }
     {
         match self.front.split_first() {
@@ -201,7 +202,8 @@ pub struct Named<'w> {
 impl<'w> Words<'w> {
     /// The names before the first word that begins with a digit, and the words from there on.
     pub fn names_first(self) -> Named<'w>
-        ensures { AreNamesFirst (words_of self.entry) (words_of result.names) (words_of result.presses) }
+        ensures { AreNamesFirst (words_of self.entry) (words_of result.names)
+            (words_of result.presses) }
     {
         let (names, presses) = self.front.split_at(first_number(self.front));
         if !presses.is_empty() {
@@ -304,7 +306,8 @@ pub fn is_option(word: &str) -> bool
 /// What the words ask for, where they are a command, its file and what else it takes.
 pub fn asked(words: &[String]) -> Option<Request<'_>>
     ensures some { IfSome result (Asks (map string_bytes words.now)) }
-    ensures none { IsNone result → (request : Request) → Asks (map string_bytes words.now) request → ⊥ }
+    ensures none { IsNone result → (request : Request) → Asks (map string_bytes words.now) request
+        → ⊥ }
 {
     let (name, rest) = words.split_first()?;
     takes(Name::of(name)?, rest)
@@ -312,8 +315,10 @@ pub fn asked(words: &[String]) -> Option<Request<'_>>
 
 // What a command is asked for by the words behind its name.
 fn takes(name: Name, rest: &[String]) -> Option<Request<'_>>
-    ensures some { IfSome result (λ request. (command_of request ≡ name) × Takes (map string_bytes rest.now) request) }
-    ensures none { IsNone result → (request : Request) → command_of request ≡ name → Takes (map string_bytes rest.now) request → ⊥ }
+    ensures some { IfSome result (λ request. (command_of request ≡ name)
+        × Takes (map string_bytes rest.now) request) }
+    ensures none { IsNone result → (request : Request) → command_of request ≡ name
+        → Takes (map string_bytes rest.now) request → ⊥ }
 {
     match name {
         Name::Check => Some(Request::Check(check_given(rest)?)),
@@ -344,7 +349,8 @@ pub(crate) struct FileWith<'w> {
 // FILE, where it is the one of two words beside which the option stands.
 fn file_beside<'w>(option: &str, first: &'w str, second: &'w str) -> Option<&'w str>
     ensures some { IfSome result (λ file. IsFileBeside option.now first.now second.now file.now) }
-    ensures none { IsNone result → (file : List ℕ) → IsFileBeside option.now first.now second.now file → ⊥ }
+    ensures none { IsNone result → (file : List ℕ)
+        → IsFileBeside option.now first.now second.now file → ⊥ }
 {
     if second == option && !is_option(first) {
         return Some(first);
@@ -357,8 +363,10 @@ fn file_beside<'w>(option: &str, first: &'w str, second: &'w str) -> Option<&'w 
 
 /// FILE, where it is the one word or the option stands beside it.
 pub(crate) fn file_with<'w>(option: &str, words: Words<'w>) -> Option<FileWith<'w>>
-    ensures some { IfSome result (λ found. IsFileWith option.now (words_of words.entry) found.file.now found.has_option) }
-    ensures none { IsNone result → (file : List ℕ) (has_option : Bool) → IsFileWith option.now (words_of words.entry) file has_option → ⊥ }
+    ensures some { IfSome result (λ found. IsFileWith option.now (words_of words.entry)
+        found.file.now found.has_option) }
+    ensures none { IsNone result → (file : List ℕ) (has_option : Bool)
+        → IsFileWith option.now (words_of words.entry) file has_option → ⊥ }
 {
     let (first, rest) = words.split_first()?;
     let Some((second, rest)) = rest.split_first() else {
@@ -375,7 +383,8 @@ pub(crate) fn file_with<'w>(option: &str, words: Words<'w>) -> Option<FileWith<'
 
 // FILE, where the one word is no option.
 fn file_without_option(word: &str) -> Option<FileWith<'_>>
-    ensures some { IfSome result (λ found. (found.file.now ≡ word.now) × (found.has_option ≡ false) × (IsOption word.now → ⊥)) }
+    ensures some { IfSome result (λ found. (found.file.now ≡ word.now)
+        × (found.has_option ≡ false) × (IsOption word.now → ⊥)) }
     ensures none { IsNone result → IsOption word.now }
 {
     if is_option(word) {
@@ -389,8 +398,10 @@ fn file_without_option(word: &str) -> Option<FileWith<'_>>
 
 // FILE, where it is the one word or stands beside `--warn`.
 fn check_given(rest: &[String]) -> Option<Checked<'_>>
-    ensures some { IfSome result (λ checked. IsFileWith (codes "--warn") (map string_bytes rest.now) checked.file.now checked.warns) }
-    ensures none { IsNone result → (file : List ℕ) (warns : Bool) → IsFileWith (codes "--warn") (map string_bytes rest.now) file warns → ⊥ }
+    ensures some { IfSome result (λ checked.
+        IsFileWith (codes "--warn") (map string_bytes rest.now) checked.file.now checked.warns) }
+    ensures none { IsNone result → (file : List ℕ) (warns : Bool)
+        → IsFileWith (codes "--warn") (map string_bytes rest.now) file warns → ⊥ }
 {
     let FileWith { file, has_option } = file_with(WARN, Words::of(rest))?;
     Some(Checked {
@@ -401,8 +412,10 @@ fn check_given(rest: &[String]) -> Option<Checked<'_>>
 
 // FILE and TRACE, where they are the two words.
 fn trace_given(rest: &[String]) -> Option<Traced<'_>>
-    ensures some { IfSome result (λ traced. AreFiles (map string_bytes rest.now) traced.file.now traced.trace.now) }
-    ensures none { IsNone result → (file trace : List ℕ) → AreFiles (map string_bytes rest.now) file trace → ⊥ }
+    ensures some { IfSome result (λ traced.
+        AreFiles (map string_bytes rest.now) traced.file.now traced.trace.now) }
+    ensures none { IsNone result → (file trace : List ℕ)
+        → AreFiles (map string_bytes rest.now) file trace → ⊥ }
 {
     match rest {
         [file, trace] if !is_option(file) && !is_option(trace) => Some(Traced {
@@ -418,8 +431,11 @@ fn trace_given(rest: &[String]) -> Option<Traced<'_>>
 // FILE and ROUNDS, and what stands behind them.
 fn rounds_given(rest: &[String]) -> Option<Rounds<'_>>
     ensures some { IfSome result (GiveRounds (map string_bytes rest.now)) }
-    ensures only { IfSome result (λ found. (rounds : Rounds) → GiveRounds (map string_bytes rest.now) rounds → words_of rounds.presses ≡ words_of found.presses) }
-    ensures none { IsNone result → (rounds : Rounds) → GiveRounds (map string_bytes rest.now) rounds → ⊥ }
+    ensures only { IfSome result (λ found. (rounds : Rounds)
+        → GiveRounds (map string_bytes rest.now) rounds → words_of rounds.presses
+        ≡ words_of found.presses) }
+    ensures none { IsNone result → (rounds : Rounds)
+        → GiveRounds (map string_bytes rest.now) rounds → ⊥ }
 {
     let WordsApart { positional, value } = fire_apart(rest)?;
     let (file, behind) = positional.split_first()?;
@@ -436,8 +452,11 @@ fn rounds_given(rest: &[String]) -> Option<Rounds<'_>>
 
 // The same, with a name behind ROUNDS where the command needs one.
 fn simulation_given(command: Simulating, rest: &[String]) -> Option<Rounds<'_>>
-    ensures some { IfSome result (λ rounds. GiveRounds (map string_bytes rest.now) rounds × NeedsName command (words_of rounds.presses)) }
-    ensures none { IsNone result → (rounds : Rounds) → GiveRounds (map string_bytes rest.now) rounds → NeedsName command (words_of rounds.presses) → ⊥ }
+    ensures some { IfSome result (λ rounds. GiveRounds (map string_bytes rest.now) rounds
+        × NeedsName command (words_of rounds.presses)) }
+    ensures none { IsNone result → (rounds : Rounds)
+        → GiveRounds (map string_bytes rest.now) rounds
+        → NeedsName command (words_of rounds.presses) → ⊥ }
 {
     let rounds = rounds_given(rest)?;
     if has_needed_name(command, rounds.presses) {
@@ -478,10 +497,15 @@ pub(crate) struct WordsApart<'w> {
 
 // The words behind such a command apart, where they have no other option and a word behind `--fire`.
 fn fire_apart(rest: &[String]) -> Option<WordsApart<'_>>
-    ensures some { IfSome result (λ apart. IsApart (codes "--fire") (map string_bytes rest.now) (words_of apart.positional) (option_map (λ value. value.now) apart.value)) }
+    ensures some { IfSome result (λ apart. IsApart (codes "--fire") (map string_bytes rest.now)
+        (words_of apart.positional) (option_map (λ value. value.now) apart.value)) }
     ensures plain { IfSome result (λ apart. AreNoOptions (words_of apart.positional)) }
-    ensures only { IfSome result (λ apart. (positional : List (List ℕ)) (value : Option (List ℕ)) → IsApart (codes "--fire") (map string_bytes rest.now) positional value → AreNoOptions positional → positional ≡ words_of apart.positional) }
-    ensures none { IsNone result → (positional : List (List ℕ)) (value : Option (List ℕ)) → IsApart (codes "--fire") (map string_bytes rest.now) positional value → AreNoOptions positional → ⊥ }
+    ensures only { IfSome result (λ apart. (positional : List (List ℕ)) (value : Option (List ℕ))
+        → IsApart (codes "--fire") (map string_bytes rest.now) positional value
+        → AreNoOptions positional → positional ≡ words_of apart.positional) }
+    ensures none { IsNone result → (positional : List (List ℕ)) (value : Option (List ℕ))
+        → IsApart (codes "--fire") (map string_bytes rest.now) positional value
+        → AreNoOptions positional → ⊥ }
 {
     let parts = apart(FIRE, rest)?;
     if has_option(parts.positional.front) || has_option(parts.positional.back) {
@@ -492,9 +516,15 @@ fn fire_apart(rest: &[String]) -> Option<WordsApart<'_>>
 
 /// Words apart at the first place of an option, where a value stands behind it that begins with no `-`.
 pub(crate) fn apart<'w>(option: &str, words: &'w [String]) -> Option<WordsApart<'w>>
-    ensures some { IfSome result (λ apart. IsApart option.now (map string_bytes words.now) (words_of apart.positional) (option_map (λ value. value.now) apart.value)) }
-    ensures only { IfSome result (λ apart. (positional : List (List ℕ)) (value : Option (List ℕ)) → IsApart option.now (map string_bytes words.now) positional value → LeaveOut option.now positional → (positional ≡ words_of apart.positional) × (value ≡ option_map (λ value. value.now) apart.value)) }
-    ensures none { IsNone result → (positional : List (List ℕ)) (value : Option (List ℕ)) → IsApart option.now (map string_bytes words.now) positional value → LeaveOut option.now positional → ⊥ }
+    ensures some { IfSome result (λ apart. IsApart option.now (map string_bytes words.now)
+        (words_of apart.positional) (option_map (λ value. value.now) apart.value)) }
+    ensures only { IfSome result (λ apart. (positional : List (List ℕ)) (value : Option (List ℕ))
+        → IsApart option.now (map string_bytes words.now) positional value
+        → LeaveOut option.now positional → (positional ≡ words_of apart.positional)
+        × (value ≡ option_map (λ value. value.now) apart.value)) }
+    ensures none { IsNone result → (positional : List (List ℕ)) (value : Option (List ℕ))
+        → IsApart option.now (map string_bytes words.now) positional value
+        → LeaveOut option.now positional → ⊥ }
 {
     let (front, rest) = words.split_at(first_of(option, words));
     let Some((_, rest)) = rest.split_first() else {
@@ -523,8 +553,10 @@ fn is_same(word: &str, other: &str) -> bool
 // How many words stand before the first that is the option.
 fn first_of(option: &str, words: &[String]) -> usize
     ensures within { result ≤ length words.now }
-    ensures before { (k : ℕ) (word : List ℕ) → k < result → slice_get (map string_bytes words.now) k ≡ Some word → word ≡ option.now → ⊥ }
-    ensures at { (word : List ℕ) → slice_get (map string_bytes words.now) result ≡ Some word → word ≡ option.now }
+    ensures before { (k : ℕ) (word : List ℕ) → k < result
+        → slice_get (map string_bytes words.now) k ≡ Some word → word ≡ option.now → ⊥ }
+    ensures at { (word : List ℕ) → slice_get (map string_bytes words.now) result ≡ Some word
+        → word ≡ option.now }
 {
     let mut place = 0;
     'words: for word in words {
@@ -547,8 +579,10 @@ fn has_option(words: &[String]) -> bool
 // How many words stand before the first option.
 fn first_option(words: &[String]) -> usize
     ensures within { result ≤ length words.now }
-    ensures before { (k : ℕ) (word : List ℕ) → k < result → slice_get (map string_bytes words.now) k ≡ Some word → IsOption word → ⊥ }
-    ensures at { (word : List ℕ) → slice_get (map string_bytes words.now) result ≡ Some word → IsOption word }
+    ensures before { (k : ℕ) (word : List ℕ) → k < result
+        → slice_get (map string_bytes words.now) k ≡ Some word → IsOption word → ⊥ }
+    ensures at { (word : List ℕ) → slice_get (map string_bytes words.now) result ≡ Some word
+        → IsOption word }
 {
     let mut place = 0;
     'words: for word in words {
@@ -570,8 +604,10 @@ pub fn is_number(word: &str) -> bool
 // How many words stand before the first that begins with a digit.
 fn first_number(words: &[String]) -> usize
     ensures within { result ≤ length words.now }
-    ensures before { (k : ℕ) (word : List ℕ) → k < result → slice_get (map string_bytes words.now) k ≡ Some word → BeginsWithDigit word → ⊥ }
-    ensures at { (word : List ℕ) → slice_get (map string_bytes words.now) result ≡ Some word → BeginsWithDigit word }
+    ensures before { (k : ℕ) (word : List ℕ) → k < result
+        → slice_get (map string_bytes words.now) k ≡ Some word → BeginsWithDigit word → ⊥ }
+    ensures at { (word : List ℕ) → slice_get (map string_bytes words.now) result ≡ Some word
+        → BeginsWithDigit word }
 {
     let mut place = 0;
     'words: for word in words {
@@ -612,8 +648,10 @@ pub struct Plain {
 
 /// Words as they are read.
 pub fn read_words(alloc: Global, words: &[String]) -> Result<Plain, AllocError>
-    ensures words { IfOk result (λ plain. map string_bytes plain.words.items ≡ plain_words (map string_bytes words.now)) }
-    ensures explains { IfOk result (λ plain. plain.explains ≡ explains (map string_bytes words.now)) }
+    ensures words { IfOk result (λ plain. map string_bytes plain.words.items
+        ≡ plain_words (map string_bytes words.now)) }
+    ensures explains { IfOk result (λ plain. plain.explains
+        ≡ explains (map string_bytes words.now)) }
     ensures flags { IfOk result (λ plain. plain.flags ≡ flags_of (map string_bytes words.now)) }
 {
     let own = own_flag(words);
@@ -698,7 +736,8 @@ fn explains(words: &[String]) -> bool
 
 // Whether the flag is one of the words.
 fn names_flag(flag: Option<&str>, words: &[String]) -> bool
-    ensures { result ≡ names_flag (option_map (λ flag. flag.now) flag.entry) (map string_bytes words.now) }
+    ensures { result ≡ names_flag (option_map (λ flag. flag.now) flag.entry)
+        (map string_bytes words.now) }
 {
     'words: for word in words {
         if is_flag(flag, word) {
@@ -715,7 +754,9 @@ fn plain_words(
     own: Option<&str>,
     cut: Option<&str>,
 ) -> Result<Vec<String>, AllocError>
-    ensures { IfOk result (λ plain. map string_bytes plain.items ≡ flat_map (plain_word (option_map (λ flag. flag.now) own.entry) (option_map (λ flag. flag.now) cut.entry)) (map string_bytes words.now)) }
+    ensures { IfOk result (λ plain. map string_bytes plain.items
+        ≡ flat_map (plain_word (option_map (λ flag. flag.now) own.entry)
+        (option_map (λ flag. flag.now) cut.entry)) (map string_bytes words.now)) }
 {
     let mut plain = Vec::new(alloc);
     'words: for word in words {
@@ -732,7 +773,9 @@ fn add_plain(
     own: Option<&str>,
     cut: Option<&str>,
 ) -> Result<(), AllocError>
-    ensures { OnOk result (map string_bytes plain.new.items ≡ map string_bytes plain.old.items ++ plain_word (option_map (λ flag. flag.now) own.entry) (option_map (λ flag. flag.now) cut.entry) word.now) }
+    ensures { OnOk result (map string_bytes plain.new.items ≡ map string_bytes plain.old.items
+        ++ plain_word (option_map (λ flag. flag.now) own.entry)
+        (option_map (λ flag. flag.now) cut.entry) word.now) }
 {
     if is_explain(word) || is_flag(own, word) || is_flag(cut, word) {
         return Ok(());
@@ -765,7 +808,8 @@ fn trace_behind(word: &str) -> Option<&str>
 
 // The option and the value that stand in one word.
 fn value_within(word: &str) -> Option<Valued<'_>>
-    ensures { MatchOption result (cut_word word.now ≡ word.now ∷ []) (λ valued. cut_word word.now ≡ valued.option.now ∷ valued.value.now ∷ []) }
+    ensures { MatchOption result (cut_word word.now ≡ word.now ∷ [])
+        (λ valued. cut_word word.now ≡ valued.option.now ∷ valued.value.now ∷ []) }
 {
     if let Some(round) = round_behind(word) {
         return Some(Valued {
@@ -782,7 +826,8 @@ fn value_within(word: &str) -> Option<Valued<'_>>
 
 // Adds a word; two for an option with its value.
 fn add_word(alloc: Global, plain: &mut Vec<String>, word: &str) -> Result<(), AllocError>
-    ensures { OnOk result (map string_bytes plain.new.items ≡ map string_bytes plain.old.items ++ cut_word word.now) }
+    ensures { OnOk result (map string_bytes plain.new.items ≡ map string_bytes plain.old.items
+        ++ cut_word word.now) }
 {
     match value_within(word) {
         Some(valued) => {
@@ -794,7 +839,8 @@ fn add_word(alloc: Global, plain: &mut Vec<String>, word: &str) -> Result<(), Al
 }
 
 fn push_word(alloc: Global, plain: &mut Vec<String>, word: &str) -> Result<(), AllocError>
-    ensures { OnOk result (map string_bytes plain.new.items ≡ map string_bytes plain.old.items ++ word.now ∷ []) }
+    ensures { OnOk result (map string_bytes plain.new.items ≡ map string_bytes plain.old.items
+        ++ word.now ∷ []) }
 {
     plain.push(String::from_str(alloc, word)?)?;
     Ok(())

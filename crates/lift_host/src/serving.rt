@@ -28,7 +28,8 @@ pub struct Tracing<'w> {
 /// What words ask `serve` for, if they do: of words as `read_words` leaves them.
 pub fn asked_to_serve(words: &[String]) -> Option<Serving<'_>>
     ensures found { IfSome result (Serves (map string_bytes words.now)) }
-    ensures none { IsNone result → (serving : Serving) → Serves (map string_bytes words.now) serving → ⊥ }
+    ensures none { IsNone result → (serving : Serving)
+        → Serves (map string_bytes words.now) serving → ⊥ }
 {
     let (name, rest) = words.split_first()?;
     if !is_serve(name) {
@@ -47,7 +48,8 @@ pub fn is_serve(word: &str) -> bool
 // What `serve` is asked for by the words behind it.
 fn serving_given(rest: &[String]) -> Option<Serving<'_>>
     ensures some { IfSome result (TakesToServe (map string_bytes rest.now)) }
-    ensures none { IsNone result → (serving : Serving) → TakesToServe (map string_bytes rest.now) serving → ⊥ }
+    ensures none { IsNone result → (serving : Serving)
+        → TakesToServe (map string_bytes rest.now) serving → ⊥ }
 {
     let WordsApart { positional, value } = apart(TRACE, rest)?;
     let FileWith { file, has_option } = file_with(SYNC, positional)?;

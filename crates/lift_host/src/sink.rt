@@ -36,7 +36,8 @@ pub fn put_all<S: Sink>(sink: &mut S, bytes: &[u8]) -> Result<(), SinkFault>
     ensures ok { OnOk result (Appends (S.contents sink.old) (S.contents sink.new) bytes.now) }
     ensures goes_on { OnOk result (S.has_failed sink.new ≡ S.has_failed sink.old) }
     ensures failed { OnErr result (S.has_failed sink.new ≡ true) }
-    ensures front { OnErr result (AppendsFront (S.contents sink.old) (S.contents sink.new) bytes.now) }
+    ensures front { OnErr result (AppendsFront (S.contents sink.old) (S.contents sink.new)
+        bytes.now) }
 {
     let mut rest = bytes;
     'pieces: while !rest.is_empty() {

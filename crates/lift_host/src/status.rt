@@ -133,9 +133,11 @@ impl Fault {
 
     /// Writes what the program says of it.
     pub fn put<S: Sink>(&self, sink: &mut S) -> Result<(), SinkFault>
-        ensures ok { OnOk result (Appends (S.contents sink.old) (S.contents sink.new) (message_of self.now)) }
+        ensures ok { OnOk result (Appends (S.contents sink.old) (S.contents sink.new)
+            (message_of self.now)) }
         ensures failed { OnErr result (S.has_failed sink.new ≡ true) }
-        ensures front { OnErr result (AppendsFront (S.contents sink.old) (S.contents sink.new) (message_of self.now)) }
+        ensures front { OnErr result (AppendsFront (S.contents sink.old) (S.contents sink.new)
+            (message_of self.now)) }
     {
         match self {
             Fault::Misuse(text) => put_all(sink, text.as_bytes()),
@@ -153,9 +155,11 @@ impl Fault {
 
 // Writes that a text is refused.
 fn put_refusal<S: Sink>(sink: &mut S, number: u16, line: u32) -> Result<(), SinkFault>
-    ensures ok { OnOk result (Appends (S.contents sink.old) (S.contents sink.new) (message_of (Fault.Refused number line))) }
+    ensures ok { OnOk result (Appends (S.contents sink.old) (S.contents sink.new)
+        (message_of (Fault.Refused number line))) }
     ensures failed { OnErr result (S.has_failed sink.new ≡ true) }
-    ensures front { OnErr result (AppendsFront (S.contents sink.old) (S.contents sink.new) (message_of (Fault.Refused number line))) }
+    ensures front { OnErr result (AppendsFront (S.contents sink.old) (S.contents sink.new)
+        (message_of (Fault.Refused number line))) }
 {
     put_numbered(sink, b"refused ", u32::from(number))?;
     put_numbered(sink, b" at line ", line)?;
@@ -164,9 +168,11 @@ fn put_refusal<S: Sink>(sink: &mut S, number: u16, line: u32) -> Result<(), Sink
 
 // Writes a text and a number behind it.
 fn put_numbered<S: Sink>(sink: &mut S, text: &[u8], number: u32) -> Result<(), SinkFault>
-    ensures ok { OnOk result (Appends (S.contents sink.old) (S.contents sink.new) (text.now ++ decimal number)) }
+    ensures ok { OnOk result (Appends (S.contents sink.old) (S.contents sink.new)
+        (text.now ++ decimal number)) }
     ensures failed { OnErr result (S.has_failed sink.new ≡ true) }
-    ensures front { OnErr result (AppendsFront (S.contents sink.old) (S.contents sink.new) (text.now ++ decimal number)) }
+    ensures front { OnErr result (AppendsFront (S.contents sink.old) (S.contents sink.new)
+        (text.now ++ decimal number)) }
 {
     put_all(sink, text)?;
     put_number(sink, number)
@@ -174,9 +180,11 @@ fn put_numbered<S: Sink>(sink: &mut S, text: &[u8], number: u32) -> Result<(), S
 
 // Writes a decimal, without sign or leading zeros.
 fn put_number<S: Sink>(sink: &mut S, number: u32) -> Result<(), SinkFault>
-    ensures ok { OnOk result (Appends (S.contents sink.old) (S.contents sink.new) (decimal number)) }
+    ensures ok { OnOk result (Appends (S.contents sink.old) (S.contents sink.new)
+        (decimal number)) }
     ensures failed { OnErr result (S.has_failed sink.new ≡ true) }
-    ensures front { OnErr result (AppendsFront (S.contents sink.old) (S.contents sink.new) (decimal number)) }
+    ensures front { OnErr result (AppendsFront (S.contents sink.old) (S.contents sink.new)
+        (decimal number)) }
 {
     let mut buffer = Buffer::new();
     put_all(sink, buffer.format(number).as_bytes())

@@ -38,14 +38,16 @@ pub fn load(alloc: Global, text: &[u8]) -> Result<Verified, Refusal>
     ensures costs { IfOk result (λ v. v.costs ≡ map (cost_of v.config) v.config.units) }
     ensures runs { IfOk result (λ v. RunsWell v.config) }
     ensures refused { IsFault result → (c : ConfigOf) → IsAccepted text.now c → ⊥ }
-    ensures named { IsFault result → (c : ConfigOf) → IsSpelled text.now c → IsErrAnd result (IsRefusedFor c) }
+    ensures named { IsFault result → (c : ConfigOf) → IsSpelled text.now c
+        → IsErrAnd result (IsRefusedFor c) }
     ensures number { IfErr result (IsExplained text.now) }
 
     // A text whose bytes have a fault is refused with this fault and no other.
     ensures bytes { ReportsFaultOfText text.now result }
 
     // A text that spells a configuration has no other fault.
-    ensures one { IsFault result → (n l : ℕ) → IsSpelledWith text.now (Fault n l) → IsErrAnd result (λ e. e ≡ Fault n l) }
+    ensures one { IsFault result → (n l : ℕ) → IsSpelledWith text.now (Fault n l)
+        → IsErrAnd result (λ e. e ≡ Fault n l) }
 {
     let config = parsed(alloc, text)?;
     verified(alloc, config)
@@ -107,7 +109,8 @@ fn parts(alloc: Global, checked: &Checked) -> Result<(Budget, Path, Tables), Ref
     ensures costs { IfOk result (λ p. p.0.units ≡ map (longest checked.now) checked.now.units) }
     ensures lines { IfOk result (λ p. p.1.units ≡ map (path_of checked.now) checked.now.units) }
     ensures plans { IfOk result (λ p. ArePlans checked.now p.2.plans) }
-    ensures quick { IfOk result (λ p. AreAllQuick p.2.quick (map (unit_code (program_names checked.now) checked.now) checked.now.units)) }
+    ensures quick { IfOk result (λ p. AreAllQuick p.2.quick
+        (map (unit_code (program_names checked.now) checked.now) checked.now.units)) }
     ensures affordable { IfOk result (λ _. HasNoFault (IsTooLong checked.now)) }
     ensures refused { IfErr result (IsRefusedBy (IsTooLong checked.now)) }
 {

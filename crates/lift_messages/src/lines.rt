@@ -19,7 +19,8 @@ fn first_line(text: &[u8]) -> (&[u8], &[u8])
 
 // The text behind the first line feed.
 fn behind_line(text: &[u8]) -> Option<&[u8]>
-    ensures found { IfSome result (λ rest. (line : List ℕ) × IsOneLine line × (text.now ≡ line ++ 10 ∷ rest.now)) }
+    ensures found { IfSome result (λ rest. (line : List ℕ) × IsOneLine line
+        × (text.now ≡ line ++ 10 ∷ rest.now)) }
     ensures none { IfNone result (IsOneLine text.now) }
 {
     let (_, rest) = first_line(text);

@@ -29,9 +29,11 @@ impl Output {
     /// Writes it to a sink that hasn't failed. The answer is whether all of it was written.
     pub fn put<S: Sink>(&self, sink: &mut S) -> bool
         requires { S.has_failed sink.old ≡ false }
-        ensures written { result ≡ true → Appends (S.contents sink.old) (S.contents sink.new) (bytes_of self.now) }
+        ensures written { result ≡ true → Appends (S.contents sink.old) (S.contents sink.new)
+            (bytes_of self.now) }
         ensures failed { result ≡ false → S.has_failed sink.new ≡ true }
-        ensures front { result ≡ false → AppendsFront (S.contents sink.old) (S.contents sink.new) (bytes_of self.now) }
+        ensures front { result ≡ false → AppendsFront (S.contents sink.old) (S.contents sink.new)
+            (bytes_of self.now) }
     {
         match self {
             Output::Text(text) => put_all(sink, text.as_bytes()).is_ok(),
@@ -42,7 +44,8 @@ impl Output {
 
     /// Writes its warnings, if it may have some. A sink that fails changes nothing.
     pub fn warn<S: Sink>(&self, sink: &mut S)
-        ensures { Warns self.now (S.contents sink.old) (S.contents sink.new) (S.has_failed sink.new) }
+        ensures { Warns self.now (S.contents sink.old) (S.contents sink.new)
+            (S.has_failed sink.new) }
     {
         if let Output::Warned(warned) = self {
             let _ = put_all(sink, warned.warnings.as_bytes());

@@ -72,7 +72,8 @@ fn put_shown(to: &mut Vec<u8>, bytes: &[u8]) -> Result<(), AllocError>
 
 // What the number means, and who says more.
 fn put_meaning(to: &mut Vec<u8>, number: u16) -> Result<(), AllocError>
-    ensures { OnOk result ((meaning : List ℕ) × IsMeaning number meaning × (to.new.items ≡ to.old.items ++ meaning)) }
+    ensures { OnOk result ((meaning : List ℕ) × IsMeaning number meaning
+        × (to.new.items ≡ to.old.items ++ meaning)) }
 {
     match title(number) {
         Some(title) => {

@@ -19,15 +19,22 @@ pub fn show<O: Sink, E: Sink>(
     err: &mut E,
 ) -> Status
     requires { O.has_failed out.old ≡ false }
-    ensures ends { IfOk outcome (λ _. (result ≡ Status.Done) ⊎ ((result ≡ Status.CannotWrite) × (O.has_failed out.new ≡ true))) }
-    ensures shown { IfOk outcome (λ output. result ≡ Status.Done → Appends (O.contents out.old) (O.contents out.new) (bytes_of output)) }
-    ensures front { IfOk outcome (λ output. result ≡ Status.CannotWrite → AppendsFront (O.contents out.old) (O.contents out.new) (bytes_of output)) }
-    ensures warned { IfOk outcome (λ output. result ≡ Status.Done → Warns output (E.contents err.old) (E.contents err.new) (E.has_failed err.new)) }
-    ensures cannot_write { IfOk outcome (λ _. result ≡ Status.CannotWrite → Writes (E.contents err.old) (E.contents err.new) (E.has_failed err.new) (message_of Fault.CannotWrite)) }
+    ensures ends { IfOk outcome (λ _. (result ≡ Status.Done)
+        ⊎ ((result ≡ Status.CannotWrite) × (O.has_failed out.new ≡ true))) }
+    ensures shown { IfOk outcome (λ output. result ≡ Status.Done
+        → Appends (O.contents out.old) (O.contents out.new) (bytes_of output)) }
+    ensures front { IfOk outcome (λ output. result ≡ Status.CannotWrite
+        → AppendsFront (O.contents out.old) (O.contents out.new) (bytes_of output)) }
+    ensures warned { IfOk outcome (λ output. result ≡ Status.Done
+        → Warns output (E.contents err.old) (E.contents err.new) (E.has_failed err.new)) }
+    ensures cannot_write { IfOk outcome (λ _. result ≡ Status.CannotWrite
+        → Writes (E.contents err.old) (E.contents err.new) (E.has_failed err.new)
+        (message_of Fault.CannotWrite)) }
 
     ensures fault { IfErr outcome (λ fault. result ≡ status_of fault) }
     ensures nothing { IfErr outcome (λ _. Keeps (O.contents out.old) (O.contents out.new)) }
-    ensures told { IfErr outcome (λ fault. Writes (E.contents err.old) (E.contents err.new) (E.has_failed err.new) (message_of fault ++ below.now)) }
+    ensures told { IfErr outcome (λ fault. Writes (E.contents err.old) (E.contents err.new)
+        (E.has_failed err.new) (message_of fault ++ below.now)) }
 {
     match outcome {
         Ok(output) => {
@@ -47,7 +54,8 @@ pub fn show<O: Sink, E: Sink>(
 
 /// Writes what the program says of a fault, and a text below that.
 pub fn tell<E: Sink>(fault: &Fault, below: &[u8], err: &mut E)
-    ensures { Writes (E.contents err.old) (E.contents err.new) (E.has_failed err.new) (message_of fault.now ++ below.now) }
+    ensures { Writes (E.contents err.old) (E.contents err.new) (E.has_failed err.new)
+        (message_of fault.now ++ below.now) }
 {
     if fault.put(err).is_ok() {
         let _ = put_all(err, below);

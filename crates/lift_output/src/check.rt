@@ -21,7 +21,8 @@ pub fn check_text(alloc: Global, verified: &Verified) -> Result<String, AllocErr
 }
 
 fn put_tasks(text: &mut String, verified: &Verified) -> Result<(), AllocError>
-    ensures { OnOk result (string_bytes text.new ≡ string_bytes text.old ++ flat_map task_text (task_lines verified.now)) }
+    ensures { OnOk result (string_bytes text.new ≡ string_bytes text.old
+        ++ flat_map task_text (task_lines verified.now)) }
 {
     'tasks: for task in verified.tasks() {
         put_task(text, task)?;
@@ -30,7 +31,8 @@ fn put_tasks(text: &mut String, verified: &Verified) -> Result<(), AllocError>
 }
 
 fn put_units(text: &mut String, verified: &Verified) -> Result<(), AllocError>
-    ensures { OnOk result (string_bytes text.new ≡ string_bytes text.old ++ flat_map unit_text (unit_lines verified.now.config.units verified.now.costs)) }
+    ensures { OnOk result (string_bytes text.new ≡ string_bytes text.old
+        ++ flat_map unit_text (unit_lines verified.now.config.units verified.now.costs)) }
 {
     'units: for unit in verified.units() {
         put_unit(text, unit)?;
@@ -40,7 +42,8 @@ fn put_units(text: &mut String, verified: &Verified) -> Result<(), AllocError>
 
 #[tactic(auto, unfolding(crate::specs::Listing::task_text))]
 fn put_task(text: &mut String, task: TaskInfo<'_>) -> Result<(), AllocError>
-    ensures { OnOk result (string_bytes text.new ≡ string_bytes text.old ++ task_text (task_shown task.entry)) }
+    ensures { OnOk result (string_bytes text.new ≡ string_bytes text.old
+        ++ task_text (task_shown task.entry)) }
 {
     write!(text, "task {} interval {}", task.name, task.interval)?;
     write!(text, " priority {} program {}", task.priority, task.program)?;
@@ -49,7 +52,8 @@ fn put_task(text: &mut String, task: TaskInfo<'_>) -> Result<(), AllocError>
 
 #[tactic(auto, unfolding(crate::specs::Listing::unit_text))]
 fn put_unit(text: &mut String, unit: UnitInfo<'_>) -> Result<(), AllocError>
-    ensures { OnOk result (string_bytes text.new ≡ string_bytes text.old ++ unit_text (unit_shown unit.entry)) }
+    ensures { OnOk result (string_bytes text.new ≡ string_bytes text.old
+        ++ unit_text (unit_shown unit.entry)) }
 {
     write!(text, "unit {} cost {} path", unit.name, unit.cost)?;
     put_path(text, unit.path)?;

@@ -17,7 +17,8 @@ use std::alloc::{AllocError, Global};
 /// The output of `replay`: NOW in milliseconds, RUNLIMIT and FIRE, each car with its fields and
 /// outputs, the call slots, and the globals in the order of the text.
 pub fn image_text(alloc: Global, world: &World) -> Result<String, AllocError>
-    ensures { IfOk result (λ text. string_bytes text ≡ image_text world.now.program.config world.now.world) }
+    ensures { IfOk result (λ text. string_bytes text
+        ≡ image_text world.now.program.config world.now.world) }
 {
     let image = world.image();
     let mut text = String::new(alloc);
@@ -49,7 +50,8 @@ fn digit(set: bool) -> &'static str
 
 #[tactic(auto, unfolding(crate::specs::ImageText::fields_text))]
 fn put_fields(text: &mut String, fields: &Fields) -> Result<(), AllocError>
-    ensures { OnOk result (string_bytes text.new ≡ string_bytes text.old ++ fields_text fields.now) }
+    ensures { OnOk result (string_bytes text.new ≡ string_bytes text.old
+        ++ fields_text fields.now) }
 {
     write!(text, "NOW {}\nRUNLIMIT {}", fields.time, fields.run_limit)?;
     writeln!(text, "\nFIRE {}", truth(fields.fire))
@@ -84,7 +86,8 @@ fn put_car(
     car: &CarFields,
     outputs: &CarOutputs,
 ) -> Result<(), AllocError>
-    ensures { OnOk result (string_bytes text.new ≡ string_bytes text.old ++ car_text number car.now outputs.now) }
+    ensures { OnOk result (string_bytes text.new ≡ string_bytes text.old
+        ++ car_text number car.now outputs.now) }
 {
     write!(text, "CAR {} {} ", number, car.pos)?;
     put_flags(text, car)?;
@@ -98,7 +101,8 @@ fn put_car(
 
 fn put_cars(text: &mut String, cars: &[CarFields], outputs: &[CarOutputs]) -> Result<(), AllocError>
     requires { length outputs.now ≡ length cars.now }
-    ensures { OnOk result (string_bytes text.new ≡ string_bytes text.old ++ cars_text 1 cars.now outputs.now) }
+    ensures { OnOk result (string_bytes text.new ≡ string_bytes text.old
+        ++ cars_text 1 cars.now outputs.now) }
 {
     'cars: for index in 0..cars.len() {
         put_car(text, index + 1, &cars[index], &outputs[index])?;
@@ -108,7 +112,8 @@ fn put_cars(text: &mut String, cars: &[CarFields], outputs: &[CarOutputs]) -> Re
 
 #[tactic(auto, unfolding(crate::specs::ImageText::slot_text))]
 fn put_slot(text: &mut String, number: usize, slot: &Slot) -> Result<(), AllocError>
-    ensures { OnOk result (string_bytes text.new ≡ string_bytes text.old ++ slot_text number slot.now) }
+    ensures { OnOk result (string_bytes text.new ≡ string_bytes text.old
+        ++ slot_text number slot.now) }
 {
     match slot {
         Slot::Free => writeln!(text, "SLOT {} FREE", number),
@@ -124,7 +129,8 @@ fn put_slot(text: &mut String, number: usize, slot: &Slot) -> Result<(), AllocEr
 }
 
 fn put_slots(text: &mut String, slots: &[Slot]) -> Result<(), AllocError>
-    ensures { OnOk result (string_bytes text.new ≡ string_bytes text.old ++ slots_text 1 slots.now) }
+    ensures { OnOk result (string_bytes text.new ≡ string_bytes text.old
+        ++ slots_text 1 slots.now) }
 {
     'slots: for index in 0..slots.len() {
         put_slot(text, index + 1, &slots[index])?;
@@ -134,7 +140,8 @@ fn put_slots(text: &mut String, slots: &[Slot]) -> Result<(), AllocError>
 
 #[tactic(auto, unfolding(crate::specs::ImageText::global_text))]
 fn put_global(text: &mut String, path: &str, value: Option<Value>) -> Result<(), AllocError>
-    ensures { OnOk result (string_bytes text.new ≡ string_bytes text.old ++ global_text path.now value) }
+    ensures { OnOk result (string_bytes text.new ≡ string_bytes text.old
+        ++ global_text path.now value) }
 {
     match value {
         Some(Value::Boolean(value)) => writeln!(text, "VAR {} {}", path, truth(value)),
@@ -144,7 +151,8 @@ fn put_global(text: &mut String, path: &str, value: Option<Value>) -> Result<(),
 }
 
 fn put_globals(text: &mut String, world: &World) -> Result<(), AllocError>
-    ensures { OnOk result (string_bytes text.new ≡ string_bytes text.old ++ globals_text world.now.world.group.globals (global_cells world.now.program.config)) }
+    ensures { OnOk result (string_bytes text.new ≡ string_bytes text.old
+        ++ globals_text world.now.world.group.globals (global_cells world.now.program.config)) }
 {
     let cells = world.verified().globals();
     'globals: for cell in cells {

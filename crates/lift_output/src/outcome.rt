@@ -240,7 +240,8 @@ fn watched_names(
 ) -> Result<Output, Fault>
     requires opening { world.old.world ≡ opening world.old.program.config }
     requires calls { ArePressed (sizes_of world.old.program.config) drive.presses.now }
-    ensures is { IsWatched world.old.program.config (map upper_case (words_of names.entry)) drive.entry.presses.now drive.entry.fire rounds result }
+    ensures is { IsWatched world.old.program.config (map upper_case (words_of names.entry))
+        drive.entry.presses.now drive.entry.fire rounds result }
     ensures warned { HasWarnings None result }
 {
     let names = upper_names(alloc, names)?;
@@ -257,7 +258,8 @@ fn watched_world(
 ) -> Result<Output, Fault>
     requires opening { world.old.world ≡ opening world.old.program.config }
     requires calls { ArePressed (sizes_of world.old.program.config) drive.presses.now }
-    ensures is { IsWatched world.old.program.config (map string_bytes names.now) drive.entry.presses.now drive.entry.fire rounds result }
+    ensures is { IsWatched world.old.program.config (map string_bytes names.now)
+        drive.entry.presses.now drive.entry.fire rounds result }
     ensures warned { HasWarnings None result }
 {
     let mut watch = Watch::of(alloc, world, names)?;
@@ -282,7 +284,8 @@ fn run_in_threads<R: Threads + Wait + Sync>(
     together: bool,
 ) -> Result<Ran, RunFault>
     requires { All (λ press. IsPressAt (sizes_of verified.config).floors press) plan.presses.now }
-    ensures { IfOk result (λ ran. IsRun verified.config (is_fire_in plan.entry.fire) plan.entry.rounds plan.entry.presses.now ran.journal.items ran.left) }
+    ensures { IfOk result (λ ran. IsRun verified.config (is_fire_in plan.entry.fire)
+        plan.entry.rounds plan.entry.presses.now ran.journal.items ran.left) }
 {
     if together {
         let gate = Together::new(tasks_of(&verified));

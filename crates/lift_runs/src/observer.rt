@@ -17,17 +17,20 @@ pub trait Observer {
 
     /// The refresh of a round has reported.
     fn refreshed(&mut self, round: u16, report: &Report) -> Result<(), AllocError>
-        ensures text { OnOk result (text self.new ≡ text self.old ++ (shows self.old).of_refresh round report.now) }
+        ensures text { OnOk result (text self.new ≡ text self.old
+            ++ (shows self.old).of_refresh round report.now) }
         ensures same { OnOk result (shows self.new ≡ shows self.old) };
 
     /// The commit of a task's scan has reported: 0 is GROUP, k is CARk.
     fn committed(&mut self, round: u16, task: u8, report: &Report) -> Result<(), AllocError>
-        ensures text { OnOk result (text self.new ≡ text self.old ++ (shows self.old).of_commit round task report.now) }
+        ensures text { OnOk result (text self.new ≡ text self.old
+            ++ (shows self.old).of_commit round task report.now) }
         ensures same { OnOk result (shows self.new ≡ shows self.old) };
 
     /// A round is over, and left the world so.
     fn ended(&mut self, round: u16, world: &World) -> Result<(), AllocError>
-        ensures text { OnOk result (text self.new ≡ text self.old ++ (shows self.old).of_round round world.now.world) }
+        ensures text { OnOk result (text self.new ≡ text self.old
+            ++ (shows self.old).of_round round world.now.world) }
         ensures same { OnOk result (shows self.new ≡ shows self.old) };
 }
 

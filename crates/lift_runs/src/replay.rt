@@ -18,7 +18,8 @@ pub struct Refused {
 
 /// One event of a trace, unless it is refused. A commit comes behind the rest of its task's scan.
 pub fn take(world: &mut World, event: &TraceEvent, report: &mut Report) -> Result<(), EventFault>
-    ensures taken { OnOk result (Takes world.old.program.config world.old.world event.now world.new.world) }
+    ensures taken { OnOk result (Takes world.old.program.config world.old.world event.now
+        world.new.world) }
     ensures refused { IfErr result (Refuses world.old.program.config world.old.world event.now) }
     ensures same { world.new.program ≡ world.old.program }
 {
@@ -33,8 +34,10 @@ pub fn take(world: &mut World, event: &TraceEvent, report: &mut Report) -> Resul
 
 /// The events of a trace, one behind the other, up to the first that is refused. No allocation.
 pub fn replay(world: &mut World, events: &[TraceEvent]) -> Result<(), Refused>
-    ensures taken { OnOk result (TakesAll world.old.program.config world.old.world events.now world.new.world) }
-    ensures refused { IfErr result (λ r. IsRefusedAt world.old.program.config world.old.world events.now r.index r.fault) }
+    ensures taken { OnOk result (TakesAll world.old.program.config world.old.world events.now
+        world.new.world) }
+    ensures refused { IfErr result (λ r. IsRefusedAt world.old.program.config world.old.world
+        events.now r.index r.fault) }
     ensures same { world.new.program ≡ world.old.program }
 {
     let mut report = Report::new();

@@ -16,8 +16,11 @@ use lift_world::World;
 
 /// One event, unless it is refused.
 pub fn taken(world: &mut World, event: &Event, report: &mut Report) -> Result<(), EventFault>
-    ensures taken { OnOk result (Happen world.old.program.config world.old.world (event.now ∷ []) world.new.world) }
-    ensures refused { IfErr result (λ fault. (world.new.world ≡ world.old.world) × (happens world.old.program.config world.old.world event.now ≡ Ok (world.old.world, Refused fault))) }
+    ensures taken { OnOk result (Happen world.old.program.config world.old.world (event.now ∷ [])
+        world.new.world) }
+    ensures refused { IfErr result (λ fault. (world.new.world ≡ world.old.world)
+        × (happens world.old.program.config world.old.world event.now
+        ≡ Ok (world.old.world, Refused fault))) }
     ensures same { world.new.program ≡ world.old.program }
 {
     match world.apply(event, report) {
@@ -29,8 +32,11 @@ pub fn taken(world: &mut World, event: &Event, report: &mut Report) -> Result<()
 /// The rest of a task's open scan, and its commit; refused where there is no instruction to run.
 #[inline(always)]
 pub fn finish_and_commit(world: &mut World, task: u8, report: &mut Report) -> Result<(), EventFault>
-    ensures taken { OnOk result (FinishesReporting world.old.program.config task world.old.world world.new.world report.new) }
-    ensures refused { IfErr result (λ fault. (world.new.world ≡ world.old.world) × (happens world.old.program.config world.old.world (Instruction task) ≡ Ok (world.old.world, Refused fault))) }
+    ensures taken { OnOk result (FinishesReporting world.old.program.config task world.old.world
+        world.new.world report.new) }
+    ensures refused { IfErr result (λ fault. (world.new.world ≡ world.old.world)
+        × (happens world.old.program.config world.old.world (Instruction task)
+        ≡ Ok (world.old.world, Refused fault))) }
     ensures same { world.new.program ≡ world.old.program }
 {
     if let Err(fault) = world.finish(task) {
@@ -44,7 +50,8 @@ pub fn finish_and_commit(world: &mut World, task: u8, report: &mut Report) -> Re
 pub fn scan(world: &mut World, task: u8, report: &mut Report)
     requires task { HasTask world.old.program.config task }
     requires closed { IsClosed world.old.world }
-    ensures scan { ScansReporting world.old.program.config task world.old.world world.new.world report.new }
+    ensures scan { ScansReporting world.old.program.config task world.old.world world.new.world
+        report.new }
     ensures closed { IsClosed world.new.world }
     ensures same { world.new.program ≡ world.old.program }
 {

@@ -55,7 +55,8 @@ fn call_of(press: &Press) -> Call
 // The presses of a round, in their order.
 fn press_all(world: &mut World, presses: &[Press], round: u16, report: &mut Report)
     requires calls { ArePressed (sizes_of world.old.program.config) presses.now }
-    ensures taken { Happen world.old.program.config world.old.world (map PressOf (calls_in presses.now round)) world.new.world }
+    ensures taken { Happen world.old.program.config world.old.world
+        (map PressOf (calls_in presses.now round)) world.new.world }
     ensures same { world.new.program ≡ world.old.program }
 {
     let _config = world.verified().config();
@@ -68,7 +69,8 @@ fn press_all(world: &mut World, presses: &[Press], round: u16, report: &mut Repo
 
 /// What the desk has from each floor is gathered.
 pub fn gather_all(world: &mut World, report: &mut Report)
-    ensures taken { Happen world.old.program.config world.old.world (map GatherOf (floors_rising world.old.program.config)) world.new.world }
+    ensures taken { Happen world.old.program.config world.old.world
+        (map GatherOf (floors_rising world.old.program.config)) world.new.world }
     ensures same { world.new.program ≡ world.old.program }
 {
     let _config = world.verified().config();
@@ -82,7 +84,8 @@ pub fn gather_all(world: &mut World, report: &mut Report)
 fn desk(world: &mut World, presses: &[Press], round: u16, report: &mut Report)
     requires calls { ArePressed (sizes_of world.old.program.config) presses.now }
     requires idle { presses.now ≡ [] → world.old.world.desk ≡ [] }
-    ensures taken { Happen world.old.program.config world.old.world (desk_events world.old.program.config (calls_in presses.now round)) world.new.world }
+    ensures taken { Happen world.old.program.config world.old.world
+        (desk_events world.old.program.config (calls_in presses.now round)) world.new.world }
     ensures idle { presses.now ≡ [] → world.new.world.desk ≡ [] }
     ensures same { world.new.program ≡ world.old.program }
 {
@@ -101,8 +104,10 @@ fn refresh(
     report: &mut Report,
 ) -> Result<(), AllocError>
     requires inside { FieldsInRange (sizes_of world.old.program.config) fields }
-    ensures taken { OnOk result (happens world.old.program.config world.old.world (RefreshOf fields) ≡ Ok (world.new.world, Refreshed report.new)) }
-    ensures journal { OnOk result (entries.new.items ≡ entries.old.items ++ entry.Refresh fields (entered_calls_of report.new) ∷ []) }
+    ensures taken { OnOk result (happens world.old.program.config world.old.world
+        (RefreshOf fields) ≡ Ok (world.new.world, Refreshed report.new)) }
+    ensures journal { OnOk result (entries.new.items ≡ entries.old.items
+        ++ entry.Refresh fields (entered_calls_of report.new) ∷ []) }
     ensures same { world.new.program ≡ world.old.program }
 {
     let _config = world.verified().config();
@@ -126,10 +131,14 @@ fn scan_all<O: Observer>(
 ) -> Result<(), AllocError>
     requires tasks { AreTasks world.old.program.config tasks.now }
     requires closed { IsClosed world.old.world }
-    ensures scans { OnOk result ((text : List ℕ) × (O.text observer.new ≡ O.text observer.old ++ text) × ScansShown (O.shows observer.old) number world.old.program.config tasks.now world.old.world world.new.world text) }
+    ensures scans { OnOk result ((text : List ℕ)
+        × (O.text observer.new ≡ O.text observer.old ++ text)
+        × ScansShown (O.shows observer.old) number world.old.program.config tasks.now
+        world.old.world world.new.world text) }
     ensures shows { OnOk result (O.shows observer.new ≡ O.shows observer.old) }
     ensures closed { OnOk result (IsClosed world.new.world) }
-    ensures journal { OnOk result (entries.new.items ≡ entries.old.items ++ flat_map scan_entries tasks.now) }
+    ensures journal { OnOk result (entries.new.items ≡ entries.old.items
+        ++ flat_map scan_entries tasks.now) }
     ensures same { world.new.program ≡ world.old.program }
 {
     'tasks: for task in tasks {
@@ -157,7 +166,12 @@ fn round<O: Observer>(
     requires plant { IsPlantOf (sizes_of world.old.program.config) plant }
     requires closed { IsClosed world.old.world }
     requires idle { drive.presses.now ≡ [] → world.old.world.desk ≡ [] }
-    ensures round { IfOk result (λ next. (last : List EntryOf) × (entries.new.items ≡ entries.old.items ++ last) × (text : List ℕ) × (O.text observer.new ≡ O.text observer.old ++ text) × RoundShown (O.shows observer.old) number world.old.program.config (calls_in drive.entry.presses.now number) (is_fire_in drive.entry.fire number) plant next world.old.world world.new.world last text) }
+    ensures round { IfOk result (λ next. (last : List EntryOf)
+        × (entries.new.items ≡ entries.old.items ++ last) × (text : List ℕ)
+        × (O.text observer.new ≡ O.text observer.old ++ text)
+        × RoundShown (O.shows observer.old) number world.old.program.config
+        (calls_in drive.entry.presses.now number) (is_fire_in drive.entry.fire number) plant next
+        world.old.world world.new.world last text) }
     ensures shows { OnOk result (O.shows observer.new ≡ O.shows observer.old) }
     ensures plant { IfOk result (IsPlantOf (sizes_of world.old.program.config)) }
     ensures closed { OnOk result (IsClosed world.new.world) }
@@ -205,7 +219,10 @@ fn run_rounds<O: Observer>(
     requires calls { ArePressed (sizes_of world.old.program.config) drive.presses.now }
     requires tasks { tasks.now ≡ tasks_in_order world.old.program.config }
     requires none { entries.old.items ≡ [] }
-    ensures rounds { OnOk result ((text : List ℕ) × (O.text observer.new ≡ O.text observer.old ++ text) × IsShown (O.shows observer.old) world.old.program.config drive.entry.presses.now drive.entry.fire rounds entries.new.items text) }
+    ensures rounds { OnOk result ((text : List ℕ)
+        × (O.text observer.new ≡ O.text observer.old ++ text)
+        × IsShown (O.shows observer.old) world.old.program.config drive.entry.presses.now
+        drive.entry.fire rounds entries.new.items text) }
     ensures same { world.new.program ≡ world.old.program }
 {
     let _config = world.verified().config();
@@ -237,7 +254,10 @@ pub fn simulate_on<O: Observer>(
 ) -> Result<Vec<Entry>, AllocError>
     requires opening { world.old.world ≡ opening world.old.program.config }
     requires calls { ArePressed (sizes_of world.old.program.config) drive.presses.now }
-    ensures rounds { IfOk result (λ entries. (text : List ℕ) × (O.text observer.new ≡ O.text observer.old ++ text) × IsShown (O.shows observer.old) world.old.program.config drive.entry.presses.now drive.entry.fire rounds entries.items text) }
+    ensures rounds { IfOk result (λ entries. (text : List ℕ)
+        × (O.text observer.new ≡ O.text observer.old ++ text)
+        × IsShown (O.shows observer.old) world.old.program.config drive.entry.presses.now
+        drive.entry.fire rounds entries.items text) }
 {
     let _config = world.verified().config();
     let tasks = tasks_of(alloc, world.verified())?;
@@ -255,7 +275,8 @@ pub fn simulate(
     rounds: u16,
 ) -> Result<Vec<Entry>, Refusal>
     requires calls { ArePressed (sizes_of verified.config) drive.presses.now }
-    ensures rounds { IfOk result (λ entries. IsSimulated verified.config drive.entry.presses.now drive.entry.fire rounds entries.items) }
+    ensures rounds { IfOk result (λ entries. IsSimulated verified.config drive.entry.presses.now
+        drive.entry.fire rounds entries.items) }
     ensures memory { IfErr result (λ refusal. refusal ≡ Memory) }
 {
     simulate_before(alloc, verified, drive, rounds, &mut Nobody)
@@ -270,7 +291,10 @@ pub fn simulate_before<O: Observer>(
     observer: &mut O,
 ) -> Result<Vec<Entry>, Refusal>
     requires calls { ArePressed (sizes_of verified.config) drive.presses.now }
-    ensures rounds { IfOk result (λ entries. (text : List ℕ) × (O.text observer.new ≡ O.text observer.old ++ text) × IsShown (O.shows observer.old) verified.config drive.entry.presses.now drive.entry.fire rounds entries.items text) }
+    ensures rounds { IfOk result (λ entries. (text : List ℕ)
+        × (O.text observer.new ≡ O.text observer.old ++ text)
+        × IsShown (O.shows observer.old) verified.config drive.entry.presses.now drive.entry.fire
+        rounds entries.items text) }
     ensures memory { IfErr result (λ refusal. refusal ≡ Memory) }
 {
     let mut world = World::new(alloc, verified)?;

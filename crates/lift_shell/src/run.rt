@@ -40,7 +40,10 @@ pub fn run<R: Threads + Wait + Sync, F: TextFiles, C: Commands, O: Sink, E: Sink
     err: &mut E,
 ) -> Status
     requires { O.has_failed out.old ≡ false }
-    ensures { HasPrinted (IsAnswerOf (F.gives files.now) (F.fails files.now) (C.gives commands.now) explains words.now) (stream (O.contents out.old) (O.contents out.new) (O.has_failed out.new)) (stream (E.contents err.old) (E.contents err.new) (E.has_failed err.new)) result }
+    ensures { HasPrinted (IsAnswerOf (F.gives files.now) (F.fails files.now)
+        (C.gives commands.now) explains words.now)
+        (stream (O.contents out.old) (O.contents out.new) (O.has_failed out.new))
+        (stream (E.contents err.old) (E.contents err.new) (E.has_failed err.new)) result }
 {
     let answer = answer(rt, alloc, words, files, commands, explains);
     show(answer.outcome, &answer.below, out, err)
@@ -57,7 +60,10 @@ pub fn run_alone<F: TextFiles, C: Commands, O: Sink, E: Sink>(
     err: &mut E,
 ) -> Option<Status>
     requires { O.has_failed out.old ≡ false }
-    ensures printed { IfSome result (HasPrinted (IsAnswerOf (F.gives files.now) (F.fails files.now) (C.gives commands.now) explains words.now) (stream (O.contents out.old) (O.contents out.new) (O.has_failed out.new)) (stream (E.contents err.old) (E.contents err.new) (E.has_failed err.new))) }
+    ensures printed { IfSome result (HasPrinted
+        (IsAnswerOf (F.gives files.now) (F.fails files.now) (C.gives commands.now) explains
+        words.now) (stream (O.contents out.old) (O.contents out.new) (O.has_failed out.new))
+        (stream (E.contents err.old) (E.contents err.new) (E.has_failed err.new))) }
     ensures run { IsNone result → AskForRun (map string_bytes words.now.words.items) }
     ensures unwritten { IsNone result → (out.new ≡ out.old) × (err.new ≡ err.old) }
 {
@@ -83,7 +89,8 @@ fn answer<R: Threads + Wait + Sync, F: TextFiles, C: Commands>(
     commands: &C,
     explains: bool,
 ) -> Answered
-    ensures is { IsAnswerOf (F.gives files.now) (F.fails files.now) (C.gives commands.now) explains words.now result.outcome result.below.items }
+    ensures is { IsAnswerOf (F.gives files.now) (F.fails files.now) (C.gives commands.now)
+        explains words.now result.outcome result.below.items }
     ensures unwritten { result.outcome ≢ Err Fault.CannotWrite }
 {
     match answer_alone(alloc, words, files, commands, explains) {
@@ -103,7 +110,8 @@ fn answer_alone<'w, F: TextFiles, C: Commands>(
     commands: &C,
     explains: bool,
 ) -> Result<Answered, Request<'w>>
-    ensures is { IfOk result (λ answer. IsAnswerOf (F.gives files.now) (F.fails files.now) (C.gives commands.now) explains words.now answer.outcome answer.below.items) }
+    ensures is { IfOk result (λ answer. IsAnswerOf (F.gives files.now) (F.fails files.now)
+        (C.gives commands.now) explains words.now answer.outcome answer.below.items) }
     ensures unwritten { IfOk result (λ answer. answer.outcome ≢ Err Fault.CannotWrite) }
     ensures run { IfErr result (IsForRun words.now) }
 {
@@ -151,7 +159,8 @@ fn file_answer<F: TextFiles, C: Commands>(
     wanted: bool,
 ) -> Answered
     requires { runs request ≡ false }
-    ensures is { IsFileAnswer (F.gives files.now) (F.fails files.now) (C.gives commands.now) wanted request.entry result.outcome result.below.items }
+    ensures is { IsFileAnswer (F.gives files.now) (F.fails files.now) (C.gives commands.now)
+        wanted request.entry result.outcome result.below.items }
     ensures unwritten { result.outcome ≢ Err Fault.CannotWrite }
 {
     match read_texts(alloc, request, files) {
@@ -173,7 +182,8 @@ fn run_answer<R: Threads + Wait + Sync, F: TextFiles, C: Commands>(
     wanted: bool,
 ) -> Answered
     requires { runs request ≡ true }
-    ensures is { IsFileAnswer (F.gives files.now) (F.fails files.now) (C.gives commands.now) wanted request.entry result.outcome result.below.items }
+    ensures is { IsFileAnswer (F.gives files.now) (F.fails files.now) (C.gives commands.now)
+        wanted request.entry result.outcome result.below.items }
     ensures unwritten { result.outcome ≢ Err Fault.CannotWrite }
 {
     match read_texts(alloc, request, files) {
@@ -198,8 +208,10 @@ fn read_texts<F: TextFiles>(
     request: Request<'_>,
     files: &F,
 ) -> Result<Texts, ReadFault>
-    ensures text { IfOk result (λ texts. F.gives files.now (name_of request.entry) most_bytes texts.text.items) }
-    ensures trace { IfOk result (λ texts. IsTraceRead (F.gives files.now) (F.fails files.now) request.entry texts.trace) }
+    ensures text { IfOk result (λ texts. F.gives files.now (name_of request.entry) most_bytes
+        texts.text.items) }
+    ensures trace { IfOk result (λ texts. IsTraceRead (F.gives files.now) (F.fails files.now)
+        request.entry texts.trace) }
     ensures err { IfErr result (F.fails files.now (name_of request.entry) most_bytes) }
 {
     let text = files.read(alloc, request.file(), MOST_BYTES)?;
@@ -215,7 +227,9 @@ fn with_below(
     outcome: Result<Output, Fault>,
     wanted: bool,
 ) -> Answered
-    ensures is { IsOutcomeExplained wanted (IsFaultBelow request.entry texts.now.text.items texts.now.trace) outcome result.outcome result.below.items }
+    ensures is { IsOutcomeExplained wanted
+        (IsFaultBelow request.entry texts.now.text.items texts.now.trace) outcome result.outcome
+        result.below.items }
     ensures unwritten { outcome ≢ Err Fault.CannotWrite → result.outcome ≢ Err Fault.CannotWrite }
 {
     match outcome {
@@ -242,7 +256,8 @@ impl From<Explained> for Answered {
 
 // The answer where FILE can't be read.
 fn unread_answer(alloc: Global, request: Request<'_>, why: ReadFault, wanted: bool) -> Answered
-    ensures is { IsOutcomeExplained wanted (λ _. IsUnreadBelow (name_of request.entry) why) (Err (fault_of_reading why)) result.outcome result.below.items }
+    ensures is { IsOutcomeExplained wanted (λ _. IsUnreadBelow (name_of request.entry) why)
+        (Err (fault_of_reading why)) result.outcome result.below.items }
     ensures unwritten { result.outcome ≢ Err Fault.CannotWrite }
 {
     Answered::from(unread_explained(alloc, request.file(), why, wanted))
@@ -267,8 +282,10 @@ fn read_trace<F: TextFiles>(
     traced: Traced<'_>,
     files: &F,
 ) -> Result<Vec<u8>, ReadFault>
-    ensures ok { IfOk result (λ text. IsTraceText (F.gives files.now traced.entry.trace.now most_trace_bytes) traced.entry.cut text.items) }
-    ensures err { IfErr result (IsTraceFault (F.fails files.now traced.entry.trace.now most_trace_bytes) traced.entry.cut) }
+    ensures ok { IfOk result (λ text. IsTraceText
+        (F.gives files.now traced.entry.trace.now most_trace_bytes) traced.entry.cut text.items) }
+    ensures err { IfErr result (IsTraceFault
+        (F.fails files.now traced.entry.trace.now most_trace_bytes) traced.entry.cut) }
 {
     let mut text = files.read(alloc, traced.trace, GREATEST_TRACE + 1)?;
     if traced.cut && text.len() <= GREATEST_TRACE {
@@ -285,7 +302,8 @@ fn fault_explained(
     fault: Fault,
     wanted: bool,
 ) -> Explained
-    ensures { IsExplained wanted (IsFaultBelow request.entry texts.now.text.items texts.now.trace fault) fault result.fault result.below.items }
+    ensures { IsExplained wanted (IsFaultBelow request.entry texts.now.text.items texts.now.trace
+        fault) fault result.fault result.below.items }
 {
     if !wanted {
         return Explained::alone(alloc, fault);
@@ -304,7 +322,8 @@ fn fault_below(
     trace: &Reading,
     fault: &Fault,
 ) -> Result<Vec<u8>, AllocError>
-    ensures { IfOk result (λ below. IsFaultBelow request.entry text.now trace.now fault.now below.items) }
+    ensures { IfOk result (λ below. IsFaultBelow request.entry text.now trace.now fault.now
+        below.items) }
 {
     match fault {
         Fault::Misuse(_) => Ok(Vec::new(alloc)),
@@ -341,7 +360,9 @@ fn refusal_below(
     number: u16,
     line: u32,
 ) -> Result<Vec<u8>, AllocError>
-    ensures { IfOk result (λ below. IsShownBelow (source_of number request.entry text.now trace.now).0 (source_of number request.entry text.now trace.now).1 number line below.items) }
+    ensures { IfOk result (λ below. IsShownBelow
+        (source_of number request.entry text.now trace.now).0
+        (source_of number request.entry text.now trace.now).1 number line below.items) }
 {
     let source = source_of(number, request, text, trace);
     below(alloc, source.name, source.text, number, line)
@@ -349,7 +370,9 @@ fn refusal_below(
 
 // What is wrong with a word that is no press.
 fn press_below(alloc: Global, request: Request<'_>, word: &str) -> Result<Vec<u8>, AllocError>
-    ensures { IfOk result (λ below. (late : Bool) × (IsTrue late ↔ IsLateName request.entry word.now) × (below.items ≡ word_notice word.now (press_sentence late))) }
+    ensures { IfOk result (λ below. (late : Bool)
+        × (IsTrue late ↔ IsLateName request.entry word.now)
+        × (below.items ≡ word_notice word.now (press_sentence late))) }
 {
     let late = is_late_name(request, word);
     word_notice(alloc, word, press_sentence(late))
@@ -373,7 +396,8 @@ fn is_late_name(request: Request<'_>, word: &str) -> bool
 
 /// Why FILE can't be read, with its name below, where that is wanted; `NoMemory` where memory for that is missing.
 pub fn unread_explained(alloc: Global, name: &str, why: ReadFault, wanted: bool) -> Explained
-    ensures { IsExplained wanted (IsUnreadBelow name.now why) (fault_of_reading why) result.fault result.below.items }
+    ensures { IsExplained wanted (IsUnreadBelow name.now why) (fault_of_reading why) result.fault
+        result.below.items }
 {
     if !wanted {
         return Explained::alone(alloc, why.into());

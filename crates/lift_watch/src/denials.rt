@@ -58,7 +58,8 @@ fn put_refresh(
     round: u16,
     denials: &[Denial],
 ) -> Result<(), AllocError>
-    ensures { OnOk result (string_bytes text.new ≡ string_bytes text.old ++ refresh_text all round denials.now) }
+    ensures { OnOk result (string_bytes text.new ≡ string_bytes text.old
+        ++ refresh_text all round denials.now) }
 {
     'denials: for denial in denials {
         put_refresh_denial(text, all, round, *denial)?;
@@ -72,7 +73,8 @@ fn put_refresh_denial(
     round: u16,
     denial: Denial,
 ) -> Result<(), AllocError>
-    ensures { OnOk result (string_bytes text.new ≡ string_bytes text.old ++ refresh_denial_text all round denial) }
+    ensures { OnOk result (string_bytes text.new ≡ string_bytes text.old
+        ++ refresh_denial_text all round denial) }
 {
     if all || !is_end_stop(denial.rule) {
         put_denial(text, "refresh", round, denial)
@@ -97,7 +99,8 @@ fn is_end_stop(rule: Rule) -> bool
 
 // The denials of a commit.
 fn put_denials(text: &mut String, round: u16, denials: &[Denial]) -> Result<(), AllocError>
-    ensures { OnOk result (string_bytes text.new ≡ string_bytes text.old ++ denials_text round denials.now) }
+    ensures { OnOk result (string_bytes text.new ≡ string_bytes text.old
+        ++ denials_text round denials.now) }
 {
     'denials: for denial in denials {
         put_denial(text, "commit", round, *denial)?;
@@ -107,7 +110,8 @@ fn put_denials(text: &mut String, round: u16, denials: &[Denial]) -> Result<(), 
 
 #[tactic(auto, unfolding(crate::specs::Denials::denial_text))]
 fn put_denial(text: &mut String, event: &str, round: u16, denial: Denial) -> Result<(), AllocError>
-    ensures { OnOk result (string_bytes text.new ≡ string_bytes text.old ++ denial_text event.now round denial) }
+    ensures { OnOk result (string_bytes text.new ≡ string_bytes text.old
+        ++ denial_text event.now round denial) }
 {
     let rule = denial.rule;
     write!(text, "round {} {} CAR{}", round, event, denial.car)?;
@@ -120,7 +124,8 @@ fn put_answers(
     task: u8,
     answers: &[Answered],
 ) -> Result<(), AllocError>
-    ensures { OnOk result (string_bytes text.new ≡ string_bytes text.old ++ answers_text round task answers.now) }
+    ensures { OnOk result (string_bytes text.new ≡ string_bytes text.old
+        ++ answers_text round task answers.now) }
 {
     'answers: for answer in answers {
         put_answer(text, round, task, answer.slot, answer.answer)?;
@@ -135,7 +140,8 @@ fn put_answer(
     slot: u8,
     answer: Answer,
 ) -> Result<(), AllocError>
-    ensures { OnOk result (string_bytes text.new ≡ string_bytes text.old ++ answer_text round task slot answer) }
+    ensures { OnOk result (string_bytes text.new ≡ string_bytes text.old
+        ++ answer_text round task slot answer) }
 {
     match answer {
         Answer::Done => Ok(()),
@@ -154,7 +160,8 @@ fn put_undone(
     slot: u8,
     answer: &str,
 ) -> Result<(), AllocError>
-    ensures { OnOk result (string_bytes text.new ≡ string_bytes text.old ++ undone_text round task slot answer.now) }
+    ensures { OnOk result (string_bytes text.new ≡ string_bytes text.old
+        ++ undone_text round task slot answer.now) }
 {
     write!(text, "round {} commit ", round)?;
     put_task(text, task)?;

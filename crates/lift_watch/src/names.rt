@@ -89,7 +89,8 @@ impl CarName {
 
 /// Names in upper case, as the language reads them.
 pub fn upper_names(alloc: Global, names: Words<'_>) -> Result<Vec<String>, AllocError>
-    ensures { IfOk result (λ upper. map string_bytes upper.items ≡ map upper_case (words_of names.entry)) }
+    ensures { IfOk result (λ upper. map string_bytes upper.items
+        ≡ map upper_case (words_of names.entry)) }
 {
     let mut upper = Vec::new(alloc);
     add_upper(alloc, &mut upper, names.front)?;
@@ -98,7 +99,8 @@ pub fn upper_names(alloc: Global, names: Words<'_>) -> Result<Vec<String>, Alloc
 }
 
 fn add_upper(alloc: Global, upper: &mut Vec<String>, names: &[String]) -> Result<(), AllocError>
-    ensures { OnOk result (map string_bytes upper.new.items ≡ map string_bytes upper.old.items ++ map upper_case (map string_bytes names.now)) }
+    ensures { OnOk result (map string_bytes upper.new.items ≡ map string_bytes upper.old.items
+        ++ map upper_case (map string_bytes names.now)) }
 {
     'names: for name in names {
         upper.push(name.to_ascii_uppercase(alloc)?)?;

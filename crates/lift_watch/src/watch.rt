@@ -26,8 +26,10 @@ pub struct Watch<'n> {
 impl<'n> Watch<'n> {
     /// Of these names, which have values in the world. The line of the names is written.
     pub fn of(alloc: Global, world: &World, names: &'n [String]) -> Result<Watch<'n>, Fault>
-        ensures known { IfOk result (λ watch. AreWatched world.now.world (map string_bytes names.now) watch.watched) }
-        ensures header { IfOk result (λ watch. string_bytes watch.text ≡ header_text (map string_bytes names.now)) }
+        ensures known { IfOk result (λ watch. AreWatched world.now.world
+            (map string_bytes names.now) watch.watched) }
+        ensures header { IfOk result (λ watch. string_bytes watch.text
+            ≡ header_text (map string_bytes names.now)) }
         ensures unknown { IfErr result (IsUnnamed world.now.world (map string_bytes names.now)) }
     {
         let watched = watched_of(alloc, world, names)?;
@@ -63,7 +65,8 @@ fn watched_of<'n>(
     world: &World,
     names: &'n [String],
 ) -> Result<Items<Watched<'n>>, Fault>
-    ensures known { IfOk result (λ watched. AreWatched world.now.world (map string_bytes names.now) watched) }
+    ensures known { IfOk result (λ watched. AreWatched world.now.world
+        (map string_bytes names.now) watched) }
     ensures unknown { IfErr result (IsUnnamed world.now.world (map string_bytes names.now)) }
 {
     let mut watched = Items::new(alloc);
@@ -88,7 +91,8 @@ fn header(alloc: Global, names: &[String]) -> Result<String, AllocError>
 }
 
 fn put_names(text: &mut String, names: &[String]) -> Result<(), AllocError>
-    ensures { OnOk result (string_bytes text.new ≡ string_bytes text.old ++ names_text (map string_bytes names.now)) }
+    ensures { OnOk result (string_bytes text.new ≡ string_bytes text.old
+        ++ names_text (map string_bytes names.now)) }
 {
     'names: for name in names {
         text.push_str(",")?;
@@ -104,7 +108,8 @@ fn put_row(
     world: &World,
     watched: &[Watched<'_>],
 ) -> Result<(), AllocError>
-    ensures { OnOk result (string_bytes text.new ≡ string_bytes text.old ++ row_text watched.now round world.now.world) }
+    ensures { OnOk result (string_bytes text.new ≡ string_bytes text.old
+        ++ row_text watched.now round world.now.world) }
 {
     write!(text, "{}", round)?;
     put_values(text, world, watched)?;
@@ -112,7 +117,8 @@ fn put_row(
 }
 
 fn put_values(text: &mut String, world: &World, watched: &[Watched<'_>]) -> Result<(), AllocError>
-    ensures { OnOk result (string_bytes text.new ≡ string_bytes text.old ++ values_text watched.now world.now.world) }
+    ensures { OnOk result (string_bytes text.new ≡ string_bytes text.old
+        ++ values_text watched.now world.now.world) }
 {
     'values: for it in watched {
         put_value(text, value_of(world, *it))?;
