@@ -31,7 +31,7 @@ events-preserved c =
     let v = c.reply_to.new.world.world in (
       log_more c.args.world.now.program.config c.args.world.now.world c.events.world.world v c.args.events.now c.events.index c.events.log c.note.new.log e reply
           (slice_get_read c.args.events.now (length c.args.events.now) c.events.index e refl c.events-test.true c.index-events-index.is) c.events.invariant.0
-          (subst (λ (p : Program). TakesWith p.config c.events.world.world e reply v) c.events.invariant.2 c.in-Ok.ensures.taken) c.in_ok-note.ensures,
-      after_most e reply v c.events.log c.note.new.log c.events.index c.in_ok-note.ensures c.events.invariant.1,
+          (subst (λ (p : Program). TakesWith p.config c.events.world.world e reply v) c.events.invariant.2 c.in-Ok.ensures.taken) c.in_ok-note-in-Ok.ensures,
+      after_most e reply v c.events.log c.note.new.log c.events.index c.in_ok-note-in-Ok.ensures c.events.invariant.1,
       c.reply_to.ensures.same ∙ c.events.invariant.2,
     )
