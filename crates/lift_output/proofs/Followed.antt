@@ -1,7 +1,8 @@
 -- What is followed of a trace that was read.
-use Rattle.std.proofs.Common.{ℕ, Bool, List, Ok, Err}
+use Rattle.std.proofs.Common.{◌≡◌, ℕ, Bool, false, List, Ok, Err, subst, sym}
 use Rattle.il_machine.specs.Scanning.{Program}
 use Rattle.lift_host.specs.declared.request.Following.{Following}
+use Rattle.lift_host.specs.declared.request.Following.TheVariants as following
 use Rattle.lift_host.specs.declared.status.Fault.TheVariants as fault
 use Rattle.lift_output.specs.Outcomes.{IsFollowed, event}
 use Rattle.lift_output.specs.Parts.{AreFollowed}
@@ -21,3 +22,35 @@ followed_is command flag p text events (Err (fault.BadFire word)) reads is = abs
 followed_is command flag p text events (Err (fault.BadName word)) reads is = absurd is
 followed_is command flag p text events (Err (fault.CannotRead cause)) reads is = absurd is
 followed_is command flag p text events (Err fault.CannotWrite) reads is = absurd is
+
+-- `replay` has no flag of its own: what it says is the same with any
+replay_same : (flag : Bool) (p : Program) (events : List TraceEvent) (outcome : Outcome) → AreFollowed following.Replay false p events outcome → AreFollowed following.Replay flag p events outcome
+replay_same flag p events (Ok output) is = is
+replay_same flag p events (Err (fault.Refused number line)) is = is
+replay_same flag p events (Err fault.NoMemory) is = is
+replay_same flag p events (Err (fault.Misuse words)) is = is
+replay_same flag p events (Err (fault.BadPress word)) is = is
+replay_same flag p events (Err fault.TooManyPresses) is = is
+replay_same flag p events (Err (fault.BadFire word)) is = is
+replay_same flag p events (Err (fault.BadName word)) is = is
+replay_same flag p events (Err (fault.CannotRead cause)) is = is
+replay_same flag p events (Err fault.CannotWrite) is = is
+
+pub replay_any : (command : Following) (flag : Bool) (p : Program) (events : List TraceEvent) (outcome : Outcome) → command ≡ following.Replay → AreFollowed following.Replay false p events outcome → AreFollowed command flag p events outcome
+replay_any command flag p events outcome is followed = subst (λ (k : Following). AreFollowed k flag p events outcome) (sym is) (replay_same flag p events outcome followed)
+
+-- `draw` has no flag of its own: what it says is the same with any
+draw_same : (flag : Bool) (p : Program) (events : List TraceEvent) (outcome : Outcome) → AreFollowed following.Draw false p events outcome → AreFollowed following.Draw flag p events outcome
+draw_same flag p events (Ok output) is = is
+draw_same flag p events (Err (fault.Refused number line)) is = is
+draw_same flag p events (Err fault.NoMemory) is = is
+draw_same flag p events (Err (fault.Misuse words)) is = is
+draw_same flag p events (Err (fault.BadPress word)) is = is
+draw_same flag p events (Err fault.TooManyPresses) is = is
+draw_same flag p events (Err (fault.BadFire word)) is = is
+draw_same flag p events (Err (fault.BadName word)) is = is
+draw_same flag p events (Err (fault.CannotRead cause)) is = is
+draw_same flag p events (Err fault.CannotWrite) is = is
+
+pub draw_any : (command : Following) (flag : Bool) (p : Program) (events : List TraceEvent) (outcome : Outcome) → command ≡ following.Draw → AreFollowed following.Draw false p events outcome → AreFollowed command flag p events outcome
+draw_any command flag p events outcome is followed = subst (λ (k : Following). AreFollowed k flag p events outcome) (sym is) (draw_same flag p events outcome followed)

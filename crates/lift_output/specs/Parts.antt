@@ -1,5 +1,5 @@
 -- What parts of a request's outcome are; no public contract but these crate's own functions names them (own rules).
-use Rattle.std.specs.Prelude.{◌≡◌, ◌⊎◌, ℕ, ◌+◌, ◌++◌, List, Option, Ok, Err, string_bytes}
+use Rattle.std.specs.Prelude.{Bool, ◌≡◌, ◌⊎◌, ℕ, ◌+◌, ◌++◌, List, Option, Ok, Err, string_bytes}
 use Rattle.il_machine.specs.Scanning.{Program}
 use Rattle.il_spec.specs.declared.tree.Config.{Config}
 use Rattle.lift_host.specs.declared.press.Press.{Press}
