@@ -1,10 +1,11 @@
 -- What the program gives of its words, by what it gives of the words as they are read.
 use Rattle.std.proofs.Common.{◌≡◌, ◌||◌, ℕ, Bool, List, Option, Some, None, IfSome, map, string_bytes, refl, subst}
 use Rattle.lift_host.specs.declared.files.ReadFault.{ReadFault}
+use Rattle.lift_host.specs.declared.request.Flags.{Flags}
 use Rattle.lift_host.specs.declared.request.Plain.{Plain}
 use Rattle.lift_host.specs.declared.serving.Serving.{Serving}
 use Rattle.lift_host.specs.declared.status.Status.{Status}
-use Rattle.lift_host.specs.Requests.{explains, has_flag, plain_words}
+use Rattle.lift_host.specs.Requests.{explains, flags_of, plain_words}
 use Rattle.lift_host.specs.Servings.{Serves}
 use Rattle.lift_shell.specs.Runs.{AskForRun, Held}
 use Rattle.lift_command.specs.Programs.{AreUntouched, HasAnswered, HasServed, IsPlainAnswer, IsProgramAnswer, IsRunAnswer, IsUnread, Streams, plain, printed, printed_run, served, streams, unread, unread_run}
@@ -19,12 +20,12 @@ never_served words ask serving serves =
     let run = ask.1.are in
     let serve = serves.are in cc
 
-module _ (given : Plain) (words : List (List ℕ)) (are : map string_bytes given.words.items ≡ plain_words words) (says : given.explains ≡ explains words) (flags : given.flag ≡ has_flag words) where
+module _ (given : Plain) (words : List (List ℕ)) (are : map string_bytes given.words.items ≡ plain_words words) (says : given.explains ≡ explains words) (flags : given.flags ≡ flags_of words) where
   -- what holds of the words as they are read
-  pub as_read : (always : Bool) (P : Bool → List (List ℕ) → Bool → Type 0) → P (always || given.explains) (map string_bytes given.words.items) given.flag → P (always || explains words) (plain_words words) (has_flag words)
+  pub as_read : (always : Bool) (P : Bool → List (List ℕ) → Flags → Type 0) → P (always || given.explains) (map string_bytes given.words.items) given.flags → P (always || explains words) (plain_words words) (flags_of words)
   as_read always P is =
-      subst (λ e. P (always || e) (plain_words words) (has_flag words)) says
-      (subst (λ ws. P (always || given.explains) ws (has_flag words)) are (subst (λ f. P (always || given.explains) (map string_bytes given.words.items) f) flags is))
+      subst (λ e. P (always || e) (plain_words words) (flags_of words)) says
+      (subst (λ ws. P (always || given.explains) ws (flags_of words)) are (subst (λ f. P (always || given.explains) (map string_bytes given.words.items) f) flags is))
 
 module _ (reads : List ℕ → ℕ → List ℕ → Type 0) (fails : List ℕ → ℕ → ReadFault → Type 0) where
   -- the command `run` among the others

@@ -7,7 +7,8 @@ use Rattle.lift_host.specs.declared.status.Fault.TheVariants.{NoMemory}
 use Rattle.lift_host.specs.declared.status.Status.{Status}
 use Rattle.lift_host.specs.declared.status.Status.TheVariants as with_status
 use Rattle.lift_host.specs.Messages.{message_of}
-use Rattle.lift_host.specs.Requests.{explains, has_flag, plain_words}
+use Rattle.lift_host.specs.declared.request.Flags.{Flags}
+use Rattle.lift_host.specs.Requests.{explains, flags_of, plain_words}
 use Rattle.lift_host.specs.Servings.{Serves}
 use Rattle.lift_shell.specs.Runs.{HasPrinted, Held, IsAnswer, stream}
 use Rattle.lift_host.specs.declared.sink.Memory.{Memory}
@@ -41,8 +42,8 @@ pub record IsUnread (out err : Held) (ends : Status) : Type 0 where
   pub status : ends ≡ with_status.NoMemory
 
 -- what words as they are read have printed or told, of whatever command but `serve`
-abbrev pub HasAnswered : (List ℕ → ℕ → List ℕ → Type 0) → (List ℕ → ℕ → ReadFault → Type 0) → Bool → List (List ℕ) → Bool → Held → Held → Status → Type 0
-HasAnswered reads fails wanted words flag = HasPrinted (IsAnswer reads fails IsTextOutcome wanted words flag)
+abbrev pub HasAnswered : (List ℕ → ℕ → List ℕ → Type 0) → (List ℕ → ℕ → ReadFault → Type 0) → Bool → List (List ℕ) → Flags → Held → Held → Status → Type 0
+HasAnswered reads fails wanted words flags = HasPrinted (IsAnswer reads fails IsTextOutcome wanted words flags)
 
 -- what serving gives, by its streams
 abbrev pub HasServed : (List ℕ → ℕ → List ℕ → Type 0) → (List ℕ → ℕ → ReadFault → Type 0) → Bool → Serving → Streams → Status → Type 0
@@ -50,19 +51,19 @@ HasServed reads fails wanted serving s ends =
     IsServeAnswer reads fails wanted serving (Consumes s.input s.left) s.out.before s.out.after s.out.failed s.before s.after (Writes s.err.before s.err.after s.err.failed) (s.err.after ≡ s.err.before) ends
 
 -- Words as they are read ask to serve, and the group was served; or they don't, and the input and the trace are untouched.
-pub data IsPlainAnswer (reads : List ℕ → ℕ → List ℕ → Type 0) (fails : List ℕ → ℕ → ReadFault → Type 0) (wanted : Bool) (words : List (List ℕ)) (flag : Bool) (s : Streams) (ends : Status) : Type 0 where
-  served : (serving : Serving) → Serves words serving → HasServed reads fails wanted serving s ends → IsPlainAnswer reads fails wanted words flag s ends
-  printed : ((serving : Serving) → Serves words serving → ⊥) → HasAnswered reads fails wanted words flag s.out s.err ends → AreUntouched s → IsPlainAnswer reads fails wanted words flag s ends
+pub data IsPlainAnswer (reads : List ℕ → ℕ → List ℕ → Type 0) (fails : List ℕ → ℕ → ReadFault → Type 0) (wanted : Bool) (words : List (List ℕ)) (flags : Flags) (s : Streams) (ends : Status) : Type 0 where
+  served : (serving : Serving) → Serves words serving → HasServed reads fails wanted serving s ends → IsPlainAnswer reads fails wanted words flags s ends
+  printed : ((serving : Serving) → Serves words serving → ⊥) → HasAnswered reads fails wanted words flags s.out s.err ends → AreUntouched s → IsPlainAnswer reads fails wanted words flags s ends
 
 -- The words as they are read have that answer, explained where `--explain` stands among them, or always. Memory for them may be missing.
 pub data IsProgramAnswer (reads : List ℕ → ℕ → List ℕ → Type 0) (fails : List ℕ → ℕ → ReadFault → Type 0) (always : Bool) (words : List (List ℕ)) (s : Streams) (ends : Status) : Type 0 where
   unread : IsUnread s.out s.err ends → AreUntouched s → IsProgramAnswer reads fails always words s ends
-  plain : IsPlainAnswer reads fails (always || explains words) (plain_words words) (has_flag words) s ends → IsProgramAnswer reads fails always words s ends
+  plain : IsPlainAnswer reads fails (always || explains words) (plain_words words) (flags_of words) s ends → IsProgramAnswer reads fails always words s ends
 
 -- what the command `run` gives of its words
 pub data IsRunAnswer (reads : List ℕ → ℕ → List ℕ → Type 0) (fails : List ℕ → ℕ → ReadFault → Type 0) (always : Bool) (words : List (List ℕ)) (out err : Held) (ends : Status) : Type 0 where
   unread_run : IsUnread out err ends → IsRunAnswer reads fails always words out err ends
-  printed_run : HasAnswered reads fails (always || explains words) (plain_words words) (has_flag words) out err ends → IsRunAnswer reads fails always words out err ends
+  printed_run : HasAnswered reads fails (always || explains words) (plain_words words) (flags_of words) out err ends → IsRunAnswer reads fails always words out err ends
 
 -- a sink in memory that was new
 abbrev pub taken_by : Memory → Held

@@ -82,7 +82,7 @@ fn plain_alone<F: TextFiles, T: TraceSink, I: Read, O: Sink, E: Sink>(
     err: &mut E,
 ) -> Option<Status>
     requires { O.has_failed out.old ≡ false }
-    ensures answered { IfSome result (IsPlainAnswer (F.gives files.now) (F.fails files.now) (explains || words.now.explains) (map string_bytes words.now.words.items) words.now.flag (streams (I.remaining input.old) (I.remaining input.new) (stream (O.contents out.old) (O.contents out.new) (O.has_failed out.new)) (stream (E.contents err.old) (E.contents err.new) (E.has_failed err.new)) (T.contents trace.old) (T.contents trace.new))) }
+    ensures answered { IfSome result (IsPlainAnswer (F.gives files.now) (F.fails files.now) (explains || words.now.explains) (map string_bytes words.now.words.items) words.now.flags (streams (I.remaining input.old) (I.remaining input.new) (stream (O.contents out.old) (O.contents out.new) (O.has_failed out.new)) (stream (E.contents err.old) (E.contents err.new) (E.has_failed err.new)) (T.contents trace.old) (T.contents trace.new))) }
     ensures run { IsNone result → AskForRun (map string_bytes words.now.words.items) }
     ensures unread { IsNone result → (input.new ≡ input.old) × (trace.new ≡ trace.old) }
     ensures unwritten { IsNone result → (out.new ≡ out.old) × (err.new ≡ err.old) }

@@ -262,6 +262,24 @@ fn draw_command<'a>(alloc: Global) -> Result<Command<'a>, AllocError> {
     )
 }
 
+// The flag `--summary`.
+fn summary<'a>(alloc: Global) -> Arg<'a> {
+    Arg::new(alloc, "summary")
+        .long("summary")
+        .action(ArgAction::SetTrue)
+        .help("Shows how many calls there are, and how long they wait and take, in seconds")
+}
+
+// The command that shows the calls.
+fn calls_command<'a>(alloc: Global) -> Result<Command<'a>, AllocError> {
+    trace_command(
+        alloc,
+        "calls",
+        "Replays a trace on FILE and prints its calls, from press to service, as CSV",
+    )?
+    .arg(summary(alloc))
+}
+
 // A command that takes FILE and TRACE.
 fn trace_command<'a>(
     alloc: Global,
@@ -374,6 +392,7 @@ fn add_trace_commands<'a>(
 ) -> Result<(), AllocError> {
     add(commands, replay_command(alloc))?;
     add(commands, draw_command(alloc))?;
+    add(commands, calls_command(alloc))?;
     add_last_commands(alloc, commands)
 }
 

@@ -3,6 +3,7 @@ use Rattle.std.specs.Prelude.{◌≡◌, ◌⊎◌, ◌≤◌, ◌<◌, ℕ, Boo
 use Rattle.std.specs.Int.{IsInRange}
 use Rattle.std.specs.List.{list_any}
 use Rattle.std.specs.Str.Parse.{digits_value}
+use Rattle.lift_host.specs.declared.request.Flags.{Flags}
 use Rattle.lift_host.specs.declared.request.Name.{Name}
 use Rattle.lift_host.specs.declared.request.Name.TheVariants as name
 use Rattle.lift_host.specs.declared.request.Following.TheVariants as following
@@ -45,6 +46,7 @@ word_of (name.Rounds simulating.Denials) = codes "denials"
 word_of (name.Rounds simulating.Watch) = codes "watch"
 word_of (name.Trace following.Replay) = codes "replay"
 word_of (name.Trace following.Draw) = codes "draw"
+word_of (name.Trace following.Calls) = codes "calls"
 
 -- the command of a request
 abbrev pub command_of : Request → Name
@@ -150,18 +152,28 @@ pub record Asks (words : List (List ℕ)) (request : Request) : Type 0 where
 
 -- WORDS AS THEY ARE READ
 
--- the flag of a command's own: `--all` of `denials`, `--together` of `run`, `--cut` of `replay` and `draw`
+-- the flag of a command's own: `--all` of `denials`, `--together` of `run`, `--summary` of `calls`
 abbrev pub flag_of : List ℕ → Option (List ℕ)
 flag_of command =
     if bytes_eq command (codes "denials") then Some (codes "--all")
     else if bytes_eq command (codes "run") then Some (codes "--together")
-    else if bytes_eq command (codes "replay") || bytes_eq command (codes "draw") then Some (codes "--cut")
+    else if bytes_eq command (codes "calls") then Some (codes "--summary")
     else None
+
+-- `--cut` of a command over a trace
+abbrev pub cut_of : List ℕ → Option (List ℕ)
+cut_of command =
+    if bytes_eq command (codes "replay") || bytes_eq command (codes "draw") || bytes_eq command (codes "calls") then Some (codes "--cut") else None
 
 -- the flag of the command of words: this is the first word but `--explain`
 abbrev pub own_flag : List (List ℕ) → Option (List ℕ)
 own_flag [] = None
 own_flag (word ∷ words) = if bytes_eq word (codes "--explain") then own_flag words else flag_of word
+
+-- its `--cut`
+abbrev pub own_cut : List (List ℕ) → Option (List ℕ)
+own_cut [] = None
+own_cut (word ∷ words) = if bytes_eq word (codes "--explain") then own_cut words else cut_of word
 
 -- whether `--explain` is among words
 abbrev pub explains : List (List ℕ) → Bool
@@ -176,9 +188,9 @@ is_flag (Some flag) word = bytes_eq word flag
 abbrev pub names_flag : Option (List ℕ) → List (List ℕ) → Bool
 names_flag flag words = list_any (is_flag flag) words
 
--- whether the flag of their command is
-abbrev pub has_flag : List (List ℕ) → Bool
-has_flag words = names_flag (own_flag words) words
+-- which flags of their command are
+abbrev pub flags_of : List (List ℕ) → Flags
+flags_of words = record { own = names_flag (own_flag words) words; cut = names_flag (own_cut words) words }
 
 -- a word, or for `--fire=ROUND` and `--trace=TRACE` two
 abbrev pub cut_word : List ℕ → List (List ℕ)
@@ -187,17 +199,17 @@ cut_word word =
     else if bytes_eq (take 8 word) (codes "--trace=") then codes "--trace" ∷ drop 8 word ∷ []
     else word ∷ []
 
--- the words in place of a word: none for `--explain`, and none for the flag of the command
-abbrev pub plain_word : Option (List ℕ) → List ℕ → List (List ℕ)
-plain_word flag word = if bytes_eq word (codes "--explain") || is_flag flag word then [] else cut_word word
+-- the words in place of a word: none for `--explain`, and none for a flag of the command
+abbrev pub plain_word : Option (List ℕ) → Option (List ℕ) → List ℕ → List (List ℕ)
+plain_word own cut word = if bytes_eq word (codes "--explain") || is_flag own word || is_flag cut word then [] else cut_word word
 
 -- the words as they are read
 abbrev pub plain_words : List (List ℕ) → List (List ℕ)
-plain_words words = flat_map (plain_word (own_flag words)) words
+plain_words words = flat_map (plain_word (own_flag words) (own_cut words)) words
 
--- a request whose command's flag stands among the words, or not
-abbrev pub with_flag : Bool → Request → Request
-with_flag flag (request.Check checked) = request.Check checked
-with_flag flag (request.Show command file) = request.Show command file
-with_flag flag (request.Rounds command rounds) = request.Rounds command (record rounds { flag = flag })
-with_flag flag (request.Trace command traced) = request.Trace command (record traced { cut = flag })
+-- a request with the flags of its command that stand among the words
+abbrev pub with_flags : Flags → Request → Request
+with_flags flags (request.Check checked) = request.Check checked
+with_flags flags (request.Show command file) = request.Show command file
+with_flags flags (request.Rounds command rounds) = request.Rounds command (record rounds { flag = flags.own })
+with_flags flags (request.Trace command traced) = request.Trace command (record traced { flag = flags.own; cut = flags.cut })

@@ -1,7 +1,7 @@
 // What the words ask for.
 
 ghost use Rattle.std.specs.Prelude.{◌≡◌, ◌≤◌, ◌<◌, ◌∷◌, ◌++◌, ◌↔◌, [], ℕ, Bool, List, Option, Some, true, false, IfSome, IfOk, IsNone, IsTrue, MatchOption, OnOk, codes, bytes_eq, flat_map, length, map, option_map, slice_get, string_bytes};
-ghost use Rattle.lift_host.specs.Requests.{IsNumberTo, IsDigits, IsOption, AreNoOptions, LeaveOut, IsApart, IsFile, IsFileBeside, IsFileWith, AreFiles, GiveRounds, Takes, Asks, BeginsWithDigit, BeginWithName, NeedsName, AreNamesFirst, plain_words, plain_word, cut_word, flag_of, own_flag, is_flag, explains, names_flag, has_flag, with_flag, command_of, name_of, word_of, words_of};
+ghost use Rattle.lift_host.specs.Requests.{IsNumberTo, IsDigits, IsOption, AreNoOptions, LeaveOut, IsApart, IsFile, IsFileBeside, IsFileWith, AreFiles, GiveRounds, Takes, Asks, BeginsWithDigit, BeginWithName, NeedsName, AreNamesFirst, plain_words, plain_word, cut_word, flag_of, cut_of, own_flag, own_cut, is_flag, explains, names_flag, flags_of, with_flags, command_of, name_of, word_of, words_of};
 ghost use Rattle.lift_host.specs.declared.request.Name.{Name};
 ghost use Rattle.lift_host.specs.declared.request.Request.{Request};
 ghost use Rattle.lift_host.specs.declared.request.Rounds.{Rounds};
@@ -29,7 +29,10 @@ const ALL: &str = "--all";
 // The flag of `run` that has a round end for all before the next begins.
 const TOGETHER: &str = "--together";
 
-// The flag of `replay` and `draw` that has them take a trace up to its last whole line.
+// The flag of `calls` that has it print a summary.
+const SUMMARY: &str = "--summary";
+
+// The flag of the commands over a trace that has them take it up to its last whole line.
 const CUT: &str = "--cut";
 
 // The option of every command that has a refusal of a text shown with the text's line and the number's meaning.
@@ -67,6 +70,8 @@ pub enum Following {
     Replay,
     /// A picture of it.
     Draw,
+    /// The calls that it enters, each from its press to its service.
+    Calls,
 }
 
 /// The name of a command.
@@ -115,6 +120,8 @@ pub struct Rounds<'w> {
 pub struct Traced<'w> {
     pub file: &'w str,
     pub trace: &'w str,
+    /// Whether the command's own flag stands among the words: `calls` is to print a summary.
+    pub flag: bool,
     /// Whether the trace may be cut off, and is taken up to its last whole line.
     pub cut: bool,
 }
@@ -145,6 +152,7 @@ impl Name {
             "watch" => Some(Name::Rounds(Simulating::Watch)),
             "replay" => Some(Name::Trace(Following::Replay)),
             "draw" => Some(Name::Trace(Following::Draw)),
+            "calls" => Some(Name::Trace(Following::Calls)),
             _ => None,
         }
     }
@@ -223,19 +231,27 @@ impl<'w> Words<'w> {
 }
 
 impl<'w> Request<'w> {
-    /// The same, with the flag of its command's own or without: `denials` is to show all, the rounds of `run` are to be together, a trace may be cut off.
-    pub fn with_flag(self, flag: bool) -> Request<'w>
-        ensures { result ≡ with_flag flag self.entry }
+    /// The same, with the flags of its command or without: `denials` is to show all, the rounds of `run` are to be together, `calls` is to print a
+    /// summary; a trace may be cut off.
+    pub fn with_flags(self, flags: Flags) -> Request<'w>
+        ensures { result ≡ with_flags flags self.entry }
     {
         match self {
             Request::Rounds(command, rounds) => {
-                Request::Rounds(command, Rounds { flag, ..rounds })
+                Request::Rounds(
+                    command,
+                    Rounds {
+                        flag: flags.own,
+                        ..rounds
+                    },
+                )
             }
             Request::Trace(command, traced) => {
                 Request::Trace(
                     command,
                     Traced {
-                        cut: flag,
+                        flag: flags.own,
+                        cut: flags.cut,
                         ..traced
                     },
                 )
@@ -392,6 +408,7 @@ fn trace_given(rest: &[String]) -> Option<Traced<'_>>
         [file, trace] if !is_option(file) && !is_option(trace) => Some(Traced {
             file,
             trace,
+            flag: false,
             cut: false,
         }),
         _ => None,
@@ -573,28 +590,41 @@ fn is_explain(word: &str) -> bool
     word == EXPLAIN
 }
 
+/// Which flags of a command stand among its words.
+#[derive(Clone, Copy)]
+pub struct Flags {
+    /// That of the command's own: `--all` of `denials`, `--together` of `run`, `--summary` of `calls`.
+    pub own: bool,
+    /// `--cut` of `replay`, `draw` and `calls`.
+    pub cut: bool,
+}
+
 /// The words of a command line as they are read, and the flags that may stand anywhere among them.
 #[derive(Drop)]
 pub struct Plain {
-    /// The words without `--explain` and the flag of their command; for `--fire=ROUND` and `--trace=TRACE` stand two words.
+    /// The words without `--explain` and the flags of their command; for `--fire=ROUND` and `--trace=TRACE` stand two words.
     pub words: Vec<String>,
     /// Whether `--explain` was among them.
     pub explains: bool,
-    /// Whether the flag of their command was: `--all` of `denials`, `--together` of `run`, `--cut` of `replay` and `draw`.
-    pub flag: bool,
+    /// Which flags of their command were.
+    pub flags: Flags,
 }
 
 /// Words as they are read.
 pub fn read_words(alloc: Global, words: &[String]) -> Result<Plain, AllocError>
     ensures words { IfOk result (λ plain. map string_bytes plain.words.items ≡ plain_words (map string_bytes words.now)) }
     ensures explains { IfOk result (λ plain. plain.explains ≡ explains (map string_bytes words.now)) }
-    ensures flag { IfOk result (λ plain. plain.flag ≡ has_flag (map string_bytes words.now)) }
+    ensures flags { IfOk result (λ plain. plain.flags ≡ flags_of (map string_bytes words.now)) }
 {
-    let flag = own_flag(words);
+    let own = own_flag(words);
+    let cut = own_cut(words);
     Ok(Plain {
-        words: plain_words(alloc, words, flag)?,
+        words: plain_words(alloc, words, own, cut)?,
         explains: explains(words),
-        flag: names_flag(flag, words),
+        flags: Flags {
+            own: names_flag(own, words),
+            cut: names_flag(cut, words),
+        },
     })
 }
 
@@ -610,6 +640,18 @@ fn own_flag(words: &[String]) -> Option<&'static str>
     None
 }
 
+// `--cut`, where the words' command takes it.
+fn own_cut(words: &[String]) -> Option<&'static str>
+    ensures { option_map (λ flag. flag.now) result ≡ own_cut (map string_bytes words.now) }
+{
+    'words: for word in words {
+        if !is_explain(word) {
+            return cut_of(word);
+        }
+    }
+    None
+}
+
 // The flag of a command's own.
 fn flag_of(command: &str) -> Option<&'static str>
     ensures { option_map (λ flag. flag.now) result ≡ flag_of command.now }
@@ -617,7 +659,17 @@ fn flag_of(command: &str) -> Option<&'static str>
     match command {
         "denials" => Some(ALL),
         "run" => Some(TOGETHER),
-        "replay" | "draw" => Some(CUT),
+        "calls" => Some(SUMMARY),
+        _ => None,
+    }
+}
+
+// `--cut`, where a command takes it.
+fn cut_of(command: &str) -> Option<&'static str>
+    ensures { option_map (λ flag. flag.now) result ≡ cut_of command.now }
+{
+    match command {
+        "replay" | "draw" | "calls" => Some(CUT),
         _ => None,
     }
 }
@@ -660,13 +712,14 @@ fn names_flag(flag: Option<&str>, words: &[String]) -> bool
 fn plain_words(
     alloc: Global,
     words: &[String],
-    flag: Option<&str>,
+    own: Option<&str>,
+    cut: Option<&str>,
 ) -> Result<Vec<String>, AllocError>
-    ensures { IfOk result (λ plain. map string_bytes plain.items ≡ flat_map (plain_word (option_map (λ flag. flag.now) flag.entry)) (map string_bytes words.now)) }
+    ensures { IfOk result (λ plain. map string_bytes plain.items ≡ flat_map (plain_word (option_map (λ flag. flag.now) own.entry) (option_map (λ flag. flag.now) cut.entry)) (map string_bytes words.now)) }
 {
     let mut plain = Vec::new(alloc);
     'words: for word in words {
-        add_plain(alloc, &mut plain, word, flag)?;
+        add_plain(alloc, &mut plain, word, own, cut)?;
     }
     Ok(plain)
 }
@@ -676,11 +729,12 @@ fn add_plain(
     alloc: Global,
     plain: &mut Vec<String>,
     word: &str,
-    flag: Option<&str>,
+    own: Option<&str>,
+    cut: Option<&str>,
 ) -> Result<(), AllocError>
-    ensures { OnOk result (map string_bytes plain.new.items ≡ map string_bytes plain.old.items ++ plain_word (option_map (λ flag. flag.now) flag.entry) word.now) }
+    ensures { OnOk result (map string_bytes plain.new.items ≡ map string_bytes plain.old.items ++ plain_word (option_map (λ flag. flag.now) own.entry) (option_map (λ flag. flag.now) cut.entry) word.now) }
 {
-    if is_explain(word) || is_flag(flag, word) {
+    if is_explain(word) || is_flag(own, word) || is_flag(cut, word) {
         return Ok(());
     }
     add_word(alloc, plain, word)

@@ -22,6 +22,9 @@ use Rattle.lift_host.specs.Presses.{ArePresses, HasNoPress}
 use Rattle.lift_host.specs.declared.request.Words.{Words}
 use Rattle.lift_host.specs.Requests.{AreNamesFirst, IsNumberTo, words_of}
 use Rattle.lift_journal.specs.Rounds.{TakesAll, IsRefusedAt, is_fire_in}
+use Rattle.lift_journeys.specs.declared.log.Log.{Log}
+use Rattle.lift_journeys.specs.Lines.{lines_text}
+use Rattle.lift_journeys.specs.Summaries.{IsSummaryOf}
 use Rattle.lift_output.specs.ImageText.{image_text}
 use Rattle.lift_output.specs.Listing.{listing}
 use Rattle.lift_runs.specs.Driven.{IsSimulated}
@@ -39,6 +42,7 @@ use Rattle.lift_trace.specs.Written.{text_of_entries}
 use Rattle.il_reports.specs.Warnings.{warnings_text}
 use Rattle.il_reports.specs.Xref.{xref_text}
 use Rattle.lift_watch.specs.declared.names.Watched.{Watched}
+use Rattle.lift_watch.specs.Calls.{IsLogOf}
 use Rattle.lift_watch.specs.Denials.{denied}
 use Rattle.lift_watch.specs.Names.{upper_case}
 use Rattle.lift_watch.specs.Values.{AreWatched, IsUnknown, header_text, watching}
@@ -213,18 +217,31 @@ IsWatchOutcome program asked (Err why) = IsUnwatched program asked why
 
 -- TRACES
 
--- what a command says of a world behind a trace: `replay` prints its image, `draw` some picture
-abbrev pub Says : Following → Program → World → List ℕ → Type 0
-Says following.Replay program after text = text ≡ image_text program.config after
-Says following.Draw program after text = Unit {0}
+-- what is printed of what is known of calls: a line of each, or a summary
+abbrev pub IsCallsText : Bool → Log → List ℕ → Type 0
+IsCallsText false log text = text ≡ lines_text log.journeys
+IsCallsText true log text = IsSummaryOf log.pressed log.journeys text
 
--- it says so of the world behind a trace's events, from the opening of the program
-pub record IsSaidAfter (command : Following) (program : Program) (trace text : List ℕ) : Type 0 where
+-- the text of the calls of a trace's events, from the opening of a configuration
+pub record IsTextOfCalls (c : Config) (summary : Bool) (events : List TraceEvent) (after : World) (text : List ℕ) : Type 0 where
+  pub log : Log
+  pub known : IsLogOf c (opening c) events after log
+  pub is : IsCallsText summary log text
+
+-- what a command, with its flag or without, says of a trace's events and the world behind them: `replay` prints the image, `draw` some picture, and
+-- `calls` the calls, or with its flag a summary of them
+abbrev pub Says : Following → Bool → Program → List TraceEvent → World → List ℕ → Type 0
+Says following.Replay flag program events after text = text ≡ image_text program.config after
+Says following.Draw flag program events after text = Unit {0}
+Says following.Calls flag program events after text = IsTextOfCalls program.config flag events after text
+
+-- it says so of a trace's events, from the opening of the program
+pub record IsSaidAfter (command : Following) (flag : Bool) (program : Program) (trace text : List ℕ) : Type 0 where
   pub events : List TraceEvent
   pub reads : Reads (sizes_of program.config).cars trace (Ok events)
   pub after : World
   pub taken : TakesAll program.config (opening program.config) events after
-  pub is : Says command program after text
+  pub is : Says command flag program events after text
 
 -- an event of the trace is refused, with this number, at its line: the first event stands in line 2
 pub record IsEventRefused (program : Program) (trace : List ℕ) (number line : ℕ) : Type 0 where
@@ -243,16 +260,16 @@ pub data IsTraceRefused (program : Program) (trace : List ℕ) (number line : �
   event : IsEventRefused program trace number line → IsTraceRefused program trace number line
 
 -- A command over a trace says what stands behind its events, or what is wrong with it. Memory may be missing.
-abbrev pub IsFollowed : Following → Program → List ℕ → Outcome → Type 0
-IsFollowed command program trace (Ok output) = IsSaidAfter command program trace (bytes_of output)
-IsFollowed command program trace (Err (fault.Refused number line)) = IsTraceRefused program trace number line
-IsFollowed command program trace (Err fault.NoMemory) = Unit {0}
-IsFollowed command program trace (Err _) = ⊥
+abbrev pub IsFollowed : Following → Bool → Program → List ℕ → Outcome → Type 0
+IsFollowed command flag program trace (Ok output) = IsSaidAfter command flag program trace (bytes_of output)
+IsFollowed command flag program trace (Err (fault.Refused number line)) = IsTraceRefused program trace number line
+IsFollowed command flag program trace (Err fault.NoMemory) = Unit {0}
+IsFollowed command flag program trace (Err _) = ⊥
 
 -- what was read of a trace is followed, or reading failed
-abbrev pub IsTraceOutcome : Following → Program → Reading → Outcome → Type 0
-IsTraceOutcome command program (Text text) outcome = IsFollowed command program text.items outcome
-IsTraceOutcome command program (Failed why) outcome = outcome ≡ Err (fault_of_reading why)
+abbrev pub IsTraceOutcome : Following → Bool → Program → Reading → Outcome → Type 0
+IsTraceOutcome command flag program (Text text) outcome = IsFollowed command flag program text.items outcome
+IsTraceOutcome command flag program (Failed why) outcome = outcome ≡ Err (fault_of_reading why)
 
 -- REQUESTS
 
@@ -268,4 +285,4 @@ abbrev pub IsProgramOutcome : Request → Program → Reading → Outcome → Ty
 IsProgramOutcome (request.Check checked) program trace outcome = IsCheckOutcome program outcome
 IsProgramOutcome (request.Show command file) program trace outcome = IsShowOutcome command program outcome
 IsProgramOutcome (request.Rounds command asked) program trace outcome = IsRoundsOutcome command program asked outcome
-IsProgramOutcome (request.Trace command traced) program trace outcome = IsTraceOutcome command program trace outcome
+IsProgramOutcome (request.Trace command traced) program trace outcome = IsTraceOutcome command traced.flag program trace outcome

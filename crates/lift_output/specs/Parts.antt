@@ -35,11 +35,11 @@ IsTraceUnread cars text fault.NoMemory = Unit {0}
 IsTraceUnread cars text _ = ⊥
 
 -- events are followed from the opening
-abbrev pub AreFollowed : Following → Program → List TraceEvent → Outcome → Type 0
-AreFollowed command program events (Ok output) = (after : World) × TakesAll program.config (opening program.config) events after × Says command program after (bytes_of output)
-AreFollowed command program events (Err (fault.Refused number line)) = (index : ℕ) × (why : EventFault) × IsRefusedAt program.config (opening program.config) events index why × (number ≡ event_fault_number why) × (line ≡ index + 2)
-AreFollowed command program events (Err fault.NoMemory) = Unit {0}
-AreFollowed command program events (Err _) = ⊥
+abbrev pub AreFollowed : Following → Bool → Program → List TraceEvent → Outcome → Type 0
+AreFollowed command flag program events (Ok output) = (after : World) × TakesAll program.config (opening program.config) events after × Says command flag program events after (bytes_of output)
+AreFollowed command flag program events (Err (fault.Refused number line)) = (index : ℕ) × (why : EventFault) × IsRefusedAt program.config (opening program.config) events index why × (number ≡ event_fault_number why) × (line ≡ index + 2)
+AreFollowed command flag program events (Err fault.NoMemory) = Unit {0}
+AreFollowed command flag program events (Err _) = ⊥
 
 -- names are watched in so many rounds from the opening, or one of them has no value
 abbrev pub IsWatched : Config → List (List ℕ) → List Press → Option ℕ → ℕ → Outcome → Type 0

@@ -4,7 +4,7 @@ ghost use Rattle.std.specs.Prelude.{◌≡◌, ◌≢◌, ◌≤◌, ◌+◌, �
 ghost use Rattle.lift_spec.specs.Image.{sizes_of};
 ghost use Rattle.lift_spec.specs.World.{opening};
 ghost use Rattle.lift_trace.specs.Reading.{Reads, greatest_trace};
-ghost use Rattle.lift_output.specs.Outcomes.{IsCheckOutcome, IsShowOutcome, HasWarnings, asked_warnings, wanted_warnings, IsFire, IsNoFire, AreDriven, IsUndriven, IsSimOutcome, IsRunOutcome, IsDenialsOutcome, IsWatchOutcome, IsRoundsOutcome, IsFollowed, IsTraceOutcome, IsProgramOutcome};
+ghost use Rattle.lift_output.specs.Outcomes.{IsCheckOutcome, IsShowOutcome, HasWarnings, asked_warnings, wanted_warnings, IsFire, IsNoFire, AreDriven, IsUndriven, IsSimOutcome, IsRunOutcome, IsDenialsOutcome, IsWatchOutcome, IsRoundsOutcome, IsCallsText, IsFollowed, IsTraceOutcome, IsProgramOutcome};
 ghost use Rattle.lift_output.specs.Parts.{fault_of_trace, IsTraceUnread, AreFollowed, IsWatched};
 ghost use Rattle.lift_runs.specs.Driven.{ArePressed};
 ghost use Rattle.lift_host.specs.Requests.{command_of, words_of};
@@ -23,12 +23,17 @@ use lift_host::files::Reading;
 use lift_host::press::{Press, fire_round, presses};
 use lift_host::request::{Following, Name, Named, Request, Rounds, Showing, Simulating, Words};
 use lift_host::status::Fault;
+use lift_journeys::lines::lines_text;
+use lift_journeys::log::Log;
+use lift_journeys::summary::summary_text;
 use lift_messages::output::{Output, Warned};
+use lift_runs::along;
 use lift_runs::replay::{Refused, replay};
 use lift_runs::sim::{Drive, simulate, simulate_before, simulate_on};
 use lift_spec::trace::TraceEvent;
 use lift_trace::fault::TraceFault;
 use lift_trace::read::read_trace;
+use lift_watch::calls::call_log;
 use lift_watch::denials::Denials;
 use lift_watch::names::upper_names;
 use lift_watch::watch::Watch;
@@ -37,7 +42,7 @@ use lift_workers::gate::{Open, Together};
 use lift_workers::run::{Plan, Ran, run};
 use lift_world::World;
 use lists::Items;
-use std::alloc::Global;
+use std::alloc::{AllocError, Global};
 use std::sync::Wait;
 use std::thread::Threads;
 
@@ -57,7 +62,13 @@ pub fn outcome(
         Request::Check(asked) => checked(alloc, verified, asked.warns),
         Request::Show(command, _) => shown(alloc, verified, command),
         Request::Rounds(command, asked) => rounds_outcome(alloc, verified, command, asked),
-        Request::Trace(command, _) => trace_outcome(alloc, verified, command, trace),
+        Request::Trace(command, traced) => trace_outcome(
+            alloc,
+            verified,
+            command,
+            traced.flag,
+            trace,
+        ),
     }
 }
 
@@ -342,16 +353,18 @@ fn said_after(
     alloc: Global,
     world: &mut World,
     command: Following,
+    flag: bool,
     events: &[TraceEvent],
 ) -> Result<Output, Fault>
     requires opening { world.old.world ≡ opening world.old.program.config }
     requires few { length events.now ≤ greatest_trace }
-    ensures is { AreFollowed command world.old.program events.now result }
+    ensures is { AreFollowed command flag world.old.program events.now result }
     ensures warned { HasWarnings None result }
 {
     match command {
         Following::Replay => image_after(alloc, world, events),
         Following::Draw => picture_of(alloc, world, events),
+        Following::Calls => calls_of(alloc, world, events, flag),
     }
 }
 
@@ -359,7 +372,7 @@ fn said_after(
 fn image_after(alloc: Global, world: &mut World, events: &[TraceEvent]) -> Result<Output, Fault>
     requires opening { world.old.world ≡ opening world.old.program.config }
     requires few { length events.now ≤ greatest_trace }
-    ensures is { AreFollowed Following.Replay world.old.program events.now result }
+    ensures is { AreFollowed Following.Replay false world.old.program events.now result }
     ensures warned { HasWarnings None result }
 {
     match replay(world, events) {
@@ -372,13 +385,44 @@ fn image_after(alloc: Global, world: &mut World, events: &[TraceEvent]) -> Resul
 fn picture_of(alloc: Global, world: &mut World, events: &[TraceEvent]) -> Result<Output, Fault>
     requires opening { world.old.world ≡ opening world.old.program.config }
     requires few { length events.now ≤ greatest_trace }
-    ensures is { AreFollowed Following.Draw world.old.program events.now result }
+    ensures is { AreFollowed Following.Draw false world.old.program events.now result }
     ensures warned { HasWarnings None result }
 {
     match drawing(alloc, world, events) {
         Ok(picture) => Ok(Output::Text(picture)),
         Err(Stop::Refused(refused)) => Err(fault_of_event(refused)),
         Err(Stop::Memory) => Err(Fault::NoMemory),
+    }
+}
+
+// The calls of events in a world that opens: a line of each, or a summary.
+fn calls_of(
+    alloc: Global,
+    world: &mut World,
+    events: &[TraceEvent],
+    summary: bool,
+) -> Result<Output, Fault>
+    requires opening { world.old.world ≡ opening world.old.program.config }
+    requires few { length events.now ≤ greatest_trace }
+    ensures is { AreFollowed Following.Calls summary world.old.program events.now result }
+    ensures warned { HasWarnings None result }
+{
+    match call_log(alloc, world, events) {
+        Ok(log) => Ok(Output::Text(calls_text(alloc, &log, summary)?)),
+        Err(along::Stop::Refused(refused)) => Err(fault_of_event(refused)),
+        Err(along::Stop::Memory) => Err(Fault::NoMemory),
+    }
+}
+
+// What is printed of what is known of calls.
+fn calls_text(alloc: Global, log: &Log, summary: bool) -> Result<String, AllocError>
+    ensures { IfOk result (λ text. IsCallsText summary log.now (string_bytes text)) }
+{
+    let journeys = log.journeys.as_slice();
+    if summary {
+        summary_text(alloc, log.pressed, journeys)
+    } else {
+        lines_text(alloc, journeys)
     }
 }
 
@@ -398,13 +442,14 @@ fn followed_text(
     alloc: Global,
     verified: Verified,
     command: Following,
+    flag: bool,
     text: &[u8],
 ) -> Result<Output, Fault>
-    ensures is { IsFollowed command verified text.now result }
+    ensures is { IsFollowed command flag verified text.now result }
     ensures warned { HasWarnings None result }
 {
     match events_of(alloc, text, verified.sizes().cars) {
-        Ok(events) => followed_events(alloc, verified, command, &events),
+        Ok(events) => followed_events(alloc, verified, command, flag, &events),
         Err(fault) => {
             verified.release();
             Err(fault)
@@ -416,14 +461,15 @@ fn followed_events(
     alloc: Global,
     verified: Verified,
     command: Following,
+    flag: bool,
     events: &[TraceEvent],
 ) -> Result<Output, Fault>
     requires few { length events.now ≤ greatest_trace }
-    ensures is { AreFollowed command verified events.now result }
+    ensures is { AreFollowed command flag verified events.now result }
     ensures warned { HasWarnings None result }
 {
     let mut world = World::new(alloc, verified)?;
-    let output = said_after(alloc, &mut world, command, events);
+    let output = said_after(alloc, &mut world, command, flag, events);
     world.release();
     output
 }
@@ -432,14 +478,15 @@ fn trace_outcome(
     alloc: Global,
     verified: Verified,
     command: Following,
+    flag: bool,
     trace: &Reading,
 ) -> Result<Output, Fault>
-    ensures is { IsTraceOutcome command verified trace.now result }
+    ensures is { IsTraceOutcome command flag verified trace.now result }
     ensures unwritten { result ≢ Err Fault.CannotWrite }
     ensures warned { HasWarnings None result }
 {
     match trace {
-        Reading::Text(text) => followed_text(alloc, verified, command, text),
+        Reading::Text(text) => followed_text(alloc, verified, command, flag, text),
         Reading::Failed(why) => {
             verified.release();
             Err((*why).into())

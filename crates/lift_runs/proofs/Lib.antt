@@ -1,3 +1,4 @@
 pub mod Driving
 pub mod Showing
+pub mod Stepping
 pub mod Taking

@@ -5,6 +5,7 @@ use Rattle.lift_host.specs.declared.files.ReadFault.{ReadFault}
 use Rattle.lift_host.specs.declared.files.ReadFault.TheVariants as failure
 use Rattle.lift_host.specs.declared.files.Reading.{Reading}
 use Rattle.lift_host.specs.declared.files.Reading.TheVariants.{Text, Failed}
+use Rattle.lift_host.specs.declared.request.Flags.{Flags}
 use Rattle.lift_host.specs.declared.request.Plain.{Plain}
 use Rattle.lift_host.specs.declared.request.Request.{Request}
 use Rattle.lift_host.specs.declared.request.Request.TheVariants as request
@@ -15,7 +16,7 @@ use Rattle.lift_host.specs.declared.status.Fault.TheVariants as fault
 use Rattle.lift_host.specs.declared.status.Status.{Status}
 use Rattle.lift_host.specs.declared.status.Status.TheVariants as status
 use Rattle.lift_host.specs.Messages.{fault_of_reading, message_of, status_of, text_of, cause_sentence}
-use Rattle.lift_host.specs.Requests.{Asks, BeginsWithDigit, name_of, with_flag}
+use Rattle.lift_host.specs.Requests.{Asks, BeginsWithDigit, name_of, with_flags}
 use Rattle.lift_help.specs.Helps.{ask_for_help}
 use Rattle.lift_messages.specs.declared.output.Output.{Output}
 use Rattle.lift_messages.specs.Outputs.{Outcome, Warns, bytes_of, warnings_of}
@@ -52,7 +53,7 @@ AskForRun words = (rounds : Rounds) × Asks words (request.Rounds simulating.Run
 pub record IsForRun (plain : Plain) (request : Request) : Type 0 where
   pub asked : Request
   pub asks : Asks (map string_bytes plain.words.items) asked
-  pub flagged : request ≡ with_flag plain.flag asked
+  pub flagged : request ≡ with_flags plain.flags asked
   pub is_run : runs request ≡ true
 
 -- BELOW A FAULT
@@ -159,13 +160,13 @@ pub data IsFileAnswer (reads : List ℕ → ℕ → List ℕ → Type 0) (fails 
       → IsOutcomeExplained wanted (IsFaultBelow request text trace) given outcome below → IsFileAnswer reads fails gives wanted request outcome below
 
 -- Words have the answer of their request, where they ask for one.
-pub data IsAnswer (reads : List ℕ → ℕ → List ℕ → Type 0) (fails : List ℕ → ℕ → ReadFault → Type 0) (gives : Request → List ℕ → Reading → Outcome → Type 0) (wanted : Bool) (words : List (List ℕ)) (flag : Bool) (outcome : Outcome) (below : List ℕ) : Type 0 where
-  unasked : ((request : Request) → Asks words request → ⊥) → IsWordsOutcome words outcome → below ≡ [] → IsAnswer reads fails gives wanted words flag outcome below
-  asked : (request : Request) → Asks words request → IsFileAnswer reads fails gives wanted (with_flag flag request) outcome below → IsAnswer reads fails gives wanted words flag outcome below
+pub data IsAnswer (reads : List ℕ → ℕ → List ℕ → Type 0) (fails : List ℕ → ℕ → ReadFault → Type 0) (gives : Request → List ℕ → Reading → Outcome → Type 0) (wanted : Bool) (words : List (List ℕ)) (flags : Flags) (outcome : Outcome) (below : List ℕ) : Type 0 where
+  unasked : ((request : Request) → Asks words request → ⊥) → IsWordsOutcome words outcome → below ≡ [] → IsAnswer reads fails gives wanted words flags outcome below
+  asked : (request : Request) → Asks words request → IsFileAnswer reads fails gives wanted (with_flags flags request) outcome below → IsAnswer reads fails gives wanted words flags outcome below
 
 -- Words as they are read have that answer, explained where `--explain` stood among them, or always.
 abbrev pub IsAnswerOf : (List ℕ → ℕ → List ℕ → Type 0) → (List ℕ → ℕ → ReadFault → Type 0) → (Request → List ℕ → Reading → Outcome → Type 0) → Bool → Plain → Outcome → List ℕ → Type 0
-IsAnswerOf reads fails gives always plain = IsAnswer reads fails gives (always || plain.explains) (map string_bytes plain.words.items) plain.flag
+IsAnswerOf reads fails gives always plain = IsAnswer reads fails gives (always || plain.explains) (map string_bytes plain.words.items) plain.flags
 
 -- an output of these answers was written
 abbrev pub HasWritten : (Outcome → List ℕ → Type 0) → (List ℕ → Type 0) → Type 0

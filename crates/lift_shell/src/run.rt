@@ -109,7 +109,7 @@ fn answer_alone<'w, F: TextFiles, C: Commands>(
 {
     match asked(&words.words) {
         Some(request) => {
-            let request = request.with_flag(words.flag);
+            let request = request.with_flags(words.flags);
             if runs(request) {
                 return Err(request);
             }

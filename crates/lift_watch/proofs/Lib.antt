@@ -1,2 +1,3 @@
+mod Logging
 mod Reading
 mod Watching

@@ -1,3 +1,4 @@
+pub mod Calls
 pub mod Denials
 pub mod Names
 pub mod Values

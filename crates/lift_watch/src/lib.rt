@@ -1,6 +1,7 @@
-//! Observers of a simulation: what the interlock denied in it, and values behind each of its rounds.
+//! What sees a simulation or a trace go by, and writes of it: what the interlock denied, values behind each round, the calls.
 #![tactic(auto)]
 
+pub mod calls;
 pub mod denials;
 pub mod names;
 pub mod watch;

@@ -10,8 +10,8 @@ returns-in-Ok-clause-answered g c =
     let err = stream (g.E.Sink.contents c.args.err.now) (g.E.Sink.contents c.plain_alone.new.err) (g.E.Sink.has_failed c.plain_alone.new.err) in
     let all = streams (g.I.Read.remaining c.args.input.now) (g.I.Read.remaining c.plain_alone.new.input) out err (g.T.Sink.contents c.args.trace.now) (g.T.Sink.contents c.plain_alone.new.trace) in
     if_some c.plain_alone.result (λ ends is.
-    plain (as_read c.in-Ok.plain (map string_bytes c.args.words.now) c.in-Ok.ensures.words c.in-Ok.ensures.explains c.in-Ok.ensures.flag c.args.explains
-    (λ wanted words flag. IsPlainAnswer (g.F.TextFiles.gives c.args.files.now) (g.F.TextFiles.fails c.args.files.now) wanted words flag all ends) is)) c.plain_alone.ensures.answered
+    plain (as_read c.in-Ok.plain (map string_bytes c.args.words.now) c.in-Ok.ensures.words c.in-Ok.ensures.explains c.in-Ok.ensures.flags c.args.explains
+    (λ wanted words flags. IsPlainAnswer (g.F.TextFiles.gives c.args.files.now) (g.F.TextFiles.fails c.args.files.now) wanted words flags all ends) is)) c.plain_alone.ensures.answered
 
 pub returns-in-Ok-clause-run : goal.returns-in-Ok-clause-run
 returns-in-Ok-clause-run g c none = subst AskForRun c.in-Ok.ensures.words (c.plain_alone.ensures.run none)

@@ -17,7 +17,8 @@ named key =
     if key == key_of (codes "check") then name.Check else if key == key_of (codes "ranges") then name.Show showing.Ranges else if key == key_of (codes "xref") then name.Show showing.Xref
     else if key == key_of (codes "sim") then name.Rounds simulating.Sim else if key == key_of (codes "run") then name.Rounds simulating.Run
     else if key == key_of (codes "denials") then name.Rounds simulating.Denials else if key == key_of (codes "watch") then name.Rounds simulating.Watch
-    else if key == key_of (codes "replay") then name.Trace following.Replay else name.Trace following.Draw
+    else if key == key_of (codes "replay") then name.Trace following.Replay
+    else if key == key_of (codes "draw") then name.Trace following.Draw else name.Trace following.Calls
 
 is_named : (n : Name) → named (key_of (word_of n)) ≡ n
 unfolding named key_of
@@ -30,6 +31,7 @@ is_named (name.Rounds simulating.Denials) = refl
 is_named (name.Rounds simulating.Watch) = refl
 is_named (name.Trace following.Replay) = refl
 is_named (name.Trace following.Draw) = refl
+is_named (name.Trace following.Calls) = refl
 
 -- so no word names two
 one_name : (n m : Name) → word_of n ≡ word_of m → n ≡ m

@@ -1,0 +1,37 @@
+use Rattle.std.proofs.Common.{arith, refl, subst, ◌∙◌, length}
+use Rattle.std.proofs.lemmas.Option.{slice_get_read}
+use Rattle.il_machine.specs.Scanning.{Program}
+use Rattle.lift_journal.specs.Rounds.{Refuses}
+use Rattle.lift_runs.specs.Along.{TakesWith}
+use Rattle.lift_runs.proofs.Stepping.{refused_behind}
+use Rattle.lift_spec.specs.Replies.{reply_with}
+use Rattle.lift_watch.proofs.Logging.{after_most, log_more, no_event, none_yet}
+use Rattle.lift_watch.proofs.calls.call_log.Goals as goal
+
+pub events-init : goal.events-init
+events-init c = (no_event c.args.world.now.program.config c.args.world.now.world c.new-log.result c.new-log.ensures, none_yet c.new-log.result c.new-log.ensures, refl)
+
+pub note-requires : goal.note-requires
+note-requires c =
+    let most = c.events.invariant.1 in
+    record { pressed = omega (arith, most.presses, c.requires, c.events-test.true); round = omega (arith, most.rounds, c.requires, c.events-test.true) }
+
+pub returns-in-Err-clause-stopped : goal.returns-in-Err-clause-stopped
+returns-in-Err-clause-stopped c =
+    let e = c.index-events-index.result in
+    let log = c.events.invariant.0 in
+    refused_behind c.args.world.now.program.config c.args.world.now.world c.events.world.world c.args.events.now c.events.index log.steps e c.in-Err.fault
+    (slice_get_read c.args.events.now (length c.args.events.now) c.events.index e refl c.events-test.true c.index-events-index.is) log.are
+    (subst (λ (p : Program). Refuses p.config c.events.world.world e c.in-Err.fault) c.events.invariant.2 c.in-Err.ensures.refused)
+
+pub events-preserved : goal.events-preserved
+events-preserved c =
+    let e = c.index-events-index.result in
+    let reply = reply_with c.in-Ok.reply c.reply_to.new.report in
+    let v = c.reply_to.new.world.world in (
+      log_more c.args.world.now.program.config c.args.world.now.world c.events.world.world v c.args.events.now c.events.index c.events.log c.note.new.log e reply
+          (slice_get_read c.args.events.now (length c.args.events.now) c.events.index e refl c.events-test.true c.index-events-index.is) c.events.invariant.0
+          (subst (λ (p : Program). TakesWith p.config c.events.world.world e reply v) c.events.invariant.2 c.in-Ok.ensures.taken) c.in_ok-note.ensures,
+      after_most e reply v c.events.log c.note.new.log c.events.index c.in_ok-note.ensures c.events.invariant.1,
+      c.reply_to.ensures.same ∙ c.events.invariant.2,
+    )
