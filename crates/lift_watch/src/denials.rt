@@ -38,12 +38,12 @@ impl Observer for Denials {
     ghost shows = { λ d. denied d.all };
 
     fn refreshed(&mut self, round: u16, report: &Report) -> Result<(), AllocError> {
-        put_refresh(&mut self.text, self.all, round, report.denials.as_slice())
+        put_refresh(&mut self.text, self.all, u32::from(round), report.denials.as_slice())
     }
 
     fn committed(&mut self, round: u16, task: u8, report: &Report) -> Result<(), AllocError> {
-        put_denials(&mut self.text, round, report.denials.as_slice())?;
-        put_answers(&mut self.text, round, task, report.answers.as_slice())
+        put_denials(&mut self.text, u32::from(round), report.denials.as_slice())?;
+        put_answers(&mut self.text, u32::from(round), task, report.answers.as_slice())
     }
 
     fn ended(&mut self, _round: u16, _world: &World) -> Result<(), AllocError> {
@@ -52,10 +52,10 @@ impl Observer for Denials {
 }
 
 // The denials of a refresh.
-fn put_refresh(
+pub(crate) fn put_refresh(
     text: &mut String,
     all: bool,
-    round: u16,
+    round: u32,
     denials: &[Denial],
 ) -> Result<(), AllocError>
     ensures { OnOk result (string_bytes text.new ≡ string_bytes text.old ++ refresh_text all round denials.now) }
@@ -69,7 +69,7 @@ fn put_refresh(
 fn put_refresh_denial(
     text: &mut String,
     all: bool,
-    round: u16,
+    round: u32,
     denial: Denial,
 ) -> Result<(), AllocError>
     ensures { OnOk result (string_bytes text.new ≡ string_bytes text.old ++ refresh_denial_text all round denial) }
@@ -96,7 +96,7 @@ fn is_end_stop(rule: Rule) -> bool
 }
 
 // The denials of a commit.
-fn put_denials(text: &mut String, round: u16, denials: &[Denial]) -> Result<(), AllocError>
+pub(crate) fn put_denials(text: &mut String, round: u32, denials: &[Denial]) -> Result<(), AllocError>
     ensures { OnOk result (string_bytes text.new ≡ string_bytes text.old ++ denials_text round denials.now) }
 {
     'denials: for denial in denials {
@@ -106,7 +106,7 @@ fn put_denials(text: &mut String, round: u16, denials: &[Denial]) -> Result<(), 
 }
 
 #[tactic(auto, unfolding(crate::specs::Denials::denial_text))]
-fn put_denial(text: &mut String, event: &str, round: u16, denial: Denial) -> Result<(), AllocError>
+fn put_denial(text: &mut String, event: &str, round: u32, denial: Denial) -> Result<(), AllocError>
     ensures { OnOk result (string_bytes text.new ≡ string_bytes text.old ++ denial_text event.now round denial) }
 {
     let rule = denial.rule;
@@ -114,9 +114,9 @@ fn put_denial(text: &mut String, event: &str, round: u16, denial: Denial) -> Res
     writeln!(text, " rule {}: {}", rule.number(), rule.sentence())
 }
 
-fn put_answers(
+pub(crate) fn put_answers(
     text: &mut String,
-    round: u16,
+    round: u32,
     task: u8,
     answers: &[Answered],
 ) -> Result<(), AllocError>
@@ -130,7 +130,7 @@ fn put_answers(
 
 fn put_answer(
     text: &mut String,
-    round: u16,
+    round: u32,
     task: u8,
     slot: u8,
     answer: Answer,
@@ -149,7 +149,7 @@ fn put_answer(
 #[tactic(auto, unfolding(crate::specs::Denials::undone_text))]
 fn put_undone(
     text: &mut String,
-    round: u16,
+    round: u32,
     task: u8,
     slot: u8,
     answer: &str,

@@ -53,7 +53,7 @@ impl Observer for Watch<'_> {
     }
 
     fn ended(&mut self, round: u16, world: &World) -> Result<(), AllocError> {
-        put_row(&mut self.text, round, world, self.watched.as_slice())
+        put_row(&mut self.text, u32::from(round), world, self.watched.as_slice())
     }
 }
 
@@ -98,9 +98,9 @@ fn put_names(text: &mut String, names: &[String]) -> Result<(), AllocError>
 }
 
 // The number of the round, and the values.
-fn put_row(
+pub(crate) fn put_row(
     text: &mut String,
-    round: u16,
+    round: u32,
     world: &World,
     watched: &[Watched<'_>],
 ) -> Result<(), AllocError>
