@@ -50,6 +50,13 @@ __attribute__((destructor)) static void end(void) {
     }
 }
 
+// A program with threads ends so, without its destructors.
+void _exit(int status) {
+    end();
+    syscall(SYS_exit_group, status);
+    __builtin_unreachable();
+}
+
 // Whether it is this line.
 static int is_line(const char *bytes, size_t count, const char *line) {
     return line && count == strlen(line) + 1 && bytes[count - 1] == '\n' && memcmp(bytes, line, count - 1) == 0;
