@@ -79,10 +79,6 @@ pub record BlockVariables : Type 0 where
   pub outputs : List (Spelling × Form)
   pub inner : List (Spelling × Form)
 
--- variables of one elementary type
-abbrev pub all_of : Elementary → List Spelling → List (Spelling × Form)
-all_of elementary names = map (λ n. (n, OfScalar (plain elementary))) names
-
 -- the standard blocks by name (2.5.2.3)
 abbrev pub standard_blocks : List (Spelling × StandardBlock)
 standard_blocks =
@@ -93,44 +89,48 @@ standard_blocks =
 unfoldable pub standard_block : Spelling → Option StandardBlock
 standard_block = entry_of standard_blocks
 
+-- the variables of a standard block, each with its elementary type; those of `inner` nothing outside it sees (own rule)
+pub record WordLists : Type 0 where
+  pub inputs : List (Spelling × Elementary)
+  pub outputs : List (Spelling × Elementary)
+  pub inner : List (Spelling × Elementary)
+
+-- words of one elementary type
+abbrev pub words : Elementary → List Spelling → List (Spelling × Elementary)
+words elementary names = map (λ n. (n, elementary)) names
+
+-- the words of a standard block (2.5.2.3)
+abbrev pub standard_words : StandardBlock → WordLists
+standard_words Sr = record { inputs = words Boolean (codes "S1" ∷ codes "R" ∷ []); outputs = words Boolean (codes "Q1" ∷ []); inner = [] }
+standard_words Rs = record { inputs = words Boolean (codes "S" ∷ codes "R1" ∷ []); outputs = words Boolean (codes "Q1" ∷ []); inner = [] }
+standard_words RTrig = record { inputs = words Boolean (codes "CLK" ∷ []); outputs = words Boolean (codes "Q" ∷ []); inner = words Boolean (codes "M" ∷ []) }
+standard_words FTrig = record { inputs = words Boolean (codes "CLK" ∷ []); outputs = words Boolean (codes "Q" ∷ []); inner = words Boolean (codes "M" ∷ []) }
+standard_words Ctu = record { inputs = words Boolean (codes "CU" ∷ codes "R" ∷ []) ++ words Int (codes "PV" ∷ []); outputs = words Boolean (codes "Q" ∷ []) ++ words Int (codes "CV" ∷ []); inner = words Boolean (codes "M" ∷ []) }
+standard_words Ctd = record { inputs = words Boolean (codes "CD" ∷ codes "LD" ∷ []) ++ words Int (codes "PV" ∷ []); outputs = words Boolean (codes "Q" ∷ []) ++ words Int (codes "CV" ∷ []); inner = words Boolean (codes "M" ∷ []) }
+standard_words Ctud = record { inputs = words Boolean (codes "CU" ∷ codes "CD" ∷ codes "R" ∷ codes "LD" ∷ []) ++ words Int (codes "PV" ∷ []); outputs = words Boolean (codes "QU" ∷ codes "QD" ∷ []) ++ words Int (codes "CV" ∷ []); inner = words Boolean (codes "MU" ∷ codes "MD" ∷ []) }
+standard_words Tp = record { inputs = words Boolean (codes "IN" ∷ []) ++ words Time (codes "PT" ∷ []); outputs = words Boolean (codes "Q" ∷ []) ++ words Time (codes "ET" ∷ []); inner = words Boolean (codes "RUN" ∷ codes "M" ∷ []) ++ words Time (codes "LAST" ∷ []) }
+standard_words Ton = record { inputs = words Boolean (codes "IN" ∷ []) ++ words Time (codes "PT" ∷ []); outputs = words Boolean (codes "Q" ∷ []) ++ words Time (codes "ET" ∷ []); inner = words Boolean (codes "RUN" ∷ []) ++ words Time (codes "LAST" ∷ []) }
+standard_words Tof = record { inputs = words Boolean (codes "IN" ∷ []) ++ words Time (codes "PT" ∷ []); outputs = words Boolean (codes "Q" ∷ []) ++ words Time (codes "ET" ∷ []); inner = words Boolean (codes "RUN" ∷ []) ++ words Time (codes "LAST" ∷ []) }
+
+-- a variable of an elementary type
+abbrev pub word_form : Elementary → Form
+word_form elementary = OfScalar (plain elementary)
+
+-- words, each with its type
+abbrev pub with_forms : List (Spelling × Elementary) → List (Spelling × Form)
+with_forms table = map (λ w. (w.0, word_form w.1)) table
+
 -- the inputs of a standard block (2.5.2.3)
 abbrev pub standard_inputs : StandardBlock → List (Spelling × Form)
-standard_inputs Sr = all_of Boolean (codes "S1" ∷ codes "R" ∷ [])
-standard_inputs Rs = all_of Boolean (codes "S" ∷ codes "R1" ∷ [])
-standard_inputs RTrig = all_of Boolean (codes "CLK" ∷ [])
-standard_inputs FTrig = all_of Boolean (codes "CLK" ∷ [])
-standard_inputs Ctu = all_of Boolean (codes "CU" ∷ codes "R" ∷ []) ++ all_of Int (codes "PV" ∷ [])
-standard_inputs Ctd = all_of Boolean (codes "CD" ∷ codes "LD" ∷ []) ++ all_of Int (codes "PV" ∷ [])
-standard_inputs Ctud = all_of Boolean (codes "CU" ∷ codes "CD" ∷ codes "R" ∷ codes "LD" ∷ []) ++ all_of Int (codes "PV" ∷ [])
-standard_inputs Tp = all_of Boolean (codes "IN" ∷ []) ++ all_of Time (codes "PT" ∷ [])
-standard_inputs Ton = all_of Boolean (codes "IN" ∷ []) ++ all_of Time (codes "PT" ∷ [])
-standard_inputs Tof = all_of Boolean (codes "IN" ∷ []) ++ all_of Time (codes "PT" ∷ [])
+standard_inputs block = with_forms (standard_words block).inputs
 
 -- the outputs of a standard block (2.5.2.3)
 abbrev pub standard_outputs : StandardBlock → List (Spelling × Form)
-standard_outputs Sr = all_of Boolean (codes "Q1" ∷ [])
-standard_outputs Rs = all_of Boolean (codes "Q1" ∷ [])
-standard_outputs RTrig = all_of Boolean (codes "Q" ∷ [])
-standard_outputs FTrig = all_of Boolean (codes "Q" ∷ [])
-standard_outputs Ctu = all_of Boolean (codes "Q" ∷ []) ++ all_of Int (codes "CV" ∷ [])
-standard_outputs Ctd = all_of Boolean (codes "Q" ∷ []) ++ all_of Int (codes "CV" ∷ [])
-standard_outputs Ctud = all_of Boolean (codes "QU" ∷ codes "QD" ∷ []) ++ all_of Int (codes "CV" ∷ [])
-standard_outputs Tp = all_of Boolean (codes "Q" ∷ []) ++ all_of Time (codes "ET" ∷ [])
-standard_outputs Ton = all_of Boolean (codes "Q" ∷ []) ++ all_of Time (codes "ET" ∷ [])
-standard_outputs Tof = all_of Boolean (codes "Q" ∷ []) ++ all_of Time (codes "ET" ∷ [])
+standard_outputs block = with_forms (standard_words block).outputs
 
 -- the variables of a standard block that nothing outside it sees (own rule)
 abbrev pub standard_inner : StandardBlock → List (Spelling × Form)
-standard_inner Sr = []
-standard_inner Rs = []
-standard_inner RTrig = all_of Boolean (codes "M" ∷ [])
-standard_inner FTrig = all_of Boolean (codes "M" ∷ [])
-standard_inner Ctu = all_of Boolean (codes "M" ∷ [])
-standard_inner Ctd = all_of Boolean (codes "M" ∷ [])
-standard_inner Ctud = all_of Boolean (codes "MU" ∷ codes "MD" ∷ [])
-standard_inner Tp = all_of Boolean (codes "RUN" ∷ codes "M" ∷ []) ++ all_of Time (codes "LAST" ∷ [])
-standard_inner Ton = all_of Boolean (codes "RUN" ∷ []) ++ all_of Time (codes "LAST" ∷ [])
-standard_inner Tof = all_of Boolean (codes "RUN" ∷ []) ++ all_of Time (codes "LAST" ∷ [])
+standard_inner block = with_forms (standard_words block).inner
 
 -- the variables of a standard block (2.5.2.3)
 abbrev pub standard_variables : StandardBlock → BlockVariables

@@ -1,113 +1,52 @@
--- Predeclared names, looked up in tables one behind another.
-use Rattle.std.proofs.Common.{◌≡◌, Bool, true, false, List, [], ◌∷◌, ◌++◌, map, refl, sym, ap, ◌∙◌, Option, Some, None, option_map, bytes_eq, if◌then◌else◌}
+-- Predeclared names, looked up in tables.
+use Rattle.std.proofs.Common.{◌≡◌, Bool, true, false, List, [], ◌∷◌, map, refl, sym, ap, ◌∙◌, Option, Some, None, option_map, bytes_eq, if◌then◌else◌}
 use Rattle.std.specs.Prelude.{find}
-use Rattle.std.specs.Option.{option_or}
 use Rattle.il_spec.specs.declared.tree.Config.{Config}
 use Rattle.il_spec.specs.declared.tree.Elementary.{Elementary}
-use Rattle.il_spec.specs.declared.tree.Form.{Form}
 use Rattle.il_rules.specs.Names as rule
-use Rattle.il_rules.specs.Names.{Spelling, or_else, entry_of, standard_functions, standard_function, standard_blocks, standard_block, standard_inputs, standard_outputs, image_of, image_name}
-use Rattle.il_rules.specs.declared.names.StandardBlock.{StandardBlock}
-use Rattle.il_rules.specs.declared.names.StandardBlock.TheVariants.{Sr, Rs, RTrig, FTrig, Ctu, Ctd, Ctud, Tp, Ton, Tof}
+use Rattle.il_rules.specs.Names.{Spelling, entry_of, standard_functions, standard_function, standard_blocks, standard_block, word_form, with_forms, image_of, image_name}
+use Rattle.il_rules.specs.Tables.{word, named_block, named_function}
+use Rattle.il_rules.specs.declared.standard.BlockWord.{BlockWord}
+use Rattle.il_rules.specs.declared.standard.NamedBlock.{NamedBlock}
+use Rattle.il_rules.specs.declared.standard.NamedFunction.{NamedFunction}
 use Rattle.il_scope.specs.Words.{is_name, entry_among}
-use Rattle.il_scope.specs.Standard.{word_form, uniform_functions, from_sint, from_int, from_dint, from_usint, from_uint, from_udint, block_words, input_words, output_words, sr_inputs, rs_inputs, trigger_inputs, ctu_inputs, ctd_inputs, ctud_inputs, timer_inputs, flip_flop_outputs, trigger_outputs, counter_outputs, ctud_outputs, timer_outputs}
 use Rattle.il_scope.specs.Images.{image_in, named, row_among, image_entries}
 use Rattle.il_scope.specs.declared.image.ImageRow.{ImageRow}
 use Rattle.il_scope.specs.Views.{image_entry}
 
--- a table with its words closed, one behind another
-pub among-append : {A : Type 0} (xs ys : List (Spelling × A)) (name : Spelling) → entry_among (xs ++ ys) name ≡ or_else (entry_among xs name) (entry_among ys name)
-among-append [] ys name = refl
-among-append {A = A} (x ∷ xs) ys name = go (is_name x.0 name) (among-append xs ys name)
-  where
-    go : (b : Bool) → entry_among (xs ++ ys) name ≡ or_else (entry_among xs name) (entry_among ys name) → (if b then Some x.1 else entry_among (xs ++ ys) name) ≡ or_else (if b then Some x.1 else entry_among xs name) (entry_among ys name)
-    go true rest = refl
-    go false rest = rest
-
--- what is found in a table
-among-is : {A : Type 0} (table : List (Spelling × A)) (name : Spelling) → entry_among table name ≡ entry_of table name
+-- what is found under a name in a table of records
+found_is : {R A : Type 0} (key : R → Spelling) (value : R → A) (rows : List R) (name : Spelling) → option_map value (find (λ r. is_name (key r) name) rows) ≡ entry_of (map (λ r. (key r, value r)) rows) name
 unfolding is_name
-among-is [] name = refl
-among-is {A = A} (e ∷ es) name = go (bytes_eq e.0 name) (among-is es name)
+found_is key value [] name = refl
+found_is {R = R} {A = A} key value (r ∷ rs) name = go (bytes_eq (key r) name) (found_is key value rs name)
   where
-    go : (b : Bool) → entry_among es name ≡ entry_of es name → (if b then Some e.1 else entry_among es name) ≡ option_map (λ (x : Spelling × A). x.1) (if b then Some e else find (λ x. bytes_eq x.0 name) es)
+    go : (b : Bool) → option_map value (find (λ x. bytes_eq (key x) name) rs) ≡ entry_of (map (λ x. (key x, value x)) rs) name
+        → option_map value (if b then Some r else find (λ x. bytes_eq (key x) name) rs) ≡ option_map (λ (x : Spelling × A). x.1) (if b then Some (key r, value r) else find (λ x. bytes_eq x.0 name) (map (λ x. (key x, value x)) rs))
     go true rest = refl
     go false rest = rest
-
--- a table whose entries are changed
-abbrev changed : {A B : Type 0} → (A → B) → List (Spelling × A) → List (Spelling × B)
-changed f table = map (λ e. (e.0, f e.1)) table
 
 -- the standard functions
-function_table : standard_functions ≡ uniform_functions ++ ((from_sint ++ (from_int ++ from_dint)) ++ (from_usint ++ (from_uint ++ from_udint)))
-unfolding uniform_functions from_sint from_int from_dint from_usint from_uint from_udint
-function_table = refl
-
--- three tables one behind another
-three : {A : Type 0} (xs ys zs : List (Spelling × A)) (name : Spelling) → entry_among (xs ++ (ys ++ zs)) name ≡ or_else (entry_among xs name) (or_else (entry_among ys name) (entry_among zs name))
-three xs ys zs name = among-append xs (ys ++ zs) name ∙ ap (or_else (entry_among xs name)) (among-append ys zs name)
-
-pub function_is : (name : Spelling) → standard_function name ≡ or_else (entry_among uniform_functions name) (or_else (or_else (entry_among from_sint name) (or_else (entry_among from_int name) (entry_among from_dint name))) (or_else (entry_among from_usint name) (or_else (entry_among from_uint name) (entry_among from_udint name))))
+pub function_is : (rows : List NamedFunction) (name : Spelling) → map named_function rows ≡ standard_functions → option_map (λ r. r.function) (find (λ r. is_name r.name.now name) rows) ≡ standard_function name
 unfolding standard_function
-function_is name =
-    sym (among-is standard_functions name)
-    ∙ ap (λ t. entry_among t name) function_table
-    ∙ three uniform_functions (from_sint ++ (from_int ++ from_dint)) (from_usint ++ (from_uint ++ from_udint)) name
-    ∙ ap (λ o. or_else (entry_among uniform_functions name) (or_else o (entry_among (from_usint ++ (from_uint ++ from_udint)) name))) (three from_sint from_int from_dint name)
-    ∙ ap (λ o. or_else (entry_among uniform_functions name) (or_else (or_else (entry_among from_sint name) (or_else (entry_among from_int name) (entry_among from_dint name))) o)) (three from_usint from_uint from_udint name)
+function_is rows name are = found_is (λ (r : NamedFunction). r.name.now) (λ r. r.function) rows name ∙ ap (λ t. entry_of t name) are
 
 -- the standard blocks
-block_table : standard_blocks ≡ block_words
-unfolding block_words
-block_table = refl
-
-pub block_is : (name : Spelling) → standard_block name ≡ entry_among block_words name
+pub block_is : (rows : List NamedBlock) (name : Spelling) → map named_block rows ≡ standard_blocks → option_map (λ r. r.block) (find (λ r. is_name r.name.now name) rows) ≡ standard_block name
 unfolding standard_block
-block_is name = sym (among-is standard_blocks name) ∙ ap (λ t. entry_among t name) block_table
+block_is rows name are = found_is (λ (r : NamedBlock). r.name.now) (λ r. r.block) rows name ∙ ap (λ t. entry_of t name) are
 
--- the inputs of a standard block
-input_table : (block : StandardBlock) → changed word_form (input_words block) ≡ standard_inputs block
-unfolding sr_inputs rs_inputs trigger_inputs ctu_inputs ctd_inputs ctud_inputs timer_inputs
-input_table Sr = refl
-input_table Rs = refl
-input_table RTrig = refl
-input_table FTrig = refl
-input_table Ctu = refl
-input_table Ctd = refl
-input_table Ctud = refl
-input_table Tp = refl
-input_table Ton = refl
-input_table Tof = refl
-
--- its outputs
-output_table : (block : StandardBlock) → changed word_form (output_words block) ≡ standard_outputs block
-unfolding flip_flop_outputs trigger_outputs counter_outputs ctud_outputs timer_outputs
-output_table Sr = refl
-output_table Rs = refl
-output_table RTrig = refl
-output_table FTrig = refl
-output_table Ctu = refl
-output_table Ctd = refl
-output_table Ctud = refl
-output_table Tp = refl
-output_table Ton = refl
-output_table Tof = refl
-
--- what is found under a word, changed
-among-words : (table : List (Spelling × Elementary)) (name : Spelling) → option_map word_form (entry_among table name) ≡ entry_of (changed word_form table) name
-unfolding is_name
-among-words [] name = refl
-among-words (e ∷ es) name = go (bytes_eq e.0 name) (among-words es name)
+-- a word of a standard block, with its type
+pub word_is : (rows : List BlockWord) (table : List (Spelling × Elementary)) (q : Spelling) → map word rows ≡ table
+    → option_map word_form (option_map (λ w. w.elementary) (find (λ w. is_name w.name.now q) rows)) ≡ entry_of (with_forms table) q
+word_is rows table q are = in_both (find (λ w. is_name w.name.now q) rows) ∙ found_is (λ (w : BlockWord). w.name.now) (λ w. word_form w.elementary) rows q ∙ ap (λ t. entry_of t q) (sym (in_all rows) ∙ ap with_forms are)
   where
-    go : (b : Bool) → option_map word_form (entry_among es name) ≡ entry_of (changed word_form es) name → option_map word_form (if b then Some e.1 else entry_among es name) ≡ option_map (λ (x : Spelling × Form). x.1) (if b then Some (e.0, word_form e.1) else find (λ x. bytes_eq x.0 name) (changed word_form es))
-    go true rest = refl
-    go false rest = rest
+    in_both : (o : Option BlockWord) → option_map word_form (option_map (λ w. w.elementary) o) ≡ option_map (λ w. word_form w.elementary) o
+    in_both None = refl
+    in_both (Some w) = refl
 
-pub input_is : (block : StandardBlock) (word : Spelling) → option_map word_form (entry_among (input_words block) word) ≡ entry_of (standard_inputs block) word
-input_is block word = among-words (input_words block) word ∙ ap (λ t. entry_of t word) (input_table block)
-
-pub output_is : (block : StandardBlock) (word : Spelling) → option_map word_form (entry_among (output_words block) word) ≡ entry_of (standard_outputs block) word
-output_is block word = among-words (output_words block) word ∙ ap (λ t. entry_of t word) (output_table block)
+    in_all : (ws : List BlockWord) → with_forms (map word ws) ≡ map (λ w. (w.name.now, word_form w.elementary)) ws
+    in_all [] = refl
+    in_all (w ∷ ws) = ap (λ rest. (w.name.now, word_form w.elementary) ∷ rest) (in_all ws)
 
 -- the image names as a table
 image_among : (config : Config) (images : List rule.ImageName) (name : Spelling) → option_map (image_entry config) (find (λ i. bytes_eq i.variable.name name) images) ≡ entry_among (map (λ i. (i.variable.name, image_entry config i)) images) name
@@ -133,12 +72,3 @@ pub image_is : (config : Config) (rows : List ImageRow) (name : Spelling) → ma
 unfolding image_name
 image_is config rows name are =
     row_is config rows name ∙ ap (λ t. entry_among t name) are ∙ sym (image_among config (image_of config.cars.value config.floors.value config.slots.value) name)
-
--- the first of two, as std has it
-or_is : {A : Type 0} (r a b : Option A) → r ≡ option_or a b → r ≡ or_else a b
-or_is r (Some x) b e = e
-or_is r None b e = e
-
--- the first of two, each by what it is
-pub both_or : {A : Type 0} (r a b x y : Option A) → r ≡ option_or a b → a ≡ x → b ≡ y → r ≡ or_else x y
-both_or r a b x y is left right = or_is r a b is ∙ ap (λ o. or_else o b) left ∙ ap (or_else x) right

@@ -1,5 +1,4 @@
 pub mod Words
-pub mod Standard
 pub mod Images
 pub mod Views
 pub mod Units

@@ -1,6 +1,16 @@
-use Rattle.std.proofs.Common.{sym, ◌∙◌}
+use Rattle.std.proofs.Common.{Some, option_map, ap, sym, ◌∙◌}
+use Rattle.il_rules.specs.declared.standard.NamedBlock.{NamedBlock}
 use Rattle.il_scope.proofs.Known.{block_is}
 use Rattle.il_scope.proofs.blocks.standard_block.Goals as goal
 
-pub returns : goal.returns
-returns c = c.block_of_word.ensures ∙ sym (block_is c.args.name.now)
+pub returns-in-Some : goal.returns-in-Some
+returns-in-Some c =
+    sym (ap (λ o. option_map (λ (r : NamedBlock). r.block) (option_map (λ r. r.now) o)) c.in-Some.is)
+    ∙ ap (option_map (λ (r : NamedBlock). r.block)) c.row_named.ensures
+    ∙ block_is c.standard_blocks.result.now c.args.name.now c.standard_blocks.ensures
+
+pub returns-in-None : goal.returns-in-None
+returns-in-None c =
+    sym (ap (λ o. option_map (λ (r : NamedBlock). r.block) (option_map (λ r. r.now) o)) c.in-None.is)
+    ∙ ap (option_map (λ (r : NamedBlock). r.block)) c.row_named.ensures
+    ∙ block_is c.standard_blocks.result.now c.args.name.now c.standard_blocks.ensures

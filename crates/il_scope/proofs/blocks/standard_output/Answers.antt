@@ -1,7 +1,17 @@
-use Rattle.std.proofs.Common.{ap, ◌∙◌, option_map}
-use Rattle.il_scope.specs.Standard.{word_form}
-use Rattle.il_scope.proofs.Known.{output_is}
+use Rattle.std.proofs.Common.{option_map, ap, sym, ◌∙◌}
+use Rattle.il_rules.specs.Names.{WordLists, word_form, standard_words}
+use Rattle.il_rules.specs.declared.standard.BlockWord.{BlockWord}
+use Rattle.il_scope.proofs.Known.{word_is}
 use Rattle.il_scope.proofs.blocks.standard_output.Goals as goal
 
-pub returns : goal.returns
-returns c = ap (option_map word_form) c.output_of_word.ensures ∙ output_is c.args.block c.args.word.now
+pub returns-in-Some : goal.returns-in-Some
+returns-in-Some c =
+    sym (ap (λ o. option_map word_form (option_map (λ (w : BlockWord). w.elementary) (option_map (λ w. w.now) o))) c.in-Some.is)
+    ∙ ap (λ o. option_map word_form (option_map (λ (w : BlockWord). w.elementary) o)) c.word_among.ensures
+    ∙ word_is c.words_of.result.now.outputs.now (standard_words c.args.block).outputs c.args.word.now (ap (λ (l : WordLists). l.outputs) c.words_of.ensures)
+
+pub returns-in-None : goal.returns-in-None
+returns-in-None c =
+    sym (ap (λ o. option_map word_form (option_map (λ (w : BlockWord). w.elementary) (option_map (λ w. w.now) o))) c.in-None.is)
+    ∙ ap (λ o. option_map word_form (option_map (λ (w : BlockWord). w.elementary) o)) c.word_among.ensures
+    ∙ word_is c.words_of.result.now.outputs.now (standard_words c.args.block).outputs c.args.word.now (ap (λ (l : WordLists). l.outputs) c.words_of.ensures)

@@ -1,9 +1,16 @@
-use Rattle.std.proofs.Common.{sym, ◌∙◌}
-use Rattle.il_scope.proofs.Known.{function_is, both_or}
+use Rattle.std.proofs.Common.{Some, option_map, ap, sym, ◌∙◌}
+use Rattle.il_rules.specs.declared.standard.NamedFunction.{NamedFunction}
+use Rattle.il_scope.proofs.Known.{function_is}
 use Rattle.il_scope.proofs.functions.standard_function.Goals as goal
 
-pub returns : goal.returns
-returns c =
-    both_or c.or-2.result c.uniform_function.result c.or.result _ _ c.or-2.ensures c.uniform_function.ensures
-    (both_or c.or.result c.signed_conversion.result c.unsigned_conversion.result _ _ c.or.ensures c.signed_conversion.ensures c.unsigned_conversion.ensures)
-    ∙ sym (function_is c.args.name.now)
+pub returns-in-Some : goal.returns-in-Some
+returns-in-Some c =
+    sym (ap (λ o. option_map (λ (r : NamedFunction). r.function) (option_map (λ r. r.now) o)) c.in-Some.is)
+    ∙ ap (option_map (λ (r : NamedFunction). r.function)) c.row_named.ensures
+    ∙ function_is c.standard_functions.result.now c.args.name.now c.standard_functions.ensures
+
+pub returns-in-None : goal.returns-in-None
+returns-in-None c =
+    sym (ap (λ o. option_map (λ (r : NamedFunction). r.function) (option_map (λ r. r.now) o)) c.in-None.is)
+    ∙ ap (option_map (λ (r : NamedFunction). r.function)) c.row_named.ensures
+    ∙ function_is c.standard_functions.result.now c.args.name.now c.standard_functions.ensures
