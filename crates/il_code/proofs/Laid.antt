@@ -21,9 +21,9 @@ use Rattle.il_order.specs.Related.{tabulate}
 use Rattle.il_code.specs.declared.laying.Opening.{Opening}
 use Rattle.il_layout.specs.declared.variables.Variable.{Variable}
 use Rattle.il_layout.specs.Cells.{cells_at, element_cells, entity_cells, instance_cells, IsShort, HasShort, AreNamed}
-use Rattle.il_code.specs.Laying.{cell_of, value_of, element_opening, variable_openings, list_openings, list_if, block_variables, block_openings, openings_to, openings_of, with_value, with_values}
+use Rattle.il_code.specs.Laying.{cell_of, value_of, element_opening, variable_openings, list_openings, block_openings, openings_to, openings_of, with_value, with_values}
 use Rattle.il_layout.specs.Layout.{Rows, rows, cell, number_part, flag_part}
-use Rattle.il_layout.specs.Making.{shown, block_lists}
+use Rattle.il_layout.specs.Making.{shown, block_lists, block_variables}
 use Rattle.il_layout.specs.Places.{capped, seen_image, unit_entities}
 use Rattle.il_layout.specs.Whole.{first_rows}
 use Rattle.il_layout.proofs.Counted.{which_block, block_list, IsBlock, of_standard, of_own, of_none}
@@ -94,39 +94,30 @@ short_counted bounds is = counted (width bounds) bounds.lower is.least is.most
     counted n from least most = omega (arith, ints)
 
 module _ (c : Config) where
-  abbrev units : ℕ
-  units = length c.units
-
-  pub variables_are : (name : Text) → block_variables units (block_lists c) (block_type c name) ≡ map (shown c) (block_entities c name)
-  variables_are name = by_case (block_type c name) (which_block c name) refl
-    where
-      by_case : (o : Option BlockType) → IsBlock c name o → block_type c name ≡ o → block_variables units (block_lists c) o ≡ map (shown c) (block_entities c name)
-      by_case (Some b) is at = ap list_if (block_list c name b at)
-      by_case None (of_standard s o here e) at = cc
-      by_case None (of_own k o v e) at = cc
-      by_case None (of_none o here e) at = ap (map (shown c)) (sym here)
+  pub variables_are : (name : Text) → block_variables (block_lists c) (block_type c name) ≡ map (shown c) (block_entities c name)
+  variables_are name = block_list c name
 
   module _ (shorts : (name : Text) → AreShort (block_entities c name)) where
     -- the cells of openings
     abbrev AreCells : ℕ → Type 0
-    AreCells n = (path name : Text) → map cell_of (block_openings n units (block_lists c) path (block_type c name)) ≡ instance_cells n c path name
+    AreCells n = (path name : Text) → map cell_of (block_openings n (block_lists c) path (block_type c name)) ≡ instance_cells n c path name
 
-    cells_of_form : (n : ℕ) → AreCells n → (path : Text) (initial : Option Literal) (f : Form) → HasShort f → map cell_of (variable_openings (block_openings n units (block_lists c)) path initial (type_of c f)) ≡ cells_at (instance_cells n c) path f
+    cells_of_form : (n : ℕ) → AreCells n → (path : Text) (initial : Option Literal) (f : Form) → HasShort f → map cell_of (variable_openings (block_openings n (block_lists c)) path initial (type_of c f)) ≡ cells_at (instance_cells n c) path f
     cells_of_form n are path initial (ScalarForm s) short = refl
     cells_of_form n are path initial (ArrayForm bounds s) short =
         ap (λ k. map cell_of (tabulate k (element_opening path bounds.lower s))) (short_counted bounds short) ∙ tab_mapped cell_of (width bounds) (element_opening path bounds.lower s) ∙ cells_from (width bounds) path bounds.lower s
     cells_of_form n are path initial (BlockForm name) short = are path name
 
-    cells_of_list : (n : ℕ) → AreCells n → (path : Text) (es : List Entity) → AreShort es → map cell_of (list_openings (block_openings n units (block_lists c)) path (map (shown c) es)) ≡ entity_cells (instance_cells n c) path es
+    cells_of_list : (n : ℕ) → AreCells n → (path : Text) (es : List Entity) → AreShort es → map cell_of (list_openings (block_openings n (block_lists c)) path (map (shown c) es)) ≡ entity_cells (instance_cells n c) path es
     cells_of_list n are path [] short = refl
     cells_of_list n are path (e ∷ es) short =
-        map-append cell_of (variable_openings (block_openings n units (block_lists c)) (under path e.name) e.initial (type_of c e.form)) (list_openings (block_openings n units (block_lists c)) path (map (shown c) es))
+        map-append cell_of (variable_openings (block_openings n (block_lists c)) (under path e.name) e.initial (type_of c e.form)) (list_openings (block_openings n (block_lists c)) path (map (shown c) es))
         ∙ ap₂ ◌++◌ (cells_of_form n are (under path e.name) e.initial e.form short.0) (cells_of_list n are path es short.1)
 
     are_cells : (n : ℕ) → AreCells n
     are_cells zero path name = refl
     are_cells (suc n) path name =
-        ap (λ vs. map cell_of (list_openings (block_openings n units (block_lists c)) path vs)) (variables_are name) ∙ cells_of_list n (are_cells n) path (block_entities c name) (shorts name)
+        ap (λ vs. map cell_of (list_openings (block_openings n (block_lists c)) path vs)) (variables_are name) ∙ cells_of_list n (are_cells n) path (block_entities c name) (shorts name)
 
     pub cells_to : (n : ℕ) (path : Text) (es : List Entity) → AreShort es → map cell_of (openings_to n c path es) ≡ entity_cells (instance_cells n c) path es
     cells_to n path es short = cells_of_list n (are_cells n) path es short
@@ -136,10 +127,10 @@ module _ (c : Config) where
 
     -- their values
     abbrev AreValues : ℕ → Type 0
-    AreValues n = (path name : Text) → map value_of (block_openings n units (block_lists c) path (block_type c name)) ≡ instance_values n c path name
+    AreValues n = (path name : Text) → map value_of (block_openings n (block_lists c) path (block_type c name)) ≡ instance_values n c path name
 
     values_of_form : (n : ℕ) → AreValues n → (path : Text) (initial : Option Literal) (f : Form) → HasShort f
-        → map value_of (variable_openings (block_openings n units (block_lists c)) path initial (type_of c f)) ≡ values_at (instance_values n c) path initial f
+        → map value_of (variable_openings (block_openings n (block_lists c)) path initial (type_of c f)) ≡ values_at (instance_values n c) path initial f
     values_of_form n are path initial (ScalarForm s) short = refl
     values_of_form n are path initial (ArrayForm bounds s) short =
         ap (λ k. map value_of (tabulate k (element_opening path bounds.lower s))) (short_counted bounds short) ∙ tab_mapped value_of (width bounds) (element_opening path bounds.lower s)
@@ -147,16 +138,16 @@ module _ (c : Config) where
     values_of_form n are path initial (BlockForm name) short = are path name
 
     values_of_list : (n : ℕ) → AreValues n → (path : Text) (es : List Entity) → AreShort es
-        → map value_of (list_openings (block_openings n units (block_lists c)) path (map (shown c) es)) ≡ entity_values (instance_values n c) path es
+        → map value_of (list_openings (block_openings n (block_lists c)) path (map (shown c) es)) ≡ entity_values (instance_values n c) path es
     values_of_list n are path [] short = refl
     values_of_list n are path (e ∷ es) short =
-        map-append value_of (variable_openings (block_openings n units (block_lists c)) (under path e.name) e.initial (type_of c e.form)) (list_openings (block_openings n units (block_lists c)) path (map (shown c) es))
+        map-append value_of (variable_openings (block_openings n (block_lists c)) (under path e.name) e.initial (type_of c e.form)) (list_openings (block_openings n (block_lists c)) path (map (shown c) es))
         ∙ ap₂ ◌++◌ (values_of_form n are (under path e.name) e.initial e.form short.0) (values_of_list n are path es short.1)
 
     are_values : (n : ℕ) → AreValues n
     are_values zero path name = refl
     are_values (suc n) path name =
-        ap (λ vs. map value_of (list_openings (block_openings n units (block_lists c)) path vs)) (variables_are name) ∙ values_of_list n (are_values n) path (block_entities c name) (shorts name)
+        ap (λ vs. map value_of (list_openings (block_openings n (block_lists c)) path vs)) (variables_are name) ∙ values_of_list n (are_values n) path (block_entities c name) (shorts name)
 
     pub values_to : (n : ℕ) (path : Text) (es : List Entity) → AreShort es → map value_of (openings_to n c path es) ≡ entity_values (instance_values n c) path es
     values_to n path es short = values_of_list n (are_values n) path es short

@@ -18,7 +18,7 @@ use Rattle.il_code.specs.declared.laying.Opening.{Opening}
 use Rattle.il_layout.specs.declared.variables.Variable.{Variable}
 use Rattle.il_layout.specs.Flattened.{function_entities, place_or_zero}
 use Rattle.il_layout.specs.Layout.{Rows, rows, cell, number_part, flag_part}
-use Rattle.il_layout.specs.Making.{shown, block_place, block_lists}
+use Rattle.il_layout.specs.Making.{shown, block_lists, block_variables}
 use Rattle.il_layout.specs.Places.{capped, seen_image}
 use Rattle.il_layout.specs.Paths.{slot_at}
 use Rattle.il_layout.specs.Program.{is_used}
@@ -52,23 +52,14 @@ abbrev pub list_openings : (Text → Option BlockType → List Opening) → Text
 list_openings inner path [] = []
 list_openings inner path (v ∷ vs) = variable_openings inner (under path v.name) v.initial v.declared ++ list_openings inner path vs
 
--- the variables of a block, by their lists
-abbrev pub list_if : Option (List Variable) → List Variable
-list_if None = []
-list_if (Some vs) = vs
-
-abbrev pub block_variables : ℕ → List (List Variable) → Option BlockType → List Variable
-block_variables units lists None = []
-block_variables units lists (Some b) = list_if (slice_get lists (block_place units b))
-
 -- those of an instance, so many deep
-abbrev pub block_openings : ℕ → ℕ → List (List Variable) → Text → Option BlockType → List Opening
-block_openings zero units lists path b = []
-block_openings (suc n) units lists path b = list_openings (block_openings n units lists) path (block_variables units lists b)
+abbrev pub block_openings : ℕ → List (List Variable) → Text → Option BlockType → List Opening
+block_openings zero lists path b = []
+block_openings (suc n) lists path b = list_openings (block_openings n lists) path (block_variables lists b)
 
 -- those of declarations, with those of instances so many deep
 abbrev pub openings_to : ℕ → Config → Text → List Entity → List Opening
-openings_to n c path es = list_openings (block_openings n (length c.units) (block_lists c)) path (map (shown c) es)
+openings_to n c path es = list_openings (block_openings n (block_lists c)) path (map (shown c) es)
 
 abbrev pub openings_of : Config → Text → List Entity → List Opening
 openings_of c path es = openings_to 16 c path es

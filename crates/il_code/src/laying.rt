@@ -1,14 +1,19 @@
 // The slots of variables, with the values with which they begin.
 
-ghost use Rattle.std.specs.Prelude.{◌≡◌, length, slice_get, ◌++◌, ◌∷◌, [], ◌+ℤ◌, pos, codes, ◌<◌, ◌^◌, IfOk, OnOk, None};
+ghost use Rattle.std.specs.Prelude.{◌≡◌, ℕ, List, Option, map, slice_get, ◌++◌, ◌∷◌, [], ◌+ℤ◌, pos, codes, IfOk, OnOk, None};
 ghost use Rattle.std.specs.String.{string_bytes};
 ghost use Rattle.il_run.specs.Meaning.{under, element_path, initial_value};
 ghost use Rattle.il_order.specs.Related.{tabulate};
-ghost use Rattle.il_layout.specs.Making.{block_lists};
-ghost use Rattle.il_code.specs.Laying.{opening, element_opening, variable_openings, list_if, list_openings, block_variables, block_openings};
+ghost use Rattle.il_rules.specs.Tables.{word};
+ghost use Rattle.il_scope.specs.declared.entry.BlockType.{BlockType as BlockTypeOf};
+ghost use Rattle.il_layout.specs.Making.{block_lists, list_if, standard_list, word_variable};
+ghost use Rattle.il_code.specs.declared.laying.Opening.{Opening as OpeningOf};
+ghost use Rattle.il_code.specs.Laying.{opening, element_opening, variable_openings, list_openings, block_openings};
 
-use il_layout::sizes::{array_size, block_place};
+use il_layout::sizes::array_size;
 use il_layout::variables::{Variable, initial_value};
+use il_rules::names::StandardBlock;
+use il_rules::standard::{BlockWord, words_of};
 use il_run::value::Value;
 use il_scope::Scoped;
 use il_scope::entry::{BlockType, VariableType};
@@ -25,14 +30,11 @@ pub struct Opening {
     pub value: Value,
 }
 
-/// A configuration with the variables of all blocks: of units by their numbers, and behind them of the standard ones.
+/// A configuration with the variables of its units, by their numbers.
 #[derive(Drop)]
 pub struct Blocks<'a> {
     pub names: &'a Scoped,
-    pub units: usize,
     pub lists: &'a [Items<Variable>],
-    pub ghost few: { units < 2 ^ 63 },
-    pub ghost count: { units ≡ length names.now.units },
     pub ghost all: { lists.now ≡ block_lists names.now },
 }
 
@@ -133,16 +135,6 @@ fn add_elements(
     Ok(())
 }
 
-// The variables of a block.
-fn block_variables<'a>(blocks: &Blocks<'a>, block: Option<BlockType>) -> &'a [Variable]
-    ensures { result.now ≡ block_variables blocks.now.units blocks.now.lists.now block }
-{
-    match block {
-        Some(block) => list_at(blocks.lists, block_place(blocks.units, block)),
-        None => &[],
-    }
-}
-
 // The list of a number, or none.
 fn list_at(lists: &[Items<Variable>], place: usize) -> &[Variable]
     ensures { result.now ≡ list_if (slice_get lists.now place) }
@@ -151,6 +143,44 @@ fn list_at(lists: &[Items<Variable>], place: usize) -> &[Variable]
         Some(list) => list.as_slice(),
         None => &[],
     }
+}
+
+// Adds the slots of words of a standard block (2.5.2.3).
+fn add_words(
+    alloc: Global,
+    openings: &mut Items<Opening>,
+    path: &str,
+    words: &[BlockWord],
+) -> Result<(), AllocError>
+    ensures { OnOk result ((inner : List ℕ → Option BlockTypeOf → List OpeningOf) → openings.new
+        ≡ openings.old ++ list_openings inner path.now
+        (map (λ w. word_variable (word w)) words.now)) }
+{
+    'words: for each in words {
+        let path = under(alloc, path, each.name)?;
+        let scalar = Scalar {
+            elementary: each.elementary,
+            subrange: None,
+        };
+        push(alloc, openings, path.as_str(), scalar, initial_value(scalar, None))?;
+    }
+    Ok(())
+}
+
+// Adds the slots of a standard block.
+fn add_standard(
+    alloc: Global,
+    openings: &mut Items<Opening>,
+    path: &str,
+    block: StandardBlock,
+) -> Result<(), AllocError>
+    ensures { OnOk result ((inner : List ℕ → Option BlockTypeOf → List OpeningOf) → openings.new
+        ≡ openings.old ++ list_openings inner path.now (standard_list block)) }
+{
+    let words = words_of(block);
+    add_words(alloc, openings, path, words.inputs)?;
+    add_words(alloc, openings, path, words.outputs)?;
+    add_words(alloc, openings, path, words.inner)
 }
 
 // Adds the slots of an instance, with those of the instances in it, so many deep.
@@ -164,13 +194,19 @@ fn add_instance(
     block: Option<BlockType>,
 ) -> Result<(), AllocError>
     ensures { OnOk result (openings.new ≡ openings.old
-        ++ block_openings depth blocks.now.units blocks.now.lists.now path.now block) }
+        ++ block_openings depth blocks.now.lists.now path.now block) }
 {
     if depth == 0 {
         return Ok(());
     }
-    let variables = block_variables(blocks, block);
-    add_variables(alloc, blocks, openings, depth - 1, path, variables)
+    match block {
+        Some(BlockType::Own(number)) => {
+            let variables = list_at(blocks.lists, number);
+            add_variables(alloc, blocks, openings, depth - 1, path, variables)
+        }
+        Some(BlockType::Standard(block)) => add_standard(alloc, openings, path, block),
+        None => Ok(()),
+    }
 }
 
 // Adds the slots of a variable at a path.
@@ -184,7 +220,7 @@ fn add_variable(
     variable: &Variable,
 ) -> Result<(), AllocError>
     ensures { OnOk result (openings.new ≡ openings.old
-        ++ variable_openings (block_openings depth blocks.now.units blocks.now.lists.now) path.now
+        ++ variable_openings (block_openings depth blocks.now.lists.now) path.now
         variable.now.initial variable.now.declared) }
 {
     match variable.declared {
@@ -213,7 +249,7 @@ pub fn add_variables(
     list: &[Variable],
 ) -> Result<(), AllocError>
     ensures { OnOk result (openings.new ≡ openings.old
-        ++ list_openings (block_openings depth blocks.now.units blocks.now.lists.now) path.now
+        ++ list_openings (block_openings depth blocks.now.lists.now) path.now
         list.now) }
 {
     'variables: for variable in list {

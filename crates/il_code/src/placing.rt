@@ -196,14 +196,12 @@ pub fn tasks_and_globals(
 ) -> Result<(Items<TaskCode>, TaskCode), AllocError>
     requires same { names.now ≡ ordered.now }
     requires lists { lists.now ≡ block_lists names.now }
-    requires count { length names.now.units < 2 ^ 63 }
     ensures tasks { IfOk result (λ p. AreTasksOf names.now names.now.programs p.0) }
     ensures globals { IfOk result (λ p. p.1 ≡ laid_task
         (openings_to 0 names.now [] (entities names.now.globals)) [] []) }
 {
     let blocks = Blocks {
         names,
-        units: names.config().units.as_slice().len(),
         lists,
     };
     let lines = names.config().programs.as_slice();

@@ -9,20 +9,22 @@ use Rattle.il_spec.specs.declared.tree.Initial.{Initial}
 use Rattle.il_spec.specs.declared.tree.WrittenType.{WrittenType}
 use Rattle.il_spec.specs.declared.tree.Scalar.{Scalar}
 use Rattle.il_spec.specs.declared.tree.Subrange.{Subrange}
+use Rattle.il_spec.specs.declared.tree.Elementary.{Elementary}
+use Rattle.il_spec.specs.declared.tree.Elementary.TheVariants.{Bool, Sint, Int, Dint, Usint, Uint, Udint, Time}
+use Rattle.il_spec.specs.ElementaryTypes.{plain}
 use Rattle.il_spec.specs.declared.tree.Form.{Form}
 use Rattle.il_spec.specs.declared.tree.Form.TheVariants.{Scalar as ScalarForm, Array as ArrayForm, Block as BlockForm}
 use Rattle.il_spec.specs.declared.tree.UnitKind.{UnitKind}
 use Rattle.il_spec.specs.declared.tree.UnitKind.TheVariants.{Function, FunctionBlock, Program}
 use Rattle.il_rules.specs.declared.names.StandardBlock.{StandardBlock}
-use Rattle.il_rules.specs.declared.names.StandardBlock.TheVariants.{Sr, Rs, RTrig, FTrig, Ctu, Ctd, Ctud, Tp, Ton, Tof}
-use Rattle.il_rules.specs.Names.{standard_variables}
+use Rattle.il_rules.specs.Names.{standard_variables, with_forms}
 use Rattle.il_rules.specs.Declarations.{Admitted, ScalarsAlone, admitted_variables, admits_arrays, result_types, written_types, all_declarations, unit_declarations, type_numbers, bounds_numbers, subrange_numbers, unless, declared_limits}
 use Rattle.il_rules.specs.Faults.{HasNoFault, Broken, Declaring}
 use Rattle.il_table.specs.NameMap.{Text}
 use Rattle.il_run.specs.declared.value.Value.{Value}
 use Rattle.il_run.specs.declared.value.Value.TheVariants.{Boolean, Integer}
 use Rattle.il_run.specs.Values.{IsOf, IsValueIn}
-use Rattle.il_run.specs.Meaning.{Entity, entities, own_entities, result_entities, block_entities, standard_entities, initial_value}
+use Rattle.il_run.specs.Meaning.{Entity, entities, uninitialized, own_entities, result_entities, block_entities, standard_entities, initial_value}
 use Rattle.il_scan_laws.proofs.Lists.{at_head, in_tail, in_flat_map}
 use Rattle.il_scan_laws.proofs.Declared.{from_inputs, from_outputs, from_variables}
 use Rattle.il_scan_laws.proofs.Fresh.{of_entities, IsGood, range_ok, good_type, begins_ok, default_ok}
@@ -31,6 +33,8 @@ use Rattle.il_layout.specs.Layout.{value_by, number_part, flag_part, HasKind}
 use Rattle.il_layout.specs.Flattened.{function_entities}
 use Rattle.il_layout.specs.Whole.{IsInitial, AreInitial}
 use Rattle.il_layout.proofs.Tested.{of_blocks}
+use Rattle.il_layout.specs.Making.{all_words}
+use Rattle.il_layout.proofs.Counted.{words_are}
 use Rattle.il_layout.proofs.Distinct.{each_of}
 
 -- a value of a type's set is of its kind
@@ -109,14 +113,19 @@ module _ (c : Config) (unbroken : HasNoFault (Broken Declaring c)) where
   pub blocks_initial : (block : Text) → AreInitial (block_entities c block)
   blocks_initial = of_blocks c AreInitial tt standard_initial (each_of (λ u. AreInitial (own_entities u)) c.units own_initial)
     where
+      word_initial : (e : Elementary) → HasKind (plain e) (initial_value (plain e) None)
+      word_initial Bool = refl
+      word_initial Sint = refl
+      word_initial Int = refl
+      word_initial Dint = refl
+      word_initial Usint = refl
+      word_initial Uint = refl
+      word_initial Udint = refl
+      word_initial Time = refl
+
+      words_initial : (ws : List (Text × Elementary)) → AreInitial (uninitialized (with_forms ws))
+      words_initial [] = tt
+      words_initial (w ∷ ws) = (word_initial w.1, words_initial ws)
+
       standard_initial : (b : StandardBlock) → AreInitial (standard_entities (standard_variables b))
-      standard_initial Sr = (refl, (refl, (refl, tt)))
-      standard_initial Rs = (refl, (refl, (refl, tt)))
-      standard_initial RTrig = (refl, (refl, (refl, tt)))
-      standard_initial FTrig = (refl, (refl, (refl, tt)))
-      standard_initial Ctu = (refl, (refl, (refl, (refl, (refl, (refl, tt))))))
-      standard_initial Ctd = (refl, (refl, (refl, (refl, (refl, (refl, tt))))))
-      standard_initial Ctud = (refl, (refl, (refl, (refl, (refl, (refl, (refl, (refl, (refl, (refl, tt))))))))))
-      standard_initial Tp = (refl, (refl, (refl, (refl, (refl, (refl, (refl, tt)))))))
-      standard_initial Ton = (refl, (refl, (refl, (refl, (refl, (refl, tt))))))
-      standard_initial Tof = (refl, (refl, (refl, (refl, (refl, (refl, tt))))))
+      standard_initial b = subst AreInitial (sym (words_are b)) (words_initial (all_words b))

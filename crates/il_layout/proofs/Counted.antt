@@ -1,17 +1,17 @@
 -- Sizes and offsets are those of the layout.
-use Rattle.std.proofs.Common.{◌≡◌, ℕ, zero, suc, ◌+◌, ◌-◌, ◌<◌, ◌≤◌, get_or, Bool, true, false, List, [], ◌∷◌, ◌++◌, map, length, slice_get, refl, sym, ap, ap₂, ◌∙◌, Option, Some, None, drop, append_assoc, arith, length-append, lit≤, ◌&&◌}
+use Rattle.std.proofs.Common.{◌≡◌, ℕ, zero, suc, ◌+◌, ◌-◌, ◌<◌, ◌≤◌, get_or, Bool, true, false, List, [], ◌∷◌, ◌++◌, map, length, slice_get, refl, sym, ap, ap₂, ◌∙◌, Option, Some, None, drop, append_assoc, arith, map-append}
 use Rattle.std.specs.Prelude.{Result, Ok, Err, IfOk, option_map, option_and_then, bytes_eq, if◌then◌else◌}
 use Rattle.std.proofs.lemmas.Option.{same_Some}
 use Rattle.std.proofs.lemmas.Slice.Eq.{bytes_eq-Decides}
+use Rattle.il_spec.specs.declared.tree.Elementary.{Elementary}
 use Rattle.il_spec.specs.declared.tree.Form.{Form}
 use Rattle.il_spec.specs.declared.tree.Form.TheVariants.{Scalar as ScalarForm, Array as ArrayForm, Block as BlockForm}
 use Rattle.il_spec.specs.declared.tree.Unit.{Unit as ProgramUnit}
 use Rattle.il_spec.specs.declared.tree.Config.{Config}
 use Rattle.il_rules.specs.declared.names.StandardBlock.{StandardBlock}
-use Rattle.il_rules.specs.declared.names.StandardBlock.TheVariants.{Sr, Rs, RTrig, FTrig, Ctu, Ctd, Ctud, Tp, Ton, Tof}
-use Rattle.il_rules.specs.Names.{or_else, standard_block, standard_variables, function_block_named, is_function_block}
+use Rattle.il_rules.specs.Names.{or_else, standard_block, standard_variables, standard_words, standard_inputs, with_forms, word_form, function_block_named, is_function_block}
 use Rattle.il_table.specs.NameMap.{NameMap, Text, get, get-empty}
-use Rattle.il_run.specs.Meaning.{Entity, own_entities, standard_entities, block_entities}
+use Rattle.il_run.specs.Meaning.{Entity, uninitialized, own_entities, standard_entities, block_entities}
 use Rattle.il_scope.specs.declared.entry.BlockType.{BlockType}
 use Rattle.il_scope.specs.declared.entry.BlockType.TheVariants.{Standard, Own}
 use Rattle.il_scope.specs.Words.{is_name}
@@ -23,13 +23,12 @@ use Rattle.il_layout.specs.declared.variables.Variable.{Variable}
 use Rattle.il_layout.specs.declared.offsets.Offsets.{Offsets}
 use Rattle.il_layout.specs.Cells.{form_in, offset_in}
 use Rattle.il_layout.specs.Places.{capped, form_width, entities_width, block_width, unit_entities}
-use Rattle.il_layout.specs.Making.{shown, added, standard_list, standard_number, standard_lists, block_place, own_lists, block_lists, size_or_zero, block_size, variable_size, list_size, sizes_to, with_offset, with_offsets, no_offsets, offsets_of, sizes_of, unit_offsets, place_from, standard_offset}
+use Rattle.il_layout.specs.Making.{shown, word_variable, all_words, standard_list, list_if, block_lists, block_variables, size_or_zero, block_size, variable_size, list_size, sizes_to, with_offset, with_offsets, no_offsets, offsets_of, sizes_of, unit_offsets, place_from, standard_offset}
 use Rattle.il_layout.proofs.Declared.{block_is_own, block_is_standard}
-use Rattle.il_layout.proofs.Seen.{added_all}
 
-pub offsets_twice : (units : ℕ) (sizes : List ℕ) (o : Offsets) (vs ws : List Variable) → with_offsets units sizes o (vs ++ ws) ≡ with_offsets units sizes (with_offsets units sizes o vs) ws
-offsets_twice units sizes o [] ws = refl
-offsets_twice units sizes o (v ∷ vs) ws = offsets_twice units sizes (with_offset o v.name (variable_size true units sizes v.declared)) vs ws
+pub offsets_twice : (sizes : List ℕ) (o : Offsets) (vs ws : List Variable) → with_offsets sizes o (vs ++ ws) ≡ with_offsets sizes (with_offsets sizes o vs) ws
+offsets_twice sizes o [] ws = refl
+offsets_twice sizes o (v ∷ vs) ws = offsets_twice sizes (with_offset o v.name (variable_size true sizes v.declared)) vs ws
 
 -- LISTS
 
@@ -38,30 +37,11 @@ mapped_at f [] k x is = cc
 mapped_at f (y ∷ xs) zero x is = ap (λ z. Some (f z)) (same_Some y x is)
 mapped_at f (y ∷ xs) (suc k) x is = mapped_at f xs k x is
 
-in_first : {A : Type 0} (xs ys : List A) (k : ℕ) (x : A) → slice_get xs k ≡ Some x → slice_get (xs ++ ys) k ≡ Some x
-in_first [] ys k x is = cc
-in_first (y ∷ xs) ys zero x is = is
-in_first (y ∷ xs) ys (suc k) x is = in_first xs ys k x is
-
-pub in_second : {A : Type 0} (xs ys : List A) (k : ℕ) → slice_get (xs ++ ys) (length xs + k) ≡ slice_get ys k
-in_second [] ys k = ap (slice_get ys) (let e : 0 + k ≡ k = omega arith in e)
-in_second (x ∷ xs) ys k = ap (slice_get (x ∷ xs ++ ys)) (let e : suc (length xs) + k ≡ suc (length xs + k) = omega arith in e) ∙ in_second xs ys k
-
 pub length_mapped : {A B : Type 0} (f : A → B) (xs : List A) → length (map f xs) ≡ length xs
 length_mapped f [] = refl
 length_mapped f (x ∷ xs) = ap suc (length_mapped f xs)
 
 -- BLOCKS
-
--- what stands for each of some units, and behind them for the standard blocks, stands at a block's number
-module _ {A : Type 0} (c : Config) (of_unit : ProgramUnit → A) (others : List A) where
-  pub at_own : (k : ℕ) (v : ProgramUnit) → slice_get c.units k ≡ Some v → slice_get (added (map of_unit c.units) others) k ≡ Some (of_unit v)
-  at_own k v is = ap (λ xs. slice_get xs k) (added_all (map of_unit c.units) others) ∙ in_first (map of_unit c.units) others k (of_unit v) (mapped_at of_unit c.units k v is)
-
-  pub at_standard : (n : ℕ) → slice_get (added (map of_unit c.units) others) (length c.units + n) ≡ slice_get others n
-  at_standard n =
-      ap (λ xs. slice_get xs (length c.units + n)) (added_all (map of_unit c.units) others)
-      ∙ ap (λ m. slice_get (map of_unit c.units ++ others) (m + n)) (sym (length_mapped of_unit c.units)) ∙ in_second (map of_unit c.units) others n
 
 -- what an own block of a number is
 pub record IsOwnBlock (c : Config) (name : Text) (k : ℕ) : Type 0 where
@@ -110,42 +90,28 @@ which_block c name = by_standard (standard_block name) refl
     by_standard (Some s) is = of_standard s _ is (rw is refl)
     by_standard None is = by_number is (function_block_number c name) refl
 
-pub standard_is : (c : Config) (s : StandardBlock) → map (shown c) (standard_entities (standard_variables s)) ≡ standard_list s
-standard_is c Sr = refl
-standard_is c Rs = refl
-standard_is c RTrig = refl
-standard_is c FTrig = refl
-standard_is c Ctu = refl
-standard_is c Ctd = refl
-standard_is c Ctud = refl
-standard_is c Tp = refl
-standard_is c Ton = refl
-standard_is c Tof = refl
+-- all variables of a standard block are its words
+pub forms_are : (s : StandardBlock) → (standard_variables s).inputs ++ (standard_variables s).outputs ++ (standard_variables s).inner ≡ with_forms (all_words s)
+forms_are s = sym (
+    map-append (λ (w : Text × Elementary). (w.0, word_form w.1)) (standard_words s).inputs ((standard_words s).outputs ++ (standard_words s).inner)
+    ∙ ap (λ vs. standard_inputs s ++ vs) (map-append (λ (w : Text × Elementary). (w.0, word_form w.1)) (standard_words s).outputs (standard_words s).inner))
 
-pub standard_at : (s : StandardBlock) → slice_get standard_lists (standard_number s) ≡ Some (standard_list s)
-standard_at Sr = refl
-standard_at Rs = refl
-standard_at RTrig = refl
-standard_at FTrig = refl
-standard_at Ctu = refl
-standard_at Ctd = refl
-standard_at Ctud = refl
-standard_at Tp = refl
-standard_at Ton = refl
-standard_at Tof = refl
+pub words_are : (s : StandardBlock) → standard_entities (standard_variables s) ≡ uninitialized (with_forms (all_words s))
+words_are s = ap uninitialized (forms_are s)
 
--- the list of a block's variables stands at its number
-pub block_list : (c : Config) (name : Text) (b : BlockType) → block_type c name ≡ Some b → slice_get (block_lists c) (block_place (length c.units) b) ≡ Some (map (shown c) (block_entities c name))
-block_list c name b is = by_case (block_type c name) (which_block c name) is
+words_shown : (c : Config) (ws : List (Text × Elementary)) → map (shown c) (uninitialized (with_forms ws)) ≡ map word_variable ws
+words_shown c [] = refl
+words_shown c (w ∷ ws) = ap (λ vs. word_variable w ∷ vs) (words_shown c ws)
+
+-- the variables of a block, by the lists of own ones
+pub block_list : (c : Config) (name : Text) → block_variables (block_lists c) (block_type c name) ≡ map (shown c) (block_entities c name)
+block_list c name = by_case (block_type c name) (which_block c name)
   where
-    by_case : (o : Option BlockType) → IsBlock c name o → o ≡ Some b → slice_get (block_lists c) (block_place (length c.units) b) ≡ Some (map (shown c) (block_entities c name))
-    by_case _ (of_standard s o at e) h =
-        ap (λ d. slice_get (block_lists c) (block_place (length c.units) d)) (same_Some b (Standard s) (sym h ∙ e))
-        ∙ at_standard c (λ u. map (shown c) (own_entities u)) standard_lists (standard_number s) ∙ standard_at s ∙ ap Some (sym (ap (map (shown c)) (block_is_standard c name s at) ∙ standard_is c s))
-    by_case _ (of_own k o v e) h =
-        ap (λ d. slice_get (block_lists c) (block_place (length c.units) d)) (same_Some b (Own k) (sym h ∙ e))
-        ∙ at_own c (λ u. map (shown c) (own_entities u)) standard_lists k v.unit v.there ∙ ap (λ es. Some (map (shown c) es)) (sym (block_is_own c name v.unit v.is))
-    by_case _ (of_none o at e) h = let never : Some b ≡ None = sym h ∙ e in cc
+    by_case : (o : Option BlockType) → IsBlock c name o → block_variables (block_lists c) o ≡ map (shown c) (block_entities c name)
+    by_case _ (of_standard s o at e) = ap (block_variables (block_lists c)) e ∙ sym (ap (map (shown c)) (block_is_standard c name s at ∙ words_are s) ∙ words_shown c (all_words s))
+    by_case _ (of_own k o v e) =
+        ap (block_variables (block_lists c)) e ∙ ap list_if (mapped_at (λ u. map (shown c) (own_entities u)) c.units k v.unit v.there) ∙ ap (map (shown c)) (sym (block_is_own c name v.unit v.is))
+    by_case _ (of_none o at e) = ap (block_variables (block_lists c)) e ∙ ap (map (shown c)) (sym at)
 
 -- SIZES
 
@@ -158,63 +124,65 @@ known zero = false
 known (suc n) = true
 
 -- the sizes of blocks one less deep
-abbrev sizes_below : ℕ → ℕ → List (List Variable) → List ℕ
-sizes_below zero units lists = []
-sizes_below (suc n) units lists = sizes_to n units lists
+abbrev sizes_below : ℕ → List (List Variable) → List ℕ
+sizes_below zero lists = []
+sizes_below (suc n) lists = sizes_to n lists
+
+-- each word of a standard block takes one slot
+words_wide : (inner : Text → ℕ) (ws : List (Text × Elementary)) → entities_width inner (uninitialized (with_forms ws)) ≡ length ws
+words_wide inner [] = refl
+words_wide inner (w ∷ ws) = ap suc (words_wide inner ws)
 
 module _ (c : Config) where
-  abbrev units : ℕ
-  units = length c.units
-
   -- what the sizes of blocks are to be
   abbrev AreSizes : ℕ → Type 0
-  AreSizes n = (name : Text) → block_size (known n) units (sizes_below n units (block_lists c)) (block_type c name) ≡ capped (block_width n c name)
+  AreSizes n = (name : Text) → block_size (known n) (sizes_below n (block_lists c)) (block_type c name) ≡ capped (block_width n c name)
 
-  form_counted : (n : ℕ) → AreSizes n → (f : Form) → variable_size (known n) units (sizes_below n units (block_lists c)) (type_of c f) ≡ capped (form_width (block_width n c) f)
+  form_counted : (n : ℕ) → AreSizes n → (f : Form) → variable_size (known n) (sizes_below n (block_lists c)) (type_of c f) ≡ capped (form_width (block_width n c) f)
   form_counted n are (ScalarForm s) = refl
   form_counted n are (ArrayForm bounds element) = refl
   form_counted n are (BlockForm name) = are name
 
-  list_counted : (n : ℕ) → AreSizes n → (a : ℕ) (es : List Entity) → list_size (known n) units (sizes_below n units (block_lists c)) (capped a) (map (shown c) es) ≡ capped (a + entities_width (block_width n c) es)
+  list_counted : (n : ℕ) → AreSizes n → (a : ℕ) (es : List Entity) → list_size (known n) (sizes_below n (block_lists c)) (capped a) (map (shown c) es) ≡ capped (a + entities_width (block_width n c) es)
   list_counted n are a [] = ap capped (let e : a ≡ a + 0 = omega arith in e)
   list_counted n are a (e ∷ es) =
-      ap (λ k. list_size (known n) units (sizes_below n units (block_lists c)) (capped (capped a + k)) (map (shown c) es)) (form_counted n are e.form)
-      ∙ ap (λ k. list_size (known n) units (sizes_below n units (block_lists c)) k (map (shown c) es)) (capped_twice a (form_width (block_width n c) e.form))
+      ap (λ k. list_size (known n) (sizes_below n (block_lists c)) (capped (capped a + k)) (map (shown c) es)) (form_counted n are e.form)
+      ∙ ap (λ k. list_size (known n) (sizes_below n (block_lists c)) k (map (shown c) es)) (capped_twice a (form_width (block_width n c) e.form))
       ∙ list_counted n are (a + form_width (block_width n c) e.form) es
       ∙ ap capped (let f : a + form_width (block_width n c) e.form + entities_width (block_width n c) es ≡ a + (form_width (block_width n c) e.form + entities_width (block_width n c) es) = omega arith in f)
 
-  sizes_are : (n : ℕ) → sizes_to n units (block_lists c) ≡ map (λ vs. list_size (known n) units (sizes_below n units (block_lists c)) 0 vs) (block_lists c)
+  sizes_are : (n : ℕ) → sizes_to n (block_lists c) ≡ map (λ vs. list_size (known n) (sizes_below n (block_lists c)) 0 vs) (block_lists c)
   sizes_are zero = refl
   sizes_are (suc n) = refl
 
   -- each is as wide as its slots are many, as far as that can be counted
   pub are_sizes : (n : ℕ) → AreSizes n
   are_sizes zero name = refl
-  are_sizes (suc n) name = by_case (block_type c name) (which_block c name) refl (are_sizes n)
+  are_sizes (suc n) name = by_case (block_type c name) (which_block c name) (are_sizes n)
     where
-      sized : AreSizes n → (b : BlockType) → block_type c name ≡ Some b → size_or_zero (slice_get (sizes_to n units (block_lists c)) (block_place units b)) ≡ capped (entities_width (block_width n c) (block_entities c name))
-      sized below b is =
-          ap (λ ss. size_or_zero (slice_get ss (block_place units b))) (sizes_are n)
-          ∙ ap size_or_zero (mapped_at (λ vs. list_size (known n) units (sizes_below n units (block_lists c)) 0 vs) (block_lists c) (block_place units b) (map (shown c) (block_entities c name)) (block_list c name b is))
-          ∙ list_counted n below 0 (block_entities c name)
-          ∙ ap capped (let e : 0 + entities_width (block_width n c) (block_entities c name) ≡ entities_width (block_width n c) (block_entities c name) = omega arith in e)
-
-      by_case : (o : Option BlockType) → IsBlock c name o → block_type c name ≡ o → AreSizes n → block_size true units (sizes_to n units (block_lists c)) o ≡ capped (block_width (suc n) c name)
-      by_case (Some b) is at below = sized below b at
-      by_case None (of_standard s o here e) at below = cc
-      by_case None (of_own k o v e) at below = cc
-      by_case None (of_none o here e) at below = ap (λ es. capped (entities_width (block_width n c) es)) (sym here)
+      by_case : (o : Option BlockType) → IsBlock c name o → AreSizes n → block_size true (sizes_to n (block_lists c)) o ≡ capped (entities_width (block_width n c) (block_entities c name))
+      by_case _ (of_standard s o at e) below =
+          ap (block_size true (sizes_to n (block_lists c))) e
+          ∙ ap capped (sym (ap (entities_width (block_width n c)) (block_is_standard c name s at ∙ words_are s) ∙ words_wide (block_width n c) (all_words s)))
+      by_case _ (of_own k o v e) below =
+          ap (block_size true (sizes_to n (block_lists c))) e
+          ∙ ap (λ ss. size_or_zero (slice_get ss k)) (sizes_are n)
+          ∙ ap size_or_zero (mapped_at (λ vs. list_size (known n) (sizes_below n (block_lists c)) 0 vs) (block_lists c) k (map (shown c) (own_entities v.unit)) (mapped_at (λ u. map (shown c) (own_entities u)) c.units k v.unit v.there))
+          ∙ list_counted n below 0 (own_entities v.unit)
+          ∙ ap capped (let z : 0 + entities_width (block_width n c) (own_entities v.unit) ≡ entities_width (block_width n c) (own_entities v.unit) = omega arith in z)
+          ∙ ap (λ es. capped (entities_width (block_width n c) es)) (sym (block_is_own c name v.unit v.is))
+      by_case _ (of_none o here e) below = ap (block_size true (sizes_to n (block_lists c))) e ∙ ap (λ es. capped (entities_width (block_width n c) es)) (sym here)
 
 -- sizes that stay the same once stay so
-sizes_stay : (n k m : ℕ) (lists : List (List Variable)) → sizes_to (suc n) m lists ≡ sizes_to n m lists → sizes_to (k + n) m lists ≡ sizes_to n m lists
-sizes_stay n zero m lists e = ap (λ i. sizes_to i m lists) (let z : 0 + n ≡ n = omega arith in z)
-sizes_stay n (suc k) m lists e =
-    ap (λ i. sizes_to i m lists) (let z : suc k + n ≡ suc (k + n) = omega arith in z) ∙ ap (λ ss. map (λ vs. list_size true m ss 0 vs) lists) (sizes_stay n k m lists e) ∙ e
+sizes_stay : (n k : ℕ) (lists : List (List Variable)) → sizes_to (suc n) lists ≡ sizes_to n lists → sizes_to (k + n) lists ≡ sizes_to n lists
+sizes_stay n zero lists e = ap (λ i. sizes_to i lists) (let z : 0 + n ≡ n = omega arith in z)
+sizes_stay n (suc k) lists e =
+    ap (λ i. sizes_to i lists) (let z : suc k + n ≡ suc (k + n) = omega arith in z) ∙ ap (λ ss. map (λ vs. list_size true ss 0 vs) lists) (sizes_stay n k lists e) ∙ e
 
-pub sizes_end : (n m : ℕ) (lists : List (List Variable)) (ss next : List ℕ) → n < 16 → ss ≡ sizes_to n m lists → next ≡ map (λ vs. list_size true m ss 0 vs) lists → next ≡ ss → next ≡ sizes_to 16 m lists
-sizes_end n m lists ss next low at made same =
-    let stays : sizes_to (suc n) m lists ≡ sizes_to n m lists = ap (λ ts. map (λ vs. list_size true m ts 0 vs) lists) (sym at) ∙ sym made ∙ same ∙ at in
-    same ∙ at ∙ sym (sizes_stay n (16 - n) m lists stays) ∙ ap (λ k. sizes_to k m lists) (let e : 16 - n + n ≡ 16 = omega (arith, low) in e)
+pub sizes_end : (n : ℕ) (lists : List (List Variable)) (ss next : List ℕ) → n < 16 → ss ≡ sizes_to n lists → next ≡ map (λ vs. list_size true ss 0 vs) lists → next ≡ ss → next ≡ sizes_to 16 lists
+sizes_end n lists ss next low at made same =
+    let stays : sizes_to (suc n) lists ≡ sizes_to n lists = ap (λ ts. map (λ vs. list_size true ts 0 vs) lists) (sym at) ∙ sym made ∙ same ∙ at in
+    same ∙ at ∙ sym (sizes_stay n (16 - n) lists stays) ∙ ap (λ k. sizes_to k lists) (let e : 16 - n + n ≡ 16 = omega (arith, low) in e)
 
 -- `==` of sizes
 pub same_sizes : (first second : List ℕ) (r : Bool) → r ≡ bytes_eq first second → r ≡ true → first ≡ second
@@ -228,20 +196,20 @@ offset_found wide es name = option_map (λ f. capped (offset_in wide es name)) (
 
 module _ (c : Config) where
   abbrev sizes : List ℕ
-  sizes = sizes_to 16 (length c.units) (block_lists c)
+  sizes = sizes_to 16 (block_lists c)
 
   abbrev wide : Form → ℕ
   wide = form_width (block_width 17 c)
 
   behind : (es : List Entity) (o : Offsets) (a : ℕ) → o.total ≡ capped a → (q : Text)
-      → get (with_offsets (length c.units) sizes o (map (shown c) es)).table q ≡ or_else (get o.table q) (option_map (λ f. capped (a + offset_in wide es q)) (form_in es q))
+      → get (with_offsets sizes o (map (shown c) es)).table q ≡ or_else (get o.table q) (option_map (λ f. capped (a + offset_in wide es q)) (form_in es q))
   behind [] o a is q = by_entry (get o.table q)
     where
       by_entry : (x : Option ℕ) → x ≡ or_else x None
       by_entry None = refl
       by_entry (Some k) = refl
   behind (e ∷ es) o a is q =
-      behind es (with_offset o e.name (variable_size true (length c.units) sizes (type_of c e.form))) (a + wide e.form)
+      behind es (with_offset o e.name (variable_size true sizes (type_of c e.form))) (a + wide e.form)
       (ap₂ (λ t k. capped (t + k)) is (form_counted c 17 (are_sizes c 17) e.form) ∙ capped_twice a (wide e.form)) q
       ∙ ap (λ x. or_else x (option_map (λ f. capped (a + wide e.form + offset_in wide es q)) (form_in es q))) (get-with_new o.table e.name o.total q)
       ∙ by_name (get o.table q) (bytes_eq e.name q)
@@ -253,7 +221,7 @@ module _ (c : Config) where
       by_name None false = ap (λ k. option_map (λ f. capped k) (form_in es q)) (let z : a + wide e.form + offset_in wide es q ≡ a + (wide e.form + offset_in wide es q) = omega arith in z)
 
   -- a table has each name's offset
-  pub offsets_are : (es : List Entity) (q : Text) → get (offsets_of (length c.units) sizes (map (shown c) es)) q ≡ offset_found wide es q
+  pub offsets_are : (es : List Entity) (q : Text) → get (offsets_of sizes (map (shown c) es)) q ≡ offset_found wide es q
   offsets_are es q =
       behind es no_offsets 0 refl q ∙ ap (λ x. or_else x (option_map (λ f. capped (0 + offset_in wide es q)) (form_in es q))) (get-empty q)
       ∙ ap (λ k. option_map (λ f. capped k) (form_in es q)) (let z : 0 + offset_in wide es q ≡ offset_in wide es q = omega arith in z)
@@ -261,8 +229,8 @@ module _ (c : Config) where
 -- A UNIT'S LIST
 
 pub unit_list : (c : Config) (u : ProgramUnit) (mine others : List Variable) (t : NameMap ℕ) → mine ≡ map (shown c) (own_entities u) → map (shown c) (own_entities u) ++ others ≡ map (shown c) (unit_entities c u)
-    → t ≡ offsets_of (length c.units) (sizes_of c) (mine ++ others) → t ≡ unit_offsets c u
-unit_list c u mine others t is all made = made ∙ ap (λ vs. offsets_of (length c.units) (sizes_of c) (vs ++ others)) is ∙ ap (offsets_of (length c.units) (sizes_of c)) all
+    → t ≡ offsets_of (sizes_of c) (mine ++ others) → t ≡ unit_offsets c u
+unit_list c u mine others t is all made = made ∙ ap (λ vs. offsets_of (sizes_of c) (vs ++ others)) is ∙ ap (offsets_of (sizes_of c)) all
 
 -- the list of a unit's own variables
 other_or : {A : Type 0} (xs : List A) (k : ℕ) (d e : A) → k < length xs → get_or xs k d ≡ get_or xs k e
@@ -273,12 +241,11 @@ other_or (x ∷ xs) (suc k) d e low = other_or xs k d e (omega arith)
 pub own_list : (c : Config) (lists : List (List Variable)) (k : ℕ) (u : ProgramUnit) (vs d : List Variable) → lists ≡ block_lists c → slice_get c.units k ≡ Some u → k < length lists → vs ≡ get_or lists k d → vs ≡ map (shown c) (own_entities u)
 own_list c lists k u vs d are there low is =
     let at : slice_get lists k ≡ Some vs = read_at lists lists k vs refl low (is ∙ other_or lists k d vs low) in
-    same_Some vs (map (shown c) (own_entities u)) (sym at ∙ ap (λ ls. slice_get ls k) are ∙ at_own c (λ w. map (shown c) (own_entities w)) standard_lists k u there)
+    same_Some vs (map (shown c) (own_entities u)) (sym at ∙ ap (λ ls. slice_get ls k) are ∙ mapped_at (λ w. map (shown c) (own_entities w)) c.units k u there)
 
 pub lists_many : (c : Config) (lists : List (List Variable)) (k : ℕ) → lists ≡ block_lists c → k < length c.units → k < length lists
 lists_many c lists k are low =
-    let size : length lists ≡ length c.units + length standard_lists =
-    ap length (are ∙ added_all (own_lists c) standard_lists) ∙ length-append (own_lists c) standard_lists ∙ ap (λ n. n + length standard_lists) (length_mapped (λ u. map (shown c) (own_entities u)) c.units) in
+    let size : length lists ≡ length c.units = ap length are ∙ length_mapped (λ u. map (shown c) (own_entities u)) c.units in
     omega (arith, size, low)
 
 -- the unit of a number
@@ -305,82 +272,91 @@ next_made f xs i ts t after all low made grown rest =
     let r = one_there xs i low in
     ap (λ bs. bs ++ map f (drop (i + 1) xs)) (grown ∙ ap (λ b. ts ++ b ∷ []) (made r.0 r.1)) ∙ append_assoc ts (f r.0 ∷ []) (map f (drop (i + 1) xs)) ∙ ap (λ ys. ts ++ map f ys) (sym r.2) ∙ rest
 
-pub sizes_found : (c : Config) (n : ℕ) (lists : List (List Variable)) (ss : List ℕ) → n ≡ length c.units → lists ≡ block_lists c → ss ≡ sizes_to 16 n lists → ss ≡ sizes_of c
-sizes_found c n lists ss count is made = made ∙ ap₂ (sizes_to 16) count is
+pub sizes_found : (c : Config) (lists : List (List Variable)) (ss : List ℕ) → lists ≡ block_lists c → ss ≡ sizes_to 16 lists → ss ≡ sizes_of c
+sizes_found c lists ss is made = made ∙ ap (sizes_to 16) is
 
 -- THE WORDS OF STANDARD BLOCKS
 
-abbrev is_scalar : Form → Bool
-is_scalar (ScalarForm s) = true
-is_scalar (ArrayForm bounds element) = false
-is_scalar (BlockForm name) = false
+-- where a name stands among some, counted from a place on
+place_shifted : (k : ℕ) (vs : List Variable) (q : Text) → place_from k vs q ≡ option_map (λ n. k + n) (place_from 0 vs q)
+place_shifted k [] q = refl
+place_shifted k (v ∷ vs) q = by_name (is_name v.name q) (place_shifted (k + 1) vs q) (place_shifted 1 vs q)
+  where
+    moved : (o : Option ℕ) → option_map (λ n. k + 1 + n) o ≡ option_map (λ n. k + n) (option_map (λ n. 1 + n) o)
+    moved None = refl
+    moved (Some n) = ap Some (let e : k + 1 + n ≡ k + (1 + n) = omega arith in e)
 
--- whether each takes one slot
-abbrev are_scalars : List Entity → Bool
-are_scalars [] = true
-are_scalars (e ∷ es) = is_scalar e.form && are_scalars es
+    by_name : (b : Bool) → place_from (k + 1) vs q ≡ option_map (λ n. k + 1 + n) (place_from 0 vs q) → place_from 1 vs q ≡ option_map (λ n. 1 + n) (place_from 0 vs q)
+        → (if b then Some k else place_from (k + 1) vs q) ≡ option_map (λ n. k + n) (if b then Some 0 else place_from 1 vs q)
+    by_name true rest one = ap Some (let e : k ≡ k + 0 = omega arith in e)
+    by_name false rest one = rest ∙ moved (place_from 0 vs q) ∙ ap (option_map (λ n. k + n)) (sym one)
 
-standard_scalars : (s : StandardBlock) → are_scalars (standard_entities (standard_variables s)) ≡ true
-standard_scalars Sr = refl
-standard_scalars Rs = refl
-standard_scalars RTrig = refl
-standard_scalars FTrig = refl
-standard_scalars Ctu = refl
-standard_scalars Ctd = refl
-standard_scalars Ctud = refl
-standard_scalars Tp = refl
-standard_scalars Ton = refl
-standard_scalars Tof = refl
+-- and behind others
+place_behind : (xs ys : List (Text × Elementary)) (q : Text)
+    → place_from 0 (map word_variable (xs ++ ys)) q ≡ or_else (place_from 0 (map word_variable xs) q) (option_map (λ n. length xs + n) (place_from 0 (map word_variable ys) q))
+place_behind [] ys q = kept (place_from 0 (map word_variable ys) q)
+  where
+    kept : (o : Option ℕ) → o ≡ option_map (λ n. 0 + n) o
+    kept None = refl
+    kept (Some n) = ap Some (let e : n ≡ 0 + n = omega arith in e)
+place_behind (x ∷ xs) ys q =
+    by_name (is_name x.0 q) (place_shifted 1 (map word_variable (xs ++ ys)) q ∙ ap (option_map (λ n. 1 + n)) (place_behind xs ys q) ∙ both (place_from 0 (map word_variable xs) q) (place_from 0 (map word_variable ys) q) ∙ ap (λ o. or_else o (option_map (λ n. suc (length xs) + n) (place_from 0 (map word_variable ys) q))) (sym (place_shifted 1 (map word_variable xs) q)))
+  where
+    one_more : (o : Option ℕ) → option_map (λ n. 1 + n) (option_map (λ n. length xs + n) o) ≡ option_map (λ n. suc (length xs) + n) o
+    one_more None = refl
+    one_more (Some n) = ap Some (let e : 1 + (length xs + n) ≡ suc (length xs) + n = omega arith in e)
 
-standard_few : (s : StandardBlock) → length (standard_entities (standard_variables s)) ≤ 10
-standard_few Sr = lit≤ tt
-standard_few Rs = lit≤ tt
-standard_few RTrig = lit≤ tt
-standard_few FTrig = lit≤ tt
-standard_few Ctu = lit≤ tt
-standard_few Ctd = lit≤ tt
-standard_few Ctud = lit≤ tt
-standard_few Tp = lit≤ tt
-standard_few Ton = lit≤ tt
-standard_few Tof = lit≤ tt
+    both : (o p : Option ℕ) → option_map (λ n. 1 + n) (or_else o (option_map (λ n. length xs + n) p)) ≡ or_else (option_map (λ n. 1 + n) o) (option_map (λ n. suc (length xs) + n) p)
+    both (Some k) p = refl
+    both None p = one_more p
 
-first_of_both : (a b : Bool) → (a && b) ≡ true → a ≡ true
-first_of_both true b both = refl
-first_of_both false b both = both
+    by_name : (b : Bool) → place_from 1 (map word_variable (xs ++ ys)) q ≡ or_else (place_from 1 (map word_variable xs) q) (option_map (λ n. suc (length xs) + n) (place_from 0 (map word_variable ys) q))
+        → (if b then Some 0 else place_from 1 (map word_variable (xs ++ ys)) q) ≡ or_else (if b then Some 0 else place_from 1 (map word_variable xs) q) (option_map (λ n. suc (length xs) + n) (place_from 0 (map word_variable ys) q))
+    by_name true rest = refl
+    by_name false rest = rest
 
-second_of_both : (a b : Bool) → (a && b) ≡ true → b ≡ true
-second_of_both true b both = both
-second_of_both false b both = cc
+-- the place of a word among all, from its places among three lists
+pub placed_in : (s : StandardBlock) (q : Text) (a b : ℕ) → a ≡ length (standard_words s).inputs → b ≡ capped (a + length (standard_words s).outputs)
+    → or_else (or_else (option_map (λ k. capped (0 + k)) (place_from 0 (map word_variable (standard_words s).inputs) q)) (option_map (λ k. capped (a + k)) (place_from 0 (map word_variable (standard_words s).outputs) q))) (option_map (λ k. capped (b + k)) (place_from 0 (map word_variable (standard_words s).inner) q))
+    ≡ standard_offset s q
+placed_in s q a b is_a is_b =
+    sym (ap (option_map capped) (place_behind (standard_words s).inputs ((standard_words s).outputs ++ (standard_words s).inner) q
+    ∙ ap (λ o. or_else (place_from 0 (map word_variable (standard_words s).inputs) q) (option_map (λ n. length (standard_words s).inputs + n) o)) (place_behind (standard_words s).outputs (standard_words s).inner q))
+    ∙ all (place_from 0 (map word_variable (standard_words s).inputs) q) (place_from 0 (map word_variable (standard_words s).outputs) q) (place_from 0 (map word_variable (standard_words s).inner) q))
+  where
+    i : ℕ
+    i = length (standard_words s).inputs
+
+    o : ℕ
+    o = length (standard_words s).outputs
+
+    all : (x y z : Option ℕ) → option_map capped (or_else x (option_map (λ n. length (standard_words s).inputs + n) (or_else y (option_map (λ n. length (standard_words s).outputs + n) z)))) ≡ or_else (or_else (option_map (λ k. capped (0 + k)) x) (option_map (λ k. capped (a + k)) y)) (option_map (λ k. capped (b + k)) z)
+    all (Some k) y z = refl
+    all None (Some k) z = ap Some (let e : capped (length (standard_words s).inputs + k) ≡ capped (a + k) = omega (arith, is_a) in e)
+    all None None None = refl
+    all None None (Some k) = ap Some (let e : capped (length (standard_words s).inputs + (length (standard_words s).outputs + k)) ≡ capped (b + k) = omega (arith, is_a, is_b) in e)
 
 module _ (c : Config) where
-  one_wide : (f : Form) → is_scalar f ≡ true → form_width (block_width 17 c) f ≡ 1
-  one_wide (ScalarForm s) is = refl
-  one_wide (ArrayForm bounds element) is = cc
-  one_wide (BlockForm name) is = cc
-
   -- where each takes one slot, the place of a name is its offset
-  placed : (es : List Entity) (k : ℕ) → are_scalars es ≡ true → k + length es ≤ 9223372036854775808 → (q : Text)
-      → place_from k (map (shown c) es) q ≡ option_map (λ f. capped (k + offset_in (form_width (block_width 17 c)) es q)) (form_in es q)
+  placed : (ws : List (Text × Elementary)) (k : ℕ) (q : Text)
+      → place_from k (map word_variable ws) q ≡ option_map (λ f. k + offset_in (form_width (block_width 17 c)) (uninitialized (with_forms ws)) q) (form_in (uninitialized (with_forms ws)) q)
   unfolding is_name
-  placed [] k all fits q = refl
-  placed (e ∷ es) k all fits q =
-      by_name (bytes_eq e.name q) (placed es (k + 1) (second_of_both (is_scalar e.form) (are_scalars es) all) (let h : k + 1 + length es ≤ 9223372036854775808 = omega (arith, fits) in h) q)
+  placed [] k q = refl
+  placed (w ∷ ws) k q = by_name (bytes_eq w.0 q) (placed ws (k + 1) q)
     where
-      wide : Form → ℕ
-      wide = form_width (block_width 17 c)
+      es : List Entity
+      es = uninitialized (with_forms ws)
 
-      next : k + 1 + offset_in (form_width (block_width 17 c)) es q ≡ k + (form_width (block_width 17 c) e.form + offset_in (form_width (block_width 17 c)) es q)
-      next = let w : form_width (block_width 17 c) e.form ≡ 1 = one_wide e.form (first_of_both (is_scalar e.form) (are_scalars es) all) in omega (arith, w)
-
-      by_name : (b : Bool) → place_from (k + 1) (map (shown c) es) q ≡ option_map (λ f. capped (k + 1 + offset_in (form_width (block_width 17 c)) es q)) (form_in es q)
-          → (if b then Some k else place_from (k + 1) (map (shown c) es) q)
-          ≡ option_map (λ f. capped (k + (if b then 0 else form_width (block_width 17 c) e.form + offset_in (form_width (block_width 17 c)) es q))) (if b then Some e.form else form_in es q)
-      by_name true rest = ap Some (let z : k ≡ capped (k + 0) = omega (arith, fits) in z)
-      by_name false rest = rest ∙ ap (λ n. option_map (λ f. capped n) (form_in es q)) next
+      by_name : (b : Bool) → place_from (k + 1) (map word_variable ws) q ≡ option_map (λ f. k + 1 + offset_in (form_width (block_width 17 c)) (uninitialized (with_forms ws)) q) (form_in (uninitialized (with_forms ws)) q)
+          → (if b then Some k else place_from (k + 1) (map word_variable ws) q)
+          ≡ option_map (λ f. k + (if b then 0 else 1 + offset_in (form_width (block_width 17 c)) (uninitialized (with_forms ws)) q)) (if b then Some (word_form w.1) else form_in (uninitialized (with_forms ws)) q)
+      by_name true rest = ap Some (let z : k ≡ k + 0 = omega arith in z)
+      by_name false rest = rest ∙ ap (λ n. option_map (λ f. n) (form_in es q)) (let z : k + 1 + offset_in (form_width (block_width 17 c)) (uninitialized (with_forms ws)) q ≡ k + (1 + offset_in (form_width (block_width 17 c)) (uninitialized (with_forms ws)) q) = omega arith in z)
 
   -- the place of a word of a standard block is its offset
   pub standard_offset_is : (s : StandardBlock) (q : Text) → standard_offset s q ≡ offset_found (form_width (block_width 17 c)) (standard_entities (standard_variables s)) q
-  standard_offset_is s q =
-      ap (λ vs. place_from 0 vs q) (sym (standard_is c s))
-      ∙ placed (standard_entities (standard_variables s)) 0 (standard_scalars s) (let few : length (standard_entities (standard_variables s)) ≤ 10 = standard_few s in omega (arith, few)) q
-      ∙ ap (λ k. option_map (λ f. capped k) (form_in (standard_entities (standard_variables s)) q)) (let z : 0 + offset_in (form_width (block_width 17 c)) (standard_entities (standard_variables s)) q ≡ offset_in (form_width (block_width 17 c)) (standard_entities (standard_variables s)) q = omega arith in z)
+  standard_offset_is s q = ap (option_map capped) (placed (all_words s) 0 q) ∙ capped_at (form_in (uninitialized (with_forms (all_words s))) q) ∙ ap (λ es. offset_found (form_width (block_width 17 c)) es q) (sym (words_are s))
+    where
+      capped_at : (f : Option Form) → option_map capped (option_map (λ g. 0 + offset_in (form_width (block_width 17 c)) (uninitialized (with_forms (all_words s))) q) f) ≡ option_map (λ g. capped (offset_in (form_width (block_width 17 c)) (uninitialized (with_forms (all_words s))) q)) f
+      capped_at None = refl
+      capped_at (Some g) = ap Some (let z : capped (0 + offset_in (form_width (block_width 17 c)) (uninitialized (with_forms (all_words s))) q) ≡ capped (offset_in (form_width (block_width 17 c)) (uninitialized (with_forms (all_words s))) q) = omega arith in z)

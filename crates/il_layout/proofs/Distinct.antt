@@ -17,7 +17,6 @@ use Rattle.il_spec.specs.declared.tree.Form.TheVariants.{Scalar as ScalarForm, A
 use Rattle.il_spec.specs.declared.tree.UnitKind.{UnitKind}
 use Rattle.il_spec.specs.declared.tree.UnitKind.TheVariants.{Function, FunctionBlock, Program}
 use Rattle.il_rules.specs.declared.names.StandardBlock.{StandardBlock}
-use Rattle.il_rules.specs.declared.names.StandardBlock.TheVariants.{Sr, Rs, RTrig, FTrig, Ctu, Ctd, Ctud, Tp, Ton, Tof}
 use Rattle.il_rules.specs.Names.{is_program, is_program_kind, ImageName, image_of, image_name, is_predeclared, standard_function, standard_block, standard_variables, sees}
 use Rattle.il_rules.specs.Declarations.{Admitted, ScalarsAlone, ScalarsAndArrays, admitted_variables, admits_arrays, types_in, unit_types, written_types, unit_declarations, unit_names, names_in, type_numbers, bounds_numbers, subrange_numbers, unless, has_value, is_within, sizes_of, predeclared_unit, predeclared_variable, second_variable, second_global, size_outside}
 use Rattle.il_rules.specs.Faults.{duplicate, initial_outside, HasNoFault, Broken, Declaring}
@@ -27,7 +26,8 @@ use Rattle.il_run.specs.Meaning.{Entity, entities, own_entities, result_entities
 use Rattle.il_scan_laws.proofs.Lists.{in_nothing, at_head, in_tail, in_map, in_flat_map, AreDistinct, distinct_names}
 use Rattle.il_scan_laws.proofs.Fresh.{entity, of_entities}
 use Rattle.il_scan_laws.proofs.Meant.{no_22, input_typed, output_typed, variable_typed, external_typed}
-use Rattle.il_scan_laws.proofs.Words.{all_of, first_of_two, second_of_two, contains_all, is_word, word_by, are_apart_by}
+use Rattle.il_rules.proofs.Every.{all_of, first_of_two, second_of_two, contains_all, every_block}
+use Rattle.il_scan_laws.proofs.Words.{is_word, word_by, are_apart_by}
 use Rattle.il_layout.specs.Cells.{IsPlain, HasNone, HasShort, IsShort, AreNamed}
 use Rattle.il_layout.specs.Places.{seen_among, seen_image, is_common, unit_entities}
 use Rattle.il_layout.specs.Whole.{are_named}
@@ -348,16 +348,7 @@ module _ (c : Config) (unbroken : HasNoFault (Broken Declaring c)) (u : ProgramU
 -- BLOCKS
 
 plain_words : (b : StandardBlock) → are_named (standard_entities (standard_variables b)) ≡ true
-plain_words Sr = refl
-plain_words Rs = refl
-plain_words RTrig = refl
-plain_words FTrig = refl
-plain_words Ctu = refl
-plain_words Ctd = refl
-plain_words Ctud = refl
-plain_words Tp = refl
-plain_words Ton = refl
-plain_words Tof = refl
+plain_words = every_block (λ b. are_named (standard_entities (standard_variables b))) refl
 
 pub each_of : (P : ProgramUnit → Type 0) (us : List ProgramUnit) → ((u : ProgramUnit) → Contains us u → P u) → EachOf P us
 each_of P [] all = tt

@@ -7,21 +7,24 @@ use Rattle.il_spec.specs.declared.tree.Subrange.{Subrange}
 use Rattle.il_spec.specs.declared.tree.Index.TheVariants.{Number, Variable as ByVariable}
 use Rattle.il_spec.specs.declared.tree.Reference.{Reference}
 use Rattle.il_spec.specs.declared.tree.Reference.TheVariants.{Literal as LiteralReference, Variable, Element, Member}
+use Rattle.il_spec.specs.declared.tree.Elementary.{Elementary}
+use Rattle.il_spec.specs.ElementaryTypes.{plain}
 use Rattle.il_spec.specs.declared.tree.Form.{Form}
 use Rattle.il_spec.specs.declared.tree.Form.TheVariants.{Scalar as ScalarForm, Array as ArrayForm, Block as BlockForm}
 use Rattle.il_spec.specs.declared.tree.Unit.{Unit as ProgramUnit}
 use Rattle.il_spec.specs.declared.tree.Config.{Config}
 use Rattle.il_rules.specs.declared.names.StandardBlock.{StandardBlock}
-use Rattle.il_rules.specs.declared.names.StandardBlock.TheVariants.{Sr, Rs, RTrig, FTrig, Ctu, Ctd, Ctud, Tp, Ton, Tof}
-use Rattle.il_rules.specs.Names.{or_else, entry_of, block_variables, form_named, standard_variables}
+use Rattle.il_rules.specs.Names.{or_else, entry_of, block_variables, form_named, standard_variables, with_forms}
 use Rattle.il_rules.specs.Declarations.{is_within}
 use Rattle.il_table.specs.NameMap.{Text}
-use Rattle.il_run.specs.Meaning.{Entity, standard_entities, under, member_path, element_path, width, block_entities, inputs_of, outputs_of, denotation, inside, width_of, direct, element_of, indexed_by, member_of}
+use Rattle.il_run.specs.Meaning.{Entity, uninitialized, standard_entities, under, member_path, element_path, width, block_entities, inputs_of, outputs_of, denotation, inside, width_of, direct, element_of, indexed_by, member_of}
 use Rattle.il_layout.specs.declared.flat.Cell.{Cell}
 use Rattle.il_layout.specs.Layout.{cell}
-use Rattle.il_layout.specs.Flattened.{Names, block_of, index_in, HasCell, HasCells, standard_cells}
+use Rattle.il_layout.specs.Flattened.{Names, block_of, index_in, HasCell, HasCells, word_cells, standard_cells}
 use Rattle.il_layout.specs.Cells.{element_cells, cells_at, entity_cells, instance_cells, offset_in, form_in, Stands, AreNamed}
 use Rattle.il_layout.specs.Places.{form_width, entities_width, block_width, names_by, capped, IsLayout, IsHeight, IsFormBelow, AreBelow}
+use Rattle.il_layout.specs.Making.{all_words}
+use Rattle.il_layout.proofs.Counted.{forms_are, words_are}
 use Rattle.il_layout.proofs.Placed.{stands_at}
 use Rattle.il_layout.proofs.Declared.{same_bytes, some_name, words, block_is_standard}
 
@@ -154,16 +157,11 @@ some_text (d ∷ p) some = (d, p, refl)
 
 -- the slots of a standard block's variables
 standard_same : (inner : Text → Text → List Cell) (d : ℕ) (p : Text) (b : StandardBlock) → entity_cells inner (d ∷ p) (standard_entities (standard_variables b)) ≡ standard_cells (d ∷ p) b
-standard_same inner d p Sr = refl
-standard_same inner d p Rs = refl
-standard_same inner d p RTrig = refl
-standard_same inner d p FTrig = refl
-standard_same inner d p Ctu = refl
-standard_same inner d p Ctd = refl
-standard_same inner d p Ctud = refl
-standard_same inner d p Tp = refl
-standard_same inner d p Ton = refl
-standard_same inner d p Tof = refl
+standard_same inner d p b = ap (entity_cells inner (d ∷ p)) (words_are b) ∙ words_same (all_words b) ∙ ap (word_cells (d ∷ p)) (sym (forms_are b))
+  where
+    words_same : (ws : List (Text × Elementary)) → entity_cells inner (d ∷ p) (uninitialized (with_forms ws)) ≡ word_cells (d ∷ p) (with_forms ws)
+    words_same [] = refl
+    words_same (w ∷ ws) = ap (λ xs. cell (member_path (d ∷ p) w.0) (plain w.1) ∷ xs) (words_same ws)
 
 module _ (c : Config) (inner : Text → Text → List Cell) (wide : Text → ℕ) (is : IsLayout c inner wide) (named : (block : Text) → AreNamed (block_entities c block)) (cells : List Cell) where
   stands : (path : Text) (es : List Entity) (base : ℕ) → Stands cells base (entity_cells inner path es) → (name : Text) (f : Form) → form_in es name ≡ Some f

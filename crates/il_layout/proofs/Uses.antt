@@ -1,6 +1,7 @@
 -- How long chains of uses are, and chains of instances, from the rules of the order of units (36, 46).
 use Rattle.std.proofs.Common.{◌≡◌, ℕ, zero, suc, ◌+◌, ◌<◌, ◌≤◌, Bool, true, false, List, [], ◌∷◌, length, refl, sym, ap, ap₂, ◌∙◌, Option, Some, None, subst, arith}
-use Rattle.std.specs.Prelude.{Contains, max, bytes_eq, find, if◌then◌else◌}
+use Rattle.std.specs.Prelude.{Contains, max, bytes_eq, find, if◌then◌else◌, ◌==◌}
+use Rattle.std.proofs.lemmas.Bool.Decides.{nat_tests}
 use Rattle.std.proofs.lemmas.List.Elements.{Contains-append_left, Contains-append_right}
 use Rattle.std.proofs.lemmas.Slice.Eq.{bytes_eq-Decides}
 use Rattle.il_spec.specs.declared.tree.Form.{Form}
@@ -8,7 +9,7 @@ use Rattle.il_spec.specs.declared.tree.Form.TheVariants.{Scalar as ScalarForm, A
 use Rattle.il_spec.specs.declared.tree.Unit.{Unit as ProgramUnit}
 use Rattle.il_spec.specs.declared.tree.Config.{Config}
 use Rattle.il_rules.specs.declared.names.StandardBlock.{StandardBlock}
-use Rattle.il_rules.specs.declared.names.StandardBlock.TheVariants.{Sr, Rs, RTrig, FTrig, Ctu, Ctd, Ctud, Tp, Ton, Tof}
+use Rattle.il_rules.proofs.Every.{every_block}
 use Rattle.il_rules.specs.Names.{standard_block, standard_variables, is_predeclared, unit_named, function_block_named}
 use Rattle.il_rules.specs.Declarations.{predeclared_unit}
 use Rattle.il_rules.specs.Faults.{duplicate, HasNoFault, Broken, Declaring}
@@ -96,18 +97,12 @@ declares_use : (c : Config) (u v : ProgramUnit) (e : Entity) (block : Text) → 
 declares_use c u v e block has is found =
     in_found c (used_names u) block v (Contains-append_left (block_names (own_entities u)) (invoked_names u.body.steps) block (in_block_names (own_entities u) e block has is)) (block_is_unit c block v found)
 
+nat_same : (a b : ℕ) → (a == b) ≡ true → a ≡ b
+nat_same a b e = grind (arith, nat_tests)
+
 -- a standard block has no instances
 standard_low : (inner : Text → ℕ) (b : StandardBlock) → highest any_block inner (standard_entities (standard_variables b)) ≡ 0
-standard_low inner Sr = refl
-standard_low inner Rs = refl
-standard_low inner RTrig = refl
-standard_low inner FTrig = refl
-standard_low inner Ctu = refl
-standard_low inner Ctd = refl
-standard_low inner Ctud = refl
-standard_low inner Tp = refl
-standard_low inner Ton = refl
-standard_low inner Tof = refl
+standard_low inner b = nat_same _ 0 (every_block (λ d. highest any_block inner (standard_entities (standard_variables d)) == 0) refl b)
 
 module _ (c : Config) (unbroken : HasNoFault (Broken Declaring c)) (ordered : IsOrdered c) where
   -- a unit's height, and those that use it, are no more than 16 (46)

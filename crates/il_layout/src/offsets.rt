@@ -1,6 +1,6 @@
 // How far the variables of units and the words of blocks stand from the first.
 
-ghost use Rattle.std.specs.Prelude.{◌≡◌, ◌++◌, ◌<◌, ◌^◌, map, IfOk, OnOk};
+ghost use Rattle.std.specs.Prelude.{◌≡◌, ◌++◌, IfOk, OnOk};
 ghost use Rattle.il_layout.specs.Making.{no_offsets, with_offset, with_offsets, offsets_of};
 
 use crate::sizes::{sum, variable_size};
@@ -45,16 +45,14 @@ fn add_offset(
 // Adds variables.
 fn add_offsets(
     alloc: Global,
-    units: usize,
     sizes: &[usize],
     offsets: &mut Offsets,
     list: &[Variable],
 ) -> Result<(), AllocError>
-    requires { units < 2 ^ 63 }
-    ensures { OnOk result (offsets.new ≡ with_offsets units sizes.now offsets.old list.now) }
+    ensures { OnOk result (offsets.new ≡ with_offsets sizes.now offsets.old list.now) }
 {
     'variables: for variable in list {
-        let size = variable_size(true, units, sizes, variable.declared);
+        let size = variable_size(true, sizes, variable.declared);
         add_offset(alloc, offsets, variable.name.as_str(), size)?;
     }
     Ok(())
@@ -64,16 +62,14 @@ fn add_offsets(
 #[tactic(auto, using(crate::proofs::Counted::offsets_twice))]
 pub fn offsets_of(
     alloc: Global,
-    units: usize,
     sizes: &[usize],
     own: &[Variable],
     others: &[Variable],
 ) -> Result<Table<usize>, AllocError>
-    requires { units < 2 ^ 63 }
-    ensures { IfOk result (λ t. t ≡ offsets_of units sizes.now (own.now ++ others.now)) }
+    ensures { IfOk result (λ t. t ≡ offsets_of sizes.now (own.now ++ others.now)) }
 {
     let mut offsets = no_offsets(alloc);
-    add_offsets(alloc, units, sizes, &mut offsets, own)?;
-    add_offsets(alloc, units, sizes, &mut offsets, others)?;
+    add_offsets(alloc, sizes, &mut offsets, own)?;
+    add_offsets(alloc, sizes, &mut offsets, others)?;
     Ok(offsets.table)
 }

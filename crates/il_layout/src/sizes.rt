@@ -1,11 +1,11 @@
 // How many slots blocks and variables take.
 
-ghost use Rattle.std.specs.Prelude.{◌≡◌, ◌+◌, ◌<◌, ◌^◌, map, slice_get, length, IsTrue, IfOk, OnOk};
+ghost use Rattle.std.specs.Prelude.{◌≡◌, ◌+◌, map, slice_get, IsTrue, IfOk};
 ghost use Rattle.il_run.specs.Meaning.{width, own_entities};
-ghost use Rattle.il_layout.specs.Making.{shown, own_lists, block_lists, block_place, size_or_zero, block_size, variable_size, list_size, sizes_to};
+ghost use Rattle.il_layout.specs.Making.{shown, block_lists, size_or_zero, block_size, variable_size, list_size, sizes_to};
 ghost use Rattle.il_layout.specs.Places.{capped};
 
-use crate::standard::{add_lists, standard_number};
+use crate::standard::standard_size;
 use crate::variables::{Variable, own_variables};
 use il_scope::Scoped;
 use il_scope::entry::{BlockType, VariableType};
@@ -28,24 +28,11 @@ fn own_lists(
     Ok(lists)
 }
 
-/// The variables of each block: those of own ones by their units, and behind them those of the standard ones.
+/// The variables of each own block, by the numbers of the units.
 pub fn block_lists(alloc: Global, names: &Scoped) -> Result<Items<Items<Variable>>, AllocError>
     ensures { IfOk result (λ ls. ls ≡ block_lists names.now) }
 {
-    let mut lists = own_lists(alloc, names, names.config().units.as_slice())?;
-    add_lists(alloc, &mut lists)?;
-    Ok(lists)
-}
-
-/// The number of a block among them, where there are so many units.
-pub fn block_place(units: usize, block: BlockType) -> usize
-    requires { units < 2 ^ 63 }
-    ensures { result ≡ block_place units block }
-{
-    match block {
-        BlockType::Own(number) => number,
-        BlockType::Standard(block) => units + standard_number(block),
-    }
+    own_lists(alloc, names, names.config().units.as_slice())
 }
 
 // The most slots that are counted.
@@ -68,16 +55,16 @@ pub fn array_size(bounds: Subrange) -> usize
     sum(bounds.upper.abs_diff(bounds.lower) as usize, 1)
 }
 
-// How many slots a block takes, if sizes are known.
-fn block_size(known: bool, units: usize, sizes: &[usize], block: Option<BlockType>) -> usize
-    requires { units < 2 ^ 63 }
-    ensures { result ≡ block_size known units sizes.now block }
+// How many slots a block takes, if the sizes of own ones are known.
+fn block_size(known: bool, sizes: &[usize], block: Option<BlockType>) -> usize
+    ensures { result ≡ block_size known sizes.now block }
 {
     if !known {
         return 0;
     }
     match block {
-        Some(block) => size_at(sizes, block_place(units, block)),
+        Some(BlockType::Own(number)) => size_at(sizes, number),
+        Some(BlockType::Standard(block)) => standard_size(block),
         None => 0,
     }
 }
@@ -93,30 +80,23 @@ fn size_at(sizes: &[usize], place: usize) -> usize
 }
 
 /// How many slots a variable takes, if the sizes of blocks are known.
-pub(crate) fn variable_size(
-    known: bool,
-    units: usize,
-    sizes: &[usize],
-    declared: VariableType,
-) -> usize
-    requires { units < 2 ^ 63 }
-    ensures { result ≡ variable_size known units sizes.now declared }
+pub(crate) fn variable_size(known: bool, sizes: &[usize], declared: VariableType) -> usize
+    ensures { result ≡ variable_size known sizes.now declared }
 {
     match declared {
         VariableType::Scalar(_) => 1,
         VariableType::Array { bounds, .. } => array_size(bounds),
-        VariableType::Instance(block) => block_size(known, units, sizes, block),
+        VariableType::Instance(block) => block_size(known, sizes, block),
     }
 }
 
 // How many slots variables take.
-fn list_size(known: bool, units: usize, sizes: &[usize], list: &[Variable]) -> usize
-    requires { units < 2 ^ 63 }
-    ensures { result ≡ list_size known units sizes.now 0 list.now }
+fn list_size(known: bool, sizes: &[usize], list: &[Variable]) -> usize
+    ensures { result ≡ list_size known sizes.now 0 list.now }
 {
     let mut total: usize = 0;
     'variables: for variable in list {
-        total = sum(total, variable_size(known, units, sizes, variable.declared));
+        total = sum(total, variable_size(known, sizes, variable.declared));
     }
     total
 }
@@ -125,16 +105,14 @@ fn list_size(known: bool, units: usize, sizes: &[usize], list: &[Variable]) -> u
 fn next_sizes(
     alloc: Global,
     known: bool,
-    units: usize,
     sizes: &[usize],
     lists: &[Items<Variable>],
 ) -> Result<Items<usize>, AllocError>
-    requires { units < 2 ^ 63 }
-    ensures { IfOk result (λ ns. ns ≡ map (λ vs. list_size known units sizes.now 0 vs) lists.now) }
+    ensures { IfOk result (λ ns. ns ≡ map (λ vs. list_size known sizes.now 0 vs) lists.now) }
 {
     let mut all = Items::new(alloc);
     for list in lists {
-        all.push(list_size(known, units, sizes, list.as_slice()))?;
+        all.push(list_size(known, sizes, list.as_slice()))?;
     }
     Ok(all)
 }
@@ -147,18 +125,16 @@ fn are_same(first: &[usize], second: &[usize]) -> bool
     first == second
 }
 
-/// How many slots each block takes: instances stand no deeper than 17 in one another.
+/// How many slots each own block takes: instances stand no deeper than 17 in one another.
 pub(crate) fn block_sizes(
     alloc: Global,
-    units: usize,
     lists: &[Items<Variable>],
 ) -> Result<Items<usize>, AllocError>
-    requires { units < 2 ^ 63 }
-    ensures { IfOk result (λ ns. ns ≡ sizes_to 16 units lists.now) }
+    ensures { IfOk result (λ ns. ns ≡ sizes_to 16 lists.now) }
 {
-    let mut sizes = next_sizes(alloc, false, units, &[], lists)?;
+    let mut sizes = next_sizes(alloc, false, &[], lists)?;
     for _ in 0..16usize {
-        let next = next_sizes(alloc, true, units, sizes.as_slice(), lists)?;
+        let next = next_sizes(alloc, true, sizes.as_slice(), lists)?;
         if are_same(next.as_slice(), sizes.as_slice()) {
             return Ok(next);
         }

@@ -1,6 +1,6 @@
 // The offsets of all names.
 
-ghost use Rattle.std.specs.Prelude.{◌≡◌, ◌<◌, ◌≤◌, ◌^◌, length, map, drop, slice_get, Some, IfOk, OnOk};
+ghost use Rattle.std.specs.Prelude.{◌≡◌, ◌<◌, length, map, slice_get, Some, IfOk};
 ghost use Rattle.il_layout.specs.Making.{shown, added, block_lists, sizes_of, offsets_of, unit_offsets, all_offsets};
 ghost use Rattle.il_spec.specs.declared.tree.Unit.{Unit as ProgramUnit};
 ghost use Rattle.il_run.specs.Meaning.{own_entities};
@@ -23,14 +23,12 @@ fn unit_offsets(
     own: &[Variable],
     unit: &Unit,
 ) -> Result<Table<usize>, AllocError>
-    requires few { length names.now.units < 2 ^ 63 }
     requires sizes { sizes.now ≡ sizes_of names.now }
     requires own { own.now ≡ map (shown names.now) (own_entities unit.now) }
     ensures { IfOk result (λ t. t ≡ unit_offsets names.now unit.now) }
 {
-    let units = names.config().units.as_slice().len();
     let others = other_variables(alloc, names, unit)?;
-    offsets_of(alloc, units, sizes, own, others.as_slice())
+    offsets_of(alloc, sizes, own, others.as_slice())
 }
 
 // The offsets of the names of the unit of a number.
@@ -41,7 +39,6 @@ fn table_at(
     lists: &[Items<Variable>],
     at: usize,
 ) -> Result<Table<usize>, AllocError>
-    requires few { length names.now.units < 2 ^ 63 }
     requires sizes { sizes.now ≡ sizes_of names.now }
     requires lists { lists.now ≡ block_lists names.now }
     requires at { at < length names.now.units }
@@ -60,7 +57,6 @@ fn units_offsets(
     sizes: &[usize],
     lists: &[Items<Variable>],
 ) -> Result<Items<Table<usize>>, AllocError>
-    requires few { length names.now.units < 2 ^ 63 }
     requires sizes { sizes.now ≡ sizes_of names.now }
     requires lists { lists.now ≡ block_lists names.now }
     ensures { IfOk result (λ ts. ts ≡ map (unit_offsets names.now) names.now.units) }
@@ -80,11 +76,9 @@ pub fn all_offsets(
     names: &Scoped,
     lists: &[Items<Variable>],
 ) -> Result<Items<Table<usize>>, AllocError>
-    requires few { length names.now.units < 2 ^ 63 }
     requires lists { lists.now ≡ block_lists names.now }
     ensures { IfOk result (λ ts. ts ≡ all_offsets names.now) }
 {
-    let units = names.config().units.as_slice().len();
-    let sizes = block_sizes(alloc, units, lists)?;
+    let sizes = block_sizes(alloc, lists)?;
     units_offsets(alloc, names, sizes.as_slice(), lists)
 }

@@ -159,20 +159,6 @@ fn add_result(
     }
 }
 
-/// Adds scalars without initial values, by their names and types.
-pub(crate) fn add_scalars(
-    alloc: Global,
-    list: &mut Items<Variable>,
-    scalars: &[(&str, Scalar)],
-) -> Result<(), AllocError>
-    ensures { OnOk result (list.new ≡ added list.old (map (λ s. one s.0.now s.1) scalars.now)) }
-{
-    'all: for (name, scalar) in scalars {
-        push(alloc, list, name, VariableType::Scalar(*scalar), None)?;
-    }
-    Ok(())
-}
-
 // A part of the image.
 #[derive(Clone, Copy)]
 enum Part {

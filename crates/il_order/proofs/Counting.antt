@@ -1,5 +1,5 @@
 -- What the code counts are the slots, up to the limit.
-use Rattle.std.proofs.Common.{◌≡◌, ℕ, zero, suc, ◌+◌, ◌*◌, ◌<◌, ◌≤◌, inl, inr, List, [], ◌∷◌, ◌++◌, length, map, slice_get, Option, Some, None, option_map, option_and_then, refl, sym, ap, ◌∙◌, arith}
+use Rattle.std.proofs.Common.{◌≡◌, ℕ, zero, suc, ◌+◌, ◌*◌, ◌<◌, ◌≤◌, inl, inr, List, [], ◌∷◌, ◌++◌, length, map, slice_get, Option, Some, None, option_map, option_and_then, refl, sym, ap, ap₂, ◌∙◌, arith}
 use Rattle.std.proofs.lemmas.Bool.{cases_lt}
 use Rattle.std.proofs.lemmas.Option.{slice_get-map}
 use Rattle.std.proofs.Math.Nat.{zero-mul}
@@ -8,14 +8,14 @@ use Rattle.il_spec.specs.declared.tree.Config.{Config}
 use Rattle.il_spec.specs.declared.tree.Unit.{Unit as ProgramUnit}
 use Rattle.il_spec.specs.declared.tree.Named.{Named}
 use Rattle.il_spec.specs.declared.tree.Declaration.{Declaration}
+use Rattle.il_spec.specs.declared.tree.Elementary.{Elementary}
 use Rattle.il_spec.specs.declared.tree.Form.{Form}
 use Rattle.il_spec.specs.declared.tree.Form.TheVariants.{Scalar as OfScalar, Array as OfArray, Block as OfBlock}
-use Rattle.il_rules.specs.Names.{Spelling, named_forms, own_block_variables, block_variables, standard_variables}
+use Rattle.il_rules.specs.Names.{Spelling, named_forms, own_block_variables, block_variables, standard_variables, standard_words, with_forms, word_form}
 use Rattle.il_rules.specs.Order.{form_slots, variable_slots, known_block_slots, block_slots, unit_slots, global_slots}
 use Rattle.il_scope.specs.declared.entry.BlockType.{BlockType}
 use Rattle.il_scope.specs.declared.entry.BlockType.TheVariants.{Standard as StandardType, Own}
 use Rattle.il_rules.specs.declared.names.StandardBlock.{StandardBlock}
-use Rattle.il_rules.specs.declared.names.StandardBlock.TheVariants.{Sr, Rs, RTrig, FTrig, Ctu, Ctd, Ctud, Tp, Ton, Tof}
 use Rattle.il_scope.specs.Views.{block_type, variables_of_block}
 use Rattle.il_scope.proofs.Laws.{block_found}
 use Rattle.il_order.specs.Counted.{capped, standard_slots, number_in, number_at, block_count, type_count, form_count, all_listed, unit_listed, units_listed, with_variables, with_declared, counts}
@@ -103,18 +103,18 @@ unit_from c depth forms u =
     from_zero : (a b e : ℕ) → 0 + a + b + e ≡ a + b + e
     from_zero a b e = omega arith
 
--- standard blocks have scalars
+-- each word of a standard block takes one
+words_slots : (block : Spelling → ℕ) (ws : List (Spelling × Elementary)) → variable_slots block (with_forms ws) ≡ length ws
+words_slots block [] = refl
+words_slots block (w ∷ ws) =
+    sum_by-cons (λ (v : Spelling × Form). form_slots block v.1) (w.0, word_form w.1) (with_forms ws) ∙ ap suc (words_slots block ws)
+
 standard_is : (block : Spelling → ℕ) (b : StandardBlock) → standard_slots b ≡ capped (known_block_slots block (Some (standard_variables b)))
-standard_is block Sr = refl
-standard_is block Rs = refl
-standard_is block RTrig = refl
-standard_is block FTrig = refl
-standard_is block Ctu = refl
-standard_is block Ctd = refl
-standard_is block Ctud = refl
-standard_is block Tp = refl
-standard_is block Ton = refl
-standard_is block Tof = refl
+standard_is block b =
+    let i = words_slots block (standard_words b).inputs in
+    let o = words_slots block (standard_words b).outputs in
+    let n = words_slots block (standard_words b).inner in
+    ap capped (ap₂ ◌+◌ (ap₂ ◌+◌ (sym i) (sym o)) (sym n))
 
 own_is : (c : Config) (depth k : ℕ) → AreForms c depth → number_at (counts c (suc depth)) k ≡ capped (known_block_slots (λ n. block_slots c depth n) (option_map own_block_variables (slice_get c.units k)))
 own_is c depth k forms = ap number_in (slice_get-map (λ vs. with_variables depth (counts c depth) 0 vs) (units_listed c) k) ∙ ap (λ o. number_in (option_map (λ vs. with_variables depth (counts c depth) 0 vs) o)) (slice_get-map (λ u. unit_listed c u) c.units k) ∙ by_unit (slice_get c.units k)

@@ -5,7 +5,7 @@ use Rattle.il_spec.specs.declared.tree.Unit.{Unit as ProgramUnit}
 use Rattle.il_spec.specs.declared.tree.Declaration.{Declaration}
 use Rattle.il_spec.specs.declared.tree.ProgramLine.{ProgramLine}
 use Rattle.il_spec.specs.declared.tree.Form.{Form}
-use Rattle.il_rules.specs.Names.{is_function, standard_inputs, standard_outputs, standard_inner}
+use Rattle.il_rules.specs.Names.{is_function, standard_words}
 use Rattle.il_scope.specs.declared.entry.BlockType.{BlockType}
 use Rattle.il_scope.specs.declared.entry.BlockType.TheVariants.{Standard, Own}
 use Rattle.il_rules.specs.declared.names.StandardBlock.{StandardBlock}
@@ -21,7 +21,7 @@ capped slots = min slots 4097
 
 -- the slots of a standard block (2.5.2.3)
 abbrev pub standard_slots : StandardBlock → ℕ
-standard_slots block = length (standard_inputs block) + length (standard_outputs block) + length (standard_inner block)
+standard_slots block = capped (length (standard_words block).inputs + length (standard_words block).outputs + length (standard_words block).inner)
 
 -- a number of a list; one that is not there is 0
 abbrev pub number_in : Option ℕ → ℕ

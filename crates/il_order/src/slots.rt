@@ -8,6 +8,7 @@ ghost use Rattle.il_order.specs.Counted.{capped, standard_slots, number_at, bloc
 use crate::relation::{Relation, holds};
 use crate::variables::Variables;
 use il_rules::names::StandardBlock;
+use il_rules::standard::words_of;
 use il_scope::Scoped;
 use il_scope::entry::{BlockType, VariableType};
 use il_spec::tree::{ProgramLine, Subrange, UnitKind};
@@ -119,14 +120,11 @@ fn block_count(counted: &Items<usize>, block: Option<BlockType>) -> usize
 fn standard_slots(block: StandardBlock) -> usize
     ensures { result ≡ standard_slots block }
 {
-    match block {
-        StandardBlock::Sr | StandardBlock::Rs => 3,
-        StandardBlock::RTrig | StandardBlock::FTrig => 3,
-        StandardBlock::Ctu | StandardBlock::Ctd => 6,
-        StandardBlock::Ctud => 10,
-        StandardBlock::Tp => 7,
-        StandardBlock::Ton | StandardBlock::Tof => 6,
-    }
+    let words = words_of(block);
+    sum(
+        sum(words.inputs.len(), words.outputs.len()),
+        words.inner.len(),
+    )
 }
 
 /// A number of a list.

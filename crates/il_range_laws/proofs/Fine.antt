@@ -7,12 +7,13 @@ use Rattle.il_spec.specs.declared.tree.Form.{Form}
 use Rattle.il_spec.specs.declared.tree.Form.TheVariants.{Scalar as ScalarForm}
 use Rattle.il_spec.specs.declared.tree.Scalar.{Scalar}
 use Rattle.il_spec.specs.declared.tree.Elementary.{Elementary}
-use Rattle.il_spec.specs.declared.tree.Elementary.TheVariants.{Bool as Boolean, Int, Time}
+use Rattle.il_spec.specs.declared.tree.Elementary.TheVariants.{Bool as Boolean, Sint, Int, Dint, Usint, Uint, Udint, Time}
+use Rattle.il_spec.specs.ElementaryTypes.{plain}
 use Rattle.il_rules.specs.declared.names.StandardBlock.{StandardBlock}
-use Rattle.il_rules.specs.declared.names.StandardBlock.TheVariants.{Sr, Rs, RTrig, FTrig, Ctu, Ctd, Ctud, Tp, Ton, Tof}
-use Rattle.il_rules.specs.Names.{Spelling, entry_of, standard_outputs}
+use Rattle.il_rules.specs.Names.{Spelling, entry_of, standard_words, with_forms, standard_outputs}
 use Rattle.il_run.specs.Annotation.{declared_known}
 use Rattle.il_range_laws.specs.Facts.{IsFineKnown}
+use Rattle.il_range_laws.proofs.Tests.{type_operand}
 
 -- forms of scalars with such ranges
 abbrev pub AreFineForms : List (Spelling × Form) → Type 0
@@ -29,26 +30,20 @@ fine_entry_of (x ∷ es) word s f e = by_test (fine_entry_of es word s f.1) (byt
     by_test more false e = more e
 
 -- a type without a subrange
-abbrev whole : Elementary → Scalar
-whole e = record { elementary = e; subrange = None }
+pub plain_fine : (e : Elementary) → IsFineKnown (declared_known (plain e))
+plain_fine Boolean = tt
+plain_fine Sint = type_operand Sint _ (omega (arith, ints)) (omega (arith, ints), omega (arith, ints))
+plain_fine Int = type_operand Int _ (omega (arith, ints)) (omega (arith, ints), omega (arith, ints))
+plain_fine Dint = type_operand Dint _ (omega (arith, ints)) (omega (arith, ints), omega (arith, ints))
+plain_fine Usint = type_operand Usint _ (omega (arith, ints)) (omega (arith, ints), omega (arith, ints))
+plain_fine Uint = type_operand Uint _ (omega (arith, ints)) (omega (arith, ints), omega (arith, ints))
+plain_fine Udint = type_operand Udint _ (omega (arith, ints)) (omega (arith, ints), omega (arith, ints))
+plain_fine Time = type_operand Time _ (omega (arith, ints)) (omega (arith, ints), omega (arith, ints))
 
-flag_fine : (s : Scalar) → ScalarForm (whole Boolean) ≡ ScalarForm s → IsFineKnown (declared_known s)
-flag_fine s e = let same : whole Boolean ≡ s = cc in subst (λ t. IsFineKnown (declared_known t)) same tt
-
-int_fine : (s : Scalar) → ScalarForm (whole Int) ≡ ScalarForm s → IsFineKnown (declared_known s)
-int_fine s e = let same : whole Int ≡ s = cc in subst (λ t. IsFineKnown (declared_known t)) same (record { low = (omega (arith, ints), omega (arith, ints)); high = (omega (arith, ints), omega (arith, ints)); ordered = omega (arith, ints) })
-
-time_fine : (s : Scalar) → ScalarForm (whole Time) ≡ ScalarForm s → IsFineKnown (declared_known s)
-time_fine s e = let same : whole Time ≡ s = cc in subst (λ t. IsFineKnown (declared_known t)) same (record { low = (omega (arith, ints), omega (arith, ints)); high = (omega (arith, ints), omega (arith, ints)); ordered = omega (arith, ints) })
+-- words of standard blocks
+words_fine : (ws : List (Spelling × Elementary)) → AreFineForms (with_forms ws)
+words_fine [] = tt
+words_fine (w ∷ ws) = ((λ s e. let same : plain w.1 ≡ s = cc in subst (λ t. IsFineKnown (declared_known t)) same (plain_fine w.1)), words_fine ws)
 
 pub standard_outputs_fine : (b : StandardBlock) → AreFineForms (standard_outputs b)
-standard_outputs_fine Sr = (flag_fine, tt)
-standard_outputs_fine Rs = (flag_fine, tt)
-standard_outputs_fine RTrig = (flag_fine, tt)
-standard_outputs_fine FTrig = (flag_fine, tt)
-standard_outputs_fine Ctu = (flag_fine, (int_fine, tt))
-standard_outputs_fine Ctd = (flag_fine, (int_fine, tt))
-standard_outputs_fine Ctud = (flag_fine, (flag_fine, (int_fine, tt)))
-standard_outputs_fine Tp = (flag_fine, (time_fine, tt))
-standard_outputs_fine Ton = (flag_fine, (time_fine, tt))
-standard_outputs_fine Tof = (flag_fine, (time_fine, tt))
+standard_outputs_fine b = words_fine (standard_words b).outputs

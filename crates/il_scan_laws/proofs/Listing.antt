@@ -15,7 +15,6 @@ use Rattle.il_spec.specs.declared.tree.Declaration.{Declaration}
 use Rattle.il_spec.specs.declared.tree.Form.{Form}
 use Rattle.il_spec.specs.declared.tree.Form.TheVariants.{Scalar as ScalarForm, Block as BlockForm}
 use Rattle.il_rules.specs.declared.names.StandardBlock.{StandardBlock}
-use Rattle.il_rules.specs.declared.names.StandardBlock.TheVariants.{Sr, Rs, RTrig, FTrig, Ctu, Ctd, Ctud, Tp, Ton, Tof}
 use Rattle.il_rules.specs.Names.{BlockVariables, standard_block, standard_variables, function_block_named, own_block_variables, named_forms, form_named, unit_named, function_named, sees as images_seen, is_program, is_function}
 use Rattle.il_rules.specs.Declarations.{is_within, admitted_variables, written_types}
 use Rattle.il_rules.specs.Faults.{HasNoFault, Broken, Declaring}
@@ -30,7 +29,8 @@ use Rattle.il_scan_laws.specs.Soundness.{IsInOrder, IsShallow}
 use Rattle.il_scan_laws.specs.Listed.{image_entity, seen_entities, seen_scalars, given_scalars, kept_scalars, KeepsListed}
 use Rattle.il_scan_laws.proofs.Named.{found_unit, name_of, function_is_unit, function_word, result_form}
 use Rattle.il_scan_laws.proofs.Running.{standard_are, under_member, neither}
-use Rattle.il_scan_laws.proofs.Words.{all_of, contains_all, is_no_block}
+use Rattle.il_rules.proofs.Every.{all_of, contains_all, every_block}
+use Rattle.il_scan_laws.proofs.Words.{is_no_block}
 use Rattle.il_scan_laws.proofs.Blocks.{words_of}
 use Rattle.il_scan_laws.proofs.Lists.{in_nothing, at_head, in_tail, in_map, of_map, in_flat_map, of_flat_map}
 use Rattle.il_scan_laws.proofs.Declared.{IsListed, Owned, as_result, as_input, as_output, as_variable, as_external, images, Imaged, means, listed, input_means, output_means, variable_means, external_means}
@@ -126,16 +126,7 @@ block_entity c block word form h = by_standard (standard_block block) refl
 
 -- a standard block has no instances
 no_inner : (b : StandardBlock) → all_of (λ (e : Text × Form). is_no_block e.1) (words_of b) ≡ true
-no_inner Sr = refl
-no_inner Rs = refl
-no_inner RTrig = refl
-no_inner FTrig = refl
-no_inner Ctu = refl
-no_inner Ctd = refl
-no_inner Ctud = refl
-no_inner Tp = refl
-no_inner Ton = refl
-no_inner Tof = refl
+no_inner = every_block (λ b. all_of (λ (e : Text × Form). is_no_block e.1) (words_of b)) refl
 
 module _ (c : Config) (written : IsWritten c) (unbroken : HasNoFault (Broken Declaring c)) where
   -- a unit declares an instance of the block

@@ -29,7 +29,8 @@ use Rattle.il_rules.specs.Written.{IsWord}
 use Rattle.il_scan_laws.specs.Soundness.{HasWordNames, HasBlockWords, HasBlocks, BlocksSeeTheirOwn, InstancesAreNoFunctions, InputsAreSeen}
 use Rattle.il_rules.specs.Written.{IsWritten}
 use Rattle.il_scan_laws.proofs.Blocks.{words_of}
-use Rattle.il_scan_laws.proofs.Words.{contains_all, first_of_two, second_of_two, is_word, is_no_block, word_by, words_good, apart_good, one_form, images_are_words, one_by_name, images_apart}
+use Rattle.il_rules.proofs.Every.{contains_all, first_of_two, second_of_two}
+use Rattle.il_scan_laws.proofs.Words.{is_word, is_no_block, word_by, words_good, apart_good, one_form, images_are_words, one_by_name, images_apart}
 use Rattle.il_scan_laws.proofs.Named.{found_unit, function_is_unit}
 use Rattle.il_scan_laws.proofs.Running.{block_is_unit, not_predeclared as is_no_standard}
 use Rattle.il_scan_laws.proofs.Lists.{in_nothing, at_head, in_map, in_flat_map, found_in, finds_some}

@@ -17,7 +17,6 @@ use Rattle.il_spec.specs.declared.tree.Unit.{Unit as ProgramUnit}
 use Rattle.il_spec.specs.declared.tree.UnitKind.{UnitKind}
 use Rattle.il_spec.specs.declared.tree.UnitKind.TheVariants.{Function, FunctionBlock, Program}
 use Rattle.il_rules.specs.declared.names.StandardBlock.{StandardBlock}
-use Rattle.il_rules.specs.declared.names.StandardBlock.TheVariants.{Sr, Rs, RTrig, FTrig, Ctu, Ctd, Ctud, Tp, Ton, Tof}
 use Rattle.il_rules.specs.Names.{standard_block, standard_variables, function_block_named, named_forms}
 use Rattle.il_rules.specs.Declarations.{Admitted, ScalarsAlone, ScalarsAndArrays, admitted_variables, result_types, types_in, unit_types, written_types, all_declarations, unit_declarations, names_in, second_global, type_numbers, subrange_numbers, bounds_numbers, admits_arrays, unless}
 use Rattle.il_rules.specs.Faults.{HasNoFault, Broken, Declaring, duplicate}
@@ -31,7 +30,7 @@ use Rattle.il_run.specs.Scan.{used_units, function_values, opening_variables, op
 use Rattle.il_scan_laws.specs.Accepted.{IsAccepted}
 use Rattle.il_scan_laws.specs.Listed.{HaveOneType, given_scalars, OpensInSets}
 use Rattle.il_scan_laws.proofs.Lists.{in_nothing, at_head, in_tail, in_map, of_map, in_flat_map, AreDistinct, distinct_names, only_one}
-use Rattle.il_scan_laws.proofs.Words.{all_of, contains_all}
+use Rattle.il_rules.proofs.Every.{all_of, contains_all, every_block}
 use Rattle.il_scan_laws.proofs.Blocks.{words_of}
 use Rattle.il_scan_laws.proofs.Paths.{Agree, agree_append, have_agreed, only_agreed}
 use Rattle.il_scan_laws.proofs.Declared.{IsListed, listed_name, entry_names, entry, from_inputs, from_outputs, from_variables}
@@ -122,16 +121,7 @@ plain_begins (BlockForm block) e = cc
 
 -- the variables of standard blocks are such
 words_plain : (b : StandardBlock) → all_of (λ (e : Text × Form). is_plain e.1) (words_of b) ≡ true
-words_plain Sr = refl
-words_plain Rs = refl
-words_plain RTrig = refl
-words_plain FTrig = refl
-words_plain Ctu = refl
-words_plain Ctd = refl
-words_plain Ctud = refl
-words_plain Tp = refl
-words_plain Ton = refl
-words_plain Tof = refl
+words_plain = every_block (λ b. all_of (λ (e : Text × Form). is_plain e.1) (words_of b)) refl
 
 standard_begins : (b : StandardBlock) → AllBegin (standard_entities (standard_variables b))
 standard_begins b = all_begin (standard_entities (standard_variables b)) each

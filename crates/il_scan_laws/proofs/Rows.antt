@@ -22,7 +22,8 @@ use Rattle.il_scan_laws.specs.Agreement.{HasVariable, CallsBy, HasUse, IsStack}
 use Rattle.il_rules.specs.Written.{IsWord}
 use Rattle.il_scan_laws.specs.Soundness.{IsInOrder}
 use Rattle.il_scan_laws.proofs.Blocks.{words_of}
-use Rattle.il_scan_laws.proofs.Words.{all_of, contains_all, found_all, first_of_two, second_of_two, is_word, word_by, words_good, apart_good, one_form}
+use Rattle.il_rules.proofs.Every.{all_of, contains_all, first_of_two, second_of_two}
+use Rattle.il_scan_laws.proofs.Words.{found_all, is_word, word_by, words_good, apart_good, one_form}
 use Rattle.il_scan_laws.proofs.Named.{found_unit, function_is_unit}
 use Rattle.il_scan_laws.proofs.Running.{block_is_unit}
 

@@ -7,25 +7,13 @@ use Rattle.std.specs.Prelude.{Contains, find, bytes_eq, ◌==◌, ℤ}
 use Rattle.il_spec.specs.declared.tree.Form.{Form}
 use Rattle.il_spec.specs.declared.tree.Form.TheVariants.{Scalar as ScalarForm, Array as ArrayForm, Block as BlockForm}
 use Rattle.il_rules.specs.declared.names.StandardBlock.{StandardBlock}
-use Rattle.il_rules.specs.declared.names.StandardBlock.TheVariants.{Sr, Rs, RTrig, FTrig, Ctu, Ctd, Ctud, Tp, Ton, Tof}
 use Rattle.il_rules.specs.Names.{ImageName, image_of}
 use Rattle.il_table.specs.NameMap.{Text}
 use Rattle.il_rules.specs.Written.{IsWord}
+use Rattle.il_rules.proofs.Every.{all_of, first_of_two, second_of_two, contains_all, every_block}
 use Rattle.il_scan_laws.proofs.Blocks.{words_of}
 
 -- TESTS OF LISTS
-
-abbrev pub all_of : {A : Type 0} → (A → Bool) → List A → Bool
-all_of test [] = true
-all_of test (x ∷ xs) = test x && all_of test xs
-
-pub first_of_two : (a b : Bool) → (a && b) ≡ true → a ≡ true
-first_of_two true b e = refl
-first_of_two false b e = e
-
-pub second_of_two : (a b : Bool) → (a && b) ≡ true → b ≡ true
-second_of_two true b e = e
-second_of_two false b e = cc
 
 pub found_all : {A : Type 0} (test wanted : A → Bool) (xs : List A) (x : A) → all_of test xs ≡ true → find wanted xs ≡ Some x → (test x ≡ true) × (wanted x ≡ true)
 found_all test wanted [] x all e = cc
@@ -34,11 +22,6 @@ found_all test wanted (y ∷ xs) x all e = by_test (wanted y) refl e (found_all 
     by_test : (b : Bool) → wanted y ≡ b → cond b (Some y) (find wanted xs) ≡ Some x → (find wanted xs ≡ Some x → (test x ≡ true) × (wanted x ≡ true)) → (test x ≡ true) × (wanted x ≡ true)
     by_test true is e more = let same : y ≡ x = same_Some y x e in (ap test (sym same) ∙ first_of_two (test y) _ all, ap wanted (sym same) ∙ is)
     by_test false is e more = more e
-
-pub contains_all : {A : Type 0} (test : A → Bool) (xs : List A) (x : A) → all_of test xs ≡ true → Contains xs x → test x ≡ true
-contains_all test [] x all among = let low = among.1 in absurd (omega arith)
-contains_all test (y ∷ xs) x all (zero, low, same) = ap test (sym same) ∙ first_of_two (test y) _ all
-contains_all test (y ∷ xs) x all (suc n, low, same) = contains_all test xs x (second_of_two (test y) _ all) (n, omega arith, same)
 
 -- WORDS
 
@@ -64,16 +47,7 @@ word_by (x ∷ xs) e = record {
 
 -- a standard block's words
 pub words_good : (b : StandardBlock) → all_of (λ (e : Text × Form). is_word e.0) (words_of b) ≡ true
-words_good Sr = refl
-words_good Rs = refl
-words_good RTrig = refl
-words_good FTrig = refl
-words_good Ctu = refl
-words_good Ctd = refl
-words_good Ctud = refl
-words_good Tp = refl
-words_good Ton = refl
-words_good Tof = refl
+words_good = every_block (λ b. all_of (λ (e : Text × Form). is_word e.0) (words_of b)) refl
 
 -- no two entries have one name
 abbrev pub are_apart : List (Text × Form) → Bool
@@ -81,16 +55,7 @@ are_apart [] = true
 are_apart (e ∷ es) = all_of (λ (d : Text × Form). not (bytes_eq e.0 d.0)) es && are_apart es
 
 pub apart_good : (b : StandardBlock) → are_apart (words_of b) ≡ true
-apart_good Sr = refl
-apart_good Rs = refl
-apart_good RTrig = refl
-apart_good FTrig = refl
-apart_good Ctu = refl
-apart_good Ctd = refl
-apart_good Ctud = refl
-apart_good Tp = refl
-apart_good Ton = refl
-apart_good Tof = refl
+apart_good = every_block (λ b. are_apart (words_of b)) refl
 
 twice : (d : Text × Form) (es : List (Text × Form)) (name : Text) (g : Form) → all_of (λ (x : Text × Form). not (bytes_eq d.0 x.0)) es ≡ true → d.0 ≡ name → Contains es (name, g) → ⊥
 twice d es name g all same among =

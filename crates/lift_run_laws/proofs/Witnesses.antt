@@ -28,7 +28,8 @@ use Rattle.il_run.specs.Annotation.{Knowledge, knowledge, Annotation, IsVariable
 use Rattle.il_scan_laws.specs.Accepted.{IsOrdered}
 use Rattle.il_scan_laws.proofs.Lists.{in_nothing, found_in}
 use Rattle.il_scan_laws.proofs.Texts.{same_text, text_itself}
-use Rattle.il_scan_laws.proofs.Words.{all_of, are_apart_by, contains_all, first_of_two, second_of_two, images_apart, word_by}
+use Rattle.il_rules.proofs.Every.{all_of, contains_all, first_of_two, second_of_two}
+use Rattle.il_scan_laws.proofs.Words.{are_apart_by, images_apart, word_by}
 use Rattle.lift_run_laws.specs.Accepted.{IsSound}
 use Rattle.lift_run_laws.specs.Runs.{RunsWell}
 use Rattle.lift_run_laws.proofs.Accepted.{accepted_runs_well}

@@ -13,4 +13,4 @@ decreases-add_variables l = 3 * l.depth + 2
 
 abbrev pub invariant-add_variables-variables : goal.invariant-add_variables-variables
 invariant-add_variables-variables l =
-    l.openings ++ list_openings (block_openings l.depth l.blocks.units l.blocks.lists.now) l.path (drop l.variable-index l.list) ≡ l.fn.openings ++ list_openings (block_openings l.depth l.blocks.units l.blocks.lists.now) l.path l.list
+    l.openings ++ list_openings (block_openings l.depth l.blocks.lists.now) l.path (drop l.variable-index l.list) ≡ l.fn.openings ++ list_openings (block_openings l.depth l.blocks.lists.now) l.path l.list

@@ -4,4 +4,4 @@ use Rattle.il_layout.proofs.sizes.block_sizes.Given as goal
 
 -- sizes so many deep
 abbrev pub invariant-loop : goal.invariant-loop
-invariant-loop l = (l.counter ≤ 16) × (l.sizes ≡ sizes_to l.counter l.units l.lists)
+invariant-loop l = (l.counter ≤ 16) × (l.sizes ≡ sizes_to l.counter l.lists)
