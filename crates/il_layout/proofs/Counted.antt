@@ -1,5 +1,7 @@
 -- Sizes and offsets are those of the layout.
-use Rattle.std.proofs.Common.{◌≡◌, ℕ, zero, suc, ◌+◌, ◌-◌, ◌<◌, ◌≤◌, get_or, Bool, true, false, List, [], ◌∷◌, ◌++◌, map, length, slice_get, refl, sym, ap, ap₂, ◌∙◌, Option, Some, None, drop, append_assoc, arith, map-append}
+use Rattle.std.proofs.Common.{◌≡◌, ℕ, zero, suc, ◌+◌, ◌-◌, ◌<◌, ◌≤◌, get_or, Bool, true, false, List, [], ◌∷◌, ◌++◌, map, length, slice_get, refl, sym, ap, ap₂, ◌∙◌, Option, Some, None, drop, append_assoc, arith, length-append}
+use Rattle.std.proofs.lemmas.List.{map-append}
+use Rattle.std.specs.Option.{option_or}
 use Rattle.std.specs.Prelude.{Result, Ok, Err, IfOk, option_map, option_and_then, bytes_eq, if◌then◌else◌}
 use Rattle.std.proofs.lemmas.Option.{same_Some}
 use Rattle.std.proofs.lemmas.Slice.Eq.{bytes_eq-Decides}
@@ -9,7 +11,10 @@ use Rattle.il_spec.specs.declared.tree.Form.TheVariants.{Scalar as ScalarForm, A
 use Rattle.il_spec.specs.declared.tree.Unit.{Unit as ProgramUnit}
 use Rattle.il_spec.specs.declared.tree.Config.{Config}
 use Rattle.il_rules.specs.declared.names.StandardBlock.{StandardBlock}
-use Rattle.il_rules.specs.Names.{or_else, standard_block, standard_variables, standard_words, standard_inputs, with_forms, word_form, function_block_named, is_function_block}
+use Rattle.il_rules.specs.Names.{WordLists, or_else, standard_block, standard_variables, standard_words, standard_inner, with_forms, word_form, function_block_named, is_function_block}
+use Rattle.il_rules.specs.Tables.{word, word_lists}
+use Rattle.il_rules.specs.declared.standard.BlockWord.{BlockWord}
+use Rattle.il_rules.specs.declared.standard.BlockWords.{BlockWords}
 use Rattle.il_table.specs.NameMap.{NameMap, Text, get, get-empty}
 use Rattle.il_run.specs.Meaning.{Entity, uninitialized, own_entities, standard_entities, block_entities}
 use Rattle.il_scope.specs.declared.entry.BlockType.{BlockType}
@@ -93,8 +98,8 @@ which_block c name = by_standard (standard_block name) refl
 -- all variables of a standard block are its words
 pub forms_are : (s : StandardBlock) → (standard_variables s).inputs ++ (standard_variables s).outputs ++ (standard_variables s).inner ≡ with_forms (all_words s)
 forms_are s = sym (
-    map-append (λ (w : Text × Elementary). (w.0, word_form w.1)) (standard_words s).inputs ((standard_words s).outputs ++ (standard_words s).inner)
-    ∙ ap (λ vs. standard_inputs s ++ vs) (map-append (λ (w : Text × Elementary). (w.0, word_form w.1)) (standard_words s).outputs (standard_words s).inner))
+    map-append (λ (w : Text × Elementary). (w.0, word_form w.1)) ((standard_words s).inputs ++ (standard_words s).outputs) (standard_words s).inner
+    ∙ ap (λ vs. vs ++ standard_inner s) (map-append (λ (w : Text × Elementary). (w.0, word_form w.1)) (standard_words s).inputs (standard_words s).outputs))
 
 pub words_are : (s : StandardBlock) → standard_entities (standard_variables s) ≡ uninitialized (with_forms (all_words s))
 words_are s = ap uninitialized (forms_are s)
@@ -131,7 +136,7 @@ sizes_below (suc n) lists = sizes_to n lists
 -- each word of a standard block takes one slot
 words_wide : (inner : Text → ℕ) (ws : List (Text × Elementary)) → entities_width inner (uninitialized (with_forms ws)) ≡ length ws
 words_wide inner [] = refl
-words_wide inner (w ∷ ws) = ap suc (words_wide inner ws)
+words_wide inner (w ∷ ws) = let rest = words_wide inner ws in (let e : 1 + entities_width inner (uninitialized (with_forms ws)) ≡ suc (length ws) = omega (arith, rest) in e)
 
 module _ (c : Config) where
   -- what the sizes of blocks are to be
@@ -316,25 +321,50 @@ place_behind (x ∷ xs) ys q =
     by_name false rest = rest
 
 -- the place of a word among all, from its places among three lists
-pub placed_in : (s : StandardBlock) (q : Text) (a b : ℕ) → a ≡ length (standard_words s).inputs → b ≡ capped (a + length (standard_words s).outputs)
-    → or_else (or_else (option_map (λ k. capped (0 + k)) (place_from 0 (map word_variable (standard_words s).inputs) q)) (option_map (λ k. capped (a + k)) (place_from 0 (map word_variable (standard_words s).outputs) q))) (option_map (λ k. capped (b + k)) (place_from 0 (map word_variable (standard_words s).inner) q))
-    ≡ standard_offset s q
-placed_in s q a b is_a is_b =
-    sym (ap (option_map capped) (place_behind (standard_words s).inputs ((standard_words s).outputs ++ (standard_words s).inner) q
-    ∙ ap (λ o. or_else (place_from 0 (map word_variable (standard_words s).inputs) q) (option_map (λ n. length (standard_words s).inputs + n) o)) (place_behind (standard_words s).outputs (standard_words s).inner q))
-    ∙ all (place_from 0 (map word_variable (standard_words s).inputs) q) (place_from 0 (map word_variable (standard_words s).outputs) q) (place_from 0 (map word_variable (standard_words s).inner) q))
+placed_all : (xs ys zs : List (Text × Elementary)) (q : Text) (a b : ℕ) → a ≡ length xs → b ≡ capped (a + length ys)
+    → or_else (or_else (option_map (λ k. capped (0 + k)) (place_from 0 (map word_variable xs) q)) (option_map (λ k. capped (a + k)) (place_from 0 (map word_variable ys) q))) (option_map (λ k. capped (b + k)) (place_from 0 (map word_variable zs) q))
+    ≡ option_map capped (place_from 0 (map word_variable (xs ++ ys ++ zs)) q)
+placed_all xs ys zs q a b is_a is_b =
+    sym (ap (option_map capped) (place_behind (xs ++ ys) zs q ∙ ap (λ o. or_else o (option_map (λ n. length (xs ++ ys) + n) (place_from 0 (map word_variable zs) q))) (place_behind xs ys q))
+    ∙ all (place_from 0 (map word_variable xs) q) (place_from 0 (map word_variable ys) q) (place_from 0 (map word_variable zs) q))
   where
-    i : ℕ
-    i = length (standard_words s).inputs
+    both : length (xs ++ ys) ≡ length xs + length ys
+    both = length-append xs ys
 
-    o : ℕ
-    o = length (standard_words s).outputs
-
-    all : (x y z : Option ℕ) → option_map capped (or_else x (option_map (λ n. length (standard_words s).inputs + n) (or_else y (option_map (λ n. length (standard_words s).outputs + n) z)))) ≡ or_else (or_else (option_map (λ k. capped (0 + k)) x) (option_map (λ k. capped (a + k)) y)) (option_map (λ k. capped (b + k)) z)
-    all (Some k) y z = refl
-    all None (Some k) z = ap Some (let e : capped (length (standard_words s).inputs + k) ≡ capped (a + k) = omega (arith, is_a) in e)
+    all : (x y z : Option ℕ) → option_map capped (or_else (or_else x (option_map (λ n. length xs + n) y)) (option_map (λ n. length (xs ++ ys) + n) z))
+        ≡ or_else (or_else (option_map (λ k. capped (0 + k)) x) (option_map (λ k. capped (a + k)) y)) (option_map (λ k. capped (b + k)) z)
+    all (Some k) y z = ap Some (let e : capped k ≡ capped (0 + k) = omega arith in e)
+    all None (Some k) z = ap Some (let e : capped (length xs + k) ≡ capped (a + k) = omega (arith, is_a) in e)
     all None None None = refl
-    all None None (Some k) = ap Some (let e : capped (length (standard_words s).inputs + (length (standard_words s).outputs + k)) ≡ capped (b + k) = omega (arith, is_a, is_b) in e)
+    all None None (Some k) = ap Some (let e : capped (length (xs ++ ys) + k) ≡ capped (b + k) = omega (arith, both, is_a, is_b) in e)
+
+-- and in the table of the code
+words_mapped : (ws : List BlockWord) → map (λ w. word_variable (word w)) ws ≡ map word_variable (map word ws)
+words_mapped [] = refl
+words_mapped (w ∷ ws) = ap (λ vs. word_variable (word w) ∷ vs) (words_mapped ws)
+
+-- the first of two, as std has it
+pub or_is : (r a b : Option ℕ) → r ≡ option_or a b → r ≡ or_else a b
+or_is r (Some x) b e = e
+or_is r None b e = e
+
+pub placed_in : (s : StandardBlock) (ws : BlockWords) (q : Text) (a b : ℕ) → word_lists ws ≡ standard_words s → a ≡ length ws.inputs.now → b ≡ capped (a + length ws.outputs.now)
+    → or_else (or_else (option_map (λ k. capped (0 + k)) (place_from 0 (map (λ w. word_variable (word w)) ws.inputs.now) q)) (option_map (λ k. capped (a + k)) (place_from 0 (map (λ w. word_variable (word w)) ws.outputs.now) q))) (option_map (λ k. capped (b + k)) (place_from 0 (map (λ w. word_variable (word w)) ws.inner.now) q))
+    ≡ standard_offset s q
+placed_in s ws q a b are is_a is_b =
+    ap₂ or_else (ap₂ or_else (ap (λ vs. option_map (λ (k : ℕ). capped (0 + k)) (place_from 0 vs q)) (words_mapped ws.inputs.now)) (ap (λ vs. option_map (λ k. capped (a + k)) (place_from 0 vs q)) (words_mapped ws.outputs.now))) (ap (λ vs. option_map (λ k. capped (b + k)) (place_from 0 vs q)) (words_mapped ws.inner.now))
+    ∙ placed_all (map word ws.inputs.now) (map word ws.outputs.now) (map word ws.inner.now) q a b (is_a ∙ sym (length_mapped word ws.inputs.now)) (is_b ∙ ap (λ n. capped (a + n)) (sym (length_mapped word ws.outputs.now)))
+    ∙ ap (λ (l : WordLists). option_map capped (place_from 0 (map word_variable (l.inputs ++ l.outputs ++ l.inner)) q)) are
+
+-- and how many they are
+pub size_in : (s : StandardBlock) (ws : BlockWords) (r k : ℕ) → word_lists ws ≡ standard_words s → k ≡ capped (length ws.inputs.now + length ws.outputs.now) → r ≡ capped (k + length ws.inner.now) → r ≡ capped (length (all_words s))
+size_in s ws r k are is_k is_r =
+    let i : length ws.inputs.now ≡ length (standard_words s).inputs = sym (length_mapped word ws.inputs.now) ∙ ap (λ (l : WordLists). length l.inputs) are in
+    let o : length ws.outputs.now ≡ length (standard_words s).outputs = sym (length_mapped word ws.outputs.now) ∙ ap (λ (l : WordLists). length l.outputs) are in
+    let n : length ws.inner.now ≡ length (standard_words s).inner = sym (length_mapped word ws.inner.now) ∙ ap (λ (l : WordLists). length l.inner) are in
+    let all : length (all_words s) ≡ length (standard_words s).inputs + length (standard_words s).outputs + length (standard_words s).inner =
+    length-append ((standard_words s).inputs ++ (standard_words s).outputs) (standard_words s).inner ∙ ap (λ m. m + length (standard_words s).inner) (length-append (standard_words s).inputs (standard_words s).outputs) in
+    omega (arith, i, o, n, all, is_k, is_r)
 
 module _ (c : Config) where
   -- where each takes one slot, the place of a name is its offset

@@ -5,7 +5,7 @@ ghost use Rattle.il_rules.specs.Names.{is_program_kind, program_role};
 ghost use Rattle.il_run.specs.Meaning.{entities, initial_value, own_entities, result_entities};
 ghost use Rattle.il_scope.specs.Views.{type_of};
 ghost use Rattle.il_scope.specs.Images.{named};
-ghost use Rattle.il_layout.specs.Making.{variable, shown, added, one, is_in_part, seen_entry, with_image};
+ghost use Rattle.il_layout.specs.Making.{variable, shown, added, is_in_part, seen_entry, with_image};
 ghost use Rattle.il_layout.specs.Flattened.{function_entities};
 ghost use Rattle.il_layout.specs.Places.{seen_image, unit_entities};
 
