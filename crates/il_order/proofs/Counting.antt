@@ -107,7 +107,8 @@ unit_from c depth forms u =
 words_slots : (block : Spelling → ℕ) (ws : List (Spelling × Elementary)) → variable_slots block (with_forms ws) ≡ length ws
 words_slots block [] = refl
 words_slots block (w ∷ ws) =
-    sum_by-cons (λ (v : Spelling × Form). form_slots block v.1) (w.0, word_form w.1) (with_forms ws) ∙ ap suc (words_slots block ws)
+    let rest = words_slots block ws in
+    sum_by-cons (λ (v : Spelling × Form). form_slots block v.1) (w.0, word_form w.1) (with_forms ws) ∙ (let e : 1 + variable_slots block (with_forms ws) ≡ suc (length ws) = omega (arith, rest) in e)
 
 standard_is : (block : Spelling → ℕ) (b : StandardBlock) → standard_slots b ≡ capped (known_block_slots block (Some (standard_variables b)))
 standard_is block b =
