@@ -1,5 +1,5 @@
 -- Slots are laid out as the definitions have them.
-use Rattle.std.proofs.Common.{◌≡◌, ℕ, zero, suc, ◌^◌, ℤ, pos, ◌+ℤ◌, ◌≤ℤ◌, neg_ℤ, true, List, [], ◌∷◌, ◌++◌, map, length, refl, sym, ap, ap₂, ◌∙◌, append_assoc, append-nil, codes, Option, Some, None, arith}
+use Rattle.std.proofs.Common.{◌≡◌, ℕ, zero, suc, ◌^◌, ℤ, pos, ◌+ℤ◌, ◌≤ℤ◌, neg_ℤ, true, List, [], ◌∷◌, ◌++◌, map, refl, sym, ap, ap₂, ◌∙◌, append_assoc, append-nil, codes, Option, None, arith}
 use Rattle.std.proofs.lemmas.Int.{ints}
 use Rattle.std.proofs.lemmas.List.{map-append, append_cancel_left}
 use Rattle.il_spec.specs.declared.tree.Scalar.{Scalar as ScalarType}
@@ -15,7 +15,6 @@ use Rattle.il_rules.specs.Names.{is_program, is_program_kind}
 use Rattle.il_table.specs.NameMap.{Text}
 use Rattle.il_run.specs.declared.value.Value.{Value}
 use Rattle.il_run.specs.Meaning.{Entity, entities, own_entities, result_entities, block_entities, under, element_path, elements, width, initial_value, values_at, entity_values, instance_values}
-use Rattle.il_scope.specs.declared.entry.BlockType.{BlockType}
 use Rattle.il_scope.specs.Views.{block_type, type_of}
 use Rattle.il_order.specs.Related.{tabulate}
 use Rattle.il_code.specs.declared.laying.Opening.{Opening}
@@ -26,7 +25,7 @@ use Rattle.il_layout.specs.Layout.{Rows, rows, cell, number_part, flag_part}
 use Rattle.il_layout.specs.Making.{shown, block_lists, block_variables}
 use Rattle.il_layout.specs.Places.{capped, seen_image, unit_entities}
 use Rattle.il_layout.specs.Whole.{first_rows}
-use Rattle.il_layout.proofs.Counted.{which_block, block_list, IsBlock, of_standard, of_own, of_none}
+use Rattle.il_layout.proofs.Counted.{block_list}
 
 -- the parts of an element's path
 pub bracketed : (name digits : Text) → name ++ (codes "[" ++ (digits ++ codes "]")) ≡ name ++ codes "[" ++ digits ++ codes "]"

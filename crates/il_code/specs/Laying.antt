@@ -1,5 +1,5 @@
 -- The parts of laying out the slots of a task (own rules).
-use Rattle.std.specs.Prelude.{ℕ, zero, suc, ℤ, pos, ◌+ℤ◌, Bool, true, false, ◌&&◌, List, [], ◌∷◌, ◌++◌, map, length, slice_get, Option, Some, None, codes}
+use Rattle.std.specs.Prelude.{ℕ, zero, suc, ℤ, pos, ◌+ℤ◌, Bool, true, false, ◌&&◌, List, [], ◌∷◌, ◌++◌, map, length, Option, Some, None, codes}
 use Rattle.il_spec.specs.declared.tree.Scalar.{Scalar as ScalarType}
 use Rattle.il_spec.specs.declared.tree.Literal.{Literal}
 use Rattle.il_spec.specs.declared.tree.Unit.{Unit as ProgramUnit}

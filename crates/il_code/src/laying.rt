@@ -162,7 +162,13 @@ fn add_words(
             elementary: each.elementary,
             subrange: None,
         };
-        push(alloc, openings, path.as_str(), scalar, initial_value(scalar, None))?;
+        push(
+            alloc,
+            openings,
+            path.as_str(),
+            scalar,
+            initial_value(scalar, None),
+        )?;
     }
     Ok(())
 }

@@ -1,6 +1,6 @@
 // The slots of the tasks of PROGRAM lines.
 
-ghost use Rattle.std.specs.Prelude.{◌≡◌, ◌++◌, ◌<◌, ◌^◌, [], true, length, slice_get, Some, IfOk, OnOk};
+ghost use Rattle.std.specs.Prelude.{◌≡◌, ◌++◌, ◌<◌, [], true, length, slice_get, Some, IfOk};
 ghost use Rattle.il_spec.specs.declared.tree.Unit.{Unit as ProgramUnit};
 ghost use Rattle.il_rules.specs.Names.{is_program, program_named};
 ghost use Rattle.il_run.specs.Meaning.{entities};
@@ -200,10 +200,7 @@ pub fn tasks_and_globals(
     ensures globals { IfOk result (λ p. p.1 ≡ laid_task
         (openings_to 0 names.now [] (entities names.now.globals)) [] []) }
 {
-    let blocks = Blocks {
-        names,
-        lists,
-    };
+    let blocks = Blocks { names, lists };
     let lines = names.config().programs.as_slice();
     let tasks = line_tasks(alloc, &blocks, ordered, lines)?;
     let globals = laid_globals(alloc, &blocks)?;

@@ -1,5 +1,5 @@
 -- Sizes and offsets are those of the layout.
-use Rattle.std.proofs.Common.{◌≡◌, ℕ, zero, suc, ◌+◌, ◌-◌, ◌<◌, ◌≤◌, get_or, Bool, true, false, List, [], ◌∷◌, ◌++◌, map, length, slice_get, refl, sym, ap, ap₂, ◌∙◌, Option, Some, None, drop, append_assoc, arith, length-append}
+use Rattle.std.proofs.Common.{◌≡◌, ℕ, zero, suc, ◌+◌, ◌-◌, ◌<◌, get_or, Bool, true, false, List, [], ◌∷◌, ◌++◌, map, length, slice_get, refl, sym, ap, ap₂, ◌∙◌, Option, Some, None, drop, append_assoc, arith, length-append}
 use Rattle.std.proofs.lemmas.List.{map-append}
 use Rattle.std.specs.Option.{option_or}
 use Rattle.std.specs.Prelude.{Result, Ok, Err, IfOk, option_map, option_and_then, bytes_eq, if◌then◌else◌}
@@ -28,7 +28,7 @@ use Rattle.il_layout.specs.declared.variables.Variable.{Variable}
 use Rattle.il_layout.specs.declared.offsets.Offsets.{Offsets}
 use Rattle.il_layout.specs.Cells.{form_in, offset_in}
 use Rattle.il_layout.specs.Places.{capped, form_width, entities_width, block_width, unit_entities}
-use Rattle.il_layout.specs.Making.{shown, word_variable, all_words, standard_list, list_if, block_lists, block_variables, size_or_zero, block_size, variable_size, list_size, sizes_to, with_offset, with_offsets, no_offsets, offsets_of, sizes_of, unit_offsets, place_from, standard_offset}
+use Rattle.il_layout.specs.Making.{shown, word_variable, all_words, list_if, block_lists, block_variables, size_or_zero, block_size, variable_size, list_size, sizes_to, with_offset, with_offsets, no_offsets, offsets_of, sizes_of, unit_offsets, place_from, standard_offset}
 use Rattle.il_layout.proofs.Declared.{block_is_own, block_is_standard}
 
 pub offsets_twice : (sizes : List ℕ) (o : Offsets) (vs ws : List Variable) → with_offsets sizes o (vs ++ ws) ≡ with_offsets sizes (with_offsets sizes o vs) ws

@@ -1,7 +1,7 @@
 // The offsets of all names.
 
 ghost use Rattle.std.specs.Prelude.{◌≡◌, ◌<◌, length, map, slice_get, Some, IfOk};
-ghost use Rattle.il_layout.specs.Making.{shown, added, block_lists, sizes_of, offsets_of, unit_offsets, all_offsets};
+ghost use Rattle.il_layout.specs.Making.{shown, block_lists, sizes_of, offsets_of, unit_offsets, all_offsets};
 ghost use Rattle.il_spec.specs.declared.tree.Unit.{Unit as ProgramUnit};
 ghost use Rattle.il_run.specs.Meaning.{own_entities};
 

@@ -3,7 +3,7 @@
 ghost use Rattle.std.specs.Prelude.{◌≡◌, ◌+◌, ◌*◌, IfOk, ◌-ℤ◌, nat_abs, slice_get, length};
 ghost use Rattle.il_rules.specs.Names.{is_function};
 ghost use Rattle.il_scope.specs.Views.{passes};
-ghost use Rattle.il_order.specs.Counted.{capped, standard_slots, number_at, block_count, instance_count, type_count, with_variables, unit_counts, counts_of, function_count, task_count, is_over, is_over_of};
+ghost use Rattle.il_order.specs.Counted.{capped, standard_slots, number_at, block_count, instance_count, type_count, with_variables, unit_counts, counts_of, function_count, task_count, is_over};
 
 use crate::relation::{Relation, holds};
 use crate::variables::Variables;

@@ -1,5 +1,5 @@
 -- What a test finds of each standard block of the table, it finds of every one.
-use Rattle.std.proofs.Common.{◌≡◌, ℕ, zero, suc, Bool, true, false, ◌&&◌, List, [], ◌∷◌, map, refl, sym, ap, ◌∙◌, arith, lit≤}
+use Rattle.std.proofs.Common.{◌≡◌, zero, suc, Bool, true, false, ◌&&◌, List, [], ◌∷◌, map, refl, sym, ap, ◌∙◌, arith, lit≤}
 use Rattle.std.specs.Prelude.{Contains}
 use Rattle.il_rules.specs.Names.{Spelling, standard_blocks}
 use Rattle.il_rules.specs.declared.names.StandardBlock.{StandardBlock}

@@ -1,5 +1,5 @@
 -- The tables of standard names that the code has, as the rules have them.
-use Rattle.std.specs.Prelude.{List, map}
+use Rattle.std.specs.Prelude.{map}
 use Rattle.il_spec.specs.declared.tree.Elementary.{Elementary}
 use Rattle.il_rules.specs.Names.{Spelling, WordLists}
 use Rattle.il_rules.specs.declared.names.StandardBlock.{StandardBlock}

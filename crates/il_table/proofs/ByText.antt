@@ -7,7 +7,7 @@ use Rattle.std.specs.Ordering.{nat_cmp, eq_by_cmp, is_eq}
 use Rattle.std.specs.Map.{lookup}
 use Rattle.std.specs.String.{string_bytes, string_cmp}
 use Rattle.std.proofs.lemmas.Map.Text.{btree_map_updates_text, is_eq-slice_cmp}
-use Rattle.std.specs.BTreeMap.{BTreeMap, Updates, UpdatesBy, get_by_text, get as get_at}
+use Rattle.std.specs.BTreeMap.{BTreeMap, Updates, UpdatesBy, get_by_text}
 use Rattle.il_table.specs.NameMap.{Text, order, from_entries, get, insert, get-insert, get-empty, same_map}
 use Rattle.il_table.specs.Numbers.{appended, number, are_bytes, is_short, text_from, text_of, is_number}
 use Rattle.il_table.specs.ByText.{short_entries, long_entries, by_text}

@@ -1,4 +1,4 @@
-use Rattle.std.proofs.Common.{Some, option_map, ap, sym, ◌∙◌}
+use Rattle.std.proofs.Common.{option_map, ap, sym, ◌∙◌}
 use Rattle.il_rules.specs.declared.standard.NamedBlock.{NamedBlock}
 use Rattle.il_scope.proofs.Known.{block_is}
 use Rattle.il_scope.proofs.blocks.standard_block.Goals as goal

@@ -1,4 +1,4 @@
-use Rattle.std.proofs.Common.{Some, option_map, ap, sym, ◌∙◌}
+use Rattle.std.proofs.Common.{option_map, ap, sym, ◌∙◌}
 use Rattle.il_rules.specs.declared.standard.NamedFunction.{NamedFunction}
 use Rattle.il_scope.proofs.Known.{function_is}
 use Rattle.il_scope.proofs.functions.standard_function.Goals as goal
