@@ -1,5 +1,6 @@
 -- Lists by the rounds of their items, and what is set in a round.
-use Rattle.std.proofs.Common.{◌≡◌, ℕ, zero, suc, ◌+◌, ◌<◌, ◌≤◌, Bool, true, false, ◌&&◌, ◌==◌, nat_lt, List, [], ◌∷◌, ◌++◌, filter, take, drop, length, None, Some, refl, sym, ap, ap₂, ◌∙◌, subst, arith, if◌then◌else◌, eq-eqb, ne_eqb, ltb-false, ltb-true}
+use Rattle.std.proofs.Common.{◌≡◌, ℕ, zero, suc, ◌+◌, ◌-◌, ◌<◌, ◌≤◌, Bool, true, false, ◌&&◌, ◌==◌, nat_lt, List, [], ◌∷◌, ◌++◌, filter, take, drop, length, None, Some, refl, sym, ap, ap₂, ◌∙◌, subst, arith, if◌then◌else◌, eq-eqb, ne_eqb, ltb-false, ltb-true}
+use Rattle.std.proofs.lemmas.List.{take_all, length-drop}
 use Rattle.std.specs.Prelude.{not, slice_get, slice_index_or}
 use Rattle.std.specs.List.Sorted.{IsNonDecreasingBy, IsStableByKey}
 use Rattle.std.specs.Ordering.{is_lt, nat_cmp}
@@ -85,6 +86,13 @@ ahead_on round n m all rest later low first next = record { rises = next.rises; 
 
 pub ahead_same : {X : Type 0} (round : X → ℕ) (n : ℕ) (xs : List X) → Rises round n xs → IsAhead round n xs xs
 ahead_same round n xs rises = record { rises = rises; same = λ k low. refl }
+
+-- what is left of a copy, behind its first
+pub ahead_of_copy : {X : Type 0} (round : X → ℕ) (all copy xs ys : List X) (k : ℕ) → IsAhead round 0 all copy → xs ≡ copy → ys ≡ copy → IsAhead round (0 + 1) xs (drop k xs) → IsAhead round 1 all (take (length ys - k) (drop k ys))
+ahead_of_copy {X} round all copy xs ys k first same also next =
+    let whole : take (length ys - k) (drop k ys) ≡ drop k ys = take_all (length ys - k) (drop k ys) (omega (arith, length-drop k ys)) in
+    let here : IsAhead round 1 copy (drop k copy) = subst (λ l. IsAhead round 1 l (drop k l)) same next in
+    subst (IsAhead round 1 all) (sym (whole ∙ ap (drop k) also)) (ahead_on round 0 1 all copy (drop k copy) (omega arith) first here)
 
 -- THE FRONT
 

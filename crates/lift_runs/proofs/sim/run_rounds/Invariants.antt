@@ -16,7 +16,7 @@ invariant-rounds g l = record {
   shows : g.O.Observer.shows l.observer ≡ g.O.Observer.shows l.initial.observer;
   plant : IsPlantOf (sizes_of l.initial.world.program.config) l.plant;
   closed : IsClosed l.world.world;
-  ahead : IsAhead press_round (l.number + 1) l.drive.presses.now l.ahead.now;
+  ahead : IsAhead press_round (l.number + 1) l.drive.presses.now l.ahead;
   standing : IsStanding (sizes_of l.initial.world.program.config).cars l.drive.settings.now l.number l.standing.switches l.standing.later.now;
   idle : l.idle ≡ true → l.world.world.desk ≡ [];
   same : l.world.program ≡ l.initial.world.program;
