@@ -1,4 +1,4 @@
-use Rattle.std.proofs.Common.{rules, arith, ◌≡◌, ◌≤◌, ◌+◌, ◌++◌, ℕ, true, false, List, [], map, refl, subst, sym, ap, ◌∙◌}
+use Rattle.std.proofs.Common.{rules, arith, ◌≡◌, ◌≤◌, ◌+◌, ◌++◌, true, false, List, [], map, refl, subst, sym, ap, ◌∙◌}
 use Rattle.std.proofs.lemmas.List.{append_assoc}
 use Rattle.std.specs.Prelude.{is_some}
 use Rattle.il_machine.specs.Scanning.{Program, IsRunnable}
@@ -13,7 +13,6 @@ use Rattle.lift_plant.specs.declared.switches.Switches.{Switches}
 use Rattle.lift_journal.proofs.Rounds.{rounds_are_journal}
 use Rattle.lift_journal.proofs.Safe.{rounds_keep_cars_safe}
 use Rattle.il_machine.proofs.Sizes.{sizes_fit}
-use Rattle.lift_host.specs.declared.press.Press.{Press}
 use Rattle.lift_runs.specs.Ahead.{press_round, of_round, IsAhead, IsStanding}
 use Rattle.lift_runs.specs.Driven.{call_of, calls_in, switches_in, ArePressed}
 use Rattle.lift_runs.specs.Shown.{Shows, RoundShown, RoundsShown}
