@@ -26,6 +26,22 @@ pub struct Press {
     pub panel: u16,
 }
 
+/// What is set of the plant from a round on.
+#[derive(Clone, Copy)]
+pub enum Set {
+    /// FIRE.
+    Fire(bool),
+    /// RUNLIMIT: how many cars may run.
+    RunLimit(u8),
+}
+
+/// What is set of the plant, and from which round on, until it is set anew.
+#[derive(Clone, Copy)]
+pub struct Setting {
+    pub round: u16,
+    pub set: Set,
+}
+
 /// Why words give no presses.
 #[derive(Debug, Drop, Error)]
 pub enum PressFault {
