@@ -1,3 +1,4 @@
+mod Following
 mod Logging
 mod Reading
 mod Watching
