@@ -104,6 +104,7 @@ fn each_press(
 {
     let mut presses = Items::new(alloc);
     add_presses(alloc, &mut presses, words.front, rounds, floors)?;
+    add_presses(alloc, &mut presses, words.middle, rounds, floors)?;
     add_presses(alloc, &mut presses, words.back, rounds, floors)?;
     Ok(presses)
 }
