@@ -1,4 +1,4 @@
-mod Following
+mod Printing
 mod Logging
 mod Reading
 mod Watching

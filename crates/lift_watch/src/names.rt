@@ -134,6 +134,7 @@ pub fn upper_names(alloc: Global, names: Words<'_>) -> Result<Vec<String>, Alloc
 {
     let mut upper = Vec::new(alloc);
     add_upper(alloc, &mut upper, names.front)?;
+    add_upper(alloc, &mut upper, names.middle)?;
     add_upper(alloc, &mut upper, names.back)?;
     Ok(upper)
 }
