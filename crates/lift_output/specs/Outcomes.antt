@@ -123,11 +123,15 @@ pub record AreSpelled (floors : ℕ) (asked : Rounds) (presses : List Press) (fi
   pub spelled : ArePresses asked.rounds floors (words_of asked.presses) presses
   pub from_round : IsFire asked.rounds (fire_word asked) first
 
+-- what was read has these presses and settings
+abbrev pub AreOfReading : Sizes → ℕ → Reading → List Press → List Setting → Type 0
+AreOfReading sizes rounds (Text text) presses settings = AreCallsOf rounds sizes.floors sizes.cars text.items presses settings
+AreOfReading sizes rounds (Failed why) presses settings = ⊥
+
 -- the file behind `--calls` has these presses and settings; without it there are none
 abbrev pub AreOfFile : Sizes → ℕ → Option (List ℕ) → Reading → List Press → List Setting → Type 0
 AreOfFile sizes rounds None calls presses settings = (presses ≡ []) × (settings ≡ [])
-AreOfFile sizes rounds (Some name) (Text text) presses settings = AreCallsOf rounds sizes.floors sizes.cars text.items presses settings
-AreOfFile sizes rounds (Some name) (Failed why) presses settings = ⊥
+AreOfFile sizes rounds (Some name) calls presses settings = AreOfReading sizes rounds calls presses settings
 
 -- The presses are those of the words and behind them those of the file; the settings are that of `--fire` and behind it those of the file.
 pub record AreDriven (sizes : Sizes) (asked : Rounds) (calls : Reading) (presses : List Press) (settings : List Setting) : Type 0 where
@@ -146,13 +150,18 @@ IsNoFire rounds word (fault.BadFire named) = (word ≡ Some (string_bytes named)
 IsNoFire rounds word fault.NoMemory = Unit {0}
 IsNoFire rounds word _ = ⊥
 
--- the file behind `--calls` is not read; or a line of it is wrong, 83, or it is too long, 84; memory may be missing
-abbrev pub HasBadCalls : Sizes → ℕ → Option (List ℕ) → Reading → Fault → Type 0
-HasBadCalls sizes rounds (Some name) (Text text) (fault.Refused number line) =
+-- reading failed; or a line of what was read is wrong, 83, or there is too much of it, 84; memory may be missing
+abbrev pub IsBadReading : Sizes → ℕ → Reading → Fault → Type 0
+IsBadReading sizes rounds (Text text) (fault.Refused number line) =
     ((number ≡ 83) × IsCallsFault rounds sizes.floors sizes.cars text.items (calls_fault.BadLine line)) ⊎ ((number ≡ 84) × IsCallsFault rounds sizes.floors sizes.cars text.items (calls_fault.TooMany line))
-HasBadCalls sizes rounds (Some name) (Failed why) (fault.CannotRead cause) = fault_of_reading why ≡ fault.CannotRead cause
-HasBadCalls sizes rounds word calls fault.NoMemory = Unit {0}
-HasBadCalls sizes rounds word calls _ = ⊥
+IsBadReading sizes rounds (Failed why) (fault.CannotRead cause) = fault_of_reading why ≡ fault.CannotRead cause
+IsBadReading sizes rounds calls fault.NoMemory = Unit {0}
+IsBadReading sizes rounds calls _ = ⊥
+
+-- so is the file behind `--calls`
+abbrev pub HasBadCalls : Sizes → ℕ → Option (List ℕ) → Reading → Fault → Type 0
+HasBadCalls sizes rounds None calls why = why ≡ fault.NoMemory
+HasBadCalls sizes rounds (Some name) calls why = IsBadReading sizes rounds calls why
 
 -- the words are good
 abbrev pub AreGood : ℕ → Rounds → Type 0

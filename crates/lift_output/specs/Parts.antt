@@ -1,5 +1,5 @@
 -- What parts of a request's outcome are; no public contract but these crate's own functions names them (own rules).
-use Rattle.std.specs.Prelude.{◌≡◌, ◌≤◌, ◌⊎◌, ℕ, ◌+◌, ◌++◌, List, Ok, Err, string_bytes}
+use Rattle.std.specs.Prelude.{◌≡◌, ◌⊎◌, ℕ, ◌+◌, ◌++◌, List, Ok, Err, string_bytes}
 use Rattle.il_machine.specs.Scanning.{Program}
 use Rattle.il_spec.specs.declared.tree.Config.{Config}
 use Rattle.lift_host.specs.declared.press.Press.{Press}
@@ -20,11 +20,11 @@ use Rattle.lift_spec.specs.EventFaults.{event_fault_number}
 use Rattle.lift_spec.specs.World.{World, opening}
 use Rattle.lift_trace.specs.declared.fault.TraceFault.{TraceFault}
 use Rattle.lift_trace.specs.declared.fault.TraceFault.TheVariants.{BadLine, Truncated, Write, Memory}
-use Rattle.lift_trace.specs.Reading.{Reads, greatest_trace}
+use Rattle.lift_trace.specs.Reading.{Reads}
 use Rattle.lift_host.specs.declared.calls.CallsFault.{CallsFault}
 use Rattle.lift_host.specs.declared.calls.CallsFault.TheVariants as calls
-use Rattle.lift_runs.specs.declared.along.Stop.{Stop}
-use Rattle.lift_runs.specs.declared.along.Stop.TheVariants as stop
+use Rattle.lift_host.specs.CallsFile.{IsCallsFault}
+use Rattle.lift_spec.specs.declared.image.Sizes.{Sizes}
 
 -- the fault of a trace that was read; reading writes nothing
 abbrev pub fault_of_trace : TraceFault → Fault
@@ -39,15 +39,12 @@ fault_of_calls (calls.BadLine line) = fault.Refused 83 line
 fault_of_calls (calls.TooMany line) = fault.Refused 84 line
 fault_of_calls calls.Memory = fault.NoMemory
 
--- the fault of events that were not followed to their end
-abbrev pub fault_of_stop : Stop → Fault
-fault_of_stop (stop.Refused r) = fault.Refused (event_fault_number r.fault) (r.index + 2)
-fault_of_stop stop.Memory = fault.NoMemory
-
--- the event that is refused stands in a trace
-abbrev pub FewBefore : Stop → Type 0
-FewBefore (stop.Refused r) = r.index ≤ greatest_trace
-FewBefore stop.Memory = Unit {0}
+-- a text has no presses and settings
+abbrev pub IsBadText : Sizes → ℕ → List ℕ → Fault → Type 0
+IsBadText sizes rounds text (fault.Refused number line) =
+    ((number ≡ 83) × IsCallsFault rounds sizes.floors sizes.cars text (calls.BadLine line)) ⊎ ((number ≡ 84) × IsCallsFault rounds sizes.floors sizes.cars text (calls.TooMany line))
+IsBadText sizes rounds text fault.NoMemory = Unit {0}
+IsBadText sizes rounds text _ = ⊥
 
 -- a text is no trace
 abbrev pub IsTraceUnread : ℕ → List ℕ → Fault → Type 0

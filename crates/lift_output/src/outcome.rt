@@ -4,10 +4,10 @@ ghost use Rattle.std.specs.Prelude.{◌≡◌, ◌≢◌, ◌≤◌, ◌+◌, �
 ghost use Rattle.lift_spec.specs.Image.{sizes_of};
 ghost use Rattle.lift_spec.specs.World.{opening};
 ghost use Rattle.lift_trace.specs.Reading.{Reads, greatest_trace};
-ghost use Rattle.lift_output.specs.Outcomes.{IsCheckOutcome, IsShowOutcome, HasWarnings, asked_warnings, wanted_warnings, IsFire, IsNoFire, calls_word, fire_settings, AreOfFile, HasBadCalls, AreDriven, IsUndriven, IsSimOutcome, IsRunOutcome, IsDenialsOutcome, IsWatchOutcome, IsRoundsOutcome, IsCallsText, IsFollowed, IsTraceOutcome, IsProgramOutcome};
-ghost use Rattle.lift_output.specs.Parts.{fault_of_trace, fault_of_calls, fault_of_stop, FewBefore, IsTraceUnread, AreFollowed, AreValued, IsWatched};
+ghost use Rattle.lift_output.specs.Outcomes.{IsCheckOutcome, IsShowOutcome, HasWarnings, asked_warnings, wanted_warnings, IsFire, IsNoFire, calls_word, fire_settings, AreOfFile, AreOfReading, HasBadCalls, IsBadReading, AreDriven, IsUndriven, IsSimOutcome, IsRunOutcome, IsDenialsOutcome, IsWatchOutcome, IsRoundsOutcome, IsCallsText, IsFollowed, IsTraceOutcome, IsProgramOutcome};
+ghost use Rattle.lift_output.specs.Parts.{fault_of_trace, fault_of_calls, IsTraceUnread, IsBadText, AreFollowed, AreValued, IsWatched};
 ghost use Rattle.lift_runs.specs.Driven.{ArePressed, AreSettings, switches_in};
-ghost use Rattle.lift_host.specs.CallsFile.{AreCallsOf, IsCallsFault};
+ghost use Rattle.lift_host.specs.CallsFile.{AreCallsOf};
 ghost use Rattle.lift_host.specs.Requests.{command_of, words_of};
 ghost use Rattle.lift_watch.specs.Names.{upper_case};
 ghost use Rattle.lift_spec.specs.EventFaults.{event_fault_number};
@@ -177,14 +177,23 @@ fn file_of(
     ensures err { IfErr result (HasBadCalls sizes asked.entry.rounds (calls_word asked.entry)
         calls.now) }
 {
-    if asked.calls.is_none() {
-        return Ok(CallsFile {
+    match asked.calls {
+        None => Ok(CallsFile {
             presses: Items::new(alloc),
             settings: Items::new(alloc),
-        });
+        }),
+        Some(_) => read_of(alloc, calls, asked.rounds, sizes),
     }
+}
+
+// The presses and settings of what was read.
+fn read_of(alloc: Global, calls: &Reading, rounds: u16, sizes: Sizes) -> Result<CallsFile, Fault>
+    ensures ok { IfOk result (λ file. AreOfReading sizes rounds calls.now file.presses
+        file.settings) }
+    ensures err { IfErr result (IsBadReading sizes rounds calls.now) }
+{
     match calls {
-        Reading::Text(text) => read_file(alloc, text, asked.rounds, sizes),
+        Reading::Text(text) => read_file(alloc, text, rounds, sizes),
         Reading::Failed(why) => Err((*why).into()),
     }
 }
@@ -193,8 +202,7 @@ fn file_of(
 fn read_file(alloc: Global, text: &[u8], rounds: u16, sizes: Sizes) -> Result<CallsFile, Fault>
     ensures ok { IfOk result (λ file. AreCallsOf rounds sizes.floors sizes.cars text.now
         file.presses file.settings) }
-    ensures err { IfErr result (λ fault. (why : CallsFault) × (fault ≡ fault_of_calls why)
-        × IsCallsFault rounds sizes.floors sizes.cars text.now why) }
+    ensures err { IfErr result (IsBadText sizes rounds text.now) }
 {
     match read_calls(alloc, text, rounds, u16::from(sizes.floors), sizes.cars) {
         Ok(file) => Ok(file),
@@ -532,7 +540,8 @@ fn denials_along(
 {
     match denied_along(alloc, world, events, all) {
         Ok(text) => Ok(Output::Text(text)),
-        Err(stop) => Err(fault_of_stop(stop)),
+        Err(along::Stop::Refused(refused)) => Err(fault_of_event(refused)),
+        Err(along::Stop::Memory) => Err(Fault::NoMemory),
     }
 }
 
@@ -567,18 +576,8 @@ fn values_of(
     let Watch { watched, mut text } = Watch::of(alloc, world, names)?;
     match rows_along(world, events, watched.as_slice(), &mut text) {
         Ok(()) => Ok(Output::Text(text)),
-        Err(stop) => Err(fault_of_stop(stop)),
-    }
-}
-
-// The fault of events that were not followed to their end.
-fn fault_of_stop(stop: along::Stop) -> Fault
-    requires few { FewBefore stop }
-    ensures { result ≡ fault_of_stop stop }
-{
-    match stop {
-        along::Stop::Refused(refused) => fault_of_event(refused),
-        along::Stop::Memory => Fault::NoMemory,
+        Err(along::Stop::Refused(refused)) => Err(fault_of_event(refused)),
+        Err(along::Stop::Memory) => Err(Fault::NoMemory),
     }
 }
 
@@ -596,7 +595,8 @@ fn calls_of(
 {
     match call_log(alloc, world, events) {
         Ok(log) => Ok(Output::Text(calls_text(alloc, &log, summary)?)),
-        Err(stop) => Err(fault_of_stop(stop)),
+        Err(along::Stop::Refused(refused)) => Err(fault_of_event(refused)),
+        Err(along::Stop::Memory) => Err(Fault::NoMemory),
     }
 }
 

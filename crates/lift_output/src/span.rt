@@ -50,12 +50,12 @@ fn span(word: &str) -> Option<Span>
 }
 
 // The round of an end, or where none is written the one that is meant then.
-fn end_of(open: u32, word: &str) -> Option<u32>
-    ensures some { IfSome result (IsEnd open word.now) }
-    ensures none { IsNone result → (round : ℕ) → IsEnd open word.now round → ⊥ }
+fn end_of(missing: u32, word: &str) -> Option<u32>
+    ensures some { IfSome result (IsEnd missing word.now) }
+    ensures none { IsNone result → (round : ℕ) → IsEnd missing word.now round → ⊥ }
 {
     if word.is_empty() {
-        return Some(open);
+        return Some(missing);
     }
     let round = number_to(MOST, word)?;
     Some(u32::from(round))
