@@ -71,7 +71,7 @@ there first second words front option more positional value other is has h none 
         behind = subst (λ ws. IsBehind second ws h.word h.others other) (sym parts.1) h.behind;
         plain = back_none IsOption h.before h.others plain;
         positional_is = h.positional_is ∙ ap (λ ws. ws ++ h.others) (sym same.0);
-      }
+      },
     )
 
 differ : codes "--fire" ≡ codes "--calls" → ⊥
