@@ -1,9 +1,8 @@
 -- The lines of the file of `--calls`, and their words.
-use Rattle.std.proofs.Common.{arith, ◌≡◌, ◌≢◌, ◌≤◌, ◌<◌, ◌+◌, ◌⊎◌, inl, inr, ℕ, zero, suc, Bool, true, false, List, [], ◌∷◌, ◌++◌, append_assoc, length, length-append, get_or, take, drop, refl, sym, ap, ◌∙◌, subst}
-use Rattle.std.specs.Prelude.{Option, Some, None, codes, slice_index, flat_map, string_bytes}
+use Rattle.std.proofs.Common.{arith, ◌≡◌, ◌≢◌, ◌≤◌, ◌<◌, ◌+◌, inl, inr, ℕ, zero, suc, List, [], ◌∷◌, ◌++◌, append_assoc, length, length-append, get_or, take, drop, refl, sym, ap, ◌∙◌, subst}
+use Rattle.std.specs.Prelude.{slice_index, flat_map}
 use Rattle.std.specs.Str.{IsAscii, IsUtf8}
-use Rattle.std.specs.Int.{IsInRange}
-use Rattle.std.specs.List.{filter, slice_split, position_or_len}
+use Rattle.std.specs.List.{AllByRecursion, filter, slice_split, position_or_len}
 use Rattle.std.proofs.Math.Numerals.{add-one}
 use Rattle.std.proofs.lemmas.Bool.{cases_lt}
 use Rattle.std.proofs.lemmas.Str.{IsUtf8-from_ascii}
@@ -12,7 +11,7 @@ use Rattle.std.proofs.lemmas.List.Sums.{fails_before_first}
 use Rattle.std.proofs.lemmas.List.Splits.{slice_split_none, slice_split_first}
 use Rattle.lift_host.specs.Requests.{IsDigits, IsNumberTo}
 use Rattle.lift_host.specs.Presses.{IsPressOf}
-use Rattle.lift_host.specs.CallsFile.{is_cut, has_byte, AreLineWords, ArePressWords, AreSettingWords, AreNothing, AreLines, IsLine, IsFirstBad, IsFirstBeyond, IsSetting, Say, SayBefore, most_lines, presses_of, settings_of}
+use Rattle.lift_host.specs.CallsFile.{is_cut, has_byte, lines_of, words_in, AreCallsOf, AreLineWords, ArePressWords, AreSettingWords, AreLines, IsLine, IsFirstBad, IsFirstBeyond, IsSetting, Say, SayBefore, most_lines, presses_of, settings_of}
 use Rattle.lift_host.specs.CallsFile.ArePressWords.{plain, at_panel}
 use Rattle.lift_host.specs.declared.calls.Cut.{Cut}
 use Rattle.lift_host.specs.declared.calls.Line.{Line}
@@ -232,3 +231,35 @@ all_said rounds floors cars lines number presses settings so =
     nil : (ls : List (List ℕ)) → ls ++ [] ≡ ls
     nil [] = refl
     nil (l ∷ ls) = ap (λ ws. l ∷ ws) (nil ls)
+
+-- WHAT HOLDS OF ALL THAT A FILE SAYS
+
+module _ (rounds floors cars : ℕ) (Holds : Press → Type 0) (holds : (first second third : List ℕ) (press : Press) → IsPressOf rounds floors first second third press → Holds press) where
+  of_words : (words : List (List ℕ)) (press : Press) → ArePressWords rounds floors words press → Holds press
+  of_words words press (plain a b c are is panel) = holds a b c press is
+  of_words words press (at_panel a b c d are is panel) = holds a b c press is
+
+  of_presses : (lines : List (List ℕ)) (read : List Line) → AreLines rounds floors cars lines read → AllByRecursion Holds (flat_map presses_of read)
+  of_presses [] [] are = tt
+  of_presses [] (r ∷ read) are = absurd are
+  of_presses (l ∷ lines) [] are = absurd are
+  of_presses (l ∷ lines) (line.Nothing ∷ read) are = of_presses lines read are.1
+  of_presses (l ∷ lines) (line.OfPress p ∷ read) are = (of_words (words_in l) p are.0, of_presses lines read are.1)
+  of_presses (l ∷ lines) (line.OfSetting s ∷ read) are = of_presses lines read are.1
+
+  -- what holds of a press that words spell, holds of each press of a file
+  pub all_presses : (text : List ℕ) (presses : List Press) (settings : List Setting) → AreCallsOf rounds floors cars text presses settings → AllByRecursion Holds presses
+  all_presses text presses settings are = subst (AllByRecursion Holds) (sym are.say.presses_are) (of_presses (lines_of text) are.say.read are.say.each)
+
+module _ (rounds floors cars : ℕ) (Holds : Setting → Type 0) (holds : (first name value : List ℕ) (setting : Setting) → IsNumberTo rounds first setting.round → IsSetting cars name value setting.set → Holds setting) where
+  of_settings : (lines : List (List ℕ)) (read : List Line) → AreLines rounds floors cars lines read → AllByRecursion Holds (flat_map settings_of read)
+  of_settings [] [] are = tt
+  of_settings [] (r ∷ read) are = absurd are
+  of_settings (l ∷ lines) [] are = absurd are
+  of_settings (l ∷ lines) (line.Nothing ∷ read) are = of_settings lines read are.1
+  of_settings (l ∷ lines) (line.OfPress p ∷ read) are = of_settings lines read are.1
+  of_settings (l ∷ lines) (line.OfSetting s ∷ read) are = (holds are.0.first are.0.name are.0.value s are.0.round are.0.set, of_settings lines read are.1)
+
+  -- and of each setting
+  pub all_settings : (text : List ℕ) (presses : List Press) (settings : List Setting) → AreCallsOf rounds floors cars text presses settings → AllByRecursion Holds settings
+  all_settings text presses settings are = subst (AllByRecursion Holds) (sym are.say.settings_are) (of_settings (lines_of text) are.say.read are.say.each)

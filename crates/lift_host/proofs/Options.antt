@@ -1,6 +1,6 @@
 -- Words of a command line apart, by the first option among them.
-use Rattle.std.proofs.Common.{arith, ℕ, ◌≡◌, ◌<◌, ◌⊎◌, inl, inr, Bool, true, false, get_or, List, [], ◌∷◌, ◌++◌, refl, sym, ap, ◌∙◌, subst, map, take, drop, length}
-use Rattle.std.specs.Prelude.{Option, Some, None, codes, slice_get, String, string_bytes}
+use Rattle.std.proofs.Common.{arith, ℕ, ◌≡◌, ◌<◌, Bool, true, false, get_or, List, [], ◌∷◌, ◌++◌, refl, sym, ap, ◌∙◌, subst, map, take, drop, length}
+use Rattle.std.specs.Prelude.{Option, Some, codes, slice_get, String, string_bytes}
 use Rattle.std.specs.Global.{Global}
 use Rattle.lift_host.specs.Requests.{IsOption, AreNoOptions, AreApart, IsBehind, IsFirstApart, IsFlagApart}
 use Rattle.lift_host.specs.Requests.AreApart.{without, fire_first, calls_first}

@@ -1,6 +1,3 @@
-use Rattle.std.proofs.Common.{◌≡◌, ◌<◌, ℕ, List, arith, length, get_or}
-use Rattle.std.specs.Int.{IsInRange}
-use Rattle.lift_host.specs.Requests.{IsDigits, IsNumberTo}
 use Rattle.lift_host.proofs.Lines.{digits_utf8}
 use Rattle.lift_host.proofs.calls.number_in.Goals as goal
 

@@ -1,4 +1,4 @@
-use Rattle.std.proofs.Common.{rules, ◌≡◌, ◌≤◌, ◌∙◌, ap, subst}
+use Rattle.std.proofs.Common.{rules, ◌≤◌, ◌∙◌, ap, subst}
 use Rattle.std.specs.Prelude.{Some, option_map}
 use Rattle.lift_host.specs.CallsFile.{pieces_left, most_lines}
 use Rattle.lift_host.specs.declared.calls.Cut.TheVariants.{Feed}

@@ -1,4 +1,4 @@
-use Rattle.std.proofs.Common.{◌≡◌, length}
+use Rattle.std.proofs.Common.{length}
 use Rattle.std.specs.Prelude.{Some, option_map}
 use Rattle.lift_host.specs.CallsFile.{pieces_left}
 use Rattle.lift_host.specs.declared.calls.Cut.TheVariants.{Feed}

@@ -1,6 +1,6 @@
-use Rattle.std.proofs.Common.{refl, rules}
+use Rattle.std.proofs.Common.{refl}
 use Rattle.lift_host.specs.CallsFile.ArePressWords.{plain}
-use Rattle.lift_host.proofs.Lines.{none_of_three, none_of_round}
+use Rattle.lift_host.proofs.Lines.{none_of_three}
 use Rattle.lift_host.proofs.calls.said_by_three.Goals as goal
 
 pub returns-in_err-press_by-clause-none : goal.returns-in_err-press_by-clause-none

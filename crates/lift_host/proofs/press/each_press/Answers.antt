@@ -1,4 +1,4 @@
-use Rattle.std.proofs.Common.{rules, [], ◌++◌, ◌≡◌, List, ℕ, map, subst, append_assoc}
+use Rattle.std.proofs.Common.{rules, [], ◌++◌, map, subst, append_assoc}
 use Rattle.std.specs.Prelude.{string_bytes}
 use Rattle.lift_host.specs.Presses.{AreOfWords}
 use Rattle.lift_host.proofs.Parts.{none_in_front, none_in_back, of_none}

@@ -2,7 +2,7 @@ use Rattle.std.proofs.Common.{rules, ◌≡◌, refl, sym, ◌∙◌, subst, map
 use Rattle.std.specs.Prelude.{codes, string_bytes}
 use Rattle.lift_host.specs.Requests.{IsOption, AreNoOptions}
 use Rattle.lift_host.proofs.Apart.{both_none, back_none}
-use Rattle.lift_host.proofs.Options.{without_cut, none_left, has_first, at_cut, HasFirst}
+use Rattle.lift_host.proofs.Options.{without_cut, has_first, at_cut}
 use Rattle.lift_host.proofs.request.cut_apart.Goals as goal
 use Rattle.lift_host.proofs.request.cut_apart.Goals.{then-not-is_same-via-then-not-is_same, then-not-is_same-via-else-not-is_same+then-has_option}
 

@@ -2,7 +2,7 @@ use Rattle.std.proofs.Common.{rules, ◌≡◌, refl, sym, ap, ◌∙◌, ◌++�
 use Rattle.std.specs.Prelude.{codes, string_bytes}
 use Rattle.lift_host.specs.Requests.{IsOption, AreNoOptions}
 use Rattle.lift_host.proofs.Apart.{both_none}
-use Rattle.lift_host.proofs.Options.{without_options, none_left, has_first, at_fire, at_calls, at_neither, HasFirst, FoundBehind}
+use Rattle.lift_host.proofs.Options.{without_options, has_first, at_fire, at_calls, at_neither}
 use Rattle.lift_host.proofs.request.options_apart.Goals as goal
 
 pub returns-in_default-clause-only : goal.returns-in_default-clause-only

@@ -1,7 +1,6 @@
 use Rattle.std.proofs.Common.{ap, sym, ◌∙◌, ◌∷◌, [], ◌≡◌, ℕ, List, refl, subst}
 use Rattle.std.specs.Prelude.{option_map}
-use Rattle.lift_host.specs.Requests.{GiveRounds, IsRounds, words_of}
-use Rattle.lift_host.specs.declared.request.Rounds.{Rounds}
+use Rattle.lift_host.specs.Requests.{IsRounds, words_of}
 use Rattle.lift_host.proofs.request.rounds_given.Goals as goal
 
 pub returns-clause-some : goal.returns-clause-some

@@ -1,4 +1,4 @@
-use Rattle.std.proofs.Common.{map, subst, sym, ◌++◌}
+use Rattle.std.proofs.Common.{map, subst, sym}
 use Rattle.std.specs.Prelude.{codes, option_map, string_bytes}
 use Rattle.lift_host.specs.Requests.{IsApart, words_of}
 use Rattle.lift_host.proofs.serving.serving_given.Goals as goal

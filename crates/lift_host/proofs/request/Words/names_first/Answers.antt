@@ -1,6 +1,6 @@
-use Rattle.std.proofs.Common.{◌≡◌, ◌++◌, [], ℕ, Bool, List, length, map, string_bytes, true, false, refl, sym, ap, ◌∙◌, subst, append_assoc}
+use Rattle.std.proofs.Common.{◌≡◌, ◌++◌, [], ℕ, List, length, map, string_bytes, true, false, refl, sym, ◌∙◌, subst, append_assoc}
 use borrow.Author.Tests.{eq-eqb, eqb-true}
-use Rattle.lift_host.specs.Requests.{AreNamesFirst, words_of}
+use Rattle.lift_host.specs.Requests.{AreNamesFirst}
 use Rattle.lift_host.proofs.Names.{split_here, split_last, all_names, both_names, no_name}
 use Rattle.lift_host.proofs.request.Words.names_first.Goals as goal
 
