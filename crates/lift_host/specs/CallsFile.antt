@@ -1,5 +1,5 @@
 -- What the file of `--calls` says (own rules).
-use Rattle.std.specs.Prelude.{◌≡◌, ◌⊎◌, ◌≤◌, ◌<◌, ◌==◌, ◌||◌, ◌+◌, ◌-◌, ℕ, Bool, true, false, not, List, [], ◌∷◌, ◌++◌, if◌then◌else◌, length, take, slice_index, codes, flat_map, Option, None, Some}
+use Rattle.std.specs.Prelude.{◌≡◌, ◌⊎◌, ◌≤◌, ◌<◌, ◌==◌, ◌||◌, ◌+◌, ◌-◌, ℕ, Bool, true, false, List, [], ◌∷◌, ◌++◌, if◌then◌else◌, length, take, slice_index, codes, flat_map, Option, None, Some}
 use Rattle.std.specs.List.{filter, slice_split}
 use Rattle.std.specs.Str.Parse.{digits_value}
 use Rattle.lift_host.specs.Requests.{IsDigits, IsNumberTo}

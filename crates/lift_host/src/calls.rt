@@ -152,10 +152,10 @@ fn read_lines(alloc: Global, text: &[u8], bounds: Bounds) -> Result<CallsFile, C
     let mut rest = Some(text);
     let mut number = 1;
     'lines: while let Some(left) = rest {
+        let (line, behind) = first_piece(Cut::Feed, left);
         if number > MOST_LINES {
             return Err(CallsFault::TooMany { line: number });
         }
-        let (line, behind) = first_piece(Cut::Feed, left);
         let Some(said) = line_of(line, bounds) else {
             return Err(CallsFault::BadLine { line: number });
         };

@@ -309,7 +309,7 @@ impl<'w> Request<'w> {
 }
 
 /// Whether a text is ASCII digits alone.
-pub(crate) fn is_digits(text: &str) -> bool
+pub fn is_digits(text: &str) -> bool
     ensures { IsTrue result ↔ IsDigits text.now }
 {
     text.as_bytes().iter().all(|b| b.is_ascii_digit())
