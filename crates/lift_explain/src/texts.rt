@@ -2,7 +2,7 @@
 
 use crate::Meaning;
 
-pub(crate) const TEXTS: [Meaning; 44] = [
+pub(crate) const TEXTS: [Meaning; 46] = [
     Meaning {
         number: 1,
         text: "1: a byte that has no place in a text\n\nA byte outside 32 to 126 that is no tab, line feed, or carriage return directly before a line feed; or a byte that begins no token, such as `$`, `*`, `=` alone, or `-` without a digit behind it. Named is the line of the byte.\n\n    PROGRAM C\n    LD TRUE\n    ST OPEN $\n    END_PROGRAM\n\nrefused 1 at line 3\n\nRemove the byte; write comments in ASCII.\n\n    PROGRAM C\n    LD TRUE\n    ST OPEN\n    END_PROGRAM\n",
@@ -178,5 +178,13 @@ pub(crate) const TEXTS: [Meaning; 44] = [
     Meaning {
         number: 82,
         text: "82: the trace can't be written\n\nThe sink to which a trace is written took no more; a beginning of the trace is in it. `liftplc` prints `cannot write` for it, and ends with status 3.\n\nGive the trace room: on the disk, or in what reads the pipe.\n",
+    },
+    Meaning {
+        number: 83,
+        text: "83: a wrong line in a file of calls\n\nThe line is none of `ROUND FROM TO`, `ROUND FROM TO PANEL`, `ROUND FIRE on`, `ROUND FIRE off` and `ROUND LIMIT N`, with spaces or tabs between its words. ROUND is a round of the run, FROM and TO are two different floors of the group, PANEL is from 1 to 4, and N is from 0 to CARS: ASCII digits alone. FIRE, LIMIT, on and off are written as here. An empty line, and one whose first word begins with `#`, say nothing.\n\n    # 8:00 to 8:05\n    1 1 5\n    120 3 3\n    150 FIRE on\n\nrefused 83 at line 3\n\nFROM and TO are the same floor. Name the one that the passenger goes to:\n\n    # 8:00 to 8:05\n    1 1 5\n    120 3 4\n    150 FIRE on\n",
+    },
+    Meaning {
+        number: 84,
+        text: "84: a file of calls that is too long\n\nThe file has more than 100000 lines, or more than 4000000 bytes. Reported is the line at which it is too much: line 100001, or the one in which byte 4000001 stands. Bytes are counted before a line is read.\n\nGive the run fewer calls, or take lines out that say nothing. A run of 50000 rounds with two calls in each is at the limit.\n",
     },
 ];

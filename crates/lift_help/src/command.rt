@@ -6,19 +6,22 @@ ghost use Rattle.lift_help.specs.Helps.{IsAskedFor, ask_for_help, begin_with_hel
 use clap::error::ErrorKind;
 use clap::{Arg, ArgAction, Command};
 use lift_explain::explanation;
-use lift_host::request::{FIRE, MOST_ROUNDS, Name, TRACE, Words, is_option, number_to};
+use lift_host::request::{
+    CALLS, CUT, FIRE, MOST_ROUNDS, Name, ROUNDS, Simulating, TRACE, Words, is_digits, is_option,
+    number_to,
+};
 use lift_host::serving::{SYNC, is_serve};
 use std::alloc::{AllocError, Global};
 
 const VERSION: &str = "0.1.0";
 
 const AFTER_HELP: &str = "\
-With every command, --explain shows below a fault the line of a refused FILE or TRACE and what its number means, or the wrong word or file, as on a terminal.
+With every command, --explain shows below a fault the line of a refused FILE, TRACE or CALLS and what its number means, or the wrong word or file, as on a terminal.
 
 Exit status:
   0  done
-  2  the command line, FILE or TRACE is refused
-  3  FILE or TRACE can't be read, or standard output or the TRACE of `serve` can't be written
+  2  the command line, FILE, TRACE or CALLS is refused
+  3  FILE, TRACE or CALLS can't be read, or standard output or the TRACE of `serve` can't be written
   4  out of memory
 
 A refused FILE prints `refused NUMBER at line LINE`: `liftplc explain NUMBER` and docs/FAULTS.md say what it means.";
@@ -34,6 +37,12 @@ const MOST_NUMBER: u16 = 99;
 
 // The option `--fire`, as it is shown.
 const FIRE_SHOWN: &str = "--fire <ROUND>";
+
+// The option `--calls`, as it is shown.
+const CALLS_SHOWN: &str = "--calls <CALLS>";
+
+// The option `--rounds`, as it is shown.
+const ROUNDS_SHOWN: &str = "--rounds <A:B>";
 
 // The option `--trace`, as it is shown.
 const TRACE_SHOWN: &str = "--trace <TRACE>";
@@ -51,14 +60,14 @@ pub enum Answer {
 // What is wrong with words that the parser takes.
 #[derive(Drop)]
 enum Misuse<'w> {
-    /// A word begins with `-`.
-    Option(&'w str),
+    /// A word stands where none may, or begins with `-`.
+    Unexpected(&'w str),
     /// No value stands behind an option that needs one.
     NoValue(&'static str),
     /// An option stands twice.
     Twice(&'static str),
-    /// `--sync` stands without `--trace`.
-    SyncAlone,
+    /// An option stands without what it is for.
+    Alone(Lone),
     /// ROUNDS is no decimal in its range.
     Rounds(&'w str),
     /// NUMBER is none of a fault or a refusal.
@@ -68,6 +77,37 @@ enum Misuse<'w> {
     /// A command or its FILE is missing.
     Missing,
 }
+
+// An option, and what it stands beside.
+#[derive(Clone, Copy)]
+struct Lone {
+    option: &'static str,
+    beside: &'static str,
+}
+
+// `--sync` without `--trace`.
+const SYNC_ALONE: Lone = Lone {
+    option: SYNC,
+    beside: "'--trace <TRACE>'",
+};
+
+// `--cut` without a trace.
+const CUT_ALONE: Lone = Lone {
+    option: CUT,
+    beside: "a TRACE",
+};
+
+// `--fire` at a trace.
+const FIRE_ALONE: Lone = Lone {
+    option: FIRE_SHOWN,
+    beside: "ROUNDS",
+};
+
+// `--calls` at a trace.
+const CALLS_ALONE: Lone = Lone {
+    option: CALLS_SHOWN,
+    beside: "ROUNDS",
+};
 
 // The argument FILE.
 fn file<'a>(alloc: Global) -> Arg<'a> {
@@ -159,6 +199,26 @@ fn fire<'a>(alloc: Global) -> Arg<'a> {
         .help("From this round on, fire recall is on")
 }
 
+// The option `--calls`.
+fn calls<'a>(alloc: Global) -> Arg<'a> {
+    Arg::new(alloc, "calls")
+        .long("calls")
+        .value_name("CALLS")
+        .help(
+            "Also makes the calls of the file CALLS, and sets FIRE and RUNLIMIT as it says; docs/COMMANDS.md has its lines",
+        )
+}
+
+// The argument ROUNDS or TRACE.
+fn rounds_or_trace<'a>(alloc: Global) -> Arg<'a> {
+    Arg::new(alloc, "ROUNDS")
+        .required(true)
+        .value_name("ROUNDS|TRACE")
+        .help(
+            "How many rounds of 100 ms, from 1 to 50000; or a trace that `sim` or `run` printed, whose name isn't digits alone",
+        )
+}
+
 // The command that simulates.
 fn sim_command<'a>(alloc: Global) -> Result<Command<'a>, AllocError> {
     rounds_command(
@@ -180,45 +240,40 @@ fn run_command<'a>(alloc: Global) -> Result<Command<'a>, AllocError> {
 
 // The command that prints what was denied.
 fn denials_command<'a>(alloc: Global) -> Result<Command<'a>, AllocError> {
-    rounds_command(
+    observing_command(
         alloc,
         "denials",
-        "Runs FILE as `sim` does and prints what the interlock denied",
+        "Runs FILE as `sim` does, or replays a trace on it, and prints what the interlock denied",
     )?
-    .arg(all(alloc))
+    .arg(presses(alloc))?
+    .arg(fire(alloc))?
+    .arg(calls(alloc))?
+    .arg(all(alloc))?
+    .arg(cut(alloc))
 }
 
 // The arguments NAME of `watch`, and behind them PRESS.
 fn names<'a>(alloc: Global) -> Arg<'a> {
     Arg::new(alloc, "NAME").required(true).num_args(1..).help(
-        "What is shown behind each round, as NOW, CAR1.POS, CAR1.V or a global; behind the names stand calls, as for `sim`",
+        "What is shown behind each round, as NOW, CAR1.POS, CAR1.V or a global; behind the names stand calls, as for `sim`, but not behind a trace",
     )
 }
 
 // The command that prints values.
 fn watch_command<'a>(alloc: Global) -> Result<Command<'a>, AllocError> {
-    file_and_rounds(
+    observing_command(
         alloc,
         "watch",
-        "Runs FILE as `sim` does and prints values behind each round, as CSV",
+        "Runs FILE as `sim` does, or replays a trace on it, and prints values behind each round, as CSV",
     )?
     .arg(names(alloc))?
-    .arg(fire(alloc))
+    .arg(fire(alloc))?
+    .arg(calls(alloc))?
+    .arg(cut(alloc))
 }
 
-// A command that takes FILE, ROUNDS, PRESS and `--fire`.
-fn rounds_command<'a>(
-    alloc: Global,
-    name: &'a str,
-    about: &'a str,
-) -> Result<Command<'a>, AllocError> {
-    file_and_rounds(alloc, name, about)?
-        .arg(presses(alloc))?
-        .arg(fire(alloc))
-}
-
-// The same command, with FILE and ROUNDS alone.
-fn file_and_rounds<'a>(
+// A command that takes FILE, and ROUNDS or TRACE.
+fn observing_command<'a>(
     alloc: Global,
     name: &'a str,
     about: &'a str,
@@ -226,7 +281,22 @@ fn file_and_rounds<'a>(
     Command::new(alloc, name)
         .about(about)
         .arg(file(alloc))?
-        .arg(rounds(alloc))
+        .arg(rounds_or_trace(alloc))
+}
+
+// A command that takes FILE, ROUNDS, PRESS, `--fire` and `--calls`.
+fn rounds_command<'a>(
+    alloc: Global,
+    name: &'a str,
+    about: &'a str,
+) -> Result<Command<'a>, AllocError> {
+    Command::new(alloc, name)
+        .about(about)
+        .arg(file(alloc))?
+        .arg(rounds(alloc))?
+        .arg(presses(alloc))?
+        .arg(fire(alloc))?
+        .arg(calls(alloc))
 }
 
 // The argument TRACE.
@@ -259,7 +329,18 @@ fn draw_command<'a>(alloc: Global) -> Result<Command<'a>, AllocError> {
         alloc,
         "draw",
         "Replays a trace on FILE and prints a picture of it, as SVG",
-    )
+    )?
+    .arg(span(alloc))
+}
+
+// The option `--rounds`.
+fn span<'a>(alloc: Global) -> Arg<'a> {
+    Arg::new(alloc, "rounds")
+        .long("rounds")
+        .value_name("A:B")
+        .help(
+            "Draws the rounds from A to B alone; `A:` is up to the last one, `:B` from the first on",
+        )
 }
 
 // The flag `--summary`.
@@ -415,8 +496,17 @@ fn add<'a>(
 fn misuse_of(words: &[String]) -> Misuse<'_> {
     match words {
         [command, number] if command.as_str() == EXPLAIN => Misuse::Number(number),
-        [command, rest @ ..] if takes_rounds(command) => misuse_of_rounds(rest),
         [command, rest @ ..] if is_serve(command) => misuse_of_serve(rest),
+        [command, rest @ ..] => misuse_behind(Name::of(command), rest),
+        [] => Misuse::Missing,
+    }
+}
+
+// What is wrong with words behind a command's name.
+fn misuse_behind(name: Option<Name>, words: &[String]) -> Misuse<'_> {
+    match name {
+        Some(Name::Rounds(command)) => misuse_of_seen(Some(command), words),
+        Some(Name::Trace(_)) => misuse_of_seen(None, words),
         _ => first_option(words).unwrap_or(Misuse::Missing),
     }
 }
@@ -424,34 +514,226 @@ fn misuse_of(words: &[String]) -> Misuse<'_> {
 // The first word that begins with `-`.
 fn first_option(words: &[String]) -> Option<Misuse<'_>> {
     let word = words.iter().find(|word| is_option(word))?;
-    Some(Misuse::Option(word))
+    Some(Misuse::Unexpected(word))
 }
 
-// Whether a word is a command that simulates.
-fn takes_rounds(word: &str) -> bool {
-    matches!(Name::of(word), Some(Name::Rounds(_)))
+// What was seen so far of the words behind a command.
+#[derive(Clone, Copy)]
+struct Seen {
+    /// How many words there were.
+    words: usize,
+    /// Whether there was one in the place of FILE.
+    file: bool,
+    /// Where the next one stands, and the one behind that, from 0 on.
+    second: Option<usize>,
+    third: Option<usize>,
+    /// The option whose value is next.
+    needs_value: Option<Valued>,
+    fire: bool,
+    calls: bool,
+    rounds: bool,
+    cut: bool,
 }
 
-// What is wrong with words behind a command that simulates.
-fn misuse_of_rounds(words: &[String]) -> Misuse<'_> {
-    let Some(place) = words.iter().position(|word| is_fire(word)) else {
-        return misuse_of_places(Words {
-            front: words,
-            back: &[],
-        });
-    };
-    let (front, rest) = words.split_at(place);
-    match rest {
-        [_, value, ..] if is_option(value) => Misuse::NoValue(FIRE_SHOWN),
-        [_, _, back @ ..] if back.iter().any(|word| is_fire(word)) => Misuse::Twice(FIRE_SHOWN),
-        [_, _, back @ ..] => misuse_of_places(Words { front, back }),
-        _ => Misuse::NoValue(FIRE_SHOWN),
+// An option with a value.
+#[derive(Clone, Copy)]
+enum Valued {
+    Fire,
+    Calls,
+    Rounds,
+}
+
+impl Valued {
+    // The option that a word is.
+    fn of(word: &str) -> Option<Valued> {
+        if word == FIRE {
+            Some(Valued::Fire)
+        } else if word == CALLS {
+            Some(Valued::Calls)
+        } else if word == ROUNDS {
+            Some(Valued::Rounds)
+        } else {
+            None
+        }
+    }
+
+    // As it is shown.
+    fn shown(self) -> &'static str {
+        match self {
+            Valued::Fire => FIRE_SHOWN,
+            Valued::Calls => CALLS_SHOWN,
+            Valued::Rounds => ROUNDS_SHOWN,
+        }
     }
 }
 
-// Whether a word is the option `--fire`.
-fn is_fire(word: &str) -> bool {
-    word == FIRE
+// What is wrong with a word behind others.
+#[derive(Clone, Copy)]
+enum Wrong {
+    Unexpected,
+    NoValue(&'static str),
+    Twice(&'static str),
+}
+
+impl Wrong {
+    fn misuse<'w>(self, word: &'w str) -> Misuse<'w> {
+        match self {
+            Wrong::Unexpected => Misuse::Unexpected(word),
+            Wrong::NoValue(option) => Misuse::NoValue(option),
+            Wrong::Twice(option) => Misuse::Twice(option),
+        }
+    }
+}
+
+impl Seen {
+    // Nothing so far.
+    fn nothing() -> Seen {
+        Seen {
+            words: 0,
+            file: false,
+            second: None,
+            third: None,
+            needs_value: None,
+            fire: false,
+            calls: false,
+            rounds: false,
+            cut: false,
+        }
+    }
+
+    // The same, and a word more.
+    fn with(self, word: &str) -> Result<Seen, Wrong> {
+        let seen = self.with_word(word)?;
+        Ok(Seen {
+            words: self.words.saturating_add(1),
+            ..seen
+        })
+    }
+
+    fn with_word(self, word: &str) -> Result<Seen, Wrong> {
+        if let Some(option) = self.needs_value {
+            return self.with_value(option, word);
+        }
+        if let Some(option) = Valued::of(word) {
+            return self.with_option(option);
+        }
+        if word == CUT {
+            return self.with_cut();
+        }
+        if is_option(word) {
+            return Err(Wrong::Unexpected);
+        }
+        Ok(self.with_place())
+    }
+
+    fn with_value(self, option: Valued, word: &str) -> Result<Seen, Wrong> {
+        if is_option(word) {
+            return Err(Wrong::NoValue(option.shown()));
+        }
+        Ok(Seen {
+            needs_value: None,
+            ..self
+        })
+    }
+
+    fn with_option(self, option: Valued) -> Result<Seen, Wrong> {
+        if self.has(option) {
+            return Err(Wrong::Twice(option.shown()));
+        }
+        let mut seen = self;
+        seen.needs_value = Some(option);
+        match option {
+            Valued::Fire => seen.fire = true,
+            Valued::Calls => seen.calls = true,
+            Valued::Rounds => seen.rounds = true,
+        }
+        Ok(seen)
+    }
+
+    fn has(self, option: Valued) -> bool {
+        match option {
+            Valued::Fire => self.fire,
+            Valued::Calls => self.calls,
+            Valued::Rounds => self.rounds,
+        }
+    }
+
+    fn with_cut(self) -> Result<Seen, Wrong> {
+        if self.cut {
+            return Err(Wrong::Twice(CUT));
+        }
+        Ok(Seen { cut: true, ..self })
+    }
+
+    fn with_place(self) -> Seen {
+        let mut seen = self;
+        if !self.file {
+            seen.file = true;
+        } else if self.second.is_none() {
+            seen.second = Some(self.words);
+        } else if self.third.is_none() {
+            seen.third = Some(self.words);
+        }
+        seen
+    }
+}
+
+// What was seen of words, or which one stands wrong.
+fn seen_of(words: &[String]) -> Result<Seen, Misuse<'_>> {
+    let mut seen = Seen::nothing();
+    for word in words {
+        match seen.with(word) {
+            Ok(next) => seen = next,
+            Err(wrong) => return Err(wrong.misuse(word)),
+        }
+    }
+    match seen.needs_value {
+        Some(option) => Err(Misuse::NoValue(option.shown())),
+        None => Ok(seen),
+    }
+}
+
+// A word at its place.
+fn word_at(words: &[String], place: Option<usize>) -> Option<&str> {
+    let word = words.get(place?)?;
+    Some(word)
+}
+
+// What is wrong with words behind a command that simulates, if it is one.
+fn misuse_of_seen(command: Option<Simulating>, words: &[String]) -> Misuse<'_> {
+    match (seen_of(words), command) {
+        (Err(misuse), _) => misuse,
+        (Ok(seen), Some(command)) => misuse_of_rounds(command, seen, words),
+        (Ok(_), None) => Misuse::Missing,
+    }
+}
+
+// The same, where each option is well formed.
+fn misuse_of_rounds(command: Simulating, seen: Seen, words: &[String]) -> Misuse<'_> {
+    let Some(second) = word_at(words, seen.second) else {
+        return Misuse::Missing;
+    };
+    match command {
+        Simulating::Denials if !is_digits(second) => misuse_at_trace(seen, words),
+        Simulating::Watch if !is_digits(second) => misuse_at_trace(seen, words),
+        _ if seen.cut => Misuse::Alone(CUT_ALONE),
+        _ if number_to(MOST_ROUNDS, second).is_some() => Misuse::NoName,
+        _ => Misuse::Rounds(second),
+    }
+}
+
+// What is wrong with words behind `denials` or `watch`, where they have a trace.
+fn misuse_at_trace(seen: Seen, words: &[String]) -> Misuse<'_> {
+    if seen.fire {
+        return Misuse::Alone(FIRE_ALONE);
+    }
+    if seen.calls {
+        return Misuse::Alone(CALLS_ALONE);
+    }
+    match word_at(words, seen.third) {
+        Some(word) => Misuse::Unexpected(word),
+        None => Misuse::NoName,
+    }
 }
 
 // What is wrong with words behind `serve`.
@@ -463,7 +745,7 @@ fn misuse_of_serve(words: &[String]) -> Misuse<'_> {
     match rest {
         [_, value, ..] if is_option(value) => Misuse::NoValue(TRACE_SHOWN),
         [_, _, back @ ..] if back.iter().any(|word| is_trace(word)) => Misuse::Twice(TRACE_SHOWN),
-        [_, _, back @ ..] => misuse_beside_trace(Words { front, back }),
+        [_, _, back @ ..] => misuse_beside_trace(Words::around(front, back)),
         _ => Misuse::NoValue(TRACE_SHOWN),
     }
 }
@@ -481,14 +763,14 @@ fn is_sync(word: &str) -> bool {
 // The first word that begins with `-`, but is not `--sync`.
 fn first_but_sync(words: &[String]) -> Option<Misuse<'_>> {
     let word = words.iter().find(|word| is_option(word) && !is_sync(word))?;
-    Some(Misuse::Option(word))
+    Some(Misuse::Unexpected(word))
 }
 
 // What is wrong with words behind `serve` that have no `--trace`.
 fn misuse_without_trace(words: &[String]) -> Misuse<'_> {
     match first_but_sync(words) {
         Some(misuse) => misuse,
-        None if words.iter().any(|word| is_sync(word)) => Misuse::SyncAlone,
+        None if words.iter().any(|word| is_sync(word)) => Misuse::Alone(SYNC_ALONE),
         None => Misuse::Missing,
     }
 }
@@ -515,25 +797,6 @@ fn has_sync_twice(words: Words<'_>) -> bool {
         .is_some()
 }
 
-// What is wrong with words behind such a command that have no `--fire`.
-fn misuse_of_places(words: Words<'_>) -> Misuse<'_> {
-    if let Some(misuse) = first_option(words.front).or_else(|| first_option(words.back)) {
-        return misuse;
-    }
-    match rounds_of(words) {
-        Some(word) if number_to(MOST_ROUNDS, word).is_some() => Misuse::NoName,
-        Some(word) => Misuse::Rounds(word),
-        None => Misuse::Missing,
-    }
-}
-
-// The word in the place of ROUNDS.
-fn rounds_of<'w>(words: Words<'w>) -> Option<&'w str> {
-    let (_, behind) = words.split_first()?;
-    let (rounds, _) = behind.split_first()?;
-    Some(rounds)
-}
-
 // What the parser would say of the misuse.
 fn error_of(
     alloc: Global,
@@ -547,10 +810,10 @@ fn error_of(
 // The parser's kind of the misuse.
 fn kind_of(misuse: &Misuse<'_>) -> ErrorKind {
     match misuse {
-        Misuse::Option(_) => ErrorKind::UnknownArgument,
+        Misuse::Unexpected(_) => ErrorKind::UnknownArgument,
         Misuse::NoValue(_) => ErrorKind::InvalidValue,
         Misuse::Twice(_) => ErrorKind::ArgumentConflict,
-        Misuse::SyncAlone => ErrorKind::MissingRequiredArgument,
+        Misuse::Alone(_) => ErrorKind::MissingRequiredArgument,
         Misuse::Rounds(_) => ErrorKind::ValueValidation,
         Misuse::Number(_) => ErrorKind::ValueValidation,
         Misuse::NoName => ErrorKind::MissingRequiredArgument,
@@ -561,17 +824,14 @@ fn kind_of(misuse: &Misuse<'_>) -> ErrorKind {
 // The text of the misuse.
 fn text_of(alloc: Global, misuse: &Misuse<'_>) -> Result<String, AllocError> {
     match misuse {
-        Misuse::Option(word) => format!(in alloc; "unexpected argument '{word}' found"),
+        Misuse::Unexpected(word) => format!(in alloc; "unexpected argument '{word}' found"),
         Misuse::NoValue(option) => format!(in alloc;
             "a value is required for '{option}' but none was supplied"
         ),
         Misuse::Twice(option) => format!(in alloc;
             "the argument '{option}' cannot be used multiple times"
         ),
-        Misuse::SyncAlone => String::from_str(
-            alloc,
-            "'--sync' stands only beside '--trace <TRACE>'",
-        ),
+        Misuse::Alone(lone) => text_of_lone(alloc, *lone),
         Misuse::Rounds(word) => format!(in alloc;
             "invalid value '{word}' for '<ROUNDS>': not a decimal from 1 to {MOST_ROUNDS}"
         ),
@@ -580,10 +840,16 @@ fn text_of(alloc: Global, misuse: &Misuse<'_>) -> Result<String, AllocError> {
         ),
         Misuse::NoName => String::from_str(
             alloc,
-            "a NAME is required before the calls, and begins with no digit",
+            "a NAME is required behind ROUNDS or TRACE, and before the calls, and begins with no digit",
         ),
         Misuse::Missing => String::from_str(alloc, "a required argument was not provided"),
     }
+}
+
+// The text of an option that stands without what it is for.
+fn text_of_lone(alloc: Global, lone: Lone) -> Result<String, AllocError> {
+    let Lone { option, beside } = lone;
+    format!(in alloc; "'{option}' stands only beside {beside}")
 }
 
 // Whether a word is an option that asks for help or the version; behind a short one others may stand.

@@ -113,7 +113,7 @@ module _ (Is : List ℕ → Type 0) where
   is_at words back n x more e f is = is x (place_of n (map string_bytes words) x more (sym (map_drop n words) ∙ ap (map string_bytes) (sym e) ∙ f))
 
   -- the first one is one
-  same_front : (front before : List (List ℕ)) (x y : List ℕ) (more after : List (List ℕ)) → AreNone Is front → AreNone Is before → Is x → Is y → front ++ x ∷ more ≡ before ++ y ∷ after
+  pub same_front : (front before : List (List ℕ)) (x y : List ℕ) (more after : List (List ℕ)) → AreNone Is front → AreNone Is before → Is x → Is y → front ++ x ∷ more ≡ before ++ y ∷ after
       → (front ≡ before) × (x ∷ more ≡ y ∷ after)
   same_front [] [] x y more after plain none is is_y e = (refl, e)
   same_front [] (b ∷ before) x y more after plain none is is_y e = absurd (first_none b before none (subst Is (cut e).0 is))

@@ -13,16 +13,16 @@ nil [] = refl
 nil (x ∷ xs) = ap (λ l. x ∷ l) (nil xs)
 
 -- none of the words begins with a digit
-abbrev AreNames : List (List ℕ) → Type 0
+abbrev pub AreNames : List (List ℕ) → Type 0
 AreNames words = (k : ℕ) (word : List ℕ) → slice_get words k ≡ Some word → BeginsWithDigit word → ⊥
 
-no_name : AreNames []
+pub no_name : AreNames []
 no_name k word at = let low = slice_get_within [] k word at in omega (arith, low)
 
 rest_names : (x : List ℕ) (xs : List (List ℕ)) → AreNames (x ∷ xs) → AreNames xs
 rest_names x xs names k word at = names (suc k) word at
 
-both_names : (xs ys : List (List ℕ)) → AreNames xs → AreNames ys → AreNames (xs ++ ys)
+pub both_names : (xs ys : List (List ℕ)) → AreNames xs → AreNames ys → AreNames (xs ++ ys)
 both_names [] ys names more k word at = more k word at
 both_names (x ∷ xs) ys names more zero word at = names 0 word at
 both_names (x ∷ xs) ys names more (suc k) word at = both_names xs ys (rest_names x xs names) more k word at
@@ -59,16 +59,21 @@ module _ (words front back : List (String Global)) (n : ℕ) (e : front ≡ take
           let first : string_bytes x ≡ word = same_Some (string_bytes x) word there in
           at word (place_of n (map string_bytes words) word (map string_bytes b) (sym (map_drop n words) ∙ ap (map string_bytes) (sym is) ∙ ap (λ w. w ∷ map string_bytes b) first))
 
-  -- where a word of these begins with a digit, the words behind them are presses too
-  pub split_here : (behind : List (String Global)) → (length back ≡ 0 → ⊥)
-      → AreNamesFirst (map string_bytes words ++ map string_bytes behind) (map string_bytes front ++ []) (map string_bytes back ++ map string_bytes behind)
-  split_here behind some = record {
+  -- words in two parts here, behind names and before other words
+  split_at : (earlier behind : List (List ℕ)) → AreNames earlier → ((word : List ℕ) → slice_get (map string_bytes back ++ behind) 0 ≡ Some word → BeginsWithDigit word)
+      → AreNamesFirst (earlier ++ (map string_bytes words ++ behind)) (earlier ++ map string_bytes front) (map string_bytes back ++ behind)
+  split_at earlier behind names begins = record {
     are =
-        ap (λ ws. ws ++ map string_bytes behind) (parted words front back n e f) ∙ append_assoc (map string_bytes front) (map string_bytes back) (map string_bytes behind)
-        ∙ sym (ap (λ ws. ws ++ (map string_bytes back ++ map string_bytes behind)) (nil (map string_bytes front)));
-    unnumbered = subst AreNames (sym (nil (map string_bytes front))) front_names;
-    numbered = λ word there. back_begins (map string_bytes behind) word there some;
+        ap (λ ws. earlier ++ (ws ++ behind)) (parted words front back n e f) ∙ ap (λ ws. earlier ++ ws) (append_assoc (map string_bytes front) (map string_bytes back) behind)
+        ∙ sym (append_assoc earlier (map string_bytes front) (map string_bytes back ++ behind));
+    unnumbered = both_names earlier (map string_bytes front) names front_names;
+    numbered = begins;
   }
+
+  -- where a word of these begins with a digit, the words behind them are presses too
+  pub split_here : (earlier behind : List (List ℕ)) → AreNames earlier → (length back ≡ 0 → ⊥)
+      → AreNamesFirst (earlier ++ (map string_bytes words ++ behind)) (earlier ++ map string_bytes front) (map string_bytes back ++ behind)
+  split_here earlier behind names some = split_at earlier behind names (λ word there. back_begins behind word there some)
 
   -- otherwise all of them are names
   pub all_names : length back ≡ 0 → AreNames (map string_bytes words)
@@ -78,15 +83,11 @@ module _ (words front back : List (String Global)) (n : ℕ) (e : front ≡ take
       by [] is = refl
       by (x ∷ b) is = absurd (omega (arith, is))
 
-  -- and those behind them are split
-  pub split_behind : (earlier : List (List ℕ)) → AreNames earlier → AreNamesFirst (earlier ++ map string_bytes words) (earlier ++ map string_bytes front) (map string_bytes back ++ [])
-  split_behind earlier names = record {
-    are =
-        ap (λ ws. earlier ++ ws) (parted words front back n e f) ∙ sym (append_assoc earlier (map string_bytes front) (map string_bytes back))
-        ∙ ap (λ ws. (earlier ++ map string_bytes front) ++ ws) (sym (nil (map string_bytes back)));
-    unnumbered = both_names earlier (map string_bytes front) names front_names;
-    numbered = λ word there. by back f there;
-  }
+  -- and the last ones are split
+  pub split_last : (earlier : List (List ℕ)) → AreNames earlier → AreNamesFirst (earlier ++ map string_bytes words) (earlier ++ map string_bytes front) (map string_bytes back)
+  split_last earlier names =
+      subst (λ ws. AreNamesFirst (earlier ++ ws) (earlier ++ map string_bytes front) (map string_bytes back)) (nil (map string_bytes words))
+      (subst (λ ws. AreNamesFirst (earlier ++ (map string_bytes words ++ [])) (earlier ++ map string_bytes front) ws) (nil (map string_bytes back)) (split_at earlier [] names (λ word there. by back f there)))
     where
       by : (b : List (String Global)) {word : List ℕ} → b ≡ drop n words → slice_get (map string_bytes b ++ []) 0 ≡ Some word → BeginsWithDigit word
       by [] {word} is there = let low = slice_get_within [] 0 word there in absurd (omega (arith, low))

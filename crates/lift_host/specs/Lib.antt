@@ -1,3 +1,4 @@
+pub mod CallsFile
 pub mod Messages
 pub mod Requests
 pub mod Presses

@@ -6,12 +6,14 @@ use Rattle.std.specs.Str.Parse.{digits_value}
 use Rattle.lift_host.specs.declared.request.Flags.{Flags}
 use Rattle.lift_host.specs.declared.request.Name.{Name}
 use Rattle.lift_host.specs.declared.request.Name.TheVariants as name
+use Rattle.lift_host.specs.declared.request.Following.{Following}
 use Rattle.lift_host.specs.declared.request.Following.TheVariants as following
 use Rattle.lift_host.specs.declared.request.Showing.TheVariants as showing
 use Rattle.lift_host.specs.declared.request.Simulating.{Simulating}
 use Rattle.lift_host.specs.declared.request.Simulating.TheVariants as simulating
 use Rattle.lift_host.specs.declared.request.Words.{Words}
 use Rattle.lift_host.specs.declared.request.Rounds.{Rounds}
+use Rattle.lift_host.specs.declared.request.Traced.{Traced}
 use Rattle.lift_host.specs.declared.request.Request.{Request}
 use Rattle.lift_host.specs.declared.request.Request.TheVariants as request
 
@@ -47,6 +49,8 @@ word_of (name.Rounds simulating.Watch) = codes "watch"
 word_of (name.Trace following.Replay) = codes "replay"
 word_of (name.Trace following.Draw) = codes "draw"
 word_of (name.Trace following.Calls) = codes "calls"
+word_of (name.Trace following.Denials) = codes "denials"
+word_of (name.Trace following.Watch) = codes "watch"
 
 -- the command of a request
 abbrev pub command_of : Request → Name
@@ -74,9 +78,9 @@ AreNoOptions words = AreNone IsOption words
 abbrev pub LeaveOut : List ℕ → List (List ℕ) → Type 0
 LeaveOut option words = AreNone (λ word. word ≡ option) words
 
--- the words of two parts, one behind the other
+-- the words of three parts, one behind the other
 abbrev pub words_of : Words → List (List ℕ)
-words_of words = map string_bytes words.front.now ++ map string_bytes words.back.now
+words_of words = map string_bytes words.front.now ++ (map string_bytes words.middle.now ++ map string_bytes words.back.now)
 
 -- a word that begins with a digit
 abbrev pub BeginsWithDigit : List ℕ → Type 0
@@ -100,11 +104,35 @@ IsApart option rest positional None = rest ≡ positional
 IsApart option rest positional (Some value) =
     (before : List (List ℕ)) × (after : List (List ℕ)) × (rest ≡ before ++ option ∷ value ∷ after) × (positional ≡ before ++ after) × (IsOption value → ⊥)
 
--- FILE and ROUNDS, with any words behind them, and `--fire ROUND` anywhere among them; no other word is an option
+-- a value, and behind it words without another option and its value
+pub record IsBehind (option : List ℕ) (words : List (List ℕ)) (value : List ℕ) (others : List (List ℕ)) (other : Option (List ℕ)) : Type 0 where
+  pub behind : List (List ℕ)
+  pub are : words ≡ value ∷ behind
+  pub plain : IsOption value → ⊥
+  pub apart : IsApart option behind others other
+
+-- words without an option and its value, and without another option and its value, which stand behind them
+pub record IsFirstApart (first second : List ℕ) (words positional : List (List ℕ)) (value other : Option (List ℕ)) : Type 0 where
+  pub before : List (List ℕ)
+  pub rest : List (List ℕ)
+  pub others : List (List ℕ)
+  pub word : List ℕ
+  pub are : words ≡ before ++ first ∷ rest
+  pub behind : IsBehind second rest word others other
+  pub is_value : value ≡ Some word
+  pub positional_is : positional ≡ before ++ others
+
+-- words without `--fire ROUND` and `--calls CALLS`, which may stand anywhere among them in either order, with ROUND and CALLS
+pub data AreApart (words positional : List (List ℕ)) (fire calls : Option (List ℕ)) : Type 0 where
+  without : words ≡ positional → fire ≡ None → calls ≡ None → AreApart words positional fire calls
+  fire_first : IsFirstApart (codes "--fire") (codes "--calls") words positional fire calls → AreApart words positional fire calls
+  calls_first : IsFirstApart (codes "--calls") (codes "--fire") words positional calls fire → AreApart words positional fire calls
+
+-- FILE and ROUNDS, with any words behind them, and `--fire ROUND` and `--calls CALLS` anywhere among them; no other word is an option
 pub record GiveRounds (words : List (List ℕ)) (rounds : Rounds) : Type 0 where
   pub positional : List (List ℕ)
   pub text : List ℕ
-  pub apart : IsApart (codes "--fire") words positional (option_map (λ value. value.now) rounds.fire)
+  pub apart : AreApart words positional (option_map (λ value. value.now) rounds.fire) (option_map (λ value. value.now) rounds.calls)
   pub parts : positional ≡ rounds.file.now ∷ text ∷ words_of rounds.presses
   pub is_rounds : IsRounds text rounds.rounds
   pub plain : AreNoOptions positional
@@ -129,6 +157,35 @@ pub record AreFiles (words : List (List ℕ)) (file trace : List ℕ) : Type 0 w
   pub plain_file : IsOption file → ⊥
   pub plain_trace : IsOption trace → ⊥
 
+-- FILE and TRACE alone
+pub record GiveTrace (words : List (List ℕ)) (traced : Traced) : Type 0 where
+  pub files : AreFiles words traced.file.now traced.trace.now
+  pub names : words_of traced.names ≡ []
+  pub whole : traced.span ≡ None
+  pub uncut : traced.cut ≡ false
+
+-- FILE and TRACE, and `--rounds A:B` anywhere among them
+pub record GiveDrawing (words : List (List ℕ)) (traced : Traced) : Type 0 where
+  pub positional : List (List ℕ)
+  pub apart : IsApart (codes "--rounds") words positional (option_map (λ value. value.now) traced.span)
+  pub files : AreFiles positional traced.file.now traced.trace.now
+  pub names : words_of traced.names ≡ []
+  pub uncut : traced.cut ≡ false
+
+-- words without a flag that may stand anywhere among them, and whether it does
+abbrev pub IsFlagApart : List ℕ → List (List ℕ) → List (List ℕ) → Bool → Type 0
+IsFlagApart flag words positional false = words ≡ positional
+IsFlagApart flag words positional true = (before : List (List ℕ)) × (after : List (List ℕ)) × (words ≡ before ++ flag ∷ after) × (positional ≡ before ++ after)
+
+-- FILE and TRACE, which isn't digits alone, with names behind them, and `--cut` anywhere among them; no other word is an option
+pub record GiveFollowed (words : List (List ℕ)) (traced : Traced) : Type 0 where
+  pub positional : List (List ℕ)
+  pub apart : IsFlagApart (codes "--cut") words positional traced.cut
+  pub parts : positional ≡ traced.file.now ∷ traced.trace.now ∷ words_of traced.names
+  pub is_trace : IsDigits traced.trace.now → ⊥
+  pub plain : AreNoOptions positional
+  pub whole : traced.span ≡ None
+
 -- `watch` needs a name behind ROUNDS
 abbrev pub NeedsName : Simulating → List (List ℕ) → Type 0
 NeedsName simulating.Sim words = Unit {0}
@@ -136,13 +193,26 @@ NeedsName simulating.Run words = Unit {0}
 NeedsName simulating.Denials words = Unit {0}
 NeedsName simulating.Watch words = BeginWithName words
 
+-- there are names, or none
+abbrev pub AreNames : Bool → List (List ℕ) → Type 0
+AreNames some [] = some ≡ false
+AreNames some (name ∷ names) = some ≡ true
+
+-- what a command takes over a trace: FILE and TRACE, and what else is its own; `watch` needs a name behind them
+abbrev pub TakesTrace : List (List ℕ) → Following → Traced → Type 0
+TakesTrace words following.Replay traced = GiveTrace words traced
+TakesTrace words following.Draw traced = GiveDrawing words traced
+TakesTrace words following.Calls traced = GiveTrace words traced
+TakesTrace words following.Denials traced = GiveFollowed words traced × AreNames false (words_of traced.names)
+TakesTrace words following.Watch traced = GiveFollowed words traced × AreNames true (words_of traced.names)
+
 -- what a request takes behind its command: `FILE` and maybe `--warn` for check, `FILE` for what shows something of it, `FILE ROUNDS` and
--- more for a simulation, and `FILE TRACE`
+-- more for a simulation, and `FILE TRACE` and more over a trace
 abbrev pub Takes : List (List ℕ) → Request → Type 0
 Takes words (request.Check checked) = IsFileWith (codes "--warn") words checked.file.now checked.warns
 Takes words (request.Show command file) = IsFile words file.now
 Takes words (request.Rounds command rounds) = GiveRounds words rounds × NeedsName command (words_of rounds.presses)
-Takes words (request.Trace command traced) = AreFiles words traced.file.now traced.trace.now
+Takes words (request.Trace command traced) = TakesTrace words command traced
 
 -- a command, and behind it what it takes
 pub record Asks (words : List (List ℕ)) (request : Request) : Type 0 where
@@ -160,7 +230,7 @@ flag_of command =
     else if bytes_eq command (codes "calls") then Some (codes "--summary")
     else None
 
--- `--cut` of a command over a trace
+-- `--cut` of a command that is always over a trace
 abbrev pub cut_of : List ℕ → Option (List ℕ)
 cut_of command =
     if bytes_eq command (codes "replay") || bytes_eq command (codes "draw") || bytes_eq command (codes "calls") then Some (codes "--cut") else None
@@ -192,11 +262,13 @@ names_flag flag words = list_any (is_flag flag) words
 abbrev pub flags_of : List (List ℕ) → Flags
 flags_of words = record { own = names_flag (own_flag words) words; cut = names_flag (own_cut words) words }
 
--- a word, or for `--fire=ROUND` and `--trace=TRACE` two
+-- a word, or for `--fire=ROUND`, `--trace=TRACE`, `--calls=CALLS` and `--rounds=A:B` two
 abbrev pub cut_word : List ℕ → List (List ℕ)
 cut_word word =
     if bytes_eq (take 7 word) (codes "--fire=") then codes "--fire" ∷ drop 7 word ∷ []
     else if bytes_eq (take 8 word) (codes "--trace=") then codes "--trace" ∷ drop 8 word ∷ []
+    else if bytes_eq (take 8 word) (codes "--calls=") then codes "--calls" ∷ drop 8 word ∷ []
+    else if bytes_eq (take 9 word) (codes "--rounds=") then codes "--rounds" ∷ drop 9 word ∷ []
     else word ∷ []
 
 -- the words in place of a word: none for `--explain`, and none for a flag of the command
@@ -212,4 +284,4 @@ abbrev pub with_flags : Flags → Request → Request
 with_flags flags (request.Check checked) = request.Check checked
 with_flags flags (request.Show command file) = request.Show command file
 with_flags flags (request.Rounds command rounds) = request.Rounds command (record rounds { flag = flags.own })
-with_flags flags (request.Trace command traced) = request.Trace command (record traced { flag = flags.own; cut = flags.cut })
+with_flags flags (request.Trace command traced) = request.Trace command (record traced { flag = flags.own; cut = flags.cut || traced.cut })

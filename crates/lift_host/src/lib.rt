@@ -2,6 +2,7 @@
 //! and messages.
 #![tactic(auto)]
 
+pub mod calls;
 pub mod files;
 pub mod press;
 pub mod request;

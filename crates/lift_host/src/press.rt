@@ -13,8 +13,8 @@ use thiserror::Error;
 // The most presses of a command.
 const MOST_PRESSES: usize = 1000;
 
-// The most panels of a floor.
-const MOST_PANELS: u16 = 4;
+/// The most panels of a floor.
+pub(crate) const MOST_PANELS: u16 = 4;
 
 /// A press of a landing panel: the round before which it comes, the floors from which and to which, and which of the
 /// floor's panels it is, counted from 1.
@@ -104,6 +104,7 @@ fn each_press(
 {
     let mut presses = Items::new(alloc);
     add_presses(alloc, &mut presses, words.front, rounds, floors)?;
+    add_presses(alloc, &mut presses, words.middle, rounds, floors)?;
     add_presses(alloc, &mut presses, words.back, rounds, floors)?;
     Ok(presses)
 }

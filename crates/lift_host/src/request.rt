@@ -1,10 +1,11 @@
 // What the words ask for.
 
 ghost use Rattle.std.specs.Prelude.{◌≡◌, ◌≤◌, ◌<◌, ◌∷◌, ◌++◌, ◌↔◌, [], ℕ, Bool, List, Option, Some, true, false, IfSome, IfOk, IsNone, IsTrue, MatchOption, OnOk, codes, bytes_eq, flat_map, length, map, option_map, slice_get, string_bytes};
-ghost use Rattle.lift_host.specs.Requests.{IsNumberTo, IsDigits, IsOption, AreNoOptions, LeaveOut, IsApart, IsFile, IsFileBeside, IsFileWith, AreFiles, GiveRounds, Takes, Asks, BeginsWithDigit, BeginWithName, NeedsName, AreNamesFirst, plain_words, plain_word, cut_word, flag_of, cut_of, own_flag, own_cut, is_flag, explains, names_flag, flags_of, with_flags, command_of, name_of, word_of, words_of};
+ghost use Rattle.lift_host.specs.Requests.{IsNumberTo, IsDigits, IsOption, AreNoOptions, LeaveOut, IsApart, AreApart, IsBehind, IsFlagApart, IsFile, IsFileBeside, IsFileWith, AreFiles, GiveRounds, GiveTrace, GiveDrawing, GiveFollowed, AreNames, Takes, TakesTrace, Asks, BeginsWithDigit, BeginWithName, NeedsName, AreNamesFirst, plain_words, plain_word, cut_word, flag_of, cut_of, own_flag, own_cut, is_flag, explains, names_flag, flags_of, with_flags, command_of, name_of, word_of, words_of};
 ghost use Rattle.lift_host.specs.declared.request.Name.{Name};
 ghost use Rattle.lift_host.specs.declared.request.Request.{Request};
 ghost use Rattle.lift_host.specs.declared.request.Rounds.{Rounds};
+ghost use Rattle.lift_host.specs.declared.request.Traced.{Traced};
 
 use std::alloc::{AllocError, Global};
 
@@ -16,6 +17,18 @@ pub const FIRE: &str = "--fire";
 
 // The same option, where its value stands in one word with it.
 const FIRE_IS: &str = "--fire=";
+
+/// The option of a simulation whose value is the name of a file with presses and settings.
+pub const CALLS: &str = "--calls";
+
+// The same option, where its value stands in one word with it.
+const CALLS_IS: &str = "--calls=";
+
+/// The option of `draw` whose value is which rounds are drawn.
+pub const ROUNDS: &str = "--rounds";
+
+// The same option, where its value stands in one word with it.
+const ROUNDS_IS: &str = "--rounds=";
 
 /// The option of `serve` whose value is the name of the trace that it writes.
 pub const TRACE: &str = "--trace";
@@ -32,8 +45,8 @@ const TOGETHER: &str = "--together";
 // The flag of `calls` that has it print a summary.
 const SUMMARY: &str = "--summary";
 
-// The flag of the commands over a trace that has them take it up to its last whole line.
-const CUT: &str = "--cut";
+/// The flag of the commands over a trace that has them take it up to its last whole line.
+pub const CUT: &str = "--cut";
 
 // The option of every command that has a refusal of a text shown with the text's line and the number's meaning.
 const EXPLAIN: &str = "--explain";
@@ -72,9 +85,13 @@ pub enum Following {
     Draw,
     /// The calls that it enters, each from its press to its service.
     Calls,
+    /// What the interlock denied along it.
+    Denials,
+    /// Values behind each of its rounds.
+    Watch,
 }
 
-/// The name of a command.
+/// The name of a command. `denials` and `watch` are each the name of a simulation and of a command over a trace.
 #[derive(Clone, Copy)]
 pub enum Name {
     Check,
@@ -83,10 +100,11 @@ pub enum Name {
     Trace(Following),
 }
 
-/// Words in two parts, one behind the other.
+/// Words in three parts, one behind the other.
 #[derive(Clone, Copy)]
 pub struct Words<'w> {
     pub front: &'w [String],
+    pub middle: &'w [String],
     pub back: &'w [String],
 }
 
@@ -110,17 +128,25 @@ pub struct Rounds<'w> {
     pub presses: Words<'w>,
     /// The word behind `--fire`, which is to be a round.
     pub fire: Option<&'w str>,
+    /// The word behind `--calls`, the name of a file.
+    pub calls: Option<&'w str>,
     /// Whether the command's own flag stands among the words: `denials` is to show all, also the stops at the ends of the shaft; a round of `run` is to end for
     /// all before the next begins.
     pub flag: bool,
 }
 
-/// What a command takes that follows a trace: names of files.
+/// What a command takes that follows a trace.
 #[derive(Clone, Copy)]
 pub struct Traced<'w> {
+    /// The name of the file.
     pub file: &'w str,
+    /// The name of the trace.
     pub trace: &'w str,
-    /// Whether the command's own flag stands among the words: `calls` is to print a summary.
+    /// The words behind TRACE, which are the names of `watch`; another command has none.
+    pub names: Words<'w>,
+    /// The word behind `--rounds`, which is to say what rounds `draw` shows.
+    pub span: Option<&'w str>,
+    /// Whether the command's own flag stands among the words: `calls` is to print a summary, `denials` is to show all.
     pub flag: bool,
     /// Whether the trace may be cut off, and is taken up to its last whole line.
     pub cut: bool,
@@ -163,9 +189,17 @@ impl<'w> Words<'w> {
     pub fn of(words: &'w [String]) -> Words<'w>
         ensures { words_of result ≡ map string_bytes words.now }
     {
+        Words::around(words, &[])
+    }
+
+    /// Words in two parts.
+    pub fn around(front: &'w [String], back: &'w [String]) -> Words<'w>
+        ensures { words_of result ≡ map string_bytes front.now ++ map string_bytes back.now }
+    {
         Words {
-            front: words,
-            back: &[],
+            front,
+            middle: &[],
+            back,
         }
     }
 
@@ -173,7 +207,7 @@ impl<'w> Words<'w> {
     pub fn len(self) -> usize
         ensures { result ≡ length (words_of self.entry) }
     {
-        self.front.len() + self.back.len()
+        self.front.len() + self.middle.len() + self.back.len()
     }
 
     /// The first word, and those behind it.
@@ -182,13 +216,14 @@ impl<'w> Words<'w> {
             ≡ parts.0.now ∷ words_of parts.1) }
         ensures none { IsNone result → words_of self.entry ≡ [] }
     {
-        match self.front.split_first() {
-            Some((word, front)) => Some((word, Words { front, ..self })),
-            None => {
-                let (word, back) = self.back.split_first()?;
-                Some((word, Words { back, ..self }))
-            }
+        if let Some((word, front)) = self.front.split_first() {
+            return Some((word, Words { front, ..self }));
         }
+        if let Some((word, middle)) = self.middle.split_first() {
+            return Some((word, Words { middle, ..self }));
+        }
+        let (word, back) = self.back.split_first()?;
+        Some((word, Words { back, ..self }))
     }
 }
 
@@ -208,26 +243,24 @@ impl<'w> Words<'w> {
         let (names, presses) = self.front.split_at(first_number(self.front));
         if !presses.is_empty() {
             return Named {
-                names: Words {
-                    front: names,
-                    back: &[],
-                },
+                names: Words::of(names),
                 presses: Words {
                     front: presses,
-                    back: self.back,
+                    ..self
                 },
+            };
+        }
+        let (more, presses) = self.middle.split_at(first_number(self.middle));
+        if !presses.is_empty() {
+            return Named {
+                names: Words::around(self.front, more),
+                presses: Words::around(presses, self.back),
             };
         }
         let (more, presses) = self.back.split_at(first_number(self.back));
         Named {
-            names: Words {
-                front: self.front,
-                back: more,
-            },
-            presses: Words {
-                front: presses,
-                back: &[],
-            },
+            names: Words { back: more, ..self },
+            presses: Words::of(presses),
         }
     }
 }
@@ -253,7 +286,7 @@ impl<'w> Request<'w> {
                     command,
                     Traced {
                         flag: flags.own,
-                        cut: flags.cut,
+                        cut: flags.cut || traced.cut,
                         ..traced
                     },
                 )
@@ -275,8 +308,8 @@ impl<'w> Request<'w> {
     }
 }
 
-// Whether a text is ASCII digits alone.
-fn is_digits(text: &str) -> bool
+/// Whether a text is ASCII digits alone.
+pub fn is_digits(text: &str) -> bool
     ensures { IsTrue result ↔ IsDigits text.now }
 {
     text.as_bytes().iter().all(|b| b.is_ascii_digit())
@@ -315,17 +348,50 @@ pub fn asked(words: &[String]) -> Option<Request<'_>>
 
 // What a command is asked for by the words behind its name.
 fn takes(name: Name, rest: &[String]) -> Option<Request<'_>>
-    ensures some { IfSome result (λ request. (command_of request ≡ name)
+    ensures some { IfSome result (λ request. (word_of (command_of request) ≡ word_of name)
         × Takes (map string_bytes rest.now) request) }
-    ensures none { IsNone result → (request : Request) → command_of request ≡ name
+    ensures none { IsNone result → (request : Request)
+        → word_of (command_of request) ≡ word_of name
         → Takes (map string_bytes rest.now) request → ⊥ }
 {
     match name {
         Name::Check => Some(Request::Check(check_given(rest)?)),
         Name::Show(command) => Some(Request::Show(command, file_alone(rest)?)),
-        Name::Rounds(command) => Some(Request::Rounds(command, simulation_given(command, rest)?)),
-        Name::Trace(command) => Some(Request::Trace(command, trace_given(rest)?)),
+        Name::Rounds(command) => simulates_or_follows(command, rest),
+        Name::Trace(Following::Denials) => simulates_or_follows(Simulating::Denials, rest),
+        Name::Trace(Following::Watch) => simulates_or_follows(Simulating::Watch, rest),
+        Name::Trace(command) => Some(Request::Trace(command, trace_given(command, rest)?)),
     }
+}
+
+// The command over a trace that has the name of one over a simulation.
+fn following_of(command: Simulating) -> Option<Following>
+    ensures some { IfSome result (λ following. word_of (Name.Trace following)
+        ≡ word_of (Name.Rounds command)) }
+    ensures none { IsNone result → (following : Following) → word_of (Name.Trace following)
+        ≡ word_of (Name.Rounds command) → ⊥ }
+{
+    match command {
+        Simulating::Sim => None,
+        Simulating::Run => None,
+        Simulating::Denials => Some(Following::Denials),
+        Simulating::Watch => Some(Following::Watch),
+    }
+}
+
+// What a name is asked for that simulates, or follows a trace.
+fn simulates_or_follows(command: Simulating, rest: &[String]) -> Option<Request<'_>>
+    ensures some { IfSome result (λ request. (word_of (command_of request)
+        ≡ word_of (Name.Rounds command)) × Takes (map string_bytes rest.now) request) }
+    ensures none { IsNone result → (request : Request)
+        → word_of (command_of request) ≡ word_of (Name.Rounds command)
+        → Takes (map string_bytes rest.now) request → ⊥ }
+{
+    if let Some(rounds) = simulation_given(command, rest) {
+        return Some(Request::Rounds(command, rounds));
+    }
+    let command = following_of(command)?;
+    Some(Request::Trace(command, trace_given(command, rest)?))
 }
 
 // FILE, where it is the one word.
@@ -410,22 +476,151 @@ fn check_given(rest: &[String]) -> Option<Checked<'_>>
     })
 }
 
-// FILE and TRACE, where they are the two words.
-fn trace_given(rest: &[String]) -> Option<Traced<'_>>
-    ensures some { IfSome result (λ traced.
-        AreFiles (map string_bytes rest.now) traced.file.now traced.trace.now) }
-    ensures none { IsNone result → (file trace : List ℕ)
-        → AreFiles (map string_bytes rest.now) file trace → ⊥ }
+// FILE and TRACE.
+#[derive(Clone, Copy)]
+struct Files<'w> {
+    file: &'w str,
+    trace: &'w str,
+}
+
+// What a command over a trace is given.
+fn trace_given(command: Following, rest: &[String]) -> Option<Traced<'_>>
+    ensures some { IfSome result (TakesTrace (map string_bytes rest.now) command) }
+    ensures none { IsNone result → (traced : Traced)
+        → TakesTrace (map string_bytes rest.now) command traced → ⊥ }
 {
-    match rest {
-        [file, trace] if !is_option(file) && !is_option(trace) => Some(Traced {
-            file,
-            trace,
-            flag: false,
-            cut: false,
-        }),
-        _ => None,
+    match command {
+        Following::Replay => whole_trace_given(rest),
+        Following::Draw => drawing_given(rest),
+        Following::Calls => whole_trace_given(rest),
+        Following::Denials => followed_given(false, rest),
+        Following::Watch => followed_given(true, rest),
     }
+}
+
+// FILE and TRACE, where they are the words.
+fn files_given(words: Words<'_>) -> Option<Files<'_>>
+    ensures some { IfSome result (λ files.
+        AreFiles (words_of words.entry) files.file.now files.trace.now) }
+    ensures none { IsNone result → (file trace : List ℕ)
+        → AreFiles (words_of words.entry) file trace → ⊥ }
+{
+    let (file, rest) = words.split_first()?;
+    let (trace, rest) = rest.split_first()?;
+    if rest.split_first().is_some() || is_option(file) || is_option(trace) {
+        return None;
+    }
+    Some(Files { file, trace })
+}
+
+// FILE and TRACE alone.
+fn whole_trace_given(rest: &[String]) -> Option<Traced<'_>>
+    ensures some { IfSome result (GiveTrace (map string_bytes rest.now)) }
+    ensures none { IsNone result → (traced : Traced)
+        → GiveTrace (map string_bytes rest.now) traced → ⊥ }
+{
+    let Files { file, trace } = files_given(Words::of(rest))?;
+    Some(Traced {
+        file,
+        trace,
+        names: Words::of(&[]),
+        span: None,
+        flag: false,
+        cut: false,
+    })
+}
+
+// FILE and TRACE, and maybe `--rounds A:B`.
+fn drawing_given(rest: &[String]) -> Option<Traced<'_>>
+    ensures some { IfSome result (GiveDrawing (map string_bytes rest.now)) }
+    ensures none { IsNone result → (traced : Traced)
+        → GiveDrawing (map string_bytes rest.now) traced → ⊥ }
+{
+    let WordsApart { front, back, value } = apart(ROUNDS, rest)?;
+    let Files { file, trace } = files_given(Words::around(front, back))?;
+    Some(Traced {
+        file,
+        trace,
+        names: Words::of(&[]),
+        span: value,
+        flag: false,
+        cut: false,
+    })
+}
+
+// FILE, TRACE, and names behind them where they are needed; maybe `--cut`.
+fn followed_given(named: bool, rest: &[String]) -> Option<Traced<'_>>
+    ensures some { IfSome result (λ traced. GiveFollowed (map string_bytes rest.now) traced
+        × AreNames named (words_of traced.names)) }
+    ensures none { IsNone result → (traced : Traced)
+        → GiveFollowed (map string_bytes rest.now) traced
+        → AreNames named (words_of traced.names) → ⊥ }
+{
+    let traced = any_followed_given(rest)?;
+    if traced.names.split_first().is_some() != named {
+        return None;
+    }
+    Some(traced)
+}
+
+// FILE, TRACE, and any names; maybe `--cut`.
+fn any_followed_given(rest: &[String]) -> Option<Traced<'_>>
+    ensures some { IfSome result (GiveFollowed (map string_bytes rest.now)) }
+    ensures only { IfSome result (λ found. (traced : Traced)
+        → GiveFollowed (map string_bytes rest.now) traced → words_of traced.names
+        ≡ words_of found.names) }
+    ensures none { IsNone result → (traced : Traced)
+        → GiveFollowed (map string_bytes rest.now) traced → ⊥ }
+{
+    let CutApart { positional, cut } = cut_apart(rest)?;
+    let (file, behind) = positional.split_first()?;
+    let (trace, names) = behind.split_first()?;
+    if is_digits(trace) {
+        return None;
+    }
+    Some(Traced {
+        file,
+        trace,
+        names,
+        span: None,
+        flag: false,
+        cut,
+    })
+}
+
+// Words without `--cut`, and whether it stood among them.
+#[derive(Clone, Copy)]
+struct CutApart<'w> {
+    positional: Words<'w>,
+    cut: bool,
+}
+
+// Words apart, where they have no option but one `--cut`.
+fn cut_apart(rest: &[String]) -> Option<CutApart<'_>>
+    ensures some { IfSome result (λ apart. IsFlagApart (codes "--cut") (map string_bytes rest.now)
+        (words_of apart.positional) apart.cut) }
+    ensures plain { IfSome result (λ apart. AreNoOptions (words_of apart.positional)) }
+    ensures only { IfSome result (λ apart. (positional : List (List ℕ)) (cut : Bool)
+        → IsFlagApart (codes "--cut") (map string_bytes rest.now) positional cut
+        → AreNoOptions positional → positional ≡ words_of apart.positional) }
+    ensures none { IsNone result → (positional : List (List ℕ)) (cut : Bool)
+        → IsFlagApart (codes "--cut") (map string_bytes rest.now) positional cut
+        → AreNoOptions positional → ⊥ }
+{
+    let (front, rest) = rest.split_at(first_option(rest));
+    let Some((option, back)) = rest.split_first() else {
+        return Some(CutApart {
+            positional: Words::around(front, rest),
+            cut: false,
+        });
+    };
+    if !is_same(option, CUT) || has_option(back) {
+        return None;
+    }
+    Some(CutApart {
+        positional: Words::around(front, back),
+        cut: true,
+    })
 }
 
 // FILE and ROUNDS, and what stands behind them.
@@ -437,7 +632,11 @@ fn rounds_given(rest: &[String]) -> Option<Rounds<'_>>
     ensures none { IsNone result → (rounds : Rounds)
         → GiveRounds (map string_bytes rest.now) rounds → ⊥ }
 {
-    let WordsApart { positional, value } = fire_apart(rest)?;
+    let OptionsApart {
+        positional,
+        fire,
+        calls,
+    } = options_apart(rest)?;
     let (file, behind) = positional.split_first()?;
     let (rounds, presses) = behind.split_first()?;
     let rounds = number_to(MOST_ROUNDS, rounds)?;
@@ -445,7 +644,8 @@ fn rounds_given(rest: &[String]) -> Option<Rounds<'_>>
         file,
         rounds,
         presses,
-        fire: value,
+        fire,
+        calls,
         flag: false,
     })
 }
@@ -488,39 +688,128 @@ fn begin_with_name(words: Words<'_>) -> bool
     }
 }
 
-/// Words without an option and the value behind it, and that value.
+// Words without the options of a simulation and the values behind them, and those values.
 #[derive(Clone, Copy)]
-pub(crate) struct WordsApart<'w> {
-    pub(crate) positional: Words<'w>,
-    pub(crate) value: Option<&'w str>,
+struct OptionsApart<'w> {
+    positional: Words<'w>,
+    fire: Option<&'w str>,
+    calls: Option<&'w str>,
 }
 
-// The words behind such a command apart, where they have no other option and a word behind `--fire`.
-fn fire_apart(rest: &[String]) -> Option<WordsApart<'_>>
-    ensures some { IfSome result (λ apart. IsApart (codes "--fire") (map string_bytes rest.now)
-        (words_of apart.positional) (option_map (λ value. value.now) apart.value)) }
+// The words behind such a command apart, where they have no other option and a word behind each of these.
+fn options_apart(rest: &[String]) -> Option<OptionsApart<'_>>
+    ensures some { IfSome result (λ apart. AreApart (map string_bytes rest.now)
+        (words_of apart.positional) (option_map (λ value. value.now) apart.fire)
+        (option_map (λ value. value.now) apart.calls)) }
     ensures plain { IfSome result (λ apart. AreNoOptions (words_of apart.positional)) }
-    ensures only { IfSome result (λ apart. (positional : List (List ℕ)) (value : Option (List ℕ))
-        → IsApart (codes "--fire") (map string_bytes rest.now) positional value
+    ensures only { IfSome result (λ apart. (positional : List (List ℕ))
+        (fire calls : Option (List ℕ)) → AreApart (map string_bytes rest.now) positional fire calls
         → AreNoOptions positional → positional ≡ words_of apart.positional) }
-    ensures none { IsNone result → (positional : List (List ℕ)) (value : Option (List ℕ))
-        → IsApart (codes "--fire") (map string_bytes rest.now) positional value
+    ensures none { IsNone result → (positional : List (List ℕ)) (fire calls : Option (List ℕ))
+        → AreApart (map string_bytes rest.now) positional fire calls
         → AreNoOptions positional → ⊥ }
 {
-    let parts = apart(FIRE, rest)?;
-    if has_option(parts.positional.front) || has_option(parts.positional.back) {
+    let (front, rest) = rest.split_at(first_option(rest));
+    let Some((option, rest)) = rest.split_first() else {
+        return Some(OptionsApart {
+            positional: Words::around(front, rest),
+            fire: None,
+            calls: None,
+        });
+    };
+    if is_same(option, FIRE) {
+        let behind = from_value(CALLS, rest)?;
+        return Some(OptionsApart {
+            positional: behind.words_from(front),
+            fire: Some(behind.value),
+            calls: behind.other,
+        });
+    }
+    if !is_same(option, CALLS) {
         return None;
     }
-    Some(parts)
+    let behind = from_value(FIRE, rest)?;
+    Some(OptionsApart {
+        positional: behind.words_from(front),
+        fire: behind.other,
+        calls: Some(behind.value),
+    })
+}
+
+// A value, and what stands behind it: words without another option and its value, and that value.
+#[derive(Clone, Copy)]
+struct Behind<'w> {
+    value: &'w str,
+    front: &'w [String],
+    back: &'w [String],
+    other: Option<&'w str>,
+}
+
+impl<'w> Behind<'w> {
+    // The words behind others.
+    fn words_from(self, front: &'w [String]) -> Words<'w>
+        ensures { words_of result ≡ map string_bytes front.now
+            ++ (map string_bytes self.entry.front.now ++ map string_bytes self.entry.back.now) }
+    {
+        Words {
+            front,
+            middle: self.front,
+            back: self.back,
+        }
+    }
+}
+
+// What stands behind an option, where that is a value and behind it no option but another one with its value.
+fn from_value<'w>(option: &str, words: &'w [String]) -> Option<Behind<'w>>
+    requires { IsOption option.now }
+    ensures some { IfSome result (λ behind. IsBehind option.now (map string_bytes words.now)
+        behind.value.now (map string_bytes behind.front.now ++ map string_bytes behind.back.now)
+        (option_map (λ value. value.now) behind.other)) }
+    ensures plain { IfSome result (λ behind. AreNoOptions (map string_bytes behind.front.now
+        ++ map string_bytes behind.back.now)) }
+    ensures only { IfSome result (λ behind. (value : List ℕ) (others : List (List ℕ))
+        (other : Option (List ℕ))
+        → IsBehind option.now (map string_bytes words.now) value others other
+        → AreNoOptions others
+        → others ≡ map string_bytes behind.front.now ++ map string_bytes behind.back.now) }
+    ensures none { IsNone result → (value : List ℕ) (others : List (List ℕ))
+        (other : Option (List ℕ))
+        → IsBehind option.now (map string_bytes words.now) value others other
+        → AreNoOptions others → ⊥ }
+{
+    let (value, rest) = words.split_first()?;
+    if is_option(value) {
+        return None;
+    }
+    let parts = apart(option, rest)?;
+    if has_option(parts.front) || has_option(parts.back) {
+        return None;
+    }
+    Some(Behind {
+        value,
+        front: parts.front,
+        back: parts.back,
+        other: parts.value,
+    })
+}
+
+/// Words without an option and the value behind it, those before it and those behind, and that value.
+#[derive(Clone, Copy)]
+pub(crate) struct WordsApart<'w> {
+    pub(crate) front: &'w [String],
+    pub(crate) back: &'w [String],
+    pub(crate) value: Option<&'w str>,
 }
 
 /// Words apart at the first place of an option, where a value stands behind it that begins with no `-`.
 pub(crate) fn apart<'w>(option: &str, words: &'w [String]) -> Option<WordsApart<'w>>
     ensures some { IfSome result (λ apart. IsApart option.now (map string_bytes words.now)
-        (words_of apart.positional) (option_map (λ value. value.now) apart.value)) }
+        (map string_bytes apart.front.now ++ map string_bytes apart.back.now)
+        (option_map (λ value. value.now) apart.value)) }
     ensures only { IfSome result (λ apart. (positional : List (List ℕ)) (value : Option (List ℕ))
         → IsApart option.now (map string_bytes words.now) positional value
-        → LeaveOut option.now positional → (positional ≡ words_of apart.positional)
+        → LeaveOut option.now positional
+        → (positional ≡ map string_bytes apart.front.now ++ map string_bytes apart.back.now)
         × (value ≡ option_map (λ value. value.now) apart.value)) }
     ensures none { IsNone result → (positional : List (List ℕ)) (value : Option (List ℕ))
         → IsApart option.now (map string_bytes words.now) positional value
@@ -529,7 +818,8 @@ pub(crate) fn apart<'w>(option: &str, words: &'w [String]) -> Option<WordsApart<
     let (front, rest) = words.split_at(first_of(option, words));
     let Some((_, rest)) = rest.split_first() else {
         return Some(WordsApart {
-            positional: Words { front, back: rest },
+            front,
+            back: rest,
             value: None,
         });
     };
@@ -538,7 +828,8 @@ pub(crate) fn apart<'w>(option: &str, words: &'w [String]) -> Option<WordsApart<
         return None;
     }
     Some(WordsApart {
-        positional: Words { front, back },
+        front,
+        back,
         value: Some(value),
     })
 }
@@ -631,14 +922,15 @@ fn is_explain(word: &str) -> bool
 pub struct Flags {
     /// That of the command's own: `--all` of `denials`, `--together` of `run`, `--summary` of `calls`.
     pub own: bool,
-    /// `--cut` of `replay`, `draw` and `calls`.
+    /// `--cut` of `replay`, `draw` and `calls`; that of `denials` and `watch` over a trace is one of the words.
     pub cut: bool,
 }
 
 /// The words of a command line as they are read, and the flags that may stand anywhere among them.
 #[derive(Drop)]
 pub struct Plain {
-    /// The words without `--explain` and the flags of their command; for `--fire=ROUND` and `--trace=TRACE` stand two words.
+    /// The words without `--explain` and the flags of their command; for `--fire=ROUND`, `--calls=CALLS`, `--rounds=A:B` and `--trace=TRACE` stand
+    /// two words.
     pub words: Vec<String>,
     /// Whether `--explain` was among them.
     pub explains: bool,
@@ -702,7 +994,7 @@ fn flag_of(command: &str) -> Option<&'static str>
     }
 }
 
-// `--cut`, where a command takes it.
+// `--cut`, where a command takes it that is always over a trace.
 fn cut_of(command: &str) -> Option<&'static str>
     ensures { option_map (λ flag. flag.now) result ≡ cut_of command.now }
 {
@@ -806,6 +1098,22 @@ fn trace_behind(word: &str) -> Option<&str>
     word.strip_prefix(TRACE_IS)
 }
 
+// The CALLS of `--calls=CALLS`.
+fn calls_behind(word: &str) -> Option<&str>
+    ensures some { IfSome result (λ calls. word.now ≡ codes "--calls=" ++ calls.now) }
+    ensures none { IsNone result → (calls : List ℕ) → word.now ≡ codes "--calls=" ++ calls → ⊥ }
+{
+    word.strip_prefix(CALLS_IS)
+}
+
+// The A:B of `--rounds=A:B`.
+fn span_behind(word: &str) -> Option<&str>
+    ensures some { IfSome result (λ span. word.now ≡ codes "--rounds=" ++ span.now) }
+    ensures none { IsNone result → (span : List ℕ) → word.now ≡ codes "--rounds=" ++ span → ⊥ }
+{
+    word.strip_prefix(ROUNDS_IS)
+}
+
 // The option and the value that stand in one word.
 fn value_within(word: &str) -> Option<Valued<'_>>
     ensures { MatchOption result (cut_word word.now ≡ word.now ∷ [])
@@ -817,10 +1125,22 @@ fn value_within(word: &str) -> Option<Valued<'_>>
             value: round,
         });
     }
-    let trace = trace_behind(word)?;
+    if let Some(trace) = trace_behind(word) {
+        return Some(Valued {
+            option: TRACE,
+            value: trace,
+        });
+    }
+    if let Some(calls) = calls_behind(word) {
+        return Some(Valued {
+            option: CALLS,
+            value: calls,
+        });
+    }
+    let span = span_behind(word)?;
     Some(Valued {
-        option: TRACE,
-        value: trace,
+        option: ROUNDS,
+        value: span,
     })
 }
 

@@ -4,7 +4,7 @@ ghost use Rattle.std.specs.Prelude.{◌≡◌, ◌↔◌, IfSome, IsNone, IsTrue
 ghost use Rattle.lift_host.specs.Servings.{Serves, TakesToServe};
 ghost use Rattle.lift_host.specs.declared.serving.Serving.{Serving};
 
-use crate::request::{FileWith, TRACE, WordsApart, apart, file_with};
+use crate::request::{FileWith, TRACE, Words, WordsApart, apart, file_with};
 
 /// The option of `serve` that has the disk write each line of the trace.
 pub const SYNC: &str = "--sync";
@@ -51,8 +51,8 @@ fn serving_given(rest: &[String]) -> Option<Serving<'_>>
     ensures none { IsNone result → (serving : Serving)
         → TakesToServe (map string_bytes rest.now) serving → ⊥ }
 {
-    let WordsApart { positional, value } = apart(TRACE, rest)?;
-    let FileWith { file, has_option } = file_with(SYNC, positional)?;
+    let WordsApart { front, back, value } = apart(TRACE, rest)?;
+    let FileWith { file, has_option } = file_with(SYNC, Words::around(front, back))?;
     match value {
         Some(name) => Some(Serving {
             file,

@@ -40,6 +40,8 @@ pub enum Fault {
     TooManyPresses,
     /// This ROUND of `--fire` is no round of the simulation.
     BadFire(String),
+    /// This word behind `--rounds` says no rounds.
+    BadSpan(String),
     /// This NAME of `watch` names nothing that has a value.
     BadName(String),
     CannotRead(Cause),
@@ -124,6 +126,7 @@ impl Fault {
             Fault::BadPress(_) => Status::Refused,
             Fault::TooManyPresses => Status::Refused,
             Fault::BadFire(_) => Status::Refused,
+            Fault::BadSpan(_) => Status::Refused,
             Fault::BadName(_) => Status::Refused,
             Fault::CannotRead(_) => Status::CannotRead,
             Fault::CannotWrite => Status::CannotWrite,
@@ -145,6 +148,7 @@ impl Fault {
             Fault::BadPress(_) => put_all(sink, b"bad press\n"),
             Fault::TooManyPresses => put_all(sink, b"bad press\n"),
             Fault::BadFire(_) => put_all(sink, b"bad fire\n"),
+            Fault::BadSpan(_) => put_all(sink, b"bad rounds\n"),
             Fault::BadName(_) => put_all(sink, b"bad name\n"),
             Fault::CannotRead(_) => put_all(sink, b"cannot read\n"),
             Fault::CannotWrite => put_all(sink, b"cannot write\n"),

@@ -1,5 +1,5 @@
 -- What comes of a run of the program (own rules).
-use Rattle.std.specs.Prelude.{IsTrue, ◌≡◌, ◌⊎◌, ◌↔◌, ◌||◌, ◌&&◌, ◌++◌, length, ℕ, List, [], nat_lt, Bool, true, false, Option, None, Ok, Err, if◌then◌else◌, codes, map, string_bytes}
+use Rattle.std.specs.Prelude.{IsTrue, ◌≡◌, ◌⊎◌, ◌↔◌, ◌||◌, ◌&&◌, ◌++◌, length, ℕ, List, [], nat_lt, Bool, true, false, Option, None, Some, option_map, Ok, Err, if◌then◌else◌, codes, map, string_bytes}
 use Rattle.std.specs.Io.KnownBytes.{Appends, Keeps}
 use Rattle.lift_host.specs.declared.files.ReadFault.{ReadFault}
 use Rattle.lift_host.specs.declared.files.ReadFault.TheVariants as failure
@@ -33,6 +33,10 @@ most_bytes = 262145
 abbrev pub most_trace_bytes : ℕ
 most_trace_bytes = 67108865
 
+-- the bytes of the file of `--calls` that are read: one more than it may have
+abbrev pub most_calls_bytes : ℕ
+most_calls_bytes = 4000001
+
 -- `RUN`
 
 -- whether a request is `run`
@@ -58,19 +62,30 @@ pub record IsForRun (plain : Plain) (request : Request) : Type 0 where
 
 -- BELOW A FAULT
 
--- the file to which the number of a refusal belongs, and what was read of it: numbers from 60 on are a trace's
-abbrev pub source_of : ℕ → Request → List ℕ → Reading → List ℕ × List ℕ
-source_of number (request.Check checked) text trace = (checked.file.now, text)
-source_of number (request.Show command file) text trace = (file.now, text)
-source_of number (request.Rounds command rounds) text trace = (rounds.file.now, text)
-source_of number (request.Trace command traced) text trace = if nat_lt number 60 then (traced.file.now, text) else (traced.trace.now, text_of trace)
+-- the name of a request's other file: a trace, or the file of `--calls`
+abbrev pub other_of : Request → Option (List ℕ)
+other_of (request.Check checked) = None
+other_of (request.Show command file) = None
+other_of (request.Rounds command rounds) = option_map (λ calls. calls.now) rounds.calls
+other_of (request.Trace command traced) = Some traced.trace.now
 
--- the name of a request's trace
-abbrev pub trace_name : Request → List ℕ
-trace_name (request.Check checked) = checked.file.now
-trace_name (request.Show command file) = file.now
-trace_name (request.Rounds command rounds) = rounds.file.now
-trace_name (request.Trace command traced) = traced.trace.now
+-- FILE and its text, or the other file and what was read of it
+abbrev pub source_in : ℕ → List ℕ → List ℕ → Reading → Option (List ℕ) → List ℕ × List ℕ
+source_in number file text read None = (file, text)
+source_in number file text read (Some other) = if nat_lt number 60 then (file, text) else (other, text_of read)
+
+-- the file to which the number of a refusal belongs, and what was read of it: numbers from 60 on are those of the other file, where there is one
+abbrev pub source_of : ℕ → Request → List ℕ → Reading → List ℕ × List ℕ
+source_of number request text read = source_in number (name_of request) text read (other_of request)
+
+-- a file's name, or that of another where there is one
+abbrev pub name_in : List ℕ → Option (List ℕ) → List ℕ
+name_in file None = file
+name_in file (Some other) = other
+
+-- the name of a request's other file; that of FILE, where it has none
+abbrev pub other_name : Request → List ℕ
+other_name request = name_in (name_of request) (other_of request)
 
 -- a word of `watch` that stands behind a press and begins with no digit, as a name does
 abbrev pub IsLateName : Request → List ℕ → Type 0
@@ -90,6 +105,9 @@ press_sentence false = codes "no press: ROUND:FROM:TO or ROUND:FROM:TO:PANEL, a 
 abbrev pub fire_sentence : List ℕ
 fire_sentence = codes "no round of the run"
 
+abbrev pub span_sentence : List ℕ
+span_sentence = codes "no rounds: A:B, A: or :B, a first and a last round from 1 to 65535"
+
 abbrev pub name_sentence : List ℕ
 name_sentence = codes "no field, variable of a task or global has this name"
 
@@ -104,8 +122,9 @@ IsFaultBelow request text trace (fault.Refused number line) below = IsShownBelow
 IsFaultBelow request text trace (fault.BadPress word) below = (late : Bool) × (IsTrue late ↔ IsLateName request (string_bytes word)) × (below ≡ word_notice (string_bytes word) (press_sentence late))
 IsFaultBelow request text trace fault.TooManyPresses below = below ≡ plain_notice too_many_sentence
 IsFaultBelow request text trace (fault.BadFire word) below = below ≡ word_notice (string_bytes word) fire_sentence
+IsFaultBelow request text trace (fault.BadSpan word) below = below ≡ word_notice (string_bytes word) span_sentence
 IsFaultBelow request text trace (fault.BadName word) below = below ≡ word_notice (string_bytes word) name_sentence
-IsFaultBelow request text trace (fault.CannotRead cause) below = below ≡ file_notice (trace_name request) (cause_sentence cause)
+IsFaultBelow request text trace (fault.CannotRead cause) below = below ≡ file_notice (other_name request) (cause_sentence cause)
 IsFaultBelow request text trace fault.CannotWrite below = below ≡ []
 IsFaultBelow request text trace fault.NoMemory below = below ≡ []
 
@@ -144,19 +163,25 @@ IsTraceText reads cut text = (given : List ℕ) × reads given × (text ≡ (if 
 abbrev pub IsTraceFault : (ReadFault → Type 0) → Bool → ReadFault → Type 0
 IsTraceFault fails cut why = fails why ⊎ ((cut ≡ true) × (why ≡ failure.NoMemory))
 
--- what may be read of the trace of a request; another request has none
-abbrev pub IsTraceRead : (List ℕ → ℕ → List ℕ → Type 0) → (List ℕ → ℕ → ReadFault → Type 0) → Request → Reading → Type 0
-IsTraceRead reads fails (request.Check checked) trace = Unit {0}
-IsTraceRead reads fails (request.Show command file) trace = Unit {0}
-IsTraceRead reads fails (request.Rounds command rounds) trace = Unit {0}
-IsTraceRead reads fails (request.Trace command traced) (Text text) = IsTraceText (reads traced.trace.now most_trace_bytes) traced.cut text.items
-IsTraceRead reads fails (request.Trace command traced) (Failed why) = IsTraceFault (fails traced.trace.now most_trace_bytes) traced.cut why
+-- what may be read of the file of `--calls`, where one is named
+abbrev pub IsCallsRead : (List ℕ → ℕ → List ℕ → Type 0) → (List ℕ → ℕ → ReadFault → Type 0) → Option (List ℕ) → Reading → Type 0
+IsCallsRead reads fails None read = Unit {0}
+IsCallsRead reads fails (Some name) (Text text) = reads name most_calls_bytes text.items
+IsCallsRead reads fails (Some name) (Failed why) = fails name most_calls_bytes why
 
--- A request has the outcome that its command gives of the text of its file and of its trace, each read once; what stands below its fault is
+-- what may be read of a request's other file: a trace, or the file of `--calls`
+abbrev pub IsOtherRead : (List ℕ → ℕ → List ℕ → Type 0) → (List ℕ → ℕ → ReadFault → Type 0) → Request → Reading → Type 0
+IsOtherRead reads fails (request.Check checked) trace = Unit {0}
+IsOtherRead reads fails (request.Show command file) trace = Unit {0}
+IsOtherRead reads fails (request.Rounds command rounds) trace = IsCallsRead reads fails (option_map (λ calls. calls.now) rounds.calls) trace
+IsOtherRead reads fails (request.Trace command traced) (Text text) = IsTraceText (reads traced.trace.now most_trace_bytes) traced.cut text.items
+IsOtherRead reads fails (request.Trace command traced) (Failed why) = IsTraceFault (fails traced.trace.now most_trace_bytes) traced.cut why
+
+-- A request has the outcome that its command gives of the text of its file and of its other file, each read once; what stands below its fault is
 -- of these readings. The file may have no text.
 pub data IsFileAnswer (reads : List ℕ → ℕ → List ℕ → Type 0) (fails : List ℕ → ℕ → ReadFault → Type 0) (gives : Request → List ℕ → Reading → Outcome → Type 0) (wanted : Bool) (request : Request) (outcome : Outcome) (below : List ℕ) : Type 0 where
   unread : (why : ReadFault) → fails (name_of request) most_bytes why → IsOutcomeExplained wanted (λ _. IsUnreadBelow (name_of request) why) (Err (fault_of_reading why)) outcome below → IsFileAnswer reads fails gives wanted request outcome below
-  read : (text : List ℕ) → reads (name_of request) most_bytes text → (trace : Reading) → IsTraceRead reads fails request trace → (given : Outcome) → gives request text trace given
+  read : (text : List ℕ) → reads (name_of request) most_bytes text → (trace : Reading) → IsOtherRead reads fails request trace → (given : Outcome) → gives request text trace given
       → IsOutcomeExplained wanted (IsFaultBelow request text trace) given outcome below → IsFileAnswer reads fails gives wanted request outcome below
 
 -- Words have the answer of their request, where they ask for one.

@@ -16,12 +16,13 @@ use std::alloc::Global;
 use std::sync::Wait;
 use std::thread::Threads;
 
-/// The commands of a program, each over the text of its file; `replay` and `draw` follow a trace. Commands read and write nothing themselves.
+/// The commands of a program, each over the text of its file; some follow a trace, and simulations may have a file with their presses. Commands read and write nothing
+/// themselves.
 pub trait Commands {
-    // What a request may give of a text, where this was read of its trace.
+    // What a request may give of a text, where this was read of its trace or of its file of `--calls`.
     ghost gives: { Self → Request → List ℕ → Reading → Outcome → Type 0 };
 
-    /// What a request prints that isn't `run`, or why it prints nothing; of a request without a trace `trace` is empty.
+    /// What a request prints that isn't `run`, or why it prints nothing; of a request that names no other file `trace` is empty.
     fn outcome(
         &self,
         alloc: Global,

@@ -1,9 +1,9 @@
 // The program, over its words.
 
-ghost use Rattle.std.specs.Prelude.{◌≡◌, ◌≢◌, ◌||◌, ◌↔◌, [], Bool, Err, IfSome, IsNone, IfOk, IfErr, IsTrue, true, false, map, string_bytes};
+ghost use Rattle.std.specs.Prelude.{◌≡◌, ◌≢◌, ◌||◌, ◌↔◌, [], Bool, Err, IfSome, IsNone, IfOk, IfErr, IsTrue, true, false, map, option_map, string_bytes};
 ghost use Rattle.lift_host.specs.Messages.{fault_of_reading};
 ghost use Rattle.lift_host.specs.Requests.{name_of};
-ghost use Rattle.lift_shell.specs.Runs.{AskForRun, IsForRun, IsAnswerOf, IsFileAnswer, IsWordsOutcome, IsTraceRead, IsTraceText, IsTraceFault, IsExplained, IsOutcomeExplained, IsFaultBelow, IsUnreadBelow, IsLateName, HasPrinted, stream, most_bytes, most_trace_bytes, runs, source_of, trace_name, press_sentence};
+ghost use Rattle.lift_shell.specs.Runs.{AskForRun, IsForRun, IsAnswerOf, IsFileAnswer, IsCallsRead, IsWordsOutcome, IsOtherRead, IsTraceText, IsTraceFault, IsExplained, IsOutcomeExplained, IsFaultBelow, IsUnreadBelow, IsLateName, HasPrinted, stream, most_bytes, most_calls_bytes, most_trace_bytes, runs, source_of, other_of, other_name, press_sentence};
 ghost use Rattle.lift_messages.specs.Notices.{word_notice};
 ghost use Rattle.lift_messages.specs.Places.{IsShownBelow};
 
@@ -11,8 +11,9 @@ use crate::commands::{Commands, runs};
 use crate::cut::complete;
 use crate::explained::Explained;
 use lift_help::command::{Answer, answer_of};
+use lift_host::calls::GREATEST_FILE;
 use lift_host::files::{ReadFault, Reading, TextFiles};
-use lift_host::request::{Plain, Request, Simulating, Traced, asked, is_number};
+use lift_host::request::{Plain, Request, Rounds, Simulating, Traced, asked, is_number};
 use lift_host::sink::Sink;
 use lift_host::status::{Fault, Status};
 use lift_messages::notice::{file_notice, plain_notice, word_notice};
@@ -202,7 +203,7 @@ struct Texts {
     trace: Reading,
 }
 
-// Reads the files of a request: FILE, and the trace, if it has one.
+// Reads the files of a request: FILE, and the other one, if it has one.
 fn read_texts<F: TextFiles>(
     alloc: Global,
     request: Request<'_>,
@@ -210,12 +211,12 @@ fn read_texts<F: TextFiles>(
 ) -> Result<Texts, ReadFault>
     ensures text { IfOk result (λ texts. F.gives files.now (name_of request.entry) most_bytes
         texts.text.items) }
-    ensures trace { IfOk result (λ texts. IsTraceRead (F.gives files.now) (F.fails files.now)
+    ensures trace { IfOk result (λ texts. IsOtherRead (F.gives files.now) (F.fails files.now)
         request.entry texts.trace) }
     ensures err { IfErr result (F.fails files.now (name_of request.entry) most_bytes) }
 {
     let text = files.read(alloc, request.file(), MOST_BYTES)?;
-    let trace = trace_of(alloc, request, files);
+    let trace = other_read(alloc, request, files);
     Ok(Texts { text, trace })
 }
 
@@ -263,16 +264,31 @@ fn unread_answer(alloc: Global, request: Request<'_>, why: ReadFault, wanted: bo
     Answered::from(unread_explained(alloc, request.file(), why, wanted))
 }
 
-// What is read of the trace of a request, which another has none of.
-fn trace_of<F: TextFiles>(alloc: Global, request: Request<'_>, files: &F) -> Reading
-    ensures { IsTraceRead (F.gives files.now) (F.fails files.now) request.entry result }
+// What is read of the other file of a request: a trace, or the file of `--calls`.
+fn other_read<F: TextFiles>(alloc: Global, request: Request<'_>, files: &F) -> Reading
+    ensures { IsOtherRead (F.gives files.now) (F.fails files.now) request.entry result }
 {
     match request {
         Request::Trace(_, traced) => match read_trace(alloc, traced, files) {
             Ok(text) => Reading::Text(text),
             Err(why) => Reading::Failed(why),
         },
+        Request::Rounds(_, rounds) => read_calls(alloc, rounds, files),
         _ => Reading::Text(Vec::new(alloc)),
+    }
+}
+
+// What is read of the file of `--calls`, where one is named.
+fn read_calls<F: TextFiles>(alloc: Global, rounds: Rounds<'_>, files: &F) -> Reading
+    ensures { IsCallsRead (F.gives files.now) (F.fails files.now)
+        (option_map (λ calls. calls.now) rounds.entry.calls) result }
+{
+    let Some(name) = rounds.calls else {
+        return Reading::Text(Vec::new(alloc));
+    };
+    match files.read(alloc, name, GREATEST_FILE + 1) {
+        Ok(text) => Reading::Text(text),
+        Err(why) => Reading::Failed(why),
     }
 }
 
@@ -333,8 +349,9 @@ fn fault_below(
         Fault::BadPress(word) => press_below(alloc, request, word),
         Fault::TooManyPresses => plain_notice(alloc, TOO_MANY),
         Fault::BadFire(word) => word_notice(alloc, word, NO_ROUND),
+        Fault::BadSpan(word) => word_notice(alloc, word, NO_SPAN),
         Fault::BadName(word) => word_notice(alloc, word, NO_NAME),
-        Fault::CannotRead(cause) => file_notice(alloc, trace_name(request), cause.sentence()),
+        Fault::CannotRead(cause) => file_notice(alloc, other_name(request), cause.sentence()),
         Fault::CannotWrite => Ok(Vec::new(alloc)),
         Fault::NoMemory => Ok(Vec::new(alloc)),
     }
@@ -343,6 +360,8 @@ fn fault_below(
 const TOO_MANY: &str = "there are more than 1000 presses";
 
 const NO_ROUND: &str = "no round of the run";
+
+const NO_SPAN: &str = "no rounds: A:B, A: or :B, a first and a last round from 1 to 65535";
 
 const NO_NAME: &str = "no field, variable of a task or global has this name";
 
@@ -428,8 +447,8 @@ struct Source<'w> {
     text: &'w [u8],
 }
 
-// The least number that a trace is refused with, or one of its events.
-const LEAST_OF_TRACE: u16 = 60;
+// The least number that a trace or a file of `--calls` is refused with, or an event of a trace.
+const LEAST_OF_OTHER: u16 = 60;
 
 // The file to which the number of a refusal belongs.
 fn source_of<'w>(
@@ -441,9 +460,9 @@ fn source_of<'w>(
     ensures name { result.name.now ≡ (source_of number request.entry text.now trace.now).0 }
     ensures text { result.text.now ≡ (source_of number request.entry text.now trace.now).1 }
 {
-    match request {
-        Request::Trace(_, traced) if number >= LEAST_OF_TRACE => Source {
-            name: traced.trace,
+    match other_of(request) {
+        Some(name) if number >= LEAST_OF_OTHER => Source {
+            name,
             text: trace.text(),
         },
         _ => Source {
@@ -453,12 +472,23 @@ fn source_of<'w>(
     }
 }
 
-// The name of the trace of a request.
-fn trace_name(request: Request<'_>) -> &str
-    ensures { result.now ≡ trace_name request.entry }
+// The name of the other file of a request.
+fn other_of(request: Request<'_>) -> Option<&str>
+    ensures { option_map (λ name. name.now) result ≡ other_of request.entry }
 {
     match request {
-        Request::Trace(_, traced) => traced.trace,
-        _ => request.file(),
+        Request::Trace(_, traced) => Some(traced.trace),
+        Request::Rounds(_, rounds) => rounds.calls,
+        _ => None,
+    }
+}
+
+// The name of the other file of a request, or of FILE where it has none.
+fn other_name(request: Request<'_>) -> &str
+    ensures { result.now ≡ other_name request.entry }
+{
+    match other_of(request) {
+        Some(name) => name,
+        None => request.file(),
     }
 }
