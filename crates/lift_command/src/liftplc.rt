@@ -3,7 +3,6 @@
 ghost use Rattle.std.specs.Prelude.{◌≡◌, ◌≢◌, Err, true};
 ghost use Rattle.lift_command.specs.Loaded.{IsLoaded};
 ghost use Rattle.lift_command.specs.Runs.{IsKnown, IsRefusedOutcome, IsTextOutcome};
-ghost use Rattle.lift_host.specs.declared.files.Reading.{Reading};
 ghost use Rattle.lift_output.specs.Outcomes.{HasWarnings, IsProgramOutcome, wanted_warnings};
 ghost use Rattle.lift_shell.specs.Runs.{runs};
 
@@ -47,29 +46,30 @@ impl Commands for Liftplc {
         alloc: Global,
         request: Request<'_>,
         text: &[u8],
-        _trace: &Reading,
+        trace: &Reading,
     ) -> Result<Output, Fault> {
         match loaded(alloc, text) {
-            Ok(verified) => run_verified(rt, alloc, request, verified),
+            Ok(verified) => run_verified(rt, alloc, request, verified, trace),
             Err(refusal) => refused(alloc, request, text, refusal),
         }
     }
 }
 
-// What `run` gives of a verified configuration.
+// What `run` gives of a verified configuration, with what was read of its file behind `--calls`.
 fn run_verified<R: Threads + Wait + Sync>(
     rt: &R,
     alloc: Global,
     request: Request<'_>,
     verified: Verified,
+    calls: &Reading,
 ) -> Result<Output, Fault>
     requires { runs request ≡ true }
-    ensures is { (trace : Reading) → IsProgramOutcome request.entry verified trace result }
+    ensures is { IsProgramOutcome request.entry verified calls.now result }
     ensures warned { HasWarnings (wanted_warnings request.entry verified) result }
     ensures unwritten { result ≢ Err Fault.CannotWrite }
 {
     match request {
-        Request::Rounds(Simulating::Run, asked) => ran(rt, alloc, verified, asked),
+        Request::Rounds(Simulating::Run, asked) => ran(rt, alloc, verified, asked, calls),
         _ => unreachable!(),
     }
 }

@@ -1,8 +1,9 @@
 // The time below the bands.
 
-ghost use Rattle.std.specs.Prelude.{◌≤◌, IfSome};
+ghost use Rattle.std.specs.Prelude.{◌≤◌, ◌<◌, ◌+◌, IfSome};
 
 use crate::frame::Frame;
+use crate::span::Window;
 use crate::story::Story;
 use crate::svg::{
     Point, close_group, end_path, open_group, put_number, put_plumb, put_seconds, put_words,
@@ -37,24 +38,41 @@ fn step_of(rounds: u64, labels: u64) -> u64 {
     rounds
 }
 
-// The round of a label, from 0 on: the first round, and then each that the step divides.
-fn labelled(count: u64, step: u64, rounds: u64) -> Option<u64>
-    ensures { IfSome result (λ round. (1 ≤ round) × (round ≤ rounds)) }
+// The last round that the step divides and that is before this one.
+fn divided_before(first: u64, step: u64) -> u64 {
+    let steps = first.saturating_sub(1).checked_div(step).unwrap_or(0);
+    steps.saturating_mul(step)
+}
+
+// Whether the next round that the step divides is nearer than half a step.
+fn is_crowded(first: u64, step: u64) -> bool {
+    let next = divided_before(first, step).saturating_add(step);
+    next.saturating_sub(first).saturating_mul(2) < step
+}
+
+// The round of a label, from 0 on: the first round, unless the next label is near, and then each that the step divides.
+fn labelled(count: u64, step: u64, window: Window) -> Option<u64>
+    ensures { IfSome result (λ round. (window.first ≤ round)
+        × (round < window.first + window.count)) }
 {
-    if count == 0 && step == 1 {
+    let first = window.first;
+    if count == 0 && is_crowded(first, step) {
         return None;
     }
-    let round = step.saturating_mul(count).max(1);
-    if round <= rounds { Some(round) } else { None }
+    let round = divided_before(first, step)
+        .saturating_add(step.saturating_mul(count))
+        .max(first);
+    if window.has(round) { Some(round) } else { None }
 }
 
 /// A line down from each label's round.
 pub fn put_grid(text: &mut String, frame: Frame) -> Result<(), AllocError> {
     let labels = most_labels(frame);
-    let step = step_of(frame.rounds(), labels);
+    let window = frame.window();
+    let step = step_of(window.count, labels);
     text.push_str("<path stroke=\"#e4e4e4\" d=\"")?;
     'lines: for count in 0..labels + 1 {
-        if let Some(round) = labelled(count, step, frame.rounds()) {
+        if let Some(round) = labelled(count, step, window) {
             let x = frame.x(round);
             put_plumb(text, Point { x, y: frame.top() }, frame.bottom())?;
         }
@@ -81,9 +99,10 @@ fn put_label(text: &mut String, story: &Story, frame: Frame, round: u64) -> Resu
 
 fn put_labels(text: &mut String, story: &Story, frame: Frame) -> Result<(), AllocError> {
     let labels = most_labels(frame);
-    let step = step_of(frame.rounds(), labels);
+    let window = frame.window();
+    let step = step_of(window.count, labels);
     'labels: for count in 0..labels + 1 {
-        if let Some(round) = labelled(count, step, frame.rounds()) {
+        if let Some(round) = labelled(count, step, window) {
             put_label(text, story, frame, round)?;
         }
     }

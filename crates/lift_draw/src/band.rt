@@ -1,11 +1,9 @@
 // The band of a car: its floors, its place and its door.
 
 use crate::frame::{Frame, LEFT};
+use crate::pen::{Corner, Pen};
 use crate::places::{Change, Door, Place};
-use crate::svg::{
-    FinePoint, Point, close_group, end_path, open_group, put_box, put_level, put_line, put_move,
-    put_number,
-};
+use crate::svg::{Point, close_group, end_path, open_group, put_box, put_level, put_number};
 use std::alloc::AllocError;
 
 // A line for each floor.
@@ -82,10 +80,10 @@ fn put_bars(
             before = Some(*change);
         }
     }
-    put_bar(text, frame, before, door, frame.rounds().saturating_add(1))
+    put_bar(text, frame, before, door, frame.window().end())
 }
 
-// The bar of the change before, if the door was so.
+// The bar of the change before, if the door was so, where the picture shows it.
 fn put_bar(
     text: &mut String,
     frame: Frame,
@@ -94,7 +92,9 @@ fn put_bar(
     to: u64,
 ) -> Result<(), AllocError> {
     match before {
-        Some(from) if from.place.door == door => put_door(text, frame, from, to),
+        Some(from) if from.place.door == door && frame.window().meets(from.round, to) => {
+            put_door(text, frame, from, to)
+        }
         _ => Ok(()),
     }
 }
@@ -104,14 +104,23 @@ fn is_same(from: Place, to: Place) -> bool {
     from.floor == to.floor && from.level == to.level
 }
 
+// Where a car is at a floor at the beginning of a round.
+fn corner(frame: Frame, car: u64, round: u64, floor: u8) -> Corner {
+    let y = frame.y(car, u64::from(floor)).saturating_mul(10);
+    Corner { round, y }
+}
+
 // The line up to the last round in which a car was level with a landing.
-fn put_stand(text: &mut String, frame: Frame, from: Change, to: u64) -> Result<(), AllocError> {
+fn put_stand(
+    text: &mut String,
+    pen: &mut Pen,
+    frame: Frame,
+    from: Change,
+    to: u64,
+) -> Result<(), AllocError> {
     let last = to.saturating_sub(1);
     if from.place.level && last > from.round {
-        put_line(
-            text,
-            frame.fine_at(from.car, last, u64::from(from.place.floor)),
-        )?;
+        pen.draw(text, corner(frame, from.car, last, from.place.floor))?;
     }
     Ok(())
 }
@@ -126,47 +135,62 @@ fn half_way(from: Place, to: &Change) -> u64 {
 }
 
 // The line to a place: to the landing where the car is level with it, and half way where it is between two and nearer to another.
-fn put_turn(text: &mut String, frame: Frame, from: Change, to: &Change) -> Result<(), AllocError> {
-    let at = frame.fine_at(to.car, to.round, u64::from(to.place.floor));
+fn put_turn(
+    text: &mut String,
+    pen: &mut Pen,
+    frame: Frame,
+    from: Change,
+    to: &Change,
+) -> Result<(), AllocError> {
+    let at = corner(frame, to.car, to.round, to.place.floor);
     if to.place.level {
-        return put_line(text, at);
+        return pen.draw(text, at);
     }
     if from.place.level {
         return Ok(());
     }
-    let turn = half_way(from.place, to);
-    let before = frame.fine_at(from.car, turn, u64::from(from.place.floor));
+    let round = half_way(from.place, to);
+    let before = corner(frame, from.car, round, from.place.floor);
     let y = (before.y / 2).saturating_add(at.y / 2);
-    put_line(text, FinePoint { x: before.x, y })
+    pen.draw(text, Corner { round, y })
 }
 
 // The line from a change to the next.
-fn put_way(text: &mut String, frame: Frame, from: Change, to: &Change) -> Result<(), AllocError> {
-    put_stand(text, frame, from, to.round)?;
-    put_turn(text, frame, from, to)
+fn put_way(
+    text: &mut String,
+    pen: &mut Pen,
+    frame: Frame,
+    from: Change,
+    to: &Change,
+) -> Result<(), AllocError> {
+    put_stand(text, pen, frame, from, to.round)?;
+    put_turn(text, pen, frame, from, to)
 }
 
 // The line from a change to the end of the last round.
-fn put_rest(text: &mut String, frame: Frame, from: Change) -> Result<(), AllocError> {
-    let behind = frame.rounds().saturating_add(1);
-    put_line(
-        text,
-        frame.fine_at(from.car, behind, u64::from(from.place.floor)),
-    )
+fn put_rest(
+    text: &mut String,
+    pen: &mut Pen,
+    frame: Frame,
+    from: Change,
+) -> Result<(), AllocError> {
+    let behind = frame.window().end();
+    pen.draw(text, corner(frame, from.car, behind, from.place.floor))
 }
 
 // The line behind the change before, or its beginning.
 fn put_next(
     text: &mut String,
+    pen: &mut Pen,
     frame: Frame,
     before: Option<Change>,
     change: &Change,
 ) -> Result<(), AllocError> {
     match before {
-        Some(from) => put_way(text, frame, from, change),
-        None => put_move(
+        Some(from) => put_way(text, pen, frame, from, change),
+        None => pen.draw(
             text,
-            frame.fine_at(change.car, change.round, u64::from(change.place.floor)),
+            corner(frame, change.car, change.round, change.place.floor),
         ),
     }
 }
@@ -186,15 +210,16 @@ fn put_steps(
     changes: &[Change],
     car: u64,
 ) -> Result<(), AllocError> {
+    let mut pen = Pen::new(frame);
     let mut before: Option<Change> = None;
     'changes: for change in changes {
         if change.car == car && is_turn(before, change) {
-            put_next(text, frame, before, change)?;
+            put_next(text, &mut pen, frame, before, change)?;
             before = Some(*change);
         }
     }
     match before {
-        Some(from) => put_rest(text, frame, from),
+        Some(from) => put_rest(text, &mut pen, frame, from),
         None => Ok(()),
     }
 }

@@ -2,18 +2,40 @@
 
 use crate::frame::Frame;
 use crate::labels::{Labels, width_of};
+use crate::pen::{Corner, height_at};
 use crate::rides::{Ride, Told};
+use crate::span::Window;
 use crate::svg::{Point, close_group, open_group, put_words};
 use std::alloc::{AllocError, Global};
 
 // The most calls that are labelled.
-const MOST_LABELLED: usize = 1000;
+const MOST_LABELLED: u64 = 1000;
 
-/// How many calls wait at the end.
-pub fn waiting(rides: &[Ride]) -> u64 {
+// Whether a picture of these rounds shows a call: it was entered, and not served before them.
+fn is_shown(window: Window, ride: &Ride) -> bool {
+    let is_over = match ride.served {
+        Some(served) => served < window.first,
+        None => false,
+    };
+    ride.entered < window.end() && !is_over
+}
+
+/// How many calls a picture of these rounds shows.
+pub fn shown(window: Window, rides: &[Ride]) -> u64 {
     let mut count: u64 = 0;
     'rides: for ride in rides {
-        if ride.told.is_none() {
+        if is_shown(window, ride) {
+            count = count.saturating_add(1);
+        }
+    }
+    count
+}
+
+/// How many of them wait at the end of the trace.
+pub fn waiting(window: Window, rides: &[Ride]) -> u64 {
+    let mut count: u64 = 0;
+    'rides: for ride in rides {
+        if ride.told.is_none() && is_shown(window, ride) {
             count = count.saturating_add(1);
         }
     }
@@ -21,14 +43,29 @@ pub fn waiting(rides: &[Ride]) -> u64 {
 }
 
 // Where a call was entered: at its floor in the band of its car, or in a lane.
-fn entry(frame: Frame, ride: &Ride, lane: u64) -> Point {
+fn entry(frame: Frame, ride: &Ride, lane: u64) -> Corner {
+    let round = ride.entered;
     match ride.told {
-        Some(told) => frame.at(told.car, ride.entered, u64::from(ride.call.from)),
-        None => frame.lane(lane, ride.entered),
+        Some(told) => Corner {
+            round,
+            y: frame.y(told.car, u64::from(ride.call.from)),
+        },
+        None => Corner {
+            round,
+            y: frame.lane(lane),
+        },
     }
 }
 
-// The lane of the call behind this one.
+// The point of a corner.
+fn point(frame: Frame, corner: Corner) -> Point {
+    Point {
+        x: frame.x(corner.round),
+        y: corner.y,
+    }
+}
+
+// The lane of the call behind one that is shown.
 fn next_lane(ride: &Ride, lane: u64) -> u64 {
     if ride.told.is_none() {
         lane.saturating_add(1)
@@ -42,29 +79,95 @@ fn turn(ride: &Ride, told: Told) -> u64 {
     ride.boarded.unwrap_or(told.round)
 }
 
-// The mark of the boarding, where it was seen.
-fn put_boarding(text: &mut String, ride: &Ride) -> Result<(), AllocError> {
+// The mark of the boarding, where it was seen and the picture shows it.
+fn put_boarding(text: &mut String, window: Window, ride: &Ride) -> Result<(), AllocError> {
     match ride.boarded {
-        Some(_) => text.push_str(" marker-mid=\"url(#boarding)\""),
-        None => Ok(()),
+        Some(round) if window.has(round) => text.push_str(" marker-mid=\"url(#boarding)\""),
+        _ => Ok(()),
     }
+}
+
+// No mark at the left edge, where a call was entered before it.
+fn put_entry(text: &mut String, window: Window, ride: &Ride) -> Result<(), AllocError> {
+    if window.has(ride.entered) {
+        Ok(())
+    } else {
+        text.push_str(" marker-start=\"none\"")
+    }
+}
+
+// No mark at the right edge, where a call was served behind it.
+fn put_exit(text: &mut String, window: Window, served: u64) -> Result<(), AllocError> {
+    if window.has(served) {
+        Ok(())
+    } else {
+        text.push_str(" marker-end=\"none\"")
+    }
+}
+
+// Where the line of a call turns.
+fn turn_of(ride: &Ride, told: Told, from: Corner) -> Corner {
+    Corner {
+        round: turn(ride, told),
+        y: from.y,
+    }
+}
+
+// Where it ends: where the call was served.
+fn end_of(frame: Frame, ride: &Ride, told: Told, served: u64) -> Corner {
+    Corner {
+        round: served,
+        y: frame.y(told.car, u64::from(ride.call.to)),
+    }
+}
+
+// Where it begins in the picture: where the call was entered, or at the left edge.
+fn beginning(frame: Frame, ride: &Ride, from: Corner) -> Corner {
+    let round = from.round.max(frame.window().first);
+    let y = match (ride.told, ride.served) {
+        (Some(told), Some(served)) if turn(ride, told) < round => height_at(
+            turn_of(ride, told, from),
+            end_of(frame, ride, told, served),
+            round,
+        ),
+        _ => from.y,
+    };
+    Corner { round, y }
+}
+
+// The steps of the line behind its beginning: level to its turn, and straight to its end, as far as the picture shows them.
+fn put_way(text: &mut String, frame: Frame, turn: Corner, end: Corner) -> Result<(), AllocError> {
+    let window = frame.window();
+    if window.first <= turn.round {
+        let x = frame.x(turn.round);
+        write!(text, "H{x}")?;
+    }
+    if window.end() <= turn.round {
+        return Ok(());
+    }
+    let round = end.round.min(window.end());
+    let x = frame.x(round);
+    let y = height_at(turn, end, round);
+    write!(text, "L{x} {y}")
 }
 
 // The line of a call that was served: level until it boarded, and straight to where and when it was served.
 fn put_served(
     text: &mut String,
+    frame: Frame,
     ride: &Ride,
-    from: Point,
-    turn: u64,
-    end: Point,
+    from: Corner,
+    turn: Corner,
+    end: Corner,
 ) -> Result<(), AllocError> {
-    let Point { x, y } = from;
-    let Point {
-        x: right,
-        y: landing,
-    } = end;
-    write!(text, "<path d=\"M{x} {y}H{turn}L{right} {landing}\"")?;
-    put_boarding(text, ride)?;
+    let window = frame.window();
+    let Point { x, y } = point(frame, from);
+    write!(text, "<path d=\"M{x} {y}")?;
+    put_way(text, frame, turn, end)?;
+    text.push_str("\"")?;
+    put_entry(text, window, ride)?;
+    put_exit(text, window, end.round)?;
+    put_boarding(text, window, ride)?;
     text.push_str(">")
 }
 
@@ -73,25 +176,28 @@ fn put_unserved(
     text: &mut String,
     frame: Frame,
     ride: &Ride,
-    from: Point,
+    from: Corner,
 ) -> Result<(), AllocError> {
-    let Point { x, y } = from;
+    let window = frame.window();
+    let Point { x, y } = point(frame, from);
     let turn = frame.x(ride.boarded.unwrap_or(ride.entered));
     let end = frame.right();
     write!(
         text,
         "<path d=\"M{x} {y}H{turn}H{end}\" stroke-dasharray=\"4 3\" stroke-opacity=\".5\" marker-end=\"none\""
     )?;
-    put_boarding(text, ride)?;
+    put_entry(text, window, ride)?;
+    put_boarding(text, window, ride)?;
     text.push_str(">")
 }
 
 // The line of a call.
-fn put_line(text: &mut String, frame: Frame, ride: &Ride, from: Point) -> Result<(), AllocError> {
+fn put_line(text: &mut String, frame: Frame, ride: &Ride, from: Corner) -> Result<(), AllocError> {
     match (ride.told, ride.served) {
         (Some(told), Some(served)) => {
-            let end = frame.at(told.car, served, u64::from(ride.call.to));
-            put_served(text, ride, from, frame.x(turn(ride, told)), end)
+            let turn = turn_of(ride, told, from);
+            let end = end_of(frame, ride, told, served);
+            put_served(text, frame, ride, beginning(frame, ride, from), turn, end)
         }
         _ => put_unserved(text, frame, ride, from),
     }
@@ -134,7 +240,7 @@ fn put_service(text: &mut String, served: Option<u64>) -> Result<(), AllocError>
 }
 
 // A call, with a title.
-fn put_ride(text: &mut String, frame: Frame, ride: &Ride, from: Point) -> Result<(), AllocError> {
+fn put_ride(text: &mut String, frame: Frame, ride: &Ride, from: Corner) -> Result<(), AllocError> {
     put_line(text, frame, ride, from)?;
     put_call(text, ride)?;
     put_told(text, ride.told)?;
@@ -147,8 +253,10 @@ fn put_ride(text: &mut String, frame: Frame, ride: &Ride, from: Point) -> Result
 fn put_lines(text: &mut String, frame: Frame, rides: &[Ride]) -> Result<(), AllocError> {
     let mut lane: u64 = 0;
     'rides: for ride in rides {
-        put_ride(text, frame, ride, entry(frame, ride, lane))?;
-        lane = next_lane(ride, lane);
+        if is_shown(frame.window(), ride) {
+            put_ride(text, frame, ride, entry(frame, ride, lane))?;
+            lane = next_lane(ride, lane);
+        }
     }
     Ok(())
 }
@@ -180,7 +288,11 @@ fn put_free_label(
 ) -> Result<(), AllocError> {
     let from = entry(frame, ride, lane);
     let width = width_of(ride.ticket, ride.call);
-    match labels.place(from, width, goes_up(ride))? {
+    match labels.place(
+        point(frame, beginning(frame, ride, from)),
+        width,
+        goes_up(ride),
+    )? {
         Some(at) => put_label(text, at, ride),
         None => Ok(()),
     }
@@ -196,15 +308,17 @@ fn put_labels(
     let mut labels = Labels::new(alloc);
     let mut lane: u64 = 0;
     'rides: for ride in rides {
-        put_free_label(text, frame, &mut labels, ride, lane)?;
-        lane = next_lane(ride, lane);
+        if is_shown(frame.window(), ride) {
+            put_free_label(text, frame, &mut labels, ride, lane)?;
+            lane = next_lane(ride, lane);
+        }
     }
     Ok(())
 }
 
 // The name of the strip of the calls that wait, if any do.
 fn put_name(text: &mut String, frame: Frame, rides: &[Ride]) -> Result<(), AllocError> {
-    if waiting(rides) == 0 {
+    if waiting(frame.window(), rides) == 0 {
         return Ok(());
     }
     let y = frame.top().saturating_add(14);
@@ -230,7 +344,7 @@ pub fn put_calls(
 ) -> Result<(), AllocError> {
     put_name(text, frame, rides)?;
     put_all(text, frame, rides)?;
-    if rides.len() > MOST_LABELLED {
+    if shown(frame.window(), rides) > MOST_LABELLED {
         return Ok(());
     }
     open_group(text, "fill=\"#1f5fbf\"")?;

@@ -6,10 +6,11 @@ ghost use Rattle.lift_draw.specs.Stops.{IsStopped};
 
 use crate::axes::{put_axes, put_grid};
 use crate::band::put_bands;
-use crate::calls::{put_calls, waiting};
+use crate::calls::{put_calls, shown, waiting};
 use crate::follow::follow;
 use crate::frame::Frame;
 use crate::marks::{put_denials, put_fire};
+use crate::span::{Span, Window};
 use crate::stop::Stop;
 use crate::story::Story;
 use crate::svg::put_seconds;
@@ -58,28 +59,41 @@ fn put_sizes(text: &mut String, story: &Story) -> Result<(), AllocError> {
     )
 }
 
-// The rounds of the trace, and their time.
-fn put_time(text: &mut String, story: &Story) -> Result<(), AllocError> {
+// The rounds that are shown, all of the trace or some, and their time.
+fn put_rounds(text: &mut String, story: &Story, window: Window) -> Result<(), AllocError> {
     let rounds = story.rounds();
-    write!(text, "rounds: {rounds}, ")?;
-    put_seconds(text, story.time(1))?;
+    let Window { first, count } = window;
+    if count == rounds {
+        write!(text, "rounds: {rounds}, ")?;
+        return put_time(text, story, window);
+    }
+    if count == 0 {
+        return write!(text, "rounds: 0 of {rounds}; ");
+    }
+    let last = window.end().saturating_sub(1);
+    write!(text, "rounds: {first} to {last} of {rounds}, ")?;
+    put_time(text, story, window)
+}
+
+fn put_time(text: &mut String, story: &Story, window: Window) -> Result<(), AllocError> {
+    put_seconds(text, story.time(window.first))?;
     text.push_str(" s to ")?;
-    put_seconds(text, story.time(rounds))?;
+    put_seconds(text, story.time(window.end().saturating_sub(1)))?;
     text.push_str(" s; ")
 }
 
-// How much happened.
-fn put_counts(text: &mut String, story: &Story) -> Result<(), AllocError> {
-    let calls = story.rides.list().len();
+// How much happened in them.
+fn put_counts(text: &mut String, story: &Story, window: Window) -> Result<(), AllocError> {
+    let calls = shown(window, story.rides.list());
     write!(text, "calls: {calls}")
 }
 
 // The title row.
-fn put_title(text: &mut String, story: &Story) -> Result<(), AllocError> {
+fn put_title(text: &mut String, story: &Story, window: Window) -> Result<(), AllocError> {
     text.push_str("<text x=\"72\" y=\"18\" font-size=\"12\" fill=\"#222\">")?;
     put_sizes(text, story)?;
-    put_time(text, story)?;
-    put_counts(text, story)?;
+    put_rounds(text, story, window)?;
+    put_counts(text, story, window)?;
     text.push_str("</text>\n")
 }
 
@@ -97,12 +111,17 @@ fn put_body(
     put_denials(text, frame, story.denials.list())
 }
 
-// The picture, as SVG.
-fn put_picture(text: &mut String, alloc: Global, story: &Story) -> Result<(), AllocError> {
-    let lanes = waiting(story.rides.list());
-    let frame = Frame::new(story.sizes(), story.rounds(), lanes);
+// The picture of these rounds, as SVG.
+fn put_picture(
+    text: &mut String,
+    alloc: Global,
+    story: &Story,
+    window: Window,
+) -> Result<(), AllocError> {
+    let lanes = waiting(window, story.rides.list());
+    let frame = Frame::new(story.sizes(), window, lanes);
     put_head(text, frame)?;
-    put_title(text, story)?;
+    put_title(text, story, window)?;
     text.push_str(LEGEND)?;
     put_body(text, alloc, story, frame)?;
     put_axes(text, story, frame)?;
@@ -110,15 +129,20 @@ fn put_picture(text: &mut String, alloc: Global, story: &Story) -> Result<(), Al
 }
 
 // The text of the picture.
-fn picture(alloc: Global, story: &Story) -> Result<String, AllocError> {
+fn picture(alloc: Global, story: &Story, span: Span) -> Result<String, AllocError> {
     let mut text = String::new(alloc);
-    put_picture(&mut text, alloc, story)?;
+    put_picture(&mut text, alloc, story, span.window(story.rounds()))?;
     Ok(text)
 }
 
-/// The picture of a trace, as SVG: what happens along its events, from this world on, which is changed as they say. The text of the picture
-/// is no part of the promise.
-pub fn drawing(alloc: Global, world: &mut World, events: &[TraceEvent]) -> Result<String, Stop>
+/// The picture of these rounds of a trace, as SVG: what happens along its events, from this world on, which is changed as they say. The
+/// text of the picture is no part of the promise.
+pub fn drawing(
+    alloc: Global,
+    world: &mut World,
+    events: &[TraceEvent],
+    span: Span,
+) -> Result<String, Stop>
     ensures taken { OnOk result (TakesAll world.old.program.config world.old.world events.now
         world.new.world) }
     ensures stopped { IfErr result (IsStopped world.old.program.config world.old.world events.now) }
@@ -126,6 +150,6 @@ pub fn drawing(alloc: Global, world: &mut World, events: &[TraceEvent]) -> Resul
 {
     let mut story = Story::new(alloc, world.sizes());
     follow(world, events, &mut story)?;
-    let text = picture(alloc, &story)?;
+    let text = picture(alloc, &story, span)?;
     Ok(text)
 }

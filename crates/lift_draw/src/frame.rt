@@ -2,7 +2,7 @@
 
 ghost use Rattle.std.specs.Prelude.{◌≤◌};
 
-use crate::svg::{FinePoint, Point};
+use crate::span::Window;
 use lift_spec::image::Sizes;
 
 /// The left edge of the bands. Their names and floors stand left of it.
@@ -37,29 +37,29 @@ const BELOW: u64 = 12;
 // What is below the bands: the time.
 const AXIS: u64 = 44;
 
-/// How much a picture shows: so many rounds of a group, and so many calls that wait.
+/// How much a picture shows: these rounds of a group, and so many calls that wait.
 #[derive(Clone, Copy)]
 pub struct Frame {
-    rounds: u64,
+    window: Window,
     cars: u64,
     floors: u64,
     lanes: u64,
 }
 
 impl Frame {
-    /// The frame of so many rounds, with a lane for each call that waits.
-    pub fn new(sizes: Sizes, rounds: u64, lanes: u64) -> Frame {
+    /// The frame of these rounds, with a lane for each call that waits.
+    pub fn new(sizes: Sizes, window: Window, lanes: u64) -> Frame {
         Frame {
-            rounds,
+            window,
             cars: u64::from(sizes.cars),
             floors: u64::from(sizes.floors),
             lanes,
         }
     }
 
-    /// How many rounds there are.
-    pub fn rounds(self) -> u64 {
-        self.rounds
+    /// The rounds that are shown.
+    pub fn window(self) -> Window {
+        self.window
     }
 
     /// How many cars there are.
@@ -77,8 +77,9 @@ impl Frame {
         ensures low { 568 ≤ result }
         ensures high { result ≤ 12000 }
     {
-        let wide = self.rounds.saturating_mul(ROUND).clamp(NARROW, WIDE);
-        let legible = self.rounds.saturating_mul(NARROW_ROUND).min(WIDEST);
+        let rounds = self.window.count;
+        let wide = rounds.saturating_mul(ROUND).clamp(NARROW, WIDE);
+        let legible = rounds.saturating_mul(NARROW_ROUND).min(WIDEST);
         wide.max(legible)
     }
 
@@ -95,7 +96,8 @@ impl Frame {
         LEFT + self.inner()
     }
 
-    /// The left edge of a round; of the one behind the last it is the right edge of the bands. It is never outside of them.
+    /// The left edge of a round; of the one behind the last it is the right edge of the bands. It is never outside of them: that of an
+    /// earlier round is the left edge, and that of a later one the right edge.
     pub fn x(self, round: u64) -> u64
         ensures low { 72 ≤ result }
         ensures high { result ≤ 12072 }
@@ -107,11 +109,12 @@ impl Frame {
     fn share(self, round: u64, length: u64) -> u64
         ensures { result ≤ length }
     {
-        let past = round.saturating_sub(1).min(self.rounds);
-        if self.rounds == 0 {
+        let Window { first, count } = self.window;
+        let past = round.saturating_sub(first).min(count);
+        if count == 0 {
             return 0;
         }
-        (length.saturating_mul(past) / self.rounds).min(length)
+        (length.saturating_mul(past) / count).min(length)
     }
 
     // From a floor to the next.
@@ -165,35 +168,15 @@ impl Frame {
             .saturating_add(below_top)
     }
 
-    /// Where a car is at a floor at the beginning of a round.
-    pub fn at(self, car: u64, round: u64, floor: u64) -> Point {
-        Point {
-            x: self.x(round),
-            y: self.y(car, floor),
-        }
-    }
-
-    /// The same to a tenth of a pixel.
-    pub fn fine_at(self, car: u64, round: u64, floor: u64) -> FinePoint {
-        FinePoint {
-            x: self.fine_x(round),
-            y: self.y(car, floor).saturating_mul(10),
-        }
-    }
-
     /// The left edge of a round, in tenths of a pixel.
     pub fn fine_x(self, round: u64) -> u64 {
         LEFT * 10 + self.share(round, self.inner() * 10)
     }
 
-    /// Where a waiting call begins, by its lane, from 0 on.
-    pub fn lane(self, lane: u64, round: u64) -> Point {
-        Point {
-            x: self.x(round),
-            y: lane
-                .saturating_add(1)
-                .saturating_mul(LANE)
-                .saturating_add(TOP),
-        }
+    /// The height of a waiting call, by its lane, from 0 on.
+    pub fn lane(self, lane: u64) -> u64 {
+        lane.saturating_add(1)
+            .saturating_mul(LANE)
+            .saturating_add(TOP)
     }
 }

@@ -10,11 +10,14 @@ mod follow;
 mod frame;
 mod labels;
 mod marks;
+mod pen;
 mod places;
 mod rides;
+mod span;
 mod stop;
 mod story;
 mod svg;
 
 pub use draw::drawing;
+pub use span::Span;
 pub use stop::Stop;

@@ -2,6 +2,7 @@
 
 use crate::denials::Denied;
 use crate::frame::Frame;
+use crate::span::Window;
 use crate::story::Switch;
 use crate::svg::{Point, close_group, end_path, open_group, put_box, put_words};
 use std::alloc::AllocError;
@@ -19,6 +20,16 @@ fn put_burning(text: &mut String, frame: Frame, from: u64, to: u64) -> Result<()
     put_box(text, upper, lower)
 }
 
+// The round from which on FIRE holds up to the next switch, if the switch before was on and the picture shows it.
+fn burning_before(window: Window, before: Option<Switch>, to: u64) -> Option<u64> {
+    let switch = before?;
+    if switch.on && window.meets(switch.round, to) {
+        Some(switch.round)
+    } else {
+        None
+    }
+}
+
 // FIRE up to the next switch, if the switch before was on.
 fn put_until(
     text: &mut String,
@@ -26,9 +37,9 @@ fn put_until(
     before: Option<Switch>,
     to: u64,
 ) -> Result<(), AllocError> {
-    match before {
-        Some(switch) if switch.on => put_burning(text, frame, switch.round, to),
-        _ => Ok(()),
+    match burning_before(frame.window(), before, to) {
+        Some(from) => put_burning(text, frame, from, to),
+        None => Ok(()),
     }
 }
 
@@ -38,19 +49,34 @@ fn put_areas(text: &mut String, frame: Frame, fires: &[Switch]) -> Result<(), Al
         put_until(text, frame, before, switch.round)?;
         before = Some(*switch);
     }
-    put_until(text, frame, before, frame.rounds().saturating_add(1))
+    put_until(text, frame, before, frame.window().end())
+}
+
+// The name of FIRE up to the next switch, if the switch before was on.
+fn put_name(
+    text: &mut String,
+    frame: Frame,
+    before: Option<Switch>,
+    to: u64,
+) -> Result<(), AllocError> {
+    match burning_before(frame.window(), before, to) {
+        Some(from) => {
+            let x = frame.x(from).saturating_add(3);
+            let y = frame.top().saturating_sub(3);
+            put_words(text, Point { x, y }, "FIRE")
+        }
+        None => Ok(()),
+    }
 }
 
 // The name of each time of FIRE.
 fn put_names(text: &mut String, frame: Frame, fires: &[Switch]) -> Result<(), AllocError> {
+    let mut before: Option<Switch> = None;
     'fires: for switch in fires {
-        if switch.on {
-            let x = frame.x(switch.round).saturating_add(3);
-            let y = frame.top().saturating_sub(3);
-            put_words(text, Point { x, y }, "FIRE")?;
-        }
+        put_name(text, frame, before, switch.round)?;
+        before = Some(*switch);
     }
-    Ok(())
+    put_name(text, frame, before, frame.window().end())
 }
 
 /// The time of FIRE, as areas.
@@ -90,7 +116,7 @@ impl Free {
     }
 }
 
-// A triangle where a denial begins, if it has room, and a bar to where it ends.
+// A triangle where a denial begins, if the picture shows that and it has room, and a bar to where it ends.
 fn put_triangle(
     text: &mut String,
     frame: Frame,
@@ -101,7 +127,7 @@ fn put_triangle(
     let end = frame.x(denied.last).max(x.saturating_add(1));
     let y = frame.band_top(denied.car).saturating_add(2);
     let base = y.saturating_add(7);
-    if !free.take(denied.car, x) {
+    if !frame.window().has(denied.first) || !free.take(denied.car, x) {
         return write!(text, "<path d=\"M{x} {base}H{end}\"><title>");
     }
     write!(
@@ -149,6 +175,15 @@ fn put_mark(
     }
 }
 
+// Whether the picture shows a denial: an end stop by its first round, and what has a bar by any.
+fn is_shown(window: Window, denied: &Denied) -> bool {
+    if denied.is_end_stop {
+        window.has(denied.first)
+    } else {
+        window.meets(denied.first, denied.last.saturating_add(1))
+    }
+}
+
 fn put_denied(
     text: &mut String,
     frame: Frame,
@@ -168,7 +203,9 @@ pub fn put_denials(text: &mut String, frame: Frame, list: &[Denied]) -> Result<(
         from: [0; MOST_CARS],
     };
     'denials: for denied in list {
-        put_denied(text, frame, &mut free, denied)?;
+        if is_shown(frame.window(), denied) {
+            put_denied(text, frame, &mut free, denied)?;
+        }
     }
     close_group(text)
 }

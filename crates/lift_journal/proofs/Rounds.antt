@@ -25,6 +25,7 @@ use Rattle.lift_run_laws.proofs.Following.{appends, follow, before, goes_on}
 use Rattle.lift_run_laws.proofs.Histories.{event_is_run}
 use Rattle.lift_spec.specs.declared.journal.Entry.{Entry}
 use Rattle.lift_spec.specs.declared.journal.Entry.TheVariants as entry
+use Rattle.lift_plant.specs.declared.switches.Switches.{Switches}
 use Rattle.lift_journal.specs.Journal.{Enters, AreAccepted, AllCalls, Runs, IsJournalOf, calls_entering}
 use Rattle.lift_journal.specs.Rounds.{Happen, ending, FinishesAndCommits, Scans, ScanEach, scan_entries, entered_calls_of, desk_events, floors_rising, tasks_in_order, IsRound, Rounds, cleared}
 use Rattle.lift_journal.proofs.Entering.{start_enters, refresh_is_step}
@@ -307,30 +308,30 @@ refresh_runs c sound w v fields report reached is =
 
 -- ROUNDS
 
-pub round_reached : (c : Config) (calls : List Call) (fire : Bool) (plant next : PlantState) (w v : World) (entries : List Entry) → IsReached c w → IsRound c calls fire plant next w v entries → IsReached c v
-round_reached c calls fire plant next w v entries reached r =
+pub round_reached : (c : Config) (calls : List Call) (switches : Switches) (plant next : PlantState) (w v : World) (entries : List Entry) → IsReached c w → IsRound c calls switches plant next w v entries → IsReached c v
+round_reached c calls switches plant next w v entries reached r =
     each_reached c (tasks_in_order c) r.refreshed v (event_reached c r.gathered r.refreshed _ (Refreshed r.report) (happen_reached c w r.gathered (desk_events c calls) reached r.desk) r.refresh) r.scans
 
-round_runs : (c : Config) → IsSound c → (calls : List Call) (fire : Bool) (plant next : PlantState) (w v : World) (entries : List Entry) → IsReached c w → IsRound c calls fire plant next w v entries → Runs c (cleared w) entries (cleared v)
-round_runs c sound calls fire plant next w v entries reached r =
+round_runs : (c : Config) → IsSound c → (calls : List Call) (switches : Switches) (plant next : PlantState) (w v : World) (entries : List Entry) → IsReached c w → IsRound c calls switches plant next w v entries → Runs c (cleared w) entries (cleared v)
+round_runs c sound calls switches plant next w v entries reached r =
     let gathered = happen_reached c w r.gathered (desk_events c calls) reached r.desk in
     let first = refresh_runs c sound r.gathered r.refreshed (fields_of_plant next) r.report gathered r.refresh in
     let more = each_runs c sound (tasks_in_order c) r.refreshed v (event_reached c r.gathered r.refreshed (Refresh (fields_of_plant next)) (Refreshed r.report) gathered r.refresh) r.scans in
     subst (λ es. Runs c (cleared w) es (cleared v)) (sym r.journal)
     (subst (λ x. Runs c x (entry.Refresh (fields_of_plant next) (entered_calls_of r.report) ∷ flat_map scan_entries (tasks_in_order c)) (cleared v)) (desk_leaves c calls w r.gathered r.desk) (cleared r.refreshed, Refreshed r.report, first, more))
 
-pub rounds_reached : (c : Config) (calls : ℕ → List Call) (fire : ℕ → Bool) (n : ℕ) (plant : PlantState) (w : World) (entries : List Entry) → Rounds c calls fire n plant w entries → IsReached c w
-rounds_reached c calls fire zero plant w entries (a, is, b) = subst (IsReached c) (sym is) (opening_reached c)
-rounds_reached c calls fire (suc n) plant w entries (before, u, earlier, last, rounds, round, is) =
-    round_reached c (calls (suc n)) (fire (suc n)) before plant u w last (rounds_reached c calls fire n before u earlier rounds) round
+pub rounds_reached : (c : Config) (calls : ℕ → List Call) (switches : ℕ → Switches) (n : ℕ) (plant : PlantState) (w : World) (entries : List Entry) → Rounds c calls switches n plant w entries → IsReached c w
+rounds_reached c calls switches zero plant w entries (a, is, b) = subst (IsReached c) (sym is) (opening_reached c)
+rounds_reached c calls switches (suc n) plant w entries (before, u, earlier, last, rounds, round, is) =
+    round_reached c (calls (suc n)) (switches (suc n)) before plant u w last (rounds_reached c calls switches n before u earlier rounds) round
 
 cleared_opening : (c : Config) → cleared (opening c) ≡ opening c
 unfolding opening
 cleared_opening c = refl
 
 -- the entries of rounds lead from the opening world to that with no call on the desk or in the hand
-pub rounds_are_journal : (c : Config) → IsSound c → (calls : ℕ → List Call) (fire : ℕ → Bool) (n : ℕ) (plant : PlantState) (w : World) (entries : List Entry) → Rounds c calls fire n plant w entries → IsJournalOf c entries (cleared w)
-rounds_are_journal c sound calls fire zero plant w entries (a, is, none) = subst (λ es. Runs c (opening c) es (cleared w)) (sym none) (sym (cleared_opening c) ∙ ap cleared (sym is))
-rounds_are_journal c sound calls fire (suc n) plant w entries (before, u, earlier, last, rounds, round, is) =
+pub rounds_are_journal : (c : Config) → IsSound c → (calls : ℕ → List Call) (switches : ℕ → Switches) (n : ℕ) (plant : PlantState) (w : World) (entries : List Entry) → Rounds c calls switches n plant w entries → IsJournalOf c entries (cleared w)
+rounds_are_journal c sound calls switches zero plant w entries (a, is, none) = subst (λ es. Runs c (opening c) es (cleared w)) (sym none) (sym (cleared_opening c) ∙ ap cleared (sym is))
+rounds_are_journal c sound calls switches (suc n) plant w entries (before, u, earlier, last, rounds, round, is) =
     subst (λ es. Runs c (opening c) es (cleared w)) (sym is)
-    (runs_on c (opening c) (cleared u) (cleared w) earlier last (rounds_are_journal c sound calls fire n before u earlier rounds) (round_runs c sound (calls (suc n)) (fire (suc n)) before plant u w last (rounds_reached c calls fire n before u earlier rounds) round))
+    (runs_on c (opening c) (cleared u) (cleared w) earlier last (rounds_are_journal c sound calls switches n before u earlier rounds) (round_runs c sound (calls (suc n)) (switches (suc n)) before plant u w last (rounds_reached c calls switches n before u earlier rounds) round))

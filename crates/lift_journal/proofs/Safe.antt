@@ -5,12 +5,13 @@ use Rattle.std.proofs.lemmas.Int.{ints}
 use Rattle.il_spec.specs.declared.tree.Config.{Config}
 use Rattle.lift_spec.specs.declared.calls.Call.{Call}
 use Rattle.lift_spec.specs.declared.event.Event.TheVariants.{Start, Instruction, Commit, Refresh}
+use Rattle.lift_spec.specs.declared.image.CarOutputs.{CarOutputs}
 use Rattle.lift_spec.specs.declared.image.Fields.{Fields}
 use Rattle.lift_spec.specs.declared.image.Image.{Image}
 use Rattle.lift_spec.specs.declared.image.Sizes.{Sizes}
 use Rattle.lift_spec.specs.declared.journal.Entry.{Entry}
-use Rattle.lift_spec.specs.Image.{sizes_of, Obeys}
-use Rattle.lift_spec.specs.Plant.{PlantState, IsPlantOf, StaysSafe, ObeysWithOwnFields, opening_plant, fields_of_plant}
+use Rattle.lift_spec.specs.Image.{sizes_of, fields_in_range, Obeys}
+use Rattle.lift_spec.specs.Plant.{PlantState, IsPlantOf, StaysSafe, ObeysWithOwnFields, opening_plant, plant_after, fields_of_plant}
 use Rattle.lift_spec.specs.Replies.{Started, Committed, Refreshed}
 use Rattle.lift_spec.specs.World.{World, opening}
 use Rattle.lift_run_laws.specs.Accepted.{IsSound}
@@ -18,11 +19,14 @@ use Rattle.lift_run_laws.specs.Runs.{HasNoRefresh}
 use Rattle.lift_run_laws.proofs.Accepted.{accepted_runs_well}
 use Rattle.lift_run_laws.proofs.Fields.{fields_changed, fields_kept}
 use Rattle.lift_run_laws.proofs.Tasks.{floors_within}
-use Rattle.lift_plant.proofs.Safe.{stays_safe, sized_after, opening_sized, opening_reports, opening_in_shafts, fields_length, in_shafts_after}
+use Rattle.lift_spec.proofs.Laws.{fields_in_range_means}
+use Rattle.lift_plant.specs.declared.switches.Switches.{Switches}
+use Rattle.lift_plant.specs.Switches.{under}
+use Rattle.lift_plant.proofs.Safe.{stays_safe, sized_after, opening_sized, opening_reports, opening_in_shafts, fields_length, sized_under, safe_under, in_shafts_under, limit_told}
 use Rattle.lift_journal.specs.Rounds.{Scans, ScanEach, Rounds, desk_events, tasks_in_order}
 use Rattle.lift_journal.specs.Safe.{AreInShafts, KeepsCarsSafe, IsDriven, DrivenIsSafe, RoundsKeepCarsSafe}
 use Rattle.lift_journal.proofs.Journals.{opening_reached}
-use Rattle.lift_journal.proofs.Rounds.{happen_reached, round_reached, desk_leaves}
+use Rattle.lift_journal.proofs.Rounds.{happen_reached, round_reached, desk_leaves, refresh_of}
 
 -- SIZES
 
@@ -58,15 +62,13 @@ without_fire image plant shown obeys =
     let own : Obeys (record { fields = fields_of_plant plant; outputs = image.outputs }) = subst (λ (f : Fields). Obeys (record { fields = f; outputs = image.outputs })) shown obeys in
     record { cars = own.cars; each = own.each; limit = own.limit; fire = λ is. let no : false ≡ true = is in cc }
 
--- the plant with another FIRE is as safe
-pub told : (sizes : Sizes) (plant : PlantState) (fire : Bool) → IsPlantOf sizes plant → IsPlantOf sizes (record plant { fire = fire })
-told sizes plant fire is = record { cars = is.cars; floors = is.floors; time = is.time; run_limit = is.run_limit; doors = is.doors; places = is.places }
-
-pub told_safe : (sizes : Sizes) (plant next : PlantState) (fire : Bool) → StaysSafe sizes (record plant { fire = fire }) next → StaysSafe sizes plant next
-told_safe sizes plant next fire is = record { doors = is.doors; shaft = is.shaft; fields = is.fields }
+-- what a plant told in a refresh that was taken is set within the number of cars
+pub limit_within : (c : Config) (switches : Switches) (before next : PlantState) (outputs : List CarOutputs) → next ≡ plant_after (under switches before) outputs → fields_in_range (sizes_of c) (fields_of_plant next) ≡ true → switches.run_limit ≤ (sizes_of c).cars
+limit_within c switches before next outputs step inside =
+    subst (λ n. n ≤ (sizes_of c).cars) (ap (λ (p : PlantState). p.run_limit) step ∙ limit_told switches before outputs) (fields_in_range_means (sizes_of c) (fields_of_plant next) inside).run_limit
 
 pub driven_is_safe : DrivenIsSafe
-driven_is_safe c sound calls fire before next w v entries driven round =
+driven_is_safe c sound calls switches before next w v entries driven round =
     let sizes = sizes_of c in
     let two = two_floors c sound in
     let gathered = happen_reached c w round.gathered (desk_events c calls) driven.reached round.desk in
@@ -76,20 +78,20 @@ driven_is_safe c sound calls fire before next w v entries driven round =
     let shown : image.fields ≡ fields_of_plant before = ap (λ g. g.image.fields) same ∙ driven.shown in
     let obeys : ObeysWithOwnFields before image.outputs = without_fire image before shown here.obeys in
     let many : length image.outputs ≡ length before.cars = obeys.cars ∙ fields_length before.floors before.cars in
-    let plant = record before { fire = fire } in
-    let is = told sizes before fire driven.sized in
-    let step = stays_safe sizes plant image.outputs (omega (arith, two)) is many obeys in
+    let inside = (refresh_of c round.gathered round.refreshed (fields_of_plant next) round.report round.refresh).inside in
+    let low = limit_within c switches before next image.outputs round.plant_step inside in
+    let stays = stays_safe sizes before image.outputs (omega (arith, two)) driven.sized many obeys in
     let back = sym round.plant_step in
-    let shafts = in_shafts_after sizes plant image.outputs many step driven.shafts in
+    let shafts = in_shafts_under sizes switches before image.outputs many stays driven.shafts in
     let now = fields_changed c round.gathered round.refreshed (Refresh (fields_of_plant next)) (Refreshed round.report) round.refresh in (
       record {
         obeys = obeys;
-        step = told_safe sizes before next fire (subst (λ p. StaysSafe sizes plant p) back step);
+        step = subst (StaysSafe sizes before) back (safe_under sizes switches before image.outputs low stays);
         shafts = subst AreInShafts back shafts;
       },
       record {
-        reached = round_reached c calls fire before next w v entries driven.reached round;
-        sized = subst (IsPlantOf sizes) back (sized_after sizes plant image.outputs is many);
+        reached = round_reached c calls switches before next w v entries driven.reached round;
+        sized = subst (IsPlantOf sizes) back (sized_after sizes (under switches before) image.outputs (sized_under sizes switches before driven.sized low) many);
         shown = scans_fields c (tasks_in_order c) round.refreshed v round.scans ∙ now;
         shafts = subst AreInShafts back shafts;
       },
@@ -109,15 +111,15 @@ opening_driven c sound = record {
   shafts = opening_in_shafts (sizes_of c).cars (sizes_of c).floors;
 }
 
-rounds_driven : (c : Config) → IsSound c → (calls : ℕ → List Call) (fire : ℕ → Bool) (n : ℕ) (plant : PlantState) (w : World) (entries : List Entry) (rounds : Rounds c calls fire n plant w entries) → KeepsCarsSafe c calls fire n plant w entries rounds × IsDriven c plant w
-rounds_driven c sound calls fire zero plant w entries (plant_is, world_is, none) =
+rounds_driven : (c : Config) → IsSound c → (calls : ℕ → List Call) (switches : ℕ → Switches) (n : ℕ) (plant : PlantState) (w : World) (entries : List Entry) (rounds : Rounds c calls switches n plant w entries) → KeepsCarsSafe c calls switches n plant w entries rounds × IsDriven c plant w
+rounds_driven c sound calls switches zero plant w entries (plant_is, world_is, none) =
     let first = opening_driven c sound in
     let driven : IsDriven c plant w = subst (λ p. IsDriven c p w) (sym plant_is) (subst (IsDriven c (opening_plant (sizes_of c).cars (sizes_of c).floors)) (sym world_is) first) in
     (driven.shafts, driven)
-rounds_driven c sound calls fire (suc n) plant w entries (before, u, earlier, last, rounds, round, is) =
-    let so_far = rounds_driven c sound calls fire n before u earlier rounds in
-    let here = driven_is_safe c sound (calls (suc n)) (fire (suc n)) before plant u w last so_far.1 round in
+rounds_driven c sound calls switches (suc n) plant w entries (before, u, earlier, last, rounds, round, is) =
+    let so_far = rounds_driven c sound calls switches n before u earlier rounds in
+    let here = driven_is_safe c sound (calls (suc n)) (switches (suc n)) before plant u w last so_far.1 round in
     ((so_far.0, here.0), here.1)
 
 pub rounds_keep_cars_safe : RoundsKeepCarsSafe
-rounds_keep_cars_safe c sound calls fire n plant w entries rounds = (rounds_driven c sound calls fire n plant w entries rounds).0
+rounds_keep_cars_safe c sound calls switches n plant w entries rounds = (rounds_driven c sound calls switches n plant w entries rounds).0

@@ -1,5 +1,5 @@
 -- Rounds of a group on its plant, and what a trace's events stand for (own rules).
-use Rattle.std.specs.Prelude.{◌≡◌, ℕ, zero, suc, ◌+◌, nat_le, Bool, false, List, [], ◌∷◌, ◌++◌, map, flat_map, filter, length, replicate, Option, Some, None, Ok}
+use Rattle.std.specs.Prelude.{◌≡◌, ℕ, zero, suc, ◌+◌, List, [], ◌∷◌, ◌++◌, map, flat_map, filter, length, replicate, Ok}
 use Rattle.il_spec.specs.declared.tree.Config.{Config}
 use Rattle.lift_spec.specs.declared.calls.Call.{Call}
 use Rattle.lift_spec.specs.declared.event.Event.{Event}
@@ -16,6 +16,8 @@ use Rattle.lift_spec.specs.Plant.{PlantState, opening_plant, plant_after, fields
 use Rattle.lift_spec.specs.Replies.{Reply, Started, More, End, Committed, Refreshed, Refused}
 use Rattle.lift_spec.specs.Snapshot.{has_task}
 use Rattle.lift_spec.specs.World.{World, happens, run, opening}
+use Rattle.lift_plant.specs.declared.switches.Switches.{Switches}
+use Rattle.lift_plant.specs.Switches.{under}
 use Rattle.lift_journal.specs.Journal.{AreAccepted}
 
 -- EVENTS THAT ARE TAKEN
@@ -82,13 +84,13 @@ entered_calls_of report = map (λ (d : EnteredCall). d.call) report.entered
 abbrev pub desk_events : Config → List Call → List Event
 desk_events c calls = map Press calls ++ map Gather (floors_rising c)
 
--- One round: its calls are pressed and each floor is gathered; the plant goes one step under the outputs of the image, and the
--- image is refreshed with what it then reports; then each task runs one scan. Its journal has the refresh, with the calls that it
+-- One round: its calls are pressed and each floor is gathered; the building sets FIRE and RUNLIMIT; the plant goes one step under the
+-- outputs of the image, and the image is refreshed with what it then reports; then each task runs one scan. Its journal has the refresh, with the calls that it
 -- entered, and a start and a commit of each task.
-pub record IsRound (c : Config) (calls : List Call) (fire : Bool) (plant next : PlantState) (w v : World) (entries : List Entry) : Type 0 where
+pub record IsRound (c : Config) (calls : List Call) (switches : Switches) (plant next : PlantState) (w v : World) (entries : List Entry) : Type 0 where
   pub gathered : World
   pub desk : Happen c w (desk_events c calls) gathered
-  pub plant_step : next ≡ plant_after (record plant { fire = fire }) gathered.group.image.outputs
+  pub plant_step : next ≡ plant_after (under switches plant) gathered.group.image.outputs
   pub refreshed : World
   pub report : Report
   pub refresh : happens c gathered (Refresh (fields_of_plant next)) ≡ Ok (refreshed, Refreshed report)
@@ -96,16 +98,11 @@ pub record IsRound (c : Config) (calls : List Call) (fire : Bool) (plant next : 
   pub journal : entries ≡ entry.Refresh (fields_of_plant next) (entered_calls_of report) ∷ flat_map scan_entries (tasks_in_order c)
 
 -- So many rounds from the opening: the plant and the world behind them, and the entries of their journal. The calls that are pressed
--- in a round and its FIRE go by its number, from 1 on.
-abbrev pub Rounds : Config → (ℕ → List Call) → (ℕ → Bool) → ℕ → PlantState → World → List Entry → Type 0
-Rounds c calls fire zero plant w entries = (plant ≡ opening_plant (sizes_of c).cars (sizes_of c).floors) × (w ≡ opening c) × (entries ≡ [])
-Rounds c calls fire (suc n) plant w entries =
-    (before : PlantState) × (u : World) × (earlier last : List Entry) × Rounds c calls fire n before u earlier × IsRound c (calls (suc n)) (fire (suc n)) before plant u w last × (entries ≡ earlier ++ last)
-
--- whether FIRE holds in a round: from the round that is given on, if one is
-abbrev pub is_fire_in : Option ℕ → ℕ → Bool
-is_fire_in None round = false
-is_fire_in (Some first) round = nat_le first round
+-- in a round and what is then set go by its number, from 1 on.
+abbrev pub Rounds : Config → (ℕ → List Call) → (ℕ → Switches) → ℕ → PlantState → World → List Entry → Type 0
+Rounds c calls switches zero plant w entries = (plant ≡ opening_plant (sizes_of c).cars (sizes_of c).floors) × (w ≡ opening c) × (entries ≡ [])
+Rounds c calls switches (suc n) plant w entries =
+    (before : PlantState) × (u : World) × (earlier last : List Entry) × Rounds c calls switches n before u earlier × IsRound c (calls (suc n)) (switches (suc n)) before plant u w last × (entries ≡ earlier ++ last)
 
 -- the same group, with no call on the desk or in the hand
 abbrev pub cleared : World → World

@@ -1,5 +1,5 @@
 -- What rounds on the plant owe to those in the cars (own rules).
-use Rattle.std.specs.Prelude.{◌≡◌, ℕ, zero, suc, Bool, List, slice_get, Some}
+use Rattle.std.specs.Prelude.{◌≡◌, ℕ, zero, suc, List, slice_get, Some}
 use Rattle.il_spec.specs.declared.tree.Config.{Config}
 use Rattle.lift_spec.specs.declared.calls.Call.{Call}
 use Rattle.lift_spec.specs.declared.image.CarOutputs.{CarOutputs}
@@ -9,6 +9,7 @@ use Rattle.lift_spec.specs.Plant.{PlacedCar, PlantState, IsPlantOf, IsInShaft, S
 use Rattle.lift_spec.specs.World.{World}
 use Rattle.lift_run_laws.specs.Accepted.{IsSound}
 use Rattle.lift_run_laws.specs.Runs.{IsReached}
+use Rattle.lift_plant.specs.declared.switches.Switches.{Switches}
 use Rattle.lift_journal.specs.Rounds.{IsRound, Rounds}
 
 -- each car stands in its shaft (own rule)
@@ -23,10 +24,10 @@ pub record IsSafeRound (c : Config) (before next : PlantState) (outputs : List C
   pub shafts : AreInShafts next
 
 -- In each of the rounds the plant's step is safe, under the outputs that the image has at that step; each car opens in its shaft.
-abbrev pub KeepsCarsSafe : (c : Config) (calls : ℕ → List Call) (fire : ℕ → Bool) (n : ℕ) (plant : PlantState) (w : World) (entries : List Entry) → Rounds c calls fire n plant w entries → Type 0
-KeepsCarsSafe c calls fire zero plant w entries rounds = AreInShafts plant
-KeepsCarsSafe c calls fire (suc n) plant w entries (before, u, earlier, last, rounds, round, is) =
-    KeepsCarsSafe c calls fire n before u earlier rounds × IsSafeRound c before plant round.gathered.group.image.outputs
+abbrev pub KeepsCarsSafe : (c : Config) (calls : ℕ → List Call) (switches : ℕ → Switches) (n : ℕ) (plant : PlantState) (w : World) (entries : List Entry) → Rounds c calls switches n plant w entries → Type 0
+KeepsCarsSafe c calls switches zero plant w entries rounds = AreInShafts plant
+KeepsCarsSafe c calls switches (suc n) plant w entries (before, u, earlier, last, rounds, round, is) =
+    KeepsCarsSafe c calls switches n before u earlier rounds × IsSafeRound c before plant round.gathered.group.image.outputs
 
 -- LAWS
 
@@ -40,10 +41,10 @@ pub record IsDriven (c : Config) (plant : PlantState) (w : World) : Type 0 where
 -- a round of an accepted configuration goes a safe step, and leads from such a plant and world to such a plant and world (own rule)
 abbrev pub DrivenIsSafe : Type 0
 DrivenIsSafe =
-    (c : Config) → IsSound c → (calls : List Call) (fire : Bool) (before next : PlantState) (w v : World) (entries : List Entry) → IsDriven c before w → (round : IsRound c calls fire before next w v entries)
+    (c : Config) → IsSound c → (calls : List Call) (switches : Switches) (before next : PlantState) (w v : World) (entries : List Entry) → IsDriven c before w → (round : IsRound c calls switches before next w v entries)
     → IsSafeRound c before next round.gathered.group.image.outputs × IsDriven c next v
 
 -- so rounds of an accepted configuration keep the cars safe (own rule)
 abbrev pub RoundsKeepCarsSafe : Type 0
 RoundsKeepCarsSafe =
-    (c : Config) → IsSound c → (calls : ℕ → List Call) (fire : ℕ → Bool) (n : ℕ) (plant : PlantState) (w : World) (entries : List Entry) (rounds : Rounds c calls fire n plant w entries) → KeepsCarsSafe c calls fire n plant w entries rounds
+    (c : Config) → IsSound c → (calls : ℕ → List Call) (switches : ℕ → Switches) (n : ℕ) (plant : PlantState) (w : World) (entries : List Entry) (rounds : Rounds c calls switches n plant w entries) → KeepsCarsSafe c calls switches n plant w entries rounds

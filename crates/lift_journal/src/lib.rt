@@ -7,7 +7,6 @@ ghost use Rattle.lift_journal.specs.Safe.{DrivenIsSafe, RoundsKeepCarsSafe};
 
 pub mod entered;
 pub mod fault;
-pub mod fire;
 
 /// A law: a world that a journal leads to is one that a run of events leads to.
 pub fn journal_reaches()

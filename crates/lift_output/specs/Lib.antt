@@ -1,4 +1,6 @@
-pub mod Listing
 pub mod ImageText
+pub mod Listing
 pub mod Outcomes
 pub mod Parts
+pub mod Spans
+pub mod Tellings

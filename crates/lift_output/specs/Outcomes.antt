@@ -1,36 +1,43 @@
 -- What a request gives of a verified configuration (own rules).
-use Rattle.std.specs.Prelude.{◌≡◌, ◌<◌, ℕ, ◌+◌, ◌++◌, Bool, true, false, List, length, map, Option, Some, None, option_map, Ok, Err, IfOk, string_bytes}
+use Rattle.std.specs.Prelude.{◌≡◌, ◌<◌, ◌⊎◌, ℕ, ◌+◌, ◌++◌, Bool, true, false, List, [], ◌∷◌, length, map, Option, Some, None, option_map, Ok, Err, IfOk, string_bytes}
 use Rattle.il_spec.specs.declared.tree.Config.{Config}
 use Rattle.il_reports.specs.RangeTexts.{AreRangesShown}
 use Rattle.il_machine.specs.Scanning.{Program}
 use Rattle.lift_host.specs.declared.files.Reading.{Reading}
 use Rattle.lift_host.specs.declared.files.Reading.TheVariants.{Text, Failed}
 use Rattle.lift_host.specs.declared.press.Press.{Press}
+use Rattle.lift_host.specs.declared.press.Set.TheVariants.{Fire}
+use Rattle.lift_host.specs.declared.press.Setting.{Setting}
 use Rattle.lift_host.specs.declared.request.Request.{Request}
 use Rattle.lift_host.specs.declared.request.Rounds.{Rounds}
 use Rattle.lift_host.specs.declared.request.Request.TheVariants as request
 use Rattle.lift_host.specs.declared.request.Showing.{Showing}
 use Rattle.lift_host.specs.declared.request.Showing.TheVariants as showing
-use Rattle.lift_host.specs.declared.request.Following.{Following}
-use Rattle.lift_host.specs.declared.request.Following.TheVariants as following
 use Rattle.lift_host.specs.declared.request.Simulating.{Simulating}
 use Rattle.lift_host.specs.declared.request.Simulating.TheVariants as simulating
 use Rattle.lift_host.specs.declared.status.Fault.{Fault}
 use Rattle.lift_host.specs.declared.status.Fault.TheVariants as fault
+use Rattle.lift_host.specs.declared.calls.CallsFault.TheVariants as calls_fault
+use Rattle.lift_host.specs.CallsFile.{AreCallsOf, IsCallsFault}
 use Rattle.lift_host.specs.Messages.{fault_of_reading}
 use Rattle.lift_host.specs.Presses.{ArePresses, HasNoPress}
 use Rattle.lift_host.specs.declared.request.Words.{Words}
 use Rattle.lift_host.specs.Requests.{AreNamesFirst, IsNumberTo, words_of}
-use Rattle.lift_journal.specs.Rounds.{TakesAll, IsRefusedAt, is_fire_in}
+use Rattle.lift_journal.specs.Rounds.{TakesAll, IsRefusedAt}
 use Rattle.lift_journeys.specs.declared.log.Log.{Log}
 use Rattle.lift_journeys.specs.Lines.{lines_text}
 use Rattle.lift_journeys.specs.Summaries.{IsSummaryOf}
 use Rattle.lift_output.specs.ImageText.{image_text}
 use Rattle.lift_output.specs.Listing.{listing}
-use Rattle.lift_runs.specs.Driven.{IsSimulated}
+use Rattle.lift_output.specs.Spans.{IsNoSpan}
+use Rattle.lift_output.specs.Tellings.{telling_of}
+use Rattle.lift_output.specs.declared.telling.Telling.{Telling}
+use Rattle.lift_output.specs.declared.telling.Telling.TheVariants.{Image, Picture, Calls, Denials, Values}
+use Rattle.lift_runs.specs.Driven.{IsSimulated, switches_in}
 use Rattle.lift_runs.specs.Shown.{IsShown}
 use Rattle.lift_messages.specs.Outputs.{Outcome, bytes_of, warnings_of}
 use Rattle.lift_spec.specs.declared.event.EventFault.{EventFault}
+use Rattle.lift_spec.specs.declared.image.Sizes.{Sizes}
 use Rattle.lift_spec.specs.declared.journal.Entry.{Entry}
 use Rattle.lift_spec.specs.declared.trace.TraceEvent.{TraceEvent}
 use Rattle.lift_spec.specs.EventFaults.{event_fault_number}
@@ -44,6 +51,7 @@ use Rattle.il_reports.specs.Xref.{xref_text}
 use Rattle.lift_watch.specs.declared.names.Watched.{Watched}
 use Rattle.lift_watch.specs.Calls.{IsLogOf}
 use Rattle.lift_watch.specs.Denials.{denied}
+use Rattle.lift_watch.specs.Following.{IsDeniedAlong, AreRowsAlong}
 use Rattle.lift_watch.specs.Names.{upper_case}
 use Rattle.lift_watch.specs.Values.{AreWatched, IsUnknown, header_text, watching}
 use Rattle.lift_workers.specs.Ran.{IsRun}
@@ -89,11 +97,14 @@ abbrev pub IsShowOutcome : Showing → Program → Outcome → Type 0
 IsShowOutcome showing.Ranges program = IsRangesOutcome program.config
 IsShowOutcome showing.Xref program = IsPrinted (xref_text program.config)
 
--- WORDS THAT DRIVE ROUNDS
+-- WHAT DRIVES ROUNDS
 
--- the word behind `--fire`, if one stands there
+-- the word behind `--fire`, and that behind `--calls`, if one stands there
 abbrev pub fire_word : Rounds → Option (List ℕ)
 fire_word asked = option_map (λ word. word.now) asked.fire
+
+abbrev pub calls_word : Rounds → Option (List ℕ)
+calls_word asked = option_map (λ word. word.now) asked.calls
 
 -- the round from which on FIRE holds, as the word behind `--fire` spells it
 abbrev pub IsFire : ℕ → Option (List ℕ) → Option ℕ → Type 0
@@ -102,10 +113,36 @@ IsFire rounds None (Some first) = ⊥
 IsFire rounds (Some word) None = ⊥
 IsFire rounds (Some word) (Some first) = IsNumberTo rounds word first
 
+-- what it sets
+abbrev pub fire_settings : Option ℕ → List Setting
+fire_settings None = []
+fire_settings (Some first) = record { round = first; set = Fire true } ∷ []
+
 -- the words behind ROUNDS spell these presses, and the word behind `--fire` this round
-pub record AreDriven (floors : ℕ) (asked : Rounds) (presses : List Press) (first : Option ℕ) : Type 0 where
+pub record AreSpelled (floors : ℕ) (asked : Rounds) (presses : List Press) (first : Option ℕ) : Type 0 where
   pub spelled : ArePresses asked.rounds floors (words_of asked.presses) presses
   pub from_round : IsFire asked.rounds (fire_word asked) first
+
+-- what was read has these presses and settings
+abbrev pub AreOfReading : Sizes → ℕ → Reading → List Press → List Setting → Type 0
+AreOfReading sizes rounds (Text text) presses settings = AreCallsOf rounds sizes.floors sizes.cars text.items presses settings
+AreOfReading sizes rounds (Failed why) presses settings = ⊥
+
+-- the file behind `--calls` has these presses and settings; without it there are none
+abbrev pub AreOfFile : Sizes → ℕ → Option (List ℕ) → Reading → List Press → List Setting → Type 0
+AreOfFile sizes rounds None calls presses settings = (presses ≡ []) × (settings ≡ [])
+AreOfFile sizes rounds (Some name) calls presses settings = AreOfReading sizes rounds calls presses settings
+
+-- The presses are those of the words and behind them those of the file; the settings are that of `--fire` and behind it those of the file.
+pub record AreDriven (sizes : Sizes) (asked : Rounds) (calls : Reading) (presses : List Press) (settings : List Setting) : Type 0 where
+  pub words : List Press
+  pub first : Option ℕ
+  pub of_words : AreSpelled sizes.floors asked words first
+  pub later : List Press
+  pub set : List Setting
+  pub of_file : AreOfFile sizes asked.rounds (calls_word asked) calls later set
+  pub presses_are : presses ≡ words ++ later
+  pub settings_are : settings ≡ fire_settings first ++ set
 
 -- the word behind `--fire` is named, and is no round; memory may be missing
 abbrev pub IsNoFire : ℕ → Option (List ℕ) → Fault → Type 0
@@ -113,107 +150,126 @@ IsNoFire rounds word (fault.BadFire named) = (word ≡ Some (string_bytes named)
 IsNoFire rounds word fault.NoMemory = Unit {0}
 IsNoFire rounds word _ = ⊥
 
--- One of them is bad, the presses first, and is named; memory may be missing.
-abbrev pub IsUndriven : ℕ → Rounds → Fault → Type 0
-IsUndriven floors asked (fault.BadPress word) = HasNoPress asked.rounds floors (words_of asked.presses) (string_bytes word)
-IsUndriven floors asked fault.TooManyPresses = 1000 < length (words_of asked.presses)
-IsUndriven floors asked (fault.BadFire word) = ((presses : List Press) × ArePresses asked.rounds floors (words_of asked.presses) presses) × IsNoFire asked.rounds (fire_word asked) (fault.BadFire word)
-IsUndriven floors asked fault.NoMemory = Unit {0}
-IsUndriven floors asked _ = ⊥
+-- reading failed; or a line of what was read is wrong, 83, or there is too much of it, 84; memory may be missing
+abbrev pub IsBadReading : Sizes → ℕ → Reading → Fault → Type 0
+IsBadReading sizes rounds (Text text) (fault.Refused number line) =
+    ((number ≡ 83) × IsCallsFault rounds sizes.floors sizes.cars text.items (calls_fault.BadLine line)) ⊎ ((number ≡ 84) × IsCallsFault rounds sizes.floors sizes.cars text.items (calls_fault.TooMany line))
+IsBadReading sizes rounds (Failed why) (fault.CannotRead cause) = fault_of_reading why ≡ fault.CannotRead cause
+IsBadReading sizes rounds calls fault.NoMemory = Unit {0}
+IsBadReading sizes rounds calls _ = ⊥
+
+-- so is the file behind `--calls`
+abbrev pub HasBadCalls : Sizes → ℕ → Option (List ℕ) → Reading → Fault → Type 0
+HasBadCalls sizes rounds None calls why = why ≡ fault.NoMemory
+HasBadCalls sizes rounds (Some name) calls why = IsBadReading sizes rounds calls why
+
+-- the words are good
+abbrev pub AreGood : ℕ → Rounds → Type 0
+AreGood floors asked = (presses : List Press) × (first : Option ℕ) × AreSpelled floors asked presses first
+
+-- One of the words is bad, the presses first, and is named, or the words are good and the file is bad; memory may be missing.
+abbrev pub IsUndriven : Sizes → Rounds → Reading → Fault → Type 0
+IsUndriven sizes asked calls (fault.BadPress word) = HasNoPress asked.rounds sizes.floors (words_of asked.presses) (string_bytes word)
+IsUndriven sizes asked calls fault.TooManyPresses = 1000 < length (words_of asked.presses)
+IsUndriven sizes asked calls (fault.BadFire word) = ((presses : List Press) × ArePresses asked.rounds sizes.floors (words_of asked.presses) presses) × IsNoFire asked.rounds (fire_word asked) (fault.BadFire word)
+IsUndriven sizes asked calls (fault.Refused number line) = AreGood sizes.floors asked × HasBadCalls sizes asked.rounds (calls_word asked) calls (fault.Refused number line)
+IsUndriven sizes asked calls (fault.CannotRead cause) = AreGood sizes.floors asked × HasBadCalls sizes asked.rounds (calls_word asked) calls (fault.CannotRead cause)
+IsUndriven sizes asked calls fault.NoMemory = Unit {0}
+IsUndriven sizes asked calls _ = ⊥
 
 -- SIM
 
--- The trace is that of a journal of the program, a run from its opening: so many rounds, with the presses and the FIRE of the words, each
--- of them safe for those in the cars.
-pub record IsTraceOf (program : Program) (asked : Rounds) (text : List ℕ) : Type 0 where
+-- The trace is that of a journal of the program, a run from its opening: so many rounds, with the presses and the settings of the words and of
+-- the file, each of them safe for those in the cars.
+pub record IsTraceOf (program : Program) (asked : Rounds) (calls : Reading) (text : List ℕ) : Type 0 where
   pub presses : List Press
-  pub first : Option ℕ
-  pub driven : AreDriven (sizes_of program.config).floors asked presses first
+  pub settings : List Setting
+  pub driven : AreDriven (sizes_of program.config) asked calls presses settings
   pub entries : List Entry
-  pub simulated : IsSimulated program.config presses first asked.rounds entries
+  pub simulated : IsSimulated program.config presses settings asked.rounds entries
   pub trace : text ≡ text_of_entries entries
 
--- `sim` prints its trace, where its further words are presses and the word behind `--fire` is a round.
-abbrev pub IsSimOutcome : Program → Rounds → Outcome → Type 0
-IsSimOutcome program asked (Ok output) = IsTraceOf program asked (bytes_of output)
-IsSimOutcome program asked (Err why) = IsUndriven (sizes_of program.config).floors asked why
+-- `sim` prints its trace, where its further words are presses, the word behind `--fire` is a round, and the file behind `--calls` is good.
+abbrev pub IsSimOutcome : Program → Rounds → Reading → Outcome → Type 0
+IsSimOutcome program asked calls (Ok output) = IsTraceOf program asked calls (bytes_of output)
+IsSimOutcome program asked calls (Err why) = IsUndriven (sizes_of program.config) asked calls why
 
 -- RUN
 
 -- The trace is that of a journal of the program, a run from its opening in whatever order the threads came: each task was started and
--- committed in each of so many rounds, and the image was refreshed by the plant in each, under the FIRE of the words and safe for those in
--- the cars. The calls of the words are kept: none is lost and none is doubled, and what the trace doesn't enter is left in the collector's hand or
--- on the desk.
-pub record IsTraceOfRun (program : Program) (asked : Rounds) (text : List ℕ) : Type 0 where
+-- committed in each of so many rounds, and the image was refreshed by the plant in each, under the settings of the words and of the file and safe
+-- for those in the cars. Their calls are kept: none is lost and none is doubled, and what the trace doesn't enter is left in the collector's hand
+-- or on the desk.
+pub record IsTraceOfRun (program : Program) (asked : Rounds) (calls : Reading) (text : List ℕ) : Type 0 where
   pub presses : List Press
-  pub first : Option ℕ
-  pub driven : AreDriven (sizes_of program.config).floors asked presses first
+  pub settings : List Setting
+  pub driven : AreDriven (sizes_of program.config) asked calls presses settings
   pub entries : List Entry
   pub left : DeskClosed
-  pub ran : IsRun program.config (is_fire_in first) asked.rounds presses entries left
+  pub ran : IsRun program.config (switches_in (sizes_of program.config).cars settings) asked.rounds presses entries left
   pub trace : text ≡ text_of_entries entries
 
--- `run` prints its trace, where its further words are presses and the word behind `--fire` is a round.
-abbrev pub IsRunOutcome : Program → Rounds → Outcome → Type 0
-IsRunOutcome program asked (Ok output) = IsTraceOfRun program asked (bytes_of output)
-IsRunOutcome program asked (Err why) = IsUndriven (sizes_of program.config).floors asked why
+-- `run` prints its trace, where the words and the file are good.
+abbrev pub IsRunOutcome : Program → Rounds → Reading → Outcome → Type 0
+IsRunOutcome program asked calls (Ok output) = IsTraceOfRun program asked calls (bytes_of output)
+IsRunOutcome program asked calls (Err why) = IsUndriven (sizes_of program.config) asked calls why
 
 -- DENIALS
 
--- The lines are those of a simulation of the program from its opening, with the presses and the FIRE of the words; the stops at the ends of
--- the shaft are among them where all are asked for.
-pub record IsDenialsOf (program : Program) (asked : Rounds) (text : List ℕ) : Type 0 where
+-- The lines are those of a simulation of the program from its opening, with the presses and the settings of the words and of the file; the stops
+-- at the ends of the shaft are among them where all are asked for.
+pub record IsDenialsOf (program : Program) (asked : Rounds) (calls : Reading) (text : List ℕ) : Type 0 where
   pub presses : List Press
-  pub first : Option ℕ
-  pub driven : AreDriven (sizes_of program.config).floors asked presses first
+  pub settings : List Setting
+  pub driven : AreDriven (sizes_of program.config) asked calls presses settings
   pub entries : List Entry
-  pub shown : IsShown (denied asked.flag) program.config presses first asked.rounds entries text
+  pub shown : IsShown (denied asked.flag) program.config presses settings asked.rounds entries text
 
--- `denials` prints them, where its further words are presses and the word behind `--fire` is a round.
-abbrev pub IsDenialsOutcome : Program → Rounds → Outcome → Type 0
-IsDenialsOutcome program asked (Ok output) = IsDenialsOf program asked (bytes_of output)
-IsDenialsOutcome program asked (Err why) = IsUndriven (sizes_of program.config).floors asked why
+-- `denials` prints them, where the words and the file are good.
+abbrev pub IsDenialsOutcome : Program → Rounds → Reading → Outcome → Type 0
+IsDenialsOutcome program asked calls (Ok output) = IsDenialsOf program asked calls (bytes_of output)
+IsDenialsOutcome program asked calls (Err why) = IsUndriven (sizes_of program.config) asked calls why
 
 -- WATCH
 
 -- The words behind ROUNDS are names in any letter case, which have values as the program opens, and then presses. The lines are that of the names, and
 -- those of a simulation.
-pub record IsWatchOf (program : Program) (asked : Rounds) (text : List ℕ) : Type 0 where
+pub record IsWatchOf (program : Program) (asked : Rounds) (calls : Reading) (text : List ℕ) : Type 0 where
   pub names : List (List ℕ)
   pub behind : Words
   pub split : AreNamesFirst (words_of asked.presses) names (words_of behind)
   pub watched : List Watched
   pub known : AreWatched (opening program.config) (map upper_case names) watched
   pub presses : List Press
-  pub first : Option ℕ
-  pub driven : AreDriven (sizes_of program.config).floors (record asked { presses = behind }) presses first
+  pub settings : List Setting
+  pub driven : AreDriven (sizes_of program.config) (record asked { presses = behind }) calls presses settings
   pub entries : List Entry
   pub rows : List ℕ
-  pub shown : IsShown (watching watched) program.config presses first asked.rounds entries rows
+  pub shown : IsShown (watching watched) program.config presses settings asked.rounds entries rows
   pub lines : text ≡ header_text (map upper_case names) ++ rows
 
--- The words are names and then presses, the word behind `--fire` is a round, and this name, in upper case, has no value as the program opens.
-pub record HasUnknown (program : Program) (asked : Rounds) (word : List ℕ) : Type 0 where
+-- The words are names and then presses, they and the file are good, and this name, in upper case, has no value as the program opens.
+pub record HasUnknown (program : Program) (asked : Rounds) (calls : Reading) (word : List ℕ) : Type 0 where
   pub names : List (List ℕ)
   pub behind : Words
   pub split : AreNamesFirst (words_of asked.presses) names (words_of behind)
   pub presses : List Press
-  pub first : Option ℕ
-  pub driven : AreDriven (sizes_of program.config).floors (record asked { presses = behind }) presses first
+  pub settings : List Setting
+  pub driven : AreDriven (sizes_of program.config) (record asked { presses = behind }) calls presses settings
   pub unknown : IsUnknown (opening program.config) (map upper_case names) word
 
--- or they are no presses, or the word behind `--fire` is no round
-pub record IsUnwatched (program : Program) (asked : Rounds) (why : Fault) : Type 0 where
+-- or they or the file are bad
+pub record IsUnwatched (program : Program) (asked : Rounds) (calls : Reading) (why : Fault) : Type 0 where
   pub names : List (List ℕ)
   pub behind : Words
   pub split : AreNamesFirst (words_of asked.presses) names (words_of behind)
-  pub undriven : IsUndriven (sizes_of program.config).floors (record asked { presses = behind }) why
+  pub undriven : IsUndriven (sizes_of program.config) (record asked { presses = behind }) calls why
 
 -- `watch` prints them, or says what is wrong with the words.
-abbrev pub IsWatchOutcome : Program → Rounds → Outcome → Type 0
-IsWatchOutcome program asked (Ok output) = IsWatchOf program asked (bytes_of output)
-IsWatchOutcome program asked (Err (fault.BadName word)) = HasUnknown program asked (string_bytes word)
-IsWatchOutcome program asked (Err why) = IsUnwatched program asked why
+abbrev pub IsWatchOutcome : Program → Rounds → Reading → Outcome → Type 0
+IsWatchOutcome program asked calls (Ok output) = IsWatchOf program asked calls (bytes_of output)
+IsWatchOutcome program asked calls (Err (fault.BadName word)) = HasUnknown program asked calls (string_bytes word)
+IsWatchOutcome program asked calls (Err why) = IsUnwatched program asked calls why
 
 -- TRACES
 
@@ -228,20 +284,44 @@ pub record IsTextOfCalls (c : Config) (summary : Bool) (events : List TraceEvent
   pub known : IsLogOf c (opening c) events after log
   pub is : IsCallsText summary log text
 
--- what a command, with its flag or without, says of a trace's events and the world behind them: `replay` prints the image, `draw` some picture, and
--- `calls` the calls, or with its flag a summary of them
-abbrev pub Says : Following → Bool → Program → List TraceEvent → World → List ℕ → Type 0
-Says following.Replay flag program events after text = text ≡ image_text program.config after
-Says following.Draw flag program events after text = Unit {0}
-Says following.Calls flag program events after text = IsTextOfCalls program.config flag events after text
+-- the text of the values of names behind each round of a trace's events, from the opening of a configuration; the names are in upper case
+pub record IsTextOfValues (c : Config) (names : List (List ℕ)) (events : List TraceEvent) (after : World) (text : List ℕ) : Type 0 where
+  pub watched : List Watched
+  pub known : AreWatched (opening c) names watched
+  pub rows : List ℕ
+  pub are : AreRowsAlong watched c (opening c) events after rows
+  pub lines : text ≡ header_text names ++ rows
 
--- it says so of a trace's events, from the opening of the program
-pub record IsSaidAfter (command : Following) (flag : Bool) (program : Program) (trace text : List ℕ) : Type 0 where
+-- what is told of a trace's events and the world behind them: the image, some picture, the calls or a summary of them, what the interlock denied, or
+-- values behind each round
+abbrev pub Says : Telling → Program → List TraceEvent → World → List ℕ → Type 0
+Says Image program events after text = text ≡ image_text program.config after
+Says (Picture span) program events after text = Unit {0}
+Says (Calls summary) program events after text = IsTextOfCalls program.config summary events after text
+Says (Denials all) program events after text = IsDeniedAlong all program.config (opening program.config) events after text
+Says (Values names) program events after text = IsTextOfValues program.config (map upper_case (words_of names)) events after text
+
+-- the word behind `--rounds` says no rounds
+abbrev pub IsBadSpan : Telling → Fault → Type 0
+IsBadSpan (Picture span) why = IsNoSpan (option_map (λ word. word.now) span) why
+IsBadSpan _ why = ⊥
+
+-- this name, in upper case, has no value as the program opens
+abbrev pub IsBadName : Telling → Program → List ℕ → Type 0
+IsBadName (Values names) program word = IsUnknown (opening program.config) (map upper_case (words_of names)) word
+IsBadName _ program word = ⊥
+
+-- a trace has events
+abbrev pub IsRead : Program → List ℕ → Type 0
+IsRead program trace = (events : List TraceEvent) × Reads (sizes_of program.config).cars trace (Ok events)
+
+-- it is told so of a trace's events, from the opening of the program
+pub record IsSaidAfter (telling : Telling) (program : Program) (trace text : List ℕ) : Type 0 where
   pub events : List TraceEvent
   pub reads : Reads (sizes_of program.config).cars trace (Ok events)
   pub after : World
   pub taken : TakesAll program.config (opening program.config) events after
-  pub is : Says command flag program events after text
+  pub is : Says telling program events after text
 
 -- an event of the trace is refused, with this number, at its line: the first event stands in line 2
 pub record IsEventRefused (program : Program) (trace : List ℕ) (number line : ℕ) : Type 0 where
@@ -259,30 +339,33 @@ pub data IsTraceRefused (program : Program) (trace : List ℕ) (number line : �
   truncated : number ≡ 81 → Reads (sizes_of program.config).cars trace (Err (Truncated line)) → IsTraceRefused program trace number line
   event : IsEventRefused program trace number line → IsTraceRefused program trace number line
 
--- A command over a trace says what stands behind its events, or what is wrong with it. Memory may be missing.
-abbrev pub IsFollowed : Following → Bool → Program → List ℕ → Outcome → Type 0
-IsFollowed command flag program trace (Ok output) = IsSaidAfter command flag program trace (bytes_of output)
-IsFollowed command flag program trace (Err (fault.Refused number line)) = IsTraceRefused program trace number line
-IsFollowed command flag program trace (Err fault.NoMemory) = Unit {0}
-IsFollowed command flag program trace (Err _) = ⊥
+-- A command over a trace tells what is along its events and behind them, or what is wrong with it, with the rounds to draw or the names to watch.
+-- Memory may be missing.
+abbrev pub IsFollowed : Telling → Program → List ℕ → Outcome → Type 0
+IsFollowed telling program trace (Ok output) = IsSaidAfter telling program trace (bytes_of output)
+IsFollowed telling program trace (Err (fault.Refused number line)) = IsTraceRefused program trace number line
+IsFollowed telling program trace (Err (fault.BadSpan word)) = IsRead program trace × IsBadSpan telling (fault.BadSpan word)
+IsFollowed telling program trace (Err (fault.BadName word)) = IsRead program trace × IsBadName telling program (string_bytes word)
+IsFollowed telling program trace (Err fault.NoMemory) = Unit {0}
+IsFollowed telling program trace (Err _) = ⊥
 
 -- what was read of a trace is followed, or reading failed
-abbrev pub IsTraceOutcome : Following → Bool → Program → Reading → Outcome → Type 0
-IsTraceOutcome command flag program (Text text) outcome = IsFollowed command flag program text.items outcome
-IsTraceOutcome command flag program (Failed why) outcome = outcome ≡ Err (fault_of_reading why)
+abbrev pub IsTraceOutcome : Telling → Program → Reading → Outcome → Type 0
+IsTraceOutcome telling program (Text text) outcome = IsFollowed telling program text.items outcome
+IsTraceOutcome telling program (Failed why) outcome = outcome ≡ Err (fault_of_reading why)
 
 -- REQUESTS
 
 -- what a simulation is asked for
-abbrev pub IsRoundsOutcome : Simulating → Program → Rounds → Outcome → Type 0
-IsRoundsOutcome simulating.Sim program asked outcome = IsSimOutcome program asked outcome
-IsRoundsOutcome simulating.Run program asked outcome = IsRunOutcome program asked outcome
-IsRoundsOutcome simulating.Denials program asked outcome = IsDenialsOutcome program asked outcome
-IsRoundsOutcome simulating.Watch program asked outcome = IsWatchOutcome program asked outcome
+abbrev pub IsRoundsOutcome : Simulating → Program → Rounds → Reading → Outcome → Type 0
+IsRoundsOutcome simulating.Sim program asked calls outcome = IsSimOutcome program asked calls outcome
+IsRoundsOutcome simulating.Run program asked calls outcome = IsRunOutcome program asked calls outcome
+IsRoundsOutcome simulating.Denials program asked calls outcome = IsDenialsOutcome program asked calls outcome
+IsRoundsOutcome simulating.Watch program asked calls outcome = IsWatchOutcome program asked calls outcome
 
--- A verified program gives what its command prints.
+-- A verified program gives what its command prints, with what was read of its other file: the trace, or the file behind `--calls`.
 abbrev pub IsProgramOutcome : Request → Program → Reading → Outcome → Type 0
-IsProgramOutcome (request.Check checked) program trace outcome = IsCheckOutcome program outcome
-IsProgramOutcome (request.Show command file) program trace outcome = IsShowOutcome command program outcome
-IsProgramOutcome (request.Rounds command asked) program trace outcome = IsRoundsOutcome command program asked outcome
-IsProgramOutcome (request.Trace command traced) program trace outcome = IsTraceOutcome command traced.flag program trace outcome
+IsProgramOutcome (request.Check checked) program other outcome = IsCheckOutcome program outcome
+IsProgramOutcome (request.Show command file) program other outcome = IsShowOutcome command program outcome
+IsProgramOutcome (request.Rounds command asked) program other outcome = IsRoundsOutcome command program asked other outcome
+IsProgramOutcome (request.Trace command traced) program other outcome = IsTraceOutcome (telling_of command traced) program other outcome

@@ -4,3 +4,5 @@
 pub mod check;
 pub mod image;
 pub mod outcome;
+pub mod span;
+pub mod telling;

@@ -1,27 +1,30 @@
 // What a request prints over a verified configuration.
 
-ghost use Rattle.std.specs.Prelude.{false, ◌≡◌, ◌≢◌, ◌≤◌, ◌+◌, ℕ, All, Option, None, option_map, length, Ok, Err, IfOk, IfErr, map, string_bytes};
+ghost use Rattle.std.specs.Prelude.{◌≡◌, ◌≢◌, ◌≤◌, ◌+◌, ◌++◌, ℕ, All, Option, None, option_map, length, Ok, Err, IfOk, IfErr, OnOk, map, string_bytes};
 ghost use Rattle.lift_spec.specs.Image.{sizes_of};
 ghost use Rattle.lift_spec.specs.World.{opening};
 ghost use Rattle.lift_trace.specs.Reading.{Reads, greatest_trace};
-ghost use Rattle.lift_output.specs.Outcomes.{IsCheckOutcome, IsShowOutcome, HasWarnings, asked_warnings, wanted_warnings, IsFire, IsNoFire, AreDriven, IsUndriven, IsSimOutcome, IsRunOutcome, IsDenialsOutcome, IsWatchOutcome, IsRoundsOutcome, IsCallsText, IsFollowed, IsTraceOutcome, IsProgramOutcome};
-ghost use Rattle.lift_output.specs.Parts.{fault_of_trace, IsTraceUnread, AreFollowed, IsWatched};
-ghost use Rattle.lift_runs.specs.Driven.{ArePressed};
+ghost use Rattle.lift_output.specs.Outcomes.{IsCheckOutcome, IsShowOutcome, HasWarnings, asked_warnings, wanted_warnings, IsFire, IsNoFire, calls_word, fire_settings, AreOfFile, AreOfReading, HasBadCalls, IsBadReading, AreDriven, IsUndriven, IsSimOutcome, IsRunOutcome, IsDenialsOutcome, IsWatchOutcome, IsRoundsOutcome, IsCallsText, IsFollowed, IsTraceOutcome, IsProgramOutcome};
+ghost use Rattle.lift_output.specs.Parts.{fault_of_trace, fault_of_calls, IsTraceUnread, IsBadText, AreFollowed, AreValued, IsWatched};
+ghost use Rattle.lift_runs.specs.Driven.{ArePressed, AreSettings, switches_in};
+ghost use Rattle.lift_host.specs.CallsFile.{AreCallsOf};
 ghost use Rattle.lift_host.specs.Requests.{command_of, words_of};
 ghost use Rattle.lift_watch.specs.Names.{upper_case};
 ghost use Rattle.lift_spec.specs.EventFaults.{event_fault_number};
-ghost use Rattle.lift_journal.specs.Rounds.{is_fire_in};
 ghost use Rattle.lift_workers.specs.Panels.{IsPressAt};
 ghost use Rattle.lift_workers.specs.Ran.{IsRun};
 
 use crate::check::check_text;
 use crate::image::image_text;
+use crate::span::span_of;
+use crate::telling::Telling;
 use il_machine::Verified;
 use il_reports::{ranges_text, warnings_text, xref_text};
 use lift_draw::{Stop, drawing};
+use lift_host::calls::{CallsFault, CallsFile, read_calls};
 use lift_host::files::Reading;
-use lift_host::press::{Press, fire_round, presses};
-use lift_host::request::{Following, Name, Named, Request, Rounds, Showing, Simulating, Words};
+use lift_host::press::{Press, Set, Setting, fire_round, presses};
+use lift_host::request::{Name, Named, Request, Rounds, Showing, Simulating, Words};
 use lift_host::status::Fault;
 use lift_journeys::lines::lines_text;
 use lift_journeys::log::Log;
@@ -30,11 +33,13 @@ use lift_messages::output::{Output, Warned};
 use lift_runs::along;
 use lift_runs::replay::{Refused, replay};
 use lift_runs::sim::{Drive, simulate, simulate_before, simulate_on};
+use lift_spec::Sizes;
 use lift_spec::trace::TraceEvent;
 use lift_trace::fault::TraceFault;
 use lift_trace::read::read_trace;
 use lift_watch::calls::call_log;
 use lift_watch::denials::Denials;
+use lift_watch::following::{denied_along, rows_along};
 use lift_watch::names::upper_names;
 use lift_watch::watch::Watch;
 use lift_workers::RunFault;
@@ -46,29 +51,26 @@ use std::alloc::{AllocError, Global};
 use std::sync::Wait;
 use std::thread::Threads;
 
-/// What a request that isn't `run` prints over a verified configuration, or why it prints nothing.
+/// What a request that isn't `run` prints over a verified configuration, with what was read of its trace or its file behind `--calls`, or
+/// why it prints nothing.
 pub fn outcome(
     alloc: Global,
     request: Request<'_>,
     verified: Verified,
-    trace: &Reading,
+    other: &Reading,
 ) -> Result<Output, Fault>
     requires { command_of request ≢ Name.Rounds Simulating.Run }
-    ensures is { IsProgramOutcome request.entry verified trace.now result }
+    ensures is { IsProgramOutcome request.entry verified other.now result }
     ensures warned { HasWarnings (wanted_warnings request.entry verified) result }
     ensures unwritten { result ≢ Err Fault.CannotWrite }
 {
     match request {
         Request::Check(asked) => checked(alloc, verified, asked.warns),
         Request::Show(command, _) => shown(alloc, verified, command),
-        Request::Rounds(command, asked) => rounds_outcome(alloc, verified, command, asked),
-        Request::Trace(command, traced) => trace_outcome(
-            alloc,
-            verified,
-            command,
-            traced.flag,
-            trace,
-        ),
+        Request::Rounds(command, asked) => rounds_outcome(alloc, verified, command, asked, other),
+        Request::Trace(command, traced) => {
+            trace_outcome(alloc, verified, Telling::of(command, traced), other)
+        }
     }
 }
 
@@ -78,17 +80,18 @@ fn rounds_outcome(
     verified: Verified,
     command: Simulating,
     asked: Rounds<'_>,
+    calls: &Reading,
 ) -> Result<Output, Fault>
     requires { command ≢ Simulating.Run }
-    ensures is { IsRoundsOutcome command verified asked.entry result }
+    ensures is { IsRoundsOutcome command verified asked.entry calls.now result }
     ensures unwritten { result ≢ Err Fault.CannotWrite }
     ensures warned { HasWarnings None result }
 {
     match command {
-        Simulating::Sim => simulated(alloc, verified, asked),
+        Simulating::Sim => simulated(alloc, verified, asked, calls),
         Simulating::Run => unreachable!(),
-        Simulating::Denials => denied(alloc, verified, asked),
-        Simulating::Watch => watched(alloc, verified, asked),
+        Simulating::Denials => denied(alloc, verified, asked, calls),
+        Simulating::Watch => watched(alloc, verified, asked, calls),
     }
 }
 
@@ -134,7 +137,7 @@ fn shown(alloc: Global, verified: Verified, command: Showing) -> Result<Output, 
 #[derive(Drop)]
 struct Driven {
     presses: Items<Press>,
-    fire: Option<u16>,
+    settings: Items<Setting>,
 }
 
 // The round that a word spells from which on FIRE holds.
@@ -151,28 +154,138 @@ fn fire_of(alloc: Global, word: Option<&str>, rounds: u16) -> Result<Option<u16>
     }
 }
 
-// The presses and the FIRE that words spell, for a group of so many floors.
-fn drive_of(alloc: Global, asked: Rounds<'_>, floors: u16) -> Result<Driven, Fault>
-    ensures ok { IfOk result (λ d. AreDriven floors asked.entry d.presses d.fire) }
-    ensures err { IfErr result (IsUndriven floors asked.entry) }
+// What is wrong with a file of presses and settings.
+fn fault_of_calls(fault: CallsFault) -> Fault
+    ensures { result ≡ fault_of_calls fault }
 {
-    let presses = presses(alloc, asked.presses, asked.rounds, floors)?;
-    let fire = fire_of(alloc, asked.fire, asked.rounds)?;
-    Ok(Driven { presses, fire })
+    match fault {
+        CallsFault::BadLine { line } => Fault::Refused { number: 83, line },
+        CallsFault::TooMany { line } => Fault::Refused { number: 84, line },
+        CallsFault::Memory => Fault::NoMemory,
+    }
 }
 
-fn simulated(alloc: Global, verified: Verified, asked: Rounds<'_>) -> Result<Output, Fault>
-    ensures is { IsSimOutcome verified asked.entry result }
+// The presses and settings of the file behind `--calls`; without it there are none.
+fn file_of(
+    alloc: Global,
+    asked: Rounds<'_>,
+    sizes: Sizes,
+    calls: &Reading,
+) -> Result<CallsFile, Fault>
+    ensures ok { IfOk result (λ file. AreOfFile sizes asked.entry.rounds (calls_word asked.entry)
+        calls.now file.presses file.settings) }
+    ensures err { IfErr result (HasBadCalls sizes asked.entry.rounds (calls_word asked.entry)
+        calls.now) }
+{
+    match asked.calls {
+        None => Ok(CallsFile {
+            presses: Items::new(alloc),
+            settings: Items::new(alloc),
+        }),
+        Some(_) => read_of(alloc, calls, asked.rounds, sizes),
+    }
+}
+
+// The presses and settings of what was read.
+fn read_of(alloc: Global, calls: &Reading, rounds: u16, sizes: Sizes) -> Result<CallsFile, Fault>
+    ensures ok { IfOk result (λ file. AreOfReading sizes rounds calls.now file.presses
+        file.settings) }
+    ensures err { IfErr result (IsBadReading sizes rounds calls.now) }
+{
+    match calls {
+        Reading::Text(text) => read_file(alloc, text, rounds, sizes),
+        Reading::Failed(why) => Err((*why).into()),
+    }
+}
+
+// The presses and settings of a file's text.
+fn read_file(alloc: Global, text: &[u8], rounds: u16, sizes: Sizes) -> Result<CallsFile, Fault>
+    ensures ok { IfOk result (λ file. AreCallsOf rounds sizes.floors sizes.cars text.now
+        file.presses file.settings) }
+    ensures err { IfErr result (IsBadText sizes rounds text.now) }
+{
+    match read_calls(alloc, text, rounds, u16::from(sizes.floors), sizes.cars) {
+        Ok(file) => Ok(file),
+        Err(fault) => Err(fault_of_calls(fault)),
+    }
+}
+
+// Puts more behind items.
+fn append<T: Copy>(items: &mut Items<T>, more: &[T]) -> Result<(), AllocError>
+    ensures { OnOk result (items.new ≡ items.old ++ more.now) }
+{
+    'more: for item in more {
+        items.push(*item)?;
+    }
+    Ok(())
+}
+
+// The setting of FIRE from a round on, and behind it others.
+fn settings_of(
+    alloc: Global,
+    first: Option<u16>,
+    others: &[Setting],
+) -> Result<Items<Setting>, AllocError>
+    ensures { IfOk result (λ settings. settings ≡ fire_settings first ++ others.now) }
+{
+    let mut settings = Items::new(alloc);
+    if let Some(round) = first {
+        settings.push(Setting {
+            round,
+            set: Set::Fire(true),
+        })?;
+    }
+    append(&mut settings, others)?;
+    Ok(settings)
+}
+
+// The presses and the settings of the words and of the file, for a group of these sizes.
+fn drive_of(
+    alloc: Global,
+    asked: Rounds<'_>,
+    sizes: Sizes,
+    calls: &Reading,
+) -> Result<Driven, Fault>
+    ensures ok { IfOk result (λ d. AreDriven sizes asked.entry calls.now d.presses d.settings) }
+    ensures calls { IfOk result (λ d. ArePressed sizes d.presses) }
+    ensures placed { IfOk result (λ d. All (λ press. IsPressAt sizes.floors press) d.presses) }
+    ensures settings { IfOk result (λ d. AreSettings sizes.cars d.settings) }
+    ensures err { IfErr result (IsUndriven sizes asked.entry calls.now) }
+{
+    let mut presses = presses(alloc, asked.presses, asked.rounds, u16::from(sizes.floors))?;
+    let first = fire_of(alloc, asked.fire, asked.rounds)?;
+    let file = file_of(alloc, asked, sizes, calls)?;
+    append(&mut presses, file.presses.as_slice())?;
+    let settings = settings_of(alloc, first, file.settings.as_slice())?;
+    Ok(Driven { presses, settings })
+}
+
+impl Driven {
+    // What a simulation is driven by.
+    fn drive(&self) -> Drive<'_>
+        ensures presses { result.presses.now ≡ self.now.presses }
+        ensures settings { result.settings.now ≡ self.now.settings }
+    {
+        Drive {
+            presses: self.presses.as_slice(),
+            settings: self.settings.as_slice(),
+        }
+    }
+}
+
+fn simulated(
+    alloc: Global,
+    verified: Verified,
+    asked: Rounds<'_>,
+    calls: &Reading,
+) -> Result<Output, Fault>
+    ensures is { IsSimOutcome verified asked.entry calls.now result }
     ensures unwritten { result ≢ Err Fault.CannotWrite }
     ensures warned { HasWarnings None result }
 {
-    let floors = u16::from(verified.sizes().floors);
-    match drive_of(alloc, asked, floors) {
+    match drive_of(alloc, asked, verified.sizes(), calls) {
         Ok(driven) => {
-            let drive = Drive {
-                presses: driven.presses.as_slice(),
-                fire: driven.fire,
-            };
+            let drive = driven.drive();
             Ok(Output::Trace(simulate(alloc, verified, drive, asked.rounds)?))
         }
         Err(fault) => {
@@ -182,18 +295,19 @@ fn simulated(alloc: Global, verified: Verified, asked: Rounds<'_>) -> Result<Out
     }
 }
 
-fn denied(alloc: Global, verified: Verified, asked: Rounds<'_>) -> Result<Output, Fault>
-    ensures is { IsDenialsOutcome verified asked.entry result }
+fn denied(
+    alloc: Global,
+    verified: Verified,
+    asked: Rounds<'_>,
+    calls: &Reading,
+) -> Result<Output, Fault>
+    ensures is { IsDenialsOutcome verified asked.entry calls.now result }
     ensures unwritten { result ≢ Err Fault.CannotWrite }
     ensures warned { HasWarnings None result }
 {
-    let floors = u16::from(verified.sizes().floors);
-    match drive_of(alloc, asked, floors) {
+    match drive_of(alloc, asked, verified.sizes(), calls) {
         Ok(driven) => {
-            let drive = Drive {
-                presses: driven.presses.as_slice(),
-                fire: driven.fire,
-            };
+            let drive = driven.drive();
             let mut denials = Denials::new(alloc, asked.flag);
             simulate_before(alloc, verified, drive, asked.rounds, &mut denials)?;
             Ok(Output::Text(denials.text))
@@ -205,19 +319,20 @@ fn denied(alloc: Global, verified: Verified, asked: Rounds<'_>) -> Result<Output
     }
 }
 
-fn watched(alloc: Global, verified: Verified, asked: Rounds<'_>) -> Result<Output, Fault>
-    ensures is { IsWatchOutcome verified asked.entry result }
+fn watched(
+    alloc: Global,
+    verified: Verified,
+    asked: Rounds<'_>,
+    calls: &Reading,
+) -> Result<Output, Fault>
+    ensures is { IsWatchOutcome verified asked.entry calls.now result }
     ensures unwritten { result ≢ Err Fault.CannotWrite }
     ensures warned { HasWarnings None result }
 {
-    let floors = u16::from(verified.sizes().floors);
     let Named { names, presses } = asked.presses.names_first();
-    match drive_of(alloc, Rounds { presses, ..asked }, floors) {
+    match drive_of(alloc, Rounds { presses, ..asked }, verified.sizes(), calls) {
         Ok(driven) => {
-            let drive = Drive {
-                presses: driven.presses.as_slice(),
-                fire: driven.fire,
-            };
+            let drive = driven.drive();
             let mut world = World::new(alloc, verified)?;
             let output = watched_names(alloc, &mut world, names, drive, asked.rounds);
             world.release();
@@ -240,8 +355,9 @@ fn watched_names(
 ) -> Result<Output, Fault>
     requires opening { world.old.world ≡ opening world.old.program.config }
     requires calls { ArePressed (sizes_of world.old.program.config) drive.presses.now }
+    requires settings { AreSettings (sizes_of world.old.program.config).cars drive.settings.now }
     ensures is { IsWatched world.old.program.config (map upper_case (words_of names.entry))
-        drive.entry.presses.now drive.entry.fire rounds result }
+        drive.entry.presses.now drive.entry.settings.now rounds result }
     ensures warned { HasWarnings None result }
 {
     let names = upper_names(alloc, names)?;
@@ -258,8 +374,9 @@ fn watched_world(
 ) -> Result<Output, Fault>
     requires opening { world.old.world ≡ opening world.old.program.config }
     requires calls { ArePressed (sizes_of world.old.program.config) drive.presses.now }
+    requires settings { AreSettings (sizes_of world.old.program.config).cars drive.settings.now }
     ensures is { IsWatched world.old.program.config (map string_bytes names.now)
-        drive.entry.presses.now drive.entry.fire rounds result }
+        drive.entry.presses.now drive.entry.settings.now rounds result }
     ensures warned { HasWarnings None result }
 {
     let mut watch = Watch::of(alloc, world, names)?;
@@ -283,9 +400,12 @@ fn run_in_threads<R: Threads + Wait + Sync>(
     plan: Plan<'_>,
     together: bool,
 ) -> Result<Ran, RunFault>
-    requires { All (λ press. IsPressAt (sizes_of verified.config).floors press) plan.presses.now }
-    ensures { IfOk result (λ ran. IsRun verified.config (is_fire_in plan.entry.fire)
-        plan.entry.rounds plan.entry.presses.now ran.journal.items ran.left) }
+    requires presses { All (λ press. IsPressAt (sizes_of verified.config).floors press)
+        plan.presses.now }
+    requires settings { AreSettings (sizes_of verified.config).cars plan.settings.now }
+    ensures { IfOk result (λ ran. IsRun verified.config
+        (switches_in (sizes_of verified.config).cars plan.entry.settings.now) plan.entry.rounds
+        plan.entry.presses.now ran.journal.items ran.left) }
 {
     if together {
         let gate = Together::new(tasks_of(&verified));
@@ -295,24 +415,25 @@ fn run_in_threads<R: Threads + Wait + Sync>(
     }
 }
 
-/// What `run` prints over a verified configuration, or why it prints nothing. It starts threads and waits for them.
+/// What `run` prints over a verified configuration, with what was read of its file behind `--calls`, or why it prints nothing. It starts
+/// threads and waits for them.
 pub fn ran<R: Threads + Wait + Sync>(
     rt: &R,
     alloc: Global,
     verified: Verified,
     asked: Rounds<'_>,
+    calls: &Reading,
 ) -> Result<Output, Fault>
-    ensures is { IsRunOutcome verified asked.entry result }
+    ensures is { IsRunOutcome verified asked.entry calls.now result }
     ensures unwritten { result ≢ Err Fault.CannotWrite }
     ensures warned { HasWarnings None result }
 {
-    let floors = u16::from(verified.sizes().floors);
-    match drive_of(alloc, asked, floors) {
+    match drive_of(alloc, asked, verified.sizes(), calls) {
         Ok(driven) => {
             let plan = Plan {
                 presses: driven.presses.as_slice(),
                 rounds: asked.rounds,
-                fire: driven.fire,
+                settings: driven.settings.as_slice(),
             };
             match run_in_threads(rt, alloc, verified, plan, asked.flag) {
                 Ok(ran) => Ok(Output::Trace(ran.journal)),
@@ -351,23 +472,24 @@ fn events_of(alloc: Global, text: &[u8], cars: u8) -> Result<Vec<TraceEvent>, Fa
     }
 }
 
-// What a command says of a world that opens, behind events.
-fn said_after(
+// What is told of events, in a world that opens.
+fn told_of(
     alloc: Global,
     world: &mut World,
-    command: Following,
-    flag: bool,
+    telling: Telling<'_>,
     events: &[TraceEvent],
 ) -> Result<Output, Fault>
     requires opening { world.old.world ≡ opening world.old.program.config }
     requires few { length events.now ≤ greatest_trace }
-    ensures is { AreFollowed command flag world.old.program events.now result }
+    ensures is { AreFollowed telling.entry world.old.program events.now result }
     ensures warned { HasWarnings None result }
 {
-    match command {
-        Following::Replay => image_after(alloc, world, events),
-        Following::Draw => picture_of(alloc, world, events),
-        Following::Calls => calls_of(alloc, world, events, flag),
+    match telling {
+        Telling::Image => image_after(alloc, world, events),
+        Telling::Picture(span) => picture_of(alloc, world, events, span),
+        Telling::Calls(summary) => calls_of(alloc, world, events, summary),
+        Telling::Denials(all) => denials_along(alloc, world, events, all),
+        Telling::Values(names) => values_along(alloc, world, events, names),
     }
 }
 
@@ -375,7 +497,7 @@ fn said_after(
 fn image_after(alloc: Global, world: &mut World, events: &[TraceEvent]) -> Result<Output, Fault>
     requires opening { world.old.world ≡ opening world.old.program.config }
     requires few { length events.now ≤ greatest_trace }
-    ensures is { AreFollowed Following.Replay false world.old.program events.now result }
+    ensures is { AreFollowed Telling.Image world.old.program events.now result }
     ensures warned { HasWarnings None result }
 {
     match replay(world, events) {
@@ -384,17 +506,78 @@ fn image_after(alloc: Global, world: &mut World, events: &[TraceEvent]) -> Resul
     }
 }
 
-// The picture of events in a world that opens.
-fn picture_of(alloc: Global, world: &mut World, events: &[TraceEvent]) -> Result<Output, Fault>
+// The picture of the rounds of events that a word says, in a world that opens.
+fn picture_of(
+    alloc: Global,
+    world: &mut World,
+    events: &[TraceEvent],
+    span: Option<&str>,
+) -> Result<Output, Fault>
     requires opening { world.old.world ≡ opening world.old.program.config }
     requires few { length events.now ≤ greatest_trace }
-    ensures is { AreFollowed Following.Draw false world.old.program events.now result }
+    ensures is { AreFollowed (Telling.Picture span.entry) world.old.program events.now result }
     ensures warned { HasWarnings None result }
 {
-    match drawing(alloc, world, events) {
+    let span = span_of(alloc, span)?;
+    match drawing(alloc, world, events, span) {
         Ok(picture) => Ok(Output::Text(picture)),
         Err(Stop::Refused(refused)) => Err(fault_of_event(refused)),
         Err(Stop::Memory) => Err(Fault::NoMemory),
+    }
+}
+
+// What the interlock denied along events, in a world that opens.
+fn denials_along(
+    alloc: Global,
+    world: &mut World,
+    events: &[TraceEvent],
+    all: bool,
+) -> Result<Output, Fault>
+    requires opening { world.old.world ≡ opening world.old.program.config }
+    requires few { length events.now ≤ greatest_trace }
+    ensures is { AreFollowed (Telling.Denials all) world.old.program events.now result }
+    ensures warned { HasWarnings None result }
+{
+    match denied_along(alloc, world, events, all) {
+        Ok(text) => Ok(Output::Text(text)),
+        Err(along::Stop::Refused(refused)) => Err(fault_of_event(refused)),
+        Err(along::Stop::Memory) => Err(Fault::NoMemory),
+    }
+}
+
+// The values of names, in upper case, behind each round of events, in a world that opens.
+fn values_along(
+    alloc: Global,
+    world: &mut World,
+    events: &[TraceEvent],
+    names: Words<'_>,
+) -> Result<Output, Fault>
+    requires opening { world.old.world ≡ opening world.old.program.config }
+    requires few { length events.now ≤ greatest_trace }
+    ensures is { AreFollowed (Telling.Values names.entry) world.old.program events.now result }
+    ensures warned { HasWarnings None result }
+{
+    let names = upper_names(alloc, names)?;
+    values_of(alloc, world, events, &names)
+}
+
+// The values of names behind each round of events, in a world that opens.
+fn values_of(
+    alloc: Global,
+    world: &mut World,
+    events: &[TraceEvent],
+    names: &[String],
+) -> Result<Output, Fault>
+    requires opening { world.old.world ≡ opening world.old.program.config }
+    requires few { length events.now ≤ greatest_trace }
+    ensures is { AreValued (map string_bytes names.now) world.old.program events.now result }
+    ensures warned { HasWarnings None result }
+{
+    let Watch { watched, mut text } = Watch::of(alloc, world, names)?;
+    match rows_along(world, events, watched.as_slice(), &mut text) {
+        Ok(()) => Ok(Output::Text(text)),
+        Err(along::Stop::Refused(refused)) => Err(fault_of_event(refused)),
+        Err(along::Stop::Memory) => Err(Fault::NoMemory),
     }
 }
 
@@ -407,7 +590,7 @@ fn calls_of(
 ) -> Result<Output, Fault>
     requires opening { world.old.world ≡ opening world.old.program.config }
     requires few { length events.now ≤ greatest_trace }
-    ensures is { AreFollowed Following.Calls summary world.old.program events.now result }
+    ensures is { AreFollowed (Telling.Calls summary) world.old.program events.now result }
     ensures warned { HasWarnings None result }
 {
     match call_log(alloc, world, events) {
@@ -444,15 +627,14 @@ fn fault_of_event(refused: Refused) -> Fault
 fn followed_text(
     alloc: Global,
     verified: Verified,
-    command: Following,
-    flag: bool,
+    telling: Telling<'_>,
     text: &[u8],
 ) -> Result<Output, Fault>
-    ensures is { IsFollowed command flag verified text.now result }
+    ensures is { IsFollowed telling.entry verified text.now result }
     ensures warned { HasWarnings None result }
 {
     match events_of(alloc, text, verified.sizes().cars) {
-        Ok(events) => followed_events(alloc, verified, command, flag, &events),
+        Ok(events) => followed_events(alloc, verified, telling, &events),
         Err(fault) => {
             verified.release();
             Err(fault)
@@ -463,16 +645,15 @@ fn followed_text(
 fn followed_events(
     alloc: Global,
     verified: Verified,
-    command: Following,
-    flag: bool,
+    telling: Telling<'_>,
     events: &[TraceEvent],
 ) -> Result<Output, Fault>
     requires few { length events.now ≤ greatest_trace }
-    ensures is { AreFollowed command flag verified events.now result }
+    ensures is { AreFollowed telling.entry verified events.now result }
     ensures warned { HasWarnings None result }
 {
     let mut world = World::new(alloc, verified)?;
-    let output = said_after(alloc, &mut world, command, flag, events);
+    let output = told_of(alloc, &mut world, telling, events);
     world.release();
     output
 }
@@ -480,16 +661,15 @@ fn followed_events(
 fn trace_outcome(
     alloc: Global,
     verified: Verified,
-    command: Following,
-    flag: bool,
+    telling: Telling<'_>,
     trace: &Reading,
 ) -> Result<Output, Fault>
-    ensures is { IsTraceOutcome command flag verified trace.now result }
+    ensures is { IsTraceOutcome telling.entry verified trace.now result }
     ensures unwritten { result ≢ Err Fault.CannotWrite }
     ensures warned { HasWarnings None result }
 {
     match trace {
-        Reading::Text(text) => followed_text(alloc, verified, command, flag, text),
+        Reading::Text(text) => followed_text(alloc, verified, telling, text),
         Reading::Failed(why) => {
             verified.release();
             Err((*why).into())

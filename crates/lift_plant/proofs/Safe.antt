@@ -17,6 +17,8 @@ use Rattle.lift_spec.specs.Image.{IsFloor, FieldsInRange, CarObeys, runs, openin
 use Rattle.lift_spec.specs.Snapshot.{motor_number}
 use Rattle.lift_spec.specs.Plant.{PlacedCar, PlantState, kept_within, moved, moved_all, fields_of_car, fields_of_cars, fields_of_plant, opening_plant, plant_after, IsPlantOf, IsInShaft, StaysSafe, ObeysWithOwnFields}
 use Rattle.lift_plant.specs.Safe.{IsSafeStep}
+use Rattle.lift_plant.specs.declared.switches.Switches.{Switches}
+use Rattle.lift_plant.specs.Switches.{under}
 
 -- NUMBERS
 
@@ -237,3 +239,32 @@ in_shafts_after sizes plant outputs same safe inside k b after =
 
 pub safe_step : (sizes : Sizes) (plant : PlantState) (outputs : List CarOutputs) → IsSafeStep sizes plant outputs
 safe_step sizes plant outputs some of_group same obeys = (stays_safe sizes plant outputs some of_group same obeys, sized_after sizes plant outputs of_group same)
+
+-- UNDER SWITCHES
+
+-- a plant of a group is one under any FIRE, and under any RUNLIMIT up to the number of cars
+pub sized_under : (sizes : Sizes) (s : Switches) (plant : PlantState) → IsPlantOf sizes plant → s.run_limit ≤ sizes.cars → IsPlantOf sizes (under s plant)
+sized_under sizes s plant is low = record { cars = is.cars; floors = is.floors; time = is.time; run_limit = low; doors = is.doors; places = is.places }
+
+-- and a step that is safe is as safe under them
+pub safe_under :
+    (sizes : Sizes) (s : Switches) (plant : PlantState) (outputs : List CarOutputs) → s.run_limit ≤ sizes.cars → StaysSafe sizes plant (plant_after plant outputs) → StaysSafe sizes plant (plant_after (under s plant) outputs)
+unfolding plant_after
+safe_under sizes s plant outputs low safe = record {
+  doors = safe.doors;
+  shaft = safe.shaft;
+  fields = record { cars = safe.fields.cars; positions = safe.fields.positions; time = safe.fields.time; run_limit = low };
+}
+
+-- and leads from cars in their shafts to cars in their shafts
+pub in_shafts_under :
+    (sizes : Sizes) (s : Switches) (plant : PlantState) (outputs : List CarOutputs) → length outputs ≡ length plant.cars → StaysSafe sizes plant (plant_after plant outputs)
+    → ((k : ℕ) (a : PlacedCar) → slice_get plant.cars k ≡ Some a → IsInShaft plant.floors a) → (k : ℕ) (b : PlacedCar) → slice_get (plant_after (under s plant) outputs).cars k ≡ Some b → IsInShaft (plant_after (under s plant) outputs).floors b
+unfolding plant_after
+in_shafts_under sizes s plant outputs same safe inside k b after =
+    let m = moved_at plant.floors plant.cars outputs k b same after in safe.shaft k m.before b m.there after (inside k m.before m.there)
+
+-- which tells RUNLIMIT as it is set
+pub limit_told : (s : Switches) (plant : PlantState) (outputs : List CarOutputs) → (plant_after (under s plant) outputs).run_limit ≡ s.run_limit
+unfolding plant_after
+limit_told s plant outputs = refl

@@ -1,3 +1,4 @@
 pub mod Cars
 pub mod Plants
 pub mod Safe
+pub mod Switches

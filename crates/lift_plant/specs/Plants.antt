@@ -15,5 +15,4 @@ pub record IsPlant (p : Inside) : Type 0 where
   pub two_floors : 2 ≤ p.floors
   pub floors : p.floors ≤ 16
   pub time : p.time ≤ 2147483647
-  pub run_limit : p.run_limit ≤ length p.cars
   pub each : All (IsPlaced p.floors) p.cars

@@ -3,3 +3,4 @@
 
 mod car;
 pub mod plant;
+pub mod switches;

@@ -7,8 +7,10 @@ ghost use Rattle.lift_spec.specs.declared.image.Sizes.{Sizes};
 ghost use Rattle.lift_spec.specs.declared.image.CarOutputs.{CarOutputs};
 ghost use Rattle.lift_plant.specs.Cars.{placed, IsPlaced};
 ghost use Rattle.lift_plant.specs.Safe.{IsSafeStep};
+ghost use Rattle.lift_plant.specs.Switches.{under};
 
 use crate::car::{Car, car_fields, moved_car};
+use crate::switches::Switches;
 use lift_spec::{Bounded, CarFields, CarOutputs, Fields, Outputs};
 use std::marker::Model;
 
@@ -65,12 +67,17 @@ impl Plant {
         }
     }
 
-    /// The same plant, which tells FIRE so from now on.
-    pub fn with_fire(self, fire: bool) -> Plant
-        ensures plant { result ≡ record self { fire = fire } }
-        ensures sized { (sizes : Sizes) → IsPlantOf sizes self → IsPlantOf sizes result }
+    /// The same plant, on which the building has set this: it tells FIRE and RUNLIMIT so from now on.
+    pub fn with_switches(self, switches: Switches) -> Plant
+        ensures plant { result ≡ under switches self }
+        ensures sized { (sizes : Sizes) → IsPlantOf sizes self → switches.run_limit ≤ sizes.cars
+            → IsPlantOf sizes result }
     {
-        Plant { fire, ..self }
+        Plant {
+            run_limit: switches.run_limit,
+            fire: switches.fire,
+            ..self
+        }
     }
 
     /// A copy.

@@ -1,3 +1,4 @@
+pub mod Ahead
 pub mod Along
 pub mod Driven
 pub mod Shown

@@ -1,14 +1,17 @@
 -- What an observer writes of a simulation that goes by (own rules).
-use Rattle.std.specs.Prelude.{◌≡◌, ℕ, zero, suc, Bool, List, [], ◌∷◌, ◌++◌, Option}
+use Rattle.std.specs.Prelude.{◌≡◌, ℕ, zero, suc, List, [], ◌∷◌, ◌++◌}
 use Rattle.il_spec.specs.declared.tree.Config.{Config}
 use Rattle.lift_host.specs.declared.press.Press.{Press}
+use Rattle.lift_host.specs.declared.press.Setting.{Setting}
+use Rattle.lift_plant.specs.declared.switches.Switches.{Switches}
 use Rattle.lift_spec.specs.declared.calls.Call.{Call}
 use Rattle.lift_spec.specs.declared.journal.Entry.{Entry}
 use Rattle.lift_spec.specs.declared.report.Report.{Report}
+use Rattle.lift_spec.specs.Image.{sizes_of}
 use Rattle.lift_spec.specs.Plant.{PlantState}
 use Rattle.lift_spec.specs.World.{World}
-use Rattle.lift_journal.specs.Rounds.{FinishesAndCommits, Scans, ScanEach, IsRound, Rounds, tasks_in_order, is_fire_in}
-use Rattle.lift_runs.specs.Driven.{IsSimulated, calls_in}
+use Rattle.lift_journal.specs.Rounds.{FinishesAndCommits, Scans, ScanEach, IsRound, Rounds, tasks_in_order}
+use Rattle.lift_runs.specs.Driven.{IsSimulated, calls_in, switches_in}
 
 -- what an observer writes, by the number of the round: of the report of its refresh, of that of a task's commit, and of the world behind it
 pub record Shows : Type 0 where
@@ -26,19 +29,19 @@ scans_text s n c [] w v scans = []
 scans_text s n c (t ∷ tasks) w v (m, scan, scans) = s.of_commit n t scan.rest.report ++ scans_text s n c tasks m v scans
 
 -- what it writes of a round
-abbrev pub round_text : (s : Shows) (n : ℕ) (c : Config) (calls : List Call) (fire : Bool) (plant next : PlantState) (w v : World) (entries : List Entry) → IsRound c calls fire plant next w v entries → List ℕ
-round_text s n c calls fire plant next w v entries round = s.of_refresh n round.report ++ (scans_text s n c (tasks_in_order c) round.refreshed v round.scans ++ s.of_round n v)
+abbrev pub round_text : (s : Shows) (n : ℕ) (c : Config) (calls : List Call) (switches : Switches) (plant next : PlantState) (w v : World) (entries : List Entry) → IsRound c calls switches plant next w v entries → List ℕ
+round_text s n c calls switches plant next w v entries round = s.of_refresh n round.report ++ (scans_text s n c (tasks_in_order c) round.refreshed v round.scans ++ s.of_round n v)
 
 -- what it writes of so many rounds from the opening
-abbrev pub rounds_text : (s : Shows) (c : Config) (calls : ℕ → List Call) (fire : ℕ → Bool) (n : ℕ) (plant : PlantState) (w : World) (entries : List Entry) → Rounds c calls fire n plant w entries → List ℕ
-rounds_text s c calls fire zero plant w entries rounds = []
-rounds_text s c calls fire (suc n) plant w entries (before, u, earlier, last, rounds, round, is) =
-    rounds_text s c calls fire n before u earlier rounds ++ round_text s (suc n) c (calls (suc n)) (fire (suc n)) before plant u w last round
+abbrev pub rounds_text : (s : Shows) (c : Config) (calls : ℕ → List Call) (switches : ℕ → Switches) (n : ℕ) (plant : PlantState) (w : World) (entries : List Entry) → Rounds c calls switches n plant w entries → List ℕ
+rounds_text s c calls switches zero plant w entries rounds = []
+rounds_text s c calls switches (suc n) plant w entries (before, u, earlier, last, rounds, round, is) =
+    rounds_text s c calls switches n before u earlier rounds ++ round_text s (suc n) c (calls (suc n)) (switches (suc n)) before plant u w last round
 
--- The text is what it writes of a simulation: so many rounds of the group with these presses, under this FIRE.
-pub record IsShown (s : Shows) (c : Config) (presses : List Press) (fire : Option ℕ) (rounds : ℕ) (entries : List Entry) (text : List ℕ) : Type 0 where
-  pub simulated : IsSimulated c presses fire rounds entries
-  pub is : text ≡ rounds_text s c (calls_in presses) (is_fire_in fire) rounds simulated.plant simulated.world entries simulated.driven
+-- The text is what it writes of a simulation: so many rounds of the group with these presses and settings.
+pub record IsShown (s : Shows) (c : Config) (presses : List Press) (settings : List Setting) (rounds : ℕ) (entries : List Entry) (text : List ℕ) : Type 0 where
+  pub simulated : IsSimulated c presses settings rounds entries
+  pub is : text ≡ rounds_text s c (calls_in presses) (switches_in (sizes_of c).cars settings) rounds simulated.plant simulated.world entries simulated.driven
 
 -- PARTS
 
@@ -55,9 +58,9 @@ abbrev pub ScansShown : Shows → ℕ → Config → List ℕ → World → Worl
 ScansShown s n c tasks w v text = (scans : ScanEach c tasks w v) × (text ≡ scans_text s n c tasks w v scans)
 
 -- a round, of which is written so
-abbrev pub RoundShown : Shows → ℕ → Config → List Call → Bool → PlantState → PlantState → World → World → List Entry → List ℕ → Type 0
-RoundShown s n c calls fire plant next w v entries text = (round : IsRound c calls fire plant next w v entries) × (text ≡ round_text s n c calls fire plant next w v entries round)
+abbrev pub RoundShown : Shows → ℕ → Config → List Call → Switches → PlantState → PlantState → World → World → List Entry → List ℕ → Type 0
+RoundShown s n c calls switches plant next w v entries text = (round : IsRound c calls switches plant next w v entries) × (text ≡ round_text s n c calls switches plant next w v entries round)
 
 -- so many rounds, of which is written so
-abbrev pub RoundsShown : Shows → Config → (ℕ → List Call) → (ℕ → Bool) → ℕ → PlantState → World → List Entry → List ℕ → Type 0
-RoundsShown s c calls fire n plant w entries text = (rounds : Rounds c calls fire n plant w entries) × (text ≡ rounds_text s c calls fire n plant w entries rounds)
+abbrev pub RoundsShown : Shows → Config → (ℕ → List Call) → (ℕ → Switches) → ℕ → PlantState → World → List Entry → List ℕ → Type 0
+RoundsShown s c calls switches n plant w entries text = (rounds : Rounds c calls switches n plant w entries) × (text ≡ rounds_text s c calls switches n plant w entries rounds)

@@ -1,6 +1,6 @@
 // A group on its simulated plant.
 
-ghost use Rattle.std.specs.Prelude.{◌≡◌, ◌++◌, ◌≤◌, ◌+◌, ℕ, [], ◌∷◌, map, flat_map, length, Ok, OnOk, IfOk, IfErr, List};
+ghost use Rattle.std.specs.Prelude.{◌≡◌, ◌++◌, ◌≤◌, ◌+◌, ℕ, true, [], ◌∷◌, map, flat_map, length, Ok, OnOk, IfOk, IfErr, List};
 ghost use Rattle.il_spec.specs.declared.fault.Refusal.TheVariants.{Memory};
 ghost use Rattle.lift_spec.specs.declared.journal.Entry.{Entry as EntryOf};
 ghost use Rattle.lift_spec.specs.World.{opening};
@@ -12,19 +12,20 @@ ghost use Rattle.lift_spec.specs.Plant.{IsPlantOf, fields_of_plant};
 ghost use Rattle.lift_spec.specs.Replies.{Refreshed};
 ghost use Rattle.lift_spec.specs.World.{happens};
 ghost use Rattle.lift_spec.specs.declared.journal.Entry.TheVariants as entry;
-ghost use Rattle.lift_journal.specs.Rounds.{Happen, desk_events, floors_rising, tasks_in_order, scan_entries, entered_calls_of, is_fire_in};
+ghost use Rattle.lift_journal.specs.Rounds.{Happen, desk_events, floors_rising, tasks_in_order, scan_entries, entered_calls_of};
 ghost use Rattle.lift_journal.proofs.Taking.{IsClosed};
-ghost use Rattle.lift_runs.specs.Driven.{call_of, calls_in, ArePressed, IsSimulated, AreTasks};
+ghost use Rattle.lift_runs.specs.Driven.{call_of, ArePressed, AreSettings, IsSimulated, AreTasks};
 ghost use Rattle.lift_runs.specs.Shown.{IsShown, ScansShown, RoundShown};
 
+use crate::ahead::{at_first, presses_by_round, presses_due, set_in, settings_by_round};
 use crate::observer::{Nobody, Observer};
 use crate::scan::scan;
 use il_machine::Verified;
 use il_spec::fault::Refusal;
-use lift_host::press::Press;
+use lift_host::press::{Press, Setting};
 use lift_journal::entered::calls_of;
-use lift_journal::fire::is_fire_in;
 use lift_plant::plant::{Plant, plant_step};
+use lift_plant::switches::Switches;
 use lift_spec::calls::Call;
 use lift_spec::event::Event;
 use lift_spec::journal::Entry;
@@ -33,11 +34,21 @@ use lift_spec::{Fields, Sizes};
 use lift_world::World;
 use std::alloc::{AllocError, Global};
 
-/// What drives a simulation: the presses, and the round from which on FIRE holds.
+/// What drives a simulation: the presses, and what the building sets of the plant, each in any order of rounds. Those of one round
+/// come in their order.
 #[derive(Clone, Copy)]
 pub struct Drive<'d> {
     pub presses: &'d [Press],
-    pub fire: Option<u16>,
+    pub settings: &'d [Setting],
+}
+
+// What a round makes and has set.
+#[derive(Clone, Copy)]
+struct Due<'d> {
+    presses: &'d [Press],
+    switches: Switches,
+    // Nothing was pressed so far, so that nothing is on the desk.
+    idle: bool,
 }
 
 // The call of a press.
@@ -52,18 +63,16 @@ fn call_of(press: &Press) -> Call
     }
 }
 
-// The presses of a round, in their order.
-fn press_all(world: &mut World, presses: &[Press], round: u16, report: &mut Report)
+// Presses are made, in their order.
+fn press_all(world: &mut World, presses: &[Press], report: &mut Report)
     requires calls { ArePressed (sizes_of world.old.program.config) presses.now }
     ensures taken { Happen world.old.program.config world.old.world
-        (map PressOf (calls_in presses.now round)) world.new.world }
+        (map PressOf (map call_of presses.now)) world.new.world }
     ensures same { world.new.program ≡ world.old.program }
 {
     let _config = world.verified().config();
     'presses: for press in presses {
-        if press.round == round {
-            world.apply(&Event::Press(call_of(press)), report);
-        }
+        world.apply(&Event::Press(call_of(press)), report);
     }
 }
 
@@ -80,19 +89,21 @@ pub fn gather_all(world: &mut World, report: &mut Report)
     }
 }
 
-// The presses of a round, and the gatherings. Where there is no press at all, there is nothing to gather.
-fn desk(world: &mut World, presses: &[Press], round: u16, report: &mut Report)
-    requires calls { ArePressed (sizes_of world.old.program.config) presses.now }
-    requires idle { presses.now ≡ [] → world.old.world.desk ≡ [] }
+// The presses of a round, and the gatherings. Where nothing was pressed so far, there is nothing to gather.
+fn desk(world: &mut World, due: Due<'_>, report: &mut Report)
+    requires calls { ArePressed (sizes_of world.old.program.config) due.presses.now }
+    requires idle { due.idle ≡ true → world.old.world.desk ≡ [] }
     ensures taken { Happen world.old.program.config world.old.world
-        (desk_events world.old.program.config (calls_in presses.now round)) world.new.world }
-    ensures idle { presses.now ≡ [] → world.new.world.desk ≡ [] }
+        (desk_events world.old.program.config (map call_of due.entry.presses.now))
+        world.new.world }
+    ensures idle { due.entry.idle ≡ true → due.entry.presses.now ≡ []
+        → world.new.world.desk ≡ [] }
     ensures same { world.new.program ≡ world.old.program }
 {
-    if presses.is_empty() {
+    if due.idle && due.presses.is_empty() {
         return;
     }
-    press_all(world, presses, round, report);
+    press_all(world, due.presses, report);
     gather_all(world, report);
 }
 
@@ -154,33 +165,35 @@ fn scan_all<O: Observer>(
 fn round<O: Observer>(
     world: &mut World,
     plant: Plant,
-    drive: Drive<'_>,
+    due: Due<'_>,
     number: u16,
     tasks: &[u8],
     entries: &mut Vec<Entry>,
     report: &mut Report,
     observer: &mut O,
 ) -> Result<Plant, AllocError>
-    requires calls { ArePressed (sizes_of world.old.program.config) drive.presses.now }
+    requires calls { ArePressed (sizes_of world.old.program.config) due.presses.now }
+    requires limit { due.switches.run_limit ≤ (sizes_of world.old.program.config).cars }
     requires tasks { tasks.now ≡ tasks_in_order world.old.program.config }
     requires plant { IsPlantOf (sizes_of world.old.program.config) plant }
     requires closed { IsClosed world.old.world }
-    requires idle { drive.presses.now ≡ [] → world.old.world.desk ≡ [] }
+    requires idle { due.idle ≡ true → world.old.world.desk ≡ [] }
     ensures round { IfOk result (λ next. (last : List EntryOf)
         × (entries.new.items ≡ entries.old.items ++ last) × (text : List ℕ)
         × (O.text observer.new ≡ O.text observer.old ++ text)
         × RoundShown (O.shows observer.old) number world.old.program.config
-        (calls_in drive.entry.presses.now number) (is_fire_in drive.entry.fire number) plant next
+        (map call_of due.entry.presses.now) due.entry.switches plant next
         world.old.world world.new.world last text) }
     ensures shows { OnOk result (O.shows observer.new ≡ O.shows observer.old) }
     ensures plant { IfOk result (IsPlantOf (sizes_of world.old.program.config)) }
     ensures closed { OnOk result (IsClosed world.new.world) }
-    ensures idle { OnOk result (drive.entry.presses.now ≡ [] → world.new.world.desk ≡ []) }
+    ensures idle { OnOk result (due.entry.idle ≡ true → due.entry.presses.now ≡ []
+        → world.new.world.desk ≡ []) }
     ensures same { world.new.program ≡ world.old.program }
 {
     let _config = world.verified().config();
-    desk(world, drive.presses, number, report);
-    let plant = plant.with_fire(is_fire_in(drive.fire, number));
+    desk(world, due, report);
+    let plant = plant.with_switches(due.switches);
     let (plant, fields) = plant_step(plant, &world.image().outputs);
     refresh(world, fields, entries, report)?;
     observer.refreshed(number, report)?;
@@ -206,8 +219,9 @@ fn tasks_of(alloc: Global, verified: &Verified) -> Result<Vec<u8>, AllocError>
     Ok(tasks)
 }
 
-// So many rounds of a world that opens.
+// So many rounds of a world that opens. Its presses and settings are copied by their rounds, so that each round takes its own from the front.
 fn run_rounds<O: Observer>(
+    alloc: Global,
     world: &mut World,
     drive: Drive<'_>,
     rounds: u16,
@@ -217,29 +231,44 @@ fn run_rounds<O: Observer>(
 ) -> Result<(), AllocError>
     requires opening { world.old.world ≡ opening world.old.program.config }
     requires calls { ArePressed (sizes_of world.old.program.config) drive.presses.now }
+    requires settings { AreSettings (sizes_of world.old.program.config).cars drive.settings.now }
     requires tasks { tasks.now ≡ tasks_in_order world.old.program.config }
     requires none { entries.old.items ≡ [] }
     ensures rounds { OnOk result ((text : List ℕ)
         × (O.text observer.new ≡ O.text observer.old ++ text)
         × IsShown (O.shows observer.old) world.old.program.config drive.entry.presses.now
-        drive.entry.fire rounds entries.new.items text) }
+        drive.entry.settings.now rounds entries.new.items text) }
     ensures same { world.new.program ≡ world.old.program }
 {
     let _config = world.verified().config();
     let Sizes { cars, floors, .. } = world.sizes();
+    let presses = presses_by_round(alloc, drive.presses)?;
+    let settings = settings_by_round(alloc, drive.settings)?;
     let mut plant = Plant::new(cars, floors);
     let mut report = Report::new();
+    let mut ahead = &presses[presses_due(&presses, 0)..];
+    let mut standing = at_first(cars, &settings);
+    let mut idle = true;
     'rounds: for number in 0..rounds {
+        let count = presses_due(ahead, number + 1);
+        standing = set_in(standing, number + 1);
+        let due = Due {
+            presses: &ahead[..count],
+            switches: standing.switches,
+            idle,
+        };
         plant = round(
             world,
             plant,
-            drive,
+            due,
             number + 1,
             tasks,
             entries,
             &mut report,
             observer,
         )?;
+        idle = idle && count == 0;
+        ahead = &ahead[count..];
     }
     Ok(())
 }
@@ -254,15 +283,16 @@ pub fn simulate_on<O: Observer>(
 ) -> Result<Vec<Entry>, AllocError>
     requires opening { world.old.world ≡ opening world.old.program.config }
     requires calls { ArePressed (sizes_of world.old.program.config) drive.presses.now }
+    requires settings { AreSettings (sizes_of world.old.program.config).cars drive.settings.now }
     ensures rounds { IfOk result (λ entries. (text : List ℕ)
         × (O.text observer.new ≡ O.text observer.old ++ text)
         × IsShown (O.shows observer.old) world.old.program.config drive.entry.presses.now
-        drive.entry.fire rounds entries.items text) }
+        drive.entry.settings.now rounds entries.items text) }
 {
     let _config = world.verified().config();
     let tasks = tasks_of(alloc, world.verified())?;
     let mut entries = Vec::with_capacity(alloc, usize::from(rounds) * (1 + 2 * tasks.len()))?;
-    run_rounds(world, drive, rounds, &tasks, &mut entries, observer)?;
+    run_rounds(alloc, world, drive, rounds, &tasks, &mut entries, observer)?;
     Ok(entries)
 }
 
@@ -275,8 +305,9 @@ pub fn simulate(
     rounds: u16,
 ) -> Result<Vec<Entry>, Refusal>
     requires calls { ArePressed (sizes_of verified.config) drive.presses.now }
+    requires settings { AreSettings (sizes_of verified.config).cars drive.settings.now }
     ensures rounds { IfOk result (λ entries. IsSimulated verified.config drive.entry.presses.now
-        drive.entry.fire rounds entries.items) }
+        drive.entry.settings.now rounds entries.items) }
     ensures memory { IfErr result (λ refusal. refusal ≡ Memory) }
 {
     simulate_before(alloc, verified, drive, rounds, &mut Nobody)
@@ -291,10 +322,11 @@ pub fn simulate_before<O: Observer>(
     observer: &mut O,
 ) -> Result<Vec<Entry>, Refusal>
     requires calls { ArePressed (sizes_of verified.config) drive.presses.now }
+    requires settings { AreSettings (sizes_of verified.config).cars drive.settings.now }
     ensures rounds { IfOk result (λ entries. (text : List ℕ)
         × (O.text observer.new ≡ O.text observer.old ++ text)
-        × IsShown (O.shows observer.old) verified.config drive.entry.presses.now drive.entry.fire
-        rounds entries.items text) }
+        × IsShown (O.shows observer.old) verified.config drive.entry.presses.now
+        drive.entry.settings.now rounds entries.items text) }
     ensures memory { IfErr result (λ refusal. refusal ≡ Memory) }
 {
     let mut world = World::new(alloc, verified)?;

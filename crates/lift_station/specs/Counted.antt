@@ -1,5 +1,5 @@
 -- What is counted, and what an answer shows (own rules).
-use Rattle.std.specs.Prelude.{◌≡◌, ℕ, ◌<◌, ◌≤◌, Bool, List, length, map, slice_index_or, Option, Some, None}
+use Rattle.std.specs.Prelude.{◌≡◌, ℕ, ◌<◌, ◌≤◌, List, length, map, slice_index_or, Option, Some, None}
 use Rattle.il_spec.specs.declared.tree.Config.{Config}
 use Rattle.il_machine.specs.Standing.{Finished}
 use Rattle.lift_spec.specs.declared.image.Fields.{Fields}
@@ -13,6 +13,8 @@ use Rattle.lift_spec.specs.declared.journal.Entry.{Entry}
 use Rattle.lift_spec.specs.declared.journal.Entry.TheVariants as entry
 use Rattle.lift_journal.specs.declared.fault.StationFault.{StationFault}
 use Rattle.lift_journal.specs.declared.fault.StationFault.TheVariants.{JournalFull}
+use Rattle.lift_plant.specs.declared.switches.Switches.{Switches}
+use Rattle.lift_plant.specs.Switches.{under}
 use Rattle.lift_journal.specs.Driven.{IsDrivenJournal}
 use Rattle.lift_journal.specs.Journal.{entries_by, calls_entered, refresher, calls_entering}
 use Rattle.lift_journal.specs.Pages.{Page, Kept, Adds}
@@ -24,10 +26,10 @@ pub record Counted (totals : List ℕ) (journal : List Entry) : Type 0 where
   pub actors : (a : ℕ) → a < 10 → slice_index_or totals a 0 ≡ entries_by a journal
 
 -- The plant is one of the group; and where all refreshes came from it, the journal is driven by it.
-pub record IsAtPlant (c : Config) (fire : ℕ → Bool) (totals : List ℕ) (page : Page) (plant : PlantState) : Type 0 where
+pub record IsAtPlant (c : Config) (switches : ℕ → Switches) (totals : List ℕ) (page : Page) (plant : PlantState) : Type 0 where
   pub sized : IsPlantOf (sizes_of c) plant
   pub most : slice_index_or totals 10 0 ≤ slice_index_or totals 9 0
-  pub driven : slice_index_or totals 10 0 ≡ slice_index_or totals 9 0 → IsDrivenJournal c fire page.journal plant page.world
+  pub driven : slice_index_or totals 10 0 ≡ slice_index_or totals 9 0 → IsDrivenJournal c switches page.journal plant page.world
 
 -- no fault, or 70
 abbrev pub IsNoneOrFull : Option StationFault → Type 0
@@ -60,11 +62,10 @@ pub record IsRefreshed (c : Config) (count : ℕ) (entered : List Call) (fields 
   pub after : Page
   pub adds : Adds before (entry.Refresh fields (calls_in report)) (Refreshed report) after
 
--- The report is that of a refresh with this hand by a plant of the group, which goes one step under the outputs of the image, with this
--- FIRE.
-pub record IsDrivenOn (c : Config) (count : ℕ) (entered : List Call) (fire : Bool) (hand : List Call) (report : Report) : Type 0 where
+-- The report is that of a refresh with this hand by a plant of the group, which goes one step under the outputs of the image, as it is set.
+pub record IsDrivenOn (c : Config) (count : ℕ) (entered : List Call) (switches : Switches) (hand : List Call) (report : Report) : Type 0 where
   pub plant : PlantState
   pub sized : IsPlantOf (sizes_of c) plant
   pub next : PlantState
   pub refreshed : IsRefreshed c count entered (fields_of_plant next) hand report
-  pub step : next ≡ plant_after (record plant { fire = fire }) refreshed.before.world.group.image.outputs
+  pub step : next ≡ plant_after (under switches plant) refreshed.before.world.group.image.outputs

@@ -24,6 +24,7 @@ use il_machine::{OpenScan, Scanned, Store, Verified};
 use lift_book::Book;
 use lift_journal::fault::StationFault;
 use lift_plant::plant::{Plant, plant_step};
+use lift_plant::switches::Switches;
 use lift_spec::hand::Hand;
 use lift_spec::report::Report;
 use lift_spec::{Fields, Image};
@@ -51,7 +52,7 @@ impl<G: Naming> Model for Locked<G> {
     ghost view = { λ l. l.book };
 
     ghost invariant = { λ l. (l.book.config ≡ G.program.config) × Counted l.counts l.book.journal
-        × IsAtPlant G.program.config G.fire l.counts l.book l.plant
+        × IsAtPlant G.program.config G.switches l.counts l.book l.plant
         × (l.entered ≡ calls_entered l.book.journal) };
 }
 
@@ -173,7 +174,7 @@ impl<G: Naming> Locked<G> {
         ensures entered { pass.old.entered ≡ calls_entered self.old.journal }
         ensures driven { pass.old.driven ≡ pass.old.refreshes
             → (plant : PlantState)
-            × IsDrivenJournal G.program.config G.fire self.old.journal plant self.old.world }
+            × IsDrivenJournal G.program.config G.switches self.old.journal plant self.old.world }
     {
         self.counts.audit_refreshes(pass);
         self.entered.audit(&mut pass.entered);
@@ -221,18 +222,19 @@ impl<G: Naming> Locked<G> {
         Ok(())
     }
 
-    /// Refresh by the plant: it goes one step under the outputs of the image, with this FIRE, and the image takes what it then reports. The
+    /// Refresh by the plant: it goes one step under the outputs of the image, as it is set, and the image takes what it then reports. The
     /// pass counts one more of each.
     pub fn drive(
         &mut self,
         verified: &Verified,
         pass: &mut RefreshPass<G>,
-        fire: bool,
+        switches: Switches,
         hand: &mut Hand,
         report: &mut Report,
     ) -> Result<(), StationFault>
         requires program { verified.now ≡ G.program }
-        requires fire { fire ≡ G.fire (pass.old.refreshes + 1) }
+        requires switches { switches ≡ G.switches (pass.old.refreshes + 1) }
+        requires limit { switches.run_limit ≤ (sizes_of G.program.config).cars }
         requires calls { AllCalls (sizes_of G.program.config) hand.old }
         ensures full { IsNoneOrFull (fault_in result) }
         ensures pass { OnOk result
@@ -243,7 +245,7 @@ impl<G: Naming> Locked<G> {
               driven = pass.old.driven + 1;
             }) }
         ensures report { OnOk result
-            (IsDrivenOn G.program.config pass.old.refreshes pass.old.entered fire hand.old
+            (IsDrivenOn G.program.config pass.old.refreshes pass.old.entered switches hand.old
             report.new) }
         ensures exact { OnOk result
             (calls_in report.new ≡ calls_entering self.old.world.group.calls hand.old) }
@@ -254,7 +256,7 @@ impl<G: Naming> Locked<G> {
     {
         self.audit_refreshes(pass);
         let _config = verified.config();
-        let before = self.plant.copied().with_fire(fire);
+        let before = self.plant.copied().with_switches(switches);
         let (plant, fields) = plant_step(before, &self.book.image().outputs);
         self.book.refresh(verified, fields, hand, report)?;
         self.counts.count_refresh(pass);

@@ -25,6 +25,7 @@ use lift_book::Book;
 use lift_desk::HandPass;
 use lift_journal::fault::StationFault;
 use lift_plant::plant::Plant;
+use lift_plant::switches::Switches;
 use lift_spec::report::Report;
 use lift_spec::{Fields, Image};
 use std::alloc::{AllocError, Global};
@@ -348,18 +349,19 @@ impl<G: Naming> Station<G> {
         (pass, collector, answer)
     }
 
-    /// Refresh by the plant: it goes one step under the outputs of the image, with this FIRE, and the image takes what it then reports; the
+    /// Refresh by the plant: it goes one step under the outputs of the image, as it is set, and the image takes what it then reports; the
     /// first calls of the hand enter. It waits for the lock.
     pub fn drive(
         &self,
         rt: &impl Wait,
         pass: RefreshPass<G>,
-        fire: bool,
+        switches: Switches,
         collector: HandPass,
         report: &mut Report,
     ) -> (RefreshPass<G>, HandPass, Result<(), StationFault>)
         requires floors { collector.floors ≡ (sizes_of G.program.config).floors }
-        requires fire { fire ≡ G.fire (pass.refreshes + 1) }
+        requires switches { switches ≡ G.switches (pass.refreshes + 1) }
+        requires limit { switches.run_limit ≤ (sizes_of G.program.config).cars }
         ensures full { IsNoneOrFull (fault_in result.2) }
         ensures pass { OnOk result.2
             (result.0
@@ -369,7 +371,7 @@ impl<G: Naming> Station<G> {
               driven = pass.driven + 1;
             }) }
         ensures report { OnOk result.2
-            (IsDrivenOn G.program.config pass.refreshes pass.entered fire collector.hand
+            (IsDrivenOn G.program.config pass.refreshes pass.entered switches collector.hand
             report.new) }
         ensures hand { OnOk result.2 (collector.hand ≡ calls_in report.new ++ result.1.hand) }
         ensures left { OnOk result.2
@@ -386,7 +388,7 @@ impl<G: Naming> Station<G> {
         let answer = self.book.lock(rt).drive(
             self.program.program(),
             &mut pass,
-            fire,
+            switches,
             &mut called,
             report,
         );
@@ -431,7 +433,7 @@ impl<G: Naming> Station<G> {
         ensures entered { pass.entered ≡ calls_entered result.book.journal }
         ensures driven { pass.driven ≡ pass.refreshes
             → (plant : PlantState)
-            × IsDrivenJournal G.program.config G.fire result.book.journal plant
+            × IsDrivenJournal G.program.config G.switches result.book.journal plant
             result.book.world }
     {
         let Station { program, book } = self;

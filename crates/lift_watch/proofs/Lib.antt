@@ -1,3 +1,4 @@
+mod Printing
 mod Logging
 mod Reading
 mod Watching

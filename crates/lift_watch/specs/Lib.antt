@@ -1,4 +1,5 @@
 pub mod Calls
 pub mod Denials
+pub mod Following
 pub mod Names
 pub mod Values

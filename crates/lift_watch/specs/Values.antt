@@ -6,11 +6,12 @@ use Rattle.il_run.specs.declared.value.Value.TheVariants.{Boolean, Integer}
 use Rattle.il_table.specs.NameMap as values
 use Rattle.lift_host.specs.declared.status.Fault.{Fault}
 use Rattle.lift_host.specs.declared.status.Fault.TheVariants.{BadName, NoMemory}
+use Rattle.lift_spec.specs.declared.calls.Slot.{Slot as CallSlot}
 use Rattle.lift_spec.specs.declared.image.CarFields.{CarFields}
 use Rattle.lift_spec.specs.declared.image.CarOutputs.{CarOutputs}
 use Rattle.lift_spec.specs.declared.image.Fields.{Fields}
 use Rattle.lift_spec.specs.declared.image.Image.{Image}
-use Rattle.lift_spec.specs.Snapshot.{motor_number}
+use Rattle.lift_spec.specs.Snapshot.{number, motor_number, waits, from_of, to_of, car_of}
 use Rattle.lift_spec.specs.World.{World, task_at}
 use Rattle.lift_runs.specs.Shown.{Shows}
 use Rattle.lift_watch.specs.Names.{IsReadAs}
@@ -18,8 +19,10 @@ use Rattle.lift_watch.specs.declared.names.CarName.{CarName}
 use Rattle.lift_watch.specs.declared.names.CarName.TheVariants.{Pos, Level, Top, Bottom, Locked, Opened, Motor, Open}
 use Rattle.lift_watch.specs.declared.names.Shared.{Shared as SharedName}
 use Rattle.lift_watch.specs.declared.names.Shared.TheVariants.{Now, RunLimit, Fire}
+use Rattle.lift_watch.specs.declared.names.SlotName.{SlotName}
+use Rattle.lift_watch.specs.declared.names.SlotName.TheVariants as of_slot
 use Rattle.lift_watch.specs.declared.names.Watched.{Watched}
-use Rattle.lift_watch.specs.declared.names.Watched.TheVariants.{Shared, Car, Variable, Global}
+use Rattle.lift_watch.specs.declared.names.Watched.TheVariants.{Shared, Slot, Car, Variable, Global}
 
 -- the value of a shared name of the image
 abbrev pub shared_value : SharedName → Fields → Value
@@ -43,9 +46,22 @@ abbrev pub car_value_in : ℕ → CarName → Image → Option Value
 car_value_in zero name image = None
 car_value_in (suc k) name image = option_and_then (λ (fields : CarFields). option_map (value_in_car name fields) (slice_get image.outputs k)) (slice_get image.fields.cars k)
 
+-- what the tasks see of a call slot
+abbrev pub value_in_slot : SlotName → CallSlot → Value
+value_in_slot of_slot.Waits place = Boolean (waits place)
+value_in_slot of_slot.From place = number (from_of place)
+value_in_slot of_slot.To place = number (to_of place)
+value_in_slot of_slot.Car place = number (car_of place)
+
+-- the value of a call slot's name, where the group has the slot; slots count from 1
+abbrev pub slot_value_in : ℕ → SlotName → List CallSlot → Option Value
+slot_value_in zero name slots = None
+slot_value_in (suc k) name slots = option_map (value_in_slot name) (slice_get slots k)
+
 -- what a name stands for in a world; a variable has the value that its task's last commit left
 abbrev pub value_of : Watched → World → Option Value
 value_of (Shared name) w = Some (shared_value name w.group.image.fields)
+value_of (Slot name slot) w = slot_value_in slot name w.group.calls.slots
 value_of (Car car name) w = car_value_in car name w.group.image
 value_of (Variable task path) w = option_and_then (λ t. values.get t.variables path.now) (task_at w.group task)
 value_of (Global path) w = values.get w.group.globals path.now

@@ -88,8 +88,8 @@ fn entered_of(reply: Reply, report: &Report) -> &[EnteredCall]
     }
 }
 
-// The tells or the serve of a commit.
-fn answers_of(reply: Reply, report: &Report) -> &[Answered]
+/// The tells or the serve of a commit.
+pub fn answers_of(reply: Reply, report: &Report) -> &[Answered]
     ensures { result.now ≡ answers_of (reply_with reply report.now) }
 {
     match reply {

@@ -38,10 +38,16 @@ impl Observer for Denials {
     ghost shows = { λ d. denied d.all };
 
     fn refreshed(&mut self, round: u16, report: &Report) -> Result<(), AllocError> {
-        put_refresh(&mut self.text, self.all, round, report.denials.as_slice())
+        put_refresh(
+            &mut self.text,
+            self.all,
+            u32::from(round),
+            report.denials.as_slice(),
+        )
     }
 
     fn committed(&mut self, round: u16, task: u8, report: &Report) -> Result<(), AllocError> {
+        let round = u32::from(round);
         put_denials(&mut self.text, round, report.denials.as_slice())?;
         put_answers(&mut self.text, round, task, report.answers.as_slice())
     }
@@ -51,11 +57,11 @@ impl Observer for Denials {
     }
 }
 
-// The denials of a refresh.
-fn put_refresh(
+/// The denials of a refresh.
+pub fn put_refresh(
     text: &mut String,
     all: bool,
-    round: u16,
+    round: u32,
     denials: &[Denial],
 ) -> Result<(), AllocError>
     ensures { OnOk result (string_bytes text.new ≡ string_bytes text.old
@@ -70,7 +76,7 @@ fn put_refresh(
 fn put_refresh_denial(
     text: &mut String,
     all: bool,
-    round: u16,
+    round: u32,
     denial: Denial,
 ) -> Result<(), AllocError>
     ensures { OnOk result (string_bytes text.new ≡ string_bytes text.old
@@ -97,8 +103,8 @@ fn is_end_stop(rule: Rule) -> bool
     }
 }
 
-// The denials of a commit.
-fn put_denials(text: &mut String, round: u16, denials: &[Denial]) -> Result<(), AllocError>
+/// The denials of a commit.
+pub fn put_denials(text: &mut String, round: u32, denials: &[Denial]) -> Result<(), AllocError>
     ensures { OnOk result (string_bytes text.new ≡ string_bytes text.old
         ++ denials_text round denials.now) }
 {
@@ -109,7 +115,7 @@ fn put_denials(text: &mut String, round: u16, denials: &[Denial]) -> Result<(), 
 }
 
 #[tactic(auto, unfolding(crate::specs::Denials::denial_text))]
-fn put_denial(text: &mut String, event: &str, round: u16, denial: Denial) -> Result<(), AllocError>
+fn put_denial(text: &mut String, event: &str, round: u32, denial: Denial) -> Result<(), AllocError>
     ensures { OnOk result (string_bytes text.new ≡ string_bytes text.old
         ++ denial_text event.now round denial) }
 {
@@ -118,9 +124,10 @@ fn put_denial(text: &mut String, event: &str, round: u16, denial: Denial) -> Res
     writeln!(text, " rule {}: {}", rule.number(), rule.sentence())
 }
 
-fn put_answers(
+/// The tells of a commit, or its serve, that were not done.
+pub fn put_answers(
     text: &mut String,
-    round: u16,
+    round: u32,
     task: u8,
     answers: &[Answered],
 ) -> Result<(), AllocError>
@@ -135,7 +142,7 @@ fn put_answers(
 
 fn put_answer(
     text: &mut String,
-    round: u16,
+    round: u32,
     task: u8,
     slot: u8,
     answer: Answer,
@@ -155,7 +162,7 @@ fn put_answer(
 #[tactic(auto, unfolding(crate::specs::Denials::undone_text))]
 fn put_undone(
     text: &mut String,
-    round: u16,
+    round: u32,
     task: u8,
     slot: u8,
     answer: &str,

@@ -3,5 +3,6 @@
 
 pub mod calls;
 pub mod denials;
+pub mod following;
 pub mod names;
 pub mod watch;

@@ -3,12 +3,16 @@
 ghost use Rattle.std.specs.Prelude.{◌≡◌, ◌≤◌, ◌<◌, ◌∷◌, ◌++◌, [], ℕ, List, IfSome, IfOk, OnOk, IsNone, map, string_bytes};
 ghost use Rattle.lift_host.specs.Requests.{words_of};
 ghost use Rattle.lift_spec.specs.Snapshot.{task_name};
-ghost use Rattle.lift_watch.specs.Names.{upper_case, word_of_shared, word_of_car_name, IsReadIn, IsReadAs, IsInTask};
+ghost use Rattle.lift_watch.specs.Names.{upper_case, word_of_shared, word_of_car_name, word_of_slot_name, IsReadIn, IsReadAs, IsInTask, IsIndex, IsOfSlot};
 ghost use Rattle.lift_watch.specs.declared.names.Shared.{Shared};
 ghost use Rattle.lift_watch.specs.declared.names.CarName.{CarName};
+ghost use Rattle.lift_watch.specs.declared.names.SlotName.{SlotName};
 
-use lift_host::request::Words;
+use lift_host::request::{Words, number_to};
 use std::alloc::{AllocError, Global};
+
+// The most call slots of a group.
+const MOST_SLOTS: u16 = 64;
 
 /// A name of the image that all tasks share.
 #[derive(Clone, Copy)]
@@ -34,10 +38,23 @@ pub enum CarName {
     Open,
 }
 
-/// What a name stands for. A task is 0 for GROUP and k for CARk.
+/// A name of the image that each call slot has.
+#[derive(Clone, Copy)]
+pub enum SlotName {
+    /// Whether its call waits for a car.
+    Waits,
+    /// The floors of its call, or 0.
+    From,
+    To,
+    /// The car that its call was told to, or 0.
+    Car,
+}
+
+/// What a name stands for. A task is 0 for GROUP and k for CARk, and slots count from 1.
 #[derive(Clone, Copy)]
 pub enum Watched<'n> {
     Shared(Shared),
+    Slot(SlotName, u8),
     Car(u8, CarName),
     /// A variable of a task, by its path.
     Variable(u8, &'n str),
@@ -50,6 +67,13 @@ pub enum Watched<'n> {
 struct InTask<'n> {
     task: u8,
     rest: &'n str,
+}
+
+// A name of a call slot.
+#[derive(Clone, Copy)]
+struct OfSlot {
+    name: SlotName,
+    slot: u8,
 }
 
 impl Shared {
@@ -87,6 +111,22 @@ impl CarName {
     }
 }
 
+impl SlotName {
+    // The name of a word.
+    fn of(word: &str) -> Option<SlotName>
+        ensures some { IfSome result (λ name. word.now ≡ word_of_slot_name name) }
+        ensures none { IsNone result → (name : SlotName) → word.now ≡ word_of_slot_name name → ⊥ }
+    {
+        match word {
+            "CALLWAITS" => Some(SlotName::Waits),
+            "CALLFROM" => Some(SlotName::From),
+            "CALLTO" => Some(SlotName::To),
+            "CALLCAR" => Some(SlotName::Car),
+            _ => None,
+        }
+    }
+}
+
 /// Names in upper case, as the language reads them.
 pub fn upper_names(alloc: Global, names: Words<'_>) -> Result<Vec<String>, AllocError>
     ensures { IfOk result (λ upper. map string_bytes upper.items
@@ -94,6 +134,7 @@ pub fn upper_names(alloc: Global, names: Words<'_>) -> Result<Vec<String>, Alloc
 {
     let mut upper = Vec::new(alloc);
     add_upper(alloc, &mut upper, names.front)?;
+    add_upper(alloc, &mut upper, names.middle)?;
     add_upper(alloc, &mut upper, names.back)?;
     Ok(upper)
 }
@@ -108,18 +149,42 @@ fn add_upper(alloc: Global, upper: &mut Vec<String>, names: &[String]) -> Result
     Ok(())
 }
 
-/// What a name stands for: a name of the image, otherwise a variable of the task whose name stands before its first period, and
-/// otherwise a global.
+/// What a name stands for: a name of the image or of one of its call slots, otherwise a variable of the task whose name stands before
+/// its first period, and otherwise a global.
 pub fn read(name: &str) -> Watched<'_>
     ensures { IsReadAs name.now result }
 {
     if let Some(shared) = Shared::of(name) {
         return Watched::Shared(shared);
     }
+    if let Some(it) = of_slot(name) {
+        return Watched::Slot(it.name, it.slot);
+    }
     match in_task(name) {
         Some(it) => read_in(it.task, it.rest),
         None => Watched::Global(name),
     }
+}
+
+// The array of the call slots before the first bracket, and the slot in it.
+fn of_slot(name: &str) -> Option<OfSlot>
+    ensures some { IfSome result (λ it. IsOfSlot name.now it.name it.slot) }
+    ensures none { IsNone result → (it : SlotName) (slot : ℕ) → IsOfSlot name.now it slot → ⊥ }
+{
+    let (front, rest) = name.split_once('[')?;
+    let array = SlotName::of(front)?;
+    let slot = slot_of(rest)?;
+    Some(OfSlot { name: array, slot })
+}
+
+// The number of a slot, in front of the closing bracket.
+fn slot_of(rest: &str) -> Option<u8>
+    ensures some { IfSome result (IsIndex rest.now) }
+    ensures none { IsNone result → (slot : ℕ) → IsIndex rest.now slot → ⊥ }
+{
+    let digits = rest.strip_suffix(']')?;
+    let slot = number_to(MOST_SLOTS, digits)?;
+    Some(slot as u8)
 }
 
 // What a name stands for behind that of a task.

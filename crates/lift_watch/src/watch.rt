@@ -1,13 +1,14 @@
 // What `watch` prints.
 
-ghost use Rattle.std.specs.Prelude.{◌≡◌, ◌++◌, [], None, flat_map, IfOk, IfErr, OnOk, map, string_bytes, codes};
-ghost use Rattle.lift_spec.specs.Snapshot.{motor_number};
-ghost use Rattle.lift_watch.specs.Values.{shared_value, value_in_car, car_value_in, value_of, value_text, names_text, values_text, row_text, header_text, AreWatched, IsUnnamed};
+ghost use Rattle.std.specs.Prelude.{◌≡◌, ◌++◌, [], None, flat_map, IfOk, IfErr, OnOk, map, string_bytes, codes, pos};
+ghost use Rattle.lift_spec.specs.Snapshot.{motor_number, from_of, to_of, car_of};
+ghost use Rattle.lift_watch.specs.Values.{shared_value, value_in_car, car_value_in, value_in_slot, slot_value_in, value_of, value_text, names_text, values_text, row_text, header_text, AreWatched, IsUnnamed};
 
-use crate::names::{CarName, Shared, Watched, read};
+use crate::names::{CarName, Shared, SlotName, Watched, read};
 use il_machine::Value;
 use lift_host::status::Fault;
 use lift_runs::observer::Observer;
+use lift_spec::calls::Slot;
 use lift_spec::report::Report;
 use lift_spec::{CarFields, CarOutputs, Fields, Image, Motor};
 use lift_world::World;
@@ -55,7 +56,12 @@ impl Observer for Watch<'_> {
     }
 
     fn ended(&mut self, round: u16, world: &World) -> Result<(), AllocError> {
-        put_row(&mut self.text, round, world, self.watched.as_slice())
+        put_row(
+            &mut self.text,
+            u32::from(round),
+            world,
+            self.watched.as_slice(),
+        )
     }
 }
 
@@ -101,10 +107,10 @@ fn put_names(text: &mut String, names: &[String]) -> Result<(), AllocError>
     Ok(())
 }
 
-// The number of the round, and the values.
-fn put_row(
+/// The number of the round, and the values, as a line.
+pub fn put_row(
     text: &mut String,
-    round: u16,
+    round: u32,
     world: &World,
     watched: &[Watched<'_>],
 ) -> Result<(), AllocError>
@@ -143,6 +149,7 @@ fn value_of(world: &World, watched: Watched<'_>) -> Option<Value>
 {
     match watched {
         Watched::Shared(name) => Some(shared_value(&world.image().fields, name)),
+        Watched::Slot(name, slot) => slot_value(world, slot, name),
         Watched::Car(car, name) => car_value(world.image(), car, name),
         Watched::Variable(task, path) => world.variable(task, path),
         Watched::Global(path) => world.global(path),
@@ -156,6 +163,59 @@ fn shared_value(fields: &Fields, name: Shared) -> Value
         Shared::Now => Value::Integer(i64::from(fields.time)),
         Shared::RunLimit => Value::Integer(i64::from(fields.run_limit)),
         Shared::Fire => Value::Boolean(fields.fire),
+    }
+}
+
+// The value of a call slot's name; slots count from 1.
+fn slot_value(world: &World, slot: u8, name: SlotName) -> Option<Value>
+    ensures { result ≡ slot_value_in slot name world.now.world.group.calls.slots }
+{
+    let place = usize::from(slot).checked_sub(1)?;
+    let slots = world.slots();
+    let slot = slots.as_slice().get(place)?;
+    Some(value_in_slot(name, *slot))
+}
+
+fn value_in_slot(name: SlotName, slot: Slot) -> Value
+    ensures { result ≡ value_in_slot name slot }
+{
+    match name {
+        SlotName::Waits => Value::Boolean(matches!(slot, Slot::Waiting { .. })),
+        SlotName::From => Value::Integer(i64::from(from_of(slot))),
+        SlotName::To => Value::Integer(i64::from(to_of(slot))),
+        SlotName::Car => Value::Integer(i64::from(car_of(slot))),
+    }
+}
+
+// The floor from which its call goes, or 0.
+fn from_of(slot: Slot) -> u8
+    ensures { result ≡ from_of slot }
+{
+    match slot {
+        Slot::Free => 0,
+        Slot::Waiting { call, .. } => call.from,
+        Slot::Told { call, .. } => call.from,
+    }
+}
+
+// The floor to which its call goes, or 0.
+fn to_of(slot: Slot) -> u8
+    ensures { result ≡ to_of slot }
+{
+    match slot {
+        Slot::Free => 0,
+        Slot::Waiting { call, .. } => call.to,
+        Slot::Told { call, .. } => call.to,
+    }
+}
+
+// The car that its call was told to, or 0.
+fn car_of(slot: Slot) -> u8
+    ensures { result ≡ car_of slot }
+{
+    match slot {
+        Slot::Told { car, .. } => car,
+        _ => 0,
     }
 }
 

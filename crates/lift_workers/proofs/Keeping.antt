@@ -15,6 +15,7 @@ use Rattle.lift_runs.specs.Driven.{call_of}
 use Rattle.lift_spec.specs.declared.calls.Call.{Call}
 use Rattle.lift_spec.specs.declared.journal.Entry.{Entry}
 use Rattle.lift_spec.specs.Hands.{same_call}
+use Rattle.lift_plant.specs.declared.switches.Switches.{Switches}
 use Rattle.lift_workers.specs.Panels.{HasPressed, IsIdle, calls_at, at_panel, pressed, ArePressed}
 use Rattle.lift_workers.specs.Ran.{IsEntered, found, AreKept, IsRun}
 use Rattle.lift_workers.specs.declared.run.Ran.{Ran}
@@ -82,8 +83,8 @@ kept_same floors xs ys entries left same kept = record {
   doubled = λ c from to. omega (arith, kept.doubled c from to, pressed_same xs ys same c);
 }
 
-run_same : (c : Config) (fire : ℕ → Bool) (rounds : ℕ) (xs ys : List Press) (entries : List Entry) (left : DeskClosed) → IsPermutation xs ys → IsRun c fire rounds ys entries left → IsRun c fire rounds xs entries left
-run_same c fire rounds xs ys entries left same run = record {
+run_same : (c : Config) (switches : ℕ → Switches) (rounds : ℕ) (xs ys : List Press) (entries : List Entry) (left : DeskClosed) → IsPermutation xs ys → IsRun c switches rounds ys entries left → IsRun c switches rounds xs entries left
+run_same c switches rounds xs ys entries left same run = record {
   world = run.world;
   journal = run.journal;
   tasks = run.tasks;
@@ -93,10 +94,10 @@ run_same c fire rounds xs ys entries left same run = record {
   kept = kept_same _ xs ys entries left same run.kept;
 }
 
-pub ran_same : {E : Type 0} (c : Config) (fire : ℕ → Bool) (rounds : ℕ) (xs ys : List Press) (r : Result Ran E) → IsPermutation xs ys
-    → IfOk r (λ (ran : Ran). IsRun c fire rounds ys ran.journal.items ran.left) → IfOk r (λ (ran : Ran). IsRun c fire rounds xs ran.journal.items ran.left)
-ran_same c fire rounds xs ys (Ok ran) same run = run_same c fire rounds xs ys ran.journal.items ran.left same run
-ran_same c fire rounds xs ys (Err e) same run = tt
+pub ran_same : {E : Type 0} (c : Config) (switches : ℕ → Switches) (rounds : ℕ) (xs ys : List Press) (r : Result Ran E) → IsPermutation xs ys
+    → IfOk r (λ (ran : Ran). IsRun c switches rounds ys ran.journal.items ran.left) → IfOk r (λ (ran : Ran). IsRun c switches rounds xs ran.journal.items ran.left)
+ran_same c switches rounds xs ys (Ok ran) same run = run_same c switches rounds xs ys ran.journal.items ran.left same run
+ran_same c switches rounds xs ys (Err e) same run = tt
 
 -- LOOPS
 

@@ -1,5 +1,5 @@
 -- What a run with threads leaves: its journal, and the calls that no refresh has entered yet (own rules).
-use Rattle.std.specs.Prelude.{◌≡◌, ℕ, ◌+◌, ◌<◌, ◌≤◌, Bool, List, true}
+use Rattle.std.specs.Prelude.{◌≡◌, ℕ, ◌+◌, ◌<◌, ◌≤◌, List, true}
 use Rattle.il_spec.specs.declared.tree.Config.{Config}
 use Rattle.lift_desk.specs.Account.{times, membership}
 use Rattle.lift_desk.specs.Passes.{Holding, IsFloorOf}
@@ -11,6 +11,7 @@ use Rattle.lift_spec.specs.Image.{sizes_of}
 use Rattle.lift_spec.specs.declared.journal.Entry.{Entry}
 use Rattle.lift_spec.specs.Plant.{PlantState}
 use Rattle.lift_spec.specs.World.{World}
+use Rattle.lift_plant.specs.declared.switches.Switches.{Switches}
 use Rattle.lift_journal.specs.Driven.{IsSafeJournal}
 use Rattle.lift_journal.specs.Journal.{IsJournalOf, entries_by, calls_entered, refresher}
 use Rattle.lift_station.specs.Passes.{is_task}
@@ -29,13 +30,13 @@ pub record AreKept (floors : ℕ) (presses : List Press) (entries : List Entry) 
   pub doubled : (call : Call) → IsFloorOf floors call.from → IsFloorOf floors call.to → found entries left call ≤ pressed presses call
 
 -- The entries are the journal of a run of the group from its opening, in which each task was started and committed in each of so many
--- rounds, and the image was refreshed in each. Their order is free. Each refresh came from the plant, with FIRE by its number, and no car
+-- rounds, and the image was refreshed in each. Their order is free. Each refresh came from the plant, which was set by its number, and no car
 -- changed its place unless its door was shut, or left its shaft. The presses are kept.
-pub record IsRun (c : Config) (fire : ℕ → Bool) (rounds : ℕ) (presses : List Press) (entries : List Entry) (left : DeskClosed) : Type 0 where
+pub record IsRun (c : Config) (switches : ℕ → Switches) (rounds : ℕ) (presses : List Press) (entries : List Entry) (left : DeskClosed) : Type 0 where
   pub world : World
   pub journal : IsJournalOf c entries world
   pub tasks : (t : ℕ) → is_task c t ≡ true → entries_by t entries ≡ rounds + rounds
   pub refreshes : entries_by refresher entries ≡ rounds
   pub plant : PlantState
-  pub safe : IsSafeJournal c fire entries plant world
+  pub safe : IsSafeJournal c switches entries plant world
   pub kept : AreKept (sizes_of c).floors presses entries left

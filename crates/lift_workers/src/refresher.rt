@@ -1,14 +1,17 @@
 // The worker that gathers calls and refreshes the image by the plant.
 
-ghost use Rattle.std.specs.Prelude.{◌≡◌, ◌+◌, IfOk};
-ghost use Rattle.lift_journal.specs.Rounds.{is_fire_in};
+ghost use Rattle.std.specs.Prelude.{◌≡◌, ◌≤◌, ◌+◌, ℕ, IfOk};
+ghost use Rattle.lift_runs.specs.Ahead.{setting_round, Rises};
+ghost use Rattle.lift_runs.specs.Driven.{switches_in};
 ghost use Rattle.lift_spec.specs.Image.{sizes_of};
 ghost use Rattle.lift_workers.specs.Ran.{IsEntered};
 
 use crate::gate::Gate;
 use lift_desk::{Desk, HandPass};
+use lift_host::press::Setting;
 use lift_journal::fault::StationFault;
-use lift_journal::fire::is_fire_in;
+use lift_plant::switches::Switches;
+use lift_runs::ahead::{at_first, set_in};
 use lift_spec::report::Report;
 use lift_station::{Naming, RefreshPass, Station};
 use std::alloc::AllocError;
@@ -23,11 +26,11 @@ pub struct Refresher<G: Naming> {
     pub hand: HandPass,
 }
 
-/// How many rounds a refresher has, and the round from which on FIRE holds.
+/// How many rounds a refresher has, and what the building sets of the plant, by its rounds.
 #[derive(Clone, Copy)]
-pub struct Pace {
+pub struct Pace<'s> {
     pub rounds: u16,
-    pub fire: Option<u16>,
+    pub settings: &'s [Setting],
 }
 
 /// The rounds of a refresher, and the desk of its hand.
@@ -53,12 +56,13 @@ fn round<G: Naming, R: Wait>(
     station: &Station<G>,
     desk: &Desk,
     refresher: Refresher<G>,
-    fire: bool,
+    switches: Switches,
     report: &mut Report,
 ) -> Result<Refresher<G>, StationFault>
     requires table { refresher.hand.table ≡ desk.now.table }
     requires floors { refresher.hand.floors ≡ (sizes_of G.program.config).floors }
-    requires fire { fire ≡ G.fire (refresher.pass.refreshes + 1) }
+    requires switches { switches ≡ G.switches (refresher.pass.refreshes + 1) }
+    requires limit { switches.run_limit ≤ (sizes_of G.program.config).cars }
     requires entered { IsEntered refresher.pass.entered refresher.hand }
     ensures hand { IfOk result (λ r. (r.hand.table ≡ refresher.hand.table)
         × (r.hand.floors ≡ refresher.hand.floors)) }
@@ -68,7 +72,7 @@ fn round<G: Naming, R: Wait>(
 {
     let Refresher { pass, hand } = refresher;
     let hand = desk.gather(hand);
-    let (pass, hand, driven) = station.drive(rt, pass, fire, hand, report);
+    let (pass, hand, driven) = station.drive(rt, pass, switches, hand, report);
     driven?;
     Ok(Refresher { pass, hand })
 }
@@ -80,12 +84,16 @@ pub fn work<G: Naming, T: Gate, R: Wait>(
     desk: &Desk,
     gate: &T,
     refresher: Refresher<G>,
-    pace: Pace,
+    pace: Pace<'_>,
 ) -> Result<Refresher<G>, StationFault>
     requires new { (refresher.pass.refreshes ≡ 0) × (refresher.pass.driven ≡ 0) }
     requires table { refresher.hand.table ≡ desk.now.table }
     requires floors { refresher.hand.floors ≡ (sizes_of G.program.config).floors }
-    requires fire { G.fire ≡ is_fire_in pace.fire }
+    requires rises { Rises setting_round 0 pace.settings.now }
+    requires switches { G.switches
+        ≡ switches_in (sizes_of G.program.config).cars pace.settings.now }
+    requires limit { (n : ℕ)
+        → (G.switches n).run_limit ≤ (sizes_of G.program.config).cars }
     requires entered { IsEntered refresher.pass.entered refresher.hand }
     ensures counts { IfOk result (λ d. (d.hand.table ≡ refresher.hand.table)
         × (d.pass.refreshes ≡ pace.rounds) × (d.pass.driven ≡ pace.rounds)) }
@@ -93,9 +101,10 @@ pub fn work<G: Naming, T: Gate, R: Wait>(
 {
     let mut refresher = refresher;
     let mut report = Report::new();
+    let mut standing = at_first(station.verified().sizes().cars, pace.settings);
     'rounds: for below in 0..pace.rounds {
-        let fire = is_fire_in(pace.fire, below + 1);
-        match round(rt, station, desk, refresher, fire, &mut report) {
+        standing = set_in(standing, below + 1);
+        match round(rt, station, desk, refresher, standing.switches, &mut report) {
             Ok(next) => {
                 gate.refreshed(rt, below + 1);
                 refresher = next;
@@ -117,12 +126,16 @@ pub fn start<'s, E, G: Naming + Send + Sync, T: Gate + Sync, R: Threads + Wait +
     desk: &'s Desk,
     gate: &'s T,
     refresher: Refresher<G>,
-    pace: Pace,
+    pace: Pace<'s>,
 ) -> Result<RefresherHandle<G>, AllocError>
     requires new { (refresher.pass.refreshes ≡ 0) × (refresher.pass.driven ≡ 0) }
     requires table { refresher.hand.table ≡ desk.now.table }
     requires floors { refresher.hand.floors ≡ (sizes_of G.program.config).floors }
-    requires fire { G.fire ≡ is_fire_in pace.fire }
+    requires rises { Rises setting_round 0 pace.settings.now }
+    requires switches { G.switches
+        ≡ switches_in (sizes_of G.program.config).cars pace.settings.now }
+    requires limit { (n : ℕ)
+        → (G.switches n).run_limit ≤ (sizes_of G.program.config).cars }
     requires entered { IsEntered refresher.pass.entered refresher.hand }
     ensures { IfOk result (λ h. (h.promise.rounds ≡ pace.rounds)
         × (h.promise.desk.value.table ≡ desk.now.table)) }
@@ -131,7 +144,11 @@ pub fn start<'s, E, G: Naming + Send + Sync, T: Gate + Sync, R: Threads + Wait +
         requires new { (refresher.pass.refreshes ≡ 0) × (refresher.pass.driven ≡ 0) }
         requires table { refresher.hand.table ≡ desk.now.table }
         requires floors { refresher.hand.floors ≡ (sizes_of G.program.config).floors }
-        requires fire { G.fire ≡ is_fire_in pace.fire }
+        requires rises { Rises setting_round 0 pace.settings.now }
+        requires switches { G.switches
+            ≡ switches_in (sizes_of G.program.config).cars pace.settings.now }
+        requires limit { (n : ℕ)
+            → (G.switches n).run_limit ≤ (sizes_of G.program.config).cars }
         requires entered { IsEntered refresher.pass.entered refresher.hand }
         ensures { IfOk result (λ d. (d.hand.table ≡ desk.entry.now.table)
             × (d.pass.refreshes ≡ pace.rounds) × (d.pass.driven ≡ pace.rounds)

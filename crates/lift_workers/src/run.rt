@@ -4,7 +4,8 @@ ghost use Rattle.std.specs.Prelude.{◌≡◌, ◌+◌, ◌≤◌, ◌*◌, [], 
 ghost use Rattle.lift_spec.specs.declared.calls.Call.{Call};
 ghost use Rattle.std.specs.Thread.{IsSync};
 ghost use Rattle.lift_spec.specs.Image.{sizes_of};
-ghost use Rattle.lift_journal.specs.Rounds.{is_fire_in};
+ghost use Rattle.lift_runs.specs.Ahead.{setting_round, Rises, IsAhead};
+ghost use Rattle.lift_runs.specs.Driven.{AreSettings, switches_in};
 ghost use Rattle.lift_desk.specs.Account.{times};
 ghost use Rattle.lift_desk.specs.Passes.{AreNewPanels, AreAllPanels};
 ghost use Rattle.lift_station.specs.Passes.{is_task, all_tasks};
@@ -18,7 +19,8 @@ use crate::refresher::{Pace, Refresher};
 use crate::{panel, refresher, task};
 use il_machine::Verified;
 use lift_desk::{Desk, DeskClosed, HandPass, PanelPass};
-use lift_host::press::Press;
+use lift_host::press::{Press, Setting};
+use lift_runs::ahead::settings_by_round;
 use lift_spec::Sizes;
 use lift_spec::journal::Entry;
 use lift_station::{Blanks, Closed, Naming, RefreshPass, Station, TaskPass};
@@ -31,12 +33,12 @@ use std::thread::{Scope, Threads};
 /// How many panels each floor has.
 pub const PANELS: u8 = 4;
 
-/// What drives a run: the presses, how many rounds, and the round from which on FIRE holds.
+/// What drives a run: the presses, how many rounds, and what the building sets of the plant, by the number of a refresh.
 #[derive(Clone, Copy)]
 pub struct Plan<'p> {
     pub presses: &'p [Press],
     pub rounds: u16,
-    pub fire: Option<u16>,
+    pub settings: &'p [Setting],
 }
 
 /// Those who go into threads.
@@ -149,7 +151,11 @@ pub fn run_all<G: Naming + Send + Sync, T: Gate + Sync, R: Threads + Wait + Sync
     requires refreshes { (crew.refresher.pass.refreshes ≡ 0) × (crew.refresher.pass.driven ≡ 0) }
     requires hand { crew.refresher.hand.table ≡ desk.now.table }
     requires floors { crew.refresher.hand.floors ≡ (sizes_of G.program.config).floors }
-    requires fire { G.fire ≡ is_fire_in plan.fire }
+    requires rises { Rises setting_round 0 plan.settings.now }
+    requires switches { G.switches
+        ≡ switches_in (sizes_of G.program.config).cars plan.settings.now }
+    requires limit { (n : ℕ)
+        → (G.switches n).run_limit ≤ (sizes_of G.program.config).cars }
     requires entered { IsEntered crew.refresher.pass.entered crew.refresher.hand }
     requires each { desk.now.panels ≡ 4 }
     requires panels { AreNewPanels desk.now crew.panels.items }
@@ -173,7 +179,7 @@ pub fn run_all<G: Naming + Send + Sync, T: Gate + Sync, R: Threads + Wait + Sync
     let Plan {
         presses,
         rounds,
-        fire,
+        settings,
     } = plan;
     thread::scope(
         thread::scope_env(),
@@ -185,7 +191,11 @@ pub fn run_all<G: Naming + Send + Sync, T: Gate + Sync, R: Threads + Wait + Sync
             requires refreshes { (refresher.pass.refreshes ≡ 0) × (refresher.pass.driven ≡ 0) }
             requires hand { refresher.hand.table ≡ desk.now.table }
             requires floors { refresher.hand.floors ≡ (sizes_of G.program.config).floors }
-            requires fire { G.fire ≡ is_fire_in fire }
+            requires rises { Rises setting_round 0 settings.now }
+            requires switches { G.switches
+                ≡ switches_in (sizes_of G.program.config).cars settings.now }
+            requires limit { (n : ℕ)
+                → (G.switches n).run_limit ≤ (sizes_of G.program.config).cars }
             requires entered { IsEntered refresher.pass.entered refresher.hand }
             requires each { desk.now.panels ≡ 4 }
             requires panels { AreNewPanels desk.now panels.items }
@@ -217,7 +227,7 @@ pub fn run_all<G: Naming + Send + Sync, T: Gate + Sync, R: Threads + Wait + Sync
                     desk,
                     gate,
                     refresher,
-                    Pace { rounds, fire },
+                    Pace { rounds, settings },
                 ),
             )?;
             let tasks = task::join_all(rt, alloc, tasks, rounds)?;
@@ -241,12 +251,24 @@ fn by_round(alloc: Global, presses: &[Press]) -> Result<Vec<Press>, AllocError>
     Ok(ordered)
 }
 
-// The presses by their rounds, and new ledgers.
-fn prepared(alloc: Global, presses: &[Press]) -> Result<(Vec<Press>, Blanks), AllocError>
-    ensures { IfOk result (λ r. IsPermutation presses.now r.0.items) }
+// The presses and the settings by their rounds, and new ledgers.
+#[derive(Drop)]
+struct Prepared {
+    presses: Vec<Press>,
+    settings: Vec<Setting>,
+    blanks: Blanks,
+}
+
+fn prepared(alloc: Global, plan: Plan<'_>) -> Result<Prepared, AllocError>
+    ensures presses { IfOk result (λ p. IsPermutation plan.entry.presses.now p.presses.items) }
+    ensures settings { IfOk result (λ p. IsAhead setting_round 0 plan.entry.settings.now
+        p.settings.items) }
 {
-    let ordered = by_round(alloc, presses)?;
-    Ok((ordered, Blanks::new(alloc)?))
+    Ok(Prepared {
+        presses: by_round(alloc, plan.presses)?,
+        settings: settings_by_round(alloc, plan.settings)?,
+        blanks: Blanks::new(alloc)?,
+    })
 }
 
 // How many entries a journal gets in so many rounds.
@@ -275,7 +297,7 @@ fn closed<G: Naming>(station: Station<G>, desk: Desk, passes: Passes<G>, plan: P
         × AreAllPanels desk passes.panels.items }
     requires presses { All (λ press. IsPressAt desk.floors press) plan.presses.now }
     requires pressed { ArePressed plan.presses.now passes.panels.items }
-    ensures { IsRun G.program.config G.fire plan.entry.rounds plan.entry.presses.now
+    ensures { IsRun G.program.config G.switches plan.entry.rounds plan.entry.presses.now
         result.journal.items result.left }
 {
     let Passes {
@@ -309,12 +331,16 @@ fn run_at<G: Naming + Send + Sync, T: Gate + Sync, R: Threads + Wait + Sync>(
     requires refreshes { (crew.refresher.pass.refreshes ≡ 0) × (crew.refresher.pass.driven ≡ 0) }
     requires hand { crew.refresher.hand.table ≡ desk.table }
     requires floors { crew.refresher.hand.floors ≡ (sizes_of G.program.config).floors }
-    requires fire { G.fire ≡ is_fire_in plan.fire }
+    requires rises { Rises setting_round 0 plan.settings.now }
+    requires switches { G.switches
+        ≡ switches_in (sizes_of G.program.config).cars plan.settings.now }
+    requires limit { (n : ℕ)
+        → (G.switches n).run_limit ≤ (sizes_of G.program.config).cars }
     requires entered { IsEntered crew.refresher.pass.entered crew.refresher.hand }
     requires size { (desk.floors ≡ (sizes_of G.program.config).floors) × (desk.panels ≡ 4) }
     requires panels { AreNewPanels desk crew.panels.items }
     requires presses { All (λ press. IsPressAt desk.floors press) plan.presses.now }
-    ensures { IfOk result (λ ran. IsRun G.program.config G.fire plan.entry.rounds
+    ensures { IfOk result (λ ran. IsRun G.program.config G.switches plan.entry.rounds
         plan.entry.presses.now ran.journal.items ran.left) }
 {
     match run_all(rt, alloc, &station, &desk, gate, crew, plan) {
@@ -357,12 +383,16 @@ fn run_in<G: Naming + Send + Sync, T: Gate + Sync, R: Threads + Wait + Sync>(
     plan: Plan<'_>,
 ) -> Result<Ran, RunFault>
     requires program { verified ≡ G.program }
-    requires fire { G.fire ≡ is_fire_in plan.fire }
+    requires rises { Rises setting_round 0 plan.settings.now }
+    requires switches { G.switches
+        ≡ switches_in (sizes_of G.program.config).cars plan.settings.now }
+    requires limit { (n : ℕ)
+        → (G.switches n).run_limit ≤ (sizes_of G.program.config).cars }
     requires names { (i : ℕ) → slice_index_or blanks.ledgers i 0 ≡ G.names i }
     requires tally { blanks.tally ≡ G.tally }
     requires presses { All (λ press. IsPressAt (sizes_of verified.config).floors press)
         plan.presses.now }
-    ensures { IfOk result (λ ran. IsRun G.program.config G.fire plan.entry.rounds
+    ensures { IfOk result (λ ran. IsRun G.program.config G.switches plan.entry.rounds
         plan.entry.presses.now ran.journal.items ran.left) }
 {
     let _config = verified.config();
@@ -403,13 +433,22 @@ pub fn run<T: Gate + Sync, R: Threads + Wait + Sync>(
 ) -> Result<Ran, RunFault>
     requires presses { All (λ press. IsPressAt (sizes_of verified.config).floors press)
         plan.presses.now }
-    ensures { IfOk result (λ ran. IsRun verified.config (is_fire_in plan.entry.fire)
-        plan.entry.rounds plan.entry.presses.now ran.journal.items ran.left) }
+    requires settings { AreSettings (sizes_of verified.config).cars plan.settings.now }
+    ensures { IfOk result (λ ran. IsRun verified.config
+        (switches_in (sizes_of verified.config).cars plan.entry.settings.now) plan.entry.rounds
+        plan.entry.presses.now ran.journal.items ran.left) }
 {
-    match prepared(alloc, plan.presses) {
-        Ok((ordered, blanks)) => {
+    match prepared(alloc, plan) {
+        Ok(
+            Prepared {
+                presses,
+                settings,
+                blanks,
+            },
+        ) => {
             let plan = Plan {
-                presses: &ordered,
+                presses: &presses,
+                settings: &settings,
                 ..plan
             };
             run_in::<Brand, T, R>(rt, alloc, blanks, verified, gate, plan)

@@ -73,7 +73,7 @@ fn cars_run_at_once(rt: HostRuntime) -> Result<(), Fail> {
     let plan = Plan {
         presses: &[],
         rounds: 3,
-        fire: None,
+        settings: &[],
     };
     let Ok(ran) = run(&rt, rt.alloc(), verified, &gate, plan) else {
         panic!(&rt; "no memory")
@@ -114,7 +114,7 @@ fn together_a_round_ends_for_all_before_the_next_begins(rt: HostRuntime) -> Resu
     let plan = Plan {
         presses: &[],
         rounds: 20,
-        fire: None,
+        settings: &[],
     };
     let Ok(ran) = run(&rt, rt.alloc(), verified, &Together::new(2), plan) else {
         panic!(&rt; "no memory")

@@ -1,13 +1,15 @@
 // Stations made from texts, and steps on them.
 
-ghost use Rattle.std.specs.Prelude.{◌≡◌, ◌≤◌, ℕ, false, IfOk, slice_index_or};
+ghost use Rattle.std.specs.Prelude.{◌≡◌, ◌≤◌, ℕ, IfOk, slice_index_or};
 ghost use Rattle.lift_desk.specs.Passes.{AreAllPanels, IsFloorOf};
+ghost use Rattle.lift_plant.specs.Switches.{opening_switches};
 ghost use Rattle.lift_spec.specs.Image.{sizes_of};
 
 use il_machine::{Scanned, Value, Verified, scan};
 use il_spec::fault::Refusal;
 use lift_desk::{Desk, DeskClosed, HandPass, PanelPass, Pressed};
 use lift_load::load;
+use lift_plant::switches::Switches;
 use lift_spec::calls::Slot;
 use lift_spec::journal::Entry;
 use lift_spec::report::Report;
@@ -251,7 +253,7 @@ fn refresh<G: Naming, R: Wait>(
     }
 }
 
-// The plant goes a step without FIRE, and the image takes what it reports: 0, or the number of the fault.
+// The plant goes a step without FIRE, where all cars may run, and the image takes what it reports: 0, or the number of the fault.
 fn drive<G: Naming, R: Wait>(
     rt: &R,
     station: &Station<G>,
@@ -260,10 +262,12 @@ fn drive<G: Naming, R: Wait>(
     report: &mut Report,
 ) -> (RefreshPass<G>, HandPass, u64)
     requires floors { collector.floors ≡ (sizes_of G.program.config).floors }
-    requires fire { (n : ℕ) → false ≡ G.fire n }
+    requires switches { (n : ℕ)
+        → opening_switches (sizes_of G.program.config).cars ≡ G.switches n }
     ensures { (result.1.table ≡ collector.table) × (result.1.floors ≡ collector.floors) }
 {
-    let (pass, collector, answer) = station.drive(rt, pass, false, collector, report);
+    let switches = Switches::opening(station.verified().sizes().cars);
+    let (pass, collector, answer) = station.drive(rt, pass, switches, collector, report);
     match answer {
         Ok(()) => (pass, collector, 0),
         Err(fault) => (pass, collector, u64::from(fault.number())),
@@ -359,7 +363,8 @@ fn of_refresher<G: Naming, R: Wait>(
     step: Step,
 ) -> (RefreshPass<G>, HandPass, Option<u64>)
     requires floors { collector.floors ≡ (sizes_of G.program.config).floors }
-    requires fire { (n : ℕ) → false ≡ G.fire n }
+    requires switches { (n : ℕ)
+        → opening_switches (sizes_of G.program.config).cars ≡ G.switches n }
     ensures { (result.1.table ≡ collector.table) × (result.1.floors ≡ collector.floors) }
 {
     let fields = match step {
@@ -401,7 +406,8 @@ fn take_step<'s, G: Naming, R: Wait>(
 ) -> Result<(RefreshPass<G>, Hall, u64), AllocError>
     requires table { hall.collector.table ≡ desk.now.table }
     requires floors { hall.collector.floors ≡ (sizes_of G.program.config).floors }
-    requires fire { (n : ℕ) → false ≡ G.fire n }
+    requires switches { (n : ℕ)
+        → opening_switches (sizes_of G.program.config).cars ≡ G.switches n }
     requires panels { AreAllPanels desk.now hall.panels.items }
     ensures table { IfOk result (λ r. r.1.collector.table ≡ desk.now.table) }
     ensures floors { IfOk result (λ r. r.1.collector.floors ≡ (sizes_of G.program.config).floors) }
@@ -441,7 +447,8 @@ fn steps<'s, G: Naming, R: Wait>(
 ) -> Result<Rest<G>, AllocError>
     requires table { hall.collector.table ≡ desk.now.table }
     requires floors { hall.collector.floors ≡ (sizes_of G.program.config).floors }
-    requires fire { (n : ℕ) → false ≡ G.fire n }
+    requires switches { (n : ℕ)
+        → opening_switches (sizes_of G.program.config).cars ≡ G.switches n }
     requires panels { AreAllPanels desk.now hall.panels.items }
     ensures table { IfOk result (λ r. r.hall.collector.table ≡ desk.now.table) }
     ensures panels { IfOk result (λ r. AreAllPanels desk.now r.hall.panels.items) }
@@ -522,7 +529,8 @@ fn play_in<G: Naming, R: Wait>(
     requires tally { blanks.tally ≡ G.tally }
     requires table { opened.2.table ≡ opened.0.table }
     requires floors { opened.2.floors ≡ (sizes_of G.program.config).floors }
-    requires fire { (n : ℕ) → false ≡ G.fire n }
+    requires switches { (n : ℕ)
+        → opening_switches (sizes_of G.program.config).cars ≡ G.switches n }
     requires panels { AreAllPanels opened.0 opened.1.items }
 {
     let (desk, panels, collector) = opened;

@@ -5,6 +5,7 @@ ghost use Rattle.std.specs.Prelude.{◌≡◌, length};
 use crate::memory::text::FLOORS;
 use lift_interlock::{commit_keeps_obeying, refresh_gives_obeying, settle_all, settle_car};
 use lift_plant::plant::{Plant, plant_step, step_is_safe};
+use lift_plant::switches::Switches;
 use lift_spec::{
     Bounded, CarFields, CarOutputs, Fields, Image, Motor, Outputs, Sizes, in_range, is_floor,
     range_is_tested,
@@ -49,7 +50,14 @@ pub fn answers() -> [i128; 6] {
     };
     let car = settle_car(&image, 1, Motor::Down, false);
     let all = settle_all(&image.outputs, &image.fields);
-    let (plant, fields) = plant_step(Plant::new(2, FLOORS).with_fire(true), &image.outputs);
+    let switches = Switches {
+        fire: true,
+        ..Switches::opening(2)
+    };
+    let (plant, fields) = plant_step(
+        Plant::new(2, FLOORS).with_switches(switches),
+        &image.outputs,
+    );
     commit_keeps_obeying();
     refresh_gives_obeying();
     range_is_tested();

@@ -1,6 +1,7 @@
 // The calls of a station.
 
-ghost use Rattle.std.specs.Prelude.{◌≡◌, ℕ, false, slice_index_or};
+ghost use Rattle.std.specs.Prelude.{◌≡◌, ℕ, slice_index_or};
+ghost use Rattle.lift_plant.specs.Switches.{opening_switches};
 ghost use Rattle.lift_spec.specs.Image.{sizes_of};
 
 use crate::memory::lines::{allocation, no_allocation, print};
@@ -10,6 +11,7 @@ use il_machine::Verified;
 use il_spec::fault::Refusal;
 use lift_desk::HandPass;
 use lift_load::load;
+use lift_plant::switches::Switches;
 use lift_spec::report::Report;
 use lift_station::{Blanks, Closed, Naming, RefreshPass, Station, TaskPass};
 use std::alloc::Global;
@@ -29,10 +31,12 @@ fn refresh<G: Naming, R: Wait>(
     report: &mut Report,
 ) -> (RefreshPass<G>, HandPass, [i128; 3])
     requires floors { collector.floors ≡ (sizes_of G.program.config).floors }
-    requires fire { (i : ℕ) → G.fire i ≡ false }
+    requires switches { (i : ℕ)
+        → opening_switches (sizes_of G.program.config).cars ≡ G.switches i }
     ensures { (result.1.table ≡ collector.table) × (result.1.floors ≡ collector.floors) }
 {
-    let (pass, collector, driven) = station.drive(rt, pass, false, collector, report);
+    let switches = Switches::opening(station.verified().sizes().cars);
+    let (pass, collector, driven) = station.drive(rt, pass, switches, collector, report);
     let (pass, image) = station.outputs(rt, pass);
     let fields = image.fields.copied();
     let (pass, collector, refreshed) = station.refresh(rt, pass, fields, collector, report);
@@ -78,7 +82,8 @@ fn used<G: Naming, R: Print + Wait>(
     report: &mut Report,
 ) -> HandPass
     requires floors { collector.floors ≡ (sizes_of G.program.config).floors }
-    requires fire { (i : ℕ) → G.fire i ≡ false }
+    requires switches { (i : ℕ)
+        → opening_switches (sizes_of G.program.config).cars ≡ G.switches i }
     ensures { (result.table ≡ collector.table) × (result.floors ≡ collector.floors) }
 {
     let mut passes = passes;
@@ -109,7 +114,8 @@ fn in_station<G: Naming, R: Print + Wait>(
     requires program { verified ≡ G.program }
     requires names { (i : ℕ) → slice_index_or blanks.ledgers i 0 ≡ G.names i }
     requires tally { blanks.tally ≡ G.tally }
-    requires fire { (i : ℕ) → G.fire i ≡ false }
+    requires switches { (i : ℕ)
+        → opening_switches (sizes_of G.program.config).cars ≡ G.switches i }
     requires floors { collector.floors ≡ (sizes_of G.program.config).floors }
     ensures { (result.0.table ≡ collector.table) × (result.0.floors ≡ collector.floors) }
 {

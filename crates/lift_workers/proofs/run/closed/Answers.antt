@@ -28,7 +28,7 @@ returns g c =
           ∙ all_counted config (c.args.plan.rounds + c.args.plan.rounds) book.journal c.args.passes.tasks.items c.requires.tasks c.requires.counts c.close-verified.ensures.tasks t (low_task config runs t is) is;
       refreshes = ap (entries_by refresher) c.into_journal.ensures ∙ sym c.close-verified.ensures.refreshes ∙ c.requires.refreshes.0;
       plant = driven.0;
-      safe = subst (λ (es : List Entry). IsSafeJournal config g.G.Naming.fire es driven.0 book.world) entries (driven_journal_is_safe config (sound_of config runs) g.G.Naming.fire book.journal driven.0 book.world driven.1);
+      safe = subst (λ (es : List Entry). IsSafeJournal config g.G.Naming.switches es driven.0 book.world) entries (driven_journal_is_safe config (sound_of config runs) g.G.Naming.switches book.journal driven.0 book.world driven.1);
       kept =
           (let kept = kept_so c.args.desk.floors c.args.plan.presses.now book.journal c.close-left.result c.args.passes.panels.items c.args.passes.refresher.pass.entered c.args.passes.refresher.hand c.close-verified.ensures.entered c.requires.entered
           c.close-left.ensures.hand c.close-left.ensures.balanced c.close-left.ensures.pressed c.requires.pressed in

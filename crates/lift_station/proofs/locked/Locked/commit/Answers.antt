@@ -40,5 +40,5 @@ invariant_of-self g c =
     let few : task_of c.audit.new.share < 9 = omega (arith, c.task.ensures.0, c.task.ensures.1) in
     let config = g.G.Naming.program.config in
     let plant = c.self.inside.plant in
-    let at = at_scanned config g.G.Naming.fire c.self.inside.counts c.self.inside.book c.commit_own.new.self plant (entry.Commit c.task.result) _ (task_of c.audit.new.share) _ few c.self.invariant.0 adds (λ f w. refl) c.self.invariant.2 in
+    let at = at_scanned config g.G.Naming.switches c.self.inside.counts c.self.inside.book c.commit_own.new.self plant (entry.Commit c.task.result) _ (task_of c.audit.new.share) _ few c.self.invariant.0 adds (λ f w. refl) c.self.invariant.2 in
     (adds.config ∙ c.self.invariant.0, rw c.count.ensures.total all, rw c.count.ensures.total at, tally_stays c.self.inside.entered c.self.inside.book.journal c.commit_own.new.self.journal (entry.Commit c.task.result) c.self.invariant.3 adds.journal refl)

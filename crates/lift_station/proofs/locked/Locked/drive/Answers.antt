@@ -7,6 +7,7 @@ use Rattle.lift_spec.specs.declared.journal.Entry.TheVariants as entry
 use Rattle.lift_spec.specs.Image.{sizes_of}
 use Rattle.lift_spec.specs.Plant.{PlantState, IsPlantOf, plant_after, fields_of_plant}
 use Rattle.lift_spec.specs.Replies.{Refreshed}
+use Rattle.lift_plant.specs.Switches.{under}
 use Rattle.lift_journal.specs.Journal.{entries_by, refresher, calls_entering}
 use Rattle.lift_journal.specs.Pages.{Page, Adds}
 use Rattle.lift_station.specs.Counted.{IsNoneOrFull, calls_in}
@@ -23,7 +24,7 @@ returns-in_err-refresh-clause-full g c =
     let two = (sizes_fit g.G.Naming.program.config runs).1.0 in
     let some : 1 ≤ sizes.floors = omega (arith, two, ap (λ k. (sizes_of k).floors) c.self.invariant.0) in
     let own : IsPlantOf sizes c.copied.result = subst (λ k. IsPlantOf (sizes_of k) c.copied.result) (sym c.self.invariant.0) (subst (IsPlantOf (sizes_of g.G.Naming.program.config)) (sym c.copied.ensures) c.self.invariant.2.sized) in
-    let inside = c.plant_step-plant.ensures.inside sizes (c.with_fire-before.ensures.sized sizes own) some in
+    let inside = c.plant_step-plant.ensures.inside sizes (c.with_switches-before.ensures.sized sizes own (subst (λ k. c.args.switches.run_limit ≤ (sizes_of k).cars) (sym c.self.invariant.0) c.requires.limit)) some in
     let told = fault_up c.from_residual.result c.in_err-refresh.field-0.0 c.from_residual.ensures.1 ∙ c.in_err-refresh.ensures.fault in
     subst IsNoneOrFull (sym (told ∙ driven_fault b c.plant_step-plant.result.1 inside)) (full_or_none b)
 
@@ -36,12 +37,12 @@ invariant_of-self-2 g c =
     let a = c.audit_refreshes.ensures in
     let adds = c.in_ok-refresh.ensures.done in
     let calls = calls_in c.refresh.new.report in
-    let moved : next ≡ plant_after (record before { fire = c.args.fire }) b.world.group.image.outputs =
-    c.plant_step-plant.ensures.plant ∙ ap₂ (λ (p : PlantState) (i : Image). plant_after p i.outputs) (c.with_fire-before.ensures.plant ∙ ap (λ (p : PlantState). record p { fire = c.args.fire }) c.copied.ensures) c.image.ensures in
-    let burns = c.requires.fire ∙ ap (λ n. g.G.Naming.fire (n + 1)) (a.refreshes ∙ ap (λ (l : Page). entries_by refresher l.journal) (sym (c.self.view_is ∙ a.same.0))) in
-    let sized = c.plant_step-plant.ensures.sized (sizes_of config) (c.with_fire-before.ensures.sized (sizes_of config) (subst (IsPlantOf (sizes_of config)) (sym c.copied.ensures) c.self.invariant.2.sized)) in
+    let moved : next ≡ plant_after (under c.args.switches before) b.world.group.image.outputs =
+    c.plant_step-plant.ensures.plant ∙ ap₂ (λ (p : PlantState) (i : Image). plant_after p i.outputs) (c.with_switches-before.ensures.plant ∙ ap (under c.args.switches) c.copied.ensures) c.image.ensures in
+    let set = c.requires.switches ∙ ap (λ n. g.G.Naming.switches (n + 1)) (a.refreshes ∙ ap (λ (l : Page). entries_by refresher l.journal) (sym (c.self.view_is ∙ a.same.0))) in
+    let sized = c.plant_step-plant.ensures.sized (sizes_of config) (c.with_switches-before.ensures.sized (sizes_of config) (subst (IsPlantOf (sizes_of config)) (sym c.copied.ensures) c.self.invariant.2.sized) c.requires.limit) in
     let counted = counted_more c.self.inside.counts b.journal c.refresh.new.self.journal (entry.Refresh c.plant_step-plant.result.1 calls) 9 c.self.invariant.1 adds.journal refl (omega arith) in
-    let at = at_driven config g.G.Naming.fire c.args.fire c.self.inside.counts b c.refresh.new.self before next c.plant_step-plant.result.1 calls _ c.self.invariant.1 c.self.invariant.0 adds burns (moved, c.plant_step-plant.ensures.fields) sized c.self.invariant.2
+    let at = at_driven config g.G.Naming.switches c.args.switches c.self.inside.counts b c.refresh.new.self before next c.plant_step-plant.result.1 calls _ c.self.invariant.1 c.self.invariant.0 adds set (moved, c.plant_step-plant.ensures.fields) sized c.self.invariant.2
     c.count_refresh.new.self c.count_refresh.ensures.total in (
       adds.config ∙ c.self.invariant.0,
       rw c.count_driven.ensures.total (counted_driven c.count_refresh.new.self c.refresh.new.self.journal _ (rw c.count_refresh.ensures.total counted)),
@@ -72,6 +73,6 @@ returns-clause-report g c =
         adds = subst (λ (l : Page). Adds l (entry.Refresh (fields_of_plant next) (calls_in report)) (Refreshed report) c.refresh.new.self) here adds;
       };
       step =
-          c.plant_step-plant.ensures.plant ∙ ap₂ (λ (p : PlantState) (i : Image). plant_after p i.outputs) (c.with_fire-before.ensures.plant ∙ ap (λ (p : PlantState). record p { fire = c.args.fire }) c.copied.ensures) c.image.ensures
-          ∙ ap (λ (l : Page). plant_after (record before { fire = c.args.fire }) l.world.group.image.outputs) here;
+          c.plant_step-plant.ensures.plant ∙ ap₂ (λ (p : PlantState) (i : Image). plant_after p i.outputs) (c.with_switches-before.ensures.plant ∙ ap (under c.args.switches) c.copied.ensures) c.image.ensures
+          ∙ ap (λ (l : Page). plant_after (under c.args.switches before) l.world.group.image.outputs) here;
     }

@@ -1,0 +1,36 @@
+// What a command tells of a trace.
+
+ghost use Rattle.std.specs.Prelude.{◌≡◌};
+ghost use Rattle.lift_output.specs.Tellings.{telling_of};
+
+use lift_host::request::{Following, Traced, Words};
+
+/// What a command tells of a trace.
+#[derive(Clone, Copy)]
+pub enum Telling<'w> {
+    /// The image behind it.
+    Image,
+    /// A picture of the rounds that a word says, or of all.
+    Picture(Option<&'w str>),
+    /// Its calls: a line of each, or where `true` a summary.
+    Calls(bool),
+    /// What the interlock denied along it; where `true` also the stops at the ends of the shaft.
+    Denials(bool),
+    /// The values of names behind each of its rounds.
+    Values(Words<'w>),
+}
+
+impl<'w> Telling<'w> {
+    /// What a command tells, with what it takes.
+    pub fn of(command: Following, traced: Traced<'w>) -> Telling<'w>
+        ensures { result ≡ telling_of command traced.entry }
+    {
+        match command {
+            Following::Replay => Telling::Image,
+            Following::Draw => Telling::Picture(traced.span),
+            Following::Calls => Telling::Calls(traced.flag),
+            Following::Denials => Telling::Denials(traced.flag),
+            Following::Watch => Telling::Values(traced.names),
+        }
+    }
+}

@@ -1,0 +1,131 @@
+-- What is printed along a trace, by one event more.
+use Rattle.std.proofs.Common.{◌≡◌, ℕ, zero, suc, ◌+◌, ◌≤◌, List, [], ◌∷◌, ◌++◌, take, length, Bool, refl, ap, ap₂, ◌∙◌, sym, subst, arith}
+use Rattle.std.proofs.lemmas.List.{append_assoc, append-nil, take_all}
+use Rattle.std.specs.Prelude.{Some, slice_get}
+use Rattle.il_spec.specs.declared.tree.Config.{Config}
+use Rattle.lift_runs.specs.Along.{Step, AreStepsOf, Lead, TakesWith}
+use Rattle.lift_runs.proofs.Stepping.{step_more}
+use Rattle.lift_spec.specs.declared.trace.TraceEvent.{TraceEvent}
+use Rattle.lift_spec.specs.declared.trace.TraceEvent.TheVariants as traced
+use Rattle.lift_spec.specs.Replies.{Reply}
+use Rattle.lift_spec.specs.World.{World}
+use Rattle.lift_watch.specs.declared.names.Watched.{Watched}
+use Rattle.lift_watch.specs.Following.{round_behind, denied_at, denied_along, row_of, row_before, rows_along, IsDeniedAlong, AreRowsAlong}
+
+-- ROUNDS
+
+-- the round behind steps
+abbrev pub round_along : List Step → ℕ → ℕ
+round_along [] round = round
+round_along (s ∷ steps) round = round_along steps (round_behind s.event round)
+
+round_more : (steps : List Step) (s : Step) (round : ℕ) → round_along (steps ++ s ∷ []) round ≡ round_behind s.event (round_along steps round)
+round_more [] s round = refl
+round_more (x ∷ steps) s round = round_more steps s (round_behind x.event round)
+
+-- one event more begins one round more at most
+pub round_most : (e : TraceEvent) (round n : ℕ) → round ≤ n → round_behind e round ≤ n + 1
+round_most (traced.Start t) round n most = omega (arith, most)
+round_most (traced.Commit t) round n most = omega (arith, most)
+round_most (traced.Press call) round n most = omega (arith, most)
+round_most (traced.Gather floor) round n most = omega (arith, most)
+round_most (traced.Refresh fields) round n most = omega (arith, most)
+
+-- the steps of one event more
+abbrev and_then : List Step → TraceEvent → Reply → World → List Step
+and_then steps e reply v = steps ++ record { event = e; reply = reply; after = v } ∷ []
+
+-- DENIALS
+
+denied_more : (all : Bool) (steps : List Step) (s : Step) (round : ℕ) → denied_along all (steps ++ s ∷ []) round ≡ denied_along all steps round ++ denied_at all s.event s.reply (round_behind s.event (round_along steps round))
+denied_more all [] s round = append-nil (denied_at all s.event s.reply (round_behind s.event round))
+denied_more all (x ∷ steps) s round =
+    let next = round_behind x.event round in
+    ap (λ (l : List ℕ). denied_at all x.event x.reply next ++ l) (denied_more all steps s next)
+    ∙ sym (append_assoc (denied_at all x.event x.reply next) (denied_along all steps next) (denied_at all s.event s.reply (round_behind s.event (round_along steps next))))
+
+-- what is printed of the events so far, and their last round
+pub record IsDeniedTo (all : Bool) (c : Config) (w : World) (events : List TraceEvent) (v : World) (text : List ℕ) (round : ℕ) : Type 0 where
+  pub steps : List Step
+  pub are : AreStepsOf c w events v steps
+  pub is : text ≡ denied_along all steps 0
+  pub at : round ≡ round_along steps 0
+
+-- none yet
+pub denied_none : (all : Bool) (c : Config) (w : World) (text : List ℕ) → text ≡ [] → IsDeniedTo all c w [] w text 0
+denied_none all c w text is = record { steps = []; are = record { of = refl; lead = refl }; is = is; at = refl }
+
+-- one event more
+pub denied_next : (all : Bool) (c : Config) (w m v : World) (events : List TraceEvent) (i : ℕ) (text now : List ℕ) (round next : ℕ) (e : TraceEvent) (reply : Reply) → slice_get events i ≡ Some e → IsDeniedTo all c w (take i events) m text round
+    → TakesWith c m e reply v → next ≡ round_behind e round → now ≡ text ++ denied_at all e reply next → IsDeniedTo all c w (take (i + 1) events) v now next
+denied_next all c w m v events i text now round next e reply there to last behind is =
+    let s : Step = record { event = e; reply = reply; after = v } in
+    let same : next ≡ round_behind e (round_along to.steps 0) = behind ∙ ap (round_behind e) to.at in
+    record {
+      steps = and_then to.steps e reply v;
+      are = step_more c w m v events i to.steps e reply there to.are last;
+      is = is ∙ ap₂ (λ (l r : List ℕ). l ++ r) to.is (ap (denied_at all e reply) same) ∙ sym (denied_more all to.steps s 0);
+      at = same ∙ sym (round_more to.steps s 0);
+    }
+
+-- all of them
+pub denied_all : (all : Bool) (c : Config) (w v : World) (events : List TraceEvent) (n : ℕ) (text : List ℕ) (round : ℕ) → n ≡ length events → IsDeniedTo all c w (take n events) v text round → IsDeniedAlong all c w events v text
+denied_all all c w v events n text round e to = record { steps = to.steps; are = subst (λ (l : List TraceEvent). AreStepsOf c w l v to.steps) (ap (λ k. take k events) e ∙ take_all events) to.are; is = to.is }
+
+-- ROWS
+
+-- the rows of the rounds that steps end
+abbrev pub rows_before : List Watched → List Step → ℕ → World → List ℕ
+rows_before watched [] round w = []
+rows_before watched (s ∷ steps) round w = row_before watched s.event round w ++ rows_before watched steps (round_behind s.event round) s.after
+
+rows_more : (watched : List Watched) (c : Config) (w m : World) (steps : List Step) (s : Step) (round : ℕ) → Lead c w steps m
+    → rows_before watched (steps ++ s ∷ []) round w ≡ rows_before watched steps round w ++ row_before watched s.event (round_along steps round) m
+rows_more watched c w m [] s round lead = append-nil (row_before watched s.event round w) ∙ ap (row_before watched s.event round) lead
+rows_more watched c w m (x ∷ steps) s round lead =
+    let next = round_behind x.event round in
+    ap (λ (l : List ℕ). row_before watched x.event round w ++ l) (rows_more watched c x.after m steps s next lead.1)
+    ∙ sym (append_assoc (row_before watched x.event round w) (rows_before watched steps next x.after) (row_before watched s.event (round_along steps next) m))
+
+rows_last : (watched : List Watched) (c : Config) (w v : World) (steps : List Step) (round : ℕ) → Lead c w steps v → rows_along watched steps round w ≡ rows_before watched steps round w ++ row_of watched (round_along steps round) v
+rows_last watched c w v [] round lead = ap (row_of watched round) lead
+rows_last watched c w v (x ∷ steps) round lead =
+    let next = round_behind x.event round in
+    ap (λ (l : List ℕ). row_before watched x.event round w ++ l) (rows_last watched c x.after v steps next lead.1)
+    ∙ sym (append_assoc (row_before watched x.event round w) (rows_before watched steps next x.after) (row_of watched (round_along steps next) v))
+
+-- behind a text stand the rows of the rounds that ended so far; and the round that has not
+pub record AreRowsTo (watched : List Watched) (c : Config) (w : World) (events : List TraceEvent) (v : World) (before text : List ℕ) (round : ℕ) : Type 0 where
+  pub steps : List Step
+  pub are : AreStepsOf c w events v steps
+  pub is : text ≡ before ++ rows_before watched steps 0 w
+  pub at : round ≡ round_along steps 0
+
+-- none yet
+pub rows_none : (watched : List Watched) (c : Config) (w : World) (text : List ℕ) → AreRowsTo watched c w [] w text text 0
+rows_none watched c w text = record { steps = []; are = record { of = refl; lead = refl }; is = sym (append-nil text); at = refl }
+
+-- one event more
+pub rows_next : (watched : List Watched) (c : Config) (w m v : World) (events : List TraceEvent) (i : ℕ) (before text now : List ℕ) (round next : ℕ) (e : TraceEvent) (reply : Reply) → slice_get events i ≡ Some e
+    → AreRowsTo watched c w (take i events) m before text round → TakesWith c m e reply v → next ≡ round_behind e round → now ≡ text ++ row_before watched e round m → AreRowsTo watched c w (take (i + 1) events) v before now next
+rows_next watched c w m v events i before text now round next e reply there to last behind is =
+    let s : Step = record { event = e; reply = reply; after = v } in
+    let row = row_before watched e (round_along to.steps 0) m in
+    record {
+      steps = and_then to.steps e reply v;
+      are = step_more c w m v events i to.steps e reply there to.are last;
+      is =
+          is ∙ ap₂ (λ (l r : List ℕ). l ++ r) to.is (ap (λ n. row_before watched e n m) to.at) ∙ append_assoc before (rows_before watched to.steps 0 w) row
+          ∙ ap (λ (l : List ℕ). before ++ l) (sym (rows_more watched c w m to.steps s 0 to.are.lead));
+      at = behind ∙ ap (round_behind e) to.at ∙ sym (round_more to.steps s 0);
+    }
+
+-- all of them, and the row of the last
+pub rows_all : (watched : List Watched) (c : Config) (w v : World) (events : List TraceEvent) (n : ℕ) (before text now : List ℕ) (round : ℕ) → n ≡ length events → AreRowsTo watched c w (take n events) v before text round → now ≡ text ++ row_of watched round v
+    → (rows : List ℕ) × (now ≡ before ++ rows) × AreRowsAlong watched c w events v rows
+rows_all watched c w v events n before text now round e to is = (
+  rows_along watched to.steps 0 w,
+  is ∙ ap₂ (λ (l r : List ℕ). l ++ r) to.is (ap (λ k. row_of watched k v) to.at) ∙ append_assoc before (rows_before watched to.steps 0 w) (row_of watched (round_along to.steps 0) v)
+      ∙ ap (λ (l : List ℕ). before ++ l) (sym (rows_last watched c w v to.steps 0 to.are.lead)),
+  record { steps = to.steps; are = subst (λ (l : List TraceEvent). AreStepsOf c w l v to.steps) (ap (λ k. take k events) e ∙ take_all events) to.are; is = refl },
+)

@@ -1,0 +1,74 @@
+-- What `denials` and `watch` print along a trace (own rules).
+use Rattle.std.specs.Prelude.{◌≡◌, ℕ, zero, suc, ◌+◌, Bool, List, [], ◌∷◌, ◌++◌}
+use Rattle.il_spec.specs.declared.tree.Config.{Config}
+use Rattle.lift_journeys.specs.Logs.{answers_of}
+use Rattle.lift_runs.specs.Along.{Step, AreStepsOf}
+use Rattle.lift_spec.specs.declared.report.Denial.{Denial}
+use Rattle.lift_spec.specs.declared.trace.TraceEvent.{TraceEvent}
+use Rattle.lift_spec.specs.declared.trace.TraceEvent.TheVariants as traced
+use Rattle.lift_spec.specs.Replies.{Reply, Committed, Refreshed}
+use Rattle.lift_spec.specs.World.{World}
+use Rattle.lift_watch.specs.declared.names.Watched.{Watched}
+use Rattle.lift_watch.specs.Denials.{refresh_text, denials_text, answers_text}
+use Rattle.lift_watch.specs.Values.{row_text}
+
+-- the round behind an event: a refresh begins one
+abbrev pub round_behind : TraceEvent → ℕ → ℕ
+round_behind (traced.Start t) round = round
+round_behind (traced.Commit t) round = round
+round_behind (traced.Press call) round = round
+round_behind (traced.Gather floor) round = round
+round_behind (traced.Refresh fields) round = round + 1
+
+-- the denials of a refresh or a commit
+abbrev pub denials_in : Reply → List Denial
+denials_in (Refreshed report) = report.denials
+denials_in (Committed report) = report.denials
+denials_in _ = []
+
+-- DENIALS
+
+-- what is printed of an event, in its round
+abbrev pub denied_at : Bool → TraceEvent → Reply → ℕ → List ℕ
+denied_at all (traced.Start t) reply round = []
+denied_at all (traced.Commit t) reply round = denials_text round (denials_in reply) ++ answers_text round t (answers_of reply)
+denied_at all (traced.Press call) reply round = []
+denied_at all (traced.Gather floor) reply round = []
+denied_at all (traced.Refresh fields) reply round = refresh_text all round (denials_in reply)
+
+-- what is printed of steps, behind so many rounds
+abbrev pub denied_along : Bool → List Step → ℕ → List ℕ
+denied_along all [] round = []
+denied_along all (s ∷ steps) round = denied_at all s.event s.reply (round_behind s.event round) ++ denied_along all steps (round_behind s.event round)
+
+-- The text is what is printed of a trace's events, which the world takes one behind the other.
+pub record IsDeniedAlong (all : Bool) (c : Config) (w : World) (events : List TraceEvent) (v : World) (text : List ℕ) : Type 0 where
+  pub steps : List Step
+  pub are : AreStepsOf c w events v steps
+  pub is : text ≡ denied_along all steps 0
+
+-- VALUES
+
+-- the row of a round that is over; before the first refresh there is none
+abbrev pub row_of : List Watched → ℕ → World → List ℕ
+row_of watched zero w = []
+row_of watched (suc n) w = row_text watched (suc n) w
+
+-- the row of the round that an event ends: a refresh ends the round before it
+abbrev pub row_before : List Watched → TraceEvent → ℕ → World → List ℕ
+row_before watched (traced.Start t) round w = []
+row_before watched (traced.Commit t) round w = []
+row_before watched (traced.Press call) round w = []
+row_before watched (traced.Gather floor) round w = []
+row_before watched (traced.Refresh fields) round w = row_of watched round w
+
+-- a row of each round, with the values behind its last event
+abbrev pub rows_along : List Watched → List Step → ℕ → World → List ℕ
+rows_along watched [] round w = row_of watched round w
+rows_along watched (s ∷ steps) round w = row_before watched s.event round w ++ rows_along watched steps (round_behind s.event round) s.after
+
+-- The rows are those of a trace's events, which the world takes one behind the other.
+pub record AreRowsAlong (watched : List Watched) (c : Config) (w : World) (events : List TraceEvent) (v : World) (rows : List ℕ) : Type 0 where
+  pub steps : List Step
+  pub are : AreStepsOf c w events v steps
+  pub is : rows ≡ rows_along watched steps 0 w

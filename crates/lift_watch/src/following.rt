@@ -1,0 +1,151 @@
+// What `denials` and `watch` print along a trace.
+
+ghost use Rattle.std.specs.Prelude.{◌≡◌, ◌+◌, ◌++◌, ◌^◌, ◌<◌, ℕ, List, length, IfErr, IfOk, OnOk, string_bytes};
+ghost use Rattle.lift_runs.specs.Along.{IsStopped};
+ghost use Rattle.lift_spec.specs.Replies.{reply_with};
+ghost use Rattle.lift_watch.specs.Following.{round_behind, denials_in, denied_at, row_of, row_before, IsDeniedAlong, AreRowsAlong};
+
+use crate::calls::answers_of;
+use crate::denials::{put_answers, put_denials, put_refresh};
+use crate::names::Watched;
+use crate::watch::put_row;
+use lift_runs::along::{Stop, reply_to};
+use lift_runs::replay::Refused;
+use lift_spec::event::Reply;
+use lift_spec::report::{Denial, Report};
+use lift_spec::trace::TraceEvent;
+use lift_world::World;
+use std::alloc::{AllocError, Global};
+
+/// What the interlock denied along a trace's events, which the world takes one behind the other, up to the first that is refused; with
+/// the stops at the ends of the shaft, where all are asked for.
+pub fn denied_along(
+    alloc: Global,
+    world: &mut World,
+    events: &[TraceEvent],
+    all: bool,
+) -> Result<String, Stop>
+    requires few { length events.now < 2 ^ 31 }
+    ensures text { IfOk result (λ text. IsDeniedAlong all world.old.program.config world.old.world
+        events.now world.new.world (string_bytes text)) }
+    ensures stopped { IfErr result (IsStopped world.old.program.config world.old.world events.now) }
+    ensures same { world.new.program ≡ world.old.program }
+{
+    let mut text = String::new(alloc);
+    let mut report = Report::new();
+    let mut round: u32 = 0;
+    'events: for (index, event) in events.iter().enumerate() {
+        match reply_to(world, event, &mut report) {
+            Ok(reply) => {
+                round = round_behind(event, round);
+                put_denied(&mut text, all, event, reply, &report, round)?;
+            }
+            Err(fault) => return Err(Stop::Refused(Refused { index, fault })),
+        }
+    }
+    Ok(text)
+}
+
+/// Writes the values of names behind each round of a trace, whose events the world takes one behind the other, up to the first that is
+/// refused. A round ends where a refresh begins the next, and the last one at the end.
+pub fn rows_along(
+    world: &mut World,
+    events: &[TraceEvent],
+    watched: &[Watched<'_>],
+    text: &mut String,
+) -> Result<(), Stop>
+    requires few { length events.now < 2 ^ 31 }
+    ensures rows { OnOk result ((rows : List ℕ) × (string_bytes text.new ≡ string_bytes text.old
+        ++ rows) × AreRowsAlong watched.now world.old.program.config world.old.world events.now
+        world.new.world rows) }
+    ensures stopped { IfErr result (IsStopped world.old.program.config world.old.world events.now) }
+    ensures same { world.new.program ≡ world.old.program }
+{
+    let mut report = Report::new();
+    let mut round: u32 = 0;
+    'events: for (index, event) in events.iter().enumerate() {
+        put_row_before(text, watched, event, round, world)?;
+        if let Err(fault) = reply_to(world, event, &mut report) {
+            return Err(Stop::Refused(Refused { index, fault }));
+        }
+        round = round_behind(event, round);
+    }
+    put_row_of(text, watched, round, world)?;
+    Ok(())
+}
+
+// The round behind an event: a refresh begins one.
+fn round_behind(event: &TraceEvent, round: u32) -> u32
+    requires { round + 1 < 2 ^ 32 }
+    ensures { result ≡ round_behind event.now round }
+{
+    match event {
+        TraceEvent::Refresh(_) => round + 1,
+        _ => round,
+    }
+}
+
+// The denials of a refresh or a commit.
+fn denials_in(reply: Reply, report: &Report) -> &[Denial]
+    ensures { result.now ≡ denials_in (reply_with reply report.now) }
+{
+    match reply {
+        Reply::Refreshed | Reply::Committed => report.denials.as_slice(),
+        _ => &[],
+    }
+}
+
+// What is printed of an event, in its round.
+fn put_denied(
+    text: &mut String,
+    all: bool,
+    event: &TraceEvent,
+    reply: Reply,
+    report: &Report,
+    round: u32,
+) -> Result<(), AllocError>
+    ensures { OnOk result (string_bytes text.new ≡ string_bytes text.old
+        ++ denied_at all event.now (reply_with reply report.now) round) }
+{
+    match event {
+        TraceEvent::Refresh(_) => put_refresh(text, all, round, denials_in(reply, report)),
+        TraceEvent::Commit(task) => {
+            put_denials(text, round, denials_in(reply, report))?;
+            put_answers(text, round, *task, answers_of(reply, report))
+        }
+        _ => Ok(()),
+    }
+}
+
+// The row of the round that an event ends.
+fn put_row_before(
+    text: &mut String,
+    watched: &[Watched<'_>],
+    event: &TraceEvent,
+    round: u32,
+    world: &World,
+) -> Result<(), AllocError>
+    ensures { OnOk result (string_bytes text.new ≡ string_bytes text.old
+        ++ row_before watched.now event.now round world.now.world) }
+{
+    match event {
+        TraceEvent::Refresh(_) => put_row_of(text, watched, round, world),
+        _ => Ok(()),
+    }
+}
+
+// The row of a round that is over; before the first refresh there is none.
+fn put_row_of(
+    text: &mut String,
+    watched: &[Watched<'_>],
+    round: u32,
+    world: &World,
+) -> Result<(), AllocError>
+    ensures { OnOk result (string_bytes text.new ≡ string_bytes text.old
+        ++ row_of watched.now round world.now.world) }
+{
+    if round == 0 {
+        return Ok(());
+    }
+    put_row(text, round, world, watched)
+}
