@@ -7,8 +7,8 @@ use clap::error::ErrorKind;
 use clap::{Arg, ArgAction, Command};
 use lift_explain::explanation;
 use lift_host::request::{
-    CALLS, CUT, FIRE, MOST_ROUNDS, Name, ROUNDS, Simulating, TRACE, Words, is_digits, is_option,
-    number_to,
+    CALLS, CUT, FIRE, MOST_ROUNDS, Name, ROUNDS, Simulating, TRACE, WARN, Words, is_digits,
+    is_option, number_to,
 };
 use lift_host::serving::{SYNC, is_serve};
 use std::alloc::{AllocError, Global};
@@ -78,6 +78,11 @@ enum Misuse<'w> {
     Missing,
 }
 
+// An option without its dashes.
+fn long(option: &'static str) -> &'static str {
+    option.strip_prefix("--").unwrap_or(option)
+}
+
 // An option, and what it stands beside.
 #[derive(Clone, Copy)]
 struct Lone {
@@ -135,7 +140,7 @@ fn together<'a>(alloc: Global) -> Arg<'a> {
 // The option `--warn`.
 fn warn<'a>(alloc: Global) -> Arg<'a> {
     Arg::new(alloc, "warn")
-        .long("warn")
+        .long(long(WARN))
         .action(ArgAction::SetTrue)
         .help("Also tells, on standard error, what an accepted FILE declares or stores in vain")
 }
@@ -194,7 +199,7 @@ fn presses<'a>(alloc: Global) -> Arg<'a> {
 // The option `--fire`.
 fn fire<'a>(alloc: Global) -> Arg<'a> {
     Arg::new(alloc, "fire")
-        .long("fire")
+        .long(long(FIRE))
         .value_name("ROUND")
         .help("From this round on, fire recall is on")
 }
@@ -202,7 +207,7 @@ fn fire<'a>(alloc: Global) -> Arg<'a> {
 // The option `--calls`.
 fn calls<'a>(alloc: Global) -> Arg<'a> {
     Arg::new(alloc, "calls")
-        .long("calls")
+        .long(long(CALLS))
         .value_name("CALLS")
         .help(
             "Also makes the calls of the file CALLS, and sets FIRE and RUNLIMIT as it says; docs/COMMANDS.md has its lines",
@@ -309,7 +314,7 @@ fn trace<'a>(alloc: Global) -> Arg<'a> {
 // The flag `--cut`.
 fn cut<'a>(alloc: Global) -> Arg<'a> {
     Arg::new(alloc, "cut")
-        .long("cut")
+        .long(long(CUT))
         .action(ArgAction::SetTrue)
         .help("Takes a trace that was cut off, up to its last whole line")
 }
@@ -336,7 +341,7 @@ fn draw_command<'a>(alloc: Global) -> Result<Command<'a>, AllocError> {
 // The option `--rounds`.
 fn span<'a>(alloc: Global) -> Arg<'a> {
     Arg::new(alloc, "rounds")
-        .long("rounds")
+        .long(long(ROUNDS))
         .value_name("A:B")
         .help(
             "Draws the rounds from A to B alone; `A:` is up to the last one, `:B` from the first on",
@@ -377,7 +382,7 @@ fn trace_command<'a>(
 // The option `--trace`.
 fn written_trace<'a>(alloc: Global) -> Arg<'a> {
     Arg::new(alloc, "trace")
-        .long("trace")
+        .long(long(TRACE))
         .value_name("TRACE")
         .help("Writes each event to TRACE, a new file, before it happens")
 }
@@ -385,7 +390,7 @@ fn written_trace<'a>(alloc: Global) -> Arg<'a> {
 // The flag `--sync`.
 fn sync<'a>(alloc: Global) -> Arg<'a> {
     Arg::new(alloc, "sync")
-        .long("sync")
+        .long(long(SYNC))
         .action(ArgAction::SetTrue)
         .help("With --trace: has the disk write each line before it is answered")
 }
