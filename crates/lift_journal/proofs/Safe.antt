@@ -1,5 +1,5 @@
 -- Rounds keep the cars safe: what the image has at a round's step is what the plant reported before.
-use Rattle.std.proofs.Common.{◌≡◌, ℕ, zero, suc, ◌≤◌, Bool, true, false, List, [], ◌∷◌, length, replicate, ℤ, pos, negsuc, ◌≤ℤ◌, sym, ap, ◌∙◌, subst, arith}
+use Rattle.std.proofs.Common.{◌≡◌, ℕ, zero, suc, ◌≤◌, true, false, List, [], ◌∷◌, length, replicate, ℤ, pos, negsuc, ◌≤ℤ◌, sym, ap, ◌∙◌, subst, arith}
 use Rattle.std.specs.Prelude.{nat_abs}
 use Rattle.std.proofs.lemmas.Int.{ints}
 use Rattle.il_spec.specs.declared.tree.Config.{Config}
@@ -8,7 +8,6 @@ use Rattle.lift_spec.specs.declared.event.Event.TheVariants.{Start, Instruction,
 use Rattle.lift_spec.specs.declared.image.CarOutputs.{CarOutputs}
 use Rattle.lift_spec.specs.declared.image.Fields.{Fields}
 use Rattle.lift_spec.specs.declared.image.Image.{Image}
-use Rattle.lift_spec.specs.declared.image.Sizes.{Sizes}
 use Rattle.lift_spec.specs.declared.journal.Entry.{Entry}
 use Rattle.lift_spec.specs.Image.{sizes_of, fields_in_range, Obeys}
 use Rattle.lift_spec.specs.Plant.{PlantState, IsPlantOf, StaysSafe, ObeysWithOwnFields, opening_plant, plant_after, fields_of_plant}

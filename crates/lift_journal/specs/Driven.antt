@@ -31,7 +31,7 @@ MovesSafely c switches w (entry.Refresh fields entered) before next = Moves swit
 abbrev pub Leads : (Switches → World → Entry → PlantState → PlantState → Type 0) → Config → (ℕ → Switches) → ℕ → PlantState → World → List Entry → PlantState → World → Type 0
 Leads step c switches made before w [] plant v = (before ≡ plant) × (w ≡ v)
 Leads step c switches made before w (e ∷ entries) plant v =
-    (m : World) × (answer : Reply) × (next : PlantState) × Enters c w e m answer × step (switches (made + 1)) w e before next × Leads step c fire (made + (if actor_of e == refresher then 1 else 0)) next m entries plant v
+    (m : World) × (answer : Reply) × (next : PlantState) × Enters c w e m answer × step (switches (made + 1)) w e before next × Leads step c switches (made + (if actor_of e == refresher then 1 else 0)) next m entries plant v
 
 -- the plant as the group opens
 abbrev pub first_plant : Config → PlantState

@@ -1,56 +1,58 @@
 -- What is followed of a trace that was read.
-use Rattle.std.proofs.Common.{◌≡◌, ℕ, Bool, false, List, Ok, Err, subst, sym}
+use Rattle.std.proofs.Common.{◌≡◌, ℕ, List, Option, Ok, Err, map}
+use Rattle.std.specs.Prelude.{Bor, option_map}
 use Rattle.il_machine.specs.Scanning.{Program}
-use Rattle.lift_host.specs.declared.request.Following.{Following}
-use Rattle.lift_host.specs.declared.request.Following.TheVariants as following
+use Rattle.lift_host.specs.declared.request.Words.{Words}
+use Rattle.lift_host.specs.declared.status.Fault.{Fault}
 use Rattle.lift_host.specs.declared.status.Fault.TheVariants as fault
+use Rattle.lift_host.specs.Requests.{words_of}
+use Rattle.lift_output.specs.declared.telling.Telling.{Telling}
+use Rattle.lift_output.specs.declared.telling.Telling.TheVariants.{Picture, Values}
 use Rattle.lift_output.specs.Outcomes.{IsFollowed, event}
-use Rattle.lift_output.specs.Parts.{AreFollowed}
+use Rattle.lift_output.specs.Parts.{AreFollowed, AreValued}
+use Rattle.lift_output.specs.Spans.{IsNoSpan}
 use Rattle.lift_messages.specs.Outputs.{Outcome}
 use Rattle.lift_spec.specs.declared.trace.TraceEvent.{TraceEvent}
 use Rattle.lift_spec.specs.Image.{sizes_of}
 use Rattle.lift_trace.specs.Reading.{Reads}
+use Rattle.lift_watch.specs.Names.{upper_case}
 
-pub followed_is : (command : Following) (flag : Bool) (p : Program) (text : List ℕ) (events : List TraceEvent) (outcome : Outcome) → Reads (sizes_of p.config).cars text (Ok events) → AreFollowed command flag p events outcome → IsFollowed command flag p text outcome
-followed_is command flag p text events (Ok output) reads is = record { events = events; reads = reads; after = is.0; taken = is.1; is = is.2 }
-followed_is command flag p text events (Err (fault.Refused number line)) reads is = event (record { events = events; reads = reads; index = is.0; why = is.1; refused = is.2; numbered = is.3; lined = is.4 })
-followed_is command flag p text events (Err fault.NoMemory) reads is = tt
-followed_is command flag p text events (Err (fault.Misuse words)) reads is = absurd is
-followed_is command flag p text events (Err (fault.BadPress word)) reads is = absurd is
-followed_is command flag p text events (Err fault.TooManyPresses) reads is = absurd is
-followed_is command flag p text events (Err (fault.BadFire word)) reads is = absurd is
-followed_is command flag p text events (Err (fault.BadName word)) reads is = absurd is
-followed_is command flag p text events (Err (fault.CannotRead cause)) reads is = absurd is
-followed_is command flag p text events (Err fault.CannotWrite) reads is = absurd is
+pub followed_is : (telling : Telling) (p : Program) (text : List ℕ) (events : List TraceEvent) (outcome : Outcome) → Reads (sizes_of p.config).cars text (Ok events) → AreFollowed telling p events outcome → IsFollowed telling p text outcome
+followed_is telling p text events (Ok output) reads is = record { events = events; reads = reads; after = is.0; taken = is.1; is = is.2 }
+followed_is telling p text events (Err (fault.Refused number line)) reads is = event (record { events = events; reads = reads; index = is.0; why = is.1; refused = is.2; numbered = is.3; lined = is.4 })
+followed_is telling p text events (Err (fault.BadSpan word)) reads is = ((events, reads), is)
+followed_is telling p text events (Err (fault.BadName word)) reads is = ((events, reads), is)
+followed_is telling p text events (Err fault.NoMemory) reads is = tt
+followed_is telling p text events (Err (fault.Misuse words)) reads is = absurd is
+followed_is telling p text events (Err (fault.BadPress word)) reads is = absurd is
+followed_is telling p text events (Err fault.TooManyPresses) reads is = absurd is
+followed_is telling p text events (Err (fault.BadFire word)) reads is = absurd is
+followed_is telling p text events (Err (fault.CannotRead cause)) reads is = absurd is
+followed_is telling p text events (Err fault.CannotWrite) reads is = absurd is
 
--- `replay` has no flag of its own: what it says is the same with any
-replay_same : (flag : Bool) (p : Program) (events : List TraceEvent) (outcome : Outcome) → AreFollowed following.Replay false p events outcome → AreFollowed following.Replay flag p events outcome
-replay_same flag p events (Ok output) is = is
-replay_same flag p events (Err (fault.Refused number line)) is = is
-replay_same flag p events (Err fault.NoMemory) is = is
-replay_same flag p events (Err (fault.Misuse words)) is = is
-replay_same flag p events (Err (fault.BadPress word)) is = is
-replay_same flag p events (Err fault.TooManyPresses) is = is
-replay_same flag p events (Err (fault.BadFire word)) is = is
-replay_same flag p events (Err (fault.BadName word)) is = is
-replay_same flag p events (Err (fault.CannotRead cause)) is = is
-replay_same flag p events (Err fault.CannotWrite) is = is
+-- names that are watched along events
+pub valued_is : (names : Words) (p : Program) (events : List TraceEvent) (outcome : Outcome) → AreValued (map upper_case (words_of names)) p events outcome → AreFollowed (Values names) p events outcome
+valued_is names p events (Ok output) is = is
+valued_is names p events (Err (fault.Refused number line)) is = is
+valued_is names p events (Err (fault.BadSpan word)) is = absurd is
+valued_is names p events (Err (fault.BadName word)) is = is
+valued_is names p events (Err fault.NoMemory) is = tt
+valued_is names p events (Err (fault.Misuse words)) is = absurd is
+valued_is names p events (Err (fault.BadPress word)) is = absurd is
+valued_is names p events (Err fault.TooManyPresses) is = absurd is
+valued_is names p events (Err (fault.BadFire word)) is = absurd is
+valued_is names p events (Err (fault.CannotRead cause)) is = absurd is
+valued_is names p events (Err fault.CannotWrite) is = absurd is
 
-pub replay_any : (command : Following) (flag : Bool) (p : Program) (events : List TraceEvent) (outcome : Outcome) → command ≡ following.Replay → AreFollowed following.Replay false p events outcome → AreFollowed command flag p events outcome
-replay_any command flag p events outcome is followed = subst (λ (k : Following). AreFollowed k flag p events outcome) (sym is) (replay_same flag p events outcome followed)
-
--- `draw` has no flag of its own: what it says is the same with any
-draw_same : (flag : Bool) (p : Program) (events : List TraceEvent) (outcome : Outcome) → AreFollowed following.Draw false p events outcome → AreFollowed following.Draw flag p events outcome
-draw_same flag p events (Ok output) is = is
-draw_same flag p events (Err (fault.Refused number line)) is = is
-draw_same flag p events (Err fault.NoMemory) is = is
-draw_same flag p events (Err (fault.Misuse words)) is = is
-draw_same flag p events (Err (fault.BadPress word)) is = is
-draw_same flag p events (Err fault.TooManyPresses) is = is
-draw_same flag p events (Err (fault.BadFire word)) is = is
-draw_same flag p events (Err (fault.BadName word)) is = is
-draw_same flag p events (Err (fault.CannotRead cause)) is = is
-draw_same flag p events (Err fault.CannotWrite) is = is
-
-pub draw_any : (command : Following) (flag : Bool) (p : Program) (events : List TraceEvent) (outcome : Outcome) → command ≡ following.Draw → AreFollowed following.Draw false p events outcome → AreFollowed command flag p events outcome
-draw_any command flag p events outcome is followed = subst (λ (k : Following). AreFollowed k flag p events outcome) (sym is) (draw_same flag p events outcome followed)
+-- a word that says no rounds
+pub unpictured_is : (span : Option (Bor (List ℕ))) (p : Program) (events : List TraceEvent) (why : Fault) → IsNoSpan (option_map (λ w. w.now) span) why → AreFollowed (Picture span) p events (Err why)
+unpictured_is span p events (fault.BadSpan word) is = is
+unpictured_is span p events fault.NoMemory is = tt
+unpictured_is span p events (fault.Refused number line) is = absurd is
+unpictured_is span p events (fault.BadName word) is = absurd is
+unpictured_is span p events (fault.Misuse words) is = absurd is
+unpictured_is span p events (fault.BadPress word) is = absurd is
+unpictured_is span p events fault.TooManyPresses is = absurd is
+unpictured_is span p events (fault.BadFire word) is = absurd is
+unpictured_is span p events (fault.CannotRead cause) is = absurd is
+unpictured_is span p events fault.CannotWrite is = absurd is

@@ -1,12 +1,10 @@
 -- Rounds, step by step.
-use Rattle.std.proofs.Common.{◌≡◌, ℕ, zero, suc, ◌+◌, ◌<◌, ◌≤◌, Bool, true, false, ◌==◌, List, [], ◌∷◌, ◌++◌, map, flat_map, filter, take, length, Option, Some, None, Ok, refl, sym, ap, ◌∙◌, subst, arith, if◌then◌else◌, eq-eqb, eqb-true, length-append}
-use Rattle.std.specs.Prelude.{slice_get, slice_index_or, is_some}
+use Rattle.std.proofs.Common.{◌≡◌, ℕ, zero, suc, ◌+◌, ◌<◌, ◌≤◌, Bool, true, false, ◌==◌, List, [], ◌∷◌, ◌++◌, map, flat_map, filter, take, length, Option, Some, None, Ok, refl, sym, ap, ◌∙◌, subst, arith, if◌then◌else◌, eqb-true, length-append}
+use Rattle.std.specs.Prelude.{slice_get, is_some}
 use Rattle.std.proofs.lemmas.List.{append_assoc}
 use Rattle.il_spec.specs.declared.tree.Config.{Config}
 use Rattle.il_spec.specs.declared.tree.Unit.{Unit as ProgramUnit}
-use Rattle.il_machine.specs.Scanning.{Program}
 use Rattle.lift_host.specs.declared.press.Press.{Press as PressOf}
-use Rattle.lift_spec.specs.declared.calls.Call.{Call}
 use Rattle.lift_spec.specs.declared.event.Event.TheVariants.{Press, Gather}
 use Rattle.lift_spec.specs.declared.image.Sizes.{Sizes}
 use Rattle.lift_spec.specs.declared.journal.Entry.{Entry}
@@ -14,20 +12,15 @@ use Rattle.lift_spec.specs.Calls.{IsCall}
 use Rattle.lift_spec.specs.Image.{sizes_of}
 use Rattle.lift_spec.specs.Replies.{Reply}
 use Rattle.lift_spec.specs.Snapshot.{program_of, has_task}
-use Rattle.lift_spec.specs.Plant.{PlantState}
 use Rattle.lift_spec.specs.World.{World, happens, opening}
 use Rattle.lift_run_laws.specs.Tasks.{IsTaskOf}
-use Rattle.lift_journal.specs.Rounds.{Happen, Scans, ScanEach, IsRound, Rounds, counting_from, is_fire_in, scan_entries, tasks_in_order}
+use Rattle.lift_journal.specs.Rounds.{Happen, Scans, ScanEach, counting_from, scan_entries, tasks_in_order}
 use Rattle.lift_journal.proofs.Taking.{happen_one, happen_more, press_taken, gather_taken}
-use Rattle.lift_runs.specs.Driven.{call_of, calls_in, ArePressed, AreTasks}
+use Rattle.lift_runs.specs.Driven.{call_of, ArePressed, AreTasks}
+pub use Rattle.lift_runs.proofs.Fronts.{take_next, read}
 use Rattle.lift_spec.proofs.Interlock.{filter_fits as filtered_length}
 
 -- LISTS
-
-pub take_next : {X : Type 0} (xs : List X) (i : ℕ) (x : X) → slice_get xs i ≡ Some x → take (i + 1) xs ≡ take i xs ++ x ∷ []
-take_next [] i x at = let no : None ≡ Some x = at in cc
-take_next (y ∷ xs) zero x at = let same : y ≡ x = cc in ap (λ z. z ∷ []) same
-take_next (y ∷ xs) (suc i) x at = let next : suc i + 1 ≡ suc (i + 1) = omega arith in ap (λ n. take n (y ∷ xs)) next ∙ ap (λ l. y ∷ l) (take_next xs i x at)
 
 pub map_append : {X Y : Type 0} (f : X → Y) (xs ys : List X) → map f (xs ++ ys) ≡ map f xs ++ map f ys
 map_append f [] ys = refl
@@ -52,12 +45,6 @@ counting_next first (suc k) =
     let last : (first + 1) + k ≡ first + suc k = omega arith in
     ap (counting_from first) next ∙ ap (λ l. first ∷ l) (counting_next (first + 1) k) ∙ ap (λ n. first ∷ (counting_from (first + 1) k ++ n ∷ [])) last
 
--- the item at an index
-pub read : {X : Type 0} (xs : List X) (i : ℕ) (d : X) → i < length xs → slice_get xs i ≡ Some (slice_index_or xs i d)
-read [] i d below = absurd (omega (arith, below))
-read (x ∷ xs) zero d below = refl
-read (x ∷ xs) (suc i) d below = read xs i d (omega (arith, below))
-
 -- none where their number is 0
 pub none_left : {X : Type 0} (xs : List X) (b : Bool) → b ≡ (length xs == 0) → b ≡ true → xs ≡ []
 none_left [] b is so = refl
@@ -70,37 +57,14 @@ is_pressed sizes [] i p are at = let no : None ≡ Some p = at in cc
 is_pressed sizes (x ∷ presses) zero p are at = let same : x ≡ p = cc in subst (λ y. IsCall sizes (call_of y)) same are.0
 is_pressed sizes (x ∷ presses) (suc i) p are at = is_pressed sizes presses i p are.1 at
 
-calls_append : (xs ys : List PressOf) (n : ℕ) → calls_in (xs ++ ys) n ≡ calls_in xs n ++ calls_in ys n
-calls_append xs ys n = ap (map call_of) (filter_append (λ (p : PressOf). p.round == n) xs ys) ∙ map_append call_of (filter (λ (p : PressOf). p.round == n) xs) (filter (λ (p : PressOf). p.round == n) ys)
-
-one_call : (p : PressOf) (n : ℕ) (b : Bool) → (p.round == n) ≡ b → calls_in (p ∷ []) n ≡ (if b then call_of p ∷ [] else [])
-one_call p n b is = ap (λ (a : Bool). map call_of (if a then p ∷ [] else [])) is ∙ by b
-  where
-    by : (a : Bool) → map call_of (if a then p ∷ [] else []) ≡ (if a then call_of p ∷ [] else [])
-    by true = refl
-    by false = refl
-
--- a press of the round is made
-pub press_more : (c : Config) (w m v : World) (presses : List PressOf) (n i : ℕ) (p : PressOf) (r : Reply) → ArePressed (sizes_of c) presses → slice_get presses i ≡ Some p → p.round ≡ n
-    → Happen c w (map Press (calls_in (take i presses) n)) m → happens c m (Press (call_of p)) ≡ Ok (v, r) → Happen c w (map Press (calls_in (take (i + 1) presses) n)) v
-press_more c w m v presses n i p r are at is before here =
-    let all : map Press (calls_in (take (i + 1) presses) n) ≡ map Press (calls_in (take i presses) n) ++ Press (call_of p) ∷ [] =
-    ap (λ l. map Press (calls_in l n)) (take_next presses i p at) ∙ ap (map Press) (calls_append (take i presses) (p ∷ []) n ∙ ap (λ l. calls_in (take i presses) n ++ l) (one_call p n true (eq-eqb p.round n is)))
-    ∙ map_append Press (calls_in (take i presses) n) (call_of p ∷ [])
+-- a further press is made
+pub press_next : (c : Config) (w m v : World) (presses : List PressOf) (i : ℕ) (p : PressOf) (r : Reply) → ArePressed (sizes_of c) presses → slice_get presses i ≡ Some p → Happen c w (map Press (map call_of (take i presses))) m
+    → happens c m (Press (call_of p)) ≡ Ok (v, r) → Happen c w (map Press (map call_of (take (i + 1) presses))) v
+press_next c w m v presses i p r are at before here =
+    let all : map Press (map call_of (take (i + 1) presses)) ≡ map Press (map call_of (take i presses)) ++ Press (call_of p) ∷ [] =
+    ap (λ l. map Press (map call_of l)) (take_next presses i p at) ∙ ap (map Press) (map_append call_of (take i presses) (p ∷ [])) ∙ map_append Press (map call_of (take i presses)) (call_of p ∷ [])
     in
     subst (λ es. Happen c w es v) (sym all) (happen_more c w m v _ _ before (happen_one c m v (Press (call_of p)) r here (press_taken c m v (call_of p) r (is_pressed (sizes_of c) presses i p are at) here)))
-
--- a press of another round is not
-pub press_skips : (c : Config) (w m : World) (presses : List PressOf) (n i : ℕ) (p : PressOf) → slice_get presses i ≡ Some p → (p.round == n) ≡ false → Happen c w (map Press (calls_in (take i presses) n)) m → Happen c w (map Press (calls_in (take (i + 1) presses) n)) m
-press_skips c w m presses n i p at other before =
-    let all : map Press (calls_in (take (i + 1) presses) n) ≡ map Press (calls_in (take i presses) n) =
-    ap (λ l. map Press (calls_in l n)) (take_next presses i p at) ∙ ap (map Press) (calls_append (take i presses) (p ∷ []) n ∙ ap (λ l. calls_in (take i presses) n ++ l) (one_call p n false other) ∙ nil (calls_in (take i presses) n))
-    in
-    subst (λ es. Happen c w es m) (sym all) before
-  where
-    nil : (xs : List Call) → xs ++ [] ≡ xs
-    nil [] = refl
-    nil (x ∷ xs) = ap (λ l. x ∷ l) (nil xs)
 
 -- GATHERINGS
 
@@ -197,18 +161,7 @@ pub entries_next : (tasks : List ℕ) (i t : ℕ) (old now : List Entry) → sli
 entries_next tasks i t old now at is =
     ap (λ l. l ++ scan_entries t) is ∙ append_assoc old (flat_map scan_entries (take i tasks)) (scan_entries t) ∙ ap (λ l. old ++ l) (sym (ap (flat_map scan_entries) (take_next tasks i t at) ∙ flat_append scan_entries (take i tasks) (t ∷ [])))
 
--- ROUNDS
-
--- one round more
-pub rounds_more :
-    (p q : Program) → q ≡ p → (presses : List PressOf) (fire : Option ℕ) (n : ℕ) (before plant : PlantState) (u w : World) (earlier now last : List Entry) → Rounds p.config (calls_in presses) (is_fire_in fire) n before u earlier → now ≡ earlier ++ last
-    → IsRound q.config (calls_in presses (n + 1)) (is_fire_in fire (n + 1)) before plant u w last → Rounds p.config (calls_in presses) (is_fire_in fire) (n + 1) plant w now
-rounds_more p q same presses fire n before plant u w earlier now last rounds is round =
-    let number : n + 1 ≡ suc n = omega arith in
-    let here : IsRound p.config (calls_in presses (suc n)) (is_fire_in fire (suc n)) before plant u w last =
-    subst (λ k. IsRound p.config (calls_in presses k) (is_fire_in fire k) before plant u w last) number (subst (λ (x : Program). IsRound x.config (calls_in presses (n + 1)) (is_fire_in fire (n + 1)) before plant u w last) same round)
-    in
-    subst (λ k. Rounds p.config (calls_in presses) (is_fire_in fire) k plant w now) (sym number) (before, u, earlier, last, rounds, here, is)
+-- THE OPENING
 
 -- the opening world has nothing on the desk
 pub opening_desk : (c : Config) → (opening c).desk ≡ []

@@ -1,3 +1,4 @@
+pub mod Fronts
 pub mod Driving
 pub mod Showing
 pub mod Stepping

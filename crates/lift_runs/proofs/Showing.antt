@@ -1,18 +1,17 @@
 -- What an observer writes, step by step.
-use Rattle.std.proofs.Common.{◌≡◌, ℕ, suc, ◌+◌, Bool, List, [], ◌∷◌, ◌++◌, take, Option, Some, refl, sym, ap, ◌∙◌, subst, arith}
+use Rattle.std.proofs.Common.{◌≡◌, ℕ, suc, ◌+◌, List, [], ◌∷◌, ◌++◌, take, Some, refl, sym, ap, ◌∙◌, subst, arith}
 use Rattle.std.specs.Prelude.{slice_get}
 use Rattle.std.proofs.lemmas.List.{append_assoc}
 use Rattle.il_spec.specs.declared.tree.Config.{Config}
 use Rattle.il_machine.specs.Scanning.{Program}
-use Rattle.lift_host.specs.declared.press.Press.{Press as PressOf}
+use Rattle.lift_plant.specs.declared.switches.Switches.{Switches}
+use Rattle.lift_spec.specs.declared.calls.Call.{Call}
 use Rattle.lift_spec.specs.declared.journal.Entry.{Entry}
 use Rattle.lift_spec.specs.declared.report.Report.{Report}
 use Rattle.lift_spec.specs.Plant.{PlantState}
 use Rattle.lift_spec.specs.World.{World}
-use Rattle.lift_journal.specs.Rounds.{is_fire_in}
-use Rattle.lift_runs.specs.Driven.{calls_in}
 use Rattle.lift_runs.specs.Shown.{Shows, ScansReporting, ScansShown, RoundShown, RoundsShown, scans_text, rounds_text}
-use Rattle.lift_runs.proofs.Driving.{take_next}
+use Rattle.lift_runs.proofs.Fronts.{take_next}
 
 pub nil : (xs : List ℕ) → xs ++ [] ≡ xs
 nil [] = refl
@@ -36,17 +35,14 @@ scans_next s n c tasks i t w m v text report at before scan = subst (λ l. Scans
 
 -- one round more
 pub rounds_next :
-    (s : Shows) (p q : Program) → q ≡ p → (presses : List PressOf) (fire : Option ℕ) (n : ℕ) (before plant : PlantState) (u w : World) (earlier now last : List Entry) (text more : List ℕ)
-    → RoundsShown s p.config (calls_in presses) (is_fire_in fire) n before u earlier text → now ≡ earlier ++ last
-    → RoundShown s (n + 1) q.config (calls_in presses (n + 1)) (is_fire_in fire (n + 1)) before plant u w last more → RoundsShown s p.config (calls_in presses) (is_fire_in fire) (n + 1) plant w now (text ++ more)
-rounds_next s p q same presses fire n before plant u w earlier now last text more rounds is round =
+    (s : Shows) (p q : Program) → q ≡ p → (calls : ℕ → List Call) (switches : ℕ → Switches) (n : ℕ) (before plant : PlantState) (u w : World) (earlier now last : List Entry) (text more : List ℕ) → RoundsShown s p.config calls switches n before u earlier text
+    → now ≡ earlier ++ last → RoundShown s (n + 1) q.config (calls (n + 1)) (switches (n + 1)) before plant u w last more → RoundsShown s p.config calls switches (n + 1) plant w now (text ++ more)
+rounds_next s p q same calls switches n before plant u w earlier now last text more rounds is round =
     let number : n + 1 ≡ suc n = omega arith in
-    let here : RoundShown s (suc n) p.config (calls_in presses (suc n)) (is_fire_in fire (suc n)) before plant u w last more =
-    subst (λ k. RoundShown s k p.config (calls_in presses k) (is_fire_in fire k) before plant u w last more) number
-    (subst (λ (x : Program). RoundShown s (n + 1) x.config (calls_in presses (n + 1)) (is_fire_in fire (n + 1)) before plant u w last more) same round)
+    let here : RoundShown s (suc n) p.config (calls (suc n)) (switches (suc n)) before plant u w last more =
+    subst (λ k. RoundShown s k p.config (calls k) (switches k) before plant u w last more) number (subst (λ (x : Program). RoundShown s (n + 1) x.config (calls (n + 1)) (switches (n + 1)) before plant u w last more) same round)
     in
-    subst (λ k. RoundsShown s p.config (calls_in presses) (is_fire_in fire) k plant w now (text ++ more)) (sym number)
-    ((before, u, earlier, last, rounds.0, here.0, is), ap (λ l. l ++ more) rounds.1 ∙ ap (λ l. rounds_text s p.config (calls_in presses) (is_fire_in fire) n before u earlier rounds.0 ++ l) here.1)
+    subst (λ k. RoundsShown s p.config calls switches k plant w now (text ++ more)) (sym number) ((before, u, earlier, last, rounds.0, here.0, is), ap (λ l. l ++ more) rounds.1 ∙ ap (λ l. rounds_text s p.config calls switches n before u earlier rounds.0 ++ l) here.1)
 
 -- the texts of a round, one behind the other
 pub texts_joined : (old refresh scans round : List ℕ) → ((old ++ refresh) ++ scans) ++ round ≡ old ++ (refresh ++ (scans ++ round))

@@ -103,7 +103,7 @@ pub fn at_first(cars: u8, settings: &[Setting]) -> Standing<'_>
 pub fn set_in<'s>(before: Standing<'s>, round: u16) -> Standing<'s>
     requires { Rises setting_round round before.later.now }
     ensures { (cars n : ℕ) (all : List SettingOf) → round ≡ n + 1
-        → IsStanding cars all n before.switches before.later.now
+        → IsStanding cars all n before.entry.switches before.entry.later.now
         → IsStanding cars all round result.switches result.later.now }
 {
     let due = settings_due(before.later, round);

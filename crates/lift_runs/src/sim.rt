@@ -250,10 +250,10 @@ fn run_rounds<O: Observer>(
     let mut standing = at_first(cars, &settings);
     let mut idle = true;
     'rounds: for number in 0..rounds {
-        let count = presses_due(ahead, number + 1);
+        let (now, later) = ahead.split_at(presses_due(ahead, number + 1));
         standing = set_in(standing, number + 1);
         let due = Due {
-            presses: &ahead[..count],
+            presses: now,
             switches: standing.switches,
             idle,
         };
@@ -267,8 +267,8 @@ fn run_rounds<O: Observer>(
             &mut report,
             observer,
         )?;
-        idle = idle && count == 0;
-        ahead = &ahead[count..];
+        idle = idle && now.is_empty();
+        ahead = later;
     }
     Ok(())
 }

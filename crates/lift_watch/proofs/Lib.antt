@@ -1,4 +1,5 @@
 mod Printing
 mod Logging
 mod Reading
+mod Rows
 mod Watching

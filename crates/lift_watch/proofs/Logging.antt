@@ -4,7 +4,7 @@ use Rattle.std.specs.Prelude.{Some, slice_get, zero, suc}
 use Rattle.il_spec.specs.declared.tree.Config.{Config}
 use Rattle.lift_journeys.specs.declared.log.Log.{Log}
 use Rattle.lift_journeys.specs.declared.journey.Moment.{Moment}
-use Rattle.lift_journeys.specs.Logs.{empty_log, log_after, pressed_in, is_new, entered_in, all_entered_in, entered_of, refreshed_in, in_next_round, committed_in, answers_of}
+use Rattle.lift_journeys.specs.Logs.{empty_log, log_after, pressed_in, is_new, entered_in, all_entered_in, entered_of, in_next_round, committed_in, answers_of}
 use Rattle.lift_runs.specs.Along.{Step, TakesWith}
 use Rattle.lift_runs.proofs.Stepping.{step_more}
 use Rattle.lift_spec.specs.declared.calls.Call.{Call}

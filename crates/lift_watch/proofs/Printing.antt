@@ -1,5 +1,5 @@
 -- What is printed along a trace, by one event more.
-use Rattle.std.proofs.Common.{◌≡◌, ℕ, zero, suc, ◌+◌, ◌≤◌, List, [], ◌∷◌, ◌++◌, take, length, Bool, refl, ap, ap₂, ◌∙◌, sym, subst, arith}
+use Rattle.std.proofs.Common.{◌≡◌, ℕ, ◌+◌, ◌≤◌, List, [], ◌∷◌, ◌++◌, take, length, Bool, refl, ap, ap₂, ◌∙◌, sym, subst, arith}
 use Rattle.std.proofs.lemmas.List.{append_assoc, append-nil, take_all}
 use Rattle.std.specs.Prelude.{Some, slice_get}
 use Rattle.il_spec.specs.declared.tree.Config.{Config}
@@ -69,8 +69,8 @@ denied_next all c w m v events i text now round next e reply there to last behin
     }
 
 -- all of them
-pub denied_all : (all : Bool) (c : Config) (w v : World) (events : List TraceEvent) (n : ℕ) (text : List ℕ) (round : ℕ) → n ≡ length events → IsDeniedTo all c w (take n events) v text round → IsDeniedAlong all c w events v text
-denied_all all c w v events n text round e to = record { steps = to.steps; are = subst (λ (l : List TraceEvent). AreStepsOf c w l v to.steps) (ap (λ k. take k events) e ∙ take_all events) to.are; is = to.is }
+pub denied_all : (all : Bool) (c : Config) (w v : World) (events : List TraceEvent) (n : ℕ) (text : List ℕ) (round : ℕ) → length events ≤ n → IsDeniedTo all c w (take n events) v text round → IsDeniedAlong all c w events v text
+denied_all all c w v events n text round e to = record { steps = to.steps; are = subst (λ (l : List TraceEvent). AreStepsOf c w l v to.steps) (take_all n events e) to.are; is = to.is }
 
 -- ROWS
 
@@ -121,11 +121,11 @@ rows_next watched c w m v events i before text now round next e reply there to l
     }
 
 -- all of them, and the row of the last
-pub rows_all : (watched : List Watched) (c : Config) (w v : World) (events : List TraceEvent) (n : ℕ) (before text now : List ℕ) (round : ℕ) → n ≡ length events → AreRowsTo watched c w (take n events) v before text round → now ≡ text ++ row_of watched round v
+pub rows_all : (watched : List Watched) (c : Config) (w v : World) (events : List TraceEvent) (n : ℕ) (before text now : List ℕ) (round : ℕ) → length events ≤ n → AreRowsTo watched c w (take n events) v before text round → now ≡ text ++ row_of watched round v
     → (rows : List ℕ) × (now ≡ before ++ rows) × AreRowsAlong watched c w events v rows
 rows_all watched c w v events n before text now round e to is = (
   rows_along watched to.steps 0 w,
   is ∙ ap₂ (λ (l r : List ℕ). l ++ r) to.is (ap (λ k. row_of watched k v) to.at) ∙ append_assoc before (rows_before watched to.steps 0 w) (row_of watched (round_along to.steps 0) v)
       ∙ ap (λ (l : List ℕ). before ++ l) (sym (rows_last watched c w v to.steps 0 to.are.lead)),
-  record { steps = to.steps; are = subst (λ (l : List TraceEvent). AreStepsOf c w l v to.steps) (ap (λ k. take k events) e ∙ take_all events) to.are; is = refl },
+  record { steps = to.steps; are = subst (λ (l : List TraceEvent). AreStepsOf c w l v to.steps) (take_all n events e) to.are; is = refl },
 )

@@ -6,7 +6,11 @@ use Rattle.std.proofs.lemmas.Fmt.{decimal_digit}
 use Rattle.std.proofs.lemmas.List.Sums.{split_at_first, prefix_len_stops}
 use borrow.Author.Tests.{eqb-true}
 use Rattle.lift_spec.specs.Snapshot.{task_name}
-use Rattle.lift_watch.specs.Names.{IsInTask}
+use Rattle.std.proofs.lemmas.List.{append_cancel_right}
+use Rattle.lift_host.specs.Requests.{IsNumberTo}
+use Rattle.lift_watch.specs.declared.names.SlotName.{SlotName}
+use Rattle.lift_watch.specs.declared.names.SlotName.TheVariants as of_slot
+use Rattle.lift_watch.specs.Names.{IsInTask, IsIndex, IsOfSlot, word_of_slot_name}
 
 abbrev pub is_dot : ℕ → Bool
 is_dot b = b == 46
@@ -74,3 +78,23 @@ in_task name front rest task few low e f is = record {
       split_at_first is_dot name 0 low ∙ ap (λ l. l ++ (get_or name (position_or_len is_dot name) 0 ∷ after_first is_dot name)) (sym e ∙ is)
       ∙ ap (λ b. task_name task ++ (b ∷ after_first is_dot name)) (eqb-true (get_or name (position_or_len is_dot name) 0) 46 (passes (is_dot (get_or name (position_or_len is_dot name) 0)) (prefix_len_stops (λ b. not (is_dot b)) name 0 low))) ∙ ap (λ l. task_name task ++ 46 ∷ l) (sym f);
 }
+
+-- CALL SLOTS
+
+abbrev pub is_bracket : ℕ → Bool
+is_bracket b = b == 91
+
+-- behind the name of an array of the call slots and the bracket stands the rest
+behind_array : (it : SlotName) (rest : List ℕ) → after_first is_bracket (word_of_slot_name it ++ 91 ∷ rest) ≡ rest
+behind_array of_slot.Waits rest = refl
+behind_array of_slot.From rest = refl
+behind_array of_slot.To rest = refl
+behind_array of_slot.Car rest = refl
+
+-- so a rest without the number of a slot is that of no slot
+pub no_slot : (name rest : List ℕ) → rest ≡ after_first is_bracket name → ((slot : ℕ) → IsIndex rest slot → ⊥) → (it : SlotName) (slot : ℕ) → IsOfSlot name it slot → ⊥
+no_slot name rest e none it slot is = none slot (subst (λ r. IsIndex r slot) (sym (e ∙ ap (after_first is_bracket) is.is ∙ behind_array it is.rest)) is.index)
+
+-- and digits that are no number of a slot are none in front of a bracket
+pub no_index : (rest digits : List ℕ) → rest ≡ digits ++ 93 ∷ [] → ((slot : ℕ) → IsNumberTo 64 digits slot → ⊥) → (slot : ℕ) → IsIndex rest slot → ⊥
+no_index rest digits e none slot is = none slot (subst (λ (d : List ℕ). IsNumberTo 64 d slot) (append_cancel_right is.digits digits (93 ∷ []) (sym is.is ∙ e)) is.numbered)

@@ -96,7 +96,7 @@ pub fn work<G: Naming, T: Gate, R: Wait>(
         → (G.switches n).run_limit ≤ (sizes_of G.program.config).cars }
     requires entered { IsEntered refresher.pass.entered refresher.hand }
     ensures counts { IfOk result (λ d. (d.hand.table ≡ refresher.hand.table)
-        × (d.pass.refreshes ≡ pace.rounds) × (d.pass.driven ≡ pace.rounds)) }
+        × (d.pass.refreshes ≡ pace.entry.rounds) × (d.pass.driven ≡ pace.entry.rounds)) }
     ensures entered { IfOk result (λ d. IsEntered d.pass.entered d.hand) }
 {
     let mut refresher = refresher;
@@ -137,7 +137,7 @@ pub fn start<'s, E, G: Naming + Send + Sync, T: Gate + Sync, R: Threads + Wait +
     requires limit { (n : ℕ)
         → (G.switches n).run_limit ≤ (sizes_of G.program.config).cars }
     requires entered { IsEntered refresher.pass.entered refresher.hand }
-    ensures { IfOk result (λ h. (h.promise.rounds ≡ pace.rounds)
+    ensures { IfOk result (λ h. (h.promise.rounds ≡ pace.entry.rounds)
         × (h.promise.desk.value.table ≡ desk.now.table)) }
 {
     let job = move || -> Result<Refresher<G>, StationFault>
@@ -151,7 +151,7 @@ pub fn start<'s, E, G: Naming + Send + Sync, T: Gate + Sync, R: Threads + Wait +
             → (G.switches n).run_limit ≤ (sizes_of G.program.config).cars }
         requires entered { IsEntered refresher.pass.entered refresher.hand }
         ensures { IfOk result (λ d. (d.hand.table ≡ desk.entry.now.table)
-            × (d.pass.refreshes ≡ pace.rounds) × (d.pass.driven ≡ pace.rounds)
+            × (d.pass.refreshes ≡ pace.entry.rounds) × (d.pass.driven ≡ pace.entry.rounds)
             × IsEntered d.pass.entered d.hand) }
     { work(rt, station, desk, gate, refresher, pace) };
     let promise = RefreshRounds {

@@ -252,23 +252,14 @@ fn by_round(alloc: Global, presses: &[Press]) -> Result<Vec<Press>, AllocError>
 }
 
 // The presses and the settings by their rounds, and new ledgers.
-#[derive(Drop)]
-struct Prepared {
-    presses: Vec<Press>,
-    settings: Vec<Setting>,
-    blanks: Blanks,
-}
-
-fn prepared(alloc: Global, plan: Plan<'_>) -> Result<Prepared, AllocError>
-    ensures presses { IfOk result (λ p. IsPermutation plan.entry.presses.now p.presses.items) }
-    ensures settings { IfOk result (λ p. IsAhead setting_round 0 plan.entry.settings.now
-        p.settings.items) }
+fn prepared(alloc: Global, plan: Plan<'_>) -> Result<(Vec<Press>, Vec<Setting>, Blanks), AllocError>
+    ensures presses { IfOk result (λ r. IsPermutation plan.entry.presses.now r.0.items) }
+    ensures settings { IfOk result (λ r. IsAhead setting_round 0 plan.entry.settings.now
+        r.1.items) }
 {
-    Ok(Prepared {
-        presses: by_round(alloc, plan.presses)?,
-        settings: settings_by_round(alloc, plan.settings)?,
-        blanks: Blanks::new(alloc)?,
-    })
+    let presses = by_round(alloc, plan.presses)?;
+    let settings = settings_by_round(alloc, plan.settings)?;
+    Ok((presses, settings, Blanks::new(alloc)?))
 }
 
 // How many entries a journal gets in so many rounds.
@@ -439,13 +430,7 @@ pub fn run<T: Gate + Sync, R: Threads + Wait + Sync>(
         plan.entry.presses.now ran.journal.items ran.left) }
 {
     match prepared(alloc, plan) {
-        Ok(
-            Prepared {
-                presses,
-                settings,
-                blanks,
-            },
-        ) => {
+        Ok((presses, settings, blanks)) => {
             let plan = Plan {
                 presses: &presses,
                 settings: &settings,

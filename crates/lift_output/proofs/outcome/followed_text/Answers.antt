@@ -14,5 +14,5 @@ followed_events-requires c = record {
 
 pub returns-in-Ok-clause-is : goal.returns-in-Ok-clause-is
 returns-in-Ok-clause-is c =
-    followed_is c.args.command c.args.flag c.args.verified c.args.text.now c.deref.result.now c.followed_events.result
+    followed_is c.args.telling c.args.verified c.args.text.now c.deref.result.now c.followed_events.result
     (subst (λ (l : List TraceEvent). Reads (sizes_of c.args.verified.config).cars c.args.text.now (Ok l)) (sym c.deref.ensures.value) (subst (λ (s : Sizes). Reads s.cars c.args.text.now (Ok c.in-Ok.events.items)) c.sizes.ensures c.in-Ok.ensures.ok)) c.followed_events.ensures.is

@@ -9,9 +9,9 @@ use Rattle.lift_spec.specs.Replies.{reply_with}
 use Rattle.lift_spec.specs.World.{happens}
 use Rattle.il_machine.proofs.Sizes.{sizes_fit}
 use Rattle.lift_runs.specs.Driven.{call_of}
-use Rattle.lift_runs.proofs.Driving.{read, is_pressed, press_more, press_skips}
+use Rattle.lift_runs.proofs.Driving.{is_pressed, press_next}
+use Rattle.lift_runs.proofs.Fronts.{read}
 use Rattle.lift_runs.proofs.sim.press_all.Goals as goal
-use Rattle.lift_runs.proofs.sim.press_all.Goals.{then-press-round, else-press-round}
 
 abbrev none : PressOf
 none = record { round = 0; from = 0; to = 0; panel = 0 }
@@ -39,16 +39,9 @@ presses-preserved c =
     let below : c.presses.press-index < length c.args.presses.now = search rules in
     let press = slice_index_or c.args.presses.now c.presses.press-index none in
     let at = read c.args.presses.now c.presses.press-index none below in
-    elim c.if-press-round.branch [
-      | then-press-round w ↦
-          let reply = reply_with w.apply.result w.apply.new.report in (
-            press_more c.args.world.now.program.config c.args.world.now.world c.presses.world.world c.if-press-round.world.world c.args.presses.now c.args.round c.presses.press-index press reply c.requires.calls at (search rules) c.presses.invariant.0
-                (subst (λ (p : Program). happens p.config c.presses.world.world (Press (call_of press)) ≡ Ok (c.if-press-round.world.world, reply)) c.presses.invariant.1
-                (subst (λ (l : Call). happens c.presses.world.program.config c.presses.world.world (Press l) ≡ Ok (c.if-press-round.world.world, reply)) w.call_of.ensures (rw w.world-is w.apply.ensures.model))),
-            rw w.world-is (w.apply.ensures.same ∙ c.presses.invariant.1),
-          )
-      | else-press-round w ↦ (
-        rw w.world-is (press_skips c.args.world.now.program.config c.args.world.now.world c.presses.world.world c.args.presses.now c.args.round c.presses.press-index press at (search rules) c.presses.invariant.0),
-        rw w.world-is c.presses.invariant.1,
-      )
-    ]
+    let reply = reply_with c.apply.result c.apply.new.report in (
+      press_next c.args.world.now.program.config c.args.world.now.world c.presses.world.world c.apply.new.self.world c.args.presses.now c.presses.press-index press reply c.requires.calls at c.presses.invariant.0
+          (subst (λ (p : Program). happens p.config c.presses.world.world (Press (call_of press)) ≡ Ok (c.apply.new.self.world, reply)) c.presses.invariant.1
+          (subst (λ (l : Call). happens c.presses.world.program.config c.presses.world.world (Press l) ≡ Ok (c.apply.new.self.world, reply)) c.call_of.ensures c.apply.ensures.model)),
+      c.apply.ensures.same ∙ c.presses.invariant.1,
+    )

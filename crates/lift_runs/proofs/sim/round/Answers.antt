@@ -1,4 +1,4 @@
-use Rattle.std.proofs.Common.{◌≡◌, ◌∷◌, ◌++◌, ℕ, List, [], Bool, flat_map, refl, subst, sym, ap, ap₂, ◌∙◌, Ok, arith}
+use Rattle.std.proofs.Common.{◌≡◌, ◌∷◌, ◌++◌, ℕ, List, [], map, flat_map, refl, subst, sym, ap, ap₂, ◌∙◌, Ok, arith}
 use Rattle.std.proofs.lemmas.List.{append_assoc}
 use Rattle.il_machine.specs.Scanning.{Program, IsRunnable}
 use Rattle.lift_spec.specs.declared.event.Event.TheVariants.{Refresh}
@@ -13,7 +13,7 @@ use Rattle.lift_journal.specs.Rounds.{tasks_in_order, scan_entries, entered_call
 use Rattle.lift_journal.proofs.Desks.{refresh_keeps, each_keeps}
 use Rattle.lift_journal.proofs.Taking.{desk_closes, refresh_closes}
 use Rattle.il_machine.proofs.Sizes.{sizes_fit}
-use Rattle.lift_runs.specs.Driven.{AreTasks, calls_in}
+use Rattle.lift_runs.specs.Driven.{AreTasks, call_of}
 use Rattle.lift_runs.specs.Shown.{Shows, ScansShown}
 use Rattle.lift_runs.proofs.Driving.{tasks_are}
 use Rattle.lift_runs.proofs.Showing.{texts_joined}
@@ -28,7 +28,7 @@ refresh-requires g c =
     record {
       inside =
           subst (λ (x : Program). FieldsInRange (sizes_of x.config) c.plant_step-plant.result.1) (sym c.desk.ensures.same)
-          (c.plant_step-plant.ensures.inside sizes (c.with_fire-plant.ensures.sized sizes c.requires.plant) (omega (arith, two)));
+          (c.plant_step-plant.ensures.inside sizes (c.with_switches-plant.ensures.sized sizes c.requires.plant c.requires.limit) (omega (arith, two)));
     }
 
 pub scan_all-requires-clause-tasks : goal.scan_all-requires-clause-tasks
@@ -40,7 +40,7 @@ pub scan_all-requires-clause-closed : goal.scan_all-requires-clause-closed
 scan_all-requires-clause-closed g c =
     let p = c.args.world.now.program in
     refresh_closes c.desk.new.world.program.config c.desk.new.world.world c.refresh.new.world.world c.plant_step-plant.result.1 c.refresh.new.report c.in_ok-refresh.ensures.taken
-    (desk_closes p.config (calls_in c.args.drive.presses.now c.args.number) c.args.world.now.world c.desk.new.world.world c.desk.ensures.taken c.requires.closed)
+    (desk_closes p.config (map call_of c.args.due.presses.now) c.args.world.now.world c.desk.new.world.world c.desk.ensures.taken c.requires.closed)
 
 pub returns-clause-round : goal.returns-clause-round
 returns-clause-round g c =
@@ -74,7 +74,7 @@ returns-clause-round g c =
           gathered = c.desk.new.world.world;
           desk = c.desk.ensures.taken;
           plant_step =
-              c.plant_step-plant.ensures.plant ∙ ap₂ (λ (a : PlantState) (i : Image). plant_after a i.outputs) (c.with_fire-plant.ensures.plant ∙ ap (λ (b : Bool). record c.args.plant { fire = b }) c.is_fire_in.ensures) c.image.ensures.image;
+              c.plant_step-plant.ensures.plant ∙ ap₂ (λ (a : PlantState) (i : Image). plant_after a i.outputs) c.with_switches-plant.ensures.plant c.image.ensures.image;
           refreshed = c.refresh.new.world.world;
           report = report;
           refresh = refreshing;
@@ -86,9 +86,9 @@ returns-clause-round g c =
     )
 
 pub returns-clause-plant : goal.returns-clause-plant
-returns-clause-plant g c = let sizes = sizes_of c.args.world.now.program.config in c.plant_step-plant.ensures.sized sizes (c.with_fire-plant.ensures.sized sizes c.requires.plant)
+returns-clause-plant g c = let sizes = sizes_of c.args.world.now.program.config in c.plant_step-plant.ensures.sized sizes (c.with_switches-plant.ensures.sized sizes c.requires.plant c.requires.limit)
 
 pub returns-clause-idle : goal.returns-clause-idle
-returns-clause-idle g c = λ none.
+returns-clause-idle g c = λ idle none.
     each_keeps c.refresh.new.world.program.config c.args.tasks.now c.refresh.new.world.world c.scan_all.new.world.world c.in_ok-scan_all.ensures.scans.2.0
-    ∙ refresh_keeps c.desk.new.world.program.config c.desk.new.world.world c.refresh.new.world.world c.plant_step-plant.result.1 (Refreshed c.refresh.new.report) c.in_ok-refresh.ensures.taken ∙ c.desk.ensures.idle none
+    ∙ refresh_keeps c.desk.new.world.program.config c.desk.new.world.world c.refresh.new.world.world c.plant_step-plant.result.1 (Refreshed c.refresh.new.report) c.in_ok-refresh.ensures.taken ∙ c.desk.ensures.idle idle none

@@ -1,4 +1,4 @@
-use Rattle.std.proofs.Common.{rules, arith, ◌<◌, ◌∷◌, ◌++◌, [], subst, sym, ap, ◌∙◌, refl, length}
+use Rattle.std.proofs.Common.{rules, arith, ◌<◌, ◌∷◌, ◌++◌, [], subst, sym, ap, ◌∙◌, length}
 use Rattle.std.specs.Prelude.{slice_index_or}
 use Rattle.std.proofs.lemmas.List.{append_assoc, take_all}
 use Rattle.il_machine.specs.Scanning.{Program, HasTask}

@@ -1,4 +1,6 @@
 use Rattle.std.proofs.Common.{◌≡◌}
+use Rattle.lift_spec.specs.Image.{sizes_of}
+use Rattle.lift_runs.specs.Ahead.{IsStanding}
 use Rattle.lift_workers.specs.Ran.{IsEntered}
 use Rattle.lift_workers.proofs.refresher.work.Given as goal
 
@@ -9,4 +11,5 @@ invariant-rounds g l = record {
   refreshes : l.refresher.pass.refreshes ≡ l.below;
   driven : l.refresher.pass.driven ≡ l.below;
   entered : IsEntered l.refresher.pass.entered l.refresher.hand;
+  standing : IsStanding (sizes_of g.G.Naming.program.config).cars l.fn.pace.settings.now l.below l.standing.switches l.standing.later.now;
 }
