@@ -7,8 +7,8 @@ use clap::error::ErrorKind;
 use clap::{Arg, ArgAction, Command};
 use lift_explain::explanation;
 use lift_host::request::{
-    CALLS, CUT, FIRE, MOST_ROUNDS, Name, ROUNDS, Simulating, TRACE, Words, is_digits, is_option,
-    number_to,
+    ALL, CALLS, CUT, FIRE, Following, MOST_ROUNDS, Name, ROUNDS, SUMMARY, Showing, Simulating,
+    TOGETHER, TRACE, WARN, Words, is_digits, is_option, number_to,
 };
 use lift_host::serving::{SYNC, is_serve};
 use std::alloc::{AllocError, Global};
@@ -78,6 +78,11 @@ enum Misuse<'w> {
     Missing,
 }
 
+// An option without its dashes.
+fn long(option: &'static str) -> &'static str {
+    option.strip_prefix("--").unwrap_or(option)
+}
+
 // An option, and what it stands beside.
 #[derive(Clone, Copy)]
 struct Lone {
@@ -119,7 +124,7 @@ fn file<'a>(alloc: Global) -> Arg<'a> {
 // The option `--all`.
 fn all<'a>(alloc: Global) -> Arg<'a> {
     Arg::new(alloc, "all")
-        .long("all")
+        .long(long(ALL))
         .action(ArgAction::SetTrue)
         .help("Also shows each stop at the top or the bottom, which no program can avoid")
 }
@@ -127,7 +132,7 @@ fn all<'a>(alloc: Global) -> Arg<'a> {
 // The option `--together`.
 fn together<'a>(alloc: Global) -> Arg<'a> {
     Arg::new(alloc, "together")
-        .long("together")
+        .long(long(TOGETHER))
         .action(ArgAction::SetTrue)
         .help("A round ends for all tasks before the next begins")
 }
@@ -135,7 +140,7 @@ fn together<'a>(alloc: Global) -> Arg<'a> {
 // The option `--warn`.
 fn warn<'a>(alloc: Global) -> Arg<'a> {
     Arg::new(alloc, "warn")
-        .long("warn")
+        .long(long(WARN))
         .action(ArgAction::SetTrue)
         .help("Also tells, on standard error, what an accepted FILE declares or stores in vain")
 }
@@ -144,7 +149,7 @@ fn warn<'a>(alloc: Global) -> Arg<'a> {
 fn check_command<'a>(alloc: Global) -> Result<Command<'a>, AllocError> {
     file_command(
         alloc,
-        "check",
+        Name::Check.word(),
         "Verifies FILE and shows its tasks and units",
     )?
     .arg(warn(alloc))
@@ -154,7 +159,7 @@ fn check_command<'a>(alloc: Global) -> Result<Command<'a>, AllocError> {
 fn ranges_command<'a>(alloc: Global) -> Result<Command<'a>, AllocError> {
     file_command(
         alloc,
-        "ranges",
+        Name::Show(Showing::Ranges).word(),
         "Shows the ranges that the verifier finds for each instruction of FILE",
     )
 }
@@ -163,7 +168,7 @@ fn ranges_command<'a>(alloc: Global) -> Result<Command<'a>, AllocError> {
 fn xref_command<'a>(alloc: Global) -> Result<Command<'a>, AllocError> {
     file_command(
         alloc,
-        "xref",
+        Name::Show(Showing::Xref).word(),
         "Shows where FILE declares, reads, writes and calls each name",
     )
 }
@@ -194,7 +199,7 @@ fn presses<'a>(alloc: Global) -> Arg<'a> {
 // The option `--fire`.
 fn fire<'a>(alloc: Global) -> Arg<'a> {
     Arg::new(alloc, "fire")
-        .long("fire")
+        .long(long(FIRE))
         .value_name("ROUND")
         .help("From this round on, fire recall is on")
 }
@@ -202,7 +207,7 @@ fn fire<'a>(alloc: Global) -> Arg<'a> {
 // The option `--calls`.
 fn calls<'a>(alloc: Global) -> Arg<'a> {
     Arg::new(alloc, "calls")
-        .long("calls")
+        .long(long(CALLS))
         .value_name("CALLS")
         .help(
             "Also makes the calls of the file CALLS, and sets FIRE and RUNLIMIT as it says; docs/COMMANDS.md has its lines",
@@ -223,7 +228,7 @@ fn rounds_or_trace<'a>(alloc: Global) -> Arg<'a> {
 fn sim_command<'a>(alloc: Global) -> Result<Command<'a>, AllocError> {
     rounds_command(
         alloc,
-        "sim",
+        Name::Rounds(Simulating::Sim).word(),
         "Runs FILE on a simulated plant and prints the trace",
     )
 }
@@ -232,7 +237,7 @@ fn sim_command<'a>(alloc: Global) -> Result<Command<'a>, AllocError> {
 fn run_command<'a>(alloc: Global) -> Result<Command<'a>, AllocError> {
     rounds_command(
         alloc,
-        "run",
+        Name::Rounds(Simulating::Run).word(),
         "Runs FILE with a thread for each task and prints the trace",
     )?
     .arg(together(alloc))
@@ -242,7 +247,7 @@ fn run_command<'a>(alloc: Global) -> Result<Command<'a>, AllocError> {
 fn denials_command<'a>(alloc: Global) -> Result<Command<'a>, AllocError> {
     observing_command(
         alloc,
-        "denials",
+        Name::Rounds(Simulating::Denials).word(),
         "Runs FILE as `sim` does, or replays a trace on it, and prints what the interlock denied",
     )?
     .arg(presses(alloc))?
@@ -263,7 +268,7 @@ fn names<'a>(alloc: Global) -> Arg<'a> {
 fn watch_command<'a>(alloc: Global) -> Result<Command<'a>, AllocError> {
     observing_command(
         alloc,
-        "watch",
+        Name::Rounds(Simulating::Watch).word(),
         "Runs FILE as `sim` does, or replays a trace on it, and prints values behind each round, as CSV",
     )?
     .arg(names(alloc))?
@@ -309,7 +314,7 @@ fn trace<'a>(alloc: Global) -> Arg<'a> {
 // The flag `--cut`.
 fn cut<'a>(alloc: Global) -> Arg<'a> {
     Arg::new(alloc, "cut")
-        .long("cut")
+        .long(long(CUT))
         .action(ArgAction::SetTrue)
         .help("Takes a trace that was cut off, up to its last whole line")
 }
@@ -318,7 +323,7 @@ fn cut<'a>(alloc: Global) -> Arg<'a> {
 fn replay_command<'a>(alloc: Global) -> Result<Command<'a>, AllocError> {
     trace_command(
         alloc,
-        "replay",
+        Name::Trace(Following::Replay).word(),
         "Replays a trace on FILE and prints the image",
     )
 }
@@ -327,7 +332,7 @@ fn replay_command<'a>(alloc: Global) -> Result<Command<'a>, AllocError> {
 fn draw_command<'a>(alloc: Global) -> Result<Command<'a>, AllocError> {
     trace_command(
         alloc,
-        "draw",
+        Name::Trace(Following::Draw).word(),
         "Replays a trace on FILE and prints a picture of it, as SVG",
     )?
     .arg(span(alloc))
@@ -336,7 +341,7 @@ fn draw_command<'a>(alloc: Global) -> Result<Command<'a>, AllocError> {
 // The option `--rounds`.
 fn span<'a>(alloc: Global) -> Arg<'a> {
     Arg::new(alloc, "rounds")
-        .long("rounds")
+        .long(long(ROUNDS))
         .value_name("A:B")
         .help(
             "Draws the rounds from A to B alone; `A:` is up to the last one, `:B` from the first on",
@@ -346,7 +351,7 @@ fn span<'a>(alloc: Global) -> Arg<'a> {
 // The flag `--summary`.
 fn summary<'a>(alloc: Global) -> Arg<'a> {
     Arg::new(alloc, "summary")
-        .long("summary")
+        .long(long(SUMMARY))
         .action(ArgAction::SetTrue)
         .help("Shows how many calls there are, and how long they wait and take, in seconds")
 }
@@ -355,7 +360,7 @@ fn summary<'a>(alloc: Global) -> Arg<'a> {
 fn calls_command<'a>(alloc: Global) -> Result<Command<'a>, AllocError> {
     trace_command(
         alloc,
-        "calls",
+        Name::Trace(Following::Calls).word(),
         "Replays a trace on FILE and prints its calls, from press to service, as CSV",
     )?
     .arg(summary(alloc))
@@ -377,7 +382,7 @@ fn trace_command<'a>(
 // The option `--trace`.
 fn written_trace<'a>(alloc: Global) -> Arg<'a> {
     Arg::new(alloc, "trace")
-        .long("trace")
+        .long(long(TRACE))
         .value_name("TRACE")
         .help("Writes each event to TRACE, a new file, before it happens")
 }
@@ -385,7 +390,7 @@ fn written_trace<'a>(alloc: Global) -> Arg<'a> {
 // The flag `--sync`.
 fn sync<'a>(alloc: Global) -> Arg<'a> {
     Arg::new(alloc, "sync")
-        .long("sync")
+        .long(long(SYNC))
         .action(ArgAction::SetTrue)
         .help("With --trace: has the disk write each line before it is answered")
 }

@@ -36,14 +36,14 @@ pub const TRACE: &str = "--trace";
 // The same option, where its value stands in one word with it.
 const TRACE_IS: &str = "--trace=";
 
-// The flag of `denials` that has it show all denials.
-const ALL: &str = "--all";
+/// The flag of `denials` that has it show all denials.
+pub const ALL: &str = "--all";
 
-// The flag of `run` that has a round end for all before the next begins.
-const TOGETHER: &str = "--together";
+/// The flag of `run` that has a round end for all before the next begins.
+pub const TOGETHER: &str = "--together";
 
-// The flag of `calls` that has it print a summary.
-const SUMMARY: &str = "--summary";
+/// The flag of `calls` that has it print a summary.
+pub const SUMMARY: &str = "--summary";
 
 /// The flag of the commands over a trace that has them take it up to its last whole line.
 pub const CUT: &str = "--cut";
@@ -180,6 +180,26 @@ impl Name {
             "draw" => Some(Name::Trace(Following::Draw)),
             "calls" => Some(Name::Trace(Following::Calls)),
             _ => None,
+        }
+    }
+
+    /// Its word.
+    pub fn word<'a>(self) -> &'a str
+        ensures { result.now ≡ word_of self }
+    {
+        match self {
+            Name::Check => "check",
+            Name::Show(Showing::Ranges) => "ranges",
+            Name::Show(Showing::Xref) => "xref",
+            Name::Rounds(Simulating::Sim) => "sim",
+            Name::Rounds(Simulating::Run) => "run",
+            Name::Rounds(Simulating::Denials) => "denials",
+            Name::Rounds(Simulating::Watch) => "watch",
+            Name::Trace(Following::Replay) => "replay",
+            Name::Trace(Following::Draw) => "draw",
+            Name::Trace(Following::Calls) => "calls",
+            Name::Trace(Following::Denials) => "denials",
+            Name::Trace(Following::Watch) => "watch",
         }
     }
 }
