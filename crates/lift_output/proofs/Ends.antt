@@ -54,5 +54,5 @@ module _ (word first last : List ℕ) (cut : parts_of word ≡ first ∷ parts_o
   last_alone [] n is = refl
   last_alone (x ∷ xs) n is = of_digits (x ∷ xs) is.digits
 
-  pub span_is : (n m : ℕ) → IsEnd 1 first n → IsEnd greatest_round last m → (first ≡ [] → last ≡ [] → ⊥) → n ≤ m → IsSpan word (record { first = n; last = m })
+  pub span_is : (n m : ℕ) → IsEnd 1 first n → IsEnd greatest_round last m → 2 ≤ length word → n ≤ m → IsSpan word (record { first = n; last = m })
   span_is n m a b some low = record { first = first; last = last; parts = cut ∙ ap (λ (l : List (List ℕ)). first ∷ l) (last_alone last m b); some = some; from = a; to = b; ordered = low }
