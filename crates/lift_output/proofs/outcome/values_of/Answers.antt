@@ -11,15 +11,15 @@ returns-in-Ok-clause-is c =
     let config = c.args.world.now.program.config in
     let after = c.rows_along.new.world.world in
     let told = c.in-Ok.ensures.rows in
-    let along : AreRowsAlong c.in_ok-watched.watched config (opening config) c.args.events.now after told.0 =
-    subst (λ (w : World). AreRowsAlong c.in_ok-watched.watched config w c.args.events.now after told.0) c.requires.opening
+    let along : AreRowsAlong c.in_ok-watched.field-0.watched config (opening config) c.args.events.now after told.0 =
+    subst (λ (w : World). AreRowsAlong c.in_ok-watched.field-0.watched config w c.args.events.now after told.0) c.requires.opening
     (subst (λ (l : List Watched). AreRowsAlong l config c.args.world.now.world c.args.events.now after told.0) c.as_slice.ensures told.2)
     in (
       after,
       steps_take config (opening config) after c.args.events.now along.steps along.are,
       record {
-        watched = c.in_ok-watched.watched;
-        known = subst (λ (w : World). AreWatched w (map string_bytes c.args.names.now) c.in_ok-watched.watched) c.requires.opening c.in_ok-watched.ensures.known;
+        watched = c.in_ok-watched.field-0.watched;
+        known = subst (λ (w : World). AreWatched w (map string_bytes c.args.names.now) c.in_ok-watched.field-0.watched) c.requires.opening c.in_ok-watched.ensures.known;
         rows = told.0;
         are = along;
         lines = told.1 ∙ ap (λ (l : List ℕ). l ++ told.0) c.in_ok-watched.ensures.header;

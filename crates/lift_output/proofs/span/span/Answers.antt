@@ -28,8 +28,7 @@ returns-then-span-clause-none c = λ _.
 pub returns-clause-some : goal.returns-clause-some
 returns-clause-some c =
     let parts = split_once_first 58 c.args.word.now (Some (c.in_ok-first.first, c.in_ok-first.last)) c.in_ok-first.ensures.cases (omega arith) in
-    let long = c.if-len.false in
-    let count = c.len.ensures in
+    let long = c.if-word-lt2.false in
     let low = c.if-span.false in
     span_is c.args.word.now c.in_ok-first.first.now c.in_ok-first.last.now (part_before c.args.word.now c.in_ok-first.first.now c.in_ok-first.last.now parts.0 parts.1 parts.2) c.in_ok-end_of.field-0 c.in_ok-end_of-2.field-0
-    c.in_ok-end_of.ensures.some c.in_ok-end_of-2.ensures.some (omega (arith, long, count)) (omega (arith, low))
+    c.in_ok-end_of.ensures.some c.in_ok-end_of-2.ensures.some (omega (arith, long)) (omega (arith, low))
