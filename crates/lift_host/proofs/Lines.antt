@@ -251,6 +251,23 @@ module _ (rounds floors cars : ℕ) (Holds : Press → Type 0) (holds : (first s
   pub all_presses : (text : List ℕ) (presses : List Press) (settings : List Setting) → AreCallsOf rounds floors cars text presses settings → AllByRecursion Holds presses
   all_presses text presses settings are = subst (AllByRecursion Holds) (sym are.say.presses_are) (of_presses (lines_of text) are.say.read are.say.each)
 
+module _ (rounds floors cars : ℕ) (Holds : Press → Type 0) (holds : (first second third : List ℕ) (press : Press) → IsPressOf rounds floors first second third press → 1 ≤ press.panel → press.panel ≤ 4 → Holds press) where
+  at_words : (words : List (List ℕ)) (press : Press) → ArePressWords rounds floors words press → Holds press
+  at_words words press (plain a b c are is panel) = holds a b c press is (omega (arith, panel)) (omega (arith, panel))
+  at_words words press (at_panel a b c d are is panel) = holds a b c press is panel.least panel.most
+
+  at_presses : (lines : List (List ℕ)) (read : List Line) → AreLines rounds floors cars lines read → AllByRecursion Holds (flat_map presses_of read)
+  at_presses [] [] are = tt
+  at_presses [] (r ∷ read) are = absurd are
+  at_presses (l ∷ lines) [] are = absurd are
+  at_presses (l ∷ lines) (line.Nothing ∷ read) are = at_presses lines read are.1
+  at_presses (l ∷ lines) (line.OfPress p ∷ read) are = (at_words (words_in l) p are.0, at_presses lines read are.1)
+  at_presses (l ∷ lines) (line.OfSetting s ∷ read) are = at_presses lines read are.1
+
+  -- the same with the panel, which is one of four
+  pub all_at_panels : (text : List ℕ) (presses : List Press) (settings : List Setting) → AreCallsOf rounds floors cars text presses settings → AllByRecursion Holds presses
+  all_at_panels text presses settings are = subst (AllByRecursion Holds) (sym are.say.presses_are) (at_presses (lines_of text) are.say.read are.say.each)
+
 module _ (rounds floors cars : ℕ) (Holds : Setting → Type 0) (holds : (first name value : List ℕ) (setting : Setting) → IsNumberTo rounds first setting.round → IsSetting cars name value setting.set → Holds setting) where
   of_settings : (lines : List (List ℕ)) (read : List Line) → AreLines rounds floors cars lines read → AllByRecursion Holds (flat_map settings_of read)
   of_settings [] [] are = tt

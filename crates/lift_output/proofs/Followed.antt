@@ -1,6 +1,7 @@
 -- What is followed of a trace that was read.
 use Rattle.std.proofs.Common.{◌≡◌, ℕ, List, Option, Ok, Err, map}
-use Rattle.std.specs.Prelude.{Bor, option_map}
+use Rattle.std.specs.Borrow.{Bor}
+use Rattle.std.specs.Prelude.{option_map}
 use Rattle.il_machine.specs.Scanning.{Program}
 use Rattle.lift_host.specs.declared.request.Words.{Words}
 use Rattle.lift_host.specs.declared.status.Fault.{Fault}

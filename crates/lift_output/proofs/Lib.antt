@@ -1,3 +1,4 @@
+mod Ends
 pub mod Pressed
 pub mod Counted
 pub mod Drawn

@@ -1,10 +1,9 @@
 -- Presses and settings that words and a file spell are those of the group.
-use Rattle.std.proofs.Common.{◌≡◌, ◌≤◌, ℕ, suc, List, [], ◌∷◌, ◌++◌, length, Option, Some, None, refl, sym, subst, arith, flat_map}
+use Rattle.std.proofs.Common.{◌≡◌, ◌≤◌, ℕ, suc, List, [], ◌∷◌, ◌++◌, length, Option, Some, None, refl, sym, subst, arith}
+use Rattle.std.specs.List.{AllByRecursion}
 use Rattle.std.specs.Prelude.{slice_get, All}
 use Rattle.std.proofs.lemmas.List.Elements.{All-cons, All-nil, All-append}
 use borrow.Author.Tests.{ne_eqb}
-use Rattle.lift_host.specs.declared.calls.Line.{Line}
-use Rattle.lift_host.specs.declared.calls.Line.TheVariants as line
 use Rattle.lift_host.specs.declared.files.Reading.{Reading}
 use Rattle.lift_host.specs.declared.files.Reading.TheVariants.{Text, Failed}
 use Rattle.lift_host.specs.declared.press.Press.{Press}
@@ -12,14 +11,14 @@ use Rattle.lift_host.specs.declared.press.Set.{Set}
 use Rattle.lift_host.specs.declared.press.Set.TheVariants.{Fire, RunLimit}
 use Rattle.lift_host.specs.declared.press.Setting.{Setting}
 use Rattle.lift_host.specs.declared.request.Rounds.{Rounds}
-use Rattle.lift_host.specs.CallsFile.{AreCallsOf, AreLines, ArePressWords, IsSetting, presses_of, settings_of, lines_of, words_in}
-use Rattle.lift_host.specs.CallsFile.ArePressWords as words
+use Rattle.lift_host.specs.CallsFile.{AreCallsOf, IsSetting}
+use Rattle.lift_host.proofs.Lines.{all_presses, all_at_panels, all_settings}
 use Rattle.lift_host.specs.Presses.{IsPressOf, IsPress, plain, at_panel, ArePresses}
 use Rattle.lift_host.specs.Requests.{words_of}
 use Rattle.lift_spec.specs.declared.image.Sizes.{Sizes}
 use Rattle.lift_spec.specs.Calls.{IsCall}
 use Rattle.lift_runs.specs.Driven.{call_of, ArePressed, AreSettings, IsSettable}
-use Rattle.lift_output.specs.Outcomes.{AreDriven, AreOfFile, calls_word, fire_settings}
+use Rattle.lift_output.specs.Outcomes.{AreDriven, AreOfFile, IsFire, calls_word, fire_word, fire_settings}
 use Rattle.lift_workers.specs.Panels.{IsPressAt}
 
 -- CALLS OF THE GROUP
@@ -41,20 +40,12 @@ each_is sizes rounds (word ∷ words) (p ∷ presses) long each =
 presses_are : (sizes : Sizes) (rounds : ℕ) (words : List (List ℕ)) (presses : List Press) → ArePresses rounds sizes.floors words presses → ArePressed sizes presses
 presses_are sizes rounds words presses are = each_is sizes rounds words presses are.of_words.long are.of_words.each
 
-line_is : (sizes : Sizes) (rounds : ℕ) (spelled : List (List ℕ)) (p : Press) → ArePressWords rounds sizes.floors spelled p → IsCall sizes (call_of p)
-line_is sizes rounds spelled p (words.plain a b d parts is panel) = call_is sizes rounds a b d p is
-line_is sizes rounds spelled p (words.at_panel a b d e parts is panel) = call_is sizes rounds a b d p is
-
-lines_are : (sizes : Sizes) (rounds : ℕ) (lines : List (List ℕ)) (read : List Line) → AreLines rounds sizes.floors sizes.cars lines read → ArePressed sizes (flat_map presses_of read)
-lines_are sizes rounds [] [] are = tt
-lines_are sizes rounds [] (r ∷ read) are = absurd are
-lines_are sizes rounds (l ∷ lines) [] are = absurd are
-lines_are sizes rounds (l ∷ lines) (line.Nothing ∷ read) are = lines_are sizes rounds lines read are.1
-lines_are sizes rounds (l ∷ lines) (line.OfPress p ∷ read) are = (line_is sizes rounds (words_in l) p are.0, lines_are sizes rounds lines read are.1)
-lines_are sizes rounds (l ∷ lines) (line.OfSetting s ∷ read) are = lines_are sizes rounds lines read are.1
+by_each : (sizes : Sizes) (presses : List Press) → AllByRecursion (λ (p : Press). IsCall sizes (call_of p)) presses → ArePressed sizes presses
+by_each sizes [] all = tt
+by_each sizes (p ∷ presses) all = (all.0, by_each sizes presses all.1)
 
 calls_are : (sizes : Sizes) (rounds : ℕ) (text : List ℕ) (presses : List Press) (settings : List Setting) → AreCallsOf rounds sizes.floors sizes.cars text presses settings → ArePressed sizes presses
-calls_are sizes rounds text presses settings are = subst (ArePressed sizes) (sym are.say.presses_are) (lines_are sizes rounds (lines_of text) are.say.read are.say.each)
+calls_are sizes rounds text presses settings are = by_each sizes presses (all_presses rounds sizes.floors sizes.cars (λ (p : Press). IsCall sizes (call_of p)) (λ a b d p is. call_is sizes rounds a b d p is) text presses settings are)
 
 file_pressed : (sizes : Sizes) (rounds : ℕ) (word : Option (List ℕ)) (calls : Reading) (presses : List Press) (settings : List Setting) → AreOfFile sizes rounds word calls presses settings → ArePressed sizes presses
 file_pressed sizes rounds None calls presses settings is = subst (ArePressed sizes) (sym is.0) tt
@@ -85,23 +76,14 @@ each_at floors rounds (word ∷ words) (p ∷ presses) long each =
 presses_at : (floors rounds : ℕ) (words : List (List ℕ)) (presses : List Press) → ArePresses rounds floors words presses → All (λ (p : Press). IsPressAt floors p) presses
 presses_at floors rounds words presses are = each_at floors rounds words presses are.of_words.long are.of_words.each
 
-line_at : (floors rounds : ℕ) (spelled : List (List ℕ)) (p : Press) → ArePressWords rounds floors spelled p → IsPressAt floors p
-line_at floors rounds spelled p (words.plain a b d parts is panel) = placed floors rounds a b d p is (omega (arith, panel)) (omega (arith, panel))
-line_at floors rounds spelled p (words.at_panel a b d e parts is panel) = placed floors rounds a b d p is panel.least panel.most
-
-lines_at : (floors rounds cars : ℕ) (lines : List (List ℕ)) (read : List Line) → AreLines rounds floors cars lines read → All (λ (p : Press). IsPressAt floors p) (flat_map presses_of read)
-lines_at floors rounds cars [] [] are = All-nil (λ (p : Press). IsPressAt floors p)
-lines_at floors rounds cars [] (r ∷ read) are = absurd are
-lines_at floors rounds cars (l ∷ lines) [] are = absurd are
-lines_at floors rounds cars (l ∷ lines) (line.Nothing ∷ read) are = lines_at floors rounds cars lines read are.1
-lines_at floors rounds cars (l ∷ lines) (line.OfPress p ∷ read) are =
-    All-cons (λ (q : Press). IsPressAt floors q) p (flat_map presses_of read) (line_at floors rounds (words_in l) p are.0) (lines_at floors rounds cars lines read are.1)
-lines_at floors rounds cars (l ∷ lines) (line.OfSetting s ∷ read) are = lines_at floors rounds cars lines read are.1
+at_each : (floors : ℕ) (presses : List Press) → AllByRecursion (λ (p : Press). IsPressAt floors p) presses → All (λ (p : Press). IsPressAt floors p) presses
+at_each floors [] all = All-nil (λ (p : Press). IsPressAt floors p)
+at_each floors (p ∷ presses) all = All-cons (λ (q : Press). IsPressAt floors q) p presses all.0 (at_each floors presses all.1)
 
 file_at : (sizes : Sizes) (rounds : ℕ) (word : Option (List ℕ)) (calls : Reading) (presses : List Press) (settings : List Setting) → AreOfFile sizes rounds word calls presses settings → All (λ (p : Press). IsPressAt sizes.floors p) presses
 file_at sizes rounds None calls presses settings is = subst (λ (l : List Press). All (λ (p : Press). IsPressAt sizes.floors p) l) (sym is.0) (All-nil (λ (p : Press). IsPressAt sizes.floors p))
 file_at sizes rounds (Some name) (Text text) presses settings is =
-    subst (λ (l : List Press). All (λ (p : Press). IsPressAt sizes.floors p) l) (sym is.say.presses_are) (lines_at sizes.floors rounds sizes.cars (lines_of text.items) is.say.read is.say.each)
+    at_each sizes.floors presses (all_at_panels rounds sizes.floors sizes.cars (λ (p : Press). IsPressAt sizes.floors p) (λ a b d p of least most. placed sizes.floors rounds a b d p of least most) text.items presses settings is)
 file_at sizes rounds (Some name) (Failed why) presses settings is = absurd is
 
 both_at : (floors : ℕ) (xs ys : List Press) → All (λ (p : Press). IsPressAt floors p) xs → All (λ (p : Press). IsPressAt floors p) ys → All (λ (p : Press). IsPressAt floors p) (xs ++ ys)
@@ -113,17 +95,14 @@ settable : (cars : ℕ) (name value : List ℕ) (set : Set) → IsSetting cars n
 settable cars name value (Fire on) is = tt
 settable cars name value (RunLimit n) is = is.1.most
 
-lines_set : (floors rounds cars : ℕ) (lines : List (List ℕ)) (read : List Line) → AreLines rounds floors cars lines read → AreSettings cars (flat_map settings_of read)
-lines_set floors rounds cars [] [] are = tt
-lines_set floors rounds cars [] (r ∷ read) are = absurd are
-lines_set floors rounds cars (l ∷ lines) [] are = absurd are
-lines_set floors rounds cars (l ∷ lines) (line.Nothing ∷ read) are = lines_set floors rounds cars lines read are.1
-lines_set floors rounds cars (l ∷ lines) (line.OfPress p ∷ read) are = lines_set floors rounds cars lines read are.1
-lines_set floors rounds cars (l ∷ lines) (line.OfSetting s ∷ read) are = (settable cars are.0.name are.0.value s.set are.0.set, lines_set floors rounds cars lines read are.1)
+set_each : (cars : ℕ) (settings : List Setting) → AllByRecursion (λ (s : Setting). IsSettable cars s.set) settings → AreSettings cars settings
+set_each cars [] all = tt
+set_each cars (s ∷ settings) all = (all.0, set_each cars settings all.1)
 
 file_set : (sizes : Sizes) (rounds : ℕ) (word : Option (List ℕ)) (calls : Reading) (presses : List Press) (settings : List Setting) → AreOfFile sizes rounds word calls presses settings → AreSettings sizes.cars settings
 file_set sizes rounds None calls presses settings is = subst (AreSettings sizes.cars) (sym is.1) tt
-file_set sizes rounds (Some name) (Text text) presses settings is = subst (AreSettings sizes.cars) (sym is.say.settings_are) (lines_set sizes.floors rounds sizes.cars (lines_of text.items) is.say.read is.say.each)
+file_set sizes rounds (Some name) (Text text) presses settings is =
+    set_each sizes.cars settings (all_settings rounds sizes.floors sizes.cars (λ (s : Setting). IsSettable sizes.cars s.set) (λ first name value s round set. settable sizes.cars name value s.set set) text.items presses settings is)
 file_set sizes rounds (Some name) (Failed why) presses settings is = absurd is
 
 behind_fire : (cars : ℕ) (first : Option ℕ) (settings : List Setting) → AreSettings cars settings → AreSettings cars (fire_settings first ++ settings)
@@ -147,3 +126,17 @@ module _ (sizes : Sizes) (asked : Rounds) (calls : Reading) (presses : List Pres
 
   pub driven_settings : AreSettings sizes.cars settings
   driven_settings = subst (AreSettings sizes.cars) (sym driven.settings_are) (behind_fire sizes.cars driven.first driven.set (file_set sizes asked.rounds (calls_word asked) calls driven.later driven.set driven.of_file))
+
+-- by its parts, of which the presses of the words are spelled for so many floors
+pub from_parts : (sizes : Sizes) (asked : Rounds) (calls : Reading) (words later presses : List Press) (first : Option ℕ) (set settings : List Setting) (n : ℕ) → n ≡ sizes.floors → ArePresses asked.rounds n (words_of asked.presses) words
+    → IsFire asked.rounds (fire_word asked) first → AreOfFile sizes asked.rounds (calls_word asked) calls later set → presses ≡ words ++ later → settings ≡ fire_settings first ++ set → AreDriven sizes asked calls presses settings
+from_parts sizes asked calls words later presses first set settings n e spelled from_round of_file presses_is settings_is = record {
+  words = words;
+  first = first;
+  of_words = record { spelled = subst (λ k. ArePresses asked.rounds k (words_of asked.presses) words) e spelled; from_round = from_round };
+  later = later;
+  set = set;
+  of_file = of_file;
+  presses_are = presses_is;
+  settings_are = settings_is;
+}

@@ -35,10 +35,10 @@ fn span(word: &str) -> Option<Span>
     ensures some { IfSome result (IsSpan word.now) }
     ensures none { IsNone result → (span : Span) → IsSpan word.now span → ⊥ }
 {
-    let (first, last) = word.split_once(':')?;
-    if first.is_empty() && last.is_empty() {
+    if word.len() < 2 {
         return None;
     }
+    let (first, last) = word.split_once(':')?;
     let span = Span {
         first: end_of(1, first)?,
         last: end_of(u32::MAX, last)?,

@@ -1,0 +1,11 @@
+use Rattle.std.proofs.Common.{List, ℕ, ap, map, subst, ◌∙◌}
+use Rattle.std.specs.Prelude.{String, string_bytes}
+use Rattle.std.specs.Global.{Global}
+use Rattle.lift_output.specs.Parts.{AreValued}
+use Rattle.lift_output.proofs.Followed.{valued_is}
+use Rattle.lift_output.proofs.outcome.values_along.Goals as goal
+
+pub returns-clause-is : goal.returns-clause-is
+returns-clause-is c =
+    valued_is c.args.names c.args.world.now.program c.args.events.now c.values_of.result
+    (subst (λ (l : List (List ℕ)). AreValued l c.args.world.now.program c.args.events.now c.values_of.result) (ap (λ (l : List (String Global)). map string_bytes l) c.deref.ensures.value ∙ c.in_ok-names.ensures) c.values_of.ensures.is)
