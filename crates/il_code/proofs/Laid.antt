@@ -11,10 +11,15 @@ use Rattle.il_spec.specs.declared.tree.UnitKind.{UnitKind}
 use Rattle.il_spec.specs.declared.tree.UnitKind.TheVariants.{Function, FunctionBlock, Program}
 use Rattle.il_spec.specs.declared.tree.Unit.{Unit as ProgramUnit}
 use Rattle.il_spec.specs.declared.tree.Config.{Config}
-use Rattle.il_rules.specs.Names.{is_program, is_program_kind}
+use Rattle.il_rules.specs.declared.names.StandardBlock.{StandardBlock}
+use Rattle.il_rules.specs.declared.standard.BlockWord.{BlockWord}
+use Rattle.il_rules.specs.declared.standard.BlockWords.{BlockWords}
+use Rattle.il_rules.specs.Names.{WordLists, is_program, is_program_kind, standard_words}
+use Rattle.il_rules.specs.Tables.{word, word_lists}
 use Rattle.il_table.specs.NameMap.{Text}
 use Rattle.il_run.specs.declared.value.Value.{Value}
 use Rattle.il_run.specs.Meaning.{Entity, entities, own_entities, result_entities, block_entities, under, element_path, elements, width, initial_value, values_at, entity_values, instance_values}
+use Rattle.il_scope.specs.declared.entry.BlockType.{BlockType}
 use Rattle.il_scope.specs.Views.{block_type, type_of}
 use Rattle.il_order.specs.Related.{tabulate}
 use Rattle.il_code.specs.declared.laying.Opening.{Opening}
@@ -22,7 +27,7 @@ use Rattle.il_layout.specs.declared.variables.Variable.{Variable}
 use Rattle.il_layout.specs.Cells.{cells_at, element_cells, entity_cells, instance_cells, IsShort, HasShort, AreNamed}
 use Rattle.il_code.specs.Laying.{cell_of, value_of, element_opening, variable_openings, list_openings, block_openings, openings_to, openings_of, with_value, with_values}
 use Rattle.il_layout.specs.Layout.{Rows, rows, cell, number_part, flag_part}
-use Rattle.il_layout.specs.Making.{shown, block_lists, block_variables}
+use Rattle.il_layout.specs.Making.{shown, word_variable, standard_list, block_lists, block_variables}
 use Rattle.il_layout.specs.Places.{capped, seen_image, unit_entities}
 use Rattle.il_layout.specs.Whole.{first_rows}
 use Rattle.il_layout.proofs.Counted.{block_list}
@@ -168,3 +173,43 @@ map_twice f g (x ∷ xs) = ap (λ ys. f (g x) ∷ ys) (map_twice f g xs)
 
 pub first_is : (os : List Opening) → with_values (rows [] []) os ≡ first_rows (map value_of os)
 first_is os = rows_after (rows [] []) os ∙ ap₂ rows (map_twice (λ (v : Text × Value). number_part v.1) value_of os) (map_twice (λ (v : Text × Value). flag_part v.1) value_of os)
+
+-- STANDARD BLOCKS
+
+-- the slots of variables, one list behind another
+listed_both : (inner : Text → Option BlockType → List Opening) (path : Text) (xs ys : List Variable) → list_openings inner path (xs ++ ys) ≡ list_openings inner path xs ++ list_openings inner path ys
+listed_both inner path [] ys = refl
+listed_both inner path (x ∷ xs) ys =
+    ap (λ os. variable_openings inner (under path x.name) x.initial x.declared ++ os) (listed_both inner path xs ys)
+    ∙ sym (append_assoc (variable_openings inner (under path x.name) x.initial x.declared) (list_openings inner path xs) (list_openings inner path ys))
+
+words_mapped : (ws : List BlockWord) → map (λ w. word_variable (word w)) ws ≡ map word_variable (map word ws)
+words_mapped [] = refl
+words_mapped (w ∷ ws) = ap (λ vs. word_variable (word w) ∷ vs) (words_mapped ws)
+
+-- the words of three lists are all words of a standard block
+pub words_listed : (s : StandardBlock) (ws : BlockWords) (path : Text) (first second third all : List Opening) (inner : Text → Option BlockType → List Opening) → word_lists ws ≡ standard_words s
+    → second ≡ first ++ list_openings inner path (map (λ w. word_variable (word w)) ws.inputs.now)
+    → third ≡ second ++ list_openings inner path (map (λ w. word_variable (word w)) ws.outputs.now)
+    → all ≡ third ++ list_openings inner path (map (λ w. word_variable (word w)) ws.inner.now)
+    → all ≡ first ++ list_openings inner path (standard_list s)
+words_listed s ws path first second third all inner are inputs outputs rest =
+    rest
+    ∙ ap (λ os. os ++ of_words ws.inner.now) (outputs ∙ ap (λ os. os ++ of_words ws.outputs.now) inputs)
+    ∙ append_assoc (first ++ of_words ws.inputs.now) (of_words ws.outputs.now) (of_words ws.inner.now)
+    ∙ append_assoc first (of_words ws.inputs.now) (of_words ws.outputs.now ++ of_words ws.inner.now)
+    ∙ ap (λ os. first ++ os) (sym (append_assoc (of_words ws.inputs.now) (of_words ws.outputs.now) (of_words ws.inner.now)) ∙ together)
+  where
+    of_words : List BlockWord → List Opening
+    of_words words = list_openings inner path (map (λ w. word_variable (word w)) words)
+
+    mapped : (words : List BlockWord) → of_words words ≡ list_openings inner path (map word_variable (map word words))
+    mapped words = ap (list_openings inner path) (words_mapped words)
+
+    together : (of_words ws.inputs.now ++ of_words ws.outputs.now) ++ of_words ws.inner.now ≡ list_openings inner path (standard_list s)
+    together =
+        ap₂ ◌++◌ (ap₂ ◌++◌ (mapped ws.inputs.now) (mapped ws.outputs.now)) (mapped ws.inner.now)
+        ∙ ap (λ os. os ++ list_openings inner path (map word_variable (map word ws.inner.now))) (sym (listed_both inner path (map word_variable (map word ws.inputs.now)) (map word_variable (map word ws.outputs.now))) ∙ ap (list_openings inner path) (sym (map-append word_variable (map word ws.inputs.now) (map word ws.outputs.now))))
+        ∙ sym (listed_both inner path (map word_variable (map word ws.inputs.now ++ map word ws.outputs.now)) (map word_variable (map word ws.inner.now)))
+        ∙ ap (list_openings inner path) (sym (map-append word_variable (map word ws.inputs.now ++ map word ws.outputs.now) (map word ws.inner.now)))
+        ∙ ap (λ (l : WordLists). list_openings inner path (map word_variable (l.inputs ++ l.outputs ++ l.inner))) are
