@@ -26,3 +26,8 @@ bytes_at e number line n l is (inr memory) = absurd (no_memory number line (sym 
 pub memory_at : {X : Type 0} (r : Result X Refusal) (n l : ℕ) → IsErrAnd r (λ e. e ≡ Memory) → IsErrAnd r (λ e. (e ≡ Fault n l) ⊎ (e ≡ Memory))
 memory_at (Ok x) n l is = absurd is
 memory_at (Err e) n l is = inr is
+
+-- where memory is missing there is no fault
+pub no_fault : {X : Type 0} (r : Result X Refusal) → IsErrAnd r (λ e. e ≡ Memory) → IsFault r → ⊥
+no_fault (Ok x) is fault = is
+no_fault {X = X} (Err e) is fault = subst (λ (x : Refusal). IsFault {A = X} (Err x)) is fault

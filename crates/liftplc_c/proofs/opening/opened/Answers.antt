@@ -4,7 +4,7 @@ use Rattle.lift_run_laws.proofs.Openings.{no_scan_open}
 use Rattle.lift_spec.specs.World.{World, scan_at}
 use Rattle.lift_world.specs.Worlds.{WorldOf}
 use Rattle.lift_round.specs.declared.kept.Rounds.{Rounds}
-use Rattle.liftplc_c.proofs.Refusing.{memory_at}
+use Rattle.liftplc_c.proofs.Refusing.{memory_at, no_fault}
 use Rattle.liftplc_c.proofs.opening.opened.Goals as goal
 
 pub returns-clause-rests : goal.returns-clause-rests
@@ -15,3 +15,9 @@ returns-clause-rests c =
 
 pub returns-in_err-new-clause-bytes : goal.returns-in_err-new-clause-bytes
 returns-in_err-new-clause-bytes c number line is = memory_at c.from_residual-in_err-new.result number line c.from_residual-in_err-new.ensures.1
+
+pub returns-in_err-new-clause-named : goal.returns-in_err-new-clause-named
+returns-in_err-new-clause-named c = λ fault d spelled. absurd (no_fault c.from_residual-in_err-new.result c.from_residual-in_err-new.ensures.1 fault)
+
+pub returns-in_err-new-clause-one : goal.returns-in_err-new-clause-one
+returns-in_err-new-clause-one c = λ fault n l spelled. absurd (no_fault c.from_residual-in_err-new.result c.from_residual-in_err-new.ensures.1 fault)
