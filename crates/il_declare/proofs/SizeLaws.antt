@@ -5,6 +5,7 @@ use Rattle.il_spec.specs.declared.tree.Config.{Config}
 use Rattle.il_spec.specs.declared.tree.Place.{Place}
 use Rattle.il_spec.specs.declared.tree.Size.{Size}
 use Rattle.il_spec.specs.declared.tree.Subrange.{Subrange}
+use Rattle.il_rules.specs.Limits.{cars_limits, floors_limits, slots_limits}
 use Rattle.il_rules.specs.Declarations.{is_within}
 use Rattle.il_rules.specs.Least.{NumberedFault, IsLeast, When, Either}
 use Rattle.il_rules.proofs.Least.{least_both, least_if, least_same}
@@ -33,13 +34,13 @@ least_sizes config r is =
     up down
   where
     cars : Subrange
-    cars = record { lower = pos 1; upper = pos 8 }
+    cars = cars_limits
 
     floors : Subrange
-    floors = record { lower = pos 2; upper = pos 16 }
+    floors = floors_limits
 
     slots : Subrange
-    slots = record { lower = pos 1; upper = pos 64 }
+    slots = slots_limits
 
     up : (n : ℕ) (p : Place) → Either (Outside (config.cars, cars)) (Either (Outside (config.floors, floors)) (Outside (config.slots, slots))) n p → SizesBreak config n p
     up n p (inl h) = ((config.cars, cars), (0, omega arith, refl), h)

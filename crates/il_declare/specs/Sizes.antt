@@ -1,8 +1,9 @@
 -- The sizes of a group, one after another.
-use Rattle.std.specs.Prelude.{ℤ, pos, int_le, not, ◌&&◌, Option}
+use Rattle.std.specs.Prelude.{ℤ, int_le, not, ◌&&◌, Option}
 use Rattle.il_spec.specs.declared.tree.Config.{Config}
 use Rattle.il_spec.specs.declared.tree.Size.{Size}
 use Rattle.il_rules.specs.Least.{NumberedFault, fault_of, earlier_of}
+use Rattle.il_rules.specs.Limits.{cars_limits, floors_limits, slots_limits}
 
 -- 23 where a size is outside its limits
 abbrev pub size_of : Size → ℤ → ℤ → Option NumberedFault
@@ -10,4 +11,6 @@ size_of size lower upper = fault_of (not (int_le lower size.value && int_le size
 
 -- the same for the three sizes
 abbrev pub sizes_found : Config → Option NumberedFault
-sizes_found config = earlier_of (size_of config.cars (pos 1) (pos 8)) (earlier_of (size_of config.floors (pos 2) (pos 16)) (size_of config.slots (pos 1) (pos 64)))
+sizes_found config =
+    earlier_of (size_of config.cars cars_limits.lower cars_limits.upper)
+    (earlier_of (size_of config.floors floors_limits.lower floors_limits.upper) (size_of config.slots slots_limits.lower slots_limits.upper))

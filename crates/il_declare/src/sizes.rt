@@ -4,6 +4,7 @@ ghost use Rattle.std.specs.Prelude.{◌≡◌};
 ghost use Rattle.il_declare.specs.Sizes.{size_of, sizes_found};
 
 use crate::fault::DeclareFault;
+use il_rules::limits::{MOST_CARS, MOST_FLOORS, MOST_SLOTS};
 use il_rules::{Found, earlier, fault_if};
 use il_spec::tree::{Config, Size};
 
@@ -12,10 +13,10 @@ pub fn sizes_fault(config: &Config) -> Option<Found<DeclareFault>>
     ensures { result ≡ sizes_found config.now }
 {
     earlier(
-        size_fault(config.cars, 1, 8),
+        size_fault(config.cars, 1, i64::from(MOST_CARS)),
         earlier(
-            size_fault(config.floors, 2, 16),
-            size_fault(config.slots, 1, 64),
+            size_fault(config.floors, 2, i64::from(MOST_FLOORS)),
+            size_fault(config.slots, 1, i64::from(MOST_SLOTS)),
         ),
     )
 }

@@ -16,6 +16,7 @@ use Rattle.il_spec.specs.declared.tree.Form.{Form}
 use Rattle.il_spec.specs.declared.tree.Form.TheVariants.{Scalar as ScalarForm, Array as ArrayForm, Block as BlockForm}
 use Rattle.il_spec.specs.declared.tree.UnitKind.{UnitKind}
 use Rattle.il_spec.specs.declared.tree.UnitKind.TheVariants.{Function, FunctionBlock, Program}
+use Rattle.il_rules.specs.Limits.{cars_limits, slots_limits}
 use Rattle.il_rules.specs.declared.names.StandardBlock.{StandardBlock}
 use Rattle.il_rules.specs.Names.{is_program, is_program_kind, ImageName, image_of, image_name, is_predeclared, standard_function, standard_block, standard_variables, sees}
 use Rattle.il_rules.specs.Declarations.{Admitted, ScalarsAlone, ScalarsAndArrays, admitted_variables, admits_arrays, types_in, unit_types, written_types, unit_declarations, unit_names, names_in, type_numbers, bounds_numbers, subrange_numbers, unless, has_value, is_within, sizes_of, predeclared_unit, predeclared_variable, second_variable, second_global, size_outside}
@@ -202,14 +203,14 @@ module _ (c : Config) (unbroken : HasNoFault (Broken Declaring c)) where
       by_test true is = refl
       by_test false is = absurd (unbroken 23 s.0.place (initial_outside refl (size_outside s among is refl)))
 
-  pub cars_within : (pos 1 ≤ℤ c.cars.value) × (c.cars.value ≤ℤ pos 8)
-  cars_within = limits_of (pos 1) (pos 8) c.cars.value (size_within (c.cars, record { lower = pos 1; upper = pos 8 }) (0, omega arith, refl))
+  pub cars_within : (pos 1 ≤ℤ c.cars.value) × (c.cars.value ≤ℤ cars_limits.upper)
+  cars_within = limits_of (pos 1) cars_limits.upper c.cars.value (size_within (c.cars, cars_limits) (0, omega arith, refl))
     where
       limits_of : (l u z : ℤ) → (int_le l z && int_le z u) ≡ true → (l ≤ℤ z) × (z ≤ℤ u)
       limits_of l u z e = (let low = first_of_two (int_le l z) _ e in omega (arith, ints, low), let high = second_of_two (int_le l z) _ e in omega (arith, ints, high))
 
   pub slots_within : (pos 1 ≤ℤ c.slots.value) × (c.slots.value ≤ℤ pos 64)
-  slots_within = limits_of (pos 1) (pos 64) c.slots.value (size_within (c.slots, record { lower = pos 1; upper = pos 64 }) (2, omega arith, refl))
+  slots_within = limits_of (pos 1) (pos 64) c.slots.value (size_within (c.slots, slots_limits) (2, omega arith, refl))
     where
       limits_of : (l u z : ℤ) → (int_le l z && int_le z u) ≡ true → (l ≤ℤ z) × (z ≤ℤ u)
       limits_of l u z e = (let low = first_of_two (int_le l z) _ e in omega (arith, ints, low), let high = second_of_two (int_le l z) _ e in omega (arith, ints, high))

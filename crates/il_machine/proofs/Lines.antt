@@ -21,6 +21,7 @@ use Rattle.il_scan_laws.proofs.Named.{found_unit, name_of}
 use Rattle.il_scope.specs.Views.{program_number}
 use Rattle.il_layout.specs.Whole.{number_in}
 use Rattle.il_code.proofs.Calling.{number_is}
+use Rattle.lift_spec.specs.Limits.{most_cars}
 use Rattle.lift_spec.specs.Snapshot.{task_name, program_of, has_task}
 use Rattle.il_machine.specs.Scanning.{Program, IsRunnable, HasTask}
 use Rattle.lift_spec.specs.Image.{sizes_of}
@@ -58,11 +59,11 @@ names_alike a b = by (bytes_eq a b) refl (bytes_eq b a) refl
 -- LINES
 
 -- the two searches of a task's PROGRAM line are one
-lines_alike : (n : ℕ) → nat_le n 8 ≡ true → (l : ProgramLine) → is_task_name l.task.name n ≡ bytes_eq (task_name n) l.task.name
+lines_alike : (n : ℕ) → nat_le n most_cars ≡ true → (l : ProgramLine) → is_task_name l.task.name n ≡ bytes_eq (task_name n) l.task.name
 lines_alike n low l = ap (λ b. b && bytes_eq l.task.name (task_name n)) low ∙ names_alike l.task.name (task_name n)
 
 -- a task's program is that of its line
-pub line_program : (c : Config) (n : ℕ) → nat_le n 8 ≡ true → program_of c n ≡ program_by c (program_line_of c.programs n)
+pub line_program : (c : Config) (n : ℕ) → nat_le n most_cars ≡ true → program_of c n ≡ program_by c (program_line_of c.programs n)
 line_program c n low = ap (program_by c) (sym (found_alike (λ l. is_task_name l.task.name n) (λ l. bytes_eq (task_name n) l.task.name) (lines_alike n low) c.programs))
 
 some_program : (c : Config) → HasNoFault (Broken Declaring c) → (l : ProgramLine) → Contains c.programs l → is_some (program_named c l.program.name) ≡ true
@@ -73,7 +74,7 @@ some_program c unbroken l among = by (program_named c l.program.name) refl
     by (Some u) is = refl
 
 -- a task is there where its line is
-pub has_line : (c : Config) → HasNoFault (Broken Declaring c) → (n : ℕ) → nat_le n 8 ≡ true → is_some (program_line_of c.programs n) ≡ has_task c n
+pub has_line : (c : Config) → HasNoFault (Broken Declaring c) → (n : ℕ) → nat_le n most_cars ≡ true → is_some (program_line_of c.programs n) ≡ has_task c n
 has_line c unbroken n low = by (program_line_of c.programs n) refl ∙ ap is_some (sym (line_program c n low))
   where
     by : (o : Option ProgramLine) → program_line_of c.programs n ≡ o → is_some o ≡ is_some (program_by c o)
@@ -113,11 +114,11 @@ program_is_first c name u e = by_reserved (is_predeclared c name) e
     by_reserved false f = by_unit (find (λ w. bytes_eq w.name.name name) c.units) f
 
 -- a task whose TASK line is found has a number up to 8
-numbered : (tasks : List Task) (n : ℕ) (t : Task) → task_of tasks n ≡ Some t → nat_le n 8 ≡ true
+numbered : (tasks : List Task) (n : ℕ) (t : Task) → task_of tasks n ≡ Some t → nat_le n most_cars ≡ true
 numbered [] n t e = absurd (none_some {X = Task} None t refl e)
-numbered (x ∷ xs) n t e = by (numbered xs n t) (nat_le n 8) refl e
+numbered (x ∷ xs) n t e = by (numbered xs n t) (nat_le n most_cars) refl e
   where
-    by : (task_of xs n ≡ Some t → nat_le n 8 ≡ true) → (b : Bool) → nat_le n 8 ≡ b → (if b && bytes_eq x.name.name (task_name n) then Some x else task_of xs n) ≡ Some t → b ≡ true
+    by : (task_of xs n ≡ Some t → nat_le n most_cars ≡ true) → (b : Bool) → nat_le n most_cars ≡ b → (if b && bytes_eq x.name.name (task_name n) then Some x else task_of xs n) ≡ Some t → b ≡ true
     by rest true is f = refl
     by rest false is f = sym is ∙ rest f
 
@@ -203,8 +204,8 @@ got_within (y ∷ xs) (suc at) x is = let low = got_within xs at x is in omega (
 pub task_there : (c : Config) → IsRunnable c → (n at : ℕ) → n ≤ (sizes_of c).cars → at < length c.programs → slice_get c.programs at ≡ program_line_of c.programs n → HasTask c n
 task_there c runs n at within low same = by (program_of c n) refl
   where
-    few : nat_le n 8 ≡ true
-    few = let most = few_cars c runs.declared in le-leb n 8 (omega (arith, most, within))
+    few : nat_le n most_cars ≡ true
+    few = let most = few_cars c runs.declared in le-leb n most_cars (omega (arith, most, within))
 
     by : (o : Option Organized) → program_of c n ≡ o → HasTask c n
     by None is = let bad : true ≡ false = sym (get_there c.programs at low) ∙ ap is_some same ∙ has_line c runs.declared n few ∙ ap is_some is in cc

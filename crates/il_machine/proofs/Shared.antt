@@ -49,6 +49,7 @@ use Rattle.lift_run_laws.proofs.Given.{external_are}
 use Rattle.lift_run_laws.proofs.Kept.{as_many}
 use Rattle.lift_run_laws.proofs.Seen.{given_scalars, row, firsts, calls, waiting, from_row, to_row, car_row, fields, outputs, places, motors, assigns}
 use Rattle.lift_run_laws.proofs.Tasks.{is_sized}
+use Rattle.il_snapshot.specs.declared.image.TheConstants.{CAR_VALUES}
 use Rattle.il_machine.specs.declared.sharing.Transfer.{Transfer}
 use Rattle.il_machine.specs.Scanning.{IsRunnable, IsScanOf, kept_of, state_of}
 use Rattle.il_machine.specs.Sharing.{globals_in, FitsGlobals, external_cells, image_count, between, slot_in, base_name, is_stored, stores_cell, transfer, transfers, taken}
@@ -190,7 +191,7 @@ given_count c sized (suc k) =
     let b = length-append (firsts c) (calls c) in
     let n = calls_count c sized in
     let six : length (firsts c) ≡ 6 = refl in
-    let ten : length (fields c ++ outputs c) ≡ 10 = refl in omega (arith, a, b, n, six, ten)
+    let ten : length (fields c ++ outputs c) ≡ CAR_VALUES = refl in omega (arith, a, b, n, six, ten)
 
 -- THE FIRST SLOT OF A PATH
 

@@ -6,9 +6,11 @@ use Rattle.std.proofs.lemmas.Bool.{le-leb}
 use Rattle.il_spec.specs.declared.tree.Config.{Config}
 use Rattle.il_spec.specs.declared.tree.Size.{Size}
 use Rattle.il_spec.specs.declared.tree.Subrange.{Subrange}
+use Rattle.il_rules.specs.Limits.{cars_limits, floors_limits, slots_limits}
 use Rattle.il_rules.specs.Declarations.{is_within, sizes_of as sizes_with_limits, size_outside}
 use Rattle.il_rules.specs.Faults.{HasNoFault, Broken, Declaring, initial_outside}
 use Rattle.il_scan_laws.proofs.Fresh.{within_is}
+use Rattle.lift_spec.specs.Limits.{most_cars}
 use Rattle.lift_spec.specs.Image.{sizes_of}
 use Rattle.lift_run_laws.specs.Tasks.{IsTaskOf}
 use Rattle.il_machine.specs.Scanning.{IsRunnable}
@@ -22,22 +24,22 @@ module _ (c : Config) (unbroken : HasNoFault (Broken Declaring c)) where
       by_test true is = within_is limits s.value is
       by_test false is = absurd (unbroken 23 s.place (initial_outside refl (size_outside (s, limits) among is refl)))
 
-  pub cars_within : (pos 1 ≤ℤ c.cars.value) × (c.cars.value ≤ℤ pos 8)
-  cars_within = size_within c.cars (record { lower = pos 1; upper = pos 8 }) (0, omega arith, refl)
+  pub cars_within : (pos 1 ≤ℤ c.cars.value) × (c.cars.value ≤ℤ cars_limits.upper)
+  cars_within = size_within c.cars cars_limits (0, omega arith, refl)
 
   pub floors_within : (pos 2 ≤ℤ c.floors.value) × (c.floors.value ≤ℤ pos 16)
-  floors_within = size_within c.floors (record { lower = pos 2; upper = pos 16 }) (1, omega arith, refl)
+  floors_within = size_within c.floors floors_limits (1, omega arith, refl)
 
   pub slots_within : (pos 1 ≤ℤ c.slots.value) × (c.slots.value ≤ℤ pos 64)
-  slots_within = size_within c.slots (record { lower = pos 1; upper = pos 64 }) (2, omega arith, refl)
+  slots_within = size_within c.slots slots_limits (2, omega arith, refl)
 
   -- there are at most 8 cars
-  pub few_cars : (sizes_of c).cars ≤ 8
+  pub few_cars : (sizes_of c).cars ≤ most_cars
   few_cars = let h = cars_within in omega (arith, ints, h.0, h.1)
 
   -- so a task's number is at most 8
-  pub few_tasks : (task : ℕ) (u : ProgramUnit) → IsTaskOf c task u → nat_le task 8 ≡ true
-  few_tasks task u is = let few = few_cars in let within = is.within in le-leb task 8 (omega (arith, few, within))
+  pub few_tasks : (task : ℕ) (u : ProgramUnit) → IsTaskOf c task u → nat_le task most_cars ≡ true
+  few_tasks task u is = let few = few_cars in let within = is.within in le-leb task most_cars (omega (arith, few, within))
 
 -- a size is a number in a byte
 pub byte_of : (z : ℤ) → pos 1 ≤ℤ z → z ≤ℤ pos 64 → (n : ℕ) × (z ≡ pos n) × (n < 256)
@@ -60,5 +62,5 @@ sized : (lo hi : ℕ) (z : ℤ) → (pos lo ≤ℤ z) × (z ≤ℤ pos hi) → (
 sized lo hi (pos n) h = (omega (arith, ints, h.0), omega (arith, ints, h.1))
 sized lo hi (negsuc n) h = absurd (omega (arith, ints, h.0))
 
-pub sizes_fit : (c : Config) (runs : IsRunnable c) → ((1 ≤ (sizes_of c).cars) × ((sizes_of c).cars ≤ 8)) × ((2 ≤ (sizes_of c).floors) × ((sizes_of c).floors ≤ 16)) × ((1 ≤ (sizes_of c).slots) × ((sizes_of c).slots ≤ 64))
+pub sizes_fit : (c : Config) (runs : IsRunnable c) → ((1 ≤ (sizes_of c).cars) × ((sizes_of c).cars ≤ most_cars)) × ((2 ≤ (sizes_of c).floors) × ((sizes_of c).floors ≤ 16)) × ((1 ≤ (sizes_of c).slots) × ((sizes_of c).slots ≤ 64))
 sizes_fit c runs = (sized 1 8 c.cars.value (cars_within c runs.declared), sized 2 16 c.floors.value (floors_within c runs.declared), sized 1 64 c.slots.value (slots_within c runs.declared))

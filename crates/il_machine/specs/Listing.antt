@@ -1,5 +1,5 @@
 -- What a verified configuration shows: its tasks, and what its units cost (own rules).
-use Rattle.std.specs.Prelude.{◌≡◌, ℕ, Bool, ◌&&◌, List, [], ◌∷◌, ℤ, Option, Some, find, option_map, option_and_then, nat_le, bytes_eq, refl}
+use Rattle.std.specs.Prelude.{◌≡◌, ℕ, zero, suc, ◌+◌, ◌-◌, Bool, ◌&&◌, List, [], ◌∷◌, ℤ, Option, Some, find, option_map, option_and_then, nat_le, bytes_eq, refl}
 use Rattle.std.specs.List.{filter_map}
 use Rattle.std.specs.Coded.{Coded, code_by, coded×, coded_list, coded_ℕ, coded_ℤ}
 use Rattle.il_spec.specs.declared.tree.Unit.{Unit as Organized}
@@ -10,6 +10,7 @@ use Rattle.il_machine.specs.declared.verified.UnitInfo.{UnitInfo}
 use Rattle.il_machine.specs.declared.verified.TaskInfo.{TaskInfo}
 use Rattle.il_table.specs.NameMap.{Text}
 use Rattle.il_run.specs.Paths.{IsLongest}
+use Rattle.lift_spec.specs.Limits.{most_cars}
 use Rattle.lift_spec.specs.Snapshot.{task_name, program_of}
 use Rattle.lift_run_laws.specs.Tasks.{IsTaskOf}
 use Rattle.il_machine.specs.Scanning.{Program}
@@ -66,9 +67,9 @@ task_line_code =
     (λ l. (l.name, (l.interval, (l.priority, (l.program, l.budget)))))
     (λ c. record { name = c.0; interval = c.1.0; priority = c.1.1.0; program = c.1.1.1.0; budget = c.1.1.1.1 }) (λ _. refl)
 
--- whether a name is that of a task: GROUP is 0, CARk is k, from 1 to 8 (own rule)
+-- whether a name is that of a task: GROUP is 0, CARk is k, from 1 on (own rule)
 abbrev pub is_task_name : Text → ℕ → Bool
-is_task_name name number = nat_le number 8 && bytes_eq name (task_name number)
+is_task_name name number = nat_le number most_cars && bytes_eq name (task_name number)
 
 -- the first TASK line of a task (own rule)
 abbrev pub task_of : List Task → ℕ → Option Task
@@ -99,9 +100,15 @@ task_line p number = task_among p.config.tasks p.config.programs (unit_lines p.c
 abbrev pub tasks_of : Program → List ℕ → List TaskLine
 tasks_of p numbers = filter_map (task_line p) numbers
 
--- CAR1 to CAR8, and then GROUP (own rule)
+-- The last so many of all tasks: CAR1 comes first, and GROUP last (own rule).
+abbrev pub last_tasks : ℕ → List ℕ
+last_tasks zero = []
+last_tasks (suc zero) = 0 ∷ []
+last_tasks (suc (suc k)) = (most_cars - k) ∷ last_tasks (suc k)
+
+-- all tasks that there may be, in that order
 abbrev pub task_order : List ℕ
-task_order = 1 ∷ 2 ∷ 3 ∷ 4 ∷ 5 ∷ 6 ∷ 7 ∷ 8 ∷ 0 ∷ []
+task_order = last_tasks (1 + most_cars)
 
 -- the tasks in that order, those that are there (own rule)
 abbrev pub task_lines : Program → List TaskLine

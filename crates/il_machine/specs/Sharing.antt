@@ -17,10 +17,12 @@ use Rattle.il_layout.specs.Paths.{slot_at}
 use Rattle.il_layout.specs.Program.{program_cells, global_cells}
 use Rattle.il_layout.specs.Whole.{number_in}
 use Rattle.lift_spec.specs.declared.image.Sizes.{Sizes}
+use Rattle.lift_spec.specs.Limits.{most_cars}
 use Rattle.lift_run_laws.specs.Tasks.{IsTaskOf}
 use Rattle.il_machine.specs.declared.sharing.Transfer.{Transfer}
 use Rattle.il_machine.specs.declared.plans.TaskPlan.{TaskPlan}
 use Rattle.il_snapshot.specs.Image.{with_slot}
+use Rattle.il_snapshot.specs.declared.image.TheConstants.{CAR_VALUES}
 use Rattle.il_machine.specs.Starting.{shared_value}
 
 -- GLOBALS
@@ -42,7 +44,7 @@ external_cells c u = entity_cells (instance_cells zero c) [] (entities u.externa
 -- how many slots of the image a task sees; they stand behind the externals
 abbrev pub image_count : Sizes → ℕ → ℕ
 image_count z zero = 6 + 4 * z.slots + (2 * z.cars + z.slots)
-image_count z (suc k) = 6 + 4 * z.slots + 10
+image_count z (suc k) = 6 + 4 * z.slots + CAR_VALUES
 
 -- the cells behind the first ones and before the last ones
 abbrev pub between : ℕ → ℕ → List Cell → List Cell
@@ -103,7 +105,7 @@ pub record IsPlan (c : Config) (u : ProgramUnit) (s : TaskPlan) : Type 0 where
 abbrev pub IsPlanOf : Config → ℕ → Option TaskPlan → Type 0
 IsPlanOf c task o = (u : ProgramUnit) → IsTaskOf c task u → (s : TaskPlan) × (o ≡ Some s) × IsPlan c u s
 
--- those of the tasks 0 to 8
+-- those of the tasks, by their numbers
 pub record ArePlans (c : Config) (plans : List (Option TaskPlan)) : Type 0 where
-  pub count : length plans ≡ 9
+  pub count : length plans ≡ 1 + most_cars
   pub each : (task : ℕ) (o : Option TaskPlan) → slice_get plans task ≡ Some o → IsPlanOf c task o

@@ -14,7 +14,7 @@ use il_exec::ScanState;
 use il_exec::rows::Rows;
 use il_layout::flat::Cell;
 use il_run::value::Value;
-use lift_spec::image::{Motor, Wishes};
+use lift_spec::image::{Motor, SLOT_PLACES, Wishes};
 use lists::Bounded;
 
 // A whole number; 0 for what is none.
@@ -100,7 +100,7 @@ pub fn wishes(verified: &Verified, car: u8, scan: &ScanState) -> Wishes
 }
 
 // ASSIGN, as GROUP's scan left it: a car for each call slot, 0 for none.
-pub fn assigned(verified: &Verified, scan: &ScanState) -> Bounded<u8, 64>
+pub fn assigned(verified: &Verified, scan: &ScanState) -> Bounded<u8, SLOT_PLACES>
     requires scan { IsScanOf verified.now.config 0 scan.now }
     ensures { result
         ≡ assigned (sizes_of verified.now.config).slots

@@ -15,7 +15,7 @@ use crate::verified::line_number;
 use il_code::Code;
 use il_layout::flat::Cell;
 use il_spec::tree::Config;
-use lift_spec::image::Sizes;
+use lift_spec::image::{Sizes, TASK_PLACES};
 use lists::Items;
 use std::alloc::{AllocError, Global};
 
@@ -109,13 +109,13 @@ fn plan_of(alloc: Global, code: &Code, task: u8) -> Result<Option<TaskPlan>, All
     }
 }
 
-/// The tasks 0 to 8 as they run, those that the group has.
+/// The tasks by their numbers as they run, those that the group has.
 pub fn plans(alloc: Global, code: &Code) -> Result<Items<Option<TaskPlan>>, AllocError>
     requires runs { IsRunnable code.now }
     ensures { IfOk result (ArePlans code.now) }
 {
     let mut list = Items::new(alloc);
-    'tasks: for task in 0..9 {
+    'tasks: for task in 0..TASK_PLACES as u8 {
         let plan = plan_of(alloc, code, task)?;
         list.push(plan)?;
     }

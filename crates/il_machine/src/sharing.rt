@@ -6,6 +6,7 @@ ghost use Rattle.il_machine.specs.Sharing.{image_count, between, slot_in, base_n
 
 use il_code::TaskCode;
 use il_layout::flat::Cell;
+use il_snapshot::image::CAR_VALUES;
 use il_spec::tree::{Argument, Instruction, Reference, Step};
 use il_table::Table;
 use lift_spec::image::Sizes;
@@ -27,7 +28,7 @@ pub fn image_count(sizes: Sizes, task: u8) -> usize
     if task == 0 {
         common + (2 * (sizes.cars as usize) + (sizes.slots as usize))
     } else {
-        common + 10
+        common + CAR_VALUES
     }
 }
 

@@ -4,6 +4,7 @@ use Rattle.std.specs.Prelude.{option_and_then}
 use Rattle.std.specs.Ordering.{eq_by_cmp}
 use Rattle.il_interval.specs.declared.Interval.{Interval}
 use Rattle.il_interval.specs.Interval.{IsWithin}
+use Rattle.il_rules.proofs.Alike.{same_type, type_same}
 use Rattle.il_spec.specs.declared.tree.Config.{Config}
 use Rattle.il_spec.specs.declared.tree.Unit.{Unit as ProgramUnit}
 use Rattle.il_spec.specs.declared.tree.Elementary.{Elementary}
@@ -36,7 +37,7 @@ use Rattle.il_range_laws.specs.Facts.{Names, row_at, variables_of, IsRowOf, fact
 use Rattle.il_range_laws.specs.Found.{provided, is_part, there_fits, found_operand, found_operated, found_loaded, fits_range, fits_target, found_applied}
 use Rattle.il_range_laws.specs.Steps.{to_next, flag_there, loaded_operand, stored_row, stored, taken_by, context, operated_by, aside, deferred, paired, has_flag, has_condition, passing, jumping_to, is_bare, found_arguments, applied_to, moves_of_standard, moves_of_invoke, moves_of}
 use Rattle.il_range_laws.specs.Prepared.{IsFineDenotation, AreFineUnits, HasNumber}
-use Rattle.il_range_laws.proofs.Tests.{left_true, right_true, both_true, same_type, type_same, part_is, is_part_of, interval_trans}
+use Rattle.il_range_laws.proofs.Tests.{left_true, right_true, both_true, part_is, is_part_of, interval_trans}
 use Rattle.il_range_laws.proofs.Least.{Over, OverNext, AllOver, HoldsOf, HoldsOfJump, same_some, mapped}
 use Rattle.il_range_laws.proofs.Joins.{Under, known_itself, part_itself, part_trans, result_itself, deferred_itself, under_row}
 use Rattle.il_range_laws.proofs.Rows.{put_fine, put_map, row_is, variable_itself}
@@ -241,9 +242,6 @@ fits_tests e (Some d) (Ranged g i) (Ranged o j) h = record {
 fits_tests e declared Flag (Ranged o j) h = absurd h
 fits_tests e declared (Ranged g i) Flag h = absurd h
 
-there_tests : (row narrow wide : Option Interval) (bounds : Interval) → narrow ≡ row → IsVariableWithin row wide → Tests (there_fits row bounds) (WithInterval narrow (λ i. IsWithin i bounds)) (WithInterval wide (λ i. IsWithin i bounds))
-there_tests = index_tests
-
 pub target_tests : (names : Names) (row : List Interval) (wide : NameMap Interval) → Variables names row wide → (d : Denotation) (k w : Known) → IsKnownWithin k w
     → Tests (fits_target names row d k) (WithTarget (variables_of names row) d (λ scalar. Fits scalar k)) (WithTarget wide d (λ scalar. Fits scalar w))
 target_tests names row wide v (Constant l) k w h = record { holds = λ x. let bad : false ≡ true = x in cc; follows = λ x. absurd x }
@@ -256,7 +254,7 @@ target_tests names row wide v (Numbered name bounds element z) k w h =
     }
 target_tests names row wide v (Indexed name bounds element variable s) k w h =
     let t = fits_tests element.elementary (range element) k w h in
-    let i = there_tests (row_at names row variable) (get (variables_of names row) variable) (get wide variable) (interval bounds) (row_is names row variable) (v.within variable) in
+    let i = index_tests (row_at names row variable) (get (variables_of names row) variable) (get wide variable) (interval bounds) (row_is names row variable) (v.within variable) in
     record {
       holds = λ x. (left_true _ _ x, i.holds (left_true _ _ (right_true _ _ x)), t.holds (right_true _ _ (right_true _ _ x)));
       follows = λ x. both_true _ _ x.0 (both_true _ _ (i.follows x.1) (t.follows x.2));

@@ -5,6 +5,7 @@ use Rattle.std.proofs.lemmas.Bool.{eqb-true, eq-eqb}
 use Rattle.il_interval.specs.declared.Interval.{Interval}
 use Rattle.il_interval.specs.Interval.{interval_join}
 use Rattle.il_interval.proofs.Hulls.{join_operand, join_first, join_second, join_least}
+use Rattle.il_rules.proofs.Alike.{same_type, type_same}
 use Rattle.il_spec.specs.declared.tree.Operator.{Operator}
 use Rattle.il_spec.specs.declared.tree.Operator.TheVariants.{Logic, Arithmetic, Comparison}
 use Rattle.il_spec.specs.declared.tree.Logic.TheVariants.{Conjunction, Disjunction, Exclusive}
@@ -19,7 +20,7 @@ use Rattle.il_run.specs.Annotation.{Knowledge, IsPart, IsKnownWithin, IsResultWi
 use Rattle.il_range_laws.specs.declared.facts.Facts.{Facts}
 use Rattle.il_range_laws.proofs.Rows.{row_is, row_first, row_second, row_least, join_row_fine, variable_itself}
 use Rattle.il_range_laws.specs.Facts.{Names, row_at, row_join, variables_of, IsRowOf, facts, shown, IsFineKnown, IsFineResult, AreFineDeferred, IsFine, operator_number, is_same_operator, known_join, result_join, deferred_known, one_join, cons_if, deferred_join, facts_join}
-use Rattle.il_range_laws.proofs.Tests.{same_type, type_same, interval_itself, interval_trans}
+use Rattle.il_range_laws.proofs.Tests.{interval_itself, interval_trans}
 use Rattle.il_range_laws.proofs.Least.{mapped, same_some, Joined}
 
 -- ONE SAYS NO LESS THAN ANOTHER

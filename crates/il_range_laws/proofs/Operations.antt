@@ -8,6 +8,7 @@ use Rattle.il_interval.specs.Interval.{IsIn, IsWithin, IsOrdered, IsOperand, IsW
 use Rattle.il_interval.specs.Held.{Holds1, Holds3, absolute, limited}
 use Rattle.il_interval.proofs.Hulls.{add_holds, add_least, sub_holds, sub_least, mul_holds, mul_least, div_holds, div_least, mod_holds, abs_holds, abs_least, min_holds, min_least, max_holds, max_least, limit_holds, limit_least, join_operand, join_first, join_second, join_least}
 use Rattle.il_interval.proofs.Growth.{mod_grows}
+use Rattle.il_rules.proofs.Alike.{same_type, type_same}
 use Rattle.il_spec.specs.declared.tree.Elementary.{Elementary}
 use Rattle.il_spec.specs.declared.tree.Elementary.TheVariants.{Time}
 use Rattle.il_spec.specs.declared.tree.Subrange.{Subrange}
@@ -31,7 +32,7 @@ use Rattle.il_run.specs.Annotation.{interval, only, numbers_of, range, declared_
 use Rattle.il_range_laws.specs.Facts.{Names, row_at, variables_of, IsRowOf, IsFineKnown}
 use Rattle.il_range_laws.specs.Found.{provided, is_part, fits, there_fits, fitting, found_literal, found_flow, found_operand, combined, compares_flags, found_operated, found_selected, found_applied}
 use Rattle.il_range_laws.specs.Prepared.{IsFineDenotation}
-use Rattle.il_range_laws.proofs.Tests.{same_type, type_same, part_is, is_part_of, fit_is, is_fit, there_is, interval_trans, fits_operand}
+use Rattle.il_range_laws.proofs.Tests.{part_is, is_part_of, fit_is, is_fit, there_is, interval_trans, fits_operand}
 use Rattle.il_range_laws.proofs.Least.{same_some}
 use Rattle.il_range_laws.proofs.Joins.{known_itself}
 use Rattle.il_range_laws.proofs.Rows.{row_is, row_operand}

@@ -7,8 +7,7 @@ use Rattle.std.specs.Int.Signed.{le_z_yes}
 use Rattle.il_interval.specs.declared.Interval.{Interval}
 use Rattle.il_interval.specs.Interval.{IsWithin, IsOrdered, IsOperand}
 use Rattle.il_spec.specs.declared.tree.Elementary.{Elementary}
-use Rattle.il_spec.specs.declared.tree.Elementary.TheVariants.{Bool as Boolean, Sint, Int, Dint, Usint, Uint, Udint, Time}
-use Rattle.il_spec.specs.ElementaryTypes.{rank_of, is_same_type}
+use Rattle.il_spec.specs.ElementaryTypes.{is_same_type}
 use Rattle.il_run.specs.Annotation.{WithInterval, FitsType, numbers_of}
 use Rattle.il_range_laws.specs.Found.{is_part, fits, there_fits}
 
@@ -59,45 +58,6 @@ there_is (Some i) j e = part_is i j e
 pub is_there : (o : Option Interval) (j : Interval) → WithInterval o (λ i. IsWithin i j) → there_fits o j ≡ true
 is_there None j h = absurd h
 is_there (Some i) j h = is_part_of i j h
-
--- TYPES
-
-type_of : ℕ → Elementary
-type_of zero = Boolean
-type_of (suc zero) = Sint
-type_of (suc (suc zero)) = Int
-type_of (suc (suc (suc zero))) = Dint
-type_of (suc (suc (suc (suc zero)))) = Usint
-type_of (suc (suc (suc (suc (suc zero))))) = Uint
-type_of (suc (suc (suc (suc (suc (suc zero)))))) = Udint
-type_of (suc (suc (suc (suc (suc (suc (suc n))))))) = Time
-
-type_of_rank : (e : Elementary) → type_of (rank_of e) ≡ e
-unfolding type_of
-type_of_rank Boolean = refl
-type_of_rank Sint = refl
-type_of_rank Int = refl
-type_of_rank Dint = refl
-type_of_rank Usint = refl
-type_of_rank Uint = refl
-type_of_rank Udint = refl
-type_of_rank Time = refl
-
-pub same_type : (a b : Elementary) → is_same_type a b ≡ true → a ≡ b
-same_type a b e = sym (type_of_rank a) ∙ ap type_of (eqb-true (rank_of a) (rank_of b) e) ∙ type_of_rank b
-
-itself : (a : Elementary) → is_same_type a a ≡ true
-itself Boolean = refl
-itself Sint = refl
-itself Int = refl
-itself Dint = refl
-itself Usint = refl
-itself Uint = refl
-itself Udint = refl
-itself Time = refl
-
-pub type_same : (a b : Elementary) → a ≡ b → is_same_type a b ≡ true
-type_same a b e = subst (λ x. is_same_type a x ≡ true) e (itself a)
 
 -- RANGES
 

@@ -3,6 +3,7 @@ use Rattle.std.proofs.Common.{◌≡◌, not, ℕ, suc, ◌+◌, ◌<◌, ◌≤
 use Rattle.std.specs.Prelude.{if◌then◌else◌}
 use Rattle.std.proofs.lemmas.Option.{slice_get_cases}
 use Rattle.il_interval.specs.declared.Interval.{Interval}
+use Rattle.il_rules.proofs.Labels.{label_within}
 use Rattle.il_spec.specs.declared.tree.Config.{Config}
 use Rattle.il_spec.specs.declared.tree.Unit.{Unit as ProgramUnit}
 use Rattle.il_spec.specs.declared.tree.Body.{Body}
@@ -183,19 +184,6 @@ kind_by names c u (Some t) f Evaluate m e = absurd (let bad : None ≡ Some m = 
 kind_by names c u (Some t) f (Return condition) m e = absurd (let bad : None ≡ Some m = e in cc)
 kind_by names c u (Some t) f (Call condition instance arguments) m e = absurd (let bad : None ≡ Some m = e in cc)
 kind_by names c u (Some t) f (Invoke function operands) m e = absurd (let bad : None ≡ Some m = e in cc)
-
--- a label stands no further than behind the last instruction
-label_within : (at : ℕ) (steps : List Step) (last : List Spelling) (name : Spelling) (to : ℕ) → label_from at steps last name ≡ Some to → to ≤ at + length steps
-label_within at [] last name to e = by_test (is_one_of last name) e
-  where
-    by_test : (b : Bool) → (if b then Some at else None) ≡ Some to → to ≤ at + 0
-    by_test true e = let same : at ≡ to = same_some at to e in omega arith
-    by_test false e = absurd (let bad : ◌≡◌ {A = Option ℕ} None (Some to) = e in cc)
-label_within at (s ∷ steps) last name to e = by_test (is_one_of (map (λ l. l.name) s.labels) name) (label_within (at + 1) steps last name to) e
-  where
-    by_test : (b : Bool) → (label_from (at + 1) steps last name ≡ Some to → to ≤ (at + 1) + length steps) → (if b then Some at else label_from (at + 1) steps last name) ≡ Some to → to ≤ at + suc (length steps)
-    by_test true below e = let same : at ≡ to = same_some at to e in omega arith
-    by_test false below e = let h = below e in omega arith
 
 place_within : (body : Body) (name : Spelling) (to : ℕ) → label_place body name ≡ Some to → to < length body.steps + 1
 unfolding label_place

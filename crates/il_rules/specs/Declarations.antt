@@ -33,6 +33,7 @@ use Rattle.il_spec.specs.declared.tree.Instruction.{Instruction}
 use Rattle.il_spec.specs.declared.tree.Instruction.TheVariants.{Load, Store as StoreInto, Not, Operate, Defer, Evaluate, Jump, Return, Call, Invoke}
 use Rattle.il_spec.specs.ElementaryTypes.{limits, is_same_type, is_whole}
 use Rattle.il_rules.specs.declared.names.Role.{Role}
+use Rattle.il_rules.specs.Limits.{cars_limits, floors_limits, slots_limits}
 use Rattle.il_rules.specs.Names.{Spelling, or_else, entry_of, standard_function, BlockVariables, block_variables, named_forms, is_predeclared, is_program, function_named, program_named, task_role, car_number, program_role, Meaning, MeansVariable, MeansUnit, MeansStandard, meaning}
 
 -- ELEMENTARY TYPES AND LITERALS
@@ -358,8 +359,7 @@ HasEmptyRange config place = IsTypeBroken config 22 place
 
 -- the sizes of the group with their limits (own rule)
 abbrev pub sizes_of : Config → List (Size × Subrange)
-sizes_of config =
-    (config.cars, record { lower = pos 1; upper = pos 8 }) ∷ (config.floors, record { lower = pos 2; upper = pos 16 }) ∷ (config.slots, record { lower = pos 1; upper = pos 64 }) ∷ []
+sizes_of config = (config.cars, cars_limits) ∷ (config.floors, floors_limits) ∷ (config.slots, slots_limits) ∷ []
 
 -- 23: an initial value or a size lies outside its range (2.4.3.2; the sizes' limits are own)
 pub data IsInitialOutside (config : Config) (place : Place) : Type 0 where

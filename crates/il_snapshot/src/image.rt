@@ -50,10 +50,13 @@ fn write_group(rows: &mut Rows, at: usize, sizes: Sizes, fields: &Fields)
     put_parts(rows, at, &numbers, &flags);
 }
 
+/// How many values a car's program sees of its car.
+pub const CAR_VALUES: usize = 10;
+
 // Writes what a car's program sees of its car from a slot on.
 fn write_car(rows: &mut Rows, at: usize, car: u8, fields: CarFields, outputs: CarOutputs)
-    requires numbers { at + 10 ≤ length rows.old.numbers }
-    requires flags { at + 10 ≤ length rows.old.flags }
+    requires numbers { at + CAR_VALUES ≤ length rows.old.numbers }
+    requires flags { at + CAR_VALUES ≤ length rows.old.flags }
     ensures { rows.new ≡ filled rows.old at (car_values car fields outputs) }
 {
     let motor = motor_number(outputs.motor);

@@ -3,7 +3,7 @@
 ghost use Rattle.std.specs.Prelude.{◌≡◌, ◌≤◌, replicate};
 ghost use Rattle.lift_spec.specs.Image.{opening_car, opening_outputs, opening_image};
 
-use lift_spec::image::{CarFields, CarOutputs, Fields, Image, Motor, Sizes};
+use lift_spec::image::{CAR_PLACES, CarFields, CarOutputs, Fields, Image, MOST_CARS, Motor, Sizes};
 use lift_spec::outputs::Outputs;
 use lists::Bounded;
 
@@ -25,7 +25,7 @@ const QUIET: CarOutputs = CarOutputs {
 
 /// The image of the opening world, in which as many cars may run as there are.
 pub fn opening_image(sizes: Sizes) -> Image
-    requires { sizes.cars ≤ 8 }
+    requires { sizes.cars ≤ MOST_CARS }
     ensures { result ≡ opening_image sizes }
 {
     Image {
@@ -40,8 +40,8 @@ pub fn opening_image(sizes: Sizes) -> Image
 }
 
 // How the cars stand.
-fn opening_cars(count: u8) -> Bounded<CarFields, 8>
-    requires { count ≤ 8 }
+fn opening_cars(count: u8) -> Bounded<CarFields, CAR_PLACES>
+    requires { count ≤ MOST_CARS }
     ensures { result ≡ replicate count opening_car }
 {
     let mut cars = Bounded::new();
@@ -53,7 +53,7 @@ fn opening_cars(count: u8) -> Bounded<CarFields, 8>
 
 // What the cars are told.
 fn opening_outputs(count: u8) -> Outputs
-    requires { count ≤ 8 }
+    requires { count ≤ MOST_CARS }
     ensures { result ≡ replicate count opening_outputs }
 {
     let mut outputs = Outputs::new();

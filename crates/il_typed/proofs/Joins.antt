@@ -10,54 +10,17 @@ use Rattle.il_spec.specs.declared.tree.Step.{Step}
 use Rattle.il_spec.specs.declared.tree.Named.{Named}
 use Rattle.il_spec.specs.declared.tree.Condition.{Condition}
 use Rattle.il_spec.specs.declared.tree.Elementary.{Elementary}
-use Rattle.il_spec.specs.declared.tree.Elementary.TheVariants.{Bool as Boolean, Sint, Int, Dint, Usint, Uint, Udint, Time}
 use Rattle.il_spec.specs.declared.tree.Instruction.{Instruction}
 use Rattle.il_spec.specs.declared.tree.Instruction.TheVariants.{Jump}
-use Rattle.il_spec.specs.ElementaryTypes.{is_same_type, rank_of}
+use Rattle.il_spec.specs.ElementaryTypes.{is_same_type}
 use Rattle.il_rules.specs.Types.{type_behind, goes_on, label_place, StandsAt, Follows, onward, jumped, Leads, IsReached, IsResultAt}
+use Rattle.il_rules.proofs.Alike.{same_type, type_same}
 use Rattle.il_rules.proofs.Passes.{one_result, leads_on, last_step, join_of_paths, paths_of_join, GivesBehind}
 use Rattle.il_typed.specs.declared.arrival.Arrival.{Arrival}
 use Rattle.il_typed.specs.declared.arrival.Arrival.TheVariants.{Unreached, Reached}
 use Rattle.il_typed.specs.Arrivals.{join, met, or_unreached, held, arrive, arrive_any, ahead, target_of, next_of, hand_on, result_at}
 
 -- TYPES
-
-type_of : ℕ → Elementary
-type_of zero = Boolean
-type_of (suc zero) = Sint
-type_of (suc (suc zero)) = Int
-type_of (suc (suc (suc zero))) = Dint
-type_of (suc (suc (suc (suc zero)))) = Usint
-type_of (suc (suc (suc (suc (suc zero))))) = Uint
-type_of (suc (suc (suc (suc (suc (suc zero)))))) = Udint
-type_of (suc (suc (suc (suc (suc (suc (suc n))))))) = Time
-
-type_of_rank : (e : Elementary) → type_of (rank_of e) ≡ e
-unfolding type_of
-type_of_rank Boolean = refl
-type_of_rank Sint = refl
-type_of_rank Int = refl
-type_of_rank Dint = refl
-type_of_rank Usint = refl
-type_of_rank Uint = refl
-type_of_rank Udint = refl
-type_of_rank Time = refl
-
-pub same_type : (a b : Elementary) → is_same_type a b ≡ true → a ≡ b
-same_type a b e = sym (type_of_rank a) ∙ ap type_of (eqb-true (rank_of a) (rank_of b) e) ∙ type_of_rank b
-
-type_itself : (a : Elementary) → is_same_type a a ≡ true
-type_itself Boolean = refl
-type_itself Sint = refl
-type_itself Int = refl
-type_itself Dint = refl
-type_itself Usint = refl
-type_itself Uint = refl
-type_itself Udint = refl
-type_itself Time = refl
-
-type_same : (a b : Elementary) → a ≡ b → is_same_type a b ≡ true
-type_same a b e = subst (λ x. is_same_type a x ≡ true) e (type_itself a)
 
 same_some : {A : Type 0} (x y : A) → Some x ≡ Some y → x ≡ y
 same_some x y e = cc

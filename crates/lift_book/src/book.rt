@@ -22,7 +22,7 @@ use lift_spec::calls::Slot;
 use lift_spec::hand::Hand;
 use lift_spec::journal::Entry;
 use lift_spec::report::Report;
-use lift_spec::{Bounded, Fields, Image};
+use lift_spec::{Bounded, Fields, Image, SLOT_PLACES};
 use std::alloc::{AllocError, Global};
 use std::marker::Model;
 
@@ -206,7 +206,7 @@ impl Book {
     }
 
     /// The call slots, slot 1 first.
-    pub fn slots(&self) -> Bounded<Slot, 64>
+    pub fn slots(&self) -> Bounded<Slot, SLOT_PLACES>
         ensures { result ≡ self.now.world.group.calls.slots }
     {
         self.ledger.core.slots()

@@ -9,7 +9,7 @@ ghost use Rattle.lift_calls.specs.Sets.{is_free, is_waiting, is_told, kept_of, I
 
 use crate::columns::Columns;
 use lift_spec::calls::{Answer, Call, Entering, Slot};
-use lift_spec::image::Sizes;
+use lift_spec::image::{MOST_CARS, SLOT_PLACES, Sizes};
 use lists::Bounded;
 use std::marker::Model;
 
@@ -121,7 +121,7 @@ fn is_told(place: Slot) -> bool
 impl CallBook {
     /// All slots Free, and no ticket given (own rule).
     pub fn new(sizes: Sizes) -> CallBook
-        requires cars { (1 ≤ sizes.cars) × (sizes.cars ≤ 8) }
+        requires cars { (1 ≤ sizes.cars) × (sizes.cars ≤ MOST_CARS) }
         requires floors { (2 ≤ sizes.floors) × (sizes.floors ≤ 16) }
         requires slots { (1 ≤ sizes.slots) × (sizes.slots ≤ 64) }
         ensures { result ≡ opening_calls sizes }
@@ -194,7 +194,7 @@ impl CallBook {
     }
 
     /// The slots, slot 1 first.
-    pub fn slots(&self) -> Bounded<Slot, 64>
+    pub fn slots(&self) -> Bounded<Slot, SLOT_PLACES>
         ensures value { result ≡ self.now.slots }
         ensures few { length self.now.slots ≤ 64 }
     {

@@ -2,6 +2,7 @@
 
 ghost use Rattle.std.specs.Prelude.{◌<◌};
 
+use lift_spec::image::CAR_PLACES;
 use lift_spec::report::{Denial, Rule};
 use std::alloc::{AllocError, Global};
 
@@ -11,8 +12,11 @@ const GAP: u64 = 5;
 // The index of the stops at the ends of the shaft, behind those of the rules.
 const END_STOP: usize = 7;
 
-// A place for each car, of the 8, and each rule, and one for its stops at the ends of the shaft.
-const PLACES: usize = 64;
+// The places of a car: one for each rule, which count from 1, and one for its stops at the ends of the shaft.
+const PLACES_OF_CAR: usize = 8;
+
+// The places of all cars.
+const PLACES: usize = PLACES_OF_CAR * CAR_PLACES;
 
 /// What a rule denied to a car, again and again, from a round to a round.
 #[derive(Clone, Copy)]
@@ -41,7 +45,7 @@ fn place_of(denial: &Denial, is_end_stop: bool) -> usize {
     } else {
         usize::from(denial.rule.number())
     };
-    usize::from(denial.car).saturating_sub(1) * 8 + index
+    usize::from(denial.car).saturating_sub(1) * PLACES_OF_CAR + index
 }
 
 impl Denied {
@@ -111,7 +115,7 @@ impl Denials {
 
     // Whether a denial goes on that was noted before at this place.
     fn goes_on(&mut self, place: usize, round: u64) -> bool
-        requires { place < 64 }
+        requires { place < PLACES }
     {
         match self.latest[place] {
             Some(at) => match self.list.get_mut(at) {

@@ -5,6 +5,7 @@ use crate::frame::Frame;
 use crate::span::Window;
 use crate::story::Switch;
 use crate::svg::{Point, close_group, end_path, open_group, put_box, put_words};
+use lift_spec::image::CAR_PLACES;
 use std::alloc::AllocError;
 
 // FIRE, from a round to a round.
@@ -92,23 +93,20 @@ pub fn put_fire(text: &mut String, frame: Frame, fires: &[Switch]) -> Result<(),
     close_group(text)
 }
 
-// The most cars of a group.
-const MOST_CARS: usize = 8;
-
 // The width of a triangle.
 const TRIANGLE: u64 = 8;
 
 // Where the next triangle of each car has room, by the car's index.
 #[derive(Clone, Copy)]
 struct Free {
-    from: [u64; MOST_CARS],
+    from: [u64; CAR_PLACES],
 }
 
 impl Free {
     // Whether a triangle has room at this place in the band of a car; then it is taken.
     fn take(&mut self, car: u64, x: u64) -> bool {
         let index = car.saturating_sub(1) as usize;
-        if index >= MOST_CARS || x < self.from[index] {
+        if index >= CAR_PLACES || x < self.from[index] {
             return false;
         }
         self.from[index] = x.saturating_add(TRIANGLE);
@@ -200,7 +198,7 @@ fn put_denied(
 pub fn put_denials(text: &mut String, frame: Frame, list: &[Denied]) -> Result<(), AllocError> {
     open_group(text, "fill=\"#c62828\" stroke=\"#c62828\"")?;
     let mut free = Free {
-        from: [0; MOST_CARS],
+        from: [0; CAR_PLACES],
     };
     'denials: for denied in list {
         if is_shown(frame.window(), denied) {

@@ -1,10 +1,7 @@
 // Where the cars are and how their doors stand, from change to change.
 
-use lift_spec::image::CarFields;
+use lift_spec::image::{CAR_PLACES, CarFields};
 use std::alloc::{AllocError, Global};
-
-// The most cars of a group.
-const MOST_CARS: usize = 8;
 
 /// A door, as LOCKED and OPENED say.
 #[derive(Clone, Copy, PartialEq, Eq)]
@@ -33,7 +30,7 @@ pub struct Change {
 /// The changes of all cars, in the order of the rounds.
 #[derive(Drop)]
 pub struct Places {
-    latest: [Option<Place>; MOST_CARS],
+    latest: [Option<Place>; CAR_PLACES],
     changes: Vec<Change>,
 }
 
@@ -61,7 +58,7 @@ impl Places {
     /// No change yet.
     pub fn new(alloc: Global) -> Places {
         Places {
-            latest: [None; MOST_CARS],
+            latest: [None; CAR_PLACES],
             changes: Vec::new(alloc),
         }
     }
@@ -81,7 +78,7 @@ impl Places {
 
     // The place of one car, by its index. Where it is the same as before, there is nothing to note.
     fn note_car(&mut self, index: usize, place: Place, round: u64) -> Result<(), AllocError> {
-        if index >= MOST_CARS || self.latest[index] == Some(place) {
+        if index >= CAR_PLACES || self.latest[index] == Some(place) {
             return Ok(());
         }
         self.latest[index] = Some(place);

@@ -6,7 +6,7 @@ ghost use Rattle.lift_interlock.specs.Beside.{first_cars, settled_beside};
 
 use crate::motor::{granted, is_at_end, is_fire_up};
 use crate::settled::{AllSettled, Settled, listed, open_denial};
-use lift_spec::report::{Denial, Rule};
+use lift_spec::report::{DENIAL_PLACES, Denial, Rule};
 use lift_spec::{Bounded, CarFields, CarOutputs, Fields, Outputs};
 
 // The order in which rules deny a running motor.
@@ -62,8 +62,8 @@ fn settle_running(all: &Fields, running: u8, fields: CarFields, outputs: CarOutp
 }
 
 // Adds the denials of a car.
-fn add_denials(denials: &mut Bounded<Denial, 16>, car: u8, rules: &[Rule])
-    requires { length denials.old + length rules.now ≤ 16 }
+fn add_denials(denials: &mut Bounded<Denial, DENIAL_PLACES>, car: u8, rules: &[Rule])
+    requires { length denials.old + length rules.now ≤ DENIAL_PLACES }
     ensures { denials.new ≡ denials.old ++ denials_of car rules.now }
 {
     for rule in rules {
@@ -72,7 +72,7 @@ fn add_denials(denials: &mut Bounded<Denial, 16>, car: u8, rules: &[Rule])
 }
 
 // Takes all denials out of a row.
-fn clear(denials: &mut Bounded<Denial, 16>)
+fn clear(denials: &mut Bounded<Denial, DENIAL_PLACES>)
     ensures { denials.new ≡ [] }
 {
     if denials.len() > 0 {
@@ -80,11 +80,15 @@ fn clear(denials: &mut Bounded<Denial, 16>)
     }
 }
 
-/// A refresh, in place: what is left of the outputs of all cars, of which there are at most 8, under new fields of as
+/// A refresh, in place: what is left of the outputs of all cars under new fields of as
 /// many (own rule). Running cars that fail rule 2, 3 or 6 stop, by the first that they fail; of the rest the RUNLIMIT
 /// lowest-numbered run on, and the others stop by 5. Open commands stay exactly at a level, otherwise they end by 4.
 #[tactic(auto, unfolding(lift_spec::specs::Settle::settled_all))]
-pub fn settle_each(outputs: &mut Outputs, fields: &Fields, denials: &mut Bounded<Denial, 16>)
+pub fn settle_each(
+    outputs: &mut Outputs,
+    fields: &Fields,
+    denials: &mut Bounded<Denial, DENIAL_PLACES>,
+)
     requires { length outputs.old ≡ length fields.now.cars }
     ensures outputs { outputs.new ≡ (settled_all outputs.old fields.now).outputs }
     ensures denials { denials.new ≡ (settled_all outputs.old fields.now).denials }

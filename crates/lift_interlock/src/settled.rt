@@ -3,7 +3,7 @@
 ghost use Rattle.std.specs.Prelude.{◌≡◌, ◌++◌};
 ghost use Rattle.lift_spec.specs.Settle.{listed, open_denial};
 
-use lift_spec::report::{Denial, Rule};
+use lift_spec::report::{DENIAL_PLACES, Denial, Rule};
 use lift_spec::{Bounded, CarOutputs, Outputs};
 use std::marker::Model;
 
@@ -29,7 +29,7 @@ impl Model for Settled {
 #[derive(Drop)]
 pub struct AllSettled {
     pub outputs: Outputs,
-    pub denials: Bounded<Denial, 16>,
+    pub denials: Bounded<Denial, DENIAL_PLACES>,
 }
 
 impl Model for AllSettled {

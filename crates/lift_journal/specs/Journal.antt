@@ -8,6 +8,7 @@ use Rattle.lift_spec.specs.declared.calls.Call.{Call}
 use Rattle.lift_spec.specs.declared.report.EnteredCall.{EnteredCall}
 use Rattle.lift_spec.specs.Calls.{Calls, IsCall, enter_all}
 use Rattle.lift_spec.specs.Hands.{floors_of}
+use Rattle.lift_spec.specs.Limits.{most_cars}
 use Rattle.lift_spec.specs.Replies.{Reply, Refused}
 use Rattle.lift_spec.specs.World.{World, run, opening, scan_at}
 use Rattle.lift_run_laws.specs.Tasks.{budget_of}
@@ -61,9 +62,9 @@ IsJournalOf c entries w = Runs c (opening c) entries w
 
 -- COUNTS
 
--- who makes an entry: 0 is GROUP, k is CARk, 9 refreshes
+-- who makes an entry: 0 is GROUP, k is CARk, and the next number refreshes
 abbrev pub refresher : ℕ
-refresher = 9
+refresher = 1 + most_cars
 
 -- whose entry it is (own rule)
 abbrev pub actor_of : Entry → ℕ

@@ -1,5 +1,6 @@
 -- A plant as the definitions see it.
 use Rattle.std.specs.Prelude.{◌≤◌, All, map, length}
+use Rattle.lift_spec.specs.Limits.{most_cars}
 use Rattle.lift_spec.specs.Plant.{PlantState}
 use Rattle.lift_plant.specs.Cars.{placed, IsPlaced}
 use Rattle.lift_plant.specs.declared.plant.Plant.TheInside.{Inside}
@@ -11,7 +12,7 @@ plant_of p = record { floors = p.floors; time = p.time; run_limit = p.run_limit;
 -- what every plant keeps
 pub record IsPlant (p : Inside) : Type 0 where
   pub some_cars : 1 ≤ length p.cars
-  pub cars : length p.cars ≤ 8
+  pub cars : length p.cars ≤ most_cars
   pub two_floors : 2 ≤ p.floors
   pub floors : p.floors ≤ 16
   pub time : p.time ≤ 2147483647

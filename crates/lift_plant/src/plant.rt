@@ -11,7 +11,7 @@ ghost use Rattle.lift_plant.specs.Switches.{under};
 
 use crate::car::{Car, car_fields, moved_car};
 use crate::switches::Switches;
-use lift_spec::{Bounded, CarFields, CarOutputs, Fields, Outputs};
+use lift_spec::{Bounded, CAR_PLACES, CarFields, CarOutputs, Fields, MOST_CARS, Outputs};
 use std::marker::Model;
 
 // The latest NOW in milliseconds, the largest TIME.
@@ -24,7 +24,7 @@ pub struct Plant {
     time: u32,
     run_limit: u8,
     fire: bool,
-    cars: Bounded<Car, 8>,
+    cars: Bounded<Car, CAR_PLACES>,
 }
 
 impl Model for Plant {
@@ -46,7 +46,7 @@ impl Plant {
     /// Every car at floor 1 with its door shut, at NOW 0, with as many cars allowed to run as
     /// there are.
     pub fn new(cars: u8, floors: u8) -> Plant
-        requires cars { (1 ≤ cars) × (cars ≤ 8) }
+        requires cars { (1 ≤ cars) × (cars ≤ MOST_CARS) }
         requires floors { (2 ≤ floors) × (floors ≤ 16) }
         ensures plant { result ≡ opening_plant cars floors }
         ensures sized { (slots : ℕ) → IsPlantOf (record
@@ -102,10 +102,10 @@ impl Plant {
 }
 
 // The cars after one step, each under its outputs.
-fn moved_cars(floors: u8, cars: &[Car], outputs: &[CarOutputs]) -> Bounded<Car, 8>
+fn moved_cars(floors: u8, cars: &[Car], outputs: &[CarOutputs]) -> Bounded<Car, CAR_PLACES>
     requires floors { floors ≤ 16 }
     requires cars { All (IsPlaced floors) cars.now }
-    requires room { length cars.now ≤ 8 }
+    requires room { length cars.now ≤ CAR_PLACES }
     requires outputs { length outputs.now ≡ length cars.now }
     ensures value { map placed result ≡ moved_all floors (map placed cars.now) outputs.now }
     ensures stays { All (IsPlaced floors) result }
@@ -119,10 +119,10 @@ fn moved_cars(floors: u8, cars: &[Car], outputs: &[CarOutputs]) -> Bounded<Car, 
 }
 
 // What the plant reports of its cars.
-fn all_fields(floors: u8, cars: &[Car]) -> Bounded<CarFields, 8>
+fn all_fields(floors: u8, cars: &[Car]) -> Bounded<CarFields, CAR_PLACES>
     requires floors { (2 ≤ floors) × (floors ≤ 16) }
     requires cars { All (IsPlaced floors) cars.now }
-    requires room { length cars.now ≤ 8 }
+    requires room { length cars.now ≤ CAR_PLACES }
     ensures { result ≡ fields_of_cars floors (map placed cars.now) }
 {
     let mut fields = Bounded::new();

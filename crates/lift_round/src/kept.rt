@@ -6,14 +6,14 @@ ghost use Rattle.lift_journal.specs.Rounds.{tasks_in_order};
 use crate::notice::Notices;
 use crate::rounds::{round, tasks_in};
 use lift_spec::report::Report;
-use lift_spec::{Bounded, Fields};
+use lift_spec::{Bounded, Fields, TASK_PLACES};
 use lift_world::World;
 
 /// A world, and what its rounds go on with from one to the next: the tasks that they run, the notices of the last, and room for a report. A
 /// round writes no more of it than it has to tell.
 pub struct Rounds {
     pub world: World,
-    pub tasks: Bounded<u8, 9>,
+    pub tasks: Bounded<u8, TASK_PLACES>,
     pub notices: Notices,
     pub report: Report,
     pub ghost fits: { tasks ≡ tasks_in_order world.program.config },

@@ -7,11 +7,12 @@ ghost use Rattle.lift_round.specs.declared.notice.Notice.TheVariants.{Entered as
 use arrayvec::ArrayVec;
 use lift_spec::calls::Answer;
 use lift_spec::report::{Answered, Denial, EnteredCall};
+use lift_spec::{CAR_PLACES, SLOT_PLACES};
 use std::marker::Model;
 
 /// The most notices of a round: 64 calls that enter, two denials of each car by the refresh, two denials and a serve of each car's scan,
 /// and 64 tells.
-pub const MOST_NOTICES: usize = 168;
+pub const MOST_NOTICES: usize = 2 * SLOT_PLACES + 5 * CAR_PLACES;
 
 /// What a round has to tell beside the outputs.
 #[derive(Clone, Copy)]
@@ -67,7 +68,7 @@ impl Notices {
 
     /// Adds a notice at the end.
     pub fn push(&mut self, notice: Notice)
-        requires { length self.old < 168 }
+        requires { length self.old < MOST_NOTICES }
         ensures { self.new ≡ self.old ++ notice ∷ [] }
     {
         self.items.push(notice);
@@ -83,7 +84,7 @@ impl Notices {
     /// How many notices there are.
     pub fn len(&self) -> usize
         ensures count { result ≡ length self.now }
-        ensures fits { length self.now ≤ 168 }
+        ensures fits { length self.now ≤ MOST_NOTICES }
     {
         self.items.len()
     }
@@ -91,7 +92,7 @@ impl Notices {
 
 /// The calls that entered.
 pub(crate) fn add_entered(notices: &mut Notices, entered: &[EnteredCall])
-    requires { length notices.old + length entered.now ≤ 168 }
+    requires { length notices.old + length entered.now ≤ MOST_NOTICES }
     ensures { notices.new ≡ notices.old ++ map EnteredOf entered.now }
 {
     'calls: for call in entered {
@@ -101,7 +102,7 @@ pub(crate) fn add_entered(notices: &mut Notices, entered: &[EnteredCall])
 
 /// What was denied.
 pub(crate) fn add_denials(notices: &mut Notices, denials: &[Denial])
-    requires { length notices.old + length denials.now ≤ 168 }
+    requires { length notices.old + length denials.now ≤ MOST_NOTICES }
     ensures { notices.new ≡ notices.old ++ map DeniedOf denials.now }
 {
     'denials: for denial in denials {
@@ -111,7 +112,7 @@ pub(crate) fn add_denials(notices: &mut Notices, denials: &[Denial])
 
 /// The tells or the serve of a task's commit that were done.
 pub(crate) fn add_answers(notices: &mut Notices, task: u8, answers: &[Answered])
-    requires { length notices.old + length answers.now ≤ 168 }
+    requires { length notices.old + length answers.now ≤ MOST_NOTICES }
     ensures told { notices.new ≡ notices.old ++ answered_notices task answers.now }
     ensures room { length notices.new ≤ length notices.old + length answers.now }
 {

@@ -14,20 +14,20 @@ ghost use Rattle.lift_round.specs.declared.notice.Notice.{Notice as NoticeOf};
 ghost use Rattle.lift_round.specs.Notices.{commit_notices, refresh_notices};
 ghost use Rattle.lift_round.specs.Rounds.{IsRoundOf, ScansNoticed, most_of_scans};
 
-use crate::notice::{Notices, add_answers, add_denials, add_entered};
+use crate::notice::{MOST_NOTICES, Notices, add_answers, add_denials, add_entered};
 use il_machine::Verified;
 use lift_runs::scan::scan;
 use lift_runs::sim::gather_all;
 use lift_spec::event::Event;
 use lift_spec::report::Report;
-use lift_spec::{Bounded, Fields, Sizes};
+use lift_spec::{Bounded, Fields, Sizes, TASK_PLACES};
 use lift_world::World;
 
 // A whole scan of a task, and what it has to tell.
 fn scan_one(world: &mut World, task: u8, notices: &mut Notices, report: &mut Report)
     requires task { HasTask world.old.program.config task }
     requires closed { IsClosed world.old.world }
-    requires room { length notices.old + most_of_scans (task ∷ []) ≤ 168 }
+    requires room { length notices.old + most_of_scans (task ∷ []) ≤ MOST_NOTICES }
     ensures scan { ScansReporting world.old.program.config task world.old.world world.new.world
         report.new }
     ensures noticed { notices.new ≡ notices.old ++ commit_notices task report.new }
@@ -45,7 +45,7 @@ fn scan_one(world: &mut World, task: u8, notices: &mut Notices, report: &mut Rep
 fn scan_all(world: &mut World, tasks: &[u8], notices: &mut Notices, report: &mut Report)
     requires tasks { AreTasks world.old.program.config tasks.now }
     requires closed { IsClosed world.old.world }
-    requires room { length notices.old + most_of_scans tasks.now ≤ 168 }
+    requires room { length notices.old + most_of_scans tasks.now ≤ MOST_NOTICES }
     ensures noticed { (scanned : List NoticeOf) × (notices.new ≡ notices.old ++ scanned)
         × ScansNoticed world.old.program.config tasks.now world.old.world world.new.world scanned }
     ensures closed { IsClosed world.new.world }
@@ -74,7 +74,7 @@ fn refresh(world: &mut World, fields: Fields, notices: &mut Notices, report: &mu
 }
 
 /// The tasks that the group has, in the order in which a round runs them: CAR1 to CARn, and then GROUP.
-pub fn tasks_in(verified: &Verified) -> Bounded<u8, 9>
+pub fn tasks_in(verified: &Verified) -> Bounded<u8, TASK_PLACES>
     ensures { result ≡ tasks_in_order verified.now.config }
 {
     let _config = verified.config();

@@ -16,3 +16,4 @@ pub mod Tasks
 pub mod Accepted
 pub mod Histories
 pub mod Witnesses
+pub mod Unended

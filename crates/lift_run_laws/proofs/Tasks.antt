@@ -1,18 +1,21 @@
 -- The tasks of an accepted configuration: their programs are accepted, and see the image of their role.
-use Rattle.std.proofs.Common.{◌≡◌, ◌≢◌, ◌≤◌, ℕ, zero, suc, ℤ, pos, Bool, true, false, List, [], map, filter, refl, sym, ap, ◌∙◌, Some, None, Option, Contains, arith}
+use Rattle.std.proofs.Common.{◌≡◌, ◌≢◌, ◌≤◌, ◌<◌, ◌+◌, ◌-◌, ◌*◌, ℕ, zero, suc, ◌∷◌, ◌++◌, ap₂, ne_eqb, ℤ, pos, Bool, true, false, List, [], map, filter, refl, sym, ap, ◌∙◌, Some, None, Option, Contains, arith}
 use Rattle.std.proofs.lemmas.Int.{ints}
 use Rattle.std.proofs.lemmas.Slice.Eq.{bytes_eq-Decides}
-use Rattle.std.specs.Fmt.{digits}
-use Rattle.std.specs.Prelude.{find, bytes_eq, int_le, ◌≤ℤ◌, ◌&&◌, if◌then◌else◌}
+use Rattle.std.proofs.lemmas.Bool.{cond-false, le-leb}
+use Rattle.std.proofs.lemmas.Fmt.{decimal_digit}
+use Rattle.std.specs.Char.{is_ascii_digit}
+use Rattle.std.specs.Prelude.{find, bytes_eq, int_le, ◌≤ℤ◌, ◌&&◌, ◌==◌, if◌then◌else◌, codes, option_and_then}
 use Rattle.il_spec.specs.declared.tree.Config.{Config}
 use Rattle.il_spec.specs.declared.tree.Size.{Size}
 use Rattle.il_spec.specs.declared.tree.Scalar.{Scalar}
 use Rattle.il_spec.specs.declared.tree.Subrange.{Subrange}
 use Rattle.il_spec.specs.declared.tree.ProgramLine.{ProgramLine}
 use Rattle.il_spec.specs.declared.tree.Unit.{Unit as ProgramUnit}
+use Rattle.il_rules.specs.Limits.{cars_limits, floors_limits, slots_limits}
 use Rattle.il_rules.specs.declared.names.Role.{Role}
 use Rattle.il_rules.specs.declared.names.Role.TheVariants.{Car as CarRole, Group as GroupRole}
-use Rattle.il_rules.specs.Names.{ImageName, is_seen_by, image_of, program_named, program_role, task_role}
+use Rattle.il_rules.specs.Names.{ImageName, is_seen_by, car_number, image_of, program_named, program_role, task_role}
 use Rattle.il_rules.specs.Declarations.{is_within, sizes_of as sizes_with_limits, size_outside, other_role}
 use Rattle.il_rules.specs.Faults.{HasNoFault, Broken, Declaring, initial_outside, bad_task}
 use Rattle.il_table.specs.NameMap.{Text}
@@ -30,6 +33,17 @@ use Rattle.lift_run_laws.specs.Tasks.{IsTaskOf, IsSized, role_of}
 use Rattle.lift_run_laws.specs.Seeing.{image_scalars}
 use Rattle.lift_run_laws.specs.Accepted.{IsSound}
 
+-- NAMES
+
+is_digit : (n : ℕ) → n < 10 → is_ascii_digit (48 + n) ≡ true
+is_digit n few = ap₂ (λ a b. a && b) (le-leb 48 (48 + n) (omega arith)) (le-leb (48 + n) 57 (omega (arith, few)))
+
+-- a car's number of one digit
+one_digit : (n : ℕ) → 1 ≤ n → n < 10 → car_number (codes "CAR" ++ (48 + n) ∷ []) ≡ Some n
+one_digit n least few =
+    cond-false (48 + n == 48) None (if is_ascii_digit (48 + n) then Some (0 * 10 + (48 + n - 48)) else None) (ne_eqb (48 + n) 48 (λ e. omega (arith, least, e)))
+    ∙ ap (λ b. if b then Some (0 * 10 + (48 + n - 48)) else None) (is_digit n few) ∙ ap Some (omega arith)
+
 -- SIZES
 
 module _ (c : Config) (unbroken : HasNoFault (Broken Declaring c)) where
@@ -41,14 +55,14 @@ module _ (c : Config) (unbroken : HasNoFault (Broken Declaring c)) where
       by_test true is = within_is limits s.value is
       by_test false is = absurd (unbroken 23 s.place (initial_outside refl (size_outside (s, limits) among is refl)))
 
-  cars_within : (pos 1 ≤ℤ c.cars.value) × (c.cars.value ≤ℤ pos 8)
-  cars_within = size_within c.cars (record { lower = pos 1; upper = pos 8 }) (0, omega arith, refl)
+  cars_within : (pos 1 ≤ℤ c.cars.value) × (c.cars.value ≤ℤ cars_limits.upper)
+  cars_within = size_within c.cars cars_limits (0, omega arith, refl)
 
   pub floors_within : (pos 2 ≤ℤ c.floors.value) × (c.floors.value ≤ℤ pos 16)
-  floors_within = size_within c.floors (record { lower = pos 2; upper = pos 16 }) (1, omega arith, refl)
+  floors_within = size_within c.floors floors_limits (1, omega arith, refl)
 
   slots_within : (pos 1 ≤ℤ c.slots.value) × (c.slots.value ≤ℤ pos 64)
-  slots_within = size_within c.slots (record { lower = pos 1; upper = pos 64 }) (2, omega arith, refl)
+  slots_within = size_within c.slots slots_limits (2, omega arith, refl)
 
   pub is_sized : IsSized c
   is_sized = record { floors = let h = floors_within.0 in omega (arith, ints); slots = slots_within.0; cars = cars_within.0 }
@@ -68,17 +82,14 @@ module _ (c : Config) (unbroken : HasNoFault (Broken Declaring c)) where
 
   -- a task's name has its role
   name_role : (t : ℕ) → t ≤ (sizes_of c).cars → task_role c.cars.value (task_name t) ≡ Some (role_of t)
-  unfolding digits
   name_role zero within = refl
-  name_role (suc zero) within = ap (λ b. if b then Some CarRole else None) (car_is 1 within)
-  name_role (suc (suc zero)) within = ap (λ b. if b then Some CarRole else None) (car_is 2 within)
-  name_role (suc (suc (suc zero))) within = ap (λ b. if b then Some CarRole else None) (car_is 3 within)
-  name_role (suc (suc (suc (suc zero)))) within = ap (λ b. if b then Some CarRole else None) (car_is 4 within)
-  name_role (suc (suc (suc (suc (suc zero))))) within = ap (λ b. if b then Some CarRole else None) (car_is 5 within)
-  name_role (suc (suc (suc (suc (suc (suc zero)))))) within = ap (λ b. if b then Some CarRole else None) (car_is 6 within)
-  name_role (suc (suc (suc (suc (suc (suc (suc zero))))))) within = ap (λ b. if b then Some CarRole else None) (car_is 7 within)
-  name_role (suc (suc (suc (suc (suc (suc (suc (suc zero)))))))) within = ap (λ b. if b then Some CarRole else None) (car_is 8 within)
-  name_role (suc (suc (suc (suc (suc (suc (suc (suc (suc k))))))))) within = let high = cars_within.1 in let low = cars_within.0 in absurd (omega (arith, ints))
+  name_role (suc k) within =
+      let high = cars_within.1 in
+      let low = cars_within.0 in
+      let few : suc k < 10 = omega (arith, ints) in
+      ap (λ (name : List ℕ). task_role c.cars.value (codes "CAR" ++ name)) (decimal_digit (suc k) few)
+      ∙ ap (option_and_then (λ n. if int_le (pos n) c.cars.value then Some CarRole else None)) (one_digit (suc k) (omega arith) few)
+      ∙ ap (λ b. if b then Some CarRole else None) (car_is (suc k) within)
 
   same_role : (o : Option Role) (r : Role) → ((o ≢ Some r) → ⊥) → o ≡ Some r
   same_role None r never = absurd (never (λ same. cc))

@@ -24,7 +24,7 @@ use lift_host::sink::{Sink, put_all};
 use lift_round::notice::Notices;
 use lift_round::tasks_in;
 use lift_spec::report::Report;
-use lift_spec::{Bounded, Sizes};
+use lift_spec::{Bounded, Sizes, TASK_PLACES};
 use lift_world::World;
 use std::alloc::{AllocError, Global};
 
@@ -47,7 +47,7 @@ pub enum ServeFault {
 /// line.
 pub struct Server {
     pub world: World,
-    pub tasks: Bounded<u8, 9>,
+    pub tasks: Bounded<u8, TASK_PLACES>,
     pub gathers: String,
     pub scans: String,
     pub stop: String,

@@ -9,19 +9,24 @@ use Rattle.std.specs.Int.{bit_at, from_bool}
 use Rattle.lift_spec.specs.declared.image.CarOutputs.{CarOutputs}
 use Rattle.lift_spec.specs.Image.{runs, running_from, running_cars, opening_outputs}
 use Rattle.lift_spec.specs.Bits.{flag, IsWithBit}
+use Rattle.lift_spec.specs.Limits.{most_cars}
 use Rattle.lift_spec.specs.Running.{IsRunningSet, KeepsRunning}
 use Rattle.lift_spec.proofs.Interlock.{set_counts}
 use Rattle.lift_spec.proofs.Bits.{bit_own, bit_other, flag_tells}
 
+-- each car has a bit
+in_word : (k : ℕ) → k < most_cars → k < 16
+in_word k below = omega (arith, below)
+
 -- a set that follows outputs follows them with another value for one car
 follows :
-    (before after : List CarOutputs) (word new i : ℕ) (o : CarOutputs) → IsRunningSet before word → IsWithBit 8 word i (runs o.motor) new
+    (before after : List CarOutputs) (word new i : ℕ) (o : CarOutputs) → IsRunningSet before word → IsWithBit 16 word i (runs o.motor) new
     → get_or after i opening_outputs ≡ o → ((k : ℕ) → (k ≡ i → ⊥) → get_or after k opening_outputs ≡ get_or before k opening_outputs)
     → IsRunningSet after new
 follows before after word new i o is is_with own others k below =
     elim (cases_eq k i) [
-      | inl same ↦ bit_own 8 word i new k (runs o.motor) is_with below same ∙ ap (λ (x : CarOutputs). flag (runs x.motor)) (sym (ap (λ n. get_or after n opening_outputs) same ∙ own))
-      | inr other ↦ bit_other 8 word i new k (runs o.motor) is_with below other ∙ is k below ∙ ap (λ (x : CarOutputs). flag (runs x.motor)) (sym (others k other))
+      | inl same ↦ bit_own 16 word i new k (runs o.motor) is_with (in_word k below) same ∙ ap (λ (x : CarOutputs). flag (runs x.motor)) (sym (ap (λ n. get_or after n opening_outputs) same ∙ own))
+      | inr other ↦ bit_other 16 word i new k (runs o.motor) is_with (in_word k below) other ∙ is k below ∙ ap (λ (x : CarOutputs). flag (runs x.motor)) (sym (others k other))
     ]
 
 -- COUNTS
@@ -82,7 +87,7 @@ others_more (x ∷ xs) o zero other = refl
 others_more (x ∷ xs) o (suc k) other = others_more xs o k (λ e. other (ap suc e))
 
 pub more_fits :
-    (outputs : List CarOutputs) (word count flags : ℕ) (holds : Bool) → KeepsRunning outputs word count → flags ≡ from_bool holds → length outputs < 8 → count + flags ≤ 255
+    (outputs : List CarOutputs) (word count flags : ℕ) (holds : Bool) → KeepsRunning outputs word count → flags ≡ from_bool holds → length outputs < most_cars → count + flags ≤ 255
 more_fits outputs word count flags holds keeps is room =
     omega (arith, keeps.number, running_fit outputs, is ∙ byte_flag holds, flag_fits holds, room)
 
@@ -92,8 +97,8 @@ set_fits outputs word count less flags holds keeps is =
     omega (arith, keeps.number, keeps.few, running_fit outputs, is ∙ byte_flag holds, flag_fits holds)
 
 pub keeps_more :
-    (outputs : List CarOutputs) (word count new more : ℕ) (o : CarOutputs) → KeepsRunning outputs word count → length outputs < 8
-    → IsWithBit 8 word (length outputs) (runs o.motor) new → more ≡ count + flag (runs o.motor) → KeepsRunning (outputs ++ o ∷ []) new more
+    (outputs : List CarOutputs) (word count new more : ℕ) (o : CarOutputs) → KeepsRunning outputs word count → length outputs < most_cars
+    → IsWithBit 16 word (length outputs) (runs o.motor) new → more ≡ count + flag (runs o.motor) → KeepsRunning (outputs ++ o ∷ []) new more
 keeps_more outputs word count new more o keeps room is_with is_more =
     record {
       few = omega (arith, length-append outputs (o ∷ []));
@@ -103,14 +108,14 @@ keeps_more outputs word count new more o keeps room is_with is_more =
 
 -- whether a car runs stands in its bit
 pub bit_tells :
-    (outputs : List CarOutputs) (word count k : ℕ) → KeepsRunning outputs word count → k < 8 → (bit_at word k == 1) ≡ runs (get_or outputs k opening_outputs).motor
+    (outputs : List CarOutputs) (word count k : ℕ) → KeepsRunning outputs word count → k < most_cars → (bit_at word k == 1) ≡ runs (get_or outputs k opening_outputs).motor
 bit_tells outputs word count k keeps below = ap (λ n. n == 1) (keeps.members k below) ∙ flag_tells (runs (get_or outputs k opening_outputs).motor)
 
 pub others_counted :
     (outputs : List CarOutputs) (word count flags i : ℕ) (holds : Bool) → KeepsRunning outputs word count → i < length outputs → flags ≡ from_bool holds → holds ≡ (bit_at word i == 1)
     → count ≡ count - flags + flag (runs (get_or outputs i opening_outputs).motor)
 others_counted outputs word count flags i holds keeps within is holds_is =
-    let fits : i < 8 = omega (arith, within, keeps.few) in
+    let fits : i < most_cars = omega (arith, within, keeps.few) in
     let same : flags ≡ flag (runs (get_or outputs i opening_outputs).motor) = is ∙ byte_flag holds ∙ ap flag (holds_is ∙ bit_tells outputs word count i keeps fits) in
     omega (arith, same, keeps.number, own_counts outputs i within)
 
@@ -118,13 +123,13 @@ pub own_fits :
     (outputs : List CarOutputs) (word count flags i : ℕ) (holds : Bool) → KeepsRunning outputs word count → i < length outputs → flags ≡ from_bool holds → holds ≡ (bit_at word i == 1)
     → flags ≤ count
 own_fits outputs word count flags i holds keeps within is holds_is =
-    let fits : i < 8 = omega (arith, within, keeps.few) in
+    let fits : i < most_cars = omega (arith, within, keeps.few) in
     let same : flags ≡ flag (runs (get_or outputs i opening_outputs).motor) = is ∙ byte_flag holds ∙ ap flag (holds_is ∙ bit_tells outputs word count i keeps fits) in
     omega (arith, same, keeps.number, own_counts outputs i within)
 
 pub keeps_set :
     (outputs : List CarOutputs) (word count new others after i : ℕ) (o : CarOutputs) → KeepsRunning outputs word count → i < length outputs
-    → IsWithBit 8 word i (runs o.motor) new → count ≡ others + flag (runs (get_or outputs i opening_outputs).motor) → after ≡ others + flag (runs o.motor)
+    → IsWithBit 16 word i (runs o.motor) new → count ≡ others + flag (runs (get_or outputs i opening_outputs).motor) → after ≡ others + flag (runs o.motor)
     → KeepsRunning (set outputs i o) new after
 keeps_set outputs word count new others after i o keeps within is_with is_others is_after =
     let before = own_counts outputs i within in

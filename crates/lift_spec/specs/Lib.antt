@@ -1,4 +1,5 @@
 pub mod Image
+pub mod Limits
 pub mod Bits
 pub mod Running
 pub mod Settle

@@ -4,13 +4,14 @@ use Rattle.std.specs.Int.{bit_at}
 use Rattle.lift_spec.specs.declared.image.CarOutputs.{CarOutputs}
 use Rattle.lift_spec.specs.Bits.{flag}
 use Rattle.lift_spec.specs.Image.{runs, running_cars, opening_outputs}
+use Rattle.lift_spec.specs.Limits.{most_cars}
 
 -- car `car` is in the set, as bit `car - 1`, exactly where its motor is not still
 abbrev pub IsRunningSet : List CarOutputs → ℕ → Type 0
-IsRunningSet outputs set = (k : ℕ) → k < 8 → bit_at set k ≡ flag (runs (slice_index_or outputs k opening_outputs).motor)
+IsRunningSet outputs set = (k : ℕ) → k < most_cars → bit_at set k ≡ flag (runs (slice_index_or outputs k opening_outputs).motor)
 
--- the outputs of at most 8 cars, with the set of those that run, and their number
+-- the outputs of all cars, with the set of those that run, and their number
 pub record KeepsRunning (outputs : List CarOutputs) (set count : ℕ) : Type 0 where
-  pub few : length outputs ≤ 8
+  pub few : length outputs ≤ most_cars
   pub members : IsRunningSet outputs set
   pub number : count ≡ length (running_cars outputs)

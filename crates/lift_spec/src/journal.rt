@@ -3,7 +3,7 @@
 use crate::hand::Hand;
 use crate::image::Fields;
 
-/// An entry of a journal. Tasks are 1 to 8 for the cars, 0 for the group. A commit comes after the
+/// An entry of a journal. Tasks are 1 and on for the cars, 0 for the group. A commit comes after the
 /// task's instructions. A refresh has the set of the calls that it entered.
 #[derive(Drop)]
 pub enum Entry {

@@ -13,6 +13,9 @@ pub mod report;
 pub mod trace;
 
 pub use bounds::{in_range, is_floor, range_is_tested};
-pub use image::{CarFields, CarOutputs, Fields, Image, Motor, Sizes};
+pub use image::{
+    CAR_PLACES, CarFields, CarOutputs, Fields, Image, MOST_CARS, Motor, SLOT_PLACES, Sizes,
+    TASK_PLACES,
+};
 pub use lists::Bounded;
 pub use outputs::Outputs;

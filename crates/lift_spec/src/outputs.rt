@@ -5,16 +5,16 @@ ghost use Rattle.std.specs.Int.{bit_at};
 ghost use Rattle.lift_spec.specs.Image.{runs, running_cars, opening_outputs};
 ghost use Rattle.lift_spec.specs.Bits.{IsWithBit};
 
-use crate::image::CarOutputs;
+use crate::image::{CAR_PLACES, CarOutputs};
 use lists::Bounded;
 use std::marker::Model;
 
-/// The outputs of all cars, car 1 first, at most 8. Beside them the running cars are kept as a set,
+/// The outputs of all cars, car 1 first. Beside them the running cars are kept as a set,
 /// car `car` as bit `car - 1`, with their number. No call of it takes memory.
 #[derive(Drop)]
 pub struct Outputs {
-    cars: Bounded<CarOutputs, 8>,
-    running: u8,
+    cars: Bounded<CarOutputs, CAR_PLACES>,
+    running: u16,
     count: u8,
 }
 
@@ -32,17 +32,17 @@ impl Model for Outputs {
 }
 
 // Whether a bit is set.
-fn has_bit(set: u8, bit: u8) -> bool
-    requires { bit < 8 }
+fn has_bit(set: u16, bit: u8) -> bool
+    requires { bit < 16 }
     ensures { result ≡ (bit_at set bit == 1) }
 {
     (set >> bit) & 1 == 1
 }
 
 // The set with a bit set or cleared.
-fn with_bit(set: u8, bit: u8, on: bool) -> u8
-    requires { bit < 8 }
-    ensures { IsWithBit 8 set bit on result }
+fn with_bit(set: u16, bit: u8, on: bool) -> u16
+    requires { bit < 16 }
+    ensures { IsWithBit 16 set bit on result }
 {
     if on {
         set | 1 << bit
@@ -73,7 +73,7 @@ impl Outputs {
 
     /// A copy of the outputs of cars.
     pub fn from_slice(cars: &[CarOutputs]) -> Outputs
-        requires { length cars.now ≤ 8 }
+        requires { length cars.now ≤ CAR_PLACES }
         ensures { result ≡ cars.now }
     {
         let mut outputs = Outputs::new();
@@ -104,7 +104,7 @@ impl Outputs {
     /// How many cars there are.
     pub fn len(&self) -> usize
         ensures count { result ≡ length self.now }
-        ensures fits { length self.now ≤ 8 }
+        ensures fits { length self.now ≤ CAR_PLACES }
     {
         self.cars.len()
     }
@@ -133,7 +133,7 @@ impl Outputs {
 
     /// Adds the outputs of a further car.
     pub fn push(&mut self, outputs: CarOutputs)
-        requires { length self.old < 8 }
+        requires { length self.old < CAR_PLACES }
         ensures { self.new ≡ self.old ++ outputs ∷ [] }
     {
         let runs = outputs.motor.runs();

@@ -27,7 +27,7 @@ use lift_journal::fault::StationFault;
 use lift_plant::plant::Plant;
 use lift_plant::switches::Switches;
 use lift_spec::report::Report;
-use lift_spec::{Fields, Image};
+use lift_spec::{Fields, Image, MOST_CARS};
 use std::alloc::{AllocError, Global};
 use std::marker::{Model, PhantomData};
 use std::sync::{Mutex, Wait};
@@ -68,7 +68,7 @@ impl<G: Naming> Mine<G> {
 
 // Whether the group has a task of this number.
 fn is_task(verified: &Verified, task: u8) -> bool
-    requires { task ≤ 8 }
+    requires { task ≤ MOST_CARS }
     ensures { result ≡ is_task verified.now.config task }
 {
     task <= verified.sizes().cars && verified.has_task(task)

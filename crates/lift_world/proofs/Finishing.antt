@@ -7,6 +7,7 @@ use Rattle.il_run.specs.State.{Frame, State}
 use Rattle.il_run.specs.Step.{Next, Stuck, step, step_of}
 use Rattle.il_run.specs.Scan.{Reaches, has_ended}
 use Rattle.il_machine.specs.Standing.{Standing}
+use Rattle.lift_run_laws.proofs.Unended.{unended}
 use Rattle.lift_spec.specs.declared.event.Event.TheVariants.{Instruction}
 use Rattle.lift_spec.specs.declared.calls.Call.{Call}
 use Rattle.lift_spec.specs.Replies.{Reply, More, End}
@@ -16,15 +17,6 @@ use Rattle.lift_world.specs.Groups.{scans_by, world_by}
 use Rattle.lift_world.specs.Worlds.{RunsOut}
 use Rattle.lift_world.proofs.Views.{scan_put, scans_length, set_same, set_again, set_there, within, flat_some}
 use Rattle.lift_world.proofs.Events.{ended_so}
-
--- a state with a next one has not ended
-unended : (c : Config) (s m : State) → step c s ≡ Next m → has_ended s ≡ false
-unfolding step
-unended c s m e = by s.frames refl
-  where
-    by : (fs : List Frame) → s.frames ≡ fs → has_ended s ≡ false
-    by [] is = let bad : Stuck ≡ Next m = sym (ap (step_of c s.values s.result) is) ∙ e in cc
-    by (f ∷ fs) is = ap (λ gs. has_ended (record { values = s.values; frames = gs; result = s.result })) is
 
 module _ (c : Config) (g : Group) (stores : List (Option Standing)) (desk hand : List Call) (t : ℕ) (task : TaskState) (many : length stores ≡ length g.tasks) (there : task_at g t ≡ Some task) where
   abbrev scans : List (Option State)

@@ -6,10 +6,10 @@ ghost use Rattle.lift_spec.specs.Settle.{denials_of};
 ghost use Rattle.lift_spec.specs.World.{flat, serve_with, serve_wish, tell_with, tell_all};
 
 use lift_calls::book::CallBook;
-use lift_spec::Bounded;
 use lift_spec::calls::{Answer, Entering};
 use lift_spec::hand::Hand;
-use lift_spec::report::{Answered, Denial, EnteredCall, Rule};
+use lift_spec::report::{Answered, DENIAL_PLACES, Denial, EnteredCall, Rule};
+use lift_spec::{Bounded, SLOT_PLACES};
 
 /// Takes all items out of a row.
 pub fn clear<T: Drop + Default, const N: usize>(row: &mut Bounded<T, N>)
@@ -21,8 +21,8 @@ pub fn clear<T: Drop + Default, const N: usize>(row: &mut Bounded<T, N>)
 }
 
 /// The denials of a car, in place of those before.
-pub fn report_denials(denials: &mut Bounded<Denial, 16>, car: u8, rules: &[Rule])
-    requires { length rules.now ≤ 16 }
+pub fn report_denials(denials: &mut Bounded<Denial, DENIAL_PLACES>, car: u8, rules: &[Rule])
+    requires { length rules.now ≤ DENIAL_PLACES }
     ensures { denials.new ≡ denials_of car rules.now }
 {
     clear(denials);
@@ -58,7 +58,7 @@ pub fn serve(
     car: u8,
     tickets: &[Option<u64>],
     slot: u8,
-    answers: &mut Bounded<Answered, 64>,
+    answers: &mut Bounded<Answered, SLOT_PLACES>,
 )
     ensures { serve_wish calls.old car tickets.now slot ≡ (calls.new, answers.new) }
 {
@@ -91,9 +91,9 @@ fn tell(
     slot: u8,
     ticket: Option<u64>,
     car: u8,
-    answers: &mut Bounded<Answered, 64>,
+    answers: &mut Bounded<Answered, SLOT_PLACES>,
 )
-    requires { length answers.old < 64 }
+    requires { length answers.old < SLOT_PLACES }
     ensures told { (tickets : List (Option ℕ)) (cars : List ℕ)
         → tell_all calls.old answers.old slot (ticket ∷ tickets) (car ∷ cars)
         ≡ tell_all calls.new answers.new (slot + 1) tickets cars }
@@ -116,9 +116,9 @@ pub fn tell_all(
     calls: &mut CallBook,
     tickets: &[Option<u64>],
     cars: &[u8],
-    answers: &mut Bounded<Answered, 64>,
+    answers: &mut Bounded<Answered, SLOT_PLACES>,
 )
-    requires few { length tickets.now ≤ 64 }
+    requires few { length tickets.now ≤ SLOT_PLACES }
     requires each { length cars.now ≡ length tickets.now }
     ensures { tell_all calls.old [] 1 tickets.now cars.now ≡ (calls.new, answers.new) }
 {
@@ -129,7 +129,11 @@ pub fn tell_all(
 }
 
 /// The calls of the hand enter in its order; from the first without a slot on they stay.
-pub fn enter_all(calls: &mut CallBook, hand: &mut Hand, done: &mut Bounded<EnteredCall, 64>)
+pub fn enter_all(
+    calls: &mut CallBook,
+    hand: &mut Hand,
+    done: &mut Bounded<EnteredCall, SLOT_PLACES>,
+)
     ensures { enter_all calls.old [] hand.old
         ≡ record { calls = calls.new; hand = hand.new; done = done.new } }
 {

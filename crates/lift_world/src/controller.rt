@@ -25,7 +25,7 @@ use lift_spec::calls::Call;
 use lift_spec::event::{Event, EventFault, Reply};
 use lift_spec::hand::Hand;
 use lift_spec::report::Report;
-use lift_spec::{Fields, Image, in_range, is_floor};
+use lift_spec::{Fields, Image, MOST_CARS, in_range, is_floor};
 use std::alloc::{AllocError, Global};
 
 /// A lift group: its verified configuration, what its tasks share, where each task's scan stands, the calls on the desk and those
@@ -58,7 +58,7 @@ fn opening_stores(
     verified: &Verified,
     cars: u8,
 ) -> Result<Vec<Option<Store>>, AllocError>
-    requires few { cars ≤ 8 }
+    requires few { cars ≤ MOST_CARS }
     requires all { cars ≡ (sizes_of verified.now.config).cars }
     ensures as_many { IfOk result (λ ss. length ss.items ≡ suc cars) }
     ensures there { IfOk result (λ ss. (t : ℕ) → t ≤ cars

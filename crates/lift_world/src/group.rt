@@ -15,7 +15,7 @@ use lift_calls::book::CallBook;
 use lift_spec::calls::Slot;
 use lift_spec::hand::Hand;
 use lift_spec::report::Report;
-use lift_spec::{Bounded, Fields, Image};
+use lift_spec::{Bounded, Fields, Image, SLOT_PLACES};
 use std::alloc::{AllocError, Global};
 use std::marker::Model;
 use std::snapshot::Snapshot;
@@ -82,7 +82,7 @@ impl Core {
     }
 
     /// The call slots, slot 1 first.
-    pub fn slots(&self) -> Bounded<Slot, 64>
+    pub fn slots(&self) -> Bounded<Slot, SLOT_PLACES>
         ensures { result ≡ self.now.group.calls.slots }
     {
         self.shared.slots()

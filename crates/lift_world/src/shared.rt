@@ -26,7 +26,7 @@ use lift_interlock::{settle_car, settle_each};
 use lift_spec::calls::Slot;
 use lift_spec::hand::Hand;
 use lift_spec::report::Report;
-use lift_spec::{Bounded, Fields, Image, Motor};
+use lift_spec::{Bounded, Fields, Image, MOST_CARS, Motor, SLOT_PLACES};
 use std::alloc::{AllocError, Global};
 
 /// What a task keeps: its variables as its last commit left them, and the tickets of the call slots that its open scan saw, if it has one.
@@ -92,7 +92,7 @@ fn opening_memories(
     verified: &Verified,
     cars: u8,
 ) -> Result<Vec<Option<TaskMemory>>, AllocError>
-    requires few { cars ≤ 8 }
+    requires few { cars ≤ MOST_CARS }
     requires all { cars ≡ (sizes_of verified.now.config).cars }
     ensures tasks { IfOk result (λ ss. tasks_in verified.now.config 0 ss.items
         ≡ opening_tasks_from verified.now.config 0 (suc cars)) }
@@ -260,7 +260,7 @@ impl Shared {
     }
 
     /// The call slots, slot 1 first.
-    pub fn slots(&self) -> Bounded<Slot, 64>
+    pub fn slots(&self) -> Bounded<Slot, SLOT_PLACES>
         ensures { result ≡ self.now.calls.slots }
     {
         self.calls.slots()

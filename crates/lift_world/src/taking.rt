@@ -2,7 +2,7 @@
 
 ghost use Rattle.std.specs.Prelude.{◌≡◌, true};
 
-use lift_spec::{Bounded, CarFields, CarOutputs, Fields, Motor, Outputs};
+use lift_spec::{Bounded, CAR_PLACES, CarFields, CarOutputs, Fields, Motor, Outputs};
 
 // Whether two motors are the same.
 fn is_same_motor(one: Motor, other: Motor) -> bool
@@ -55,7 +55,7 @@ pub fn take_outputs(outputs: &mut Outputs, others: &Outputs)
 }
 
 // Takes over the fields of each car.
-fn take_cars(cars: &mut Bounded<CarFields, 8>, others: &Bounded<CarFields, 8>)
+fn take_cars(cars: &mut Bounded<CarFields, CAR_PLACES>, others: &Bounded<CarFields, CAR_PLACES>)
     ensures { cars.new ≡ others.now }
 {
     let count = others.len();

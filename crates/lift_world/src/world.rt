@@ -24,7 +24,7 @@ use il_spec::fault::Refusal;
 use lift_spec::calls::Slot;
 use lift_spec::event::{Event, EventFault, Reply};
 use lift_spec::report::Report;
-use lift_spec::{Bounded, Image, Sizes};
+use lift_spec::{Bounded, Image, SLOT_PLACES, Sizes};
 use std::alloc::Global;
 use std::marker::Model;
 
@@ -155,7 +155,7 @@ impl World {
     }
 
     /// The call slots, slot 1 first.
-    pub fn slots(&self) -> Bounded<Slot, 64>
+    pub fn slots(&self) -> Bounded<Slot, SLOT_PLACES>
         ensures { result ≡ self.now.world.group.calls.slots }
     {
         self.group.core.slots()

@@ -1,8 +1,8 @@
 -- A task is listed once under its name.
-use Rattle.std.proofs.Common.{◌≡◌, ℕ, zero, suc, ◌≤◌, Bool, true, false, ◌&&◌, List, [], ◌∷◌, Option, Some, None, refl, sym, ap, ◌∙◌, arith, bytes_eq, cond, inl, inr}
+use Rattle.std.proofs.Common.{◌≡◌, ℕ, zero, suc, ◌≤◌, ◌+◌, ◌-◌, Bool, true, false, ◌&&◌, List, [], ◌∷◌, Option, Some, None, refl, sym, ap, ◌∙◌, arith, bytes_eq, cond, inl, inr}
 use Rattle.std.specs.Prelude.{find, nat_le, option_and_then, option_map, decimal, ◌⊎◌}
 use Rattle.std.specs.List.{cons_option}
-use Rattle.std.proofs.lemmas.Bool.{leb-true}
+use Rattle.std.proofs.lemmas.Bool.{leb-true, cases_eq}
 use Rattle.std.proofs.lemmas.Fmt.{decimal_injective}
 use Rattle.std.proofs.lemmas.Slice.Eq.{bytes_eq-Decides}
 use Rattle.il_spec.specs.declared.tree.Task.{Task}
@@ -10,17 +10,18 @@ use Rattle.il_spec.specs.declared.tree.ProgramLine.{ProgramLine}
 use Rattle.il_scan_laws.proofs.Lists.{found_in}
 use Rattle.il_table.specs.NameMap.{Text}
 use Rattle.il_machine.specs.Scanning.{Program}
-use Rattle.il_machine.specs.Listing.{TaskLine, UnitLine, task_by, task_of, program_line_of, unit_of, unit_lines, is_task_name, task_among, task_line, task_order, tasks_of}
+use Rattle.il_machine.specs.Listing.{TaskLine, UnitLine, task_by, task_of, program_line_of, unit_of, unit_lines, is_task_name, task_among, task_line, last_tasks, task_order, tasks_of}
+use Rattle.lift_spec.specs.Limits.{most_cars}
 use Rattle.lift_spec.specs.Snapshot.{task_name}
 use Rattle.liftplc_c.specs.Budgets.{named_line}
 use Rattle.il_parse.proofs.Ascii.{both_true as first_of_and}
 
 -- NAMES
 
-named : (name : Text) (n : ℕ) → is_task_name name n ≡ true → (n ≤ 8) × (name ≡ task_name n)
+named : (name : Text) (n : ℕ) → is_task_name name n ≡ true → (n ≤ most_cars) × (name ≡ task_name n)
 named name n is =
-    let both = first_of_and (nat_le n 8) (bytes_eq name (task_name n)) is in
-    (leb-true n 8 both.0, (bytes_eq-Decides name (task_name n)).0 both.1)
+    let both = first_of_and (nat_le n most_cars) (bytes_eq name (task_name n)) is in
+    (leb-true n most_cars both.0, (bytes_eq-Decides name (task_name n)).0 both.1)
 
 tail_of : (a b : ℕ) (xs ys : List ℕ) → a ∷ xs ≡ b ∷ ys → xs ≡ ys
 tail_of a b xs ys e = cc
@@ -32,7 +33,7 @@ head_of a b xs ys e = cc
 group_no_car : (k : ℕ) → task_name zero ≡ task_name (suc k) → ⊥
 group_no_car k e = let bad : 71 ≡ 67 = head_of 71 67 (82 ∷ 79 ∷ 85 ∷ 80 ∷ []) (65 ∷ 82 ∷ decimal (suc k)) e in omega (arith, bad)
 
-one_number : (m n : ℕ) → m ≤ 8 → n ≤ 8 → task_name m ≡ task_name n → m ≡ n
+one_number : (m n : ℕ) → m ≤ most_cars → n ≤ most_cars → task_name m ≡ task_name n → m ≡ n
 one_number zero zero low few same = refl
 one_number zero (suc n) low few same = absurd (group_no_car n same)
 one_number (suc m) zero low few same = absurd (group_no_car m (sym same))
@@ -123,17 +124,21 @@ module _ (p : Program) (n : ℕ) where
   found_none is [] = refl
   found_none is (k ∷ ks) = none_by_line is k (tasks_of p ks) (task_line p k) refl (found_none is ks)
 
-in_order : (n : ℕ) → n ≤ 8 → IsAmong n task_order
-in_order zero few = inr (inr (inr (inr (inr (inr (inr (inr (inl refl))))))))
-in_order (suc zero) few = inl refl
-in_order (suc (suc zero)) few = inr (inl refl)
-in_order (suc (suc (suc zero))) few = inr (inr (inl refl))
-in_order (suc (suc (suc (suc zero)))) few = inr (inr (inr (inl refl)))
-in_order (suc (suc (suc (suc (suc zero))))) few = inr (inr (inr (inr (inl refl))))
-in_order (suc (suc (suc (suc (suc (suc zero)))))) few = inr (inr (inr (inr (inr (inl refl)))))
-in_order (suc (suc (suc (suc (suc (suc (suc zero))))))) few = inr (inr (inr (inr (inr (inr (inl refl))))))
-in_order (suc (suc (suc (suc (suc (suc (suc (suc zero)))))))) few = inr (inr (inr (inr (inr (inr (inr (inl refl)))))))
-in_order (suc (suc (suc (suc (suc (suc (suc (suc (suc k))))))))) few = absurd (omega (arith, few))
+group_last : (m : ℕ) → IsAmong 0 (last_tasks (suc m))
+group_last zero = inl refl
+group_last (suc k) = inr (group_last k)
+
+car_last : (m n : ℕ) → n ≤ most_cars → most_cars + 1 ≤ n + m → IsAmong n (last_tasks (suc m))
+car_last zero n few high = absurd (omega (arith, few, high))
+car_last (suc k) n few high =
+    elim (cases_eq n (most_cars - k)) [
+      | inl same ↦ inl (sym same)
+      | inr other ↦ inr (car_last k n few (omega (arith, few, high, other)))
+    ]
+
+in_order : (n : ℕ) → n ≤ most_cars → IsAmong n task_order
+in_order zero few = group_last most_cars
+in_order (suc k) few = car_last most_cars (suc k) few (omega arith)
 
 -- the line that is found under the name of a number is that of the number
 pub named_is : (p : Program) (n : ℕ) → named_line p n ≡ task_line p n

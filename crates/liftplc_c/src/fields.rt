@@ -3,7 +3,7 @@
 ghost use Rattle.std.specs.Prelude.{◌≡◌, ◌≤◌, is_some, IfSome};
 ghost use Rattle.liftplc_c.specs.Inputs.{are_taken, car_of, fields_of};
 
-use lift_spec::{Bounded, CarFields, Fields, Sizes, in_range};
+use lift_spec::{Bounded, CAR_PLACES, CarFields, Fields, MOST_CARS, Sizes, in_range};
 
 /// What C reports of a car: the floor that it is at or next to, and its five sensors.
 #[repr(C)]
@@ -25,7 +25,7 @@ pub struct FieldsInput {
     pub run_limit: u8,
     pub fire: bool,
     pub car_count: u8,
-    pub cars: [CarInput; 8],
+    pub cars: [CarInput; CAR_PLACES],
 }
 
 fn car_of(car: CarInput) -> CarFields
@@ -43,7 +43,7 @@ fn car_of(car: CarInput) -> CarFields
 
 // The fields of so many cars as are counted.
 fn fields_of(fields: &FieldsInput) -> Fields
-    requires { fields.now.car_count ≤ 8 }
+    requires { fields.now.car_count ≤ MOST_CARS }
     ensures { result ≡ fields_of fields.now }
 {
     let mut cars = Bounded::new();
@@ -63,7 +63,7 @@ pub fn fields_in(fields: &FieldsInput, sizes: Sizes) -> Option<Fields>
     ensures test { is_some result ≡ are_taken sizes fields.now }
     ensures some { IfSome result (λ taken. taken ≡ fields_of fields.now) }
 {
-    if fields.car_count > 8 {
+    if fields.car_count > MOST_CARS {
         return None;
     }
     let taken = fields_of(fields);

@@ -4,9 +4,9 @@ ghost use Rattle.std.specs.Prelude.{◌≡◌, ◌≤◌, length, map, take};
 ghost use Rattle.liftplc_c.specs.Outputs.{car_output, slot_output, TellsCars, TellsNotices, TellsSlots};
 
 use crate::notices::{NoticeOutput, put_notices};
-use lift_round::notice::Notices;
+use lift_round::notice::{MOST_NOTICES, Notices};
 use lift_spec::calls::Slot;
-use lift_spec::{CarOutputs, Motor};
+use lift_spec::{CAR_PLACES, CarOutputs, Motor, SLOT_PLACES};
 use lift_world::World;
 
 /// What a car is to do: 1 is up, -1 is down, 0 is still; and whether its door is to be open.
@@ -35,9 +35,9 @@ pub struct RoundOutputs {
     pub car_count: u8,
     pub slot_count: u8,
     pub notice_count: u8,
-    pub cars: [CarOutput; 8],
-    pub slots: [SlotOutput; 64],
-    pub notices: [NoticeOutput; 168],
+    pub cars: [CarOutput; CAR_PLACES],
+    pub slots: [SlotOutput; SLOT_PLACES],
+    pub notices: [NoticeOutput; MOST_NOTICES],
 }
 
 fn car_output(car: CarOutputs) -> CarOutput

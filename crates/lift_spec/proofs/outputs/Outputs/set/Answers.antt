@@ -14,8 +14,8 @@ overflow_add-self c =
 pub invariant_of-self : goal.invariant_of-self
 invariant_of-self c =
     let within : c.args.index < length c.self.inside.cars = omega (arith, ap length c.self.view_is, c.requires) in
-    let with_ : IsWithBit 8 c.self.inside.running c.args.index (runs c.args.outputs.motor) c.with_bit-self-inside.result =
-    subst (λ r. IsWithBit 8 c.self.inside.running c.args.index r c.with_bit-self-inside.result) c.runs-runs.ensures c.with_bit-self-inside.ensures in
+    let with_ : IsWithBit 16 c.self.inside.running c.args.index (runs c.args.outputs.motor) c.with_bit-self-inside.result =
+    subst (λ r. IsWithBit 16 c.self.inside.running c.args.index r c.with_bit-self-inside.result) c.runs-runs.ensures c.with_bit-self-inside.ensures in
     rw c.set.ensures
     (keeps_set c.self.inside.cars c.self.inside.running c.self.inside.count c.with_bit-self-inside.result (c.self.inside.count - c.from.result) (c.self.inside.count - c.from.result + c.from-2.result) c.args.index c.args.outputs c.self.invariant within with_
     (others_counted c.self.inside.cars c.self.inside.running c.self.inside.count c.from.result c.args.index c.has_bit.result c.self.invariant within c.from.ensures c.has_bit.ensures)
