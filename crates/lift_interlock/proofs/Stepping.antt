@@ -13,6 +13,7 @@ use Rattle.lift_spec.specs.Image.{runs, running_cars, opening_outputs}
 use Rattle.std.specs.Int.{from_bool}
 use Rattle.lift_spec.proofs.Running.{byte_flag, own_counts, running_fit}
 use Rattle.lift_spec.specs.Settle.{listed, open_denial, running_denial, settled_running, settled_from, settled_all, able_from, joined, denials_of}
+use Rattle.lift_spec.specs.Limits.{most_cars}
 
 drop_step : {A : Type 0} (xs : List A) (i : ℕ) (none : A) → i < length xs → drop i xs ≡ get_or xs i none ∷ drop (i + 1) xs
 drop_step xs i none h = let e : suc i ≡ i + 1 = omega arith in drop-cons xs i none h ∙ ap (λ n. get_or xs i none ∷ drop n xs) e
@@ -106,6 +107,6 @@ flag_small true = omega arith
 flag_small false = omega arith
 
 pub running_room :
-    (outputs : List CarOutputs) (i count running own : ℕ) (holds : Bool) → i < count → count ≤ 8 → running ≡ length (running_cars (take i outputs)) → own ≡ from_bool holds → i ≤ length outputs → running + own ≤ 8
+    (outputs : List CarOutputs) (i count running own : ℕ) (holds : Bool) → i < count → count ≤ most_cars → running ≡ length (running_cars (take i outputs)) → own ≡ from_bool holds → i ≤ length outputs → running + own ≤ 8
 running_room outputs i count running own holds below few is own_is within =
     omega (arith, below, few, is, running_fit (take i outputs), length-take-le i outputs within, own_is ∙ byte_flag holds, flag_small holds)

@@ -15,6 +15,7 @@ use Rattle.lift_spec.specs.Replies.{Reply, Started, More, End, Committed, Refres
 use Rattle.lift_spec.specs.Settle.{settled_car, listed, denials_of}
 use Rattle.lift_spec.specs.Snapshot.{has_task, wishes_of}
 use Rattle.lift_spec.specs.World.{World, Group, TaskState, Next, happens, task_at, scan_at, committed_group, commits, commits_scan, commits_ended, serve_wish, tickets_or_none}
+use Rattle.lift_spec.specs.Limits.{most_cars}
 use Rattle.lift_journal.specs.Rounds.{counting_from, tasks_in_order}
 use Rattle.lift_runs.specs.Shown.{ScansReporting}
 use Rattle.lift_round.specs.Rounds.{most_of_scans}
@@ -133,8 +134,8 @@ cars_share first zero above = refl
 cars_share zero (suc k) above = absurd (omega (arith, above))
 cars_share (suc n) (suc k) above = let rest = cars_share (suc n + 1) k (omega arith) in omega (arith, rest)
 
--- the tasks of a group of at most eight cars
-pub tasks_share : (c : Config) → (sizes_of c).cars ≤ 8 → most_of_scans (tasks_in_order c) ≤ 88
+-- the tasks of a group
+pub tasks_share : (c : Config) → (sizes_of c).cars ≤ most_cars → most_of_scans (tasks_in_order c) ≤ 3 * most_cars + 64
 tasks_share c few =
     let all = filtered_share (has_task c) (counting_from 1 (sizes_of c).cars ++ 0 ∷ []) in
     let parts = shares_append (counting_from 1 (sizes_of c).cars) (0 ∷ []) in

@@ -19,6 +19,7 @@ use Rattle.lift_journal.proofs.Taking.{happen_one, happen_more, press_taken, gat
 use Rattle.lift_runs.specs.Driven.{call_of, ArePressed, AreTasks}
 pub use Rattle.lift_runs.proofs.Fronts.{take_next, read}
 use Rattle.lift_spec.proofs.Interlock.{filter_fits as filtered_length}
+use Rattle.lift_spec.specs.Limits.{most_cars}
 
 -- LISTS
 
@@ -139,7 +140,7 @@ counting_length first zero = refl
 counting_length first (suc k) = ap suc (counting_length (first + 1) k)
 
 -- so many cars, a start and a commit of each task beside a refresh: they fit a count
-pub entries_fit : (c : Config) (tasks : List ℕ) → tasks ≡ tasks_in_order c → (sizes_of c).cars ≤ 8 → length tasks ≤ 9
+pub entries_fit : (c : Config) (tasks : List ℕ) → tasks ≡ tasks_in_order c → (sizes_of c).cars ≤ most_cars → length tasks ≤ 1 + most_cars
 entries_fit c tasks is few =
     let all = filtered_length (has_task c) (counting_from 1 (sizes_of c).cars ++ 0 ∷ []) in
     let long = length-append (counting_from 1 (sizes_of c).cars) (0 ∷ []) in

@@ -9,15 +9,17 @@ use Rattle.lift_spec.specs.declared.image.Motor.{Motor}
 use Rattle.lift_spec.specs.declared.image.Motor.TheVariants.{Up, Down, Still}
 use Rattle.lift_spec.specs.declared.report.Rule.{Rule}
 use Rattle.lift_spec.specs.declared.report.Rule.TheVariants.{Reversal, Unlocked, AtEnd, NotLevel, Crowded, Fire}
+use Rattle.lift_spec.specs.Limits.{most_cars}
 use Rattle.lift_spec.specs.Settle.{rule_number}
 use Rattle.lift_spec.specs.Snapshot.{motor_number}
 use Rattle.lift_runs.proofs.Driving.{take_next}
 use Rattle.lift_round.specs.declared.notice.Notice.{Notice}
+use Rattle.lift_round.specs.declared.notice.TheConstants.{MOST_NOTICES}
 use Rattle.lift_spec.specs.declared.event.EventFault.{EventFault}
 use Rattle.lift_spec.specs.declared.event.EventFault.TheVariants.{FieldOutOfRange, NoOpenScan, AlreadyOpen, NotAtEnd, NoSuchActor, SameFloor}
 use Rattle.lift_spec.specs.EventFaults.{event_fault_number}
 use Rattle.lift_spec.specs.Replies.{Reply, Started, More, End, Committed, Refreshed, New, Already, Gathered, Held, Refused}
-use Rattle.lift_serve.specs.Answers.{entered_line, denied_line, told_line, served_line, notice_line, output_part, outputs_line, press_line, press_word}
+use Rattle.lift_serve.specs.Answers.{entered_line, denied_line, told_line, served_line, notice_line, output_part, outputs_line, press_line, press_word, greatest_answer}
 
 pub on_ok : {X E : Type 0} {P Q : Type 0} (r : Result X E) → (P → Q) → OnOk r P → OnOk r Q
 on_ok (Ok x) f p = f p
@@ -145,7 +147,7 @@ press_few call r f t =
 
 -- ALL OF A ROUND
 
-pub round_few : (text : List ℕ) (notices : List Notice) (outputs : List CarOutputs) → text ≡ flat_map notice_line notices ++ outputs_line outputs → length (flat_map notice_line notices) ≤ 41 * length notices → length notices ≤ 168 → length outputs ≤ 8 → length text ≤ 6936
+pub round_few : (text : List ℕ) (notices : List Notice) (outputs : List CarOutputs) → text ≡ flat_map notice_line notices ++ outputs_line outputs → length (flat_map notice_line notices) ≤ 41 * length notices → length notices ≤ MOST_NOTICES → length outputs ≤ most_cars → length text ≤ greatest_answer
 round_few text notices outputs is few many cars =
     let all = ap length is ∙ length-append (flat_map notice_line notices) (outputs_line outputs) in
     let last = outputs_few outputs in

@@ -1,5 +1,5 @@
 -- What a line is answered (own rules).
-use Rattle.std.specs.Prelude.{◌≡◌, ℕ, List, [], ◌∷◌, ◌++◌, flat_map, codes, decimal, Ok}
+use Rattle.std.specs.Prelude.{◌≡◌, ℕ, ◌+◌, ◌*◌, List, [], ◌∷◌, ◌++◌, flat_map, codes, decimal, Ok}
 use Rattle.std.specs.Fmt.{signed_decimal}
 use Rattle.il_spec.specs.declared.tree.Config.{Config}
 use Rattle.lift_spec.specs.declared.calls.Call.{Call}
@@ -8,12 +8,14 @@ use Rattle.lift_spec.specs.declared.image.CarOutputs.{CarOutputs}
 use Rattle.lift_spec.specs.declared.report.Denial.{Denial}
 use Rattle.lift_spec.specs.declared.report.EnteredCall.{EnteredCall}
 use Rattle.lift_spec.specs.EventFaults.{event_fault_number}
+use Rattle.lift_spec.specs.Limits.{most_cars}
 use Rattle.lift_spec.specs.Replies.{Reply, Started, More, End, Committed, Refreshed, New, Already, Gathered, Held, Refused}
 use Rattle.lift_spec.specs.Settle.{rule_number}
 use Rattle.lift_spec.specs.Snapshot.{motor_number}
 use Rattle.lift_spec.specs.World.{World, happens, opening_group}
 use Rattle.lift_trace.specs.Text.{flag}
 use Rattle.lift_round.specs.declared.notice.Notice.{Notice}
+use Rattle.lift_round.specs.declared.notice.TheConstants.{MOST_NOTICES}
 use Rattle.lift_round.specs.declared.notice.Notice.TheVariants.{Entered, Denied, Told, Served}
 use Rattle.lift_round.specs.Rounds.{IsRoundOf}
 use Rattle.lift_serve.specs.declared.said.Said.{Said}
@@ -73,9 +75,9 @@ press_word Held = []
 unfoldable pub press_line : Call → Reply → List ℕ
 press_line call reply = codes "press " ++ (decimal call.from ++ (codes " " ++ (decimal call.to ++ (codes " " ++ (press_word reply ++ codes "\n")))))
 
--- an answer's greatest length, in bytes: 168 notices of at most 41, and the outputs of eight cars
+-- an answer's greatest length, in bytes: notices of at most 41, and the outputs of all cars
 abbrev pub greatest_answer : ℕ
-greatest_answer = 6936
+greatest_answer = 41 * MOST_NOTICES + (5 * most_cars + 8)
 
 -- WHAT IS ANSWERED
 

@@ -17,6 +17,7 @@ use Rattle.lift_run_laws.specs.Accepted.{IsSound}
 use Rattle.lift_journal.specs.declared.fault.StationFault.{StationFault}
 use Rattle.lift_journal.specs.declared.fault.StationFault.TheVariants.{AlreadyOpen, JournalFull}
 use Rattle.lift_spec.specs.declared.journal.Entry.TheVariants as entry
+use Rattle.lift_spec.specs.Limits.{most_cars}
 use Rattle.lift_journal.specs.Journal.{entries_by, calls_entered, refresher, calls_entering, IsJournalOf}
 use Rattle.lift_journal.specs.Pages.{Page, Kept, Adds, IsSnapped, IsShown, IsTold}
 use Rattle.lift_journal.proofs.Journals.{entries_alternate}
@@ -101,7 +102,7 @@ module _ (P v : Program) (lent : v ≡ P) (inside before : Page) (same : inside 
       in
       record { before = before; config = config; kept = kept; counted = sym counted; is_open = open_there f there; after = after; adds = own }
 
-  module _ (runs : IsRunnable v.config) (few : n ≤ 8) where
+  module _ (runs : IsRunnable v.config) (few : n ≤ most_cars) where
     sound : IsSound P.config
     sound = subst (λ (q : Program). IsSound q.config) lent (sound_of v.config runs)
 

@@ -9,6 +9,7 @@ use Rattle.lift_spec.specs.declared.image.Sizes.{Sizes}
 use Rattle.lift_spec.specs.Image.{sizes_of}
 use Rattle.lift_spec.specs.Plant.{IsPlantOf, opening_plant}
 use Rattle.lift_spec.specs.World.{World, scan_at}
+use Rattle.lift_spec.specs.Limits.{most_cars}
 use Rattle.lift_plant.specs.declared.switches.Switches.{Switches}
 use Rattle.lift_journal.proofs.Rounds.{rounds_are_journal}
 use Rattle.lift_journal.proofs.Safe.{rounds_keep_cars_safe}
@@ -24,7 +25,7 @@ use Rattle.lift_runs.proofs.sim.run_rounds.Goals.{then-idle, else-idle}
 
 pub new-plant-requires-clause-cars : goal.new-plant-requires-clause-cars
 new-plant-requires-clause-cars g c =
-    subst (λ (s : Sizes). (1 ≤ s.cars) × (s.cars ≤ 8)) (sym c.sizes-cars.ensures) (sizes_fit c.args.world.now.program.config (subst (λ (p : Program). IsRunnable p.config) c.verified.ensures c.config-config.ensures.runnable)).0
+    subst (λ (s : Sizes). (1 ≤ s.cars) × (s.cars ≤ most_cars)) (sym c.sizes-cars.ensures) (sizes_fit c.args.world.now.program.config (subst (λ (p : Program). IsRunnable p.config) c.verified.ensures c.config-config.ensures.runnable)).0
 
 pub new-plant-requires-clause-floors : goal.new-plant-requires-clause-floors
 new-plant-requires-clause-floors g c =

@@ -1,11 +1,12 @@
 use Rattle.std.proofs.Common.{◌≤◌, sym, subst}
 use Rattle.lift_spec.specs.declared.image.Sizes.{Sizes}
 use Rattle.lift_spec.specs.Plant.{IsPlantOf}
+use Rattle.lift_spec.specs.Limits.{most_cars}
 use Rattle.il_machine.proofs.Sizes.{sizes_fit}
 use Rattle.lift_station.proofs.station.plant_of.Goals as goal
 
 pub new-requires-clause-cars : goal.new-requires-clause-cars
-new-requires-clause-cars c = subst (λ (s : Sizes). (1 ≤ s.cars) × (s.cars ≤ 8)) (sym c.sizes-sizes.ensures) (sizes_fit c.args.verified.now.config c.config-config.ensures.runnable).0
+new-requires-clause-cars c = subst (λ (s : Sizes). (1 ≤ s.cars) × (s.cars ≤ most_cars)) (sym c.sizes-sizes.ensures) (sizes_fit c.args.verified.now.config c.config-config.ensures.runnable).0
 
 pub new-requires-clause-floors : goal.new-requires-clause-floors
 new-requires-clause-floors c = subst (λ (s : Sizes). (2 ≤ s.floors) × (s.floors ≤ 16)) (sym c.sizes-sizes.ensures) (sizes_fit c.args.verified.now.config c.config-config.ensures.runnable).1
