@@ -15,7 +15,7 @@ use Rattle.il_table.specs.NameMap.{NameMap, get, with_new, empty, get-empty}
 use Rattle.il_rules.specs.declared.names.Audience.TheVariants.{Everybody, CarPrograms, GroupPrograms}
 use Rattle.il_rules.specs.declared.names.Role.TheVariants.{Car as CarRole, Group as GroupRole}
 use Rattle.il_rules.specs.Names as rule
-use Rattle.il_rules.specs.Names.{Spelling, or_else, entry_of, is_one_of, BlockVariables, own_block_variables, named_forms, with_origin, result_of, variables_of, own_variable, is_predeclared, is_program_kind, is_seen_by, sees, image_meaning, unit_named, global_meaning, outer_meaning, image_name, program_role, meaning, MeansVariable, MeansUnit, MeansStandard}
+use Rattle.il_rules.specs.Names.{Spelling, or_else, entry_of, is_one_of, BlockVariables, own_block_variables, named_forms, with_origin, result_of, variables_of, own_variable, is_predeclared, is_program_kind, is_seen_by, sees, image_meaning, unit_named, global_meaning, outer_meaning, image_name, program_role, meaning, meant_variable, variable_named, MeansVariable, MeansUnit, MeansStandard}
 use Rattle.il_rules.specs.Declarations.{names_of_units}
 use Rattle.il_scope.specs.declared.entry.VariableType.{VariableType}
 use Rattle.il_scope.specs.declared.entry.VariableType.TheVariants.{Scalar as OfScalarType}
@@ -204,6 +204,39 @@ meaning_is config unit q = go (own_variable unit q) (image_name config q) (meant
         → meant_by config q (or_else (option_map (seen_variable config) v) (shown i)) ≡ option_map (binding_of config) (or_else (option_map MeansVariable v) (outer_meaning config unit q i))
     go (Some x) i outer = refl
     go None i outer = outer
+
+-- VARIABLES
+
+-- the variable among what is found
+abbrev pub seen_of : Option (Option Variable) → Option Variable
+seen_of (Some seen) = seen
+seen_of None = None
+
+-- the variable that is meant
+abbrev bound : Option Binding → Option Variable
+bound (Some (means.Variable v)) = Some v
+bound (Some means.Unit) = None
+bound (Some means.Standard) = None
+bound None = None
+
+bound_seen : (config : Config) (q : Spelling) (o : Option (Option Variable)) → bound (meant_by config q o) ≡ seen_of o
+bound_seen config q (Some (Some v)) = refl
+bound_seen config q (Some None) = refl
+bound_seen config q None = go (is_some (unit_number config q)) (is_predeclared config q)
+  where
+    go : (u p : Bool) → bound (if u then Some means.Unit else (if p then Some means.Standard else None)) ≡ None
+    go true p = refl
+    go false true = refl
+    go false false = refl
+
+bound_meant : (config : Config) (m : Option rule.Meaning) → bound (option_map (binding_of config) m) ≡ option_map (variable_of config) (meant_variable m)
+bound_meant config (Some (MeansVariable v)) = refl
+bound_meant config (Some (MeansUnit u)) = refl
+bound_meant config (Some MeansStandard) = refl
+bound_meant config None = refl
+
+pub variable_is : (config : Config) (unit : ProgramUnit) (q : Spelling) → seen_of (own_seen config unit q) ≡ option_map (variable_of config) (variable_named config unit q)
+variable_is config unit q = sym (bound_seen config q (own_seen config unit q)) ∙ ap bound (meaning_is config unit q) ∙ bound_meant config (meaning config unit q)
 
 -- SCOPES BY THEIR NUMBERS
 

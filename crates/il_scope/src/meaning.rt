@@ -1,10 +1,10 @@
 // What a name means in a unit (IEC 61131-3:2003, 2.4.3).
 
-ghost use Rattle.std.specs.Prelude.{◌≡◌, Some, option_map, slice_get};
+ghost use Rattle.std.specs.Prelude.{◌≡◌, Some, option_map, option_copied, slice_get};
 ghost use Rattle.il_spec.specs.declared.tree.Config.{Config as Configuration};
 ghost use Rattle.il_spec.specs.declared.tree.Unit.{Unit as ProgramUnit};
-ghost use Rattle.il_rules.specs.Names.{is_seen_by, meaning};
-ghost use Rattle.il_scope.specs.Views.{binding_of};
+ghost use Rattle.il_rules.specs.Names.{is_seen_by, meaning, variable_named};
+ghost use Rattle.il_scope.specs.Views.{binding_of, variable_of};
 ghost use Rattle.il_scope.specs.Tables.{IsScope, AreTables};
 ghost use Rattle.il_scope.specs.Meanings.{image_seen, variable_binding, global_binding};
 
@@ -48,6 +48,32 @@ fn variable_binding(seen: Option<Variable>) -> Option<Binding>
 {
     match seen {
         Some(variable) => Some(Binding::Variable(variable)),
+        None => None,
+    }
+}
+
+/// The variable that a name means in the unit of a number.
+#[inline(always)]
+pub fn variable<'t>(tables: &'t Tables, at: usize, name: &str) -> Option<&'t Variable>
+    ensures { (config : Configuration) (unit : ProgramUnit) → AreTables config tables.now
+        → slice_get config.units at ≡ Some unit → option_copied result
+        ≡ option_map (variable_of config) (variable_named config unit name.now) }
+{
+    match tables.scopes.as_slice().get(at) {
+        Some(scope) => variable_in(scope, name),
+        None => None,
+    }
+}
+
+// The variable that a name means in the unit of a scope.
+#[inline(always)]
+fn variable_in<'t>(scope: &'t Scope, name: &str) -> Option<&'t Variable>
+    ensures { (config : Configuration) (unit : ProgramUnit) → IsScope config unit scope.now
+        → option_copied result
+        ≡ option_map (variable_of config) (variable_named config unit name.now) }
+{
+    match scope.own.find(name) {
+        Some(seen) => seen.as_ref(),
         None => None,
     }
 }

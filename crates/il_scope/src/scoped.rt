@@ -1,17 +1,17 @@
 // Configurations with what their names mean.
 
-ghost use Rattle.std.specs.Prelude.{◌≡◌, IfOk, Some, None, IfSome, option_map, option_and_then, slice_get};
+ghost use Rattle.std.specs.Prelude.{◌≡◌, IfOk, Some, None, IfSome, option_map, option_and_then, option_copied, slice_get};
 ghost use Rattle.il_spec.specs.declared.tree.Unit.{Unit as ProgramUnit};
-ghost use Rattle.il_rules.specs.Names.{entry_of, is_one_of, is_predeclared, meaning, program_role};
+ghost use Rattle.il_rules.specs.Names.{entry_of, is_one_of, is_predeclared, meaning, program_role, variable_named};
 ghost use Rattle.il_rules.specs.Declarations.{global_form, names_of_units};
 ghost use Rattle.il_scope.specs.Images.{image_in};
 ghost use Rattle.il_scope.specs.Units.{AreInputsOf};
-ghost use Rattle.il_scope.specs.Views.{block_type, function_number, program_number, unit_number, type_of, binding_of, variables_of_block};
+ghost use Rattle.il_scope.specs.Views.{block_type, function_number, program_number, unit_number, type_of, binding_of, variable_of, variables_of_block};
 
-use crate::entry::{Binding, BlockType, ImageName, VariableType};
+use crate::entry::{Binding, BlockType, ImageName, Variable, VariableType};
 use crate::image::{ImageRow, image_in};
 use crate::lookup::{block_input, block_output, input_scalars, is_unit};
-use crate::meaning::meaning;
+use crate::meaning::{meaning, variable};
 use crate::numbers::{block_type, function_number, program_number, unit_number};
 use crate::tables::{Tables, tables_of, type_of};
 use crate::words::is_predeclared;
@@ -141,6 +141,16 @@ impl Scoped {
             ≡ option_map (binding_of self.now) (meaning self.now unit name.now) }
     {
         meaning(self.written.tree(), &self.tables, at, name)
+    }
+
+    /// The variable that a name means in the unit of a number.
+    #[inline(always)]
+    pub fn variable(&self, at: usize, name: &str) -> Option<&Variable>
+        ensures { (unit : ProgramUnit) → slice_get self.now.units at ≡ Some unit
+            → option_copied result
+            ≡ option_map (variable_of self.now) (variable_named self.now unit name.now) }
+    {
+        variable(&self.tables, at, name)
     }
 
     /// The image name of a row of the table (own rule).

@@ -1,6 +1,6 @@
 // What names mean in a unit (IEC 61131-3:2003, 2.4.3).
 
-ghost use Rattle.std.specs.Prelude.{◌≡◌, Option, Some, None, IfSome, is_some, option_map, option_and_then, slice_get};
+ghost use Rattle.std.specs.Prelude.{◌≡◌, Option, Some, None, IfSome, is_some, option_map, option_and_then, option_copied, slice_get};
 ghost use Rattle.il_spec.specs.declared.tree.Config.{Config as Configuration};
 ghost use Rattle.il_spec.specs.declared.tree.Form.{Form};
 ghost use Rattle.il_spec.specs.declared.tree.Form.TheVariants.{Block as BlockForm};
@@ -126,16 +126,22 @@ impl<'n> UnitScope<'n> {
         self.names.meaning(self.at, name)
     }
 
+    // The variable that a name means, where its entry stands.
+    #[inline(always)]
+    fn entry(&self, name: &str) -> Option<&'n Variable>
+        ensures { option_copied result ≡ option_map (variable_of self.now.config)
+            (variable_named self.now.config self.now.unit name.now) }
+    {
+        self.names.variable(self.at, name)
+    }
+
     /// The variable that a name means.
     #[inline(always)]
     pub fn variable(&self, name: &str) -> Option<Variable>
         ensures { result ≡ option_map (variable_of self.now.config)
             (variable_named self.now.config self.now.unit name.now) }
     {
-        match self.meaning(name) {
-            Some(Binding::Variable(variable)) => Some(variable),
-            _ => None,
-        }
+        self.entry(name).copied()
     }
 
     /// The type of the variable that a name means.
@@ -144,7 +150,7 @@ impl<'n> UnitScope<'n> {
         ensures { result ≡ option_map (type_of self.now.config)
             (form_named self.now.config self.now.unit name.now) }
     {
-        match self.variable(name) {
+        match self.entry(name) {
             Some(variable) => Some(variable.declared),
             None => None,
         }

@@ -39,7 +39,7 @@ same_order q k h = (bytes_eq-Decides q k).0 (sym (is_eq-slice_cmp q k) ∙ h)
 order_same : (q k : Text) → q ≡ k → eq_by_cmp order q k ≡ true
 order_same q k h = is_eq-slice_cmp q k ∙ (bytes_eq-Decides q k).1 h
 
-same_number : (x y : ℕ) → is_eq (nat_cmp x y) ≡ true → x ≡ y
+pub same_number : (x y : ℕ) → is_eq (nat_cmp x y) ≡ true → x ≡ y
 same_number x y h = by_less (nat_lt x y) (x == y) refl h
   where
     by_less : (a b : Bool) → (x == y) ≡ b → is_eq (cond a Rattle.std.specs.declared.cmp.Ordering.TheVariants.Less (cond b Rattle.std.specs.declared.cmp.Ordering.TheVariants.Equal Rattle.std.specs.declared.cmp.Ordering.TheVariants.Greater)) ≡ true → x ≡ y
@@ -47,7 +47,7 @@ same_number x y h = by_less (nat_lt x y) (x == y) refl h
     by_less false true is e = grind (arith, nat_tests)
     by_less false false is e = cc
 
-number_same : (x : ℕ) → is_eq (nat_cmp x x) ≡ true
+pub number_same : (x : ℕ) → is_eq (nat_cmp x x) ≡ true
 number_same x = grind (arith, nat_tests)
 
 -- NUMBERS OF NAMES

@@ -1,2 +1,3 @@
-pub mod ByText
 pub mod Texts
+pub mod ByText
+pub mod NearLaws

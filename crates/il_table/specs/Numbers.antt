@@ -30,3 +30,8 @@ text_of k = text_from k k []
 -- whether a number is that of a short name
 abbrev pub is_number : ℕ → Bool
 is_number k = is_short (text_of k) && (number (text_of k) == k)
+
+-- how many numbers so many bytes have
+abbrev pub sized : ℕ → ℕ
+sized zero = 1
+sized (suc i) = sized i * 256

@@ -1,10 +1,17 @@
 //! Tables: an entry for each of some names.
 #![tactic(auto)]
 
-ghost use Rattle.std.specs.Prelude.{◌≡◌, IfSome, IsNone, OnOk, OnErr, true, false};
-ghost use Rattle.il_table.specs.NameMap as map;
-ghost use Rattle.il_table.specs.Numbers.{is_short, number};
+mod near;
+mod numbers;
 
+ghost use Rattle.std.specs.Prelude.{◌≡◌, Some, OnOk, OnErr, option_copied};
+ghost use Rattle.std.specs.Ordering.{nat_cmp};
+ghost use Rattle.std.specs.BTreeMap.{Updates, get_by_text};
+ghost use Rattle.il_table.specs.NameMap as map;
+ghost use Rattle.il_table.specs.Near.{AreIn, find};
+
+use near::Near;
+use numbers::number_of;
 use std::alloc::{AllocError, Global};
 use std::collections::BTreeMap;
 use std::marker::Model;
@@ -14,6 +21,8 @@ use std::marker::Model;
 pub struct Table<X: Copy> {
     short: BTreeMap<u128, X>,
     long: BTreeMap<String, X>,
+    // Entries of short names, found without a search.
+    near: Near<X>,
 }
 
 // Written by hand, since who drops a type whose drop is derived proves the drop of each type inside again.
@@ -22,6 +31,7 @@ impl<X: Copy> Drop for Table<X> {
         let Table {
             short: _short,
             long: _long,
+            near: _near,
         } = self;
     }
 }
@@ -29,30 +39,51 @@ impl<X: Copy> Drop for Table<X> {
 impl<X: Copy> Model for Table<X> {
     ghost use Rattle.il_table.specs.NameMap.{NameMap, code};
     ghost use Rattle.il_table.specs.ByText.{by_text};
+    ghost use Rattle.il_table.specs.Near.{AreIn};
 
     ghost Value = { NameMap X };
 
     ghost coded = { code X.code };
 
     ghost view = { λ t. by_text t.short.entries t.long.entries };
+
+    ghost invariant = { λ t. AreIn t.short.entries t.near.entries.items };
 }
 
-// From here on, a further byte would make a number of more than 128 bits.
-const MOST: u128 = 1_329_227_995_784_915_872_903_807_060_280_344_576;
-
-// The number of a name, if it is short: a 1 and then its bytes, to the base 256.
-fn number_of(name: &str) -> Option<u128>
-    ensures some { IfSome result (λ k. (is_short name.now ≡ true) × (k ≡ number name.now)) }
-    ensures none { IsNone result → is_short name.now ≡ false }
+// The entry of a short name, by a search. Not inlined, so that a look-up without a search is short.
+#[inline(never)]
+fn find_short<X: Copy>(short: &BTreeMap<u128, X>, number: u128) -> Option<&X>
+    ensures { option_copied result ≡ find number short.now.entries }
 {
-    let mut number: u128 = 1;
-    for byte in name.as_bytes() {
-        if number >= MOST {
-            return None;
-        }
-        number = number * 256 + u128::from(*byte);
+    short.get(&number)
+}
+
+// The entry of another name.
+#[inline(never)]
+fn find_long<'t, X: Copy>(long: &'t BTreeMap<String, X>, name: &str) -> Option<&'t X>
+    ensures { option_copied result ≡ get_by_text long.now name.now }
+{
+    long.get(name)
+}
+
+// Gives the number of a short name its entry.
+fn put_short<X: Copy>(
+    short: &mut BTreeMap<u128, X>,
+    near: &mut Near<X>,
+    number: u128,
+    entry: X,
+) -> Result<(), AllocError>
+    requires { AreIn short.old.entries near.old.entries.items }
+    ensures ok { OnOk result (Updates nat_cmp short.old short.new number (Some entry)) }
+    ensures err { OnErr result (short.new.entries ≡ short.old.entries) }
+    ensures near { AreIn short.new.entries near.new.entries.items }
+{
+    near.make_room()?;
+    match short.insert(number, entry)? {
+        None => near.remember(number, entry),
+        Some(_) => near.forget(),
     }
-    Some(number)
+    Ok(())
 }
 
 impl<X: Copy> Table<X> {
@@ -63,6 +94,7 @@ impl<X: Copy> Table<X> {
         Table {
             short: BTreeMap::new(alloc),
             long: BTreeMap::new(alloc),
+            near: Near::new(alloc),
         }
     }
 
@@ -70,9 +102,19 @@ impl<X: Copy> Table<X> {
     pub fn get(&self, name: &str) -> Option<X>
         ensures { result ≡ map.get self.now name.now }
     {
+        self.find(name).copied()
+    }
+
+    /// The entry of a name, in the table.
+    pub fn find(&self, name: &str) -> Option<&X>
+        ensures { option_copied result ≡ map.get self.now name.now }
+    {
         match number_of(name) {
-            Some(number) => self.short.get(&number).copied(),
-            None => self.long.get(name).copied(),
+            Some(number) => match self.near.find(number) {
+                Some(entry) => Some(entry),
+                None => find_short(&self.short, number),
+            },
+            None => find_long(&self.long, name),
         }
     }
 
@@ -82,9 +124,11 @@ impl<X: Copy> Table<X> {
         ensures err { OnErr result (self.new ≡ self.old) }
     {
         match number_of(name) {
-            Some(number) => self.short.insert(number, entry)?,
-            None => self.long.insert(String::from_str(alloc, name)?, entry)?,
-        };
+            Some(number) => put_short(&mut self.short, &mut self.near, number, entry)?,
+            None => {
+                self.long.insert(String::from_str(alloc, name)?, entry)?;
+            }
+        }
         Ok(())
     }
 

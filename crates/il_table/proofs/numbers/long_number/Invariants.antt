@@ -1,6 +1,6 @@
 use Rattle.std.proofs.Common.{◌≡◌, ◌≤◌, ◌<◌, ◌^◌, drop}
 use Rattle.il_table.specs.Numbers.{appended, number, are_bytes}
-use Rattle.il_table.proofs.number_of.Given as goal
+use Rattle.il_table.proofs.numbers.long_number.Given as goal
 
 -- the number so far, with the bytes that are left, is that of the name
 abbrev pub invariant-loop-byte : goal.invariant-loop-byte

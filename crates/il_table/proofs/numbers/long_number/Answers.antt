@@ -1,6 +1,6 @@
 use Rattle.std.proofs.Common.{arith}
 use Rattle.il_table.proofs.ByText.{too_long}
-use Rattle.il_table.proofs.number_of.Goals as goal
+use Rattle.il_table.proofs.numbers.long_number.Goals as goal
 
 pub returns-then-number-ge-MOST-clause-none : goal.returns-then-number-ge-MOST-clause-none
 returns-then-number-ge-MOST-clause-none c = λ _.
