@@ -1,5 +1,5 @@
 -- A text that has no tokens has a first lexical error.
-use Rattle.std.proofs.Common.{◌≡◌, ◌≢◌, ℕ, ℤ, pos, negsuc, zero, suc, ◌+◌, ◌-◌, ◌<◌, ◌≤◌, Bool, true, false, List, [], ◌∷◌, ◌++◌, length, take, drop, arith, sym, ap, refl, subst, ◌∙◌, ◌⊎◌, inl, inr, cond, Option, Some, None, drop-cons}
+use Rattle.std.proofs.Common.{◌≡◌, ◌≢◌, ℕ, ℤ, pos, negsuc, zero, suc, ◌+◌, ◌-◌, ◌<◌, ◌≤◌, Bool, true, false, List, [], ◌∷◌, ◌++◌, length, arith, sym, ap, refl, subst, ◌∙◌, ◌⊎◌, inl, inr, cond, Option, Some, None}
 use Rattle.std.specs.Prelude.{◌==◌, ◌||◌, ◌&&◌, not, if◌then◌else◌, slice_range, nat_abs, ◌≤ℤ◌, IsTrue, option_map, codes, bytes_eq}
 use Rattle.std.specs.Char.{is_ascii_digit}
 use Rattle.std.proofs.str.Laws.{order}
@@ -28,7 +28,7 @@ use Rattle.il_text.proofs.Literals.{no_whole_literal, no_duration, duration_uppe
 use Rattle.il_text.proofs.Lexemes.{only_words, only_numbers, only_signs, lexeme_within}
 use Rattle.il_text.proofs.Signs.{sign_from, sign_is}
 use Rattle.std.proofs.lemmas.List.{get_or_past}
-use Rattle.il_text.proofs.Places.{in_text}
+use Rattle.il_text.proofs.Places.{in_text, slice_one, slice_two}
 use Rattle.il_text.proofs.Blanks.{opened, blank_within}
 use Rattle.il_text.proofs.ErrorLaws.{no_piece_at_comment}
 use Rattle.il_text.proofs.FirstError.{done_blank, done_token}
@@ -62,7 +62,7 @@ first_failing test (suc n) i = here (test i) refl (first_failing test n (i + 1))
     )
 
 -- a byte of the text's end is none of a comment's inside, and closes none
-past_inside : (text : List ℕ) (k : ℕ) → length text ≤ k → is_inside_comment text k ≡ false
+pub past_inside : (text : List ℕ) (k : ℕ) → length text ≤ k → is_inside_comment text k ≡ false
 past_inside text k past = rw (get_or_past text k 0 past) refl
 
 pub past_closing : (text : List ℕ) (k : ℕ) → length text ≤ k → closes_comment text k ≡ false
@@ -134,17 +134,6 @@ comment_or_error text i o = decide (closes_comment text stop.0) refl
 one_of : (t : Bool) (x s : Sign) (rest : Option Sign) → cond t (Some x) rest ≡ Some s → ((t ≡ true) × (x ≡ s)) ⊎ ((t ≡ false) × (rest ≡ Some s))
 one_of true x s rest h = inl (refl, cc)
 one_of false x s rest h = inr (refl, h)
-
-slice_one : (text : List ℕ) (i : ℕ) → i < length text → slice_range text i (i + 1) ≡ byte_at text i ∷ []
-slice_one text i h =
-    let n : i + 1 - i ≡ 1 = omega arith in
-    ap (λ x. take x (drop i text)) n ∙ ap (take 1) (drop-cons text i 0 h)
-
-slice_two : (text : List ℕ) (i : ℕ) → i + 1 < length text → slice_range text i (i + 2) ≡ byte_at text i ∷ byte_at text (i + 1) ∷ []
-slice_two text i h =
-    let n : i + 2 - i ≡ 2 = omega arith in
-    let s : suc i ≡ i + 1 = omega arith in
-    ap (λ x. take x (drop i text)) n ∙ ap (take 2) (drop-cons text i 0 (omega arith) ∙ ap (λ x. byte_at text i ∷ x) (ap (λ x. drop x text) s ∙ drop-cons text (i + 1) 0 h))
 
 -- a sign of one byte, and of two
 short_lexeme : (text : List ℕ) (i a : ℕ) (s : Sign) → length (sign_bytes s) ≡ 1 → sign_bytes s ≡ a ∷ [] → byte_at text i ≡ a → a ≢ 0 → goes_on s (byte_at text (i + 1)) ≡ false → IsLexeme text (Signed s) i (i + 1)

@@ -10,6 +10,7 @@ pub mod Places
 mod Signs
 pub mod Lexemes
 pub mod Blanks
+mod Feeds
 pub mod Cut
 pub mod Names
 pub mod Steps

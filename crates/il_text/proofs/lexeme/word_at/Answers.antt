@@ -23,10 +23,13 @@ returns-then-byte_at-eq35-clause-found c =
     (sym c.byte_at.ensures ∙ c.if-byte_at-eq35.true) (c.literal_end-literal_end.ensures.longest ∙ ap (run_end is_literal_byte c.args.text.now) c.after_minus.ensures.place) c.in_ok-literal.ensures.found
 
 pub is_identifier_at-requires : goal.is_identifier_at-requires
-is_identifier_at-requires c = (
-  omega (arith, c.word_end-end.ensures.longest, run_some is_word_byte c.args.text.now c.args.at c.requires.inside (word_is_word (byte_at c.args.text.now c.args.at) c.requires.begins)),
-  c.word_end-end.ensures.within,
-)
+is_identifier_at-requires c = record {
+  inside = (
+    omega (arith, c.word_end-end.ensures.longest, run_some is_word_byte c.args.text.now c.args.at c.requires.inside (word_is_word (byte_at c.args.text.now c.args.at) c.requires.begins)),
+    c.word_end-end.ensures.within,
+  );
+  pass = c.seen_end-seen.ensures.pass;
+}
 
 pub returns-in_err-literal-clause-error : goal.returns-in_err-literal-clause-error
 returns-in_err-literal-clause-error c =
