@@ -24,7 +24,7 @@ use Rattle.il_spec.specs.declared.tree.Elementary.TheVariants.{Time as Duration}
 use Rattle.il_spec.specs.declared.tree.Literal.{Literal}
 use Rattle.il_spec.specs.declared.tree.Literal.TheVariants.{Truth, Bare, Whole, Time}
 use Rattle.il_spec.specs.ElementaryTypes.{LiesIn, limits, IsValueOf}
-use Rattle.il_text.proofs.Literals.{no_whole_literal, no_duration, duration_upper, no_typed_lexeme, upper_part}
+use Rattle.il_text.proofs.Literals.{no_whole_literal, no_duration, no_typed_lexeme}
 use Rattle.il_text.proofs.Lexemes.{only_words, only_numbers, only_signs, lexeme_within}
 use Rattle.il_text.proofs.Signs.{sign_from, sign_is}
 use Rattle.std.proofs.lemmas.List.{get_or_past}
@@ -264,11 +264,11 @@ typed_or word bytes = whole (entry_of whole_type_words word) refl (entry_of dura
     ]
 
     time : entry_of duration_words word ≡ Some Duration → (o : Option ℤ) → option_map pos (duration_value bytes) ≡ o → ((l : Literal) × IsTyped word bytes l) ⊎ ((l : Literal) → IsTyped word bytes l → ⊥)
-    time is None none = inr (no_duration word bytes (upper_case bytes) refl is (λ v some good. let bad : None ≡ Some v = sym none ∙ ap (option_map pos) (sym (duration_upper bytes)) ∙ some in cc))
+    time is None none = inr (no_duration word bytes is (λ v some good. let bad : None ≡ Some v = sym none ∙ some in cc))
     time is (Some v) some = elim (value_or Duration v) [
       | inl good ↦ inl (Time v, (is, some, good))
-      | inr bad ↦ inr (no_duration word bytes (upper_case bytes) refl is (λ w other good.
-          let e : Some v ≡ Some w = sym some ∙ ap (option_map pos) (sym (duration_upper bytes)) ∙ other in let same : w ≡ v = cc in bad (subst (IsValueOf Duration) same good)))
+      | inr bad ↦ inr (no_duration word bytes is (λ w other good.
+          let e : Some v ≡ Some w = sym some ∙ other in let same : w ≡ v = cc in bad (subst (IsValueOf Duration) same good)))
     ]
 
     neither : entry_of whole_type_words word ≡ None → entry_of duration_words word ≡ None → (l : Literal) → IsTyped word bytes l → ⊥
@@ -304,8 +304,8 @@ word_or text i begins = go (cases_Bool (byte_at text (run_end is_word_byte text 
     typed_there hashed (inl l) = inl (Typed l.0, (run_end is_literal_byte text (after_minus text (run_end is_word_byte text i + 1)), (run_end is_word_byte text i, begins, refl, hashed, refl, l.1)))
     typed_there hashed (inr none) = inr (only_words text i begins
         (λ j h. let e : byte_at text j ≡ 35 = ap (byte_at text) h.1 ∙ hashed in let t : (byte_at text j == hash) ≡ true = ap (λ b. b == hash) e in let f : (byte_at text j == hash) ≡ false = h.2 in cc)
-        (λ l m h. no_typed_lexeme text (upper_case text) i (run_end is_word_byte text i) (run_end is_literal_byte text (after_minus text (run_end is_word_byte text i + 1))) refl refl refl
-        (λ k w. none k (subst (λ x. IsTyped x (slice_range text (run_end is_word_byte text i + 1) (run_end is_literal_byte text (after_minus text (run_end is_word_byte text i + 1)))) k) (upper_part text (upper_case text) i (run_end is_word_byte text i) refl) w)) l m h))
+        (λ l m h. no_typed_lexeme text i (run_end is_word_byte text i) (run_end is_literal_byte text (after_minus text (run_end is_word_byte text i + 1))) refl refl
+        none l m h))
 
     no_literal : (byte_at text (run_end is_word_byte text i) == hash) ≡ false → (l : Literal) (m : ℕ) → IsLexeme text (Typed l) i m → ⊥
     no_literal apart l m h = let e : (byte_at text (run_end is_word_byte text i) == hash) ≡ true = ap (λ x. byte_at text x == hash) (sym h.2) ∙ ap (λ b. b == hash) h.3 in cc

@@ -5,6 +5,7 @@ mod Runs
 mod Capped
 mod Numbers
 mod Durations
+mod Cases
 mod Literals
 pub mod Places
 mod Signs

@@ -1,8 +1,8 @@
 // Bytes, and the runs that they make.
 
-ghost use Rattle.std.specs.Prelude.{◌≡◌, ◌≤◌, length};
+ghost use Rattle.std.specs.Prelude.{◌≡◌, ◌≤◌, length, bytes_eq};
 ghost use Rattle.std.specs.Char.{is_ascii_alphanumeric};
-ghost use Rattle.il_spec.specs.Text.{byte_at, begins_word, is_word_byte, is_literal_byte, run_end, after_minus};
+ghost use Rattle.il_spec.specs.Text.{byte_at, begins_word, is_word_byte, is_literal_byte, run_end, after_minus, upper_case};
 ghost use Rattle.il_text.specs.Lanes.{AllPassBetween};
 ghost use Rattle.il_text.specs.Pieces.{count_feeds};
 
@@ -22,6 +22,23 @@ pub(crate) fn begins_word(byte: u8) -> bool
     ensures { result ≡ begins_word byte }
 {
     byte.is_ascii_alphabetic() || byte == b'_'
+}
+
+/// Whether these bytes in upper case are those.
+pub(crate) fn is_in_upper_case(bytes: &[u8], upper: &[u8]) -> bool
+    ensures { result ≡ bytes_eq (upper_case bytes.now) upper.now }
+{
+    if bytes.len() != upper.len() {
+        return false;
+    }
+    let mut at = 0;
+    'bytes: while at < bytes.len() {
+        if bytes[at].to_ascii_uppercase() != upper[at] {
+            return false;
+        }
+        at += 1;
+    }
+    true
 }
 
 // Whether this byte goes on with a word.

@@ -75,12 +75,11 @@ pub fn tokens(alloc: Global, text: &[u8]) -> Result<Vec<Token>, Refusal>
             line: 1,
         });
     }
-    let upper = text.to_ascii_uppercase(alloc)?;
     let mut found = Vec::with_capacity(alloc, text.len() / BYTES_OF_TOKEN)?;
     let mut line = 1;
     let mut at = 0;
     'pieces: while at < text.len() {
-        let Stretch { piece, end, feeds } = match piece_at(text, &upper, at) {
+        let Stretch { piece, end, feeds } = match piece_at(text, at) {
             Ok(stretch) => stretch,
             Err(misread) => return Err(refusal(text, at, line, misread)),
         };

@@ -1,7 +1,6 @@
 // Pieces of a text: tokens, and the blanks between them (IEC 61131-3:2003, 2.1.4).
 
 ghost use Rattle.std.specs.Prelude.{◌≡◌, ◌<◌, ◌≤◌, length, slice_range, IfOk, IfErr};
-ghost use Rattle.il_spec.specs.Text.{upper_case};
 ghost use Rattle.il_text.specs.Pieces.{IsPiece, HasNoPiece, feeds_of, count_feeds};
 ghost use Rattle.il_text.specs.LexicalErrors.{IsErrorAt};
 
@@ -39,9 +38,8 @@ fn feeds_of(kind: Kind) -> usize
 }
 
 /// The piece at `at`. Line feeds and spaces are told first, as most pieces but words are these.
-pub(crate) fn piece_at(text: &[u8], upper: &[u8], at: usize) -> Result<Stretch, Misread>
-    requires inside { at < length text.now }
-    requires upper { upper.now ≡ upper_case text.now }
+pub(crate) fn piece_at(text: &[u8], at: usize) -> Result<Stretch, Misread>
+    requires { at < length text.now }
     ensures within { IfOk result (λ r. at < r.end × r.end ≤ length text.now) }
     ensures found { IfOk result (λ r. IsPiece text.now r.piece at r.end) }
     ensures feeds { IfOk result (λ r. r.feeds ≡ count_feeds (slice_range text.now at r.end)) }
@@ -72,7 +70,7 @@ pub(crate) fn piece_at(text: &[u8], upper: &[u8], at: usize) -> Result<Stretch, 
             feeds,
         });
     }
-    match lexeme_at(text, upper, at) {
+    match lexeme_at(text, at) {
         Ok((kind, end)) => Ok(Stretch {
             piece: Piece::Token(kind),
             end,
