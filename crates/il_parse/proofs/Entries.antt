@@ -29,7 +29,7 @@ use Rattle.il_read.proofs.Leaves.{word_lead, sign_lead, the_name_lead}
 use Rattle.il_read.proofs.Chain.{HasRead, goes_on, ended}
 use Rattle.il_read.specs.Settings.{TakesWord}
 use Rattle.il_read.proofs.Nesting.{IsOpen, one_open, closed}
-use Rattle.il_parse.specs.Bodies.{closes_lead, leaves_lead, loads_lead, may_begin, bare, SpellsPlaced, HasLabels, TakesEnd, SpellsNext, IsLast, SpellsSteps}
+use Rattle.il_parse.specs.Bodies.{closes_lead, leaves_lead, ends_lead, loads_lead, may_begin, bare, SpellsPlaced, HasLabels, TakesEnd, SpellsNext, IsLast, SpellsSteps}
 use Rattle.il_parse.specs.declared.bodies.Entry.{Entry}
 use Rattle.il_parse.specs.declared.bodies.Entry.TheVariants as entry
 
@@ -45,6 +45,13 @@ last_none word.EndFunction is = refl
 last_none word.EndFunctionBlock is = refl
 last_none word.EndProgram is = refl
 last_none k is = absurd is
+
+-- it begins as such a word
+last_ends : (k : Keyword) → IsLast k → ends_lead (lead.Reserved k) ≡ true
+last_ends word.EndFunction is = refl
+last_ends word.EndFunctionBlock is = refl
+last_ends word.EndProgram is = refl
+last_ends k is = absurd is
 
 -- a successor is not zero
 not_zero : (d : ℕ) → (suc d == 0) ≡ false
@@ -129,6 +136,15 @@ module _ (text : List ℕ) where
   pub end_taken : (last : Keyword) (alone : Bool) (ts r : List Token) (o : Option Place) → IsTrue alone → TakesWord text last ts o r → TakesEnd text last alone ts o r
   end_taken last alone ts r (Some p) is w = (is, w)
   end_taken last alone ts r None is w = (w.0, λ p q at _. w.1 q (at_holds text (TheWord text last) p ts q at))
+
+  pub no_end : (last : Keyword) (alone : Bool) (ts : List Token) (l : Lead) → IsLast last → l ≡ lead_at text ts → ends_lead l ≡ false → TakesEnd text last alone ts None ts
+  no_end last alone ts l ends begins other = (
+    refl,
+    λ p q at is.
+        let here : l ≡ lead.Reserved last = begins ∙ word_lead text last ts q (at_holds text (TheWord text last) p ts q at) in
+        let yes : ends_lead l ≡ true = ap ends_lead here ∙ last_ends last ends in
+        cc,
+  )
 
   pub end_out : (last : Keyword) (alone : Bool) (ts : List Token) → alone ≡ false → TakesEnd text last alone ts None ts
   end_out last alone ts off = (refl, λ p q at is. let bad : alone ≡ true = is in cc)

@@ -27,6 +27,13 @@ leaves_lead (lead.Reserved (word.Return condition)) = true
 leaves_lead (lead.Reserved (word.Call condition)) = true
 leaves_lead _ = false
 
+-- whether a word that ends a body begins so
+abbrev pub ends_lead : Lead → Bool
+ends_lead (lead.Reserved word.EndFunction) = true
+ends_lead (lead.Reserved word.EndFunctionBlock) = true
+ends_lead (lead.Reserved word.EndProgram) = true
+ends_lead _ = false
+
 -- whether a load begins so
 abbrev pub loads_lead : Lead → Bool
 loads_lead (lead.Reserved (word.Load negated)) = true

@@ -5,7 +5,7 @@ ghost use Rattle.il_spec.specs.Grammar.{TheLineEnd, depth_after, needs_load};
 ghost use Rattle.il_read.specs.Lead.{lead_at};
 ghost use Rattle.il_read.specs.Reads.{Reads, Refuses, Eats};
 ghost use Rattle.il_read.specs.declared.stop.Stop.TheVariants.{Memory};
-ghost use Rattle.il_parse.specs.Bodies.{closes_lead, leaves_lead, loads_lead, may_begin, SpellsPlaced, HasLabels, TakesEnd, SpellsNext, Shortens, IsLast, SpellsSteps, SpellsSmallBody};
+ghost use Rattle.il_parse.specs.Bodies.{closes_lead, leaves_lead, ends_lead, loads_lead, may_begin, SpellsPlaced, HasLabels, TakesEnd, SpellsNext, Shortens, IsLast, SpellsSteps, SpellsSmallBody};
 
 use il_read::{Lead, Source, Stop, SyntaxError, Tokens};
 use il_spec::keyword::Keyword;
@@ -36,6 +36,17 @@ fn leaves(lead: Lead) -> bool
 {
     match lead {
         Lead::Reserved(Keyword::Jump(_) | Keyword::Return(_) | Keyword::Call(_)) => true,
+        _ => false,
+    }
+}
+
+// Whether a word that ends a body begins so.
+fn ends(lead: Lead) -> bool
+    ensures { result ≡ ends_lead lead }
+{
+    match lead {
+        Lead::Reserved(Keyword::EndFunction | Keyword::EndFunctionBlock | Keyword::EndProgram) =>
+            true,
         _ => false,
     }
 }
@@ -153,7 +164,7 @@ fn labels(source: &Source, tokens: &mut Tokens) -> Result<(Items<Named>, bool), 
     Ok((labels, true))
 }
 
-// The word that ends the body, where it may stand and the tokens begin so.
+// The word that ends the body, where it may stand and the tokens begin so. Most begin an instruction, which is told first.
 #[inline(always)]
 fn eat_end(
     source: &Source,
@@ -162,10 +173,14 @@ fn eat_end(
     last: Keyword,
     alone: bool,
 ) -> Option<Place>
-    requires { lead ≡ lead_at source.now tokens.old }
+    requires last { IsLast last }
+    requires lead { lead ≡ lead_at source.now tokens.old }
     ensures takes { TakesEnd source.now last alone tokens.old result tokens.new }
     ensures shorter { length tokens.new ≤ length tokens.old }
 {
+    if !ends(lead) {
+        return None;
+    }
     if !alone {
         return None;
     }
@@ -181,6 +196,7 @@ fn outer(
     load: bool,
     full: bool,
 ) -> Result<Entry, Stop>
+    requires { IsLast last }
     ensures reads { IfOk result (λ x. Reads (SpellsNext source.now last 0 load full) tokens.old x
         tokens.new) }
     ensures refused { IfErr result (λ e. Refuses (SpellsNext source.now last 0 load full)
@@ -210,7 +226,8 @@ fn next_entry(
     load: bool,
     full: bool,
 ) -> Result<Entry, Stop>
-    requires { depth ≤ 16 }
+    requires depth { depth ≤ 16 }
+    requires last { IsLast last }
     ensures reads { IfOk result (λ x. Reads (SpellsNext source.now last depth load full)
         tokens.old x tokens.new) }
     ensures refused { IfErr result (λ e. Refuses (SpellsNext source.now last depth load full)

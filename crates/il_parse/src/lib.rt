@@ -2,7 +2,7 @@
 #![tactic(auto)]
 
 ghost use Rattle.std.specs.Prelude.{◌≡◌, ◌≤◌, length, IfOk, IfErr, []};
-ghost use Rattle.il_spec.specs.Text.{AreTokens};
+ghost use Rattle.il_spec.specs.Text.{AreTokens, upper_case};
 ghost use Rattle.il_spec.specs.Grammar.{AfterLines, SpellsConfig, Spells, IsWithinLimits};
 ghost use Rattle.il_spec.specs.declared.tree.Config.{Config};
 ghost use Rattle.il_read.specs.Reads.{Reads, Refuses};
@@ -27,7 +27,7 @@ pub use il_spec::token::Token;
 use il_spec::tree::Config;
 pub use insides::{block_inside, function_inside, program_inside};
 pub use one_unit::unit;
-use std::alloc::Global;
+use std::alloc::{AllocError, Global};
 pub use variables::{comes, externals, filled_list, full_list, no_list, optional_list};
 
 /// The configuration that the tokens of a text spell.
@@ -72,9 +72,20 @@ fn read(alloc: Global, text: &[u8], tokens: &[Token]) -> Result<Config, Stop>
     ensures reads { IfOk result (λ c. Reads (SpellsSmallConfig text.now) tokens.now c []) }
     ensures refused { IfErr result (λ e. Refuses (SpellsSmallConfig text.now) tokens.now e) }
 {
-    let upper = text.to_ascii_uppercase(alloc)?;
+    let upper = in_upper_case(alloc, text)?;
     let source = Source::new(alloc, text, &upper);
     configuration(&source, &mut Tokens::new(tokens))
+}
+
+// A text in upper case. Its bytes are written once; std copies them and goes over the copy.
+fn in_upper_case(alloc: Global, text: &[u8]) -> Result<Vec<u8>, AllocError>
+    ensures { IfOk result (λ v. v.items ≡ upper_case text.now) }
+{
+    let mut upper = Vec::with_capacity(alloc, text.len())?;
+    for byte in text {
+        upper.push_reserved(byte.to_ascii_uppercase());
+    }
+    Ok(upper)
 }
 
 // The line of the end of the text.

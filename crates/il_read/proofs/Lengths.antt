@@ -1,5 +1,5 @@
 -- A reserved word, looked for among those of its length.
-use Rattle.std.proofs.Common.{◌≡◌, ℕ, zero, suc, List, [], ◌∷◌, length, Bool, true, false, ◌&&◌, eqb, Some, refl, ap}
+use Rattle.std.proofs.Common.{◌≡◌, ℕ, zero, suc, List, [], ◌∷◌, length, Bool, true, false, ◌&&◌, eqb, Some, None, refl, ap}
 use Rattle.std.specs.Prelude.{bytes_eq, ◌==◌, if◌then◌else◌}
 use Rattle.il_spec.specs.Text.{entry_of}
 use Rattle.il_spec.specs.Words.{reserved_words, keyword_of}
@@ -72,6 +72,10 @@ four_letters w n = kept_same (λ k. k == 4) reserved_words w (rw n refl)
 pub five_letters : (w : List ℕ) → length w ≡ 5 → entry_of five_letter_words w ≡ keyword_of w
 unfolding keyword_of
 five_letters w n = kept_same (λ k. k == 5) reserved_words w (rw n refl)
+
+pub six_letters : (w : List ℕ) → length w ≡ 6 → None ≡ keyword_of w
+unfolding keyword_of entry_of
+six_letters w n = kept_same (λ k. k == 6) reserved_words w (rw n refl)
 
 pub other_letters : (w : List ℕ) → (length w ≡ 1 → ⊥) → (length w ≡ 2 → ⊥) → (length w ≡ 3 → ⊥) → (length w ≡ 4 → ⊥) → (length w ≡ 5 → ⊥) → entry_of longer_words w ≡ keyword_of w
 unfolding keyword_of

@@ -14,8 +14,7 @@ use Rattle.std.proofs.lemmas.Slice.Eq.{bytes_eq-Decides}
 use Rattle.std.proofs.Math.Nat.{mul-le-mul_right, le-mul_of_pos_right, min-le_left}
 use mir.Val.{to_z}
 use mir.Syntax.{w64}
-use Rattle.il_spec.specs.Text.{parts_value, duration_units}
-use Rattle.il_text.specs.Pieces.{upper_duration_value}
+use Rattle.il_spec.specs.Text.{parts_value, duration_units, duration_value, upper_case}
 
 -- the digits at the front are digits
 pub front_digits : (bytes : List ℕ) (d k : ℕ) → d ≡ prefix_len is_ascii_digit bytes → d ≤ length bytes → k < length (take d bytes) → is_ascii_digit (get_or (take d bytes) k 0) ≡ true
@@ -87,14 +86,14 @@ module _ (a b c d e f : List ℕ) (v w x y z : ℕ)
       five_parts ∙ ap (λ t. option_map (λ n. v * 86400000 + n) (option_map (λ n. w * 3600000 + n) (option_map (λ n. x * 60000 + n) (option_map (λ n. y * 1000 + n) (option_map (λ n. z * 1 + n) (if t then Some 0 else None)))))) h
 
 -- a duration without a byte
-pub no_bytes : (a : List ℕ) → (length a == 0) ≡ true → upper_duration_value a ≡ None
-unfolding upper_duration_value
-no_bytes a h = ap (λ t. if t then None else parts_value duration_units a) h
+pub no_bytes : (a : List ℕ) → (length a == 0) ≡ true → duration_value a ≡ None
+unfolding duration_value
+no_bytes a h = ap (λ t. if t then None else parts_value duration_units (upper_case a)) h
 
 -- another
-pub some_bytes : (a : List ℕ) → (length a == 0) ≡ false → upper_duration_value a ≡ parts_value duration_units a
-unfolding upper_duration_value
-some_bytes a h = ap (λ t. if t then None else parts_value duration_units a) h
+pub some_bytes : (a : List ℕ) → (length a == 0) ≡ false → duration_value a ≡ parts_value duration_units (upper_case a)
+unfolding duration_value
+some_bytes a h = ap (λ t. if t then None else parts_value duration_units (upper_case a)) h
 
 -- a part that is not capped
 uncapped : (x unit a : ℕ) → 1 ≤ unit → a ≡ min x 2147483648 * unit → a ≤ 2147483647 → a ≡ x * unit

@@ -7,7 +7,6 @@ use Rattle.il_text.specs.declared.piece.Piece.TheVariants.{Blank, Token}
 use Rattle.il_text.specs.Pieces.{HasNoPiece}
 use Rattle.il_text.specs.LexicalErrors.{form_or_size, error_behind, typed_error, lexeme_error}
 use Rattle.il_text.proofs.Lexemes.{no_type}
-use Rattle.il_text.proofs.Literals.{upper_part}
 use Rattle.il_text.proofs.Blanks.{no_lexeme_at_comment, space_is_no_comment}
 
 -- a mapped value is there where the value is
@@ -21,12 +20,11 @@ typed_duration word bytes h =
     ap (λ o. error_behind o (entry_of duration_words word) bytes) (no_type word h) ∙ ap (λ o. error_behind None o bytes) h
 
 -- `#` behind a word
-pub literal_error : (text upper : List ℕ) (i k j : ℕ) → upper ≡ upper_case text → begins_word (byte_at text i) ≡ true → k ≡ run_end is_word_byte text i → byte_at text k ≡ 35
-    → j ≡ run_end is_literal_byte text (after_minus text (k + 1)) → typed_error (slice_range upper i k) (slice_range text (k + 1) j) ≡ lexeme_error text i
-literal_error text upper i k j is begins run hashed end =
+pub literal_error : (text : List ℕ) (i k j : ℕ) → begins_word (byte_at text i) ≡ true → k ≡ run_end is_word_byte text i → byte_at text k ≡ 35
+    → j ≡ run_end is_literal_byte text (after_minus text (k + 1)) → typed_error (upper_case (slice_range text i k)) (slice_range text (k + 1) j) ≡ lexeme_error text i
+literal_error text i k j begins run hashed end =
     let test : (byte_at text (run_end is_word_byte text i) == hash) ≡ true = ap (λ x. byte_at text x == hash) (sym run) ∙ ap (λ b. b == hash) hashed in
-    let words = upper_part text upper i k is in
-    rw (begins, test, words, end, run) refl
+    rw (begins, test, end, run) refl
 
 -- where a comment opens and none stands, nothing begins
 pub no_piece_at_comment : (text : List ℕ) (i : ℕ) → opens_comment text i ≡ true → ((end : ℕ) → IsComment text i end → ⊥) → HasNoPiece text i

@@ -1,5 +1,5 @@
 -- A text that has no tokens has a first lexical error.
-use Rattle.std.proofs.Common.{◌≡◌, ◌≢◌, ℕ, ℤ, pos, negsuc, zero, suc, ◌+◌, ◌-◌, ◌<◌, ◌≤◌, Bool, true, false, List, [], ◌∷◌, ◌++◌, length, take, drop, arith, sym, ap, refl, subst, ◌∙◌, ◌⊎◌, inl, inr, cond, Option, Some, None, drop-cons}
+use Rattle.std.proofs.Common.{◌≡◌, ◌≢◌, ℕ, ℤ, pos, negsuc, zero, suc, ◌+◌, ◌-◌, ◌<◌, ◌≤◌, Bool, true, false, List, [], ◌∷◌, ◌++◌, length, arith, sym, ap, refl, subst, ◌∙◌, ◌⊎◌, inl, inr, cond, Option, Some, None}
 use Rattle.std.specs.Prelude.{◌==◌, ◌||◌, ◌&&◌, not, if◌then◌else◌, slice_range, nat_abs, ◌≤ℤ◌, IsTrue, option_map, codes, bytes_eq}
 use Rattle.std.specs.Char.{is_ascii_digit}
 use Rattle.std.proofs.str.Laws.{order}
@@ -24,11 +24,11 @@ use Rattle.il_spec.specs.declared.tree.Elementary.TheVariants.{Time as Duration}
 use Rattle.il_spec.specs.declared.tree.Literal.{Literal}
 use Rattle.il_spec.specs.declared.tree.Literal.TheVariants.{Truth, Bare, Whole, Time}
 use Rattle.il_spec.specs.ElementaryTypes.{LiesIn, limits, IsValueOf}
-use Rattle.il_text.proofs.Literals.{no_whole_literal, no_duration, duration_upper, no_typed_lexeme, upper_part}
+use Rattle.il_text.proofs.Literals.{no_whole_literal, no_duration, no_typed_lexeme}
 use Rattle.il_text.proofs.Lexemes.{only_words, only_numbers, only_signs, lexeme_within}
 use Rattle.il_text.proofs.Signs.{sign_from, sign_is}
 use Rattle.std.proofs.lemmas.List.{get_or_past}
-use Rattle.il_text.proofs.Places.{in_text}
+use Rattle.il_text.proofs.Places.{in_text, slice_one, slice_two}
 use Rattle.il_text.proofs.Blanks.{opened, blank_within}
 use Rattle.il_text.proofs.ErrorLaws.{no_piece_at_comment}
 use Rattle.il_text.proofs.FirstError.{done_blank, done_token}
@@ -62,7 +62,7 @@ first_failing test (suc n) i = here (test i) refl (first_failing test n (i + 1))
     )
 
 -- a byte of the text's end is none of a comment's inside, and closes none
-past_inside : (text : List ℕ) (k : ℕ) → length text ≤ k → is_inside_comment text k ≡ false
+pub past_inside : (text : List ℕ) (k : ℕ) → length text ≤ k → is_inside_comment text k ≡ false
 past_inside text k past = rw (get_or_past text k 0 past) refl
 
 pub past_closing : (text : List ℕ) (k : ℕ) → length text ≤ k → closes_comment text k ≡ false
@@ -134,17 +134,6 @@ comment_or_error text i o = decide (closes_comment text stop.0) refl
 one_of : (t : Bool) (x s : Sign) (rest : Option Sign) → cond t (Some x) rest ≡ Some s → ((t ≡ true) × (x ≡ s)) ⊎ ((t ≡ false) × (rest ≡ Some s))
 one_of true x s rest h = inl (refl, cc)
 one_of false x s rest h = inr (refl, h)
-
-slice_one : (text : List ℕ) (i : ℕ) → i < length text → slice_range text i (i + 1) ≡ byte_at text i ∷ []
-slice_one text i h =
-    let n : i + 1 - i ≡ 1 = omega arith in
-    ap (λ x. take x (drop i text)) n ∙ ap (take 1) (drop-cons text i 0 h)
-
-slice_two : (text : List ℕ) (i : ℕ) → i + 1 < length text → slice_range text i (i + 2) ≡ byte_at text i ∷ byte_at text (i + 1) ∷ []
-slice_two text i h =
-    let n : i + 2 - i ≡ 2 = omega arith in
-    let s : suc i ≡ i + 1 = omega arith in
-    ap (λ x. take x (drop i text)) n ∙ ap (take 2) (drop-cons text i 0 (omega arith) ∙ ap (λ x. byte_at text i ∷ x) (ap (λ x. drop x text) s ∙ drop-cons text (i + 1) 0 h))
 
 -- a sign of one byte, and of two
 short_lexeme : (text : List ℕ) (i a : ℕ) (s : Sign) → length (sign_bytes s) ≡ 1 → sign_bytes s ≡ a ∷ [] → byte_at text i ≡ a → a ≢ 0 → goes_on s (byte_at text (i + 1)) ≡ false → IsLexeme text (Signed s) i (i + 1)
@@ -275,11 +264,11 @@ typed_or word bytes = whole (entry_of whole_type_words word) refl (entry_of dura
     ]
 
     time : entry_of duration_words word ≡ Some Duration → (o : Option ℤ) → option_map pos (duration_value bytes) ≡ o → ((l : Literal) × IsTyped word bytes l) ⊎ ((l : Literal) → IsTyped word bytes l → ⊥)
-    time is None none = inr (no_duration word bytes (upper_case bytes) refl is (λ v some good. let bad : None ≡ Some v = sym none ∙ ap (option_map pos) (sym (duration_upper bytes)) ∙ some in cc))
+    time is None none = inr (no_duration word bytes is (λ v some good. let bad : None ≡ Some v = sym none ∙ some in cc))
     time is (Some v) some = elim (value_or Duration v) [
       | inl good ↦ inl (Time v, (is, some, good))
-      | inr bad ↦ inr (no_duration word bytes (upper_case bytes) refl is (λ w other good.
-          let e : Some v ≡ Some w = sym some ∙ ap (option_map pos) (sym (duration_upper bytes)) ∙ other in let same : w ≡ v = cc in bad (subst (IsValueOf Duration) same good)))
+      | inr bad ↦ inr (no_duration word bytes is (λ w other good.
+          let e : Some v ≡ Some w = sym some ∙ other in let same : w ≡ v = cc in bad (subst (IsValueOf Duration) same good)))
     ]
 
     neither : entry_of whole_type_words word ≡ None → entry_of duration_words word ≡ None → (l : Literal) → IsTyped word bytes l → ⊥
@@ -315,8 +304,8 @@ word_or text i begins = go (cases_Bool (byte_at text (run_end is_word_byte text 
     typed_there hashed (inl l) = inl (Typed l.0, (run_end is_literal_byte text (after_minus text (run_end is_word_byte text i + 1)), (run_end is_word_byte text i, begins, refl, hashed, refl, l.1)))
     typed_there hashed (inr none) = inr (only_words text i begins
         (λ j h. let e : byte_at text j ≡ 35 = ap (byte_at text) h.1 ∙ hashed in let t : (byte_at text j == hash) ≡ true = ap (λ b. b == hash) e in let f : (byte_at text j == hash) ≡ false = h.2 in cc)
-        (λ l m h. no_typed_lexeme text (upper_case text) i (run_end is_word_byte text i) (run_end is_literal_byte text (after_minus text (run_end is_word_byte text i + 1))) refl refl refl
-        (λ k w. none k (subst (λ x. IsTyped x (slice_range text (run_end is_word_byte text i + 1) (run_end is_literal_byte text (after_minus text (run_end is_word_byte text i + 1)))) k) (upper_part text (upper_case text) i (run_end is_word_byte text i) refl) w)) l m h))
+        (λ l m h. no_typed_lexeme text i (run_end is_word_byte text i) (run_end is_literal_byte text (after_minus text (run_end is_word_byte text i + 1))) refl refl
+        none l m h))
 
     no_literal : (byte_at text (run_end is_word_byte text i) == hash) ≡ false → (l : Literal) (m : ℕ) → IsLexeme text (Typed l) i m → ⊥
     no_literal apart l m h = let e : (byte_at text (run_end is_word_byte text i) == hash) ≡ true = ap (λ x. byte_at text x == hash) (sym h.2) ∙ ap (λ b. b == hash) h.3 in cc

@@ -5,11 +5,13 @@ mod Runs
 mod Capped
 mod Numbers
 mod Durations
+mod Cases
 mod Literals
 pub mod Places
 mod Signs
 pub mod Lexemes
 pub mod Blanks
+mod Feeds
 pub mod Cut
 pub mod Names
 pub mod Steps

@@ -1,5 +1,5 @@
 -- Places of a text, and the bytes that stand there.
-use Rattle.std.proofs.Common.{◌≡◌, ◌≢◌, ℕ, ◌+◌, ◌-◌, ◌<◌, ◌≤◌, Bool, true, false, List, length, get_or, take, drop, arith, sym, ap, ◌∙◌, ◌⊎◌, inl, inr, cond, length-take, length-drop, get_or-take, get_or-drop}
+use Rattle.std.proofs.Common.{◌≡◌, ◌≢◌, ℕ, suc, ◌+◌, ◌-◌, ◌<◌, ◌≤◌, Bool, true, false, List, [], ◌∷◌, length, get_or, take, drop, arith, sym, ap, ◌∙◌, ◌⊎◌, inl, inr, cond, length-take, length-drop, get_or-take, get_or-drop, drop-cons}
 use Rattle.std.specs.Prelude.{◌==◌, slice_range, count_by}
 use Rattle.std.proofs.str.Laws.{order}
 use Rattle.std.proofs.Math.Seq.{take-add}
@@ -74,3 +74,15 @@ line_on text i j h =
     let parts : take j text ≡ take (i + (j - i)) text = ap (λ n. take n text) e in
     let counts = sum_by-append (λ b. cond (b == 10) 1 0) (take i text) (take (j - i) (drop i text)) in
     omega (arith, ap (count_by (λ b. b == 10)) (parts ∙ take-add i (j - i) text), counts)
+
+-- one byte, and two
+pub slice_one : (text : List ℕ) (i : ℕ) → i < length text → slice_range text i (i + 1) ≡ byte_at text i ∷ []
+slice_one text i h =
+    let n : i + 1 - i ≡ 1 = omega arith in
+    ap (λ x. take x (drop i text)) n ∙ ap (take 1) (drop-cons text i 0 h)
+
+pub slice_two : (text : List ℕ) (i : ℕ) → i + 1 < length text → slice_range text i (i + 2) ≡ byte_at text i ∷ byte_at text (i + 1) ∷ []
+slice_two text i h =
+    let n : i + 2 - i ≡ 2 = omega arith in
+    let s : suc i ≡ i + 1 = omega arith in
+    ap (λ x. take x (drop i text)) n ∙ ap (take 2) (drop-cons text i 0 (omega arith) ∙ ap (λ x. byte_at text i ∷ x) (ap (λ x. drop x text) s ∙ drop-cons text (i + 1) 0 h))

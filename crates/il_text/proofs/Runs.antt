@@ -30,6 +30,12 @@ run_on test text i (suc n) fits pass =
     ∙ run_on test text (i + 1) n (omega arith) (λ k from to. pass k (omega arith) (omega arith))
     ∙ ap (run_end test text) (omega arith)
 
+-- the same up to a place
+pub run_to : (test : ℕ → Bool) (text : List ℕ) (i j : ℕ) → i ≤ j → j ≤ length text → AllPassBetween test text i j → run_end test text i ≡ run_end test text j
+run_to test text i j order fits pass =
+    let back : i + (j - i) ≡ j = omega arith in
+    run_on test text i (j - i) (omega arith) (λ k from to. pass k from (omega arith)) ∙ ap (run_end test text) back
+
 -- letters and digits go on with a word
 pub words_pass : (text : List ℕ) (i j : ℕ) → AllPassBetween is_ascii_alphanumeric text i j → AllPassBetween is_word_byte text i j
 words_pass text i j pass k from to = ap (λ b. b || byte_at text k == 95) (pass k from to)

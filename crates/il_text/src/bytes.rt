@@ -1,9 +1,10 @@
 // Bytes, and the runs that they make.
 
-ghost use Rattle.std.specs.Prelude.{◌≡◌, ◌+◌, ◌≤◌, ◌==◌, length, count_by, IsTrue};
+ghost use Rattle.std.specs.Prelude.{◌≡◌, ◌≤◌, length, bytes_eq};
 ghost use Rattle.std.specs.Char.{is_ascii_alphanumeric};
-ghost use Rattle.il_spec.specs.Text.{byte_at, begins_word, is_word_byte, is_literal_byte, run_end, after_minus, line_feed};
+ghost use Rattle.il_spec.specs.Text.{byte_at, begins_word, is_word_byte, is_literal_byte, run_end, after_minus, upper_case};
 ghost use Rattle.il_text.specs.Lanes.{AllPassBetween};
+ghost use Rattle.il_text.specs.Pieces.{count_feeds};
 
 use crate::lanes::{LANES, alphanumeric_run, feeds};
 
@@ -23,6 +24,23 @@ pub(crate) fn begins_word(byte: u8) -> bool
     byte.is_ascii_alphabetic() || byte == b'_'
 }
 
+/// Whether these bytes in upper case are those.
+pub(crate) fn is_in_upper_case(bytes: &[u8], upper: &[u8]) -> bool
+    ensures { result ≡ bytes_eq (upper_case bytes.now) upper.now }
+{
+    if bytes.len() != upper.len() {
+        return false;
+    }
+    let mut at = 0;
+    'bytes: while at < bytes.len() {
+        if bytes[at].to_ascii_uppercase() != upper[at] {
+            return false;
+        }
+        at += 1;
+    }
+    true
+}
+
 // Whether this byte goes on with a word.
 #[inline(always)]
 fn is_word_byte(byte: u8) -> bool
@@ -39,41 +57,31 @@ fn is_literal_byte(byte: u8) -> bool
     is_word_byte(byte) || byte == b'#'
 }
 
-// How many letters and digits are seen at once to stand from `at` on.
+/// A place up to which letters and digits alone stand from `at` on, seen at once.
 #[inline(always)]
-fn first_run(text: &[u8], at: usize) -> usize
+pub(crate) fn seen_end(text: &[u8], at: usize) -> usize
     requires { at ≤ length text.now }
-    ensures within { at + result ≤ length text.now }
-    ensures pass { AllPassBetween is_ascii_alphanumeric text.now at (at + result) }
+    ensures within { at ≤ result × result ≤ length text.now }
+    ensures pass { AllPassBetween is_ascii_alphanumeric text.now at result }
 {
     if text.len() - at >= LANES {
-        alphanumeric_run(text, at)
+        at + alphanumeric_run(text, at)
     } else {
-        0
+        at
     }
 }
 
-/// Whether letters and digits alone are seen at once to stand from `at` up to `end`.
+/// Where the run of word bytes from `at` on ends. Letters and digits alone stand up to `seen`.
 #[inline(always)]
-pub(crate) fn is_seen_alphanumeric(text: &[u8], at: usize, end: usize) -> bool
-    requires { at ≤ end × end ≤ length text.now }
-    ensures { IsTrue result → AllPassBetween is_ascii_alphanumeric text.now at end }
-{
-    if end - at <= first_run(text, at) {
-        return true;
-    }
-    false
-}
-
-/// Where the run of word bytes from `at` on ends.
 #[tactic(auto, unfolding(il_spec::specs::Text::run_end))]
-pub(crate) fn word_end(text: &[u8], at: usize) -> usize
-    requires { at ≤ length text.now }
+pub(crate) fn word_end(text: &[u8], at: usize, seen: usize) -> usize
+    requires seen { at ≤ seen × seen ≤ length text.now }
+    requires pass { AllPassBetween is_ascii_alphanumeric text.now at seen }
     ensures from { at ≤ result }
     ensures within { result ≤ length text.now }
     ensures longest { result ≡ run_end is_word_byte text.now at }
 {
-    let mut end = at + first_run(text, at);
+    let mut end = seen;
     'run: while end < text.len() && is_word_byte(text[end]) {
         end += 1;
     }
@@ -113,7 +121,7 @@ pub(crate) fn after_minus(text: &[u8], at: usize) -> usize
 /// How many line feeds there are among these bytes.
 pub(crate) fn line_feeds(bytes: &[u8]) -> usize
     ensures within { result ≤ length bytes.now }
-    ensures count { result ≡ count_by (λ b. b == line_feed) bytes.now }
+    ensures count { result ≡ count_feeds bytes.now }
 {
     let mut count: usize = 0;
     let mut at = 0;

@@ -1,11 +1,12 @@
 // Comments (IEC 61131-3:2003, 2.1.5).
 
-ghost use Rattle.std.specs.Prelude.{◌≡◌, ℕ, ◌+◌, ◌<◌, ◌≤◌, length, false, IsTrue, IsFalse, IfOk, IfErr, IfSome, IfNone, not, ◌&&◌};
+ghost use Rattle.std.specs.Prelude.{◌≡◌, ℕ, ◌+◌, ◌<◌, ◌≤◌, length, slice_range, false, IsTrue, IsFalse, IfOk, IfErr, IfSome, IfNone, not, ◌&&◌};
 ghost use Rattle.il_spec.specs.Text.{opens_comment, closes_comment, is_text_byte, IsComment};
 ghost use Rattle.il_text.specs.Lanes.{AllPassBetween, is_plain};
+ghost use Rattle.il_text.specs.Pieces.{count_feeds};
 ghost use Rattle.il_text.specs.LexicalErrors.{IsInsideEnd, IsCommentError};
 
-use crate::bytes::byte_at;
+use crate::bytes::{byte_at, line_feeds};
 use crate::error::{LexicalError, Misread};
 use crate::lanes::{LANES, plain_run};
 
@@ -85,9 +86,10 @@ fn plain_end(text: &[u8], from: usize) -> usize
     at
 }
 
-// The place from `from` on at which something else stands than the inside of a comment.
-fn inside_end(text: &[u8], from: usize) -> usize
-    requires { from ≤ length text.now }
+// The place from `from` on at which something else stands than the inside of a comment. Plain bytes stand up to `plain`.
+fn inside_end(text: &[u8], from: usize, plain: usize) -> usize
+    requires within { from ≤ plain × plain ≤ length text.now }
+    requires plain { AllPassBetween is_plain text.now from plain }
     ensures within { from ≤ result × result ≤ length text.now }
     ensures inside { (k : ℕ) → from ≤ k → k < result
         → IsTrue (is_text_byte text.now k &&
@@ -96,7 +98,7 @@ fn inside_end(text: &[u8], from: usize) -> usize
         → IsFalse (is_text_byte text.now result &&
         (not (opens_comment text.now result) && not (closes_comment text.now result))) }
 {
-    let mut at = plain_end(text, from);
+    let mut at = plain;
     'inside: while at < text.len() && is_inside(text, at) {
         at += 1;
     }
@@ -125,19 +127,24 @@ fn misread_at(text: &[u8], at: usize, stop: usize) -> Misread
     Misread { error, at: stop }
 }
 
-/// Where the comment that opens at `at` ends.
-pub(crate) fn comment_end(text: &[u8], at: usize) -> Result<usize, Misread>
+/// Where the comment that opens at `at` ends, and how many line feeds stand in it.
+pub(crate) fn comment_at(text: &[u8], at: usize) -> Result<(usize, usize), Misread>
     requires inside { at < length text.now }
     requires opening { IsTrue (opens_comment text.now at) }
-    ensures within { IfOk result (λ end. at < end × end ≤ length text.now) }
-    ensures found { IfOk result (λ end. IsComment text.now at end) }
+    ensures within { IfOk result (λ r. at < r.0 × r.0 ≤ length text.now) }
+    ensures found { IfOk result (λ r. IsComment text.now at r.0) }
+    ensures feeds { IfOk result (λ r. r.1 ≡ count_feeds (slice_range text.now at r.0)) }
     ensures place { IfErr result (λ m. at ≤ m.at × m.at ≤ length text.now) }
     ensures refused { IfErr result (λ m. (end : ℕ) → IsComment text.now at end → ⊥) }
     ensures error { IfErr result (λ m. IsCommentError text.now at m.error m.at) }
 {
-    let stop = inside_end(text, at + 2);
+    let plain = plain_end(text, at + 2);
+    if closes_comment(text, plain) {
+        return Ok((plain + 2, 0));
+    }
+    let stop = inside_end(text, at + 2, plain);
     if closes_comment(text, stop) {
-        Ok(stop + 2)
+        Ok((stop + 2, line_feeds(&text[at..stop + 2])))
     } else {
         Err(misread_at(text, at, stop))
     }

@@ -6,10 +6,10 @@ ghost use Rattle.std.specs.Char.{is_ascii_digit, is_ascii_alphabetic};
 ghost use Rattle.std.specs.Str.Parse.{digits_value};
 ghost use Rattle.il_spec.specs.declared.tree.Elementary.TheVariants.{Time};
 ghost use Rattle.il_spec.specs.ElementaryTypes.{IsValueOf};
-ghost use Rattle.il_spec.specs.Text.{parts_value};
-ghost use Rattle.il_text.specs.Pieces.{upper_duration_value};
+ghost use Rattle.il_spec.specs.Text.{parts_value, duration_value, upper_case};
 ghost use Rattle.il_text.specs.LexicalErrors.{form_or_size};
 
+use crate::bytes::is_in_upper_case;
 use crate::error::LexicalError;
 
 // The longest duration, in milliseconds (own rule).
@@ -59,16 +59,16 @@ fn capped_count(digits: &[u8]) -> u64
     count
 }
 
-// The part of this unit at the front: nothing, where another unit stands there.
+// The part of this unit, which is given in upper case, at the front: nothing, where another unit stands there.
 fn part_of<'a>(bytes: &'a [u8], unit: &[u8], milliseconds: u64) -> Part<'a>
     requires { milliseconds ≤ 86400000 }
     ensures { (count : ℕ) × (result.milliseconds ≡ min count 2147483648 * milliseconds)
-        × ((units : List (List ℕ × ℕ)) → parts_value ((unit.now, milliseconds) ∷ units) bytes.now ≡ option_map (λ n. count * milliseconds + n) (parts_value units result.rest.now)) }
+        × ((units : List (List ℕ × ℕ)) → parts_value ((unit.now, milliseconds) ∷ units) (upper_case bytes.now) ≡ option_map (λ n. count * milliseconds + n) (parts_value units (upper_case result.rest.now))) }
 {
     let digits = digits_len(bytes);
     let behind = &bytes[digits..];
     let letters = letters_len(behind);
-    if digits > 0 && &behind[..letters] == unit {
+    if digits > 0 && is_in_upper_case(&behind[..letters], unit) {
         Part {
             milliseconds: capped_count(&bytes[..digits]) * milliseconds,
             rest: &behind[letters..],
@@ -81,13 +81,13 @@ fn part_of<'a>(bytes: &'a [u8], unit: &[u8], milliseconds: u64) -> Part<'a>
     }
 }
 
-/// The milliseconds of a duration in upper case.
+/// The milliseconds of a duration.
 pub(crate) fn duration_of(bytes: &[u8]) -> Result<i64, LexicalError>
-    ensures found { IfOk result (λ v. option_map pos (upper_duration_value bytes.now) ≡ Some v) }
+    ensures found { IfOk result (λ v. option_map pos (duration_value bytes.now) ≡ Some v) }
     ensures small { IfOk result (λ v. IsValueOf Time v) }
-    ensures refused { IfErr result (λ _. (v : ℤ) → option_map pos (upper_duration_value bytes.now)
+    ensures refused { IfErr result (λ _. (v : ℤ) → option_map pos (duration_value bytes.now)
         ≡ Some v → IsValueOf Time v → ⊥) }
-    ensures error { IfErr result (λ f. f ≡ form_or_size (upper_duration_value bytes.now)) }
+    ensures error { IfErr result (λ f. f ≡ form_or_size (duration_value bytes.now)) }
 {
     if bytes.is_empty() {
         return Err(LexicalError::BadNumber);

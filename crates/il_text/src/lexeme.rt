@@ -5,13 +5,12 @@ ghost use Rattle.std.specs.Char.{is_ascii_digit, is_ascii_alphanumeric};
 ghost use Rattle.il_spec.specs.declared.token.Sign.{Sign};
 ghost use Rattle.il_spec.specs.declared.token.Kind.TheVariants.{Word, Number, Typed, Sign as Signed, LineEnd};
 ghost use Rattle.il_spec.specs.declared.tree.Literal.{Literal};
-ghost use Rattle.il_spec.specs.Text.{byte_at, begins_word, after_minus, is_grouped, is_identifier, upper_case, IsLexeme, run_end, is_literal_byte, number_value};
+ghost use Rattle.il_spec.specs.Text.{byte_at, begins_word, after_minus, is_grouped, is_identifier, IsLexeme, run_end, is_literal_byte, number_value};
+ghost use Rattle.il_text.specs.Lanes.{AllPassBetween};
 ghost use Rattle.il_text.specs.Pieces.{HasNoLexeme};
 ghost use Rattle.il_text.specs.LexicalErrors.{form_or_size, lexeme_error};
 
-use crate::bytes::{
-    after_minus, begins_word, byte_at, is_seen_alphanumeric, literal_end, word_end,
-};
+use crate::bytes::{after_minus, begins_word, byte_at, literal_end, seen_end, word_end};
 use crate::error::LexicalError;
 use crate::literal::typed_literal;
 use crate::number::number_of;
@@ -54,40 +53,38 @@ fn is_identifier(word: &[u8]) -> bool
     }
 }
 
-// Whether an identifier stands from `at` up to `end`.
-fn is_identifier_at(text: &[u8], at: usize, end: usize) -> bool
-    requires { at < end × end ≤ length text.now }
+// Whether an identifier stands from `at` up to `end`, where letters and digits alone stand up to `seen`.
+#[inline(always)]
+fn is_identifier_at(text: &[u8], at: usize, seen: usize, end: usize) -> bool
+    requires inside { at < end × end ≤ length text.now }
+    requires pass { AllPassBetween is_ascii_alphanumeric text.now at seen }
     ensures { result ≡ is_identifier (slice_range text.now at end) }
 {
-    if is_seen_alphanumeric(text, at, end) {
+    if end <= seen {
         return true;
     }
     is_identifier(&text[at..end])
 }
 
 // The word or the typed literal at `at`, and where it ends.
-fn word_at(text: &[u8], upper: &[u8], at: usize) -> Result<(Kind, usize), LexicalError>
+fn word_at(text: &[u8], at: usize) -> Result<(Kind, usize), LexicalError>
     requires inside { at < length text.now }
     requires begins { IsTrue (begins_word (byte_at text.now at)) }
-    requires upper { upper.now ≡ upper_case text.now }
     ensures found { IfOk result (λ r. IsLexeme text.now r.0 at r.1) }
     ensures no_word { IfErr result (λ _. (j : ℕ) → IsLexeme text.now Word at j → ⊥) }
     ensures no_literal { IfErr result (λ _. (l : Literal) (j : ℕ)
         → IsLexeme text.now (Typed l) at j → ⊥) }
     ensures error { IfErr result (λ f. f ≡ lexeme_error text.now at) }
 {
-    let end = word_end(text, at);
+    let seen = seen_end(text, at);
+    let end = word_end(text, at, seen);
     if byte_at(text, end) == b'#' {
         let behind = end + 1;
         let literal_end = literal_end(text, after_minus(text, behind));
-        let literal = typed_literal(
-            &upper[at..end],
-            &text[behind..literal_end],
-            &upper[behind..literal_end],
-        )?;
+        let literal = typed_literal(&text[at..end], &text[behind..literal_end])?;
         return Ok((Kind::Typed(literal), literal_end));
     }
-    if end - at > LONGEST_WORD || !is_identifier_at(text, at, end) {
+    if end - at > LONGEST_WORD || !is_identifier_at(text, at, seen, end) {
         return Err(LexicalError::BadIdentifier);
     }
     Ok((Kind::Word, end))
@@ -128,15 +125,14 @@ fn sign_at(text: &[u8], at: usize) -> Option<(Kind, usize)>
 }
 
 /// The token at `at`, and where it ends.
-pub(crate) fn lexeme_at(text: &[u8], upper: &[u8], at: usize) -> Result<(Kind, usize), LexicalError>
-    requires inside { at < length text.now }
-    requires upper { upper.now ≡ upper_case text.now }
+pub(crate) fn lexeme_at(text: &[u8], at: usize) -> Result<(Kind, usize), LexicalError>
+    requires { at < length text.now }
     ensures found { IfOk result (λ r. IsLexeme text.now r.0 at r.1) }
     ensures none { IfErr result (λ _. HasNoLexeme text.now at) }
     ensures error { IfErr result (λ f. f ≡ lexeme_error text.now at) }
 {
     if begins_word(byte_at(text, at)) {
-        return word_at(text, upper, at);
+        return word_at(text, at);
     }
     if byte_at(text, after_minus(text, at)).is_ascii_digit() {
         return number_at(text, at);

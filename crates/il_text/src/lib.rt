@@ -25,13 +25,16 @@ mod sign;
 
 use crate::bytes::line_feeds;
 use crate::error::{Misread, TEXT_TOO_LONG};
-use crate::piece::{Piece, piece_at};
+use crate::piece::{Piece, Stretch, piece_at};
 pub use il_spec::fault::Refusal;
 pub use il_spec::token::{Kind, Sign, Token};
 use std::alloc::Global;
 
 // The length of the longest text that is read, in bytes (own rule).
 const LONGEST_TEXT: usize = 262_144;
+
+// How many bytes of a text there are to a token, as a first guess: fewer only where it has no comments.
+const BYTES_OF_TOKEN: usize = 4;
 
 // The refusal for what stands wrong at or behind `at`, a place on this line.
 fn refusal(text: &[u8], at: usize, line: u32, misread: Misread) -> Refusal
@@ -72,13 +75,12 @@ pub fn tokens(alloc: Global, text: &[u8]) -> Result<Vec<Token>, Refusal>
             line: 1,
         });
     }
-    let upper = text.to_ascii_uppercase(alloc)?;
-    let mut found = Vec::new(alloc);
+    let mut found = Vec::with_capacity(alloc, text.len() / BYTES_OF_TOKEN)?;
     let mut line = 1;
     let mut at = 0;
     'pieces: while at < text.len() {
-        let (piece, end) = match piece_at(text, &upper, at) {
-            Ok(read) => read,
+        let Stretch { piece, end, feeds } = match piece_at(text, at) {
+            Ok(stretch) => stretch,
             Err(misread) => return Err(refusal(text, at, line, misread)),
         };
         if let Piece::Token(kind) = piece {
@@ -89,7 +91,7 @@ pub fn tokens(alloc: Global, text: &[u8]) -> Result<Vec<Token>, Refusal>
                 line,
             })?;
         }
-        line += line_feeds(&text[at..end]) as u32;
+        line += feeds as u32;
         at = end;
     }
     Ok(found)

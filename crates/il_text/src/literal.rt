@@ -7,40 +7,41 @@ ghost use Rattle.il_spec.specs.ElementaryTypes.{IsValueOf};
 ghost use Rattle.il_spec.specs.Text.{entry_of, whole_type_words, duration_words, IsTyped, upper_case};
 ghost use Rattle.il_text.specs.LexicalErrors.{typed_error};
 
+use crate::bytes::is_in_upper_case;
 use crate::duration::duration_of;
 use crate::error::LexicalError;
 use crate::number::number_of;
 use il_spec::tree::{Elementary, Literal};
 
-// The whole type that a word in upper case names.
+// The whole type that a word names.
 #[tactic(auto, unfolding(il_spec::specs::Text::entry_of))]
 fn whole_type(word: &[u8]) -> Option<Elementary>
-    ensures { result ≡ entry_of whole_type_words word.now }
+    ensures { result ≡ entry_of whole_type_words (upper_case word.now) }
 {
-    if word == b"SINT".as_slice() {
+    if is_in_upper_case(word, b"SINT") {
         Some(Elementary::Sint)
-    } else if word == b"INT".as_slice() {
+    } else if is_in_upper_case(word, b"INT") {
         Some(Elementary::Int)
-    } else if word == b"DINT".as_slice() {
+    } else if is_in_upper_case(word, b"DINT") {
         Some(Elementary::Dint)
-    } else if word == b"USINT".as_slice() {
+    } else if is_in_upper_case(word, b"USINT") {
         Some(Elementary::Usint)
-    } else if word == b"UINT".as_slice() {
+    } else if is_in_upper_case(word, b"UINT") {
         Some(Elementary::Uint)
-    } else if word == b"UDINT".as_slice() {
+    } else if is_in_upper_case(word, b"UDINT") {
         Some(Elementary::Udint)
     } else {
         None
     }
 }
 
-// Whether this word in upper case stands before a duration.
+// Whether this word stands before a duration.
 #[tactic(auto, unfolding(il_spec::specs::Text::entry_of))]
 fn begins_duration(word: &[u8]) -> bool
-    ensures yes { IsTrue result → entry_of duration_words word.now ≡ Some Time }
-    ensures no { IsFalse result → entry_of duration_words word.now ≡ None }
+    ensures yes { IsTrue result → entry_of duration_words (upper_case word.now) ≡ Some Time }
+    ensures no { IsFalse result → entry_of duration_words (upper_case word.now) ≡ None }
 {
-    word == b"T".as_slice() || word == b"TIME".as_slice()
+    is_in_upper_case(word, b"T") || is_in_upper_case(word, b"TIME")
 }
 
 // Whether a number is a value of a type.
@@ -60,16 +61,12 @@ fn is_value_of(elementary: Elementary, value: i64) -> bool
     lower <= value && value <= upper
 }
 
-/// The literal of a word in upper case, `#`, and these bytes, which are given in upper case too.
-pub(crate) fn typed_literal(
-    word: &[u8],
-    bytes: &[u8],
-    upper: &[u8],
-) -> Result<Literal, LexicalError>
-    requires { upper.now ≡ upper_case bytes.now }
-    ensures found { IfOk result (λ l. IsTyped word.now bytes.now l) }
-    ensures refused { IfErr result (λ _. (l : Literal) → IsTyped word.now bytes.now l → ⊥) }
-    ensures error { IfErr result (λ f. f ≡ typed_error word.now bytes.now) }
+/// The literal of a word, `#`, and these bytes.
+pub(crate) fn typed_literal(word: &[u8], bytes: &[u8]) -> Result<Literal, LexicalError>
+    ensures found { IfOk result (λ l. IsTyped (upper_case word.now) bytes.now l) }
+    ensures refused { IfErr result (λ _. (l : Literal)
+        → IsTyped (upper_case word.now) bytes.now l → ⊥) }
+    ensures error { IfErr result (λ f. f ≡ typed_error (upper_case word.now) bytes.now) }
 {
     if let Some(elementary) = whole_type(word) {
         let value = number_of(bytes)?;
@@ -79,7 +76,7 @@ pub(crate) fn typed_literal(
         return Ok(Literal::Whole(elementary, value));
     }
     if begins_duration(word) {
-        let value = duration_of(upper)?;
+        let value = duration_of(bytes)?;
         return Ok(Literal::Time(value));
     }
     Err(LexicalError::BadNumber)

@@ -4,7 +4,7 @@ use Rattle.il_parse.proofs.Ascii.{tokens_ascii}
 use Rattle.il_parse.proofs.read.Goals as goal
 
 pub new-source-requires-clause-ascii : goal.new-source-requires-clause-ascii
-new-source-requires-clause-ascii c = rw (c.deref.ensures.value, c.in_ok-upper.ensures.ok) (IsAscii-map to_ascii_uppercase c.args.text.now uppercase_ascii (tokens_ascii c.args.text.now c.args.tokens.now c.requires))
+new-source-requires-clause-ascii c = rw (c.deref.ensures.value, c.in_ok-upper.ensures) (IsAscii-map to_ascii_uppercase c.args.text.now uppercase_ascii (tokens_ascii c.args.text.now c.args.tokens.now c.requires))
 
 pub returns-clause-reads : goal.returns-clause-reads
 returns-clause-reads c = rw (← c.new-source.ensures, ← c.new.ensures) c.configuration.ensures.reads

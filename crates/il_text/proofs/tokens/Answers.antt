@@ -18,25 +18,25 @@ pub pieces-preserved : goal.pieces-preserved
 pieces-preserved c = record {
   within = c.in-Ok.ensures.within.1;
   line =
-      ap (λ n. n + c.line_feeds.result) c.pieces.invariant.line ∙ ap (λ n. line_at c.args.text.now c.pieces.at + n) c.line_feeds.ensures.count
-      ∙ sym (line_on c.args.text.now c.pieces.at c.in-Ok.read.1 (omega (arith, c.in-Ok.ensures.within.0)));
+      ap (λ n. n + c.in-Ok.stretch.feeds) c.pieces.invariant.line ∙ ap (λ n. line_at c.args.text.now c.pieces.at + n) c.in-Ok.ensures.feeds
+      ∙ sym (line_on c.args.text.now c.pieces.at c.in-Ok.stretch.end (omega (arith, c.in-Ok.ensures.within.0)));
   done = elim c.match-piece.branch [
     | in-Token+in_ok-push w ↦
-        let t : Token = record { kind = w.in-Token.kind; start = c.pieces.at; end = c.in-Ok.read.1; line = c.pieces.line } in
-        let lexeme = subst (λ p. IsPiece c.args.text.now p c.pieces.at c.in-Ok.read.1) w.in-Token.is c.in-Ok.ensures.found in
-        subst (λ items. AreTokensTo c.args.text.now 0 items c.in-Ok.read.1) (sym (ap (λ v. v.items) w.found-is ∙ w.in_ok-push.ensures.items)) (done_token c.args.text.now t c.pieces.found.items lexeme c.pieces.invariant.line c.pieces.invariant.done)
+        let t : Token = record { kind = w.in-Token.kind; start = c.pieces.at; end = c.in-Ok.stretch.end; line = c.pieces.line } in
+        let lexeme = subst (λ p. IsPiece c.args.text.now p c.pieces.at c.in-Ok.stretch.end) w.in-Token.is c.in-Ok.ensures.found in
+        subst (λ items. AreTokensTo c.args.text.now 0 items c.in-Ok.stretch.end) (sym (ap (λ v. v.items) w.found-is ∙ w.in_ok-push.ensures.items)) (done_token c.args.text.now t c.pieces.found.items lexeme c.pieces.invariant.line c.pieces.invariant.done)
     | in_default w ↦
-        let blank = subst (λ p. IsPiece c.args.text.now p c.pieces.at c.in-Ok.read.1) w.in_default.is c.in-Ok.ensures.found in
-        rw w.found-is (done_blank c.args.text.now c.pieces.at c.in-Ok.read.1 c.pieces.found.items blank c.pieces.invariant.done)
+        let blank = subst (λ p. IsPiece c.args.text.now p c.pieces.at c.in-Ok.stretch.end) w.in_default.is c.in-Ok.ensures.found in
+        rw w.found-is (done_blank c.args.text.now c.pieces.at c.in-Ok.stretch.end c.pieces.found.items blank c.pieces.invariant.done)
   ];
   read = elim c.match-piece.branch [
     | in-Token+in_ok-push w ↦
-        let t : Token = record { kind = w.in-Token.kind; start = c.pieces.at; end = c.in-Ok.read.1; line = c.pieces.line } in
-        let lexeme = subst (λ p. IsPiece c.args.text.now p c.pieces.at c.in-Ok.read.1) w.in-Token.is c.in-Ok.ensures.found in
-        subst (λ items. Read c.args.text.now c.in-Ok.read.1 items) (sym (ap (λ v. v.items) w.found-is ∙ w.in_ok-push.ensures.items)) (read_token c.args.text.now t c.pieces.found.items lexeme c.pieces.invariant.line c.pieces.invariant.read)
+        let t : Token = record { kind = w.in-Token.kind; start = c.pieces.at; end = c.in-Ok.stretch.end; line = c.pieces.line } in
+        let lexeme = subst (λ p. IsPiece c.args.text.now p c.pieces.at c.in-Ok.stretch.end) w.in-Token.is c.in-Ok.ensures.found in
+        subst (λ items. Read c.args.text.now c.in-Ok.stretch.end items) (sym (ap (λ v. v.items) w.found-is ∙ w.in_ok-push.ensures.items)) (read_token c.args.text.now t c.pieces.found.items lexeme c.pieces.invariant.line c.pieces.invariant.read)
     | in_default w ↦
-        let blank = subst (λ p. IsPiece c.args.text.now p c.pieces.at c.in-Ok.read.1) w.in_default.is c.in-Ok.ensures.found in
-        rw w.found-is (read_blank c.args.text.now c.pieces.at c.in-Ok.read.1 c.pieces.found.items blank c.pieces.invariant.read)
+        let blank = subst (λ p. IsPiece c.args.text.now p c.pieces.at c.in-Ok.stretch.end) w.in_default.is c.in-Ok.ensures.found in
+        rw w.found-is (read_blank c.args.text.now c.pieces.at c.in-Ok.stretch.end c.pieces.found.items blank c.pieces.invariant.read)
   ];
 }
 
