@@ -11,7 +11,7 @@ use Rattle.il_spec.specs.declared.tree.Place.{Place}
 use Rattle.il_spec.specs.declared.tree.Form.{Form}
 use Rattle.il_spec.specs.declared.tree.Form.TheVariants.{Scalar as OfScalar, Array as OfArray, Block as OfBlock}
 use Rattle.il_rules.specs.Names as rule
-use Rattle.il_rules.specs.Names.{Spelling, BlockVariables, entry_of, Meaning, MeansVariable, MeansUnit, MeansStandard, standard_function, function_named}
+use Rattle.il_rules.specs.Names.{Spelling, BlockVariables, entry_of, Meaning, MeansVariable, MeansUnit, MeansStandard, meant_variable, standard_function, function_named}
 use Rattle.il_rules.specs.Declarations.{Access, Reads, unless, reference_numbers, name_numbers, is_visible, scalar_numbers, scalar_form_numbers, array_numbers, array_form_numbers, called_numbers, called_form_numbers, member_numbers, member_form_numbers}
 use Rattle.il_scope.specs.Views.{type_of, binding_of, function_number}
 use Rattle.il_rules.specs.declared.names.StandardFunction.{StandardFunction}
@@ -27,7 +27,7 @@ scalar_type_is config (OfArray b e) = refl
 scalar_type_is config (OfBlock n) = refl
 
 -- where a scalar variable stands
-pub scalar_is : (config : Config) (m : Option Meaning) → scalar_of (option_map (binding_of config) m) ≡ scalar_numbers m
+pub scalar_is : (config : Config) (m : Option Meaning) → scalar_of (option_map (type_of config) (option_map (λ v. v.form) (meant_variable m))) ≡ scalar_numbers m
 scalar_is config (Some (MeansVariable v)) = scalar_type_is config v.form
 scalar_is config (Some (MeansUnit u)) = refl
 scalar_is config (Some MeansStandard) = refl

@@ -24,10 +24,8 @@ scalar_type_numbers (Array bounds element) = 25 ∷ []
 scalar_type_numbers (Instance block) = 21 ∷ []
 
 -- a name where a scalar variable stands
-abbrev pub scalar_of : Option Binding → List ℕ
-scalar_of (Some (Variable v)) = scalar_type_numbers v.declared
-scalar_of (Some UnitName) = 21 ∷ []
-scalar_of (Some Standard) = 21 ∷ []
+abbrev pub scalar_of : Option VariableType → List ℕ
+scalar_of (Some declared) = scalar_type_numbers declared
 scalar_of None = 21 ∷ []
 
 -- a variable of this type before an index

@@ -221,20 +221,22 @@ fn scalar_name_fault(here: &UnitScope, name: &str, place: Place) -> Option<Found
     ensures { result ≡ lowest_at (scalar_numbers (meaning here.now.config here.now.unit name.now))
         place }
 {
-    scalar_fault(here.meaning(name), place)
+    scalar_fault(here.declared_type(name), place)
 }
 
-// The same, by what the name means.
-fn scalar_fault(binding: Option<Binding>, place: Place) -> Option<Found<DeclareFault>>
-    ensures { result ≡ lowest_at (scalar_of binding) place }
+// The same, by the type of the variable, if it means one.
+#[inline(always)]
+fn scalar_fault(declared: Option<VariableType>, place: Place) -> Option<Found<DeclareFault>>
+    ensures { result ≡ lowest_at (scalar_of declared) place }
 {
-    match binding {
-        Some(Binding::Variable(variable)) => scalar_type_fault(variable.declared, place),
-        _ => fault_if(true, DeclareFault::Unknown, place),
+    match declared {
+        Some(declared) => scalar_type_fault(declared, place),
+        None => fault_if(true, DeclareFault::Unknown, place),
     }
 }
 
 // The same of a variable, by its type.
+#[inline(always)]
 fn scalar_type_fault(declared: VariableType, place: Place) -> Option<Found<DeclareFault>>
     ensures { result ≡ lowest_at (scalar_type_numbers declared) place }
 {

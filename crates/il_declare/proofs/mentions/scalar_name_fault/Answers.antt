@@ -6,4 +6,4 @@ use Rattle.il_declare.proofs.MentionLaws.{scalar_is}
 use Rattle.il_declare.proofs.mentions.scalar_name_fault.Goals as goal
 
 pub returns : goal.returns
-returns c = c.scalar_fault.ensures ∙ ap (λ b. lowest_at (scalar_of b) c.args.place) c.meaning.ensures ∙ ap (λ l. lowest_at l c.args.place) (scalar_is c.args.here.now.config (meaning c.args.here.now.config c.args.here.now.unit c.args.name.now))
+returns c = c.scalar_fault.ensures ∙ ap (λ b. lowest_at (scalar_of b) c.args.place) c.declared_type.ensures ∙ ap (λ l. lowest_at l c.args.place) (scalar_is c.args.here.now.config (meaning c.args.here.now.config c.args.here.now.unit c.args.name.now))
