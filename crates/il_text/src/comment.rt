@@ -8,7 +8,7 @@ ghost use Rattle.il_text.specs.LexicalErrors.{IsInsideEnd, IsCommentError};
 
 use crate::bytes::{byte_at, line_feeds};
 use crate::error::{LexicalError, Misread};
-use crate::lanes::{LANES, plain_run};
+use crate::lanes::{COMMENT_LANES, plain_run};
 
 /// Whether `(*` stands at a place.
 #[inline(always)]
@@ -76,10 +76,10 @@ fn plain_end(text: &[u8], from: usize) -> usize
     ensures plain { AllPassBetween is_plain text.now from result }
 {
     let mut at = from;
-    'plain: while text.len() - at >= LANES {
+    'plain: while text.len() - at >= COMMENT_LANES {
         let run = plain_run(text, at);
         at += run;
-        if run < LANES {
+        if run < COMMENT_LANES {
             return at;
         }
     }
