@@ -573,7 +573,11 @@ fn values_of(
     ensures is { AreValued (map string_bytes names.now) world.old.program events.now result }
     ensures warned { HasWarnings None result }
 {
-    let Watch { watched, mut text } = Watch::of(alloc, world, names)?;
+    let Watch {
+        watched,
+        mut text,
+        ..
+    } = Watch::of(alloc, world, names)?;
     match rows_along(world, events, watched.as_slice(), &mut text) {
         Ok(()) => Ok(Output::Text(text)),
         Err(along::Stop::Refused(refused)) => Err(fault_of_event(refused)),

@@ -1,4 +1,5 @@
 pub mod Fronts
+pub mod Grouping
 pub mod Driving
 pub mod Showing
 pub mod Stepping

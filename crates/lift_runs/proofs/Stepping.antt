@@ -1,6 +1,8 @@
 -- Steps along a trace.
-use Rattle.std.proofs.Common.{◌≡◌, ℕ, zero, suc, ◌+◌, List, [], ◌∷◌, ◌++◌, map, take, refl, sym, ap, ◌∙◌, subst}
+use Rattle.std.proofs.Common.{◌≡◌, ℕ, ◌+◌, ◌<◌, List, [], ◌∷◌, ◌++◌, length, get_or, map, take, refl, sym, ap, ◌∙◌, subst}
+use Rattle.std.proofs.lemmas.Option.{slice_get_read}
 use Rattle.std.specs.Prelude.{Some, slice_get}
+use Rattle.il_machine.specs.Scanning.{Program}
 use Rattle.il_spec.specs.declared.tree.Config.{Config}
 use Rattle.lift_spec.specs.declared.event.Event.TheVariants.{Start, Refresh, Press, Gather}
 use Rattle.lift_spec.specs.declared.event.EventFault.{EventFault}
@@ -42,6 +44,8 @@ step_more c w m v events i steps e reply at are last = record {
   lead = lead_more c w m v steps e reply are.lead last;
 }
 
--- the first event that is refused behind steps
-pub refused_behind : (c : Config) (w m : World) (events : List TraceEvent) (i : ℕ) (steps : List Step) (e : TraceEvent) (fault : EventFault) → slice_get events i ≡ Some e → AreStepsOf c w (take i events) m steps → Refuses c m e fault → IsRefusedAt c w events i fault
-refused_behind c w m events i steps e fault at are why = refused_at c events i e fault w m at (steps_take c w m (take i events) steps are) why
+-- the first event that is refused behind steps of a program that stays the same
+pub refused_behind : (p q : Program) → q ≡ p → (w m : World) (events : List TraceEvent) (i : ℕ) (steps : List Step) (e : TraceEvent) (fault : EventFault) → i < length events → e ≡ get_or events i e → AreStepsOf p.config w (take i events) m steps
+    → Refuses q.config m e fault → IsRefusedAt p.config w events i fault
+refused_behind p q same w m events i steps e fault low at are why =
+    refused_at p.config events i e fault w m (slice_get_read events (length events) i e refl low at) (steps_take p.config w m (take i events) steps are) (subst (λ (x : Program). Refuses x.config m e fault) same why)

@@ -1,7 +1,7 @@
 // What sees a simulation go by.
 
-ghost use Rattle.std.specs.Prelude.{◌≡◌, ◌++◌, ℕ, List, OnOk};
-ghost use Rattle.lift_runs.specs.Shown.{Shows};
+ghost use Rattle.std.specs.Prelude.{◌≡◌, ◌++◌, ℕ, [], List, OnOk};
+ghost use Rattle.lift_runs.specs.Shown.{Shows, behind};
 
 use lift_spec::report::Report;
 use lift_world::World;
@@ -12,7 +12,7 @@ pub trait Observer {
     // The text so far.
     ghost text: { Self → List ℕ };
 
-    // What it writes of what it sees.
+    // What it writes of what it is still to see.
     ghost shows: { Self → Shows };
 
     /// The refresh of a round has reported.
@@ -25,12 +25,13 @@ pub trait Observer {
     fn committed(&mut self, round: u16, task: u8, report: &Report) -> Result<(), AllocError>
         ensures text { OnOk result (text self.new ≡ text self.old
             ++ (shows self.old).of_commit round task report.now) }
-        ensures same { OnOk result (shows self.new ≡ shows self.old) };
+        ensures behind { OnOk result (shows self.new
+            ≡ behind (record { task = task; report = report.now }) (shows self.old)) };
 
     /// A round is over, and left the world so.
     fn ended(&mut self, round: u16, world: &World) -> Result<(), AllocError>
         ensures text { OnOk result (text self.new ≡ text self.old
-            ++ (shows self.old).of_round round world.now.world) }
+            ++ (shows self.old).of_round round [] world.now.world) }
         ensures same { OnOk result (shows self.new ≡ shows self.old) };
 }
 

@@ -15,7 +15,7 @@ ghost use Rattle.lift_spec.specs.declared.journal.Entry.TheVariants as entry;
 ghost use Rattle.lift_journal.specs.Rounds.{Happen, desk_events, floors_rising, tasks_in_order, scan_entries, entered_calls_of};
 ghost use Rattle.lift_journal.proofs.Taking.{IsClosed};
 ghost use Rattle.lift_runs.specs.Driven.{call_of, ArePressed, AreSettings, IsSimulated, AreTasks};
-ghost use Rattle.lift_runs.specs.Shown.{IsShown, ScansShown, RoundShown};
+ghost use Rattle.lift_runs.specs.Shown.{Commit, IsShown, ScansCommit, RoundShown, behind_all, commits_text};
 
 use crate::ahead::{at_first, presses_by_round, presses_due, set_in, settings_by_round};
 use crate::observer::{Nobody, Observer};
@@ -142,11 +142,11 @@ fn scan_all<O: Observer>(
 ) -> Result<(), AllocError>
     requires tasks { AreTasks world.old.program.config tasks.now }
     requires closed { IsClosed world.old.world }
-    ensures scans { OnOk result ((text : List ℕ)
-        × (O.text observer.new ≡ O.text observer.old ++ text)
-        × ScansShown (O.shows observer.old) number world.old.program.config tasks.now
-        world.old.world world.new.world text) }
-    ensures shows { OnOk result (O.shows observer.new ≡ O.shows observer.old) }
+    ensures scans { OnOk result ((commits : List Commit)
+        × ScansCommit world.old.program.config tasks.now world.old.world world.new.world commits
+        × (O.text observer.new ≡ O.text observer.old
+        ++ commits_text (O.shows observer.old) number commits)
+        × (O.shows observer.new ≡ behind_all commits (O.shows observer.old))) }
     ensures closed { OnOk result (IsClosed world.new.world) }
     ensures journal { OnOk result (entries.new.items ≡ entries.old.items
         ++ flat_map scan_entries tasks.now) }
@@ -180,11 +180,11 @@ fn round<O: Observer>(
     requires idle { due.idle ≡ true → world.old.world.desk ≡ [] }
     ensures round { IfOk result (λ next. (last : List EntryOf)
         × (entries.new.items ≡ entries.old.items ++ last) × (text : List ℕ)
-        × (O.text observer.new ≡ O.text observer.old ++ text)
+        × (O.text observer.new ≡ O.text observer.old ++ text) × (commits : List Commit)
+        × (O.shows observer.new ≡ behind_all commits (O.shows observer.old))
         × RoundShown (O.shows observer.old) number world.old.program.config
         (map call_of due.entry.presses.now) due.entry.switches plant next
-        world.old.world world.new.world last text) }
-    ensures shows { OnOk result (O.shows observer.new ≡ O.shows observer.old) }
+        world.old.world world.new.world last commits text) }
     ensures plant { IfOk result (IsPlantOf (sizes_of world.old.program.config)) }
     ensures closed { OnOk result (IsClosed world.new.world) }
     ensures idle { OnOk result (due.entry.idle ≡ true → due.entry.presses.now ≡ []

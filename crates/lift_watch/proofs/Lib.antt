@@ -3,3 +3,4 @@ mod Logging
 mod Reading
 mod Rows
 mod Watching
+mod Wishing

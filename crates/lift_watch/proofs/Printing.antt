@@ -9,7 +9,9 @@ use Rattle.lift_spec.specs.declared.trace.TraceEvent.{TraceEvent}
 use Rattle.lift_spec.specs.declared.trace.TraceEvent.TheVariants as traced
 use Rattle.lift_spec.specs.Replies.{Reply}
 use Rattle.lift_spec.specs.World.{World}
+use Rattle.lift_watch.specs.declared.asked.Asked.{Asked}
 use Rattle.lift_watch.specs.declared.names.Watched.{Watched}
+use Rattle.lift_watch.specs.Asked.{nothing_asked, asked_at}
 use Rattle.lift_watch.specs.Following.{round_behind, denied_at, denied_along, row_of, row_before, rows_along, IsDeniedAlong, AreRowsAlong}
 
 -- ROUNDS
@@ -74,58 +76,73 @@ denied_all all c w v events n text round e to = record { steps = to.steps; are =
 
 -- ROWS
 
+-- what is asked for behind steps
+abbrev pub asked_along : List Step → Asked → Asked
+asked_along [] asked = asked
+asked_along (s ∷ steps) asked = asked_along steps (asked_at s.event s.reply asked)
+
+asked_more : (steps : List Step) (s : Step) (asked : Asked) → asked_along (steps ++ s ∷ []) asked ≡ asked_at s.event s.reply (asked_along steps asked)
+asked_more [] s asked = refl
+asked_more (x ∷ steps) s asked = asked_more steps s (asked_at x.event x.reply asked)
+
 -- the rows of the rounds that steps end
-abbrev pub rows_before : List Watched → List Step → ℕ → World → List ℕ
-rows_before watched [] round w = []
-rows_before watched (s ∷ steps) round w = row_before watched s.event round w ++ rows_before watched steps (round_behind s.event round) s.after
+abbrev pub rows_before : List Watched → List Step → ℕ → Asked → World → List ℕ
+rows_before watched [] round asked w = []
+rows_before watched (s ∷ steps) round asked w = row_before watched s.event round asked w ++ rows_before watched steps (round_behind s.event round) (asked_at s.event s.reply asked) s.after
 
-rows_more : (watched : List Watched) (c : Config) (w m : World) (steps : List Step) (s : Step) (round : ℕ) → Lead c w steps m
-    → rows_before watched (steps ++ s ∷ []) round w ≡ rows_before watched steps round w ++ row_before watched s.event (round_along steps round) m
-rows_more watched c w m [] s round lead = append-nil (row_before watched s.event round w) ∙ ap (row_before watched s.event round) lead
-rows_more watched c w m (x ∷ steps) s round lead =
+rows_more : (watched : List Watched) (c : Config) (w m : World) (steps : List Step) (s : Step) (round : ℕ) (asked : Asked) → Lead c w steps m
+    → rows_before watched (steps ++ s ∷ []) round asked w ≡ rows_before watched steps round asked w ++ row_before watched s.event (round_along steps round) (asked_along steps asked) m
+rows_more watched c w m [] s round asked lead = append-nil (row_before watched s.event round asked w) ∙ ap (row_before watched s.event round asked) lead
+rows_more watched c w m (x ∷ steps) s round asked lead =
     let next = round_behind x.event round in
-    ap (λ (l : List ℕ). row_before watched x.event round w ++ l) (rows_more watched c x.after m steps s next lead.1)
-    ∙ sym (append_assoc (row_before watched x.event round w) (rows_before watched steps next x.after) (row_before watched s.event (round_along steps next) m))
+    let wish = asked_at x.event x.reply asked in
+    ap (λ (l : List ℕ). row_before watched x.event round asked w ++ l) (rows_more watched c x.after m steps s next wish lead.1)
+    ∙ sym (append_assoc (row_before watched x.event round asked w) (rows_before watched steps next wish x.after) (row_before watched s.event (round_along steps next) (asked_along steps wish) m))
 
-rows_last : (watched : List Watched) (c : Config) (w v : World) (steps : List Step) (round : ℕ) → Lead c w steps v → rows_along watched steps round w ≡ rows_before watched steps round w ++ row_of watched (round_along steps round) v
-rows_last watched c w v [] round lead = ap (row_of watched round) lead
-rows_last watched c w v (x ∷ steps) round lead =
+rows_last : (watched : List Watched) (c : Config) (w v : World) (steps : List Step) (round : ℕ) (asked : Asked) → Lead c w steps v
+    → rows_along watched steps round asked w ≡ rows_before watched steps round asked w ++ row_of watched (round_along steps round) (asked_along steps asked) v
+rows_last watched c w v [] round asked lead = ap (row_of watched round asked) lead
+rows_last watched c w v (x ∷ steps) round asked lead =
     let next = round_behind x.event round in
-    ap (λ (l : List ℕ). row_before watched x.event round w ++ l) (rows_last watched c x.after v steps next lead.1)
-    ∙ sym (append_assoc (row_before watched x.event round w) (rows_before watched steps next x.after) (row_of watched (round_along steps next) v))
+    let wish = asked_at x.event x.reply asked in
+    ap (λ (l : List ℕ). row_before watched x.event round asked w ++ l) (rows_last watched c x.after v steps next wish lead.1)
+    ∙ sym (append_assoc (row_before watched x.event round asked w) (rows_before watched steps next wish x.after) (row_of watched (round_along steps next) (asked_along steps wish) v))
 
--- behind a text stand the rows of the rounds that ended so far; and the round that has not
-pub record AreRowsTo (watched : List Watched) (c : Config) (w : World) (events : List TraceEvent) (v : World) (before text : List ℕ) (round : ℕ) : Type 0 where
+-- behind a text stand the rows of the rounds that ended so far; the round that has not, and what is asked for
+pub record AreRowsTo (watched : List Watched) (c : Config) (w : World) (events : List TraceEvent) (v : World) (before text : List ℕ) (round : ℕ) (asked : Asked) : Type 0 where
   pub steps : List Step
   pub are : AreStepsOf c w events v steps
-  pub is : text ≡ before ++ rows_before watched steps 0 w
+  pub is : text ≡ before ++ rows_before watched steps 0 nothing_asked w
   pub at : round ≡ round_along steps 0
+  pub asks : asked ≡ asked_along steps nothing_asked
 
 -- none yet
-pub rows_none : (watched : List Watched) (c : Config) (w : World) (text : List ℕ) → AreRowsTo watched c w [] w text text 0
-rows_none watched c w text = record { steps = []; are = record { of = refl; lead = refl }; is = sym (append-nil text); at = refl }
+pub rows_none : (watched : List Watched) (c : Config) (w : World) (text : List ℕ) (asked : Asked) → asked ≡ nothing_asked → AreRowsTo watched c w [] w text text 0 asked
+rows_none watched c w text asked none = record { steps = []; are = record { of = refl; lead = refl }; is = sym (append-nil text); at = refl; asks = none }
 
 -- one event more
-pub rows_next : (watched : List Watched) (c : Config) (w m v : World) (events : List TraceEvent) (i : ℕ) (before text now : List ℕ) (round next : ℕ) (e : TraceEvent) (reply : Reply) → slice_get events i ≡ Some e
-    → AreRowsTo watched c w (take i events) m before text round → TakesWith c m e reply v → next ≡ round_behind e round → now ≡ text ++ row_before watched e round m → AreRowsTo watched c w (take (i + 1) events) v before now next
-rows_next watched c w m v events i before text now round next e reply there to last behind is =
+pub rows_next : (watched : List Watched) (c : Config) (w m v : World) (events : List TraceEvent) (i : ℕ) (before text now : List ℕ) (round next : ℕ) (asked wish : Asked) (e : TraceEvent) (reply : Reply) → slice_get events i ≡ Some e
+    → AreRowsTo watched c w (take i events) m before text round asked → TakesWith c m e reply v → next ≡ round_behind e round → wish ≡ asked_at e reply asked → now ≡ text ++ row_before watched e round asked m
+    → AreRowsTo watched c w (take (i + 1) events) v before now next wish
+rows_next watched c w m v events i before text now round next asked wish e reply there to last behind after is =
     let s : Step = record { event = e; reply = reply; after = v } in
-    let row = row_before watched e (round_along to.steps 0) m in
+    let row = row_before watched e (round_along to.steps 0) (asked_along to.steps nothing_asked) m in
     record {
       steps = and_then to.steps e reply v;
       are = step_more c w m v events i to.steps e reply there to.are last;
       is =
-          is ∙ ap₂ (λ (l r : List ℕ). l ++ r) to.is (ap (λ n. row_before watched e n m) to.at) ∙ append_assoc before (rows_before watched to.steps 0 w) row
-          ∙ ap (λ (l : List ℕ). before ++ l) (sym (rows_more watched c w m to.steps s 0 to.are.lead));
+          is ∙ ap₂ (λ (l r : List ℕ). l ++ r) to.is (ap₂ (λ n (a : Asked). row_before watched e n a m) to.at to.asks) ∙ append_assoc before (rows_before watched to.steps 0 nothing_asked w) row
+          ∙ ap (λ (l : List ℕ). before ++ l) (sym (rows_more watched c w m to.steps s 0 nothing_asked to.are.lead));
       at = behind ∙ ap (round_behind e) to.at ∙ sym (round_more to.steps s 0);
+      asks = after ∙ ap (asked_at e reply) to.asks ∙ sym (asked_more to.steps s nothing_asked);
     }
 
 -- all of them, and the row of the last
-pub rows_all : (watched : List Watched) (c : Config) (w v : World) (events : List TraceEvent) (n : ℕ) (before text now : List ℕ) (round : ℕ) → length events ≤ n → AreRowsTo watched c w (take n events) v before text round → now ≡ text ++ row_of watched round v
-    → (rows : List ℕ) × (now ≡ before ++ rows) × AreRowsAlong watched c w events v rows
-rows_all watched c w v events n before text now round e to is = (
-  rows_along watched to.steps 0 w,
-  is ∙ ap₂ (λ (l r : List ℕ). l ++ r) to.is (ap (λ k. row_of watched k v) to.at) ∙ append_assoc before (rows_before watched to.steps 0 w) (row_of watched (round_along to.steps 0) v)
-      ∙ ap (λ (l : List ℕ). before ++ l) (sym (rows_last watched c w v to.steps 0 to.are.lead)),
+pub rows_all : (watched : List Watched) (c : Config) (w v : World) (events : List TraceEvent) (n : ℕ) (before text now : List ℕ) (round : ℕ) (asked : Asked) → length events ≤ n → AreRowsTo watched c w (take n events) v before text round asked
+    → now ≡ text ++ row_of watched round asked v → (rows : List ℕ) × (now ≡ before ++ rows) × AreRowsAlong watched c w events v rows
+rows_all watched c w v events n before text now round asked e to is = (
+  rows_along watched to.steps 0 nothing_asked w,
+  is ∙ ap₂ (λ (l r : List ℕ). l ++ r) to.is (ap₂ (λ k (a : Asked). row_of watched k a v) to.at to.asks)
+      ∙ append_assoc before (rows_before watched to.steps 0 nothing_asked w) (row_of watched (round_along to.steps 0) (asked_along to.steps nothing_asked) v) ∙ ap (λ (l : List ℕ). before ++ l) (sym (rows_last watched c w v to.steps 0 nothing_asked to.are.lead)),
   record { steps = to.steps; are = subst (λ (l : List TraceEvent). AreStepsOf c w l v to.steps) (take_all n events e) to.are; is = refl },
 )

@@ -90,6 +90,7 @@ behind_array of_slot.Waits rest = refl
 behind_array of_slot.From rest = refl
 behind_array of_slot.To rest = refl
 behind_array of_slot.Car rest = refl
+behind_array of_slot.Assign rest = refl
 
 -- so a rest without the number of a slot is that of no slot
 pub no_slot : (name rest : List ℕ) → rest ≡ after_first is_bracket name → ((slot : ℕ) → IsIndex rest slot → ⊥) → (it : SlotName) (slot : ℕ) → IsOfSlot name it slot → ⊥

@@ -1,13 +1,19 @@
 -- Rows of a small trace, computed: two refreshes, with a press before the first and a start behind it.
-use Rattle.std.proofs.Common.{◌≡◌, List, [], ◌∷◌, ◌++◌, Bool, refl}
+use Rattle.std.proofs.Common.{◌≡◌, ℕ, List, [], ◌∷◌, ◌++◌, Bool, None, refl}
 use Rattle.lift_runs.specs.Along.{Step}
+use Rattle.lift_runs.specs.Shown.{Commit}
+use Rattle.lift_spec.specs.declared.calls.Answer.TheVariants.{Stale}
 use Rattle.lift_spec.specs.declared.calls.Call.{Call}
 use Rattle.lift_spec.specs.declared.image.Fields.{Fields}
+use Rattle.lift_spec.specs.declared.image.CarOutputs.{CarOutputs}
+use Rattle.lift_spec.specs.declared.report.Answered.{Answered}
 use Rattle.lift_spec.specs.declared.report.Report.{Report}
 use Rattle.lift_spec.specs.declared.trace.TraceEvent.TheVariants as traced
 use Rattle.lift_spec.specs.Replies.{New, Refreshed, Committed}
 use Rattle.lift_spec.specs.World.{World}
+use Rattle.lift_watch.specs.declared.asked.Asked.{Asked}
 use Rattle.lift_watch.specs.declared.names.Watched.{Watched}
+use Rattle.lift_watch.specs.Asked.{nothing_asked, asked_behind, serve_in, serve_at, assign_of}
 use Rattle.lift_watch.specs.Denials.{refresh_text, denials_text, answers_text}
 use Rattle.lift_watch.specs.Following.{denied_along, rows_along}
 use Rattle.lift_watch.specs.Values.{row_text}
@@ -18,8 +24,40 @@ module _ (call : Call) (fields later : Fields) (a b c : Report) (w m n o p q : W
       record { event = traced.Press call; reply = New; after = m } ∷ record { event = traced.Commit 0; reply = Committed a; after = n } ∷ record { event = traced.Refresh fields; reply = Refreshed b; after = o }
       ∷ record { event = traced.Commit 1; reply = Committed c; after = p } ∷ record { event = traced.Refresh later; reply = Refreshed a; after = q } ∷ []
 
-  rows : rows_along watched steps 0 w ≡ row_text watched 1 p ++ row_text watched 2 q
+  abbrev asked : Asked
+  asked = record { serves = serve_in c.answers ∷ 0 ∷ 0 ∷ 0 ∷ 0 ∷ 0 ∷ 0 ∷ 0 ∷ []; tells = a.answers }
+
+  rows : rows_along watched steps 0 nothing_asked w ≡ row_text watched 1 asked p ++ row_text watched 2 asked q
   rows = refl
 
   denied : denied_along all steps 0 ≡ (denials_text 0 a.denials ++ answers_text 0 0 a.answers) ++ (refresh_text all 1 b.denials ++ ((denials_text 1 c.denials ++ answers_text 1 1 c.answers) ++ (refresh_text all 2 a.denials ++ [])))
   denied = refl
+
+-- What is asked for behind commits of a small group, computed.
+module _ (outputs : List CarOutputs) where
+  abbrev tell : ℕ → ℕ → Answered
+  tell slot car = record { slot = slot; ticket = None; car = car; answer = Stale }
+
+  -- a commit with these answers
+  abbrev commit : ℕ → List Answered → Commit
+  commit t answers = record { task = t; report = record { outputs = outputs; denials = []; answers = answers; entered = [] } }
+
+  -- GROUP tells slot 3 to car 2 and slot 5 to car 1; then car 2 serves slot 3, and car 1 nothing
+  abbrev first : Asked
+  first = asked_behind (commit 0 (tell 3 2 ∷ tell 5 1 ∷ []) ∷ commit 2 (tell 3 2 ∷ []) ∷ commit 1 [] ∷ []) nothing_asked
+
+  told : (assign_of 3 first ≡ 2) × (assign_of 5 first ≡ 1) × (assign_of 4 first ≡ 0)
+  told = (refl, refl, refl)
+
+  served : (serve_at 1 first ≡ 3) × (serve_at 0 first ≡ 0) × (serve_at 7 first ≡ 0)
+  served = (refl, refl, refl)
+
+  -- then GROUP tells slot 4 to car 1, and car 2 serves nothing
+  abbrev later : Asked
+  later = asked_behind (commit 0 (tell 4 1 ∷ []) ∷ commit 2 [] ∷ []) first
+
+  told_later : (assign_of 3 later ≡ 0) × (assign_of 5 later ≡ 0) × (assign_of 4 later ≡ 1)
+  told_later = (refl, refl, refl)
+
+  served_later : (serve_at 1 later ≡ 0) × (serve_at 0 later ≡ 0)
+  served_later = (refl, refl)

@@ -57,5 +57,5 @@ denied all =
     record {
       of_refresh = λ round report. refresh_text all round report.denials;
       of_commit = λ round task report. denials_text round report.denials ++ answers_text round task report.answers;
-      of_round = λ round w. [];
+      of_round = λ round commits w. [];
     }

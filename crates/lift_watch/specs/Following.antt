@@ -8,7 +8,9 @@ use Rattle.lift_spec.specs.declared.trace.TraceEvent.{TraceEvent}
 use Rattle.lift_spec.specs.declared.trace.TraceEvent.TheVariants as traced
 use Rattle.lift_spec.specs.Replies.{Reply, Committed, Refreshed}
 use Rattle.lift_spec.specs.World.{World}
+use Rattle.lift_watch.specs.declared.asked.Asked.{Asked}
 use Rattle.lift_watch.specs.declared.names.Watched.{Watched}
+use Rattle.lift_watch.specs.Asked.{nothing_asked, asked_at}
 use Rattle.lift_watch.specs.Denials.{refresh_text, denials_text, answers_text}
 use Rattle.lift_watch.specs.Values.{row_text}
 
@@ -50,25 +52,25 @@ pub record IsDeniedAlong (all : Bool) (c : Config) (w : World) (events : List Tr
 -- VALUES
 
 -- the row of a round that is over; before the first refresh there is none
-abbrev pub row_of : List Watched → ℕ → World → List ℕ
-row_of watched zero w = []
-row_of watched (suc n) w = row_text watched (suc n) w
+abbrev pub row_of : List Watched → ℕ → Asked → World → List ℕ
+row_of watched zero asked w = []
+row_of watched (suc n) asked w = row_text watched (suc n) asked w
 
 -- the row of the round that an event ends: a refresh ends the round before it
-abbrev pub row_before : List Watched → TraceEvent → ℕ → World → List ℕ
-row_before watched (traced.Start t) round w = []
-row_before watched (traced.Commit t) round w = []
-row_before watched (traced.Press call) round w = []
-row_before watched (traced.Gather floor) round w = []
-row_before watched (traced.Refresh fields) round w = row_of watched round w
+abbrev pub row_before : List Watched → TraceEvent → ℕ → Asked → World → List ℕ
+row_before watched (traced.Start t) round asked w = []
+row_before watched (traced.Commit t) round asked w = []
+row_before watched (traced.Press call) round asked w = []
+row_before watched (traced.Gather floor) round asked w = []
+row_before watched (traced.Refresh fields) round asked w = row_of watched round asked w
 
 -- a row of each round, with the values behind its last event
-abbrev pub rows_along : List Watched → List Step → ℕ → World → List ℕ
-rows_along watched [] round w = row_of watched round w
-rows_along watched (s ∷ steps) round w = row_before watched s.event round w ++ rows_along watched steps (round_behind s.event round) s.after
+abbrev pub rows_along : List Watched → List Step → ℕ → Asked → World → List ℕ
+rows_along watched [] round asked w = row_of watched round asked w
+rows_along watched (s ∷ steps) round asked w = row_before watched s.event round asked w ++ rows_along watched steps (round_behind s.event round) (asked_at s.event s.reply asked) s.after
 
--- The rows are those of a trace's events, which the world takes one behind the other.
+-- The rows are those of a trace's events, which the world takes one behind the other. Nothing was asked for before.
 pub record AreRowsAlong (watched : List Watched) (c : Config) (w : World) (events : List TraceEvent) (v : World) (rows : List ℕ) : Type 0 where
   pub steps : List Step
   pub are : AreStepsOf c w events v steps
-  pub is : rows ≡ rows_along watched steps 0 w
+  pub is : rows ≡ rows_along watched steps 0 nothing_asked w

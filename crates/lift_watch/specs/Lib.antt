@@ -1,5 +1,7 @@
+pub mod Asked
 pub mod Calls
 pub mod Denials
 pub mod Following
 pub mod Names
 pub mod Values
+pub mod Wished

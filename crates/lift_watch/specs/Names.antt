@@ -4,7 +4,7 @@ use Rattle.std.specs.Char.{to_ascii_uppercase}
 use Rattle.lift_host.specs.Requests.{IsNumberTo}
 use Rattle.lift_spec.specs.Snapshot.{task_name}
 use Rattle.lift_watch.specs.declared.names.CarName.{CarName}
-use Rattle.lift_watch.specs.declared.names.CarName.TheVariants.{Pos, Level, Top, Bottom, Locked, Opened, Motor, Open}
+use Rattle.lift_watch.specs.declared.names.CarName.TheVariants.{Pos, Level, Top, Bottom, Locked, Opened, Motor, Open, Serve}
 use Rattle.lift_watch.specs.declared.names.Shared.{Shared as SharedName}
 use Rattle.lift_watch.specs.declared.names.Shared.TheVariants.{Now, RunLimit, Fire}
 use Rattle.lift_watch.specs.declared.names.SlotName.{SlotName}
@@ -32,13 +32,15 @@ word_of_car_name Locked = codes "LOCKED"
 word_of_car_name Opened = codes "OPENED"
 word_of_car_name Motor = codes "MOTOR"
 word_of_car_name Open = codes "OPEN"
+word_of_car_name Serve = codes "SERVE"
 
--- the arrays of the call slots
+-- the arrays of the call slots; ASSIGN is GROUP's own
 abbrev pub word_of_slot_name : SlotName → List ℕ
 word_of_slot_name of_slot.Waits = codes "CALLWAITS"
 word_of_slot_name of_slot.From = codes "CALLFROM"
 word_of_slot_name of_slot.To = codes "CALLTO"
 word_of_slot_name of_slot.Car = codes "CALLCAR"
+word_of_slot_name of_slot.Assign = codes "GROUP.ASSIGN"
 
 -- behind an opening bracket stand the number of a slot, from 1 on, and the closing bracket
 pub record IsIndex (rest : List ℕ) (slot : ℕ) : Type 0 where

@@ -1,5 +1,5 @@
 -- What `watch` prints (own rules).
-use Rattle.std.specs.Prelude.{◌≡◌, ℕ, zero, suc, true, false, List, [], ◌∷◌, ◌++◌, flat_map, slice_get, Option, Some, None, option_map, option_and_then, pos, codes, decimal, string_bytes}
+use Rattle.std.specs.Prelude.{◌≡◌, ℕ, zero, suc, Bool, true, false, if◌then◌else◌, List, [], ◌∷◌, ◌++◌, flat_map, slice_get, Option, Some, None, is_some, option_map, option_and_then, pos, codes, decimal, string_bytes}
 use Rattle.std.specs.Fmt.{signed_decimal}
 use Rattle.il_run.specs.declared.value.Value.{Value}
 use Rattle.il_run.specs.declared.value.Value.TheVariants.{Boolean, Integer}
@@ -12,11 +12,13 @@ use Rattle.lift_spec.specs.declared.image.CarOutputs.{CarOutputs}
 use Rattle.lift_spec.specs.declared.image.Fields.{Fields}
 use Rattle.lift_spec.specs.declared.image.Image.{Image}
 use Rattle.lift_spec.specs.Snapshot.{number, motor_number, waits, from_of, to_of, car_of}
-use Rattle.lift_spec.specs.World.{World, task_at}
+use Rattle.lift_spec.specs.World.{Group, World, task_at}
 use Rattle.lift_runs.specs.Shown.{Shows}
+use Rattle.lift_watch.specs.Asked.{nothing_asked, asked_behind, serve_at, assign_of}
 use Rattle.lift_watch.specs.Names.{IsReadAs}
+use Rattle.lift_watch.specs.declared.asked.Asked.{Asked}
 use Rattle.lift_watch.specs.declared.names.CarName.{CarName}
-use Rattle.lift_watch.specs.declared.names.CarName.TheVariants.{Pos, Level, Top, Bottom, Locked, Opened, Motor, Open}
+use Rattle.lift_watch.specs.declared.names.CarName.TheVariants.{Pos, Level, Top, Bottom, Locked, Opened, Motor, Open, Serve}
 use Rattle.lift_watch.specs.declared.names.Shared.{Shared as SharedName}
 use Rattle.lift_watch.specs.declared.names.Shared.TheVariants.{Now, RunLimit, Fire}
 use Rattle.lift_watch.specs.declared.names.SlotName.{SlotName}
@@ -30,41 +32,55 @@ shared_value Now fields = Integer (pos fields.time)
 shared_value RunLimit fields = Integer (pos fields.run_limit)
 shared_value Fire fields = Boolean fields.fire
 
--- what the plant reports of a car, and its outputs
-abbrev pub value_in_car : CarName → CarFields → CarOutputs → Value
-value_in_car Pos fields outputs = Integer (pos fields.pos)
-value_in_car Level fields outputs = Boolean fields.level
-value_in_car Top fields outputs = Boolean fields.top
-value_in_car Bottom fields outputs = Boolean fields.bottom
-value_in_car Locked fields outputs = Boolean fields.locked
-value_in_car Opened fields outputs = Boolean fields.opened
-value_in_car Motor fields outputs = Integer (motor_number outputs.motor)
-value_in_car Open fields outputs = Boolean outputs.opens
+-- what the plant reports of a car, its outputs, and the slot that it asked to serve
+abbrev pub value_in_car : CarName → ℕ → CarFields → CarOutputs → Value
+value_in_car Pos serve fields outputs = number fields.pos
+value_in_car Level serve fields outputs = Boolean fields.level
+value_in_car Top serve fields outputs = Boolean fields.top
+value_in_car Bottom serve fields outputs = Boolean fields.bottom
+value_in_car Locked serve fields outputs = Boolean fields.locked
+value_in_car Opened serve fields outputs = Boolean fields.opened
+value_in_car Motor serve fields outputs = Integer (motor_number outputs.motor)
+value_in_car Open serve fields outputs = Boolean outputs.opens
+value_in_car Serve serve fields outputs = number serve
 
 -- the value of a name of a car's image, where the group has the car; cars count from 1
-abbrev pub car_value_in : ℕ → CarName → Image → Option Value
-car_value_in zero name image = None
-car_value_in (suc k) name image = option_and_then (λ (fields : CarFields). option_map (value_in_car name fields) (slice_get image.outputs k)) (slice_get image.fields.cars k)
+abbrev pub car_value_in : ℕ → CarName → Asked → Image → Option Value
+car_value_in zero name asked image = None
+car_value_in (suc k) name asked image = option_and_then (λ (fields : CarFields). option_map (value_in_car name (serve_at k asked) fields) (slice_get image.outputs k)) (slice_get image.fields.cars k)
 
--- what the tasks see of a call slot
-abbrev pub value_in_slot : SlotName → CallSlot → Value
-value_in_slot of_slot.Waits place = Boolean (waits place)
-value_in_slot of_slot.From place = number (from_of place)
-value_in_slot of_slot.To place = number (to_of place)
-value_in_slot of_slot.Car place = number (car_of place)
+-- what the tasks see of a call slot, and the car that GROUP asked to tell it to
+abbrev pub value_in_slot : SlotName → ℕ → CallSlot → Value
+value_in_slot of_slot.Waits assign place = Boolean (waits place)
+value_in_slot of_slot.From assign place = number (from_of place)
+value_in_slot of_slot.To assign place = number (to_of place)
+value_in_slot of_slot.Car assign place = number (car_of place)
+value_in_slot of_slot.Assign assign place = number assign
 
--- the value of a call slot's name, where the group has the slot; slots count from 1
-abbrev pub slot_value_in : ℕ → SlotName → List CallSlot → Option Value
-slot_value_in zero name slots = None
-slot_value_in (suc k) name slots = option_map (value_in_slot name) (slice_get slots k)
+-- whether a group has a name of the call slots: ASSIGN where it has a GROUP
+abbrev pub has_slot_name : SlotName → Group → Bool
+has_slot_name of_slot.Waits g = true
+has_slot_name of_slot.From g = true
+has_slot_name of_slot.To g = true
+has_slot_name of_slot.Car g = true
+has_slot_name of_slot.Assign g = is_some (task_at g 0)
 
--- what a name stands for in a world; a variable has the value that its task's last commit left
-abbrev pub value_of : Watched → World → Option Value
-value_of (Shared name) w = Some (shared_value name w.group.image.fields)
-value_of (Slot name slot) w = slot_value_in slot name w.group.calls.slots
-value_of (Car car name) w = car_value_in car name w.group.image
-value_of (Variable task path) w = option_and_then (λ t. values.get t.variables path.now) (task_at w.group task)
-value_of (Global path) w = values.get w.group.globals path.now
+-- the value of a call slot's name, where there is the slot; slots count from 1
+abbrev pub slot_value_at : ℕ → SlotName → ℕ → List CallSlot → Option Value
+slot_value_at zero name assign slots = None
+slot_value_at (suc k) name assign slots = option_map (value_in_slot name assign) (slice_get slots k)
+
+-- and where the group has the name
+abbrev pub slot_value_in : ℕ → SlotName → Asked → Group → Option Value
+slot_value_in slot name asked g = if has_slot_name name g then slot_value_at slot name (assign_of slot asked) g.calls.slots else None
+
+-- What a name stands for in a world, behind commits that asked for this; a variable has the value that its task's last commit left.
+abbrev pub value_of : Watched → Asked → World → Option Value
+value_of (Shared name) asked w = Some (shared_value name w.group.image.fields)
+value_of (Slot name slot) asked w = slot_value_in slot name asked w.group
+value_of (Car car name) asked w = car_value_in car name asked w.group.image
+value_of (Variable task path) asked w = option_and_then (λ t. values.get t.variables path.now) (task_at w.group task)
+value_of (Global path) asked w = values.get w.group.globals path.now
 
 -- TRUE, FALSE or a decimal, behind a comma; nothing but the comma where there is no value
 abbrev pub value_text : Option Value → List ℕ
@@ -74,16 +90,21 @@ value_text (Some (Boolean false)) = codes ",FALSE"
 value_text (Some (Integer z)) = codes "," ++ signed_decimal z
 
 -- the values, one behind the other
-abbrev pub values_text : List Watched → World → List ℕ
-values_text watched w = flat_map (λ (it : Watched). value_text (value_of it w)) watched
+abbrev pub values_text : List Watched → Asked → World → List ℕ
+values_text watched asked w = flat_map (λ (it : Watched). value_text (value_of it asked w)) watched
 
 -- a line of the number of the round and the values behind it
-abbrev pub row_text : List Watched → ℕ → World → List ℕ
-row_text watched round w = decimal round ++ (values_text watched w ++ codes "\n")
+abbrev pub row_text : List Watched → ℕ → Asked → World → List ℕ
+row_text watched round asked w = decimal round ++ (values_text watched asked w ++ codes "\n")
 
--- what is written of each round
+-- what is written of each round, behind commits that asked for this
+abbrev pub watching_behind : Asked → List Watched → Shows
+watching_behind asked watched =
+    record { of_refresh = λ round report. []; of_commit = λ round task report. []; of_round = λ round commits w. row_text watched round (asked_behind commits asked) w }
+
+-- what is written of each round of a simulation
 abbrev pub watching : List Watched → Shows
-watching watched = record { of_refresh = λ round report. []; of_commit = λ round task report. []; of_round = row_text watched }
+watching watched = watching_behind nothing_asked watched
 
 -- the names, each behind a comma
 abbrev pub names_text : List (List ℕ) → List ℕ
@@ -93,12 +114,12 @@ names_text names = flat_map (λ (name : List ℕ). codes "," ++ name) names
 abbrev pub header_text : List (List ℕ) → List ℕ
 header_text names = codes "ROUND" ++ (names_text names ++ codes "\n")
 
--- the names stand for these, each of which has a value in the world
+-- the names stand for these, each of which has a value in the world, where nothing was asked for yet
 abbrev pub AreWatched : World → List (List ℕ) → List Watched → Type 0
 AreWatched w [] [] = Unit {0}
 AreWatched w [] (it ∷ watched) = ⊥
 AreWatched w (name ∷ names) [] = ⊥
-AreWatched w (name ∷ names) (it ∷ watched) = IsReadAs name it × (value_of it w ≡ None → ⊥) × AreWatched w names watched
+AreWatched w (name ∷ names) (it ∷ watched) = IsReadAs name it × (value_of it nothing_asked w ≡ None → ⊥) × AreWatched w names watched
 
 -- this is one of the names, and has no value in the world
 pub record IsUnknown (w : World) (names : List (List ℕ)) (name : List ℕ) : Type 0 where
@@ -106,7 +127,7 @@ pub record IsUnknown (w : World) (names : List (List ℕ)) (name : List ℕ) : T
   pub stands : slice_get names place ≡ Some name
   pub it : Watched
   pub read : IsReadAs name it
-  pub none : value_of it w ≡ None
+  pub none : value_of it nothing_asked w ≡ None
 
 -- Names can't be watched: the one that is named has no value. Memory may be missing.
 abbrev pub IsUnnamed : World → List (List ℕ) → Fault → Type 0

@@ -3,8 +3,10 @@
 ghost use Rattle.std.specs.Prelude.{◌≡◌, ◌+◌, ◌++◌, ◌^◌, ◌<◌, ℕ, List, length, IfErr, IfOk, OnOk, string_bytes};
 ghost use Rattle.lift_runs.specs.Along.{IsStopped};
 ghost use Rattle.lift_spec.specs.Replies.{reply_with};
+ghost use Rattle.lift_watch.specs.Asked.{asked_at, asked_by};
 ghost use Rattle.lift_watch.specs.Following.{round_behind, denials_in, denied_at, row_of, row_before, IsDeniedAlong, AreRowsAlong};
 
+use crate::asked::Asked;
 use crate::calls::answers_of;
 use crate::denials::{put_answers, put_denials, put_refresh};
 use crate::names::Watched;
@@ -62,15 +64,19 @@ pub fn rows_along(
     ensures same { world.new.program ≡ world.old.program }
 {
     let mut report = Report::new();
+    let mut asked = Asked::new();
     let mut round: u32 = 0;
     'events: for (index, event) in events.iter().enumerate() {
-        put_row_before(text, watched, event, round, world)?;
-        if let Err(fault) = reply_to(world, event, &mut report) {
-            return Err(Stop::Refused(Refused { index, fault }));
+        put_row_before(text, watched, event, round, &asked, world)?;
+        match reply_to(world, event, &mut report) {
+            Ok(reply) => {
+                note_asked(&mut asked, event, reply, &report);
+                round = round_behind(event, round);
+            }
+            Err(fault) => return Err(Stop::Refused(Refused { index, fault })),
         }
-        round = round_behind(event, round);
     }
-    put_row_of(text, watched, round, world)?;
+    put_row_of(text, watched, round, &asked, world)?;
     Ok(())
 }
 
@@ -117,19 +123,38 @@ fn put_denied(
     }
 }
 
+// What is asked for behind an event, by what the world replied to it.
+fn note_asked(asked: &mut Asked, event: &TraceEvent, reply: Reply, report: &Report)
+    ensures { asked.new ≡ asked_at event.now (reply_with reply report.now) asked.old }
+{
+    if let TraceEvent::Commit(task) = event {
+        note_commit(asked, *task, reply, report);
+    }
+}
+
+// What is asked for behind a commit that has reported.
+fn note_commit(asked: &mut Asked, task: u8, reply: Reply, report: &Report)
+    ensures { asked.new ≡ asked_by task (reply_with reply report.now) asked.old }
+{
+    if let Reply::Committed = reply {
+        asked.commit(task, report);
+    }
+}
+
 // The row of the round that an event ends.
 fn put_row_before(
     text: &mut String,
     watched: &[Watched<'_>],
     event: &TraceEvent,
     round: u32,
+    asked: &Asked,
     world: &World,
 ) -> Result<(), AllocError>
     ensures { OnOk result (string_bytes text.new ≡ string_bytes text.old
-        ++ row_before watched.now event.now round world.now.world) }
+        ++ row_before watched.now event.now round asked.now world.now.world) }
 {
     match event {
-        TraceEvent::Refresh(_) => put_row_of(text, watched, round, world),
+        TraceEvent::Refresh(_) => put_row_of(text, watched, round, asked, world),
         _ => Ok(()),
     }
 }
@@ -139,13 +164,14 @@ fn put_row_of(
     text: &mut String,
     watched: &[Watched<'_>],
     round: u32,
+    asked: &Asked,
     world: &World,
 ) -> Result<(), AllocError>
     ensures { OnOk result (string_bytes text.new ≡ string_bytes text.old
-        ++ row_of watched.now round world.now.world) }
+        ++ row_of watched.now round asked.now world.now.world) }
 {
     if round == 0 {
         return Ok(());
     }
-    put_row(text, round, world, watched)
+    put_row(text, round, asked, world, watched)
 }

@@ -1,6 +1,7 @@
 //! What sees a simulation or a trace go by, and writes of it: what the interlock denied, values behind each round, the calls.
 #![tactic(auto)]
 
+pub mod asked;
 pub mod calls;
 pub mod denials;
 pub mod following;

@@ -23,7 +23,7 @@ pub enum Shared {
     Fire,
 }
 
-/// A name of the image that each car has.
+/// A name of the image that each car has: what the plant reports of it, and its outputs.
 #[derive(Clone, Copy)]
 pub enum CarName {
     /// The floor, from 1 on.
@@ -36,6 +36,8 @@ pub enum CarName {
     /// 1 is up, -1 is down.
     Motor,
     Open,
+    /// The slot that its last commit asked to serve, or 0.
+    Serve,
 }
 
 /// A name of the image that each call slot has.
@@ -48,6 +50,8 @@ pub enum SlotName {
     To,
     /// The car that its call was told to, or 0.
     Car,
+    /// The car that GROUP's last commit asked to tell it to, or 0.
+    Assign,
 }
 
 /// What a name stands for. A task is 0 for GROUP and k for CARk, and slots count from 1.
@@ -106,6 +110,7 @@ impl CarName {
             "OPENED" => Some(CarName::Opened),
             "MOTOR" => Some(CarName::Motor),
             "OPEN" => Some(CarName::Open),
+            "SERVE" => Some(CarName::Serve),
             _ => None,
         }
     }
@@ -122,6 +127,7 @@ impl SlotName {
             "CALLFROM" => Some(SlotName::From),
             "CALLTO" => Some(SlotName::To),
             "CALLCAR" => Some(SlotName::Car),
+            "GROUP.ASSIGN" => Some(SlotName::Assign),
             _ => None,
         }
     }

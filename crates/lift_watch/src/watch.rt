@@ -1,9 +1,12 @@
 // What `watch` prints.
 
-ghost use Rattle.std.specs.Prelude.{◌≡◌, ◌++◌, [], None, flat_map, IfOk, IfErr, OnOk, map, string_bytes, codes, pos};
+ghost use Rattle.std.specs.Prelude.{◌≡◌, ◌++◌, [], None, flat_map, IfOk, IfErr, OnOk, is_some, map, string_bytes, codes, pos};
 ghost use Rattle.lift_spec.specs.Snapshot.{motor_number, from_of, to_of, car_of};
-ghost use Rattle.lift_watch.specs.Values.{shared_value, value_in_car, car_value_in, value_in_slot, slot_value_in, value_of, value_text, names_text, values_text, row_text, header_text, AreWatched, IsUnnamed};
+ghost use Rattle.lift_spec.specs.World.{task_at};
+ghost use Rattle.lift_watch.specs.Asked.{nothing_asked};
+ghost use Rattle.lift_watch.specs.Values.{shared_value, value_in_car, car_value_in, value_in_slot, has_slot_name, slot_value_at, slot_value_in, value_of, value_text, names_text, values_text, row_text, header_text, AreWatched, IsUnnamed};
 
+use crate::asked::Asked;
 use crate::names::{CarName, Shared, SlotName, Watched, read};
 use il_machine::Value;
 use lift_host::status::Fault;
@@ -20,6 +23,8 @@ use std::alloc::{AllocError, Global};
 pub struct Watch<'n> {
     /// What the names stand for.
     pub watched: Items<Watched<'n>>,
+    /// What the commits so far asked for.
+    pub asked: Asked,
     /// The lines so far.
     pub text: String,
 }
@@ -29,29 +34,35 @@ impl<'n> Watch<'n> {
     pub fn of(alloc: Global, world: &World, names: &'n [String]) -> Result<Watch<'n>, Fault>
         ensures known { IfOk result (λ watch. AreWatched world.now.world
             (map string_bytes names.now) watch.watched) }
+        ensures asked { IfOk result (λ watch. watch.asked ≡ nothing_asked) }
         ensures header { IfOk result (λ watch. string_bytes watch.text
             ≡ header_text (map string_bytes names.now)) }
         ensures unknown { IfErr result (IsUnnamed world.now.world (map string_bytes names.now)) }
     {
         let watched = watched_of(alloc, world, names)?;
         let text = header(alloc, names)?;
-        Ok(Watch { watched, text })
+        Ok(Watch {
+            watched,
+            asked: Asked::new(),
+            text,
+        })
     }
 }
 
 impl Observer for Watch<'_> {
     ghost use Rattle.std.specs.Prelude.{string_bytes};
-    ghost use Rattle.lift_watch.specs.Values.{watching};
+    ghost use Rattle.lift_watch.specs.Values.{watching_behind};
 
     ghost text = { λ w. string_bytes w.text };
 
-    ghost shows = { λ w. watching w.watched };
+    ghost shows = { λ w. watching_behind w.asked w.watched };
 
     fn refreshed(&mut self, _round: u16, _report: &Report) -> Result<(), AllocError> {
         Ok(())
     }
 
-    fn committed(&mut self, _round: u16, _task: u8, _report: &Report) -> Result<(), AllocError> {
+    fn committed(&mut self, _round: u16, task: u8, report: &Report) -> Result<(), AllocError> {
+        self.asked.commit(task, report);
         Ok(())
     }
 
@@ -59,6 +70,7 @@ impl Observer for Watch<'_> {
         put_row(
             &mut self.text,
             u32::from(round),
+            &self.asked,
             world,
             self.watched.as_slice(),
         )
@@ -76,9 +88,10 @@ fn watched_of<'n>(
     ensures unknown { IfErr result (IsUnnamed world.now.world (map string_bytes names.now)) }
 {
     let mut watched = Items::new(alloc);
+    let nothing = Asked::new();
     'names: for name in names {
         let it = read(name);
-        if value_of(world, it).is_none() {
+        if value_of(world, &nothing, it).is_none() {
             return Err(Fault::BadName(String::from_str(alloc, name)?));
         }
         watched.push(it)?;
@@ -111,23 +124,29 @@ fn put_names(text: &mut String, names: &[String]) -> Result<(), AllocError>
 pub fn put_row(
     text: &mut String,
     round: u32,
+    asked: &Asked,
     world: &World,
     watched: &[Watched<'_>],
 ) -> Result<(), AllocError>
     ensures { OnOk result (string_bytes text.new ≡ string_bytes text.old
-        ++ row_text watched.now round world.now.world) }
+        ++ row_text watched.now round asked.now world.now.world) }
 {
     write!(text, "{}", round)?;
-    put_values(text, world, watched)?;
+    put_values(text, asked, world, watched)?;
     text.push_str("\n")
 }
 
-fn put_values(text: &mut String, world: &World, watched: &[Watched<'_>]) -> Result<(), AllocError>
+fn put_values(
+    text: &mut String,
+    asked: &Asked,
+    world: &World,
+    watched: &[Watched<'_>],
+) -> Result<(), AllocError>
     ensures { OnOk result (string_bytes text.new ≡ string_bytes text.old
-        ++ values_text watched.now world.now.world) }
+        ++ values_text watched.now asked.now world.now.world) }
 {
     'values: for it in watched {
-        put_value(text, value_of(world, *it))?;
+        put_value(text, value_of(world, asked, *it))?;
     }
     Ok(())
 }
@@ -143,14 +162,14 @@ fn put_value(text: &mut String, value: Option<Value>) -> Result<(), AllocError>
     }
 }
 
-// The value in a world.
-fn value_of(world: &World, watched: Watched<'_>) -> Option<Value>
-    ensures { result ≡ value_of watched.entry world.now.world }
+// The value in a world, behind commits that asked for this.
+fn value_of(world: &World, asked: &Asked, watched: Watched<'_>) -> Option<Value>
+    ensures { result ≡ value_of watched.entry asked.now world.now.world }
 {
     match watched {
         Watched::Shared(name) => Some(shared_value(&world.image().fields, name)),
-        Watched::Slot(name, slot) => slot_value(world, slot, name),
-        Watched::Car(car, name) => car_value(world.image(), car, name),
+        Watched::Slot(name, slot) => slot_value(world, asked, slot, name),
+        Watched::Car(car, name) => car_value(world.image(), asked, car, name),
         Watched::Variable(task, path) => world.variable(task, path),
         Watched::Global(path) => world.global(path),
     }
@@ -166,24 +185,56 @@ fn shared_value(fields: &Fields, name: Shared) -> Value
     }
 }
 
+// The value of a call slot's name, where the group has the name.
+fn slot_value(world: &World, asked: &Asked, slot: u8, name: SlotName) -> Option<Value>
+    ensures { result ≡ slot_value_in slot name asked.now world.now.world.group }
+{
+    if has_slot_name(world, name) {
+        slot_value_at(world, slot, name, asked.assign_of(slot))
+    } else {
+        None
+    }
+}
+
 // The value of a call slot's name; slots count from 1.
-fn slot_value(world: &World, slot: u8, name: SlotName) -> Option<Value>
-    ensures { result ≡ slot_value_in slot name world.now.world.group.calls.slots }
+fn slot_value_at(world: &World, slot: u8, name: SlotName, assign: u8) -> Option<Value>
+    ensures { result ≡ slot_value_at slot name assign world.now.world.group.calls.slots }
 {
     let place = usize::from(slot).checked_sub(1)?;
     let slots = world.slots();
-    let slot = slots.as_slice().get(place)?;
-    Some(value_in_slot(name, *slot))
+    let it = slots.as_slice().get(place)?;
+    Some(value_in_slot(name, assign, *it))
 }
 
-fn value_in_slot(name: SlotName, slot: Slot) -> Value
-    ensures { result ≡ value_in_slot name slot }
+// Whether the group has a name of the call slots: ASSIGN is of GROUP.
+fn has_slot_name(world: &World, name: SlotName) -> bool
+    ensures { result ≡ has_slot_name name world.now.world.group }
+{
+    match name {
+        SlotName::Assign => has_group(world),
+        _ => true,
+    }
+}
+
+// Whether there is a GROUP.
+fn has_group(world: &World) -> bool
+    ensures { result ≡ is_some (task_at world.now.world.group 0) }
+{
+    let _image = world.image();
+    let verified = world.verified();
+    let _config = verified.config();
+    verified.has_task(0)
+}
+
+fn value_in_slot(name: SlotName, assign: u8, slot: Slot) -> Value
+    ensures { result ≡ value_in_slot name assign slot }
 {
     match name {
         SlotName::Waits => Value::Boolean(matches!(slot, Slot::Waiting { .. })),
         SlotName::From => Value::Integer(i64::from(from_of(slot))),
         SlotName::To => Value::Integer(i64::from(to_of(slot))),
         SlotName::Car => Value::Integer(i64::from(car_of(slot))),
+        SlotName::Assign => Value::Integer(i64::from(assign)),
     }
 }
 
@@ -220,17 +271,17 @@ fn car_of(slot: Slot) -> u8
 }
 
 // The value of a car's name; cars count from 1.
-fn car_value(image: &Image, car: u8, name: CarName) -> Option<Value>
-    ensures { result ≡ car_value_in car name image.now }
+fn car_value(image: &Image, asked: &Asked, car: u8, name: CarName) -> Option<Value>
+    ensures { result ≡ car_value_in car name asked.now image.now }
 {
     let place = usize::from(car).checked_sub(1)?;
     let fields = image.fields.cars.as_slice().get(place)?;
     let outputs = image.outputs.as_slice().get(place)?;
-    Some(value_in_car(name, fields, outputs))
+    Some(value_in_car(name, asked.serve_at(place), fields, outputs))
 }
 
-fn value_in_car(name: CarName, fields: &CarFields, outputs: &CarOutputs) -> Value
-    ensures { result ≡ value_in_car name fields.now outputs.now }
+fn value_in_car(name: CarName, serve: u8, fields: &CarFields, outputs: &CarOutputs) -> Value
+    ensures { result ≡ value_in_car name serve fields.now outputs.now }
 {
     match name {
         CarName::Pos => Value::Integer(i64::from(fields.pos)),
@@ -241,6 +292,7 @@ fn value_in_car(name: CarName, fields: &CarFields, outputs: &CarOutputs) -> Valu
         CarName::Opened => Value::Boolean(fields.opened),
         CarName::Motor => Value::Integer(number_of(outputs.motor)),
         CarName::Open => Value::Boolean(outputs.opens),
+        CarName::Serve => Value::Integer(i64::from(serve)),
     }
 }
 

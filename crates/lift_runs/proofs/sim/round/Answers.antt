@@ -14,9 +14,9 @@ use Rattle.lift_journal.proofs.Desks.{refresh_keeps, each_keeps}
 use Rattle.lift_journal.proofs.Taking.{desk_closes, refresh_closes}
 use Rattle.il_machine.proofs.Sizes.{sizes_fit}
 use Rattle.lift_runs.specs.Driven.{AreTasks, call_of}
-use Rattle.lift_runs.specs.Shown.{Shows, ScansShown}
+use Rattle.lift_runs.specs.Shown.{ScansCommit, behind_all, sight_text}
 use Rattle.lift_runs.proofs.Driving.{tasks_are}
-use Rattle.lift_runs.proofs.Showing.{texts_joined}
+use Rattle.lift_runs.proofs.Showing.{sight_next}
 use Rattle.lift_runs.proofs.sim.round.Goals as goal
 
 pub refresh-requires : goal.refresh-requires
@@ -51,24 +51,27 @@ returns-clause-round g c =
     subst (λ (f : Fields). happens p.config c.desk.new.world.world (Refresh f) ≡ Ok (c.refresh.new.world.world, Refreshed report)) c.plant_step-plant.ensures.fields
     (subst (λ (x : Program). happens x.config c.desk.new.world.world (Refresh c.plant_step-plant.result.1) ≡ Ok (c.refresh.new.world.world, Refreshed report)) c.desk.ensures.same c.in_ok-refresh.ensures.taken)
     in
-    let number = c.args.number in
+    let n = c.args.number in
     let shows = g.O.Observer.shows c.args.observer.now in
     let world = c.scan_all.new.world.world in
+    let text = g.O.Observer.text c.args.observer.now in
     let told = c.in_ok-scan_all.ensures.scans in
-    let shown : ScansShown shows number p.config (tasks_in_order p.config) c.refresh.new.world.world world told.0 =
-    subst (λ (ts : List ℕ). ScansShown shows number p.config ts c.refresh.new.world.world world told.0) c.requires.tasks
-    (subst (λ (s : Shows). ScansShown s number p.config c.args.tasks.now c.refresh.new.world.world world told.0) c.in_ok-refreshed.ensures.same
-    (subst (λ (x : Program). ScansShown (g.O.Observer.shows c.refreshed.new.self) number x.config c.args.tasks.now c.refresh.new.world.world world told.0) (c.refresh.ensures.same ∙ c.desk.ensures.same) told.2))
+    let commits = told.0 in
+    let after : g.O.Observer.shows c.scan_all.new.observer ≡ behind_all commits shows = told.3 ∙ ap (behind_all commits) c.in_ok-refreshed.ensures.same in
+    let scans : ScansCommit p.config (tasks_in_order p.config) c.refresh.new.world.world world commits =
+    subst (λ (ts : List ℕ). ScansCommit p.config ts c.refresh.new.world.world world commits) c.requires.tasks
+    (subst (λ (x : Program). ScansCommit x.config c.args.tasks.now c.refresh.new.world.world world commits) (c.refresh.ensures.same ∙ c.desk.ensures.same) told.1)
     in
     let last = entry.Refresh (fields_of_plant next) (entered_calls_of report) ∷ flat_map scan_entries (tasks_in_order p.config) in
     let first = ap (λ (f : Fields). c.args.entries.now.items ++ entry.Refresh f (entered_calls_of report) ∷ []) c.plant_step-plant.ensures.fields in (
       last,
       c.in_ok-scan_all.ensures.journal ∙ ap₂ (λ es ts. es ++ flat_map scan_entries ts) (c.in_ok-refresh.ensures.journal ∙ first) c.requires.tasks
           ∙ append_assoc c.args.entries.now.items (entry.Refresh (fields_of_plant next) (entered_calls_of report) ∷ []) (flat_map scan_entries (tasks_in_order p.config)),
-      shows.of_refresh number report ++ (told.0 ++ shows.of_round number world),
-      c.in_ok-ended.ensures.text ∙ ap (λ (s : Shows). g.O.Observer.text c.scan_all.new.observer ++ s.of_round number world) (c.in_ok-scan_all.ensures.shows ∙ c.in_ok-refreshed.ensures.same)
-          ∙ ap (λ l. l ++ shows.of_round number world) (told.1 ∙ ap (λ l. l ++ told.0) c.in_ok-refreshed.ensures.text)
-          ∙ texts_joined (g.O.Observer.text c.args.observer.now) (shows.of_refresh number report) told.0 (shows.of_round number world),
+      sight_text shows n [] report commits world,
+      sight_next shows (g.O.Observer.shows c.refreshed.new.self) (g.O.Observer.shows c.scan_all.new.observer) n report commits world text (g.O.Observer.text c.refreshed.new.self) (g.O.Observer.text c.scan_all.new.observer)
+          (g.O.Observer.text c.ended.new.self) c.in_ok-refreshed.ensures.text c.in_ok-refreshed.ensures.same told.2 told.3 c.in_ok-ended.ensures.text,
+      commits,
+      c.in_ok-ended.ensures.same ∙ after,
       (
         record {
           gathered = c.desk.new.world.world;
@@ -78,10 +81,11 @@ returns-clause-round g c =
           refreshed = c.refresh.new.world.world;
           report = report;
           refresh = refreshing;
-          scans = shown.0;
+          scans = scans.0;
           journal = refl;
         },
-        ap (λ l. shows.of_refresh number report ++ (l ++ shows.of_round number world)) shown.1,
+        scans.1,
+        refl,
       ),
     )
 
@@ -90,5 +94,5 @@ returns-clause-plant g c = let sizes = sizes_of c.args.world.now.program.config 
 
 pub returns-clause-idle : goal.returns-clause-idle
 returns-clause-idle g c = λ idle none.
-    each_keeps c.refresh.new.world.program.config c.args.tasks.now c.refresh.new.world.world c.scan_all.new.world.world c.in_ok-scan_all.ensures.scans.2.0
+    each_keeps c.refresh.new.world.program.config c.args.tasks.now c.refresh.new.world.world c.scan_all.new.world.world c.in_ok-scan_all.ensures.scans.1.0
     ∙ refresh_keeps c.desk.new.world.program.config c.desk.new.world.world c.refresh.new.world.world c.plant_step-plant.result.1 (Refreshed c.refresh.new.report) c.in_ok-refresh.ensures.taken ∙ c.desk.ensures.idle idle none

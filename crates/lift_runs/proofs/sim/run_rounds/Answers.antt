@@ -16,10 +16,10 @@ use Rattle.lift_journal.proofs.Safe.{rounds_keep_cars_safe}
 use Rattle.il_machine.proofs.Sizes.{sizes_fit}
 use Rattle.lift_runs.specs.Ahead.{press_round, of_round, IsAhead, IsStanding}
 use Rattle.lift_runs.specs.Driven.{call_of, calls_in, switches_in, ArePressed}
-use Rattle.lift_runs.specs.Shown.{Shows, RoundShown, RoundsShown}
+use Rattle.lift_runs.specs.Shown.{Shows, RoundShown, RoundsShown, behind_all}
 use Rattle.lift_runs.proofs.Driving.{opening_desk, none_left}
 use Rattle.lift_runs.proofs.Fronts.{ahead_of_copy, ahead_on, due_pressed, limit_in}
-use Rattle.lift_runs.proofs.Showing.{nil, rounds_next}
+use Rattle.lift_runs.proofs.Showing.{nil, behind_both, rounds_next}
 use Rattle.lift_runs.proofs.sim.run_rounds.Goals as goal
 use Rattle.lift_runs.proofs.sim.run_rounds.Goals.{then-idle, else-idle}
 
@@ -36,8 +36,13 @@ pub rounds-init : goal.rounds-init
 rounds-init g c =
     let config = c.args.world.now.program.config in
     record {
-      rounds = ([], sym (nil (g.O.Observer.text c.args.observer.now)), ((c.new-plant.ensures.plant ∙ ap (λ (s : Sizes). opening_plant s.cars s.floors) c.sizes-cars.ensures, c.requires.opening, c.requires.none), refl));
-      shows = refl;
+      rounds = (
+        [],
+        sym (nil (g.O.Observer.text c.args.observer.now)),
+        [],
+        refl,
+        ((c.new-plant.ensures.plant ∙ ap (λ (s : Sizes). opening_plant s.cars s.floors) c.sizes-cars.ensures, c.requires.opening, c.requires.none), refl, refl),
+      );
       plant = subst (λ (s : Sizes). IsPlantOf s c.new-plant.result) c.sizes-cars.ensures (c.new-plant.ensures.sized c.sizes-cars.result.slots);
       closed = λ j. ap (λ (w : World). is_some (scan_at w j)) c.requires.opening ∙ ap is_some (no_scan_open config j);
       ahead = ahead_of_copy press_round c.args.drive.presses.now c.in_ok-presses.presses.items c.deref-2.result.now c.deref.result.now c.presses_due.result c.in_ok-presses.ensures c.deref-2.ensures.value c.deref.ensures.value c.presses_due.ensures.later;
@@ -76,17 +81,22 @@ rounds-preserved g c =
     let stands = c.set_in-standing.ensures cars c.rounds.number settings refl c.rounds.invariant.standing in
     let before = c.rounds.invariant.rounds in
     let round = c.in_ok-plant.ensures.round in
-    let seen = subst (λ (s : Shows). RoundShown s n c.rounds.world.program.config (map call_of now) c.set_in-standing.result.switches c.rounds.plant c.in_ok-plant.plant c.rounds.world.world c.round.new.world.world round.0 round.2) c.rounds.invariant.shows round.4 in
-    let called = subst (λ (l : List Call). RoundShown shows n c.rounds.world.program.config l c.set_in-standing.result.switches c.rounds.plant c.in_ok-plant.plant c.rounds.world.world c.round.new.world.world round.0 round.2) (ap (map call_of) due) seen in
-    let set = subst (λ (s : Switches). RoundShown shows n c.rounds.world.program.config (calls_in presses n) s c.rounds.plant c.in_ok-plant.plant c.rounds.world.world c.round.new.world.world round.0 round.2) stands.is called in
+    let after = behind_all before.2 shows in
+    let shown : Shows → List Call → Switches → Type 0 =
+    λ s calls switches. RoundShown s n c.rounds.world.program.config calls switches c.rounds.plant c.in_ok-plant.plant c.rounds.world.world c.round.new.world.world round.0 round.4 round.2
+    in
+    let seen = subst (λ (s : Shows). shown s (map call_of now) c.set_in-standing.result.switches) before.3 round.6 in
+    let called = subst (λ (l : List Call). shown after l c.set_in-standing.result.switches) (ap (map call_of) due) seen in
+    let set = subst (λ (s : Switches). shown after (calls_in presses n) s) stands.is called in
     record {
       rounds = (
         before.0 ++ round.2,
         round.3 ∙ ap (λ l. l ++ round.2) before.1 ∙ append_assoc (g.O.Observer.text c.args.observer.now) before.0 round.2,
+        before.2 ++ round.4,
+        round.5 ∙ ap (behind_all round.4) before.3 ∙ sym (behind_both before.2 round.4 shows),
         rounds_next shows p c.rounds.world.program c.rounds.invariant.same (calls_in presses) (switches_in cars settings) c.rounds.number c.rounds.plant c.in_ok-plant.plant c.rounds.world.world c.round.new.world.world c.rounds.entries.items c.round.new.entries.items round.0
-            before.0 round.2 before.2 round.1 set,
+            before.2 round.4 before.0 round.2 before.4 round.1 set,
       );
-      shows = c.in_ok-plant.ensures.shows ∙ c.rounds.invariant.shows;
       plant = subst (λ (x : Program). IsPlantOf (sizes_of x.config) c.in_ok-plant.plant) c.rounds.invariant.same c.in_ok-plant.ensures.plant;
       closed = c.in_ok-plant.ensures.closed;
       ahead =
@@ -109,7 +119,7 @@ returns-clause-rounds g c =
     let runs = subst (λ (p : Program). IsRunnable p.config) c.verified.ensures c.config-config.ensures.runnable in
     let all : c.rounds.number ≡ c.args.rounds = search rules in
     let seen = c.rounds.invariant.rounds in
-    let shown = subst (λ n. RoundsShown (g.O.Observer.shows c.args.observer.now) config calls switches n c.rounds.plant c.rounds.world.world c.rounds.entries.items seen.0) all seen.2 in (
+    let shown = subst (λ n. RoundsShown (g.O.Observer.shows c.args.observer.now) config calls switches n c.rounds.plant c.rounds.world.world c.rounds.entries.items seen.2 seen.0) all seen.4 in (
       seen.0,
       seen.1,
       record {
@@ -120,6 +130,6 @@ returns-clause-rounds g c =
           journal = rounds_are_journal config (sound_of config runs) calls switches c.args.rounds c.rounds.plant c.rounds.world.world c.rounds.entries.items shown.0;
           safe = rounds_keep_cars_safe config (sound_of config runs) calls switches c.args.rounds c.rounds.plant c.rounds.world.world c.rounds.entries.items shown.0;
         };
-        is = shown.1;
+        is = shown.2;
       },
     )

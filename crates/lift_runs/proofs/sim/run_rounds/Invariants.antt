@@ -4,16 +4,16 @@ use Rattle.lift_spec.specs.Plant.{IsPlantOf}
 use Rattle.lift_journal.proofs.Taking.{IsClosed}
 use Rattle.lift_runs.specs.Ahead.{press_round, IsAhead, IsStanding}
 use Rattle.lift_runs.specs.Driven.{calls_in, switches_in}
-use Rattle.lift_runs.specs.Shown.{RoundsShown}
+use Rattle.lift_runs.specs.Shown.{Commit, RoundsShown, behind_all}
 use Rattle.lift_runs.proofs.sim.run_rounds.Given as goal
 
 -- so many rounds were run
 abbrev pub invariant-rounds : goal.invariant-rounds
 invariant-rounds g l = record {
   rounds :
-      (text : List ℕ) × (g.O.Observer.text l.observer ≡ g.O.Observer.text l.initial.observer ++ text)
-      × RoundsShown (g.O.Observer.shows l.initial.observer) l.initial.world.program.config (calls_in l.drive.presses.now) (switches_in (sizes_of l.initial.world.program.config).cars l.drive.settings.now) l.number l.plant l.world.world l.entries.items text;
-  shows : g.O.Observer.shows l.observer ≡ g.O.Observer.shows l.initial.observer;
+      (text : List ℕ) × (g.O.Observer.text l.observer ≡ g.O.Observer.text l.initial.observer ++ text) × (commits : List Commit) × (g.O.Observer.shows l.observer ≡ behind_all commits (g.O.Observer.shows l.initial.observer))
+      × RoundsShown (g.O.Observer.shows l.initial.observer) l.initial.world.program.config (calls_in l.drive.presses.now) (switches_in (sizes_of l.initial.world.program.config).cars l.drive.settings.now) l.number l.plant l.world.world l.entries.items commits
+      text;
   plant : IsPlantOf (sizes_of l.initial.world.program.config) l.plant;
   closed : IsClosed l.world.world;
   ahead : IsAhead press_round (l.number + 1) l.drive.presses.now l.ahead;

@@ -3,9 +3,9 @@ use Rattle.std.specs.Prelude.{slice_index_or}
 use Rattle.std.proofs.lemmas.List.{append_assoc, take_all}
 use Rattle.il_machine.specs.Scanning.{Program, HasTask}
 use Rattle.lift_spec.specs.declared.journal.Entry.TheVariants as entry
-use Rattle.lift_runs.specs.Shown.{Shows, ScansReporting, ScansShown}
+use Rattle.lift_runs.specs.Shown.{ScansReporting, ScansCommit}
 use Rattle.lift_runs.proofs.Driving.{read, is_task, entries_next}
-use Rattle.lift_runs.proofs.Showing.{scans_next}
+use Rattle.lift_runs.proofs.Showing.{one, scans_next, text_next, shows_next}
 use Rattle.lift_runs.proofs.sim.scan_all.Goals as goal
 
 pub scan-requires-clause-task : goal.scan-requires-clause-task
@@ -20,17 +20,18 @@ tasks-preserved g c =
     let t = slice_index_or c.args.tasks.now c.tasks.task-index 0 in
     let at = read c.args.tasks.now c.tasks.task-index 0 below in
     let shows = g.O.Observer.shows c.args.observer.now in
+    let n = c.args.number in
+    let report = c.scan.new.report in
     let before = c.tasks.invariant.scans in
-    let more = shows.of_commit c.args.number t c.scan.new.report in
+    let commits = before.0 in
     record {
       scans = (
-        before.0 ++ more,
-        c.in_ok-committed.ensures.text ∙ ap (λ (s : Shows). g.O.Observer.text c.tasks.observer ++ s.of_commit c.args.number t c.scan.new.report) c.tasks.invariant.shows
-            ∙ ap (λ l. l ++ more) before.1 ∙ append_assoc (g.O.Observer.text c.args.observer.now) before.0 more,
-        scans_next shows c.args.number c.args.world.now.program.config c.args.tasks.now c.tasks.task-index t c.args.world.now.world c.tasks.world.world c.scan.new.world.world before.0 c.scan.new.report at before.2
-            (subst (λ (p : Program). ScansReporting p.config t c.tasks.world.world c.scan.new.world.world c.scan.new.report) c.tasks.invariant.same c.scan.ensures.scan),
+        commits ++ one t report,
+        scans_next c.args.world.now.program.config c.args.tasks.now c.tasks.task-index t c.args.world.now.world c.tasks.world.world c.scan.new.world.world commits report at before.1
+            (subst (λ (p : Program). ScansReporting p.config t c.tasks.world.world c.scan.new.world.world report) c.tasks.invariant.same c.scan.ensures.scan),
+        text_next shows (g.O.Observer.shows c.tasks.observer) n commits t report (g.O.Observer.text c.args.observer.now) (g.O.Observer.text c.tasks.observer) (g.O.Observer.text c.committed.new.self) before.3 before.2 c.in_ok-committed.ensures.text,
+        shows_next shows (g.O.Observer.shows c.tasks.observer) (g.O.Observer.shows c.committed.new.self) commits (record { task = t; report = report }) before.3 c.in_ok-committed.ensures.behind,
       );
-      shows = c.in_ok-committed.ensures.same ∙ c.tasks.invariant.shows;
       closed = c.scan.ensures.closed;
       journal =
           c.in_ok-push-2.ensures.items ∙ ap (λ l. l ++ entry.Commit t ∷ []) c.in_ok-push.ensures.items ∙ append_assoc c.tasks.entries.items (entry.Start t ∷ []) (entry.Commit t ∷ [])
@@ -42,4 +43,4 @@ pub returns-clause-scans : goal.returns-clause-scans
 returns-clause-scans g c =
     let all = take_all c.tasks.task-index c.args.tasks.now (omega (arith, c.tasks-test.false)) in
     let seen = c.tasks.invariant.scans in
-    (seen.0, seen.1, subst (λ l. ScansShown (g.O.Observer.shows c.args.observer.now) c.args.number c.args.world.now.program.config l c.args.world.now.world c.tasks.world.world seen.0) all seen.2)
+    (seen.0, subst (λ l. ScansCommit c.args.world.now.program.config l c.args.world.now.world c.tasks.world.world seen.0) all seen.1, seen.2, seen.3)

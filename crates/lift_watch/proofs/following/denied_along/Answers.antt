@@ -1,7 +1,6 @@
 use Rattle.std.proofs.Common.{refl, subst, sym, ◌∙◌, ◌≤◌, ◌+◌, length, string_bytes}
 use Rattle.std.proofs.lemmas.Option.{slice_get_read}
 use Rattle.il_machine.specs.Scanning.{Program}
-use Rattle.lift_journal.specs.Rounds.{Refuses}
 use Rattle.lift_runs.specs.Along.{TakesWith}
 use Rattle.lift_runs.proofs.Stepping.{refused_behind}
 use Rattle.lift_spec.specs.Replies.{reply_with}
@@ -10,11 +9,9 @@ use Rattle.lift_watch.proofs.following.denied_along.Goals as goal
 
 pub returns-in-Err-clause-stopped : goal.returns-in-Err-clause-stopped
 returns-in-Err-clause-stopped c =
-    let e = c.index-events-index.result in
     let to = c.events.invariant.0 in
-    refused_behind c.args.world.now.program.config c.args.world.now.world c.events.world.world c.args.events.now c.events.index to.steps e c.in-Err.fault
-    (slice_get_read c.args.events.now (length c.args.events.now) c.events.index e refl c.events-test.true c.index-events-index.is) to.are
-    (subst (λ (p : Program). Refuses p.config c.events.world.world e c.in-Err.fault) c.events.invariant.2 c.in-Err.ensures.refused)
+    refused_behind c.args.world.now.program c.events.world.program c.events.invariant.2 c.args.world.now.world c.events.world.world c.args.events.now c.events.index to.steps c.index-events-index.result c.in-Err.fault
+    c.events-test.true c.index-events-index.is to.are c.in-Err.ensures.refused
 
 pub events-preserved : goal.events-preserved
 events-preserved c =

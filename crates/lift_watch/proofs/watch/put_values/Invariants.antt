@@ -4,4 +4,4 @@ use Rattle.lift_watch.proofs.watch.put_values.Given as goal
 
 -- the values so far
 abbrev pub invariant-values : goal.invariant-values
-invariant-values l = string_bytes l.text ≡ string_bytes l.initial.text ++ values_text (take l.it-index l.watched) l.world.world
+invariant-values l = string_bytes l.text ≡ string_bytes l.initial.text ++ values_text (take l.it-index l.watched) l.asked l.world.world

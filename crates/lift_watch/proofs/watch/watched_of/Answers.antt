@@ -1,6 +1,8 @@
-use Rattle.std.proofs.Common.{rules, ◌≡◌, ◌++◌, ◌∷◌, [], None, map, take, ◌+◌, subst, sym, ◌∙◌}
+use Rattle.std.proofs.Common.{rules, ◌≡◌, ◌++◌, ◌∷◌, [], None, map, take, ◌+◌, subst, sym, ap, ◌∙◌}
 use Rattle.std.specs.Prelude.{string_bytes}
 use Rattle.lift_host.proofs.Parts.{so_far}
+use Rattle.lift_watch.specs.declared.asked.Asked.{Asked}
+use Rattle.lift_watch.specs.Asked.{nothing_asked}
 use Rattle.lift_watch.specs.Names.{IsReadAs}
 use Rattle.lift_watch.specs.Values.{AreWatched, value_of}
 use Rattle.lift_watch.proofs.Watching.{one_watched, there}
@@ -11,7 +13,9 @@ names-preserved c =
     let w = c.args.world.now.world in
     let it = c.read-it.result in
     let read : IsReadAs (string_bytes c.name-item.result) it = subst (λ n. IsReadAs n it) c.deref.ensures c.read-it.ensures in
-    let known : value_of it w ≡ None → ⊥ = λ none. there c.value_of.result (search (rules, c.is_none.ensures, c.if-is_none.false)) (c.value_of.ensures ∙ none) in
+    let known : value_of it nothing_asked w ≡ None → ⊥ =
+    λ none. there c.value_of.result (search (rules, c.is_none.ensures, c.if-is_none.false)) (c.value_of.ensures ∙ ap (λ (a : Asked). value_of it a w) c.new-nothing.ensures ∙ none)
+    in
     subst (AreWatched w (map string_bytes (take (c.names.name-index + 1) c.args.names.now))) (sym c.in_ok-push.ensures.ok)
     (subst (λ ns. AreWatched w ns (c.names.watched ++ it ∷ [])) (so_far [] c.args.names.now c.names.name-index c.name-item.result c.names-test.true c.name-item.is)
     (one_watched w (map string_bytes (take c.names.name-index c.args.names.now)) c.names.watched (string_bytes c.name-item.result) it c.names.invariant read known))
