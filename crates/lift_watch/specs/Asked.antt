@@ -5,12 +5,13 @@ use Rattle.lift_runs.specs.Shown.{Commit}
 use Rattle.lift_spec.specs.declared.report.Answered.{Answered}
 use Rattle.lift_spec.specs.declared.trace.TraceEvent.{TraceEvent}
 use Rattle.lift_spec.specs.declared.trace.TraceEvent.TheVariants as traced
+use Rattle.lift_spec.specs.Limits.{most_cars}
 use Rattle.lift_spec.specs.Replies.{Reply, Committed}
 use Rattle.lift_watch.specs.declared.asked.Asked.{Asked}
 
--- nothing was asked for yet: the group has at most 8 cars
+-- nothing was asked for yet
 abbrev pub nothing_asked : Asked
-nothing_asked = record { serves = replicate 8 0; tells = [] }
+nothing_asked = record { serves = replicate most_cars 0; tells = [] }
 
 -- the slot that a car's commit asks to serve: it is answered alone, and a SERVE of 0 not at all
 abbrev pub serve_in : List Answered → ℕ

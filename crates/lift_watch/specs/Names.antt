@@ -1,8 +1,13 @@
 -- What the names of `watch` stand for (own rules).
 use Rattle.std.specs.Prelude.{◌≡◌, ℕ, ◌≤◌, List, [], ◌∷◌, ◌++◌, codes, map}
 use Rattle.std.specs.Char.{to_ascii_uppercase}
+use Rattle.il_run.specs.declared.value.Value.{Value}
+use Rattle.il_run.specs.declared.value.Value.TheVariants.{Boolean, Integer}
 use Rattle.lift_host.specs.Requests.{IsNumberTo}
-use Rattle.lift_spec.specs.Snapshot.{task_name}
+use Rattle.lift_spec.specs.declared.image.CarFields.{CarFields}
+use Rattle.lift_spec.specs.declared.image.CarOutputs.{CarOutputs}
+use Rattle.lift_spec.specs.Limits.{most_cars}
+use Rattle.lift_spec.specs.Snapshot.{motor_number, number, task_name}
 use Rattle.lift_watch.specs.declared.names.CarName.{CarName}
 use Rattle.lift_watch.specs.declared.names.CarName.TheVariants.{Pos, Level, Top, Bottom, Locked, Opened, Motor, Open, Serve}
 use Rattle.lift_watch.specs.declared.names.Shared.{Shared as SharedName}
@@ -34,6 +39,18 @@ word_of_car_name Motor = codes "MOTOR"
 word_of_car_name Open = codes "OPEN"
 word_of_car_name Serve = codes "SERVE"
 
+-- what the plant reports of a car, its outputs, and the slot that it asked to serve
+abbrev pub value_in_car : CarName → ℕ → CarFields → CarOutputs → Value
+value_in_car Pos serve fields outputs = number fields.pos
+value_in_car Level serve fields outputs = Boolean fields.level
+value_in_car Top serve fields outputs = Boolean fields.top
+value_in_car Bottom serve fields outputs = Boolean fields.bottom
+value_in_car Locked serve fields outputs = Boolean fields.locked
+value_in_car Opened serve fields outputs = Boolean fields.opened
+value_in_car Motor serve fields outputs = Integer (motor_number outputs.motor)
+value_in_car Open serve fields outputs = Boolean outputs.opens
+value_in_car Serve serve fields outputs = number serve
+
 -- the arrays of the call slots; ASSIGN is GROUP's own
 abbrev pub word_of_slot_name : SlotName → List ℕ
 word_of_slot_name of_slot.Waits = codes "CALLWAITS"
@@ -56,7 +73,7 @@ pub record IsOfSlot (name : List ℕ) (it : SlotName) (slot : ℕ) : Type 0 wher
 
 -- a name is that of a task, a period, and a rest
 pub record IsInTask (name : List ℕ) (task : ℕ) (rest : List ℕ) : Type 0 where
-  pub few : task ≤ 8
+  pub few : task ≤ most_cars
   pub is : name ≡ task_name task ++ 46 ∷ rest
 
 -- Behind the name of a car stands a name of its image; otherwise, behind the name of a task, the path of a variable.

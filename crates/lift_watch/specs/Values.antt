@@ -8,17 +8,15 @@ use Rattle.lift_host.specs.declared.status.Fault.{Fault}
 use Rattle.lift_host.specs.declared.status.Fault.TheVariants.{BadName, NoMemory}
 use Rattle.lift_spec.specs.declared.calls.Slot.{Slot as CallSlot}
 use Rattle.lift_spec.specs.declared.image.CarFields.{CarFields}
-use Rattle.lift_spec.specs.declared.image.CarOutputs.{CarOutputs}
 use Rattle.lift_spec.specs.declared.image.Fields.{Fields}
 use Rattle.lift_spec.specs.declared.image.Image.{Image}
-use Rattle.lift_spec.specs.Snapshot.{number, motor_number, waits, from_of, to_of, car_of}
+use Rattle.lift_spec.specs.Snapshot.{number, waits, from_of, to_of, car_of}
 use Rattle.lift_spec.specs.World.{Group, World, task_at}
 use Rattle.lift_runs.specs.Shown.{Shows}
 use Rattle.lift_watch.specs.Asked.{nothing_asked, asked_behind, serve_at, assign_of}
-use Rattle.lift_watch.specs.Names.{IsReadAs}
+use Rattle.lift_watch.specs.Names.{value_in_car, IsReadAs}
 use Rattle.lift_watch.specs.declared.asked.Asked.{Asked}
 use Rattle.lift_watch.specs.declared.names.CarName.{CarName}
-use Rattle.lift_watch.specs.declared.names.CarName.TheVariants.{Pos, Level, Top, Bottom, Locked, Opened, Motor, Open, Serve}
 use Rattle.lift_watch.specs.declared.names.Shared.{Shared as SharedName}
 use Rattle.lift_watch.specs.declared.names.Shared.TheVariants.{Now, RunLimit, Fire}
 use Rattle.lift_watch.specs.declared.names.SlotName.{SlotName}
@@ -31,18 +29,6 @@ abbrev pub shared_value : SharedName → Fields → Value
 shared_value Now fields = Integer (pos fields.time)
 shared_value RunLimit fields = Integer (pos fields.run_limit)
 shared_value Fire fields = Boolean fields.fire
-
--- what the plant reports of a car, its outputs, and the slot that it asked to serve
-abbrev pub value_in_car : CarName → ℕ → CarFields → CarOutputs → Value
-value_in_car Pos serve fields outputs = number fields.pos
-value_in_car Level serve fields outputs = Boolean fields.level
-value_in_car Top serve fields outputs = Boolean fields.top
-value_in_car Bottom serve fields outputs = Boolean fields.bottom
-value_in_car Locked serve fields outputs = Boolean fields.locked
-value_in_car Opened serve fields outputs = Boolean fields.opened
-value_in_car Motor serve fields outputs = Integer (motor_number outputs.motor)
-value_in_car Open serve fields outputs = Boolean outputs.opens
-value_in_car Serve serve fields outputs = number serve
 
 -- the value of a name of a car's image, where the group has the car; cars count from 1
 abbrev pub car_value_in : ℕ → CarName → Asked → Image → Option Value

@@ -5,18 +5,16 @@ ghost use Rattle.lift_watch.specs.Asked.{nothing_asked, serve_in, asked_after, s
 ghost use Rattle.lift_watch.specs.Wished.{ServeIsWished, AssignIsWished};
 
 use lift_spec::report::{Answered, Report};
+use lift_spec::{CAR_PLACES, SLOT_PLACES};
 use lists::Bounded;
-
-// The most cars of a group.
-const MOST_CARS: usize = 8;
 
 /// What the last commit of each task asked for, whether it was done or not.
 #[derive(Drop)]
 pub struct Asked {
     /// The slot that each car asked to serve, or 0; car 1 first.
-    pub serves: Bounded<u8, 8>,
+    pub serves: Bounded<u8, CAR_PLACES>,
     /// The tells of GROUP.
-    pub tells: Bounded<Answered, 64>,
+    pub tells: Bounded<Answered, SLOT_PLACES>,
 }
 
 impl Asked {
@@ -25,7 +23,7 @@ impl Asked {
         ensures { result ≡ nothing_asked }
     {
         Asked {
-            serves: Bounded::from_slice(&[0; MOST_CARS]),
+            serves: Bounded::from_slice(&[0; CAR_PLACES]),
             tells: Bounded::new(),
         }
     }
@@ -69,7 +67,7 @@ impl Asked {
     }
 }
 
-fn copied(answers: &Bounded<Answered, 64>) -> Bounded<Answered, 64>
+fn copied(answers: &Bounded<Answered, SLOT_PLACES>) -> Bounded<Answered, SLOT_PLACES>
     ensures { result ≡ answers.now }
 {
     let _count = answers.len();

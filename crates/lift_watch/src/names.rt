@@ -2,13 +2,15 @@
 
 ghost use Rattle.std.specs.Prelude.{◌≡◌, ◌≤◌, ◌<◌, ◌∷◌, ◌++◌, [], ℕ, List, IfSome, IfOk, OnOk, IsNone, map, string_bytes};
 ghost use Rattle.lift_host.specs.Requests.{words_of};
-ghost use Rattle.lift_spec.specs.Snapshot.{task_name};
-ghost use Rattle.lift_watch.specs.Names.{upper_case, word_of_shared, word_of_car_name, word_of_slot_name, IsReadIn, IsReadAs, IsInTask, IsIndex, IsOfSlot};
+ghost use Rattle.lift_spec.specs.Snapshot.{motor_number, task_name};
+ghost use Rattle.lift_watch.specs.Names.{upper_case, word_of_shared, word_of_car_name, word_of_slot_name, value_in_car, IsReadIn, IsReadAs, IsInTask, IsIndex, IsOfSlot};
 ghost use Rattle.lift_watch.specs.declared.names.Shared.{Shared};
 ghost use Rattle.lift_watch.specs.declared.names.CarName.{CarName};
 ghost use Rattle.lift_watch.specs.declared.names.SlotName.{SlotName};
 
+use il_machine::Value;
 use lift_host::request::{Words, number_to};
+use lift_spec::{CarFields, CarOutputs, MOST_CARS, Motor};
 use std::alloc::{AllocError, Global};
 
 // The most call slots of a group.
@@ -116,6 +118,39 @@ impl CarName {
     }
 }
 
+/// What the plant reports of a car, its outputs, and the slot that it asked to serve.
+pub(crate) fn value_in_car(
+    name: CarName,
+    serve: u8,
+    fields: &CarFields,
+    outputs: &CarOutputs,
+) -> Value
+    ensures { result ≡ value_in_car name serve fields.now outputs.now }
+{
+    match name {
+        CarName::Pos => Value::Integer(i64::from(fields.pos)),
+        CarName::Level => Value::Boolean(fields.level),
+        CarName::Top => Value::Boolean(fields.top),
+        CarName::Bottom => Value::Boolean(fields.bottom),
+        CarName::Locked => Value::Boolean(fields.locked),
+        CarName::Opened => Value::Boolean(fields.opened),
+        CarName::Motor => Value::Integer(number_of(outputs.motor)),
+        CarName::Open => Value::Boolean(outputs.opens),
+        CarName::Serve => Value::Integer(i64::from(serve)),
+    }
+}
+
+// A motor as a number: 1 is up, -1 is down.
+fn number_of(motor: Motor) -> i64
+    ensures { result ≡ motor_number motor }
+{
+    match motor {
+        Motor::Up => 1,
+        Motor::Down => -1,
+        Motor::Still => 0,
+    }
+}
+
 impl SlotName {
     // The name of a word.
     fn of(word: &str) -> Option<SlotName>
@@ -215,8 +250,8 @@ fn in_task(name: &str) -> Option<InTask<'_>>
 
 // The task of a name.
 fn task_of(word: &str) -> Option<u8>
-    ensures some { IfSome result (λ task. (task ≤ 8) × (word.now ≡ task_name task)) }
-    ensures none { IsNone result → (task : ℕ) → task ≤ 8 → word.now ≡ task_name task → ⊥ }
+    ensures some { IfSome result (λ task. (task ≤ MOST_CARS) × (word.now ≡ task_name task)) }
+    ensures none { IsNone result → (task : ℕ) → task ≤ MOST_CARS → word.now ≡ task_name task → ⊥ }
 {
     match word {
         "GROUP" => Some(0),

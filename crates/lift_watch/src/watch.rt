@@ -1,19 +1,19 @@
 // What `watch` prints.
 
 ghost use Rattle.std.specs.Prelude.{◌≡◌, ◌++◌, [], None, flat_map, IfOk, IfErr, OnOk, is_some, map, string_bytes, codes, pos};
-ghost use Rattle.lift_spec.specs.Snapshot.{motor_number, from_of, to_of, car_of};
+ghost use Rattle.lift_spec.specs.Snapshot.{from_of, to_of, car_of};
 ghost use Rattle.lift_spec.specs.World.{task_at};
 ghost use Rattle.lift_watch.specs.Asked.{nothing_asked};
-ghost use Rattle.lift_watch.specs.Values.{shared_value, value_in_car, car_value_in, value_in_slot, has_slot_name, slot_value_at, slot_value_in, value_of, value_text, names_text, values_text, row_text, header_text, AreWatched, IsUnnamed};
+ghost use Rattle.lift_watch.specs.Values.{shared_value, car_value_in, value_in_slot, has_slot_name, slot_value_at, slot_value_in, value_of, value_text, names_text, values_text, row_text, header_text, AreWatched, IsUnnamed};
 
 use crate::asked::Asked;
-use crate::names::{CarName, Shared, SlotName, Watched, read};
+use crate::names::{CarName, Shared, SlotName, Watched, read, value_in_car};
 use il_machine::Value;
 use lift_host::status::Fault;
 use lift_runs::observer::Observer;
 use lift_spec::calls::Slot;
 use lift_spec::report::Report;
-use lift_spec::{CarFields, CarOutputs, Fields, Image, Motor};
+use lift_spec::{Fields, Image};
 use lift_world::World;
 use lists::Items;
 use std::alloc::{AllocError, Global};
@@ -278,31 +278,4 @@ fn car_value(image: &Image, asked: &Asked, car: u8, name: CarName) -> Option<Val
     let fields = image.fields.cars.as_slice().get(place)?;
     let outputs = image.outputs.as_slice().get(place)?;
     Some(value_in_car(name, asked.serve_at(place), fields, outputs))
-}
-
-fn value_in_car(name: CarName, serve: u8, fields: &CarFields, outputs: &CarOutputs) -> Value
-    ensures { result ≡ value_in_car name serve fields.now outputs.now }
-{
-    match name {
-        CarName::Pos => Value::Integer(i64::from(fields.pos)),
-        CarName::Level => Value::Boolean(fields.level),
-        CarName::Top => Value::Boolean(fields.top),
-        CarName::Bottom => Value::Boolean(fields.bottom),
-        CarName::Locked => Value::Boolean(fields.locked),
-        CarName::Opened => Value::Boolean(fields.opened),
-        CarName::Motor => Value::Integer(number_of(outputs.motor)),
-        CarName::Open => Value::Boolean(outputs.opens),
-        CarName::Serve => Value::Integer(i64::from(serve)),
-    }
-}
-
-// A motor as a number: 1 is up, -1 is down.
-fn number_of(motor: Motor) -> i64
-    ensures { result ≡ motor_number motor }
-{
-    match motor {
-        Motor::Up => 1,
-        Motor::Down => -1,
-        Motor::Still => 0,
-    }
 }
