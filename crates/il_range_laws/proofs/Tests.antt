@@ -7,6 +7,7 @@ use Rattle.std.specs.Int.Signed.{le_z_yes}
 use Rattle.il_interval.specs.declared.Interval.{Interval}
 use Rattle.il_interval.specs.Interval.{IsWithin, IsOrdered, IsOperand}
 use Rattle.il_spec.specs.declared.tree.Elementary.{Elementary}
+use Rattle.il_spec.specs.declared.tree.Elementary.TheVariants.{Bool as Boolean, Sint, Int, Dint, Usint, Uint, Udint, Time}
 use Rattle.il_spec.specs.ElementaryTypes.{is_same_type}
 use Rattle.il_run.specs.Annotation.{WithInterval, FitsType, numbers_of}
 use Rattle.il_range_laws.specs.Found.{is_part, fits, there_fits}
