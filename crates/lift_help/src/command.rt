@@ -114,6 +114,18 @@ const CALLS_ALONE: Lone = Lone {
     beside: "ROUNDS",
 };
 
+// A command that is made step by step: what is missing once is missing to the end.
+trait Making<'a> {
+    // With one argument more.
+    fn with(self, arg: Arg<'a>) -> Result<Command<'a>, AllocError>;
+}
+
+impl<'a> Making<'a> for Result<Command<'a>, AllocError> {
+    fn with(self, arg: Arg<'a>) -> Result<Command<'a>, AllocError> {
+        self?.arg(arg)
+    }
+}
+
 // The argument FILE.
 fn file<'a>(alloc: Global) -> Arg<'a> {
     Arg::new(alloc, "FILE")
@@ -151,8 +163,8 @@ fn check_command<'a>(alloc: Global) -> Result<Command<'a>, AllocError> {
         alloc,
         Name::Check.word(),
         "Verifies FILE and shows its tasks and units",
-    )?
-    .arg(warn(alloc))
+    )
+    .with(warn(alloc))
 }
 
 // The command that shows what the verifier knows.
@@ -239,8 +251,8 @@ fn run_command<'a>(alloc: Global) -> Result<Command<'a>, AllocError> {
         alloc,
         Name::Rounds(Simulating::Run).word(),
         "Runs FILE with a thread for each task and prints the trace",
-    )?
-    .arg(together(alloc))
+    )
+    .with(together(alloc))
 }
 
 // The command that prints what was denied.
@@ -249,12 +261,12 @@ fn denials_command<'a>(alloc: Global) -> Result<Command<'a>, AllocError> {
         alloc,
         Name::Rounds(Simulating::Denials).word(),
         "Runs FILE as `sim` does, or replays a trace on it, and prints what the interlock denied",
-    )?
-    .arg(presses(alloc))?
-    .arg(fire(alloc))?
-    .arg(calls(alloc))?
-    .arg(all(alloc))?
-    .arg(cut(alloc))
+    )
+    .with(presses(alloc))
+    .with(fire(alloc))
+    .with(calls(alloc))
+    .with(all(alloc))
+    .with(cut(alloc))
 }
 
 // The arguments NAME of `watch`, and behind them PRESS.
@@ -270,11 +282,11 @@ fn watch_command<'a>(alloc: Global) -> Result<Command<'a>, AllocError> {
         alloc,
         Name::Rounds(Simulating::Watch).word(),
         "Runs FILE as `sim` does, or replays a trace on it, and prints values behind each round, as CSV",
-    )?
-    .arg(names(alloc))?
-    .arg(fire(alloc))?
-    .arg(calls(alloc))?
-    .arg(cut(alloc))
+    )
+    .with(names(alloc))
+    .with(fire(alloc))
+    .with(calls(alloc))
+    .with(cut(alloc))
 }
 
 // A command that takes FILE, and ROUNDS or TRACE.
@@ -285,8 +297,8 @@ fn observing_command<'a>(
 ) -> Result<Command<'a>, AllocError> {
     Command::new(alloc, name)
         .about(about)
-        .arg(file(alloc))?
-        .arg(rounds_or_trace(alloc))
+        .arg(file(alloc))
+        .with(rounds_or_trace(alloc))
 }
 
 // A command that takes FILE, ROUNDS, PRESS, `--fire` and `--calls`.
@@ -297,11 +309,11 @@ fn rounds_command<'a>(
 ) -> Result<Command<'a>, AllocError> {
     Command::new(alloc, name)
         .about(about)
-        .arg(file(alloc))?
-        .arg(rounds(alloc))?
-        .arg(presses(alloc))?
-        .arg(fire(alloc))?
-        .arg(calls(alloc))
+        .arg(file(alloc))
+        .with(rounds(alloc))
+        .with(presses(alloc))
+        .with(fire(alloc))
+        .with(calls(alloc))
 }
 
 // The argument TRACE.
@@ -334,8 +346,8 @@ fn draw_command<'a>(alloc: Global) -> Result<Command<'a>, AllocError> {
         alloc,
         Name::Trace(Following::Draw).word(),
         "Replays a trace on FILE and prints a picture of it, as SVG",
-    )?
-    .arg(span(alloc))
+    )
+    .with(span(alloc))
 }
 
 // The option `--rounds`.
@@ -362,8 +374,8 @@ fn calls_command<'a>(alloc: Global) -> Result<Command<'a>, AllocError> {
         alloc,
         Name::Trace(Following::Calls).word(),
         "Replays a trace on FILE and prints its calls, from press to service, as CSV",
-    )?
-    .arg(summary(alloc))
+    )
+    .with(summary(alloc))
 }
 
 // A command that takes FILE and TRACE.
@@ -374,9 +386,9 @@ fn trace_command<'a>(
 ) -> Result<Command<'a>, AllocError> {
     Command::new(alloc, name)
         .about(about)
-        .arg(file(alloc))?
-        .arg(trace(alloc))?
-        .arg(cut(alloc))
+        .arg(file(alloc))
+        .with(trace(alloc))
+        .with(cut(alloc))
 }
 
 // The option `--trace`.
@@ -401,9 +413,9 @@ fn serve_command<'a>(alloc: Global) -> Result<Command<'a>, AllocError> {
         alloc,
         "serve",
         "Runs FILE behind lines: fields in, outputs back; docs/SERVE.md has the lines",
-    )?
-    .arg(written_trace(alloc))?
-    .arg(sync(alloc))
+    )
+    .with(written_trace(alloc))
+    .with(sync(alloc))
 }
 
 // The command that explains.
