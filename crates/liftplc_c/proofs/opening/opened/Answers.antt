@@ -1,9 +1,10 @@
-use Rattle.std.proofs.Common.{ap, ◌∙◌}
+use Rattle.std.proofs.Common.{ap, subst, sym, ◌∙◌}
 use Rattle.std.specs.Prelude.{is_some}
 use Rattle.lift_run_laws.proofs.Openings.{no_scan_open}
 use Rattle.lift_spec.specs.World.{World, scan_at}
 use Rattle.lift_world.specs.Worlds.{WorldOf}
 use Rattle.lift_round.specs.declared.kept.Rounds.{Rounds}
+use Rattle.liftplc_c.specs.Handles.{IsLed}
 use Rattle.liftplc_c.proofs.Refusing.{memory_at, no_fault}
 use Rattle.liftplc_c.proofs.opening.opened.Goals as goal
 
@@ -21,3 +22,11 @@ returns-in_err-new-clause-named c = λ fault d spelled. absurd (no_fault c.from_
 
 pub returns-in_err-new-clause-one : goal.returns-in_err-new-clause-one
 returns-in_err-new-clause-one c = λ fault n l spelled. absurd (no_fault c.from_residual-in_err-new.result c.from_residual-in_err-new.ensures.1 fault)
+
+pub returns-in_err-new-clause-refused : goal.returns-in_err-new-clause-refused
+returns-in_err-new-clause-refused c = λ fault d accepted. no_fault c.from_residual-in_err-new.result c.from_residual-in_err-new.ensures.1 fault
+
+pub returns-clause-led : goal.returns-clause-led
+returns-clause-led c =
+    let of = ap (λ (r : Rounds). r.world) c.in_ok-new.ensures.ok ∙ c.of.ensures in
+    subst (λ (w : WorldOf). IsLed w) (sym of) c.led.ensures
