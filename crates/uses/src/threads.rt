@@ -32,7 +32,8 @@ fn drive<G: Naming, R: Wait>(rt: &R, station: &Station<G>, pass: TaskPass<G>) ->
         let scanned = scan(station.verified(), begun);
         let (back, committed) = station.commit(rt, pass, scanned, &mut report);
         pass = back;
-        if committed.is_err() {
+        if let Err((_, scanned)) = committed {
+            let _store = scanned.into_store();
             return pass;
         }
     }
@@ -84,7 +85,12 @@ fn run_in<G: Naming + Send + Sync, R: Threads + Wait + Sync>(
 pub fn run<R: Threads + Wait + Sync>(rt: &R, alloc: Global, text: &[u8]) -> Result<Closed, Refusal>
     ensures { IfOk result (λ c. Kept c.book) }
 {
-    let blanks = Blanks::new(alloc)?;
     let verified = load(alloc, text)?;
-    run_in::<Brand, R>(rt, alloc, blanks, verified)
+    match Blanks::new(alloc) {
+        Ok(blanks) => run_in::<Brand, R>(rt, alloc, blanks, verified),
+        Err(_) => {
+            verified.release();
+            Err(Refusal::Memory)
+        }
+    }
 }
