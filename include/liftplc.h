@@ -21,7 +21,7 @@ extern "C" {
 #endif
 
 /* The version of this header, and what liftplc_version answers to it. */
-#define LIFTPLC_VERSION 1u
+#define LIFTPLC_VERSION 2u
 
 enum {
     LIFTPLC_OK = 0,
@@ -53,10 +53,11 @@ typedef struct {
     bool is_open; /* may be read */
 } liftplc_handle;
 
-/* The number of a text's fault (docs/FAULTS.md), and its line. */
+/* The number of a text's fault (docs/FAULTS.md), its line, from 1 on, and how many bytes of the text stand before it. */
 typedef struct {
     uint16_t number;
     uint32_t line;
+    uint32_t offset;
 } liftplc_refusal;
 
 /* What the plant reports of a car: the floor that it is at or next to, from 1 on, and its sensors. */

@@ -29,7 +29,7 @@ int main(int argc, char **argv) {
     size_t length = fread(text, 1, sizeof text, file);
     fclose(file);
     static liftplc_handle handle;
-    liftplc_refusal refusal = {999, 999};
+    liftplc_refusal refusal = {999, 999, 999};
     memset(outputs.slots, 0x5a, sizeof outputs.slots);
     memset(outputs.notices, 0x5a, sizeof outputs.notices);
     before = outputs;
@@ -48,7 +48,7 @@ int main(int argc, char **argv) {
     WANT(REFUSED_ROUND(car_count, 9) == 0 && ROUND(&bad) == LIFTPLC_CLOSED && is_untouched());
 
     /* texts that are refused leave the handle closed */
-    WANT(liftplc_open(&handle, "X", 1, &refusal) == LIFTPLC_REFUSED && refusal.line == 1 && refusal.number == 10 && !handle.is_open);
+    WANT(liftplc_open(&handle, "X", 1, &refusal) == LIFTPLC_REFUSED && refusal.line == 1 && refusal.offset == 0 && refusal.number == 10 && !handle.is_open);
     WANT(liftplc_open(&handle, text, 0, &refusal) == LIFTPLC_REFUSED && liftplc_open(&handle, text, length - 20, &refusal) == LIFTPLC_REFUSED);
     WANT(liftplc_open(&handle, text, sizeof text, &refusal) == LIFTPLC_REFUSED && refusal.number == 6 && refusal.line == 1 && !handle.is_open && !handle.world);
 

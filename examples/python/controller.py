@@ -9,7 +9,7 @@ import time
 
 PERIOD = 0.1  # seconds
 PATIENCE = 0.5
-VERSION = 1
+VERSION = 2
 ENTERED, NO_FLOOR = 1, 7
 
 
@@ -19,7 +19,7 @@ def struct(name, **fields):
 
 U8, U32, U64, BOOL = c.c_uint8, c.c_uint32, c.c_uint64, c.c_bool
 Handle = struct("Handle", world=c.c_void_p, is_open=BOOL)
-Refusal = struct("Refusal", number=c.c_uint16, line=U32)
+Refusal = struct("Refusal", number=c.c_uint16, line=U32, offset=U32)
 Car = struct("Car", pos=U8, level=BOOL, top=BOOL, bottom=BOOL, locked=BOOL, opened=BOOL)
 Fields = struct("Fields", time=U32, run_limit=U8, fire=BOOL, car_count=U8, cars=Car * 8)
 CarOutput = struct("CarOutput", motor=c.c_int8, opens=BOOL)

@@ -4,6 +4,7 @@ use Rattle.il_spec.specs.declared.token.Token.{Token}
 use Rattle.il_spec.specs.declared.token.Sign.TheVariants.{Comma}
 use Rattle.il_spec.specs.declared.token.Kind.TheVariants as kind
 use Rattle.il_spec.specs.declared.tree.Place.{Place}
+use Rattle.il_spec.proofs.Places.{place_is}
 use Rattle.il_spec.specs.Grammar.{Front, Gap, skip_line_ends, ◌⟨◌⟩◌, AfterLines, No, One, At, Repeats, TheSign, Listed}
 use Rattle.il_grammar_laws.specs.One.{IsDeterministic, IsSure, AreApart}
 
@@ -50,10 +51,6 @@ after_lines one = record { only = λ a b ts r s p q. one.only a b (skip_line_end
 -- nothing where something doesn't stand
 pub no_one : (P : Front) → IsSure (No P)
 no_one P = record { only = λ ts r s p q. sym p.0 ∙ q.0 }
-
--- a place is its offset and its line
-place_is : (a b : Place) → a.offset ≡ b.offset → a.line ≡ b.line → a ≡ b
-place_is a b p q = λ i. record { offset = p i; line = q i }
 
 -- a thing at its place
 pub at_place : {A : Type 0} {P : A → Front} → IsDeterministic P → IsDeterministic (λ (x : Place × A). At x.0 (P x.1))

@@ -85,8 +85,8 @@ least_order c declared units slots r is a b =
     least_same (Either (AllUnitsBreak c) (SlotsBreak c)) (λ n p. BreaksOrder c n p) r (least_both (AllUnitsBreak c) (SlotsBreak c) units slots r is a b) (up c (distinct c declared)) (down c (distinct c declared))
 
 -- a refusal names it
-pub refused_by : (c : Config) (found : Option NumberedFault) (f : NumberedFault) (r : Refusal) → IsLeast found (λ n p. BreaksOrder c n p) → found ≡ Some f → r ≡ Fault f.number f.place.line → IsRefusedBy (Broken Ordering c) r
-refused_by c found f r least is named = subst (IsRefusedBy (Broken Ordering c)) (sym named) (f.place, record { broken = least.holds f is; first = least.first f is }, refl)
+pub refused_by : (c : Config) (found : Option NumberedFault) (f : NumberedFault) (r : Refusal) → IsLeast found (λ n p. BreaksOrder c n p) → found ≡ Some f → r ≡ Fault f.number f.place → IsRefusedBy (Broken Ordering c) r
+refused_by c found f r least is named = subst (IsRefusedBy (Broken Ordering c)) (sym named) (record { broken = least.holds f is; first = least.first f is })
 
 -- the slots of tasks, and of the globals
 pub slots_least : (c : Config) (r : List (List Bool)) (count total : ℕ) (units : List (List Variables)) (declared : List Variables) (counted all : List ℕ) (lines globals found : Option NumberedFault)

@@ -9,12 +9,12 @@ use Rattle.il_read.specs.Reads.{IsNumberOfParser}
 -- a fault, and not out of memory
 abbrev pub IsFault : {A : Type 0} → Result A Refusal → Type 0
 IsFault (Ok x) = ⊥
-IsFault (Err (refusal.Fault number line)) = Unit {0}
+IsFault (Err (refusal.Fault number place)) = Unit {0}
 IsFault (Err refusal.Memory) = ⊥
 
 -- a fault of the parser, or out of memory
 abbrev pub IsOfParser : Refusal → Type 0
-IsOfParser (refusal.Fault number line) = IsNumberOfParser number
+IsOfParser (refusal.Fault number place) = IsNumberOfParser number
 IsOfParser refusal.Memory = Unit {0}
 
 -- the limits of a text but that of its bytes

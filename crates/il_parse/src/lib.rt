@@ -24,7 +24,7 @@ use il_read::{Source, Stop, Tokens};
 pub use il_rules::Written;
 pub use il_spec::fault::Refusal;
 pub use il_spec::token::Token;
-use il_spec::tree::Config;
+use il_spec::tree::{Config, Place};
 pub use insides::{block_inside, function_inside, program_inside};
 pub use one_unit::unit;
 use std::alloc::{AllocError, Global};
@@ -59,9 +59,9 @@ pub fn parse(alloc: Global, text: &[u8], tokens: &[Token]) -> Result<Written, Re
     match read(alloc, text, tokens) {
         Ok(tree) => Ok(Written::of(tree)),
         Err(Stop::Memory) => Err(Refusal::Memory),
-        Err(Stop::Fault { error, line }) => Err(Refusal::Fault {
+        Err(Stop::Fault { error, place }) => Err(Refusal::Fault {
             number: error.number(),
-            line: line.unwrap_or(last_line(text)),
+            place: place.unwrap_or(end_of(text)),
         }),
     }
 }
@@ -88,8 +88,16 @@ fn in_upper_case(alloc: Global, text: &[u8]) -> Result<Vec<u8>, AllocError>
     Ok(upper)
 }
 
-// The line of the end of the text.
-fn last_line(text: &[u8]) -> u32 {
+// The place of the end of a text. Its line is one more than the line feeds.
+fn end_of(text: &[u8]) -> Place {
     let feeds = text.iter().filter(|byte| **byte == b'\n').count();
-    u32::try_from(feeds).unwrap_or(u32::MAX).saturating_add(1)
+    Place {
+        offset: as_u32(text.len()),
+        line: as_u32(feeds).saturating_add(1),
+    }
+}
+
+// A count of bytes of a text, which has fewer than 2^32.
+fn as_u32(count: usize) -> u32 {
+    u32::try_from(count).unwrap_or(u32::MAX)
 }

@@ -16,4 +16,4 @@ first_is_one rule n m p q first other =
     both_no_later n m p q (first.first m q other.broken) (other.first n p first.broken)
 
 pub refused_is_broken : (rule : ℕ → Place → Type 0) → IsExact rule
-refused_is_broken rule n line (place, first, at) none = none n place first.broken
+refused_is_broken rule n place first none = none n place first.broken

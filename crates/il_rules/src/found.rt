@@ -100,10 +100,10 @@ fn comes_before<F: PhaseFault>(a: &Found<F>, b: &Found<F>) -> bool
 
 /// The refusal that names a fault.
 pub fn refusal<F: PhaseFault>(found: Found<F>) -> Refusal
-    ensures { result ≡ Fault found.number found.place.line }
+    ensures { result ≡ Fault found.number found.place }
 {
     Refusal::Fault {
         number: found.number(),
-        line: found.place().line,
+        place: found.place(),
     }
 }

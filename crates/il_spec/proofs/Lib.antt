@@ -1,2 +1,3 @@
 mod Rows
 pub mod TextLemmas
+pub mod Places

@@ -4,7 +4,7 @@ use crate::name::Name;
 use lists::Items;
 
 /// Where a part begins: how many bytes stand before it, and its line, counted from 1.
-#[derive(Clone, Copy)]
+#[derive(Clone, Copy, Debug)]
 pub struct Place {
     pub offset: u32,
     pub line: u32,

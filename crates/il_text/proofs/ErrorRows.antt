@@ -4,11 +4,12 @@ use Rattle.std.specs.Prelude.{codes, not, ◌&&◌, ◌||◌, ◌==◌}
 use Rattle.std.specs.Char.{is_ascii_digit}
 use Rattle.std.proofs.lemmas.Bool.{cases_order}
 use Rattle.il_spec.specs.declared.token.Kind.TheVariants as kind
+use Rattle.il_spec.specs.declared.tree.Place.{Place}
 use Rattle.il_spec.specs.declared.fault.Refusal.TheVariants.{Fault}
 use Rattle.il_spec.specs.Text.{byte_at, begins_word, after_minus, opens_comment, closes_comment, space, tab, line_feed, carriage_return, run_end, magnitude, number_value, parts_value, duration_value, entry_of, is_identifier, is_grouped_after}
 use Rattle.il_text.specs.declared.error.LexicalError.TheVariants.{BadByte, OpenComment}
 use Rattle.il_text.specs.Pieces.{HasNoPiece}
-use Rattle.il_text.specs.LexicalErrors.{number_of_error, lexeme_error, is_inside_comment, IsNeverClosed, IsInsideEnd, IsCommentError, IsFirstError, IsFaultOfText}
+use Rattle.il_text.specs.LexicalErrors.{number_of_error, lexeme_error, is_inside_comment, IsNeverClosed, IsInsideEnd, IsCommentError, IsFirstError, IsFaultOfText, the_start}
 use Rattle.il_text.proofs.Signs.{sign_from, sign_is}
 use Rattle.il_text.proofs.Lexemes.{only_signs}
 use Rattle.il_text.proofs.ErrorLaws.{no_piece_at_comment}
@@ -177,7 +178,11 @@ begins_nothing text i no_comment no_space no_word no_digit no_sign no_feed no_re
     (λ j h. elim h [ inl one ↦ not_10 (byte_at text i) no_feed one.1 | inr two ↦ not_13 (byte_at text i) no_return two.1 ]))
 
 -- `@`
-first_byte : IsFirstError (codes "@") 1 1
+-- a place
+abbrev at : ℕ → ℕ → Place
+at offset line = record { offset = offset; line = line }
+
+first_byte : IsFirstError (codes "@") 1 (at 0 1)
 unfolding run_end
 first_byte = record {
   before = [];
@@ -186,14 +191,13 @@ first_byte = record {
   inside = omega arith;
   none = begins_nothing (codes "@") 0 refl refl refl refl refl refl refl;
   error = BadByte;
-  place = 0;
   wrong = inr (refl, refl, refl);
   is_number = refl;
   is_line = refl;
 }
 
 -- `LD @`: behind a token and a blank, in the same line
-behind_a_word : IsFirstError (codes "LD @") 1 1
+behind_a_word : IsFirstError (codes "LD @") 1 (at 3 1)
 unfolding run_end is_identifier is_grouped_after
 behind_a_word = record {
   before = record { kind = kind.Word; start = 0; end = 2; line = 1 } ∷ [];
@@ -202,14 +206,13 @@ behind_a_word = record {
   inside = omega arith;
   none = begins_nothing (codes "LD @") 3 refl refl refl refl refl refl refl;
   error = BadByte;
-  place = 3;
   wrong = inr (refl, refl, refl);
   is_number = refl;
   is_line = refl;
 }
 
 -- a line feed and `@`: in line 2
-in_line_2 : IsFirstError (10 ∷ 64 ∷ []) 1 2
+in_line_2 : IsFirstError (10 ∷ 64 ∷ []) 1 (at 1 2)
 unfolding run_end
 in_line_2 = record {
   before = record { kind = kind.LineEnd; start = 0; end = 1; line = 1 } ∷ [];
@@ -218,14 +221,13 @@ in_line_2 = record {
   inside = omega arith;
   none = begins_nothing (10 ∷ 64 ∷ []) 1 refl refl refl refl refl refl refl;
   error = BadByte;
-  place = 1;
   wrong = inr (refl, refl, refl);
   is_number = refl;
   is_line = refl;
 }
 
 -- a carriage return and a line feed are one line end
-behind_return_and_feed : IsFirstError (13 ∷ 10 ∷ 64 ∷ []) 1 2
+behind_return_and_feed : IsFirstError (13 ∷ 10 ∷ 64 ∷ []) 1 (at 2 2)
 unfolding run_end
 behind_return_and_feed = record {
   before = record { kind = kind.LineEnd; start = 0; end = 2; line = 1 } ∷ [];
@@ -234,14 +236,13 @@ behind_return_and_feed = record {
   inside = omega arith;
   none = begins_nothing (13 ∷ 10 ∷ 64 ∷ []) 2 refl refl refl refl refl refl refl;
   error = BadByte;
-  place = 2;
   wrong = inr (refl, refl, refl);
   is_number = refl;
   is_line = refl;
 }
 
 -- a comment that is never closed is reported in the line where it opens, whatever lines it goes on to
-opens_in_line_1 : IsFirstError (40 ∷ 42 ∷ 10 ∷ 10 ∷ []) 2 1
+opens_in_line_1 : IsFirstError (40 ∷ 42 ∷ 10 ∷ 10 ∷ []) 2 (at 0 1)
 unfolding is_open is_inside_for
 opens_in_line_1 = record {
   before = [];
@@ -250,14 +251,13 @@ opens_in_line_1 = record {
   inside = omega arith;
   none = no_comment (40 ∷ 42 ∷ 10 ∷ 10 ∷ []) 0 4 refl (inside_end (40 ∷ 42 ∷ 10 ∷ 10 ∷ []) 2 2 refl refl) refl;
   error = OpenComment;
-  place = 0;
   wrong = inl (refl, inl (refl, refl, never_closed (40 ∷ 42 ∷ 10 ∷ 10 ∷ []) 2 2 (omega arith) refl));
   is_number = refl;
   is_line = refl;
 }
 
 -- one in another is reported in the line where the inner one opens
-nested_in_line_2 : IsFirstError (40 ∷ 42 ∷ 10 ∷ 40 ∷ 42 ∷ 42 ∷ 41 ∷ []) 2 2
+nested_in_line_2 : IsFirstError (40 ∷ 42 ∷ 10 ∷ 40 ∷ 42 ∷ 42 ∷ 41 ∷ []) 2 (at 3 2)
 unfolding is_inside_for
 nested_in_line_2 = record {
   before = [];
@@ -266,15 +266,14 @@ nested_in_line_2 = record {
   inside = omega arith;
   none = no_comment (40 ∷ 42 ∷ 10 ∷ 40 ∷ 42 ∷ 42 ∷ 41 ∷ []) 0 3 refl (inside_end (40 ∷ 42 ∷ 10 ∷ 40 ∷ 42 ∷ 42 ∷ 41 ∷ []) 2 1 refl refl) refl;
   error = OpenComment;
-  place = 3;
   wrong = inl (refl, inr (refl, inside_end (40 ∷ 42 ∷ 10 ∷ 40 ∷ 42 ∷ 42 ∷ 41 ∷ []) 2 1 refl refl, (5, omega arith, refl)));
   is_number = refl;
   is_line = refl;
 }
 
 -- the fault of a whole text, and of one that is too long
-fault_of_text : IsFaultOfText (10 ∷ 64 ∷ []) (Fault 1 2)
+fault_of_text : IsFaultOfText (10 ∷ 64 ∷ []) (Fault 1 (at 1 2))
 fault_of_text = inr (omega arith, in_line_2)
 
-fault_of_long_text : (text : List ℕ) → 262144 < length text → IsFaultOfText text (Fault 6 1)
+fault_of_long_text : (text : List ℕ) → 262144 < length text → IsFaultOfText text (Fault 6 the_start)
 fault_of_long_text text long = inl (long, refl, refl)

@@ -15,7 +15,8 @@ use Rattle.il_spec.specs.declared.token.Token.{Token as Tok}
 use Rattle.il_text.specs.declared.piece.Piece.{Piece}
 use Rattle.il_text.specs.declared.piece.Piece.TheVariants.{Blank, Token}
 use Rattle.il_text.specs.Pieces.{IsPiece, HasNoLexeme, HasNoPiece}
-use Rattle.il_text.specs.LexicalErrors.{is_inside_comment, IsNeverClosed, IsInsideEnd, IsCommentError, IsErrorAt, IsFirstError, AreTokensTo, lexeme_error, number_of_error}
+use Rattle.il_spec.specs.declared.tree.Place.{Place}
+use Rattle.il_text.specs.LexicalErrors.{is_inside_comment, IsNeverClosed, IsInsideEnd, IsCommentError, IsErrorAt, IsFirstError, AreTokensTo, lexeme_error, number_of_error, place_at}
 use Rattle.il_text.specs.declared.error.LexicalError.{LexicalError}
 use Rattle.il_text.specs.declared.error.LexicalError.TheVariants.{BadByte, OpenComment}
 use Rattle.il_spec.specs.declared.tree.Subrange.{Subrange}
@@ -364,7 +365,7 @@ at_the_end text x [] h = h
 at_the_end text x (t ∷ ts) h = (h.0, at_the_end text t.end ts h.1)
 
 abbrev IsCutOrError : List ℕ → Type 0
-IsCutOrError text = ((ts : List Tok) × AreTokens text 0 ts) ⊎ ((number : ℕ) × ((line : ℕ) × IsFirstError text number line))
+IsCutOrError text = ((ts : List Tok) × AreTokens text 0 ts) ⊎ ((number : ℕ) × ((place : Place) × IsFirstError text number place))
 
 behind : (n : ℕ) (text : List ℕ) (out : List Tok) (at : ℕ) → length text ≤ at + suc n → AreTokensTo text 0 out at
     → ((us : List Tok) (j : ℕ) → length text ≤ j + n → j ≤ length text → AreTokensTo text 0 us j → IsCutOrError text) → (piece : Piece) (j : ℕ) → IsPiece text piece at j → IsCutOrError text
@@ -379,7 +380,7 @@ from_here zero text out at enough within h = let e : at ≡ length text = omega 
 from_here (suc n) text out at enough within h = elim (cases_lt at (length text)) [
   | inr past ↦ let e : at ≡ length text = omega arith in inl (out, at_the_end text 0 out (subst (λ x. AreTokensTo text 0 out x) e h))
   | inl inside ↦ elim (piece_or text at) [
-    | inr bad ↦ inr (number_of_error bad.1.0, (line_at text bad.1.1.0, record { before = out; at = at; read = h; inside = inside; none = bad.0; error = bad.1.0; place = bad.1.1.0; wrong = bad.1.1.1; is_number = refl; is_line = refl }))
+    | inr bad ↦ inr (number_of_error bad.1.0, (place_at text bad.1.1.0, record { before = out; at = at; read = h; inside = inside; none = bad.0; error = bad.1.0; wrong = bad.1.1.1; is_number = refl; is_line = refl }))
     | inl good ↦ behind n text out at enough h (λ us j e w g. from_here n text us j e w g) good.0 good.1.0 good.1.1
   ]
 ]
@@ -389,7 +390,7 @@ pub cut_or_error : (text : List ℕ) → IsCutOrError text
 cut_or_error text = from_here (length text) text [] 0 (omega arith) (omega arith) ([], refl)
 
 -- a text that has no tokens has a first lexical error
-pub some_first : (text : List ℕ) → HasNoTokens text → (number : ℕ) × ((line : ℕ) × IsFirstError text number line)
+pub some_first : (text : List ℕ) → HasNoTokens text → (number : ℕ) × ((place : Place) × IsFirstError text number place)
 some_first text none = elim (cut_or_error text) [
   | inl cut ↦ absurd (none cut.0 cut.1)
   | inr wrong ↦ wrong

@@ -3,8 +3,10 @@ use Rattle.std.proofs.Common.{◌≡◌, ℕ, ◌+◌, ◌<◌, ◌≤◌, List,
 use Rattle.std.specs.Prelude.{if◌then◌else◌, IsTrue}
 use Rattle.std.proofs.lemmas.Bool.{cases_order}
 use Rattle.il_spec.specs.declared.token.Token.{Token as Tok}
+use Rattle.il_spec.specs.declared.tree.Place.{Place}
 use Rattle.il_spec.specs.declared.fault.Refusal.{Refusal}
 use Rattle.il_spec.specs.declared.fault.Refusal.TheVariants.{Fault, Memory}
+use Rattle.il_spec.proofs.Places.{place_is}
 use Rattle.il_spec.specs.Text.{IsBlank, AreBlanks, AreBlank, IsLexeme, IsToken, AreTokens, line_at, opens_comment, closes_comment}
 use Rattle.il_text.specs.declared.error.LexicalError.{LexicalError}
 use Rattle.il_text.specs.declared.error.LexicalError.TheVariants.{BadByte, OpenComment}
@@ -13,7 +15,7 @@ use Rattle.il_text.proofs.Cut.{gap_unique, token_unique}
 use Rattle.il_text.proofs.Lexemes.{lexeme_within}
 use Rattle.il_text.proofs.Blanks.{no_lexeme_at_blank, no_blank_at_end}
 use Rattle.il_text.specs.Pieces.{HasNoPiece}
-use Rattle.il_text.specs.LexicalErrors.{AreTokensTo, IsInsideEnd, IsNeverClosed, IsCommentError, IsErrorAt, IsFirstError, IsFaultOfText, number_of_error}
+use Rattle.il_text.specs.LexicalErrors.{AreTokensTo, IsInsideEnd, IsNeverClosed, IsCommentError, IsErrorAt, IsFirstError, IsFaultOfText, number_of_error, place_at}
 
 -- a blank more behind blanks
 blanks_on : (text es : List ℕ) (i j k : ℕ) → AreBlanks text es i j → IsBlank text j k → AreBlanks text (es ++ k ∷ []) i k
@@ -38,9 +40,9 @@ done_token text t out l e h = to_token text 0 t out h l e
 
 -- the fault where the lexer stops
 pub fault_is : (text : List ℕ) (out : List Tok) (at : ℕ) (error : LexicalError) (place : ℕ) (e : Refusal) → AreTokensTo text 0 out at → at < length text → length text ≤ 262144
-    → HasNoPiece text at → IsErrorAt text at error place → e ≡ Fault (number_of_error error) (line_at text place) → IsFaultOfText text e
+    → HasNoPiece text at → IsErrorAt text at error place → e ≡ Fault (number_of_error error) (place_at text place) → IsFaultOfText text e
 fault_is text out at error place e read inside short none wrong is =
-    let first : IsFirstError text (number_of_error error) (line_at text place) = record { before = out; at = at; read = read; inside = inside; none = none; error = error; place = place; wrong = wrong; is_number = refl; is_line = refl } in
+    let first : IsFirstError text (number_of_error error) (place_at text place) = record { before = out; at = at; read = read; inside = inside; none = none; error = error; wrong = wrong; is_number = refl; is_line = refl } in
     subst (IsFaultOfText text) (sym is) (inr (short, first))
 
 -- where nothing begins, no blank does
@@ -93,19 +95,19 @@ error_once text i p q f g (inl h) (inr k) = let e : true ≡ false = sym h.0 ∙
 error_once text i p q f g (inr h) (inl k) = let e : true ≡ false = sym k.0 ∙ h.0 in absurd cc
 
 -- a text has one first lexical error at most
-pub one_first : (text : List ℕ) (m n k l : ℕ) → IsFirstError text m k → IsFirstError text n l → (m ≡ n) × (k ≡ l)
-one_first text m n k l h g =
+pub one_first : (text : List ℕ) (m n : ℕ) (p q : Place) → IsFirstError text m p → IsFirstError text n q → (m ≡ n) × (p ≡ q)
+one_first text m n p q h g =
     let same = stuck_once text 0 h.at g.at h.before g.before h.read g.read h.none g.none in
-    let wrong = error_once text h.at h.place g.place h.error g.error h.wrong (subst (λ i. IsErrorAt text i g.error g.place) (sym same) g.wrong) in
-    (h.is_number ∙ ap number_of_error wrong.0 ∙ sym g.is_number, h.is_line ∙ ap (line_at text) wrong.1 ∙ sym g.is_line)
+    let wrong = error_once text h.at p.offset q.offset h.error g.error h.wrong (subst (λ i. IsErrorAt text i g.error q.offset) (sym same) g.wrong) in
+    (h.is_number ∙ ap number_of_error wrong.0 ∙ sym g.is_number, place_is p q wrong.1 (h.is_line ∙ ap (line_at text) wrong.1 ∙ sym g.is_line))
 
 to_the_end : (text : List ℕ) (x : ℕ) (ts : List Tok) → AreTokens text x ts → AreTokensTo text x ts (length text)
 to_the_end text x [] h = h
 to_the_end text x (t ∷ ts) h = (h.0, to_the_end text t.end ts h.1)
 
 -- a text that has tokens has none
-pub no_first : (text : List ℕ) (ts : List Tok) (n l : ℕ) → AreTokens text 0 ts → IsFirstError text n l → ⊥
-no_first text ts n l h g =
+pub no_first : (text : List ℕ) (ts : List Tok) (n : ℕ) (p : Place) → AreTokens text 0 ts → IsFirstError text n p → ⊥
+no_first text ts n p h g =
     let same = stuck_once text 0 (length text) g.at ts g.before (to_the_end text 0 ts h) g.read (none_at_end text) g.none in
     let inside = g.inside in
     omega (arith, same)

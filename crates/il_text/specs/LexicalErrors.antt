@@ -11,6 +11,7 @@ use Rattle.std.specs.Prelude.{◌≡◌, ℕ, ◌+◌, ◌<◌, ◌≤◌, not, 
 use Rattle.std.specs.Char.{is_ascii_digit}
 use Rattle.il_spec.specs.declared.token.Token.{Token}
 use Rattle.il_spec.specs.declared.tree.Elementary.{Elementary}
+use Rattle.il_spec.specs.declared.tree.Place.{Place}
 use Rattle.il_spec.specs.declared.fault.Refusal.{Refusal}
 use Rattle.il_spec.specs.declared.fault.Refusal.TheVariants.{Fault, Memory}
 use Rattle.il_spec.specs.Text.{byte_at, hash, begins_word, is_word_byte, is_literal_byte, run_end, after_minus, upper_case, number_value, duration_value, entry_of, whole_type_words, duration_words, is_text_byte, opens_comment, closes_comment, line_at, AreBlank, IsToken}
@@ -80,19 +81,26 @@ AreTokensTo text at [] end = AreBlank text at end
 AreTokensTo text at (t ∷ ts) end = IsToken text at t × AreTokensTo text t.end ts end
 
 -- The first place at which no token is cut, and what is wrong there.
-pub record IsFirstError (text : List ℕ) (number line : ℕ) : Type 0 where
+pub record IsFirstError (text : List ℕ) (number : ℕ) (place : Place) : Type 0 where
   pub before : List Token
   pub at : ℕ
   pub read : AreTokensTo text 0 before at
   pub inside : at < length text
   pub none : HasNoPiece text at
   pub error : LexicalError
-  pub place : ℕ
-  pub wrong : IsErrorAt text at error place
+  pub wrong : IsErrorAt text at error place.offset
   pub is_number : number ≡ number_of_error error
-  pub is_line : line ≡ line_at text place
+  pub is_line : place.line ≡ line_at text place.offset
 
--- The fault of the bytes of a text: 6 at line 1 where it is too long, whatever stands in it, else the first lexical error.
+-- where a text begins
+abbrev pub the_start : Place
+the_start = record { offset = 0; line = 1 }
+
+-- the place of the byte at i
+abbrev pub place_at : List ℕ → ℕ → Place
+place_at text i = record { offset = i; line = line_at text i }
+
+-- The fault of the bytes of a text: 6 at its start where it is too long, whatever stands in it, else the first lexical error.
 abbrev pub IsFaultOfText : List ℕ → Refusal → Type 0
-IsFaultOfText text (Fault number line) = ((262144 < length text) × (number ≡ 6) × (line ≡ 1)) ⊎ ((length text ≤ 262144) × IsFirstError text number line)
+IsFaultOfText text (Fault number place) = ((262144 < length text) × (number ≡ 6) × (place ≡ the_start)) ⊎ ((length text ≤ 262144) × IsFirstError text number place)
 IsFaultOfText text Memory = ⊥

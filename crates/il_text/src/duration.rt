@@ -63,7 +63,10 @@ fn capped_count(digits: &[u8]) -> u64
 fn part_of<'a>(bytes: &'a [u8], unit: &[u8], milliseconds: u64) -> Part<'a>
     requires { milliseconds ≤ 86400000 }
     ensures { (count : ℕ) × (result.milliseconds ≡ min count 2147483648 * milliseconds)
-        × ((units : List (List ℕ × ℕ)) → parts_value ((unit.now, milliseconds) ∷ units) (upper_case bytes.now) ≡ option_map (λ n. count * milliseconds + n) (parts_value units (upper_case result.rest.now))) }
+        × ((units : List (List ℕ × ℕ))
+        → parts_value ((unit.now, milliseconds) ∷ units) (upper_case bytes.now)
+        ≡ option_map (λ n. count * milliseconds + n)
+        (parts_value units (upper_case result.rest.now))) }
 {
     let digits = digits_len(bytes);
     let behind = &bytes[digits..];

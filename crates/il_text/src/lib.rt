@@ -6,10 +6,11 @@ ghost use Rattle.std.specs.List.{All};
 ghost use Rattle.std.specs.Str.{IsUtf8};
 ghost use Rattle.il_spec.specs.declared.fault.Refusal.{Refusal};
 ghost use Rattle.il_spec.specs.declared.fault.Refusal.TheVariants.{Fault, Memory};
+ghost use Rattle.il_spec.specs.declared.tree.Place.{Place};
 ghost use Rattle.il_spec.specs.declared.token.Token.{Token};
 ghost use Rattle.il_spec.specs.declared.token.Kind.TheVariants.{Word};
 ghost use Rattle.il_spec.specs.Text.{IsToken, AreTokens, HasNoTokens, name_of, line_at};
-ghost use Rattle.il_text.specs.LexicalErrors.{number_of_error, IsFirstError, IsFaultOfText};
+ghost use Rattle.il_text.specs.LexicalErrors.{number_of_error, IsFirstError, IsFaultOfText, the_start, place_at};
 ghost use Rattle.il_text.specs.Refused.{IsFault, IsFaultOfBytes, IsMemoryOrFaultOfBytes};
 
 mod bytes;
@@ -28,6 +29,7 @@ use crate::error::{Misread, TEXT_TOO_LONG};
 use crate::piece::{Piece, Stretch, piece_at};
 pub use il_spec::fault::Refusal;
 pub use il_spec::token::{Kind, Sign, Token};
+use il_spec::tree::Place;
 use std::alloc::Global;
 
 // The length of the longest text that is read, in bytes (own rule).
@@ -44,27 +46,30 @@ fn refusal(text: &[u8], at: usize, line: u32, misread: Misread) -> Refusal
     requires few { line ≤ 262145 }
     requires is_line { line ≡ line_at text.now at }
     ensures number { IsFaultOfBytes result }
-    ensures exactly { result ≡ Fault (number_of_error misread.error) (line_at text.now misread.at) }
+    ensures exactly { result ≡ Fault (number_of_error misread.error) (place_at text.now misread.at) }
 {
     Refusal::Fault {
         number: misread.error.number(),
-        line: line + line_feeds(&text[at..misread.at]) as u32,
+        place: Place {
+            offset: misread.at as u32,
+            line: line + line_feeds(&text[at..misread.at]) as u32,
+        },
     }
 }
 
 /// The tokens of a text, in its order. What is no token is a space, a tab or a comment.
 ///
-/// A text that has none is refused with the first of these from the left, and the line where it stands:
+/// A text that has none is refused with the first of these from the left, and the place where it stands:
 /// 1 a byte that begins no token, or stands in a comment and in no text; 2 `(*` that no `*)` closes (at its line), or
 /// that stands in a comment; 3 a number or a typed literal that is not well formed (2.2.1, 2.2.3.1); 4 one whose value
 /// is too large; 5 a word that is no identifier (2.1.2) or has more than 32 characters. A word directly before `#` is
-/// always a typed literal, and form goes before size. A text of more than 262144 bytes is refused with 6 at line 1,
+/// always a typed literal, and form goes before size. A text of more than 262144 bytes is refused with 6 at its start, in line 1,
 /// whatever stands in it (own rule).
 pub fn tokens(alloc: Global, text: &[u8]) -> Result<Vec<Token>, Refusal>
     ensures found { IfOk result (λ v. AreTokens text.now 0 v.items) }
     ensures short { IfOk result (λ v. length text.now ≤ 262144) }
     ensures only { IfOk result (λ v. (ts : List Token) → AreTokens text.now 0 ts → ts ≡ v.items) }
-    ensures too_long { 262144 < length text.now → result ≡ Err (Fault 6 1) }
+    ensures too_long { 262144 < length text.now → result ≡ Err (Fault 6 the_start) }
     ensures number { IfErr result (λ e. length text.now ≤ 262144 → IsMemoryOrFaultOfBytes e) }
     ensures refused { IsFault result → length text.now ≤ 262144 → HasNoTokens text.now }
     ensures fault { IfErr result (λ e. (e ≡ Memory) ⊎ IsFaultOfText text.now e) }
@@ -72,7 +77,7 @@ pub fn tokens(alloc: Global, text: &[u8]) -> Result<Vec<Token>, Refusal>
     if text.len() > LONGEST_TEXT {
         return Err(Refusal::Fault {
             number: TEXT_TOO_LONG,
-            line: 1,
+            place: Place { offset: 0, line: 1 },
         });
     }
     let mut found = Vec::with_capacity(alloc, text.len() / BYTES_OF_TOKEN)?;
@@ -120,8 +125,8 @@ pub fn words_are_text()
 pub fn one_fault_of_bytes()
     ensures once { (text : List ℕ) (e f : Refusal) → IsFaultOfText text e → IsFaultOfText text f
         → e ≡ f }
-    ensures none { (text : List ℕ) (ts : List Token) (number line : ℕ) → AreTokens text 0 ts
-        → IsFirstError text number line → ⊥ }
+    ensures none { (text : List ℕ) (ts : List Token) (number : ℕ) (place : Place)
+        → AreTokens text 0 ts → IsFirstError text number place → ⊥ }
     ensures some { (text : List ℕ) → HasNoTokens text → (number : ℕ)
-        × ((line : ℕ) × IsFirstError text number line) }
+        × ((place : Place) × IsFirstError text number place) }
 {}

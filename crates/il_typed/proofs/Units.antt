@@ -79,5 +79,5 @@ pub least_all : (config : Config) (units writers found : Option NumberedFault) �
 least_all config units writers found u w is = least_types config found (least_both (AllUnitsBreak config) (HasWriters config) units writers found is u (least_writers config writers w))
 
 -- the refusal names it
-pub refused_by : (config : Config) (found : Option NumberedFault) (f : NumberedFault) (r : Refusal) → IsLeast found (λ n p. BreaksTypes config n p) → found ≡ Some f → r ≡ Fault f.number f.place.line → IsRefusedBy (Broken Typing config) r
-refused_by config found f r l is refuses = subst (IsRefusedBy (Broken Typing config)) (sym refuses) (f.place, record { broken = l.holds f is; first = l.first f is }, refl)
+pub refused_by : (config : Config) (found : Option NumberedFault) (f : NumberedFault) (r : Refusal) → IsLeast found (λ n p. BreaksTypes config n p) → found ≡ Some f → r ≡ Fault f.number f.place → IsRefusedBy (Broken Typing config) r
+refused_by config found f r l is refuses = subst (IsRefusedBy (Broken Typing config)) (sym refuses) (record { broken = l.holds f is; first = l.first f is })

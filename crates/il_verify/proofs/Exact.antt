@@ -151,8 +151,8 @@ module _ (c : Config) (declared : HasNoFault (Broken Declaring c)) (typed : HasN
   }
 
 -- a refusal names the fault
-pub refused_by : (c : Config) (found : Option NumberedFault) (f : NumberedFault) (r : Refusal) → IsLeast found (λ n p. IsTooLong c n p) → found ≡ Some f → r ≡ Fault f.number f.place.line → IsRefusedBy (IsTooLong c) r
-refused_by c found f r least is named = subst (IsRefusedBy (IsTooLong c)) (sym named) (f.place, record { broken = least.holds f is; first = least.first f is }, refl)
+pub refused_by : (c : Config) (found : Option NumberedFault) (f : NumberedFault) (r : Refusal) → IsLeast found (λ n p. IsTooLong c n p) → found ≡ Some f → r ≡ Fault f.number f.place → IsRefusedBy (IsTooLong c) r
+refused_by c found f r least is named = subst (IsRefusedBy (IsTooLong c)) (sym named) (record { broken = least.holds f is; first = least.first f is })
 
 -- one unit more
 pub over_next : (c : Config) (costs : List ℕ) (at : ℕ) (u : ProgramUnit) (one : Option NumberedFault) → one ≡ fault_of (nat_lt 1000000 (number_at costs at)) 50 u.place → IsLeast one (When (nat_lt 1000000 (number_at costs at) ≡ true) 50 u.place)

@@ -3,6 +3,7 @@ use Rattle.std.specs.Prelude.{◌≡◌, List, ℕ, Result, IfOk, IfErr, IsErrAn
 use Rattle.il_spec.specs.declared.fault.Refusal.{Refusal}
 use Rattle.il_spec.specs.declared.fault.Refusal.TheVariants.{Fault}
 use Rattle.il_spec.specs.declared.tree.Config.{Config}
+use Rattle.il_spec.specs.declared.tree.Place.{Place}
 use Rattle.il_parse.specs.Refused.{IsFault}
 use Rattle.il_machine.specs.Scanning.{Program}
 use Rattle.lift_run_laws.specs.Runs.{RunsWell}
@@ -18,5 +19,5 @@ pub record IsLoaded (text : List ℕ) (answer : Result Program Refusal) : Type 0
   pub refused : IsFault answer → (c : Config) → IsAccepted text c → ⊥
   pub named : IsFault answer → (c : Config) → IsSpelled text c → IsErrAnd answer (IsRefusedFor c)
   pub number : IfErr answer (IsExplained text)
-  pub one : IsFault answer → (n l : ℕ) → IsSpelledWith text (Fault n l) → IsErrAnd answer (λ e. e ≡ Fault n l)
+  pub one : IsFault answer → (n : ℕ) (p : Place) → IsSpelledWith text (Fault n p) → IsErrAnd answer (λ e. e ≡ Fault n p)
   pub bytes : ReportsFaultOfText text answer

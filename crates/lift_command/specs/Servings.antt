@@ -9,13 +9,13 @@ use Rattle.lift_host.specs.declared.files.ReadFault.{ReadFault}
 use Rattle.lift_host.specs.declared.serving.Serving.{Serving}
 use Rattle.lift_host.specs.declared.serving.Tracing.{Tracing}
 use Rattle.lift_host.specs.declared.status.Fault.{Fault}
-use Rattle.lift_host.specs.declared.status.Fault.TheVariants.{Misuse, Refused, BadPress, TooManyPresses, BadFire, BadSpan, BadName, CannotRead, CannotWrite, NoMemory}
+use Rattle.lift_host.specs.declared.status.Fault.TheVariants.{Misuse, RefusedText, Refused, BadPress, TooManyPresses, BadFire, BadSpan, BadName, CannotRead, CannotWrite, NoMemory}
 use Rattle.lift_host.specs.declared.status.Status.{Status}
 use Rattle.lift_host.specs.declared.status.Status.TheVariants as with_status
 use Rattle.lift_host.specs.Messages.{fault_of, fault_of_reading, message_of, status_of}
 use Rattle.lift_shell.specs.Runs.{IsExplained, IsUnreadBelow, most_bytes}
 use Rattle.lift_host.specs.Writes.{AppendsFront}
-use Rattle.lift_messages.specs.Places.{IsShownBelow}
+use Rattle.lift_messages.specs.Places.{IsTextShownBelow}
 use Rattle.lift_serve.specs.declared.group.Halt.{Halt}
 use Rattle.lift_serve.specs.declared.group.Halt.TheVariants as halt
 use Rattle.lift_serve.specs.declared.input.Came.{Came}
@@ -89,7 +89,8 @@ pub data IsLoadedAnswer (c : Config) (tracing : Option Tracing) (Taken : List �
 
 -- below a refusal of FILE its line
 abbrev pub IsRefusalBelow : List ℕ → List ℕ → Fault → List ℕ → Type 0
-IsRefusalBelow name text (Refused number line) below = IsShownBelow name text number line below
+IsRefusalBelow name text (RefusedText number place) below = IsTextShownBelow name text number place below
+IsRefusalBelow name text (Refused number line) below = below ≡ []
 IsRefusalBelow name text (Misuse said) below = below ≡ []
 IsRefusalBelow name text (BadPress word) below = below ≡ []
 IsRefusalBelow name text TooManyPresses below = below ≡ []

@@ -13,7 +13,7 @@ use lift_host::files::{Cause, ReadFault, TextFiles};
 use lift_host::serving::{Serving, Tracing};
 use lift_host::sink::{Sink, SinkFault};
 use lift_host::status::{Fault, Status};
-use lift_messages::place::below;
+use lift_messages::place::text_below;
 use lift_messages::show::tell;
 use lift_serve::group::{Halt, serve_group};
 use lift_serve::input::Came;
@@ -151,7 +151,7 @@ fn refusal_below(
     ensures { IfOk result (λ below. IsRefusalBelow name.now text.now fault.now below.items) }
 {
     match fault {
-        Fault::Refused { number, line } => below(alloc, name, text, *number, *line),
+        Fault::RefusedText { number, place } => text_below(alloc, name, text, *number, *place),
         _ => Ok(Vec::new(alloc)),
     }
 }

@@ -38,7 +38,10 @@ impl Model for Desk {
 
     ghost view = { λ d. record { table = d.table.shared.table_id; floors = d.floors; panels = d.panels } };
 
-    ghost invariant = { λ d. (d.table.shared.key ≡ record { floors = d.floors; panels = d.panels }) × (d.table.shared.table_id.words ≡ d.floors) × (d.table.shared.table_id.slots ≡ 0) × (1 ≤ d.floors) × (d.floors ≤ 16) × (1 ≤ d.panels) × (d.panels ≤ 4) };
+    ghost invariant = { λ d.
+        (d.table.shared.key ≡ record { floors = d.floors; panels = d.panels })
+        × (d.table.shared.table_id.words ≡ d.floors) × (d.table.shared.table_id.slots ≡ 0)
+        × (1 ≤ d.floors) × (d.floors ≤ 16) × (1 ≤ d.panels) × (d.panels ≤ 4) };
 }
 
 /// The pass of a landing panel.
@@ -58,9 +61,17 @@ impl Model for PanelPass {
 
     ghost coded = { panel_code };
 
-    ghost view = { λ p. record { table = p.seat.table_id; panels = panels_of p.seat.me.0; floor = p.floor; panel = p.panel; news = news_of p.seat.me.0; pressed = pressed_of p.seat.me.0 } };
+    ghost view = { λ p. record {
+      table = p.seat.table_id;
+      panels = panels_of p.seat.me.0;
+      floor = p.floor;
+      panel = p.panel;
+      news = news_of p.seat.me.0;
+      pressed = pressed_of p.seat.me.0;
+    } };
 
-    ghost invariant = { λ p. IsPanelOf p.floor p.seat.me.0 × (p.seat.me.1 ≡ []) × (1 ≤ p.floor) × (p.floor ≤ p.seat.table_id.words) };
+    ghost invariant = { λ p. IsPanelOf p.floor p.seat.me.0 × (p.seat.me.1 ≡ [])
+        × (1 ≤ p.floor) × (p.floor ≤ p.seat.table_id.words) };
 }
 
 impl PanelPass {

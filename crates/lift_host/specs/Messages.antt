@@ -15,7 +15,7 @@ use Rattle.lift_host.specs.declared.press.PressFault.TheVariants as press
 use Rattle.lift_host.specs.declared.status.Status.{Status}
 use Rattle.lift_host.specs.declared.status.Status.TheVariants as status
 use Rattle.lift_host.specs.declared.status.Fault.{Fault}
-use Rattle.lift_host.specs.declared.status.Fault.TheVariants.{Misuse, Refused, BadPress, TooManyPresses, BadFire, BadSpan, BadName, CannotRead, CannotWrite, NoMemory}
+use Rattle.lift_host.specs.declared.status.Fault.TheVariants.{Misuse, RefusedText, Refused, BadPress, TooManyPresses, BadFire, BadSpan, BadName, CannotRead, CannotWrite, NoMemory}
 
 -- the exit status
 abbrev pub code_of : Status → ℕ
@@ -28,6 +28,7 @@ code_of status.NoMemory = 4
 -- the status of a fault
 abbrev pub status_of : Fault → Status
 status_of (Misuse text) = status.Refused
+status_of (RefusedText number place) = status.Refused
 status_of (Refused number line) = status.Refused
 status_of (BadPress word) = status.Refused
 status_of TooManyPresses = status.Refused
@@ -38,10 +39,15 @@ status_of (CannotRead cause) = status.CannotRead
 status_of CannotWrite = status.CannotWrite
 status_of NoMemory = status.NoMemory
 
+-- a number and a line
+abbrev pub refusal_line : ℕ → ℕ → List ℕ
+refusal_line number line = codes "refused " ++ (decimal number ++ (codes " at line " ++ (decimal line ++ codes "\n")))
+
 -- the one line that the standard error shows, or what the parser of the words says
 abbrev pub message_of : Fault → List ℕ
 message_of (Misuse text) = string_bytes text
-message_of (Refused number line) = codes "refused " ++ (decimal number ++ (codes " at line " ++ (decimal line ++ codes "\n")))
+message_of (RefusedText number place) = refusal_line number place.line
+message_of (Refused number line) = refusal_line number line
 message_of (BadPress word) = codes "bad press\n"
 message_of TooManyPresses = codes "bad press\n"
 message_of (BadFire word) = codes "bad fire\n"
@@ -53,7 +59,7 @@ message_of NoMemory = codes "no memory\n"
 
 -- the fault of a refusal of a text
 abbrev pub fault_of : Refusal → Fault
-fault_of (refusal.Fault number line) = Refused number line
+fault_of (refusal.Fault number place) = RefusedText number place
 fault_of refusal.Memory = NoMemory
 
 -- why a file can't be read

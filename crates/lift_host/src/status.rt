@@ -9,6 +9,7 @@ use crate::files::{Cause, ReadFault};
 use crate::press::PressFault;
 use crate::sink::{Sink, SinkFault, put_all};
 use il_spec::fault::Refusal;
+use il_spec::tree::Place;
 use itoa::Buffer;
 use std::alloc::AllocError;
 
@@ -32,7 +33,9 @@ pub enum Status {
 pub enum Fault {
     /// The words are wrong: what the parser says.
     Misuse(String),
-    /// The text is refused with the number at the line, counted from 1.
+    /// The text is refused with the number at the place.
+    RefusedText { number: u16, place: Place },
+    /// Another file is refused with the number at the line, counted from 1.
     Refused { number: u16, line: u32 },
     /// This word is no PRESS.
     BadPress(String),
@@ -71,7 +74,7 @@ impl From<Refusal> for Fault {
 
     fn from(refusal: Refusal) -> Fault {
         match refusal {
-            Refusal::Fault { number, line } => Fault::Refused { number, line },
+            Refusal::Fault { number, place } => Fault::RefusedText { number, place },
             Refusal::Memory => Fault::NoMemory,
         }
     }
@@ -122,6 +125,7 @@ impl Fault {
     {
         match self {
             Fault::Misuse(_) => Status::Refused,
+            Fault::RefusedText { .. } => Status::Refused,
             Fault::Refused { .. } => Status::Refused,
             Fault::BadPress(_) => Status::Refused,
             Fault::TooManyPresses => Status::Refused,
@@ -144,6 +148,7 @@ impl Fault {
     {
         match self {
             Fault::Misuse(text) => put_all(sink, text.as_bytes()),
+            Fault::RefusedText { number, place } => put_refusal(sink, *number, place.line),
             Fault::Refused { number, line } => put_refusal(sink, *number, *line),
             Fault::BadPress(_) => put_all(sink, b"bad press\n"),
             Fault::TooManyPresses => put_all(sink, b"bad press\n"),
@@ -157,7 +162,7 @@ impl Fault {
     }
 }
 
-// Writes that a text is refused.
+// Writes that a text or another file is refused.
 fn put_refusal<S: Sink>(sink: &mut S, number: u16, line: u32) -> Result<(), SinkFault>
     ensures ok { OnOk result (Appends (S.contents sink.old) (S.contents sink.new)
         (message_of (Fault.Refused number line))) }

@@ -28,26 +28,26 @@ lacking c number place (lacks_ranges u among lacks) annotated =
     within_body at n place low below = omega (arith, low, below)
 
 -- what is named is broken, or has no ranges
-pub names_broken : {text : List ℕ} (c : Config) (number line : ℕ) → IsRefusedFor c (Fault number line) → IsAccepted text c → ⊥
-names_broken c number line (by_declarations (place, first, at)) a = a.declared number place first.broken
-names_broken c number line (by_types declared (place, first, at)) a = a.typed number place first.broken
-names_broken c number line (by_order declared typed (place, first, at)) a = a.ordered number place first.broken
-names_broken c number line (by_ranges unbroken (place, first, at)) a = lacking c number place first.broken a.annotated
-names_broken c number line (by_budgets unbroken annotated (place, first, at)) a = a.affordable number place first.broken
+pub names_broken : {text : List ℕ} (c : Config) (number : ℕ) (place : Place) → IsRefusedFor c (Fault number place) → IsAccepted text c → ⊥
+names_broken c number place (by_declarations first) a = a.declared number place first.broken
+names_broken c number place (by_types declared first) a = a.typed number place first.broken
+names_broken c number place (by_order declared typed first) a = a.ordered number place first.broken
+names_broken c number place (by_ranges unbroken first) a = lacking c number place first.broken a.annotated
+names_broken c number place (by_budgets unbroken annotated first) a = a.affordable number place first.broken
 
 -- what is named of a phase is broken
 pub breaks : {X : Type 0} (Breaks : ℕ → Place → Type 0) (e : Refusal) (r : Result X Refusal) → IsErrAnd r (λ d. d ≡ e) → IsFault r → IsRefusedBy Breaks e → HasNoFault Breaks → ⊥
 breaks {X} Breaks e (Ok x) same h refused none = absurd h
-breaks {X} Breaks e (Err (Fault number line)) same h refused none = at (subst (IsRefusedBy Breaks) (sym same) refused)
+breaks {X} Breaks e (Err (Fault number place)) same h refused none = at (subst (IsRefusedBy Breaks) (sym same) refused)
   where
-    at : IsRefusedBy Breaks (Fault number line) → ⊥
-    at (place, first, lined) = none number place first.broken
+    at : IsRefusedBy Breaks (Fault number place) → ⊥
+    at first = none number place first.broken
 breaks {X} Breaks e (Err Memory) same h refused none = absurd h
 
 -- the same of an answer as it stands
 pub breaks_here : {X : Type 0} (Breaks : ℕ → Place → Type 0) (r : Result X Refusal) → IsFault r → IfErr r (IsRefusedBy Breaks) → HasNoFault Breaks → ⊥
 breaks_here Breaks (Ok x) h refused none = absurd h
-breaks_here Breaks (Err (Fault number line)) h (place, first, lined) none = none number place first.broken
+breaks_here Breaks (Err (Fault number place)) h first none = none number place first.broken
 breaks_here Breaks (Err Memory) h refused none = absurd h
 
 -- a fault that is handed on is a fault

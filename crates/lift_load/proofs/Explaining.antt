@@ -5,10 +5,11 @@ use Rattle.std.proofs.lemmas.Bool.{cases_lt}
 use Rattle.il_spec.specs.declared.fault.Refusal.{Refusal}
 use Rattle.il_spec.specs.declared.fault.Refusal.TheVariants.{Fault, Memory}
 use Rattle.il_spec.specs.declared.tree.Config.{Config}
+use Rattle.il_spec.specs.declared.tree.Place.{Place}
 use Rattle.il_spec.specs.declared.token.Token.{Token}
 use Rattle.il_spec.specs.Text.{AreTokens, HasNoTokens}
 use Rattle.il_text.specs.Refused.{IsMemoryOrFaultOfBytes}
-use Rattle.il_text.specs.LexicalErrors.{IsFaultOfText}
+use Rattle.il_text.specs.LexicalErrors.{IsFaultOfText, the_start}
 use Rattle.il_text.proofs.FirstError.{one_fault, no_first}
 use Rattle.il_parse.specs.Refused.{IsFault, IsOfParser}
 use Rattle.lift_load.specs.Loading.{IsSpelled, IsRefusedFor, SpellsNone, HasTokens, IsNumberOfBytes, of_bytes, of_grammar, of_tree, IsExplained, ReportsFaultOfText}
@@ -30,23 +31,23 @@ if_err P Q (Err e) goes is = goes e is
 
 -- a fault of the tree
 pub explained_by_tree : (text : List ℕ) (c : Config) (e : Refusal) → IsSpelled text c → IsRefusedFor c e → IsExplained text e
-explained_by_tree text c (Fault number line) spelled refused = of_tree (late_fault c number line refused) (c, spelled, refused)
+explained_by_tree text c (Fault number place) spelled refused = of_tree (late_fault c number place refused) (c, spelled, refused)
 explained_by_tree text c Memory spelled refused = tt
 
 -- a fault of the parser
 pub explained_by_parser : (text : List ℕ) (e : Refusal) → IsOfParser e → HasTokens text → (IsFault {A = Config} (Err e) → SpellsNone text) → IsExplained text e
-explained_by_parser text (Fault number line) (inl is) has none = of_grammar (omega (arith, is), omega (arith, is)) has (none tt)
-explained_by_parser text (Fault number line) (inr (inl is)) has none = of_grammar (omega (arith, is), omega (arith, is)) has (none tt)
-explained_by_parser text (Fault number line) (inr (inr is)) has none = of_grammar (omega (arith, is), omega (arith, is)) has (none tt)
+explained_by_parser text (Fault number place) (inl is) has none = of_grammar (omega (arith, is), omega (arith, is)) has (none tt)
+explained_by_parser text (Fault number place) (inr (inl is)) has none = of_grammar (omega (arith, is), omega (arith, is)) has (none tt)
+explained_by_parser text (Fault number place) (inr (inr is)) has none = of_grammar (omega (arith, is), omega (arith, is)) has (none tt)
 explained_by_parser text Memory is has none = tt
 
 -- a fault of the bytes, or a text that is too long
-pub explained_by_tokens : {A : Type 0} (text : List ℕ) (e : Refusal) → (262144 < length text → ◌≡◌ {A = Result A Refusal} (Err e) (Err (Fault 6 1))) → (length text ≤ 262144 → IsMemoryOrFaultOfBytes e)
+pub explained_by_tokens : {A : Type 0} (text : List ℕ) (e : Refusal) → (262144 < length text → ◌≡◌ {A = Result A Refusal} (Err e) (Err (Fault 6 the_start))) → (length text ≤ 262144 → IsMemoryOrFaultOfBytes e)
     → (IsFault {A = Config} (Err e) → length text ≤ 262144 → HasNoTokens text) → (e ≡ Memory) ⊎ IsFaultOfText text e → IsExplained text e
 explained_by_tokens text Memory long bytes none fault = tt
-explained_by_tokens {A} text (Fault number line) long bytes none fault = of_bytes low (that fault) (λ c s. none tt s.limits.bytes s.spelled.0 s.spelled.1)
+explained_by_tokens {A} text (Fault number place) long bytes none fault = of_bytes low (that fault) (λ c s. none tt s.limits.bytes s.spelled.0 s.spelled.1)
   where
-    that : (Fault number line ≡ Memory) ⊎ IsFaultOfText text (Fault number line) → IsFaultOfText text (Fault number line)
+    that : (Fault number place ≡ Memory) ⊎ IsFaultOfText text (Fault number place) → IsFaultOfText text (Fault number place)
     that (inl bad) = absurd cc
     that (inr is) = is
 
@@ -56,30 +57,30 @@ explained_by_tokens {A} text (Fault number line) long bytes none fault = of_byte
       | inr within ↦ let is = bytes within in (is.0, omega (arith, is.1))
     ]
       where
-        number_of : ◌≡◌ {A = Result A Refusal} (Err (Fault number line)) (Err (Fault 6 1)) → number ≡ 6
+        number_of : ◌≡◌ {A = Result A Refusal} (Err (Fault number place)) (Err (Fault 6 the_start)) → number ≡ 6
         number_of same = ap number_in same
           where
             number_in : Result A Refusal → ℕ
-            number_in (Err (Fault n l)) = n
+            number_in (Err (Fault n p)) = n
             number_in _ = 0
 
 -- THE FAULT OF THE BYTES
 
 -- a text that has tokens has no fault of its bytes
-pub no_fault_of_bytes : (text : List ℕ) (ts : List Token) (n l : ℕ) → length text ≤ 262144 → AreTokens text 0 ts → IsFaultOfText text (Fault n l) → ⊥
-no_fault_of_bytes text ts n l short cut (inl h) = omega (arith, short, h.0)
-no_fault_of_bytes text ts n l short cut (inr h) = no_first text ts n l cut h.1
+pub no_fault_of_bytes : (text : List ℕ) (ts : List Token) (n : ℕ) (p : Place) → length text ≤ 262144 → AreTokens text 0 ts → IsFaultOfText text (Fault n p) → ⊥
+no_fault_of_bytes text ts n p short cut (inl h) = omega (arith, short, h.0)
+no_fault_of_bytes text ts n p short cut (inr h) = no_first text ts n p cut h.1
 
-pub no_fault_of_spelled : (text : List ℕ) (c : Config) (n l : ℕ) → IsSpelled text c → IsFaultOfText text (Fault n l) → ⊥
-no_fault_of_spelled text c n l s fault = no_fault_of_bytes text s.spelled.0 n l s.limits.bytes s.spelled.1 fault
+pub no_fault_of_spelled : (text : List ℕ) (c : Config) (n : ℕ) (p : Place) → IsSpelled text c → IsFaultOfText text (Fault n p) → ⊥
+no_fault_of_spelled text c n p s fault = no_fault_of_bytes text s.spelled.0 n p s.limits.bytes s.spelled.1 fault
 
 -- what the lexer answers
 pub reported_by_tokens : {X : Type 0} (text : List ℕ) (e : Refusal) (r : Result X Refusal) → IsErrAnd r (λ d. d ≡ e) → (e ≡ Memory) ⊎ IsFaultOfText text e → ReportsFaultOfText text r
-reported_by_tokens {X} text e (Ok x) same is n l fault = absurd same
-reported_by_tokens {X} text e (Err d) same (inl memory) n l fault = inr (same ∙ memory)
-reported_by_tokens {X} text e (Err d) same (inr is) n l fault = inl (same ∙ one_fault text e (Fault n l) is fault)
+reported_by_tokens {X} text e (Ok x) same is n p fault = absurd same
+reported_by_tokens {X} text e (Err d) same (inl memory) n p fault = inr (same ∙ memory)
+reported_by_tokens {X} text e (Err d) same (inr is) n p fault = inl (same ∙ one_fault text e (Fault n p) is fault)
 
 -- what is handed on
-pub handed_report : {X : Type 0} (text : List ℕ) (e : Refusal) (r : Result X Refusal) → IsErrAnd r (λ d. d ≡ e) → ((n l : ℕ) → IsFaultOfText text (Fault n l) → (e ≡ Fault n l) ⊎ (e ≡ Memory)) → ReportsFaultOfText text r
-handed_report {X} text e (Ok x) same reports n l fault = absurd same
-handed_report {X} text e (Err d) same reports n l fault = subst (λ b. (b ≡ Fault n l) ⊎ (b ≡ Memory)) (sym same) (reports n l fault)
+pub handed_report : {X : Type 0} (text : List ℕ) (e : Refusal) (r : Result X Refusal) → IsErrAnd r (λ d. d ≡ e) → ((n : ℕ) (p : Place) → IsFaultOfText text (Fault n p) → (e ≡ Fault n p) ⊎ (e ≡ Memory)) → ReportsFaultOfText text r
+handed_report {X} text e (Ok x) same reports n p fault = absurd same
+handed_report {X} text e (Err d) same reports n p fault = subst (λ b. (b ≡ Fault n p) ⊎ (b ≡ Memory)) (sym same) (reports n p fault)

@@ -1,4 +1,4 @@
--- A text that is spelled has one fault at most, by its number and its line.
+-- A text that is spelled has one fault at most, by its number and its place.
 use Rattle.std.proofs.Common.{◌≡◌, ◌++◌, ◌∷◌, [], ℕ, List, Result, Ok, Err, arith, sym, ap₂, ◌∙◌, subst}
 use Rattle.std.specs.Prelude.{Contains, IfErr, IsErrAnd, flat_map}
 use Rattle.std.proofs.lemmas.Option.{slice_get_within}
@@ -8,7 +8,9 @@ use Rattle.il_spec.specs.declared.tree.Config.{Config}
 use Rattle.il_spec.specs.declared.tree.Place.{Place}
 use Rattle.il_spec.specs.declared.tree.Step.{Step}
 use Rattle.il_spec.specs.declared.tree.Unit.{Unit as Organized}
+use Rattle.il_spec.proofs.Places.{place_is}
 use Rattle.il_spec.specs.Grammar.{Spells}
+use Rattle.il_rules.proofs.FirstFaults.{first_is_one}
 use Rattle.il_rules.specs.Faults.{Declaring, Typing, Ordering, Broken, BreaksDeclarations, HasNoFault, IsRefusedBy}
 use Rattle.il_grammar_laws.specs.Places.{places, unit_places, inner_places, result_places, declaration_places, step_places, instruction_places, name_places, BreaksAtPlaces}
 use Rattle.il_grammar_laws.proofs.Members.{first_in, later_in, left_in, right_in, given_in, standing_in}
@@ -44,16 +46,18 @@ budgets_at c n p (too_long u cost has longest over number is) = subst (Contains 
 -- ONE PHASE
 
 -- two first faults of a rule are one
-same_fault : (text : List ℕ) (c : Config) (rule : ℕ → Place → Type 0) → Spells text c → BreaksAtPlaces c rule → (n l m k : ℕ) → IsRefusedBy rule (Fault n l) → IsRefusedBy rule (Fault m k) → (n ≡ m) × (l ≡ k)
-same_fault text c rule spelled at n l m k (p, first, is) (q, other, too) = let same = first_at_one_line text c rule spelled at n m p q first other in (same.0, is ∙ same.1 ∙ sym too)
+same_fault : (text : List ℕ) (c : Config) (rule : ℕ → Place → Type 0) → Spells text c → BreaksAtPlaces c rule → (n m : ℕ) (p q : Place) → IsRefusedBy rule (Fault n p) → IsRefusedBy rule (Fault m q) → (n ≡ m) × (p ≡ q)
+same_fault text c rule spelled at n m p q first other =
+    let same = first_at_one_line text c rule spelled at n m p q first other in
+    (same.0, place_is p q (first_is_one rule n m p q first other).1 same.1)
 
 -- a fault of a rule is broken
-is_broken : (rule : ℕ → Place → Type 0) (n l : ℕ) → IsRefusedBy rule (Fault n l) → HasNoFault rule → ⊥
-is_broken rule n l (p, first, is) none = none n p first.broken
+is_broken : (rule : ℕ → Place → Type 0) (n : ℕ) (p : Place) → IsRefusedBy rule (Fault n p) → HasNoFault rule → ⊥
+is_broken rule n p first none = none n p first.broken
 
 -- where each unit has ranges, none lacks them
-lacks_none : (c : Config) (n l : ℕ) → IsRefusedBy (BreaksRanges c) (Fault n l) → Annotated c → ⊥
-lacks_none c n l (p, first, is) ranged = by_unit first.broken
+lacks_none : (c : Config) (n : ℕ) (p : Place) → IsRefusedBy (BreaksRanges c) (Fault n p) → Annotated c → ⊥
+lacks_none c n p first ranged = by_unit first.broken
   where
     by_unit : BreaksRanges c n p → ⊥
     by_unit (lacks_ranges u has lacks) =
@@ -63,37 +67,37 @@ lacks_none c n l (p, first, is) ranged = by_unit first.broken
 
 -- ALL PHASES
 
-module _ (text : List ℕ) (c : Config) (spelled : Spells text c) (n l m k : ℕ) where
-  pub one_fault : IsRefusedFor c (Fault n l) → IsRefusedFor c (Fault m k) → (n ≡ m) × (l ≡ k)
-  one_fault (by_declarations a) (by_declarations b) = same_fault text c (BreaksDeclarations c) spelled (broken_place Declaring c) n l m k a b
-  one_fault (by_declarations a) (by_types d b) = absurd (is_broken (BreaksDeclarations c) n l a d)
-  one_fault (by_declarations a) (by_order d t b) = absurd (is_broken (BreaksDeclarations c) n l a d)
-  one_fault (by_declarations a) (by_ranges u b) = absurd (is_broken (BreaksDeclarations c) n l a u.declared)
-  one_fault (by_declarations a) (by_budgets u r b) = absurd (is_broken (BreaksDeclarations c) n l a u.declared)
-  one_fault (by_types d a) (by_declarations b) = absurd (is_broken (BreaksDeclarations c) m k b d)
-  one_fault (by_types d a) (by_types e b) = same_fault text c (Broken Typing c) spelled (broken_place Typing c) n l m k a b
-  one_fault (by_types d a) (by_order e t b) = absurd (is_broken (Broken Typing c) n l a t)
-  one_fault (by_types d a) (by_ranges u b) = absurd (is_broken (Broken Typing c) n l a u.typed)
-  one_fault (by_types d a) (by_budgets u r b) = absurd (is_broken (Broken Typing c) n l a u.typed)
-  one_fault (by_order d t a) (by_declarations b) = absurd (is_broken (BreaksDeclarations c) m k b d)
-  one_fault (by_order d t a) (by_types e b) = absurd (is_broken (Broken Typing c) m k b t)
-  one_fault (by_order d t a) (by_order e v b) = same_fault text c (Broken Ordering c) spelled (broken_place Ordering c) n l m k a b
-  one_fault (by_order d t a) (by_ranges u b) = absurd (is_broken (Broken Ordering c) n l a u.ordered)
-  one_fault (by_order d t a) (by_budgets u r b) = absurd (is_broken (Broken Ordering c) n l a u.ordered)
-  one_fault (by_ranges u a) (by_declarations b) = absurd (is_broken (BreaksDeclarations c) m k b u.declared)
-  one_fault (by_ranges u a) (by_types e b) = absurd (is_broken (Broken Typing c) m k b u.typed)
-  one_fault (by_ranges u a) (by_order e v b) = absurd (is_broken (Broken Ordering c) m k b u.ordered)
-  one_fault (by_ranges u a) (by_ranges v b) = same_fault text c (BreaksRanges c) spelled (ranges_at c) n l m k a b
-  one_fault (by_ranges u a) (by_budgets v r b) = absurd (lacks_none c n l a r)
-  one_fault (by_budgets u r a) (by_declarations b) = absurd (is_broken (BreaksDeclarations c) m k b u.declared)
-  one_fault (by_budgets u r a) (by_types e b) = absurd (is_broken (Broken Typing c) m k b u.typed)
-  one_fault (by_budgets u r a) (by_order e v b) = absurd (is_broken (Broken Ordering c) m k b u.ordered)
-  one_fault (by_budgets u r a) (by_ranges v b) = absurd (lacks_none c m k b r)
-  one_fault (by_budgets u r a) (by_budgets v s b) = same_fault text c (IsTooLong c) spelled (budgets_at c) n l m k a b
+module _ (text : List ℕ) (c : Config) (spelled : Spells text c) (n m : ℕ) (p q : Place) where
+  pub one_fault : IsRefusedFor c (Fault n p) → IsRefusedFor c (Fault m q) → (n ≡ m) × (p ≡ q)
+  one_fault (by_declarations a) (by_declarations b) = same_fault text c (BreaksDeclarations c) spelled (broken_place Declaring c) n m p q a b
+  one_fault (by_declarations a) (by_types d b) = absurd (is_broken (BreaksDeclarations c) n p a d)
+  one_fault (by_declarations a) (by_order d t b) = absurd (is_broken (BreaksDeclarations c) n p a d)
+  one_fault (by_declarations a) (by_ranges u b) = absurd (is_broken (BreaksDeclarations c) n p a u.declared)
+  one_fault (by_declarations a) (by_budgets u r b) = absurd (is_broken (BreaksDeclarations c) n p a u.declared)
+  one_fault (by_types d a) (by_declarations b) = absurd (is_broken (BreaksDeclarations c) m q b d)
+  one_fault (by_types d a) (by_types e b) = same_fault text c (Broken Typing c) spelled (broken_place Typing c) n m p q a b
+  one_fault (by_types d a) (by_order e t b) = absurd (is_broken (Broken Typing c) n p a t)
+  one_fault (by_types d a) (by_ranges u b) = absurd (is_broken (Broken Typing c) n p a u.typed)
+  one_fault (by_types d a) (by_budgets u r b) = absurd (is_broken (Broken Typing c) n p a u.typed)
+  one_fault (by_order d t a) (by_declarations b) = absurd (is_broken (BreaksDeclarations c) m q b d)
+  one_fault (by_order d t a) (by_types e b) = absurd (is_broken (Broken Typing c) m q b t)
+  one_fault (by_order d t a) (by_order e v b) = same_fault text c (Broken Ordering c) spelled (broken_place Ordering c) n m p q a b
+  one_fault (by_order d t a) (by_ranges u b) = absurd (is_broken (Broken Ordering c) n p a u.ordered)
+  one_fault (by_order d t a) (by_budgets u r b) = absurd (is_broken (Broken Ordering c) n p a u.ordered)
+  one_fault (by_ranges u a) (by_declarations b) = absurd (is_broken (BreaksDeclarations c) m q b u.declared)
+  one_fault (by_ranges u a) (by_types e b) = absurd (is_broken (Broken Typing c) m q b u.typed)
+  one_fault (by_ranges u a) (by_order e v b) = absurd (is_broken (Broken Ordering c) m q b u.ordered)
+  one_fault (by_ranges u a) (by_ranges v b) = same_fault text c (BreaksRanges c) spelled (ranges_at c) n m p q a b
+  one_fault (by_ranges u a) (by_budgets v r b) = absurd (lacks_none c n p a r)
+  one_fault (by_budgets u r a) (by_declarations b) = absurd (is_broken (BreaksDeclarations c) m q b u.declared)
+  one_fault (by_budgets u r a) (by_types e b) = absurd (is_broken (Broken Typing c) m q b u.typed)
+  one_fault (by_budgets u r a) (by_order e v b) = absurd (is_broken (Broken Ordering c) m q b u.ordered)
+  one_fault (by_budgets u r a) (by_ranges v b) = absurd (lacks_none c m q b r)
+  one_fault (by_budgets u r a) (by_budgets v s b) = same_fault text c (IsTooLong c) spelled (budgets_at c) n m p q a b
 
 -- what a text is refused for is its one fault
-pub one_by : (text : List ℕ) (c : Config) → SpellsOnly text c → (r : Result Program Refusal) → IfErr r (IsRefusedFor c) → IsFault r → (n l : ℕ) → IsSpelledWith text (Fault n l) → IsErrAnd r (λ e. e ≡ Fault n l)
-one_by text c only (Ok v) refused fault n l w = absurd fault
-one_by text c only (Err Memory) refused fault n l w = absurd fault
-one_by text c only (Err (Fault m k)) refused fault n l w =
-    let one = one_fault text c only.spelled.spelled m k n l refused (subst (λ d. IsRefusedFor d (Fault n l)) (only.only w.0 w.1) w.2) in ap₂ Fault one.0 one.1
+pub one_by : (text : List ℕ) (c : Config) → SpellsOnly text c → (r : Result Program Refusal) → IfErr r (IsRefusedFor c) → IsFault r → (n : ℕ) (p : Place) → IsSpelledWith text (Fault n p) → IsErrAnd r (λ e. e ≡ Fault n p)
+one_by text c only (Ok v) refused fault n p w = absurd fault
+one_by text c only (Err Memory) refused fault n p w = absurd fault
+one_by text c only (Err (Fault m q)) refused fault n p w =
+    let one = one_fault text c only.spelled.spelled m n q p refused (subst (λ d. IsRefusedFor d (Fault n p)) (only.only w.0 w.1) w.2) in ap₂ Fault one.0 one.1

@@ -43,7 +43,7 @@ module _ (text : List ℕ) (c : Config) (s : SpellsOnly text c) where
   -- no accepted configuration is spelled where one is refused
   pub refused_by : {X : Type 0} (r : Result X Refusal) → IfErr r (IsRefusedFor c) → IsFault r → (d : Config) → IsAccepted text d → ⊥
   refused_by (Ok x) refused fault d a = absurd fault
-  refused_by (Err (Fault number line)) refused fault d a = names_broken c number line refused (subst (IsAccepted text) (s.only d a.spelled) a)
+  refused_by (Err (Fault number place)) refused fault d a = names_broken c number place refused (subst (IsAccepted text) (s.only d a.spelled) a)
   refused_by (Err Memory) refused fault d a = absurd fault
 
   -- the fault is that of whatever is spelled

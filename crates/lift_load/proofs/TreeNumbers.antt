@@ -342,9 +342,9 @@ late_cost : (c : Config) (n : ℕ) (p : Place) → IsTooLong c n p → 12 ≤ n
 late_cost c n p (too_long u cost has longest over is at) = omega (arith, is)
 
 -- whatever a tree is refused for
-pub late_fault : (c : Config) (n l : ℕ) → IsRefusedFor c (Fault n l) → 12 ≤ n
-late_fault c n l (by_declarations (p, first, is)) = late_declaration c n p first.broken
-late_fault c n l (by_types d (p, first, is)) = late_type c n p first.broken
-late_fault c n l (by_order d t (p, first, is)) = late_order c n p first.broken
-late_fault c n l (by_ranges u (p, first, is)) = late_ranges c n p first.broken
-late_fault c n l (by_budgets u a (p, first, is)) = late_cost c n p first.broken
+pub late_fault : (c : Config) (n : ℕ) (p : Place) → IsRefusedFor c (Fault n p) → 12 ≤ n
+late_fault c n p (by_declarations first) = late_declaration c n p first.broken
+late_fault c n p (by_types d first) = late_type c n p first.broken
+late_fault c n p (by_order d t first) = late_order c n p first.broken
+late_fault c n p (by_ranges u first) = late_ranges c n p first.broken
+late_fault c n p (by_budgets u a first) = late_cost c n p first.broken

@@ -3,6 +3,7 @@ use Rattle.std.specs.Prelude.{◌≡◌, ◌⊎◌, ℕ, ◌≤◌, List, length
 use Rattle.il_spec.specs.declared.fault.Refusal.{Refusal}
 use Rattle.il_spec.specs.declared.fault.Refusal.TheVariants.{Fault, Memory}
 use Rattle.il_spec.specs.declared.tree.Config.{Config}
+use Rattle.il_spec.specs.declared.tree.Place.{Place}
 use Rattle.il_spec.specs.declared.token.Token.{Token}
 use Rattle.il_spec.specs.Text.{AreTokens}
 use Rattle.il_spec.specs.Grammar.{Spells, IsWithinLimits}
@@ -66,18 +67,18 @@ IsNumberOfBytes number = (1 ≤ number) × (number ≤ 6)
 abbrev pub IsNumberOfGrammar : ℕ → Type 0
 IsNumberOfGrammar number = (10 ≤ number) × (number ≤ 12)
 
--- What a fault says of the text: from 1 to 6 that it is the fault of the text's bytes, by its number and its line; from 10 to 12 that the
+-- What a fault says of the text: from 1 to 6 that it is the fault of the text's bytes, by its number and its place; from 10 to 12 that the
 -- text has tokens, but spells no configuration within the limits; and otherwise, from 12 on, that it spells one whose fault this is.
-pub data Explains (text : List ℕ) (number line : ℕ) : Type 0 where
-  of_bytes : IsNumberOfBytes number → IsFaultOfText text (Fault number line) → SpellsNone text → Explains text number line
-  of_grammar : IsNumberOfGrammar number → HasTokens text → SpellsNone text → Explains text number line
-  of_tree : 12 ≤ number → IsSpelledWith text (Fault number line) → Explains text number line
+pub data Explains (text : List ℕ) (number : ℕ) (place : Place) : Type 0 where
+  of_bytes : IsNumberOfBytes number → IsFaultOfText text (Fault number place) → SpellsNone text → Explains text number place
+  of_grammar : IsNumberOfGrammar number → HasTokens text → SpellsNone text → Explains text number place
+  of_tree : 12 ≤ number → IsSpelledWith text (Fault number place) → Explains text number place
 
 -- the same of a refusal; out of memory says nothing
 abbrev pub IsExplained : List ℕ → Refusal → Type 0
-IsExplained text (Fault number line) = Explains text number line
+IsExplained text (Fault number place) = Explains text number place
 IsExplained text Memory = Unit {0}
 
 -- where the bytes of the text have a fault, the answer is this fault, or memory ran out
 abbrev pub ReportsFaultOfText : {X : Type 0} → List ℕ → Result X Refusal → Type 0
-ReportsFaultOfText text answer = (number line : ℕ) → IsFaultOfText text (Fault number line) → IsErrAnd answer (λ e. (e ≡ Fault number line) ⊎ (e ≡ Memory))
+ReportsFaultOfText text answer = (number : ℕ) (place : Place) → IsFaultOfText text (Fault number place) → IsErrAnd answer (λ e. (e ≡ Fault number place) ⊎ (e ≡ Memory))

@@ -3,6 +3,7 @@
 ghost use Rattle.std.specs.Prelude.{ℕ, ◌≡◌, IfOk, IfErr, IsErrAnd, map};
 ghost use Rattle.il_spec.specs.declared.fault.Refusal.TheVariants.{Fault};
 ghost use Rattle.il_spec.specs.declared.tree.Config.{Config as ConfigOf};
+ghost use Rattle.il_spec.specs.declared.tree.Place.{Place};
 ghost use Rattle.il_rules.specs.Faults.{BreaksDeclarations, Broken, Typing, HasNoFault, IsRefusedBy};
 ghost use Rattle.il_rules.specs.Written.{IsWritten, IsNested};
 ghost use Rattle.il_run.specs.Annotation.{Annotated};
@@ -46,8 +47,8 @@ pub fn load(alloc: Global, text: &[u8]) -> Result<Verified, Refusal>
     ensures bytes { ReportsFaultOfText text.now result }
 
     // A text that spells a configuration has no other fault.
-    ensures one { IsFault result → (n l : ℕ) → IsSpelledWith text.now (Fault n l)
-        → IsErrAnd result (λ e. e ≡ Fault n l) }
+    ensures one { IsFault result → (n : ℕ) (p : Place) → IsSpelledWith text.now (Fault n p)
+        → IsErrAnd result (λ e. e ≡ Fault n p) }
 {
     let config = parsed(alloc, text)?;
     verified(alloc, config)

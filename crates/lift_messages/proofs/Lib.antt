@@ -1,2 +1,3 @@
 pub mod Telling
 mod Splitting
+mod LastLines

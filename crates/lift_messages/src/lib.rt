@@ -2,6 +2,7 @@
 #![tactic(auto)]
 
 mod lines;
+mod mark;
 pub mod notice;
 pub mod output;
 pub mod place;

@@ -3,9 +3,18 @@
 ghost use Rattle.std.specs.Prelude.{◌≡◌, ◌++◌, ◌∷◌, ◌-◌, ℕ, List, IfSome, IsNone, IfNone};
 ghost use Rattle.lift_trace.specs.Parts.{Ends};
 ghost use Rattle.lift_trace.specs.Reading.{IsOneLine};
-ghost use Rattle.lift_messages.specs.Places.{IsLineOf};
+ghost use Rattle.lift_messages.specs.Places.{IsLineOf, IsLastLine, IsLineAround};
 
-use memchr::memchr;
+use memchr::{memchr, memrchr};
+
+/// The line of a text around a place.
+#[derive(Clone, Copy)]
+pub struct Line<'t> {
+    /// What stands before the place.
+    pub front: &'t [u8],
+    /// What stands from the place on, without the line feed.
+    pub back: &'t [u8],
+}
 
 // The first line, and the rest from its line feed on.
 fn first_line(text: &[u8]) -> (&[u8], &[u8])
@@ -39,4 +48,26 @@ pub fn line_at(text: &[u8], before: u32) -> Option<&[u8]>
     }
     let (line, _) = first_line(rest);
     Some(line)
+}
+
+// What stands behind the last line feed.
+fn last_line(text: &[u8]) -> &[u8]
+    ensures { IsLastLine text.now result.now }
+{
+    match memrchr(b'\n', text) {
+        Some(at) => &text[at + 1..],
+        None => text,
+    }
+}
+
+/// The line around the place behind so many bytes; behind the end of the text, the last one.
+pub fn line_around(text: &[u8], offset: usize) -> Line<'_>
+    ensures { IsLineAround text.now offset result.front.now result.back.now }
+{
+    let (before, behind) = text.split_at(offset.min(text.len()));
+    let (back, _) = first_line(behind);
+    Line {
+        front: last_line(before),
+        back,
+    }
 }

@@ -1,9 +1,11 @@
 // The place of a fault, as it is shown below a refusal.
 
 ghost use Rattle.std.specs.Prelude.{◌≡◌, ◌++◌, ℕ, List, map, codes, IfOk, OnOk};
-ghost use Rattle.lift_messages.specs.Places.{IsMeaning, IsShownBelow, more_text, place_text, shown, quoted};
+ghost use Rattle.lift_messages.specs.Places.{IsTitle, IsMore, IsShownBelow, IsTextShownBelow, more_text, place_text, column_text, shown, quoted};
 
-use crate::lines::line_at;
+use crate::lines::{line_around, line_at};
+use crate::mark::{put_line, put_mark};
+use il_spec::tree::Place;
 use itoa::Buffer;
 use lift_explain::title;
 use std::alloc::{AllocError, Global};
@@ -11,8 +13,29 @@ use std::alloc::{AllocError, Global};
 // The most bytes of a line that are shown.
 const MOST_BYTES: usize = 200;
 
-/// What is shown below the refusal of a text with a number at a line, counted from 1: the name of the file, the line, and its text; then
-/// the meaning of the number.
+/// What is shown below the refusal of a text with a number at a place: the name of the file, the line and the column, both counted from 1, and what
+/// the number means; then the text of the line, with a mark below what stands there.
+pub fn text_below(
+    alloc: Global,
+    name: &str,
+    text: &[u8],
+    number: u16,
+    place: Place,
+) -> Result<Vec<u8>, AllocError>
+    ensures { IfOk result (λ below. IsTextShownBelow name.now text.now number place below.items) }
+{
+    let line = line_around(text, place.offset as usize);
+    let mut below = Vec::new(alloc);
+    put_column(&mut below, name, place.line, line.front.len() + 1)?;
+    put_title(&mut below, number)?;
+    put_line(&mut below, line)?;
+    put_mark(&mut below, line)?;
+    put_more(&mut below, number)?;
+    Ok(below)
+}
+
+/// What is shown below the refusal of another file with a number at a line, counted from 1: the name of the file, the line, and what the number
+/// means; then the text of the line.
 pub fn below(
     alloc: Global,
     name: &str,
@@ -22,12 +45,12 @@ pub fn below(
 ) -> Result<Vec<u8>, AllocError>
     ensures { IfOk result (λ below. IsShownBelow name.now text.now number line below.items) }
 {
+    let source = line_at(text, line.saturating_sub(1)).unwrap_or(b"");
     let mut below = Vec::new(alloc);
     put_place(&mut below, name, line)?;
-    let source = line_at(text, line.saturating_sub(1)).unwrap_or(b"");
-    put_quoted(&mut below, source)?;
-    below.extend_from_slice(b"\n")?;
-    put_meaning(&mut below, number)?;
+    put_title(&mut below, number)?;
+    put_source(&mut below, source)?;
+    put_more(&mut below, number)?;
     Ok(below)
 }
 
@@ -42,12 +65,50 @@ fn put_place(to: &mut Vec<u8>, name: &str, line: u32) -> Result<(), AllocError>
     to.extend_from_slice(b": ")
 }
 
-// A byte as it is shown: `?` for one that can't be printed.
+// `NAME:LINE:COLUMN: `.
+fn put_column(
+    to: &mut Vec<u8>,
+    name: &str,
+    line: u32,
+    column: usize,
+) -> Result<(), AllocError>
+    ensures { OnOk result (to.new.items ≡ to.old.items ++ column_text name.now line column) }
+{
+    let mut lines = Buffer::new();
+    let mut columns = Buffer::new();
+    to.extend_from_slice(name.as_bytes())?;
+    to.extend_from_slice(b":")?;
+    to.extend_from_slice(lines.format(line).as_bytes())?;
+    to.extend_from_slice(b":")?;
+    to.extend_from_slice(columns.format(column).as_bytes())?;
+    to.extend_from_slice(b": ")
+}
+
+// What the number means.
+fn put_title(to: &mut Vec<u8>, number: u16) -> Result<(), AllocError>
+    ensures { OnOk result ((title : List ℕ) × IsTitle number title
+        × (to.new.items ≡ to.old.items ++ (title ++ codes "\n"))) }
+{
+    to.extend_from_slice(title(number).unwrap_or("").as_bytes())?;
+    to.extend_from_slice(b"\n")?;
+    Ok(())
+}
+
+// The text of a line.
+fn put_source(to: &mut Vec<u8>, source: &[u8]) -> Result<(), AllocError>
+    ensures { OnOk result (to.new.items ≡ to.old.items ++ (quoted source.now ++ codes "\n")) }
+{
+    put_quoted(to, source)?;
+    to.extend_from_slice(b"\n")
+}
+
+// A byte as it is shown: a blank for a tab and a carriage return, `?` for another that can't be printed.
 fn shown(byte: u8) -> u8
     ensures { result ≡ shown byte }
 {
     match byte {
         b' '..=b'~' => byte,
+        b'\t' | b'\r' => b' ',
         _ => b'?',
     }
 }
@@ -60,8 +121,8 @@ pub(crate) fn put_quoted(to: &mut Vec<u8>, line: &[u8]) -> Result<(), AllocError
     Ok(())
 }
 
-// Bytes as they are shown.
-fn put_shown(to: &mut Vec<u8>, bytes: &[u8]) -> Result<(), AllocError>
+/// Bytes as they are shown.
+pub(crate) fn put_shown(to: &mut Vec<u8>, bytes: &[u8]) -> Result<(), AllocError>
     ensures { OnOk result (to.new.items ≡ to.old.items ++ map shown bytes.now) }
 {
     'bytes: for byte in bytes {
@@ -70,15 +131,14 @@ fn put_shown(to: &mut Vec<u8>, bytes: &[u8]) -> Result<(), AllocError>
     Ok(())
 }
 
-// What the number means, and who says more.
-fn put_meaning(to: &mut Vec<u8>, number: u16) -> Result<(), AllocError>
-    ensures { OnOk result ((meaning : List ℕ) × IsMeaning number meaning
-        × (to.new.items ≡ to.old.items ++ meaning)) }
+// Who says more of a number that has a meaning.
+fn put_more(to: &mut Vec<u8>, number: u16) -> Result<(), AllocError>
+    ensures { OnOk result ((more : List ℕ) × IsMore number more
+        × (to.new.items ≡ to.old.items ++ more)) }
 {
     match title(number) {
-        Some(title) => {
-            to.extend_from_slice(title.as_bytes())?;
-            put_more(to, number)?;
+        Some(_) => {
+            put_sayer(to, number)?;
             Ok(())
         }
         None => Ok(()),
@@ -86,12 +146,11 @@ fn put_meaning(to: &mut Vec<u8>, number: u16) -> Result<(), AllocError>
 }
 
 // Who says more of a number.
-fn put_more(to: &mut Vec<u8>, number: u16) -> Result<(), AllocError>
+fn put_sayer(to: &mut Vec<u8>, number: u16) -> Result<(), AllocError>
     ensures { OnOk result (to.new.items ≡ to.old.items ++ more_text number) }
 {
     let mut digits = Buffer::new();
-    to.extend_from_slice(b"\n`liftplc explain ")?;
+    to.extend_from_slice(b"`liftplc explain ")?;
     to.extend_from_slice(digits.format(number).as_bytes())?;
-    to.extend_from_slice(b"` says more\n")?;
-    Ok(())
+    to.extend_from_slice(b"` says more\n")
 }

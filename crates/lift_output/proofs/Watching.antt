@@ -36,6 +36,7 @@ module _ (program : Program) (asked : Rounds) (calls : Reading) (names : List (L
   watched_is presses settings driven (Err (fault.BadName word)) is = record { names = names; behind = behind; split = split; presses = presses; settings = settings; driven = driven; unknown = is }
   watched_is presses settings driven (Err fault.NoMemory) is = record { names = names; behind = behind; split = split; undriven = tt }
   watched_is presses settings driven (Err (fault.Misuse words)) is = absurd is
+  watched_is presses settings driven (Err (fault.RefusedText number place)) is = absurd is
   watched_is presses settings driven (Err (fault.Refused number line)) is = absurd is
   watched_is presses settings driven (Err (fault.BadPress word)) is = absurd is
   watched_is presses settings driven (Err fault.TooManyPresses) is = absurd is
@@ -48,6 +49,7 @@ module _ (program : Program) (asked : Rounds) (calls : Reading) (names : List (L
   pub unwatched_is : (why : Fault) → IsUndriven (sizes_of program.config) (record asked { presses = behind }) calls why → IsWatchOutcome program asked calls (Err why)
   unwatched_is (fault.BadName word) is = absurd is
   unwatched_is (fault.Misuse words) is = absurd is
+  unwatched_is (fault.RefusedText number place) is = absurd is
   unwatched_is (fault.BadSpan word) is = absurd is
   unwatched_is (fault.Refused number line) is = record { names = names; behind = behind; split = split; undriven = is }
   unwatched_is (fault.BadPress word) is = record { names = names; behind = behind; split = split; undriven = is }

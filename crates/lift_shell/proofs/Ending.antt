@@ -14,6 +14,7 @@ use Rattle.lift_host.specs.declared.status.Status.TheVariants as status
 -- no fault ends as done
 never_done : (f : Fault) → status_of f ≡ status.Done → ⊥
 never_done (fault.Misuse text) e = cc
+never_done (fault.RefusedText number place) e = cc
 never_done (fault.Refused number line) e = cc
 never_done (fault.BadPress word) e = cc
 never_done fault.TooManyPresses e = cc
@@ -27,6 +28,7 @@ never_done fault.NoMemory e = cc
 -- one fault alone ends as an output that can't be written
 cannot_write_only : (f : Fault) → status_of f ≡ status.CannotWrite → f ≡ fault.CannotWrite
 cannot_write_only (fault.Misuse text) e = cc
+cannot_write_only (fault.RefusedText number place) e = cc
 cannot_write_only (fault.Refused number line) e = cc
 cannot_write_only (fault.BadPress word) e = cc
 cannot_write_only fault.TooManyPresses e = cc

@@ -1,5 +1,5 @@
 -- What comes of a run of the program (own rules).
-use Rattle.std.specs.Prelude.{IsTrue, ◌≡◌, ◌⊎◌, ◌↔◌, ◌||◌, ◌&&◌, ◌++◌, length, ℕ, List, [], nat_lt, Bool, true, false, Option, None, Some, option_map, Ok, Err, if◌then◌else◌, codes, map, string_bytes}
+use Rattle.std.specs.Prelude.{IsTrue, ◌≡◌, ◌⊎◌, ◌↔◌, ◌||◌, ◌&&◌, ◌++◌, length, ℕ, List, [], Bool, true, false, Option, None, Some, option_map, Ok, Err, if◌then◌else◌, codes, map, string_bytes}
 use Rattle.std.specs.Io.KnownBytes.{Appends, Keeps}
 use Rattle.lift_host.specs.declared.files.ReadFault.{ReadFault}
 use Rattle.lift_host.specs.declared.files.ReadFault.TheVariants as failure
@@ -22,7 +22,7 @@ use Rattle.lift_messages.specs.declared.output.Output.{Output}
 use Rattle.lift_messages.specs.Outputs.{Outcome, Warns, bytes_of, warnings_of}
 use Rattle.lift_host.specs.Writes.{AppendsFront, Writes}
 use Rattle.lift_messages.specs.Notices.{word_notice, file_notice, plain_notice}
-use Rattle.lift_messages.specs.Places.{IsShownBelow}
+use Rattle.lift_messages.specs.Places.{IsShownBelow, IsTextShownBelow}
 use Rattle.lift_shell.specs.Cuts.{completed}
 
 -- the bytes of a file that are read: one more than a text may have
@@ -69,14 +69,14 @@ other_of (request.Show command file) = None
 other_of (request.Rounds command rounds) = option_map (λ calls. calls.now) rounds.calls
 other_of (request.Trace command traced) = Some traced.trace.now
 
--- FILE and its text, or the other file and what was read of it
-abbrev pub source_in : ℕ → List ℕ → List ℕ → Reading → Option (List ℕ) → List ℕ × List ℕ
-source_in number file text read None = (file, text)
-source_in number file text read (Some other) = if nat_lt number 60 then (file, text) else (other, text_of read)
+-- the other file and what was read of it; FILE and its text, where there is none
+abbrev pub other_in : List ℕ → List ℕ → Reading → Option (List ℕ) → List ℕ × List ℕ
+other_in file text read None = (file, text)
+other_in file text read (Some other) = (other, text_of read)
 
--- the file to which the number of a refusal belongs, and what was read of it: numbers from 60 on are those of the other file, where there is one
-abbrev pub source_of : ℕ → Request → List ℕ → Reading → List ℕ × List ℕ
-source_of number request text read = source_in number (name_of request) text read (other_of request)
+-- a request's other file, and what was read of it
+abbrev pub other_source : Request → List ℕ → Reading → List ℕ × List ℕ
+other_source request text read = other_in (name_of request) text read (other_of request)
 
 -- a file's name, or that of another where there is one
 abbrev pub name_in : List ℕ → Option (List ℕ) → List ℕ
@@ -114,11 +114,12 @@ name_sentence = codes "no field, variable of a task or global has this name"
 abbrev pub too_many_sentence : List ℕ
 too_many_sentence = codes "there are more than 1000 presses"
 
--- What stands below a fault: of a refusal its line, as it was read, and what the number means; of the others the word or the file and what
+-- What stands below a fault: of a refusal its place, what the number means, and its line as it was read; of the others the word or the file and what
 -- is wrong with it.
 abbrev pub IsFaultBelow : Request → List ℕ → Reading → Fault → List ℕ → Type 0
 IsFaultBelow request text trace (fault.Misuse said) below = below ≡ []
-IsFaultBelow request text trace (fault.Refused number line) below = IsShownBelow (source_of number request text trace).0 (source_of number request text trace).1 number line below
+IsFaultBelow request text trace (fault.RefusedText number place) below = IsTextShownBelow (name_of request) text number place below
+IsFaultBelow request text trace (fault.Refused number line) below = IsShownBelow (other_source request text trace).0 (other_source request text trace).1 number line below
 IsFaultBelow request text trace (fault.BadPress word) below = (late : Bool) × (IsTrue late ↔ IsLateName request (string_bytes word)) × (below ≡ word_notice (string_bytes word) (press_sentence late))
 IsFaultBelow request text trace fault.TooManyPresses below = below ≡ plain_notice too_many_sentence
 IsFaultBelow request text trace (fault.BadFire word) below = below ≡ word_notice (string_bytes word) fire_sentence

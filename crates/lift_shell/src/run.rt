@@ -3,7 +3,7 @@
 ghost use Rattle.std.specs.Prelude.{◌≡◌, ◌≢◌, ◌||◌, ◌↔◌, [], Bool, Err, IfSome, IsNone, IfOk, IfErr, IsTrue, true, false, map, option_map, string_bytes};
 ghost use Rattle.lift_host.specs.Messages.{fault_of_reading};
 ghost use Rattle.lift_host.specs.Requests.{name_of};
-ghost use Rattle.lift_shell.specs.Runs.{AskForRun, IsForRun, IsAnswerOf, IsFileAnswer, IsCallsRead, IsWordsOutcome, IsOtherRead, IsTraceText, IsTraceFault, IsExplained, IsOutcomeExplained, IsFaultBelow, IsUnreadBelow, IsLateName, HasPrinted, stream, most_bytes, most_calls_bytes, most_trace_bytes, runs, source_of, other_of, other_name, press_sentence};
+ghost use Rattle.lift_shell.specs.Runs.{AskForRun, IsForRun, IsAnswerOf, IsFileAnswer, IsCallsRead, IsWordsOutcome, IsOtherRead, IsTraceText, IsTraceFault, IsExplained, IsOutcomeExplained, IsFaultBelow, IsUnreadBelow, IsLateName, HasPrinted, stream, most_bytes, most_calls_bytes, most_trace_bytes, runs, other_source, other_of, other_name, press_sentence};
 ghost use Rattle.lift_messages.specs.Notices.{word_notice};
 ghost use Rattle.lift_messages.specs.Places.{IsShownBelow};
 
@@ -18,7 +18,7 @@ use lift_host::sink::Sink;
 use lift_host::status::{Fault, Status};
 use lift_messages::notice::{file_notice, plain_notice, word_notice};
 use lift_messages::output::Output;
-use lift_messages::place::below;
+use lift_messages::place::{below, text_below};
 use lift_messages::show::show;
 use lift_trace::read::GREATEST_TRACE;
 use std::alloc::{AllocError, Global};
@@ -343,6 +343,13 @@ fn fault_below(
 {
     match fault {
         Fault::Misuse(_) => Ok(Vec::new(alloc)),
+        Fault::RefusedText { number, place } => text_below(
+            alloc,
+            request.file(),
+            text,
+            *number,
+            *place,
+        ),
         Fault::Refused { number, line } => refusal_below(
             alloc, request, text, trace, *number, *line,
         ),
@@ -370,7 +377,7 @@ const NO_PRESS: &str =
 
 const LATE_NAME: &str = "the names of `watch` stand before the presses";
 
-// The line of a refusal in what was read, and what its number means.
+// The line of a refusal of the other file in what was read, and what its number means.
 fn refusal_below(
     alloc: Global,
     request: Request<'_>,
@@ -380,10 +387,10 @@ fn refusal_below(
     line: u32,
 ) -> Result<Vec<u8>, AllocError>
     ensures { IfOk result (λ below. IsShownBelow
-        (source_of number request.entry text.now trace.now).0
-        (source_of number request.entry text.now trace.now).1 number line below.items) }
+        (other_source request.entry text.now trace.now).0
+        (other_source request.entry text.now trace.now).1 number line below.items) }
 {
-    let source = source_of(number, request, text, trace);
+    let source = other_source(request, text, trace);
     below(alloc, source.name, source.text, number, line)
 }
 
@@ -447,25 +454,17 @@ struct Source<'w> {
     text: &'w [u8],
 }
 
-// The least number that a trace or a file of `--calls` is refused with, or an event of a trace.
-const LEAST_OF_OTHER: u16 = 60;
-
-// The file to which the number of a refusal belongs.
-fn source_of<'w>(
-    number: u16,
-    request: Request<'w>,
-    text: &'w [u8],
-    trace: &'w Reading,
-) -> Source<'w>
-    ensures name { result.name.now ≡ (source_of number request.entry text.now trace.now).0 }
-    ensures text { result.text.now ≡ (source_of number request.entry text.now trace.now).1 }
+// The other file of a request; FILE, where it has none.
+fn other_source<'w>(request: Request<'w>, text: &'w [u8], trace: &'w Reading) -> Source<'w>
+    ensures name { result.name.now ≡ (other_source request.entry text.now trace.now).0 }
+    ensures text { result.text.now ≡ (other_source request.entry text.now trace.now).1 }
 {
     match other_of(request) {
-        Some(name) if number >= LEAST_OF_OTHER => Source {
+        Some(name) => Source {
             name,
             text: trace.text(),
         },
-        _ => Source {
+        None => Source {
             name: request.file(),
             text,
         },

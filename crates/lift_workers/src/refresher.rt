@@ -44,7 +44,9 @@ impl<G: Naming> Promise<Result<Refresher<G>, StationFault>> for RefreshRounds {
     ghost use Rattle.std.specs.Prelude.{◌≡◌, IfOk};
     ghost use Rattle.lift_workers.specs.Ran.{IsEntered};
 
-    ghost kept_by = { λ p r. IfOk r (λ d. (d.hand.table ≡ p.desk.value.table) × (d.pass.refreshes ≡ p.rounds) × (d.pass.driven ≡ p.rounds) × IsEntered d.pass.entered d.hand) };
+    ghost kept_by = { λ p r. IfOk r (λ d. (d.hand.table ≡ p.desk.value.table)
+        × (d.pass.refreshes ≡ p.rounds) × (d.pass.driven ≡ p.rounds)
+        × IsEntered d.pass.entered d.hand) };
 }
 
 /// The handle of a refresher's worker.

@@ -4,6 +4,7 @@ use Rattle.lift_spec.specs.declared.image.CarFields.{CarFields}
 use Rattle.lift_spec.specs.declared.image.Fields.{Fields}
 use Rattle.lift_spec.specs.declared.image.Sizes.{Sizes}
 use Rattle.lift_spec.specs.Image.{fields_in_range}
+use Rattle.lift_spec.specs.Limits.{most_cars}
 use Rattle.liftplc_c.specs.declared.fields.CarInput.{CarInput}
 use Rattle.liftplc_c.specs.declared.fields.FieldsInput.{FieldsInput}
 
@@ -15,9 +16,9 @@ car_of car = record { pos = car.pos; level = car.level; top = car.top; bottom = 
 abbrev pub fields_of : FieldsInput → Fields
 fields_of fields = record { time = fields.time; run_limit = fields.run_limit; fire = fields.fire; cars = map car_of (take fields.car_count fields.cars) }
 
--- whether they are those of a group of these sizes: no more than 8 cars are counted, and all lies in its ranges
+-- whether they are those of a group of these sizes: no more cars are counted than a group may have, and all lies in its ranges
 abbrev pub are_taken : Sizes → FieldsInput → Bool
-are_taken sizes fields = nat_le fields.car_count 8 && fields_in_range sizes (fields_of fields)
+are_taken sizes fields = nat_le fields.car_count most_cars && fields_in_range sizes (fields_of fields)
 
 -- the status of a round under these fields
 abbrev pub round_status : Sizes → FieldsInput → ℕ

@@ -5,3 +5,4 @@ pub mod Notices
 pub mod Outputs
 pub mod Presses
 pub mod Rounds
+pub mod Refusals

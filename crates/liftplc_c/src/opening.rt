@@ -4,12 +4,14 @@ ghost use Rattle.std.specs.Prelude.{◌≡◌, ◌≢◌, ◌≤◌, ◌↔◌, 
 ghost use Rattle.il_parse.specs.Refused.{IsFault};
 ghost use Rattle.il_spec.specs.declared.fault.Refusal.TheVariants.{Fault};
 ghost use Rattle.il_spec.specs.declared.tree.Config.{Config as ConfigOf};
+ghost use Rattle.il_spec.specs.declared.tree.Place.{Place};
 ghost use Rattle.il_text.specs.LexicalErrors.{IsFaultOfText};
 ghost use Rattle.lift_load.specs.Loading.{IsAccepted, IsExplained, IsRefusedFor, IsSpelled, IsSpelledWith, ReportsFaultOfText};
 ghost use Rattle.lift_run_laws.specs.Runs.{RunsWell};
 ghost use Rattle.lift_spec.specs.World.{opening};
 ghost use Rattle.lift_world.specs.Worlds.{WorldOf};
 ghost use Rattle.liftplc_c.specs.Handles.{IsLed, Rests};
+ghost use Rattle.liftplc_c.specs.Refusals.{fault_in};
 
 use crate::handle::Handle;
 use crate::history::led;
@@ -19,12 +21,13 @@ use lift_round::kept::Rounds;
 use lift_world::{Refusal, World};
 use std::alloc::Global;
 
-/// Why a text is refused: the number of its fault, and its line.
+/// Why a text is refused: the number of its fault, and its place, as its line, counted from 1, and as how many bytes stand before it.
 #[repr(C)]
 #[derive(Clone, Copy)]
 pub struct TextRefusal {
     pub number: u16,
     pub line: u32,
+    pub offset: u32,
 }
 
 // The world of a text as it opens.
@@ -40,8 +43,8 @@ fn opened(alloc: Global, text: &[u8]) -> Result<Box<Rounds, Global>, Refusal>
         → IsErrAnd result (IsRefusedFor c) }
     ensures number { IfErr result (IsExplained text.now) }
     ensures bytes { ReportsFaultOfText text.now result }
-    ensures one { IsFault result → (n l : ℕ) → IsSpelledWith text.now (Fault n l)
-        → IsErrAnd result (λ e. e ≡ Fault n l) }
+    ensures one { IsFault result → (n : ℕ) (p : Place) → IsSpelledWith text.now (Fault n p)
+        → IsErrAnd result (λ e. e ≡ Fault n p) }
 {
     let world = World::new(alloc, load(alloc, text)?)?;
     led(&world);
@@ -66,12 +69,12 @@ pub extern "C" fn liftplc_open(
     ensures kept { result ≢ 0 → handle.new ≡ handle.old }
     ensures refused { result ≡ 1 → (c : ConfigOf) → IsAccepted text.now c → ⊥ }
     ensures named { result ≡ 1 → (c : ConfigOf) → IsSpelled text.now c
-        → IsRefusedFor c (Fault refusal.new.number refusal.new.line) }
-    ensures number { result ≡ 1 → IsExplained text.now (Fault refusal.new.number refusal.new.line) }
-    ensures bytes { (n l : ℕ) → IsFaultOfText text.now (Fault n l) → (result ≡ 2) ⊎ (result ≡ 3)
-        ⊎ ((result ≡ 1) × (refusal.new.number ≡ n) × (refusal.new.line ≡ l)) }
-    ensures one { result ≡ 1 → (n l : ℕ) → IsSpelledWith text.now (Fault n l)
-        → (refusal.new.number ≡ n) × (refusal.new.line ≡ l) }
+        → IsRefusedFor c (fault_in refusal.new) }
+    ensures number { result ≡ 1 → IsExplained text.now (fault_in refusal.new) }
+    ensures bytes { (n : ℕ) (p : Place) → IsFaultOfText text.now (Fault n p) → (result ≡ 2)
+        ⊎ (result ≡ 3) ⊎ ((result ≡ 1) × (fault_in refusal.new ≡ Fault n p)) }
+    ensures one { result ≡ 1 → (n : ℕ) (p : Place) → IsSpelledWith text.now (Fault n p)
+        → fault_in refusal.new ≡ Fault n p }
     ensures unwritten { result ≢ 1 → refusal.new ≡ refusal.old }
 {
     if handle.is_open {
@@ -82,8 +85,12 @@ pub extern "C" fn liftplc_open(
             handle.put(rounds);
             Status::Done as u32
         }
-        Err(Refusal::Fault { number, line }) => {
-            *refusal = TextRefusal { number, line };
+        Err(Refusal::Fault { number, place }) => {
+            *refusal = TextRefusal {
+                number,
+                line: place.line,
+                offset: place.offset,
+            };
             Status::Refused as u32
         }
         Err(Refusal::Memory) => Status::NoMemory as u32,

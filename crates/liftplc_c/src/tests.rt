@@ -76,10 +76,14 @@ fn no_outputs() -> RoundOutputs {
 fn a_call_waits_for_a_car_that_stays(rt: HostRuntime) {
     let alloc = rt.alloc();
     let mut handle = Handle::closed();
-    let mut refusal = TextRefusal { number: 0, line: 0 };
+    let mut refusal = TextRefusal {
+        number: 0,
+        line: 0,
+        offset: 0,
+    };
     let mut outputs = no_outputs();
     let fields = fields();
-    assert_eq!(rt; liftplc_version(), 1);
+    assert_eq!(rt; liftplc_version(), 2);
 
     // a text that is refused, and a handle that isn't open
     assert_eq!(rt; liftplc_open(alloc, &mut handle, b"X", &mut refusal), 1);

@@ -5,6 +5,7 @@ ghost use Rattle.il_machine.specs.Scanning.{Program};
 ghost use Rattle.il_parse.specs.Refused.{IsFault};
 ghost use Rattle.il_spec.specs.declared.fault.Refusal.TheVariants.{Fault};
 ghost use Rattle.il_spec.specs.declared.tree.Config.{Config};
+ghost use Rattle.il_spec.specs.declared.tree.Place.{Place};
 ghost use Rattle.lift_load.specs.Loading.{IsAccepted, IsExplained, IsRefusedFor, IsSpelled, IsSpelledWith, ReportsFaultOfText};
 ghost use Rattle.uses.specs.Budgets.{AreBudgets};
 
@@ -24,8 +25,8 @@ pub fn budgets(alloc: Global, text: &[u8]) -> Result<Vec<u32>, Refusal>
     ensures named { IsFault result → (c : Config) → IsSpelled text.now c
         → IsErrAnd result (IsRefusedFor c) }
     ensures number { IfErr result (IsExplained text.now) }
-    ensures one { IsFault result → (n l : ℕ) → IsSpelledWith text.now (Fault n l)
-        → IsErrAnd result (λ e. e ≡ Fault n l) }
+    ensures one { IsFault result → (n : ℕ) (p : Place) → IsSpelledWith text.now (Fault n p)
+        → IsErrAnd result (λ e. e ≡ Fault n p) }
     ensures bytes { ReportsFaultOfText text.now result }
 {
     let verified = load(alloc, text)?;

@@ -23,8 +23,8 @@ use std::{env, io};
 fn check<R: Print>(rt: &R, alloc: Global, text: &[u8]) -> io::Result<()> {
     match checking::budgets(alloc, text) {
         Ok(budgets) => println!(rt; "check: budgets {:?}", budgets.as_slice()),
-        Err(Refusal::Fault { number, line }) => println!(rt;
-            "check: fault {number} at line {line}"
+        Err(Refusal::Fault { number, place }) => println!(rt;
+            "check: fault {number} at line {}", place.line
         ),
         Err(Refusal::Memory) => Err(io::ErrorKind::OutOfMemory.into()),
     }

@@ -7,8 +7,8 @@ use Rattle.il_text.proofs.refusal.Goals as goal
 
 pub returns-clause-exactly : goal.returns-clause-exactly
 returns-clause-exactly c =
-    ap (λ n. Fault n (c.args.line + c.line_feeds.result)) c.number.ensures.number
-    ∙ ap (Fault (number_of_error c.args.misread.error)) (
+    ap (λ n. Fault n (record { offset = c.args.misread.at; line = c.args.line + c.line_feeds.result })) c.number.ensures.number
+    ∙ ap (λ l. Fault (number_of_error c.args.misread.error) (record { offset = c.args.misread.at; line = l })) (
     ap (λ n. n + c.line_feeds.result) c.requires.is_line ∙ ap (λ n. line_at c.args.text.now c.args.at + n) c.line_feeds.ensures.count
     ∙ sym (line_on c.args.text.now c.args.at c.args.misread.at c.requires.order)
     )

@@ -1,11 +1,9 @@
-use Rattle.std.proofs.Common.{◌++◌, ap, ◌∙◌}
-use Rattle.std.specs.Prelude.{codes, decimal}
-use Rattle.std.proofs.lemmas.List.{append_assoc}
+use Rattle.std.proofs.Common.{◌≡◌, Bool, true, false, [], inl, inr, refl, sym, append-nil}
+use Rattle.lift_messages.specs.Places.{more_text}
 use Rattle.lift_messages.proofs.place.put_more.Goals as goal
 
-pub returns : goal.returns
-returns c =
-    let first = codes "\n`liftplc explain " in
-    let last = codes "` says more\n" in
-    c.in_ok-extend_from_slice-3.ensures.items ∙ ap (λ l. l ++ last) (c.in_ok-extend_from_slice-2.ensures.items ∙ ap (λ l. c.extend_from_slice.new.self.items ++ l) (c.as_bytes.ensures.value ∙ c.format.ensures.text) ∙ ap (λ l. l ++ decimal c.args.number) c.in_ok-extend_from_slice.ensures.items)
-    ∙ append_assoc (c.args.to.now.items ++ first) (decimal c.args.number) last ∙ append_assoc c.args.to.now.items first (decimal c.args.number ++ last)
+pub returns-in_ok-put_sayer-in-Some : goal.returns-in_ok-put_sayer-in-Some
+returns-in_ok-put_sayer-in-Some c = (more_text c.args.number, inl (c.in-Some.ensures.0 refl, refl), c.in_ok-put_sayer-in-Some.ensures)
+
+pub returns-in-None : goal.returns-in-None
+returns-in-None c = ([], inr ((λ has. let bad : ◌≡◌ {A = Bool} false true = c.in-None.ensures.1 has in cc), refl), sym (append-nil c.args.to.now.items))

@@ -5,6 +5,7 @@ use Rattle.lift_spec.specs.World.{World, scan_at}
 use Rattle.lift_world.specs.Worlds.{WorldOf}
 use Rattle.lift_round.specs.declared.kept.Rounds.{Rounds}
 use Rattle.liftplc_c.specs.Handles.{IsLed}
+use Rattle.il_spec.specs.declared.fault.Refusal.TheVariants.{Fault}
 use Rattle.liftplc_c.proofs.Refusing.{memory_at, no_fault}
 use Rattle.liftplc_c.proofs.opening.opened.Goals as goal
 
@@ -15,13 +16,13 @@ returns-clause-rests c =
     λ j. ap (λ (w : World). is_some (scan_at w j)) opens ∙ ap is_some (no_scan_open c.in_ok-load.field-0.config j)
 
 pub returns-in_err-new-clause-bytes : goal.returns-in_err-new-clause-bytes
-returns-in_err-new-clause-bytes c number line is = memory_at c.from_residual-in_err-new.result number line c.from_residual-in_err-new.ensures.1
+returns-in_err-new-clause-bytes c number place is = memory_at c.from_residual-in_err-new.result (Fault number place) c.from_residual-in_err-new.ensures.1
 
 pub returns-in_err-new-clause-named : goal.returns-in_err-new-clause-named
 returns-in_err-new-clause-named c = λ fault d spelled. absurd (no_fault c.from_residual-in_err-new.result c.from_residual-in_err-new.ensures.1 fault)
 
 pub returns-in_err-new-clause-one : goal.returns-in_err-new-clause-one
-returns-in_err-new-clause-one c = λ fault n l spelled. absurd (no_fault c.from_residual-in_err-new.result c.from_residual-in_err-new.ensures.1 fault)
+returns-in_err-new-clause-one c = λ fault n p spelled. absurd (no_fault c.from_residual-in_err-new.result c.from_residual-in_err-new.ensures.1 fault)
 
 pub returns-in_err-new-clause-refused : goal.returns-in_err-new-clause-refused
 returns-in_err-new-clause-refused c = λ fault d accepted. no_fault c.from_residual-in_err-new.result c.from_residual-in_err-new.ensures.1 fault

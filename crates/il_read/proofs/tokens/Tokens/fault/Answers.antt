@@ -1,8 +1,11 @@
 use Rattle.std.proofs.Common.{rules}
+use Rattle.il_read.specs.Reads.{fault_at}
 use Rattle.il_read.proofs.tokens.Tokens.fault.Goals as goal
 
 pub returns-in-Some : goal.returns-in-Some
+unfolding fault_at
 returns-in-Some c = search rules
 
 pub returns-in-None : goal.returns-in-None
+unfolding fault_at
 returns-in-None c = search rules
