@@ -4,4 +4,4 @@ if exists("current_compiler")
 endif
 let current_compiler = "liftplc"
 CompilerSet makeprg=liftplc\ check\ %:S\ --explain
-CompilerSet errorformat=%-Grefused%.%#,%E%f:%l:%.%#,%Z%n:\ %m,%-G%.%#
+CompilerSet errorformat=%f:%l:%c:\ %n:\ %m,%f:%l:\ %n:\ %m,%-G%.%#

@@ -1,0 +1,2 @@
+pub mod NameReasons
+pub mod Reasons
