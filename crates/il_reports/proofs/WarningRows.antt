@@ -1,7 +1,8 @@
 -- Worked rows: what is said of names, of tasks' names and of a line.
 use Rattle.std.proofs.Common.{◌≡◌, true, false, refl}
 use Rattle.std.specs.Prelude.{Some, None, codes}
-use Rattle.il_reports.specs.Warnings.{variable_never, never_of, is_car_task, is_name}
+use Rattle.il_reports.specs.Warnings.{variable_never, never_of, is_car_task}
+use Rattle.il_scope.specs.Cars.{car_of}
 use Rattle.il_reports.specs.declared.never.Never.TheVariants.{Read, Written, Used}
 use Rattle.il_reports.specs.declared.never.Origin.TheVariants.{Input, Output, Variable, External}
 
@@ -54,13 +55,13 @@ row_external = refl
 
 -- the tasks of cars
 row_last_car : is_car_task (codes "CAR8") ≡ true
-unfolding is_car_task is_name
+unfolding is_car_task car_of
 row_last_car = refl
 
 row_no_car : is_car_task (codes "CAR9") ≡ false
-unfolding is_car_task is_name
+unfolding is_car_task car_of
 row_no_car = refl
 
 row_group : is_car_task (codes "GROUP") ≡ false
-unfolding is_car_task is_name
+unfolding is_car_task car_of
 row_group = refl

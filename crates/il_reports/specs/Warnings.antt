@@ -1,5 +1,5 @@
 -- Warnings: what a configuration declares and does not use, and what has no effect (own rules).
-use Rattle.std.specs.Prelude.{ℕ, Bool, true, false, ◌&&◌, ◌||◌, if◌then◌else◌, List, [], ◌∷◌, ◌++◌, Option, Some, None, flat_map, bytes_eq, codes, decimal}
+use Rattle.std.specs.Prelude.{ℕ, Bool, true, false, ◌&&◌, ◌||◌, if◌then◌else◌, List, [], ◌∷◌, ◌++◌, Option, Some, None, flat_map, bytes_eq, codes, decimal, is_some}
 use Rattle.std.specs.List.{list_any}
 use Rattle.std.specs.Ordering.{int_eq}
 use Rattle.il_spec.specs.declared.tree.Config.{Config}
@@ -12,7 +12,9 @@ use Rattle.il_spec.specs.declared.tree.Form.TheVariants.{Scalar as OfScalar, Arr
 use Rattle.il_spec.specs.declared.tree.ProgramLine.{ProgramLine}
 use Rattle.il_spec.specs.declared.tree.Step.{Step}
 use Rattle.il_spec.specs.declared.tree.Task.{Task}
+use Rattle.il_rules.specs.Limits.{cars_limits}
 use Rattle.il_rules.specs.Names.{Spelling, is_program}
+use Rattle.il_scope.specs.Cars.{car_of}
 use Rattle.il_reports.specs.Names.{DeclaredName, declared_names}
 use Rattle.il_reports.specs.Uses.{is_used}
 use Rattle.il_reports.specs.Xref.{uses_global}
@@ -102,17 +104,9 @@ is_needed config (Function scalar place) name = is_called config name
 is_needed config FunctionBlock name = has_instance config name
 is_needed config Program name = true
 
--- the tasks of cars
-abbrev pub car_tasks : List Spelling
-car_tasks = codes "CAR1" ∷ codes "CAR2" ∷ codes "CAR3" ∷ codes "CAR4" ∷ codes "CAR5" ∷ codes "CAR6" ∷ codes "CAR7" ∷ codes "CAR8" ∷ []
-
--- whether a name is this one
-unfoldable pub is_name : Spelling → Spelling → Bool
-is_name n name = bytes_eq n name
-
 -- whether a task is a car's
 unfoldable pub is_car_task : Spelling → Bool
-is_car_task name = list_any (λ n. is_name n name) car_tasks
+is_car_task name = is_some (car_of cars_limits.upper name)
 
 -- whether a PROGRAM line gives a program to a car's task
 abbrev pub drives_car : List ProgramLine → Spelling → Bool

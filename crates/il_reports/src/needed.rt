@@ -6,9 +6,11 @@ ghost use Rattle.il_spec.specs.declared.tree.Unit.{Unit as ProgramUnit};
 ghost use Rattle.il_table.specs.NameMap.{get};
 ghost use Rattle.il_reports.specs.Uses.{is_use, is_used, use_shown};
 ghost use Rattle.il_reports.specs.declared.uses.Manner.TheVariants.{Called as IsCalled};
-ghost use Rattle.il_reports.specs.Warnings.{is_called, is_block_of, have_instance, has_instance, is_needed, is_name, is_car_task, drives_car};
+ghost use Rattle.il_reports.specs.Warnings.{is_called, is_block_of, have_instance, has_instance, is_needed, is_car_task, drives_car};
 
 use crate::uses::{Manner, Use, uses};
+use il_rules::limits::MOST_CARS;
+use il_scope::roles::car_number;
 use il_spec::tree::{Config, Declaration, Form, ProgramLine, Step, Unit, UnitKind};
 use il_table::Table;
 use std::alloc::{AllocError, Global};
@@ -142,19 +144,5 @@ pub fn drives_car(lines: &[ProgramLine], name: &str) -> bool
 fn is_car_task(name: &str) -> bool
     ensures { result ≡ is_car_task name.now }
 {
-    is_name(name, "CAR1")
-        || is_name(name, "CAR2")
-        || is_name(name, "CAR3")
-        || is_name(name, "CAR4")
-        || is_name(name, "CAR5")
-        || is_name(name, "CAR6")
-        || is_name(name, "CAR7")
-        || is_name(name, "CAR8")
-}
-
-#[tactic(auto, unfolding(crate::specs::Warnings::is_name))]
-fn is_name(name: &str, other: &str) -> bool
-    ensures { result ≡ is_name other.now name.now }
-{
-    other == name
+    car_number(i64::from(MOST_CARS), name).is_some()
 }

@@ -15,6 +15,7 @@ use Rattle.lift_host.specs.declared.sink.Memory.{Memory}
 use Rattle.lift_host.specs.Writes.{Writes}
 use Rattle.lift_command.specs.declared.memory_trace.MemoryTrace.{MemoryTrace}
 use Rattle.lift_command.specs.declared.program.Outcome.{Outcome}
+use Rattle.il_reasons.specs.Reasons.{IsReason}
 use Rattle.lift_command.specs.Runs.{IsTextOutcome}
 use Rattle.lift_command.specs.Servings.{IsServeAnswer}
 
@@ -43,7 +44,7 @@ pub record IsUnread (out err : Held) (ends : Status) : Type 0 where
 
 -- what words as they are read have printed or told, of whatever command but `serve`
 abbrev pub HasAnswered : (List ℕ → ℕ → List ℕ → Type 0) → (List ℕ → ℕ → ReadFault → Type 0) → Bool → List (List ℕ) → Flags → Held → Held → Status → Type 0
-HasAnswered reads fails wanted words flags = HasPrinted (IsAnswer reads fails IsTextOutcome wanted words flags)
+HasAnswered reads fails wanted words flags = HasPrinted (IsAnswer reads fails IsTextOutcome IsReason wanted words flags)
 
 -- what serving gives, by its streams
 abbrev pub HasServed : (List ℕ → ℕ → List ℕ → Type 0) → (List ℕ → ℕ → ReadFault → Type 0) → Bool → Serving → Streams → Status → Type 0

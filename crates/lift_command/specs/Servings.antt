@@ -15,6 +15,7 @@ use Rattle.lift_host.specs.declared.status.Status.TheVariants as with_status
 use Rattle.lift_host.specs.Messages.{fault_of, fault_of_reading, message_of, status_of}
 use Rattle.lift_shell.specs.Runs.{IsExplained, IsUnreadBelow, most_bytes}
 use Rattle.lift_host.specs.Writes.{AppendsFront}
+use Rattle.il_reasons.specs.Reasons.{IsReason}
 use Rattle.lift_messages.specs.Places.{IsTextShownBelow}
 use Rattle.lift_serve.specs.declared.group.Halt.{Halt}
 use Rattle.lift_serve.specs.declared.group.Halt.TheVariants as halt
@@ -87,9 +88,9 @@ pub data IsLoadedAnswer (c : Config) (tracing : Option Tracing) (Taken : List �
   halted : (created : Option (List ℕ)) → IsCreated tracing before created → (halt : Halt) → IsHalted c Taken old new failed (Appends created after) (AppendsFront created after) halt → Told (message_of (fault_of_halt halt)) → status ≡ status_of (fault_of_halt halt)
       → IsLoadedAnswer c tracing Taken old new failed before after Told Silent status
 
--- below a refusal of FILE its line
+-- below a refusal of FILE its place, its line, and what is told of it
 abbrev pub IsRefusalBelow : List ℕ → List ℕ → Fault → List ℕ → Type 0
-IsRefusalBelow name text (RefusedText number place) below = IsTextShownBelow name text number place below
+IsRefusalBelow name text (RefusedText number place) below = (reason : List ℕ) × IsReason text number place reason × IsTextShownBelow name text number place reason below
 IsRefusalBelow name text (Refused number line) below = below ≡ []
 IsRefusalBelow name text (Misuse said) below = below ≡ []
 IsRefusalBelow name text (BadPress word) below = below ≡ []

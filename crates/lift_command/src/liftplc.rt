@@ -1,14 +1,17 @@
 // What the commands of `liftplc` do with a text.
 
 ghost use Rattle.std.specs.Prelude.{◌≡◌, ◌≢◌, Err, true};
+ghost use Rattle.il_reasons.specs.Reasons.{IsReason};
 ghost use Rattle.lift_command.specs.Loaded.{IsLoaded};
 ghost use Rattle.lift_command.specs.Runs.{IsKnown, IsRefusedOutcome, IsTextOutcome};
 ghost use Rattle.lift_output.specs.Outcomes.{HasWarnings, IsProgramOutcome, wanted_warnings};
 ghost use Rattle.lift_shell.specs.Runs.{runs};
 
 use il_machine::Verified;
+use il_reasons::reason;
 use il_reports::ranges_text;
 use il_spec::fault::Refusal;
+use il_spec::tree::Place;
 use lift_host::files::Reading;
 use lift_host::request::{Request, Showing, Simulating};
 use lift_host::status::Fault;
@@ -16,7 +19,7 @@ use lift_load::{load, unbroken};
 use lift_messages::output::Output;
 use lift_output::outcome::{outcome, ran};
 use lift_shell::commands::Commands;
-use std::alloc::Global;
+use std::alloc::{AllocError, Global};
 use std::sync::Wait;
 use std::thread::Threads;
 
@@ -26,6 +29,8 @@ pub struct Liftplc;
 
 impl Commands for Liftplc {
     ghost gives = { λ _. IsTextOutcome };
+
+    ghost reasons = { λ _. IsReason };
 
     fn outcome(
         &self,
@@ -52,6 +57,16 @@ impl Commands for Liftplc {
             Ok(verified) => run_verified(rt, alloc, request, verified, trace),
             Err(refusal) => refused(alloc, request, text, refusal),
         }
+    }
+
+    fn reason(
+        &self,
+        alloc: Global,
+        text: &[u8],
+        number: u16,
+        place: Place,
+    ) -> Result<Vec<u8>, AllocError> {
+        reason(alloc, text, number, place)
     }
 }
 

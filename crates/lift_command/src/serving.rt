@@ -9,6 +9,7 @@ ghost use Rattle.lift_command.specs.Servings.{IsCreated, IsNew, IsServeAnswer, I
 
 use crate::liftplc::loaded;
 use il_machine::Verified;
+use il_reasons::reason;
 use lift_host::files::{Cause, ReadFault, TextFiles};
 use lift_host::serving::{Serving, Tracing};
 use lift_host::sink::{Sink, SinkFault};
@@ -151,7 +152,10 @@ fn refusal_below(
     ensures { IfOk result (λ below. IsRefusalBelow name.now text.now fault.now below.items) }
 {
     match fault {
-        Fault::RefusedText { number, place } => text_below(alloc, name, text, *number, *place),
+        Fault::RefusedText { number, place } => {
+            let reason = reason(alloc, text, *number, *place)?;
+            text_below(alloc, name, text, *number, *place, &reason)
+        }
         _ => Ok(Vec::new(alloc)),
     }
 }

@@ -89,8 +89,8 @@ pub record IsShownBelow (name text : List ℕ) (number line : ℕ) (below : List
   pub is_more : IsMore number more
   pub is : below ≡ ((place_text name line ++ (title ++ codes "\n")) ++ (quoted source ++ codes "\n")) ++ more
 
--- `NAME:LINE:COLUMN: ` and what the number means; then the line, with a mark below what stands at the place, and who says more
-pub record IsTextShownBelow (name text : List ℕ) (number : ℕ) (place : Place) (below : List ℕ) : Type 0 where
+-- `NAME:LINE:COLUMN: ` and what the number means; then the line, with a mark below what stands at the place, what is told of it, and who says more
+pub record IsTextShownBelow (name text : List ℕ) (number : ℕ) (place : Place) (reason below : List ℕ) : Type 0 where
   pub front : List ℕ
   pub back : List ℕ
   pub is_line : IsLineAround text place.offset front back
@@ -98,4 +98,4 @@ pub record IsTextShownBelow (name text : List ℕ) (number : ℕ) (place : Place
   pub is_title : IsTitle number title
   pub more : List ℕ
   pub is_more : IsMore number more
-  pub is : below ≡ (((column_text name place.line (length front + 1) ++ (title ++ codes "\n")) ++ (around front back ++ codes "\n")) ++ (mark front back ++ codes "\n")) ++ more
+  pub is : below ≡ ((((column_text name place.line (length front + 1) ++ (title ++ codes "\n")) ++ (around front back ++ codes "\n")) ++ (mark front back ++ codes "\n")) ++ reason) ++ more

@@ -14,15 +14,17 @@ use std::alloc::{AllocError, Global};
 const MOST_BYTES: usize = 200;
 
 /// What is shown below the refusal of a text with a number at a place: the name of the file, the line and the column, both counted from 1, and what
-/// the number means; then the text of the line, with a mark below what stands there.
+/// the number means; then the text of the line, with a mark below what stands there, and the lines that are told of it.
 pub fn text_below(
     alloc: Global,
     name: &str,
     text: &[u8],
     number: u16,
     place: Place,
+    reason: &[u8],
 ) -> Result<Vec<u8>, AllocError>
-    ensures { IfOk result (λ below. IsTextShownBelow name.now text.now number place below.items) }
+    ensures { IfOk result (λ below. IsTextShownBelow name.now text.now number place reason.now
+        below.items) }
 {
     let line = line_around(text, place.offset as usize);
     let mut below = Vec::new(alloc);
@@ -30,6 +32,7 @@ pub fn text_below(
     put_title(&mut below, number)?;
     put_line(&mut below, line)?;
     put_mark(&mut below, line)?;
+    below.extend_from_slice(reason)?;
     put_more(&mut below, number)?;
     Ok(below)
 }

@@ -1,6 +1,7 @@
 -- What comes of a run of the program (own rules).
 use Rattle.std.specs.Prelude.{IsTrue, ◌≡◌, ◌⊎◌, ◌↔◌, ◌||◌, ◌&&◌, ◌++◌, length, ℕ, List, [], Bool, true, false, Option, None, Some, option_map, Ok, Err, if◌then◌else◌, codes, map, string_bytes}
 use Rattle.std.specs.Io.KnownBytes.{Appends, Keeps}
+use Rattle.il_spec.specs.declared.tree.Place.{Place}
 use Rattle.lift_host.specs.declared.files.ReadFault.{ReadFault}
 use Rattle.lift_host.specs.declared.files.ReadFault.TheVariants as failure
 use Rattle.lift_host.specs.declared.files.Reading.{Reading}
@@ -114,20 +115,20 @@ name_sentence = codes "no field, variable of a task or global has this name"
 abbrev pub too_many_sentence : List ℕ
 too_many_sentence = codes "there are more than 1000 presses"
 
--- What stands below a fault: of a refusal its place, what the number means, and its line as it was read; of the others the word or the file and what
+-- What stands below a fault: of a refusal its place, what the number means, its line as it was read, and of a text what is told of it; of the others the word or the file and what
 -- is wrong with it.
-abbrev pub IsFaultBelow : Request → List ℕ → Reading → Fault → List ℕ → Type 0
-IsFaultBelow request text trace (fault.Misuse said) below = below ≡ []
-IsFaultBelow request text trace (fault.RefusedText number place) below = IsTextShownBelow (name_of request) text number place below
-IsFaultBelow request text trace (fault.Refused number line) below = IsShownBelow (other_source request text trace).0 (other_source request text trace).1 number line below
-IsFaultBelow request text trace (fault.BadPress word) below = (late : Bool) × (IsTrue late ↔ IsLateName request (string_bytes word)) × (below ≡ word_notice (string_bytes word) (press_sentence late))
-IsFaultBelow request text trace fault.TooManyPresses below = below ≡ plain_notice too_many_sentence
-IsFaultBelow request text trace (fault.BadFire word) below = below ≡ word_notice (string_bytes word) fire_sentence
-IsFaultBelow request text trace (fault.BadSpan word) below = below ≡ word_notice (string_bytes word) span_sentence
-IsFaultBelow request text trace (fault.BadName word) below = below ≡ word_notice (string_bytes word) name_sentence
-IsFaultBelow request text trace (fault.CannotRead cause) below = below ≡ file_notice (other_name request) (cause_sentence cause)
-IsFaultBelow request text trace fault.CannotWrite below = below ≡ []
-IsFaultBelow request text trace fault.NoMemory below = below ≡ []
+abbrev pub IsFaultBelow : (List ℕ → ℕ → Place → List ℕ → Type 0) → Request → List ℕ → Reading → Fault → List ℕ → Type 0
+IsFaultBelow reasons request text trace (fault.Misuse said) below = below ≡ []
+IsFaultBelow reasons request text trace (fault.RefusedText number place) below = (reason : List ℕ) × reasons text number place reason × IsTextShownBelow (name_of request) text number place reason below
+IsFaultBelow reasons request text trace (fault.Refused number line) below = IsShownBelow (other_source request text trace).0 (other_source request text trace).1 number line below
+IsFaultBelow reasons request text trace (fault.BadPress word) below = (late : Bool) × (IsTrue late ↔ IsLateName request (string_bytes word)) × (below ≡ word_notice (string_bytes word) (press_sentence late))
+IsFaultBelow reasons request text trace fault.TooManyPresses below = below ≡ plain_notice too_many_sentence
+IsFaultBelow reasons request text trace (fault.BadFire word) below = below ≡ word_notice (string_bytes word) fire_sentence
+IsFaultBelow reasons request text trace (fault.BadSpan word) below = below ≡ word_notice (string_bytes word) span_sentence
+IsFaultBelow reasons request text trace (fault.BadName word) below = below ≡ word_notice (string_bytes word) name_sentence
+IsFaultBelow reasons request text trace (fault.CannotRead cause) below = below ≡ file_notice (other_name request) (cause_sentence cause)
+IsFaultBelow reasons request text trace fault.CannotWrite below = below ≡ []
+IsFaultBelow reasons request text trace fault.NoMemory below = below ≡ []
 
 -- A fault with what stands below it: this, where it is wanted, and else nothing. Memory for it may be missing, and then that is told alone.
 pub data IsExplained (wanted : Bool) (Below : List ℕ → Type 0) (f told : Fault) (below : List ℕ) : Type 0 where
@@ -180,19 +181,19 @@ IsOtherRead reads fails (request.Trace command traced) (Failed why) = IsTraceFau
 
 -- A request has the outcome that its command gives of the text of its file and of its other file, each read once; what stands below its fault is
 -- of these readings. The file may have no text.
-pub data IsFileAnswer (reads : List ℕ → ℕ → List ℕ → Type 0) (fails : List ℕ → ℕ → ReadFault → Type 0) (gives : Request → List ℕ → Reading → Outcome → Type 0) (wanted : Bool) (request : Request) (outcome : Outcome) (below : List ℕ) : Type 0 where
-  unread : (why : ReadFault) → fails (name_of request) most_bytes why → IsOutcomeExplained wanted (λ _. IsUnreadBelow (name_of request) why) (Err (fault_of_reading why)) outcome below → IsFileAnswer reads fails gives wanted request outcome below
+pub data IsFileAnswer (reads : List ℕ → ℕ → List ℕ → Type 0) (fails : List ℕ → ℕ → ReadFault → Type 0) (gives : Request → List ℕ → Reading → Outcome → Type 0) (reasons : List ℕ → ℕ → Place → List ℕ → Type 0) (wanted : Bool) (request : Request) (outcome : Outcome) (below : List ℕ) : Type 0 where
+  unread : (why : ReadFault) → fails (name_of request) most_bytes why → IsOutcomeExplained wanted (λ _. IsUnreadBelow (name_of request) why) (Err (fault_of_reading why)) outcome below → IsFileAnswer reads fails gives reasons wanted request outcome below
   read : (text : List ℕ) → reads (name_of request) most_bytes text → (trace : Reading) → IsOtherRead reads fails request trace → (given : Outcome) → gives request text trace given
-      → IsOutcomeExplained wanted (IsFaultBelow request text trace) given outcome below → IsFileAnswer reads fails gives wanted request outcome below
+      → IsOutcomeExplained wanted (IsFaultBelow reasons request text trace) given outcome below → IsFileAnswer reads fails gives reasons wanted request outcome below
 
 -- Words have the answer of their request, where they ask for one.
-pub data IsAnswer (reads : List ℕ → ℕ → List ℕ → Type 0) (fails : List ℕ → ℕ → ReadFault → Type 0) (gives : Request → List ℕ → Reading → Outcome → Type 0) (wanted : Bool) (words : List (List ℕ)) (flags : Flags) (outcome : Outcome) (below : List ℕ) : Type 0 where
-  unasked : ((request : Request) → Asks words request → ⊥) → IsWordsOutcome words outcome → below ≡ [] → IsAnswer reads fails gives wanted words flags outcome below
-  asked : (request : Request) → Asks words request → IsFileAnswer reads fails gives wanted (with_flags flags request) outcome below → IsAnswer reads fails gives wanted words flags outcome below
+pub data IsAnswer (reads : List ℕ → ℕ → List ℕ → Type 0) (fails : List ℕ → ℕ → ReadFault → Type 0) (gives : Request → List ℕ → Reading → Outcome → Type 0) (reasons : List ℕ → ℕ → Place → List ℕ → Type 0) (wanted : Bool) (words : List (List ℕ)) (flags : Flags) (outcome : Outcome) (below : List ℕ) : Type 0 where
+  unasked : ((request : Request) → Asks words request → ⊥) → IsWordsOutcome words outcome → below ≡ [] → IsAnswer reads fails gives reasons wanted words flags outcome below
+  asked : (request : Request) → Asks words request → IsFileAnswer reads fails gives reasons wanted (with_flags flags request) outcome below → IsAnswer reads fails gives reasons wanted words flags outcome below
 
 -- Words as they are read have that answer, explained where `--explain` stood among them, or always.
-abbrev pub IsAnswerOf : (List ℕ → ℕ → List ℕ → Type 0) → (List ℕ → ℕ → ReadFault → Type 0) → (Request → List ℕ → Reading → Outcome → Type 0) → Bool → Plain → Outcome → List ℕ → Type 0
-IsAnswerOf reads fails gives always plain = IsAnswer reads fails gives (always || plain.explains) (map string_bytes plain.words.items) plain.flags
+abbrev pub IsAnswerOf : (List ℕ → ℕ → List ℕ → Type 0) → (List ℕ → ℕ → ReadFault → Type 0) → (Request → List ℕ → Reading → Outcome → Type 0) → (List ℕ → ℕ → Place → List ℕ → Type 0) → Bool → Plain → Outcome → List ℕ → Type 0
+IsAnswerOf reads fails gives reasons always plain = IsAnswer reads fails gives reasons (always || plain.explains) (map string_bytes plain.words.items) plain.flags
 
 -- an output of these answers was written
 abbrev pub HasWritten : (Outcome → List ℕ → Type 0) → (List ℕ → Type 0) → Type 0

@@ -1,18 +1,20 @@
 // What the program does with a text.
 
-ghost use Rattle.std.specs.Prelude.{◌≡◌, ◌≢◌, ℕ, List, Err, true, false};
+ghost use Rattle.std.specs.Prelude.{◌≡◌, ◌≢◌, ℕ, List, Err, IfOk, true, false};
 ghost use Rattle.std.specs.Thread.{IsSync};
+ghost use Rattle.il_spec.specs.declared.tree.Place.{Place as PlaceOf};
 ghost use Rattle.lift_host.specs.declared.files.Reading.{Reading};
 ghost use Rattle.lift_host.specs.declared.request.Request.{Request};
 ghost use Rattle.lift_host.specs.declared.status.Fault.TheVariants.{CannotWrite};
 ghost use Rattle.lift_shell.specs.Runs.{runs};
 ghost use Rattle.lift_messages.specs.Outputs.{Outcome};
 
+use il_spec::tree::Place;
 use lift_host::files::Reading;
 use lift_host::request::{Request, Simulating};
 use lift_host::status::Fault;
 use lift_messages::output::Output;
-use std::alloc::Global;
+use std::alloc::{AllocError, Global};
 use std::sync::Wait;
 use std::thread::Threads;
 
@@ -21,6 +23,9 @@ use std::thread::Threads;
 pub trait Commands {
     // What a request may give of a text, where this was read of its trace or of its file of `--calls`.
     ghost gives: { Self → Request → List ℕ → Reading → Outcome → Type 0 };
+
+    // What may be told of the refusal of a text with a number at a place.
+    ghost reasons: { Self → List ℕ → ℕ → PlaceOf → List ℕ → Type 0 };
 
     /// What a request prints that isn't `run`, or why it prints nothing; of a request that names no other file `trace` is empty.
     fn outcome(
@@ -47,6 +52,16 @@ pub trait Commands {
         requires run { runs request ≡ true }
         ensures gives { gives self.now request.entry text.now trace.now result }
         ensures unwritten { result ≢ Err CannotWrite };
+
+    /// What is told of the refusal of a text with a number at a place: lines, or none.
+    fn reason(
+        &self,
+        alloc: Global,
+        text: &[u8],
+        number: u16,
+        place: Place,
+    ) -> Result<Vec<u8>, AllocError>
+        ensures { IfOk result (λ lines. reasons self.now text.now number place lines.items) };
 }
 
 /// Whether a request is `run`.

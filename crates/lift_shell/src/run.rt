@@ -1,15 +1,16 @@
 // The program, over its words.
 
-ghost use Rattle.std.specs.Prelude.{◌≡◌, ◌≢◌, ◌||◌, ◌↔◌, [], Bool, Err, IfSome, IsNone, IfOk, IfErr, IsTrue, true, false, map, option_map, string_bytes};
+ghost use Rattle.std.specs.Prelude.{◌≡◌, ◌≢◌, ◌||◌, ◌↔◌, ℕ, List, [], Bool, Err, IfSome, IsNone, IfOk, IfErr, IsTrue, true, false, map, option_map, string_bytes};
 ghost use Rattle.lift_host.specs.Messages.{fault_of_reading};
 ghost use Rattle.lift_host.specs.Requests.{name_of};
 ghost use Rattle.lift_shell.specs.Runs.{AskForRun, IsForRun, IsAnswerOf, IsFileAnswer, IsCallsRead, IsWordsOutcome, IsOtherRead, IsTraceText, IsTraceFault, IsExplained, IsOutcomeExplained, IsFaultBelow, IsUnreadBelow, IsLateName, HasPrinted, stream, most_bytes, most_calls_bytes, most_trace_bytes, runs, other_source, other_of, other_name, press_sentence};
 ghost use Rattle.lift_messages.specs.Notices.{word_notice};
-ghost use Rattle.lift_messages.specs.Places.{IsShownBelow};
+ghost use Rattle.lift_messages.specs.Places.{IsShownBelow, IsTextShownBelow};
 
 use crate::commands::{Commands, runs};
 use crate::cut::complete;
 use crate::explained::Explained;
+use il_spec::tree::Place;
 use lift_help::command::{Answer, answer_of};
 use lift_host::calls::GREATEST_FILE;
 use lift_host::files::{ReadFault, Reading, TextFiles};
@@ -42,7 +43,7 @@ pub fn run<R: Threads + Wait + Sync, F: TextFiles, C: Commands, O: Sink, E: Sink
 ) -> Status
     requires { O.has_failed out.old ≡ false }
     ensures { HasPrinted (IsAnswerOf (F.gives files.now) (F.fails files.now)
-        (C.gives commands.now) explains words.now)
+        (C.gives commands.now) (C.reasons commands.now) explains words.now)
         (stream (O.contents out.old) (O.contents out.new) (O.has_failed out.new))
         (stream (E.contents err.old) (E.contents err.new) (E.has_failed err.new)) result }
 {
@@ -62,8 +63,9 @@ pub fn run_alone<F: TextFiles, C: Commands, O: Sink, E: Sink>(
 ) -> Option<Status>
     requires { O.has_failed out.old ≡ false }
     ensures printed { IfSome result (HasPrinted
-        (IsAnswerOf (F.gives files.now) (F.fails files.now) (C.gives commands.now) explains
-        words.now) (stream (O.contents out.old) (O.contents out.new) (O.has_failed out.new))
+        (IsAnswerOf (F.gives files.now) (F.fails files.now) (C.gives commands.now)
+        (C.reasons commands.now) explains words.now)
+        (stream (O.contents out.old) (O.contents out.new) (O.has_failed out.new))
         (stream (E.contents err.old) (E.contents err.new) (E.has_failed err.new))) }
     ensures run { IsNone result → AskForRun (map string_bytes words.now.words.items) }
     ensures unwritten { IsNone result → (out.new ≡ out.old) × (err.new ≡ err.old) }
@@ -91,7 +93,7 @@ fn answer<R: Threads + Wait + Sync, F: TextFiles, C: Commands>(
     explains: bool,
 ) -> Answered
     ensures is { IsAnswerOf (F.gives files.now) (F.fails files.now) (C.gives commands.now)
-        explains words.now result.outcome result.below.items }
+        (C.reasons commands.now) explains words.now result.outcome result.below.items }
     ensures unwritten { result.outcome ≢ Err Fault.CannotWrite }
 {
     match answer_alone(alloc, words, files, commands, explains) {
@@ -112,7 +114,8 @@ fn answer_alone<'w, F: TextFiles, C: Commands>(
     explains: bool,
 ) -> Result<Answered, Request<'w>>
     ensures is { IfOk result (λ answer. IsAnswerOf (F.gives files.now) (F.fails files.now)
-        (C.gives commands.now) explains words.now answer.outcome answer.below.items) }
+        (C.gives commands.now) (C.reasons commands.now) explains words.now answer.outcome
+        answer.below.items) }
     ensures unwritten { IfOk result (λ answer. answer.outcome ≢ Err Fault.CannotWrite) }
     ensures run { IfErr result (IsForRun words.now) }
 {
@@ -161,13 +164,13 @@ fn file_answer<F: TextFiles, C: Commands>(
 ) -> Answered
     requires { runs request ≡ false }
     ensures is { IsFileAnswer (F.gives files.now) (F.fails files.now) (C.gives commands.now)
-        wanted request.entry result.outcome result.below.items }
+        (C.reasons commands.now) wanted request.entry result.outcome result.below.items }
     ensures unwritten { result.outcome ≢ Err Fault.CannotWrite }
 {
     match read_texts(alloc, request, files) {
         Ok(texts) => {
             let outcome = commands.outcome(alloc, request, &texts.text, &texts.trace);
-            with_below(alloc, request, &texts, outcome, wanted)
+            with_below(alloc, request, &texts, commands, outcome, wanted)
         }
         Err(why) => unread_answer(alloc, request, why, wanted),
     }
@@ -184,13 +187,13 @@ fn run_answer<R: Threads + Wait + Sync, F: TextFiles, C: Commands>(
 ) -> Answered
     requires { runs request ≡ true }
     ensures is { IsFileAnswer (F.gives files.now) (F.fails files.now) (C.gives commands.now)
-        wanted request.entry result.outcome result.below.items }
+        (C.reasons commands.now) wanted request.entry result.outcome result.below.items }
     ensures unwritten { result.outcome ≢ Err Fault.CannotWrite }
 {
     match read_texts(alloc, request, files) {
         Ok(texts) => {
             let outcome = commands.run(rt, alloc, request, &texts.text, &texts.trace);
-            with_below(alloc, request, &texts, outcome, wanted)
+            with_below(alloc, request, &texts, commands, outcome, wanted)
         }
         Err(why) => unread_answer(alloc, request, why, wanted),
     }
@@ -221,15 +224,17 @@ fn read_texts<F: TextFiles>(
 }
 
 // An outcome, with what stands below it.
-fn with_below(
+fn with_below<C: Commands>(
     alloc: Global,
     request: Request<'_>,
     texts: &Texts,
+    commands: &C,
     outcome: Result<Output, Fault>,
     wanted: bool,
 ) -> Answered
     ensures is { IsOutcomeExplained wanted
-        (IsFaultBelow request.entry texts.now.text.items texts.now.trace) outcome result.outcome
+        (IsFaultBelow (C.reasons commands.now) request.entry texts.now.text.items
+        texts.now.trace) outcome result.outcome
         result.below.items }
     ensures unwritten { outcome ≢ Err Fault.CannotWrite → result.outcome ≢ Err Fault.CannotWrite }
 {
@@ -238,7 +243,9 @@ fn with_below(
             outcome: Ok(output),
             below: Vec::new(alloc),
         },
-        Err(fault) => Answered::from(fault_explained(alloc, request, texts, fault, wanted)),
+        Err(fault) => Answered::from(fault_explained(
+            alloc, request, texts, commands, fault, wanted,
+        )),
     }
 }
 
@@ -311,47 +318,44 @@ fn read_trace<F: TextFiles>(
 }
 
 // A fault of a request, with what stands below it, where that is wanted; `NoMemory` where memory for that is missing.
-fn fault_explained(
+fn fault_explained<C: Commands>(
     alloc: Global,
     request: Request<'_>,
     texts: &Texts,
+    commands: &C,
     fault: Fault,
     wanted: bool,
 ) -> Explained
-    ensures { IsExplained wanted (IsFaultBelow request.entry texts.now.text.items texts.now.trace
-        fault) fault result.fault result.below.items }
+    ensures { IsExplained wanted (IsFaultBelow (C.reasons commands.now) request.entry
+        texts.now.text.items texts.now.trace fault) fault result.fault result.below.items }
 {
     if !wanted {
         return Explained::alone(alloc, fault);
     }
-    match fault_below(alloc, request, &texts.text, &texts.trace, &fault) {
+    match fault_below(alloc, request, texts, commands, &fault) {
         Ok(below) => Explained { fault, below },
         Err(_) => Explained::alone(alloc, Fault::NoMemory),
     }
 }
 
 // What stands below a fault.
-fn fault_below(
+fn fault_below<C: Commands>(
     alloc: Global,
     request: Request<'_>,
-    text: &[u8],
-    trace: &Reading,
+    texts: &Texts,
+    commands: &C,
     fault: &Fault,
 ) -> Result<Vec<u8>, AllocError>
-    ensures { IfOk result (λ below. IsFaultBelow request.entry text.now trace.now fault.now
-        below.items) }
+    ensures { IfOk result (λ below. IsFaultBelow (C.reasons commands.now) request.entry
+        texts.now.text.items texts.now.trace fault.now below.items) }
 {
     match fault {
         Fault::Misuse(_) => Ok(Vec::new(alloc)),
-        Fault::RefusedText { number, place } => text_below(
-            alloc,
-            request.file(),
-            text,
-            *number,
-            *place,
+        Fault::RefusedText { number, place } => reasoned_below(
+            alloc, request, &texts.text, commands, *number, *place,
         ),
         Fault::Refused { number, line } => refusal_below(
-            alloc, request, text, trace, *number, *line,
+            alloc, request, &texts.text, &texts.trace, *number, *line,
         ),
         Fault::BadPress(word) => press_below(alloc, request, word),
         Fault::TooManyPresses => plain_notice(alloc, TOO_MANY),
@@ -376,6 +380,23 @@ const NO_PRESS: &str =
     "no press: ROUND:FROM:TO or ROUND:FROM:TO:PANEL, a round of the run, two floors of the group, a panel from 1 to 4";
 
 const LATE_NAME: &str = "the names of `watch` stand before the presses";
+
+// The place of a refusal of FILE in what was read, what its number means, and what is told of it.
+fn reasoned_below<C: Commands>(
+    alloc: Global,
+    request: Request<'_>,
+    text: &[u8],
+    commands: &C,
+    number: u16,
+    place: Place,
+) -> Result<Vec<u8>, AllocError>
+    ensures { IfOk result (λ below. (reason : List ℕ)
+        × C.reasons commands.now text.now number place reason
+        × IsTextShownBelow (name_of request.entry) text.now number place reason below.items) }
+{
+    let reason = commands.reason(alloc, text, number, place)?;
+    text_below(alloc, request.file(), text, number, place, &reason)
+}
 
 // The line of a refusal of the other file in what was read, and what its number means.
 fn refusal_below(

@@ -20,10 +20,12 @@ returns c =
       is =
           c.in_ok-put_more.ensures.2
           ∙ ap (λ l. l ++ more)
+          (c.in_ok-extend_from_slice.ensures.items
+          ∙ ap (λ l. l ++ c.args.reason.now)
           (c.in_ok-put_mark.ensures
           ∙ ap (λ l. l ++ (mark front back ++ 10 ∷ []))
           (c.in_ok-put_line.ensures
           ∙ ap (λ l. l ++ (around front back ++ 10 ∷ []))
           (c.in_ok-put_title.ensures.2
-          ∙ ap (λ l. l ++ (title ++ 10 ∷ [])) (c.in_ok-put_column.ensures ∙ ap (λ l. l ++ place) c.new-below.ensures.items))));
+          ∙ ap (λ l. l ++ (title ++ 10 ∷ [])) (c.in_ok-put_column.ensures ∙ ap (λ l. l ++ place) c.new-below.ensures.items)))));
     }
