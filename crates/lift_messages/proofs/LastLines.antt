@@ -1,10 +1,10 @@
 -- The line around a place.
-use Rattle.std.proofs.Common.{◌≡◌, ℕ, zero, suc, ◌+◌, ◌<◌, ◌≤◌, min, true, false, Bool, List, [], ◌∷◌, ◌++◌, length, get_or, take, drop, Option, Some, None, Bor, refl, sym, ap, subst, ◌∙◌, inl, inr, arith}
+use Rattle.std.proofs.Common.{◌≡◌, ℕ, zero, suc, ◌+◌, ◌-◌, ◌<◌, ◌≤◌, min, true, false, Bool, List, [], ◌∷◌, ◌++◌, length, get_or, take, drop, Option, Some, None, Bor, refl, sym, ap, subst, ◌∙◌, inl, inr, arith}
 use borrow.Author.Tests.{eq-eqb, eqb-true}
 use Rattle.std.specs.Prelude.{◌==◌, ◌↔◌, IsSome, Contains}
 use Rattle.std.specs.Option.{unwrap_or}
 use Rattle.std.proofs.lemmas.Bool.{cases_lt}
-use Rattle.std.proofs.lemmas.List.{drop_all}
+use Rattle.std.proofs.lemmas.List.{drop_all, take_all, length-drop}
 use Rattle.lift_explain.specs.Explained.{numbers}
 use Rattle.lift_trace.specs.Reading.{Without}
 use Rattle.lift_messages.specs.Places.{IsLastLine, IsTitle}
@@ -23,10 +23,15 @@ split_last (b ∷ bs) (suc at) low is after =
     let rest = split_last bs at (omega (arith, low)) is (λ k least less. after (suc k) (omega (arith, least)) (omega (arith, less))) in
     (rest.0, (b ∷ rest.1.0, ap (λ l. b ∷ l) rest.1.1))
 
+-- what a slice from a place on has
+pub rest_of : (text : List ℕ) (n : ℕ) → take (length text - n) (drop n text) ≡ drop n text
+rest_of text n = take_all (length text - n) (drop n text) (omega (arith, length-drop n text))
+
 pub behind_last : (text line : List ℕ) (at : ℕ) → line ≡ drop (at + 1) text → at < length text → (get_or text at 0 == 10) ≡ true → ((k : ℕ) → at + 1 ≤ k → k < length text → ¬ ((get_or text k 0 == 10) ≡ true)) → IsLastLine text line
 behind_last text line at is low feed after =
     let split = split_last text at low feed after in
-    let same : drop (suc at) text ≡ line = ap (λ n. drop n text) (omega arith) ∙ sym is in
+    let next : suc at ≡ at + 1 = omega arith in
+    let same : drop (suc at) text ≡ line = ap (λ n. drop n text) next ∙ sym is in
     subst (IsLastLine text) same (split.0, inr split.1)
 
 -- the bytes behind a place, which may lie behind the end

@@ -11,6 +11,7 @@ use std::alloc::AllocError;
 
 // The most bytes of a line before a place that are all shown, and how many are shown where there are more.
 const MOST_BEFORE: usize = 120;
+
 const SHOWN_BEFORE: usize = 60;
 
 // The most bytes that are marked.
@@ -19,7 +20,7 @@ const MOST_MARKED: usize = 32;
 /// The text of a line around a place.
 pub(crate) fn put_line(to: &mut Vec<u8>, line: Line<'_>) -> Result<(), AllocError>
     ensures { OnOk result (to.new.items
-        ≡ to.old.items ++ (around line.front.now line.back.now ++ codes "\n")) }
+        ≡ to.old.items ++ (around line.entry.front.now line.entry.back.now ++ codes "\n")) }
 {
     put_shown(to, &line.front[left_out(line.front.len())..])?;
     put_quoted(to, line.back)?;
@@ -29,7 +30,7 @@ pub(crate) fn put_line(to: &mut Vec<u8>, line: Line<'_>) -> Result<(), AllocErro
 /// The mark below it.
 pub(crate) fn put_mark(to: &mut Vec<u8>, line: Line<'_>) -> Result<(), AllocError>
     ensures { OnOk result (to.new.items
-        ≡ to.old.items ++ (mark line.front.now line.back.now ++ codes "\n")) }
+        ≡ to.old.items ++ (mark line.entry.front.now line.entry.back.now ++ codes "\n")) }
 {
     let before = line.front.len();
     put_times(to, before - left_out(before), b' ')?;

@@ -69,12 +69,7 @@ fn put_place(to: &mut Vec<u8>, name: &str, line: u32) -> Result<(), AllocError>
 }
 
 // `NAME:LINE:COLUMN: `.
-fn put_column(
-    to: &mut Vec<u8>,
-    name: &str,
-    line: u32,
-    column: usize,
-) -> Result<(), AllocError>
+fn put_column(to: &mut Vec<u8>, name: &str, line: u32, column: usize) -> Result<(), AllocError>
     ensures { OnOk result (to.new.items ≡ to.old.items ++ column_text name.now line column) }
 {
     let mut lines = Buffer::new();
@@ -155,5 +150,6 @@ fn put_sayer(to: &mut Vec<u8>, number: u16) -> Result<(), AllocError>
     let mut digits = Buffer::new();
     to.extend_from_slice(b"`liftplc explain ")?;
     to.extend_from_slice(digits.format(number).as_bytes())?;
-    to.extend_from_slice(b"` says more\n")
+    to.extend_from_slice(b"` says more\n")?;
+    Ok(())
 }

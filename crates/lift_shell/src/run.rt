@@ -352,10 +352,20 @@ fn fault_below<C: Commands>(
     match fault {
         Fault::Misuse(_) => Ok(Vec::new(alloc)),
         Fault::RefusedText { number, place } => reasoned_below(
-            alloc, request, &texts.text, commands, *number, *place,
+            alloc,
+            request,
+            &texts.text,
+            commands,
+            *number,
+            *place,
         ),
         Fault::Refused { number, line } => refusal_below(
-            alloc, request, &texts.text, &texts.trace, *number, *line,
+            alloc,
+            request,
+            &texts.text,
+            &texts.trace,
+            *number,
+            *line,
         ),
         Fault::BadPress(word) => press_below(alloc, request, word),
         Fault::TooManyPresses => plain_notice(alloc, TOO_MANY),
