@@ -1,5 +1,5 @@
 -- What comes of a run of the program (own rules).
-use Rattle.std.specs.Prelude.{IsTrue, ◌≡◌, ◌⊎◌, ◌↔◌, ◌||◌, ◌&&◌, ◌++◌, length, ℕ, List, [], Bool, true, false, Option, None, Some, option_map, Ok, Err, if◌then◌else◌, codes, map, string_bytes}
+use Rattle.std.specs.Prelude.{IsTrue, ◌≡◌, ◌⊎◌, ◌↔◌, ◌||◌, ◌&&◌, ◌++◌, length, ℕ, List, [], nat_lt, Bool, true, false, Option, None, Some, option_map, Ok, Err, if◌then◌else◌, codes, map, string_bytes}
 use Rattle.std.specs.Io.KnownBytes.{Appends, Keeps}
 use Rattle.il_spec.specs.declared.tree.Place.{Place}
 use Rattle.lift_host.specs.declared.files.ReadFault.{ReadFault}
