@@ -24,7 +24,8 @@ fn check<R: Print>(rt: &R, alloc: Global, text: &[u8]) -> io::Result<()> {
     match checking::budgets(alloc, text) {
         Ok(budgets) => println!(rt; "check: budgets {:?}", budgets.as_slice()),
         Err(Refusal::Fault { number, place }) => println!(rt;
-            "check: fault {number} at line {}", place.line
+            "check: fault {number} at line {}",
+            place.line
         ),
         Err(Refusal::Memory) => Err(io::ErrorKind::OutOfMemory.into()),
     }
