@@ -1,2 +1,9 @@
+pub mod NameSpots
+pub mod NamesAgain
+pub mod NamesNear
+pub mod NamesKnown
+pub mod NamesUnknown
+pub mod NamesLabels
+pub mod NamesStores
 pub mod NameReasons
 pub mod Reasons

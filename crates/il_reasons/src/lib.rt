@@ -6,6 +6,14 @@ ghost use Rattle.il_spec.specs.Grammar.{Spells};
 ghost use Rattle.il_reasons.specs.Reasons.{IsReason, AreTold};
 
 mod names;
+mod names_again;
+mod names_known;
+mod names_labels;
+mod names_meant;
+mod names_near;
+mod names_spots;
+mod names_stores;
+mod names_unknown;
 
 use il_parse::parse;
 use il_rules::Written;
@@ -16,12 +24,7 @@ use il_text::tokens;
 use std::alloc::{AllocError, Global};
 
 /// What is told of the refusal of a text with a number at a place: lines, each with its line feed, or none (own rule).
-pub fn reason(
-    alloc: Global,
-    text: &[u8],
-    number: u16,
-    place: Place,
-) -> Result<Vec<u8>, AllocError>
+pub fn reason(alloc: Global, text: &[u8], number: u16, place: Place) -> Result<Vec<u8>, AllocError>
     ensures { IfOk result (λ lines. IsReason text.now number place lines.items) }
 {
     match spelled(alloc, text) {
@@ -40,12 +43,7 @@ fn spelled(alloc: Global, text: &[u8]) -> Result<Written, Refusal>
 }
 
 // What is told of a fault of a configuration.
-fn told(
-    alloc: Global,
-    written: Written,
-    number: u16,
-    place: Place,
-) -> Result<Vec<u8>, AllocError>
+fn told(alloc: Global, written: Written, number: u16, place: Place) -> Result<Vec<u8>, AllocError>
     ensures { IfOk result (λ lines. AreTold written number place lines.items) }
 {
     let names = Scoped::of(alloc, written)?;

@@ -1,0 +1,4 @@
+pub mod Spots
+pub mod Known
+pub mod Meanings
+pub mod Nearest
