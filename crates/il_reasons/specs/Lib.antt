@@ -5,5 +5,6 @@ pub mod NamesKnown
 pub mod NamesUnknown
 pub mod NamesLabels
 pub mod NamesStores
+pub mod NamesTasks
 pub mod NameReasons
 pub mod Reasons

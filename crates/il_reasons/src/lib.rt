@@ -13,6 +13,7 @@ mod names_meant;
 mod names_near;
 mod names_spots;
 mod names_stores;
+mod names_tasks;
 mod names_unknown;
 
 use il_parse::parse;

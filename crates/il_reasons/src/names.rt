@@ -6,6 +6,7 @@ ghost use Rattle.il_reasons.specs.NameReasons.{AreToldOfNames, name_lines};
 use crate::names_again::put_again_at;
 use crate::names_labels::put_label_at;
 use crate::names_stores::put_stores_at;
+use crate::names_tasks::put_tasks_at;
 use crate::names_unknown::put_unknown_at;
 use il_scope::Scoped;
 use il_spec::tree::Place;
@@ -42,6 +43,7 @@ fn put_told(
         21 => put_unknown_at(alloc, text, names, place),
         33 => put_stores_at(text, names, place),
         34 => put_label_at(alloc, text, names.config(), place),
+        38 => put_tasks_at(alloc, text, names, place),
         _ => Ok(()),
     }
 }
