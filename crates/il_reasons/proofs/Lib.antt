@@ -2,3 +2,4 @@ pub mod Spots
 pub mod Known
 pub mod Meanings
 pub mod Nearest
+pub mod EachTold

@@ -6,5 +6,6 @@ pub mod NamesUnknown
 pub mod NamesLabels
 pub mod NamesStores
 pub mod NamesTasks
+pub mod NamesTold
 pub mod NameReasons
 pub mod Reasons

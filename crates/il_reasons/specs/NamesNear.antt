@@ -1,7 +1,7 @@
 -- Names that are near (own rules).
-use Rattle.std.specs.Prelude.{◌≡◌, ◌≤◌, ℕ, zero, suc, nat_eq, nat_lt, nat_le, Bool, true, ◌&&◌, if◌then◌else◌, List, [], ◌∷◌, ◌++◌, length, Option, Some, None, IsTrue, Contains, codes, decimal}
+use Rattle.std.specs.Prelude.{◌≡◌, ◌≤◌, ℕ, zero, suc, nat_lt, nat_le, Bool, true, ◌&&◌, if◌then◌else◌, List, [], ◌∷◌, ◌++◌, length, Option, Some, None, IsTrue, Contains, codes, decimal}
 use Rattle.std.specs.Str.{chars}
-use Rattle.strsim.specs.Edits.{levenshtein_row}
+use Rattle.strsim.specs.Edits.{osa_table}
 use Rattle.il_spec.specs.declared.tree.Named.{Named}
 use Rattle.il_rules.specs.Names.{Spelling}
 use Rattle.il_reasons.specs.declared.names_near.Candidate.{Candidate}
@@ -33,9 +33,9 @@ candidate_shown c = record { name = c.name.now; line = c.line }
 abbrev pub near_shown : Near → Nearest
 near_shown n = record { known = candidate_shown n.candidate; distance = n.distance }
 
--- how many edits lead from a name to another: insertions, deletions and replacements of a character
+-- how many edits lead from a name to another: insertions, deletions and replacements of a character, and exchanges of two neighbours
 unfoldable pub distance : Spelling → Spelling → ℕ
-distance from to = levenshtein_row nat_eq (chars from) (chars to) (length (chars to))
+distance from to = (osa_table (chars from) (chars to)).last_row (length (chars to))
 
 -- whether a name is short enough to be compared
 abbrev pub is_short : Spelling → Bool

@@ -6,7 +6,7 @@ ghost use Rattle.il_reasons.specs.NamesNear.{declared_name, candidate_shown, nea
 
 use crate::names_spots::Spot;
 use std::alloc::{AllocError, Global};
-use strsim::levenshtein;
+use strsim::osa_distance;
 
 // The most edits that lead to a near name.
 const MOST_EDITS: usize = 2;
@@ -70,7 +70,7 @@ fn nearer<'c>(
 fn distance(alloc: Global, from: &str, to: &str) -> Result<usize, AllocError>
     ensures { IfOk result (λ d. d ≡ distance from.now to.now) }
 {
-    levenshtein(alloc, from, to)
+    osa_distance(alloc, from, to)
 }
 
 // Whether a name is short enough to be compared.
