@@ -1,2 +1,11 @@
+pub mod NameSpots
+pub mod NamesAgain
+pub mod NamesNear
+pub mod NamesKnown
+pub mod NamesUnknown
+pub mod NamesLabels
+pub mod NamesStores
+pub mod NamesTasks
+pub mod NamesTold
 pub mod NameReasons
 pub mod Reasons

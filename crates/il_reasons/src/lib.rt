@@ -6,6 +6,15 @@ ghost use Rattle.il_spec.specs.Grammar.{Spells};
 ghost use Rattle.il_reasons.specs.Reasons.{IsReason, AreTold};
 
 mod names;
+mod names_again;
+mod names_known;
+mod names_labels;
+mod names_meant;
+mod names_near;
+mod names_spots;
+mod names_stores;
+mod names_tasks;
+mod names_unknown;
 
 use il_parse::parse;
 use il_rules::Written;

@@ -1,0 +1,5 @@
+pub mod Spots
+pub mod Known
+pub mod Meanings
+pub mod Nearest
+pub mod EachTold

@@ -1,0 +1,398 @@
+// What is told of a global that two tasks write (38).
+
+ghost use Rattle.std.specs.Prelude.{◌≡◌, ◌++◌, Some, IfOk, OnOk, flat_map, map, option_and_then, slice_get, string_bytes};
+ghost use Rattle.std.specs.List.{list_any};
+ghost use Rattle.il_rules.specs.Names.{is_one_of, program_named};
+ghost use Rattle.il_rules.specs.Types.{stored_names, named_variable, argument_targets};
+ghost use Rattle.il_reasons.specs.NamesTasks.{writer_shown, is_external_origin, is_external, store_line, first_store, writer_at, writer_of, writers, is_other, are_two, store_of_task, writers_text, stored_text, target_text, argument_text, instruction_text, step_text, unit_text, task_lines};
+
+use crate::names_spots::is_at;
+use crate::names_stores::origin_named;
+use il_rules::names::Origin;
+use il_scope::{Scoped, UnitScope};
+use il_spec::tree::{Argument, Instruction, Place, ProgramLine, Reference, Step};
+use std::alloc::{AllocError, Global};
+
+/// A task whose program stores into a global, and the line of the first of its stores.
+#[derive(Clone, Copy)]
+pub struct Writer<'c> {
+    pub task: &'c str,
+    pub line: u32,
+}
+
+/// Adds what is told of the globals that are stored into at a place: the tasks that store into each, if there are two (own rule).
+#[tactic(auto, unfolding(crate::specs::NamesTasks::task_lines))]
+pub fn put_tasks_at(
+    alloc: Global,
+    text: &mut String,
+    names: &Scoped,
+    place: Place,
+) -> Result<(), AllocError>
+    ensures { OnOk result (string_bytes text.new ≡ string_bytes text.old
+        ++ task_lines names.now place) }
+{
+    put_units(alloc, text, names, place)
+}
+
+fn put_units(
+    alloc: Global,
+    text: &mut String,
+    names: &Scoped,
+    place: Place,
+) -> Result<(), AllocError>
+    ensures { OnOk result (string_bytes text.new ≡ string_bytes text.old
+        ++ flat_map (unit_text names.now place) names.now.units) }
+{
+    let units = names.config().units.as_slice();
+    'units: for at in 0..units.len() {
+        let here = UnitScope::of(names, at, &units[at]);
+        put_unit(alloc, text, &here, place)?;
+    }
+    Ok(())
+}
+
+fn put_unit(
+    alloc: Global,
+    text: &mut String,
+    here: &UnitScope<'_>,
+    place: Place,
+) -> Result<(), AllocError>
+    ensures { OnOk result (string_bytes text.new ≡ string_bytes text.old
+        ++ unit_text here.now.config place here.now.unit) }
+{
+    let unit = here.tree();
+    put_steps(alloc, text, here, unit.body.steps.as_slice(), place)
+}
+
+fn put_steps(
+    alloc: Global,
+    text: &mut String,
+    here: &UnitScope<'_>,
+    steps: &[Step],
+    place: Place,
+) -> Result<(), AllocError>
+    ensures { OnOk result (string_bytes text.new ≡ string_bytes text.old
+        ++ flat_map (step_text here.now.config here.now.unit place) steps.now) }
+{
+    'steps: for step in steps {
+        put_step(alloc, text, here, step, place)?;
+    }
+    Ok(())
+}
+
+// The instruction at a place.
+fn put_step(
+    alloc: Global,
+    text: &mut String,
+    here: &UnitScope<'_>,
+    step: &Step,
+    place: Place,
+) -> Result<(), AllocError>
+    ensures { OnOk result (string_bytes text.new ≡ string_bytes text.old
+        ++ step_text here.now.config here.now.unit place step.now) }
+{
+    if is_at(step.place, place) {
+        put_instruction(alloc, text, here, &step.instruction)
+    } else {
+        Ok(())
+    }
+}
+
+// The targets of an instruction.
+fn put_instruction(
+    alloc: Global,
+    text: &mut String,
+    here: &UnitScope<'_>,
+    instruction: &Instruction,
+) -> Result<(), AllocError>
+    ensures { OnOk result (string_bytes text.new ≡ string_bytes text.old
+        ++ instruction_text here.now.config here.now.unit instruction.now) }
+{
+    match instruction {
+        Instruction::Store { target, .. } => put_target(alloc, text, here, &target.reference),
+        Instruction::Call { arguments, .. } => {
+            put_arguments(alloc, text, here, arguments.as_slice())
+        }
+        _ => Ok(()),
+    }
+}
+
+fn put_arguments(
+    alloc: Global,
+    text: &mut String,
+    here: &UnitScope<'_>,
+    arguments: &[Argument],
+) -> Result<(), AllocError>
+    ensures { OnOk result (string_bytes text.new ≡ string_bytes text.old
+        ++ flat_map (argument_text here.now.config here.now.unit) arguments.now) }
+{
+    'arguments: for argument in arguments {
+        put_argument(alloc, text, here, argument)?;
+    }
+    Ok(())
+}
+
+// The target of an output.
+fn put_argument(
+    alloc: Global,
+    text: &mut String,
+    here: &UnitScope<'_>,
+    argument: &Argument,
+) -> Result<(), AllocError>
+    ensures { OnOk result (string_bytes text.new ≡ string_bytes text.old
+        ++ argument_text here.now.config here.now.unit argument.now) }
+{
+    match argument {
+        Argument::Output { target, .. } => put_stored(alloc, text, here, target.name.as_str()),
+        Argument::Input { .. } => Ok(()),
+    }
+}
+
+// The target of a store.
+fn put_target(
+    alloc: Global,
+    text: &mut String,
+    here: &UnitScope<'_>,
+    target: &Reference,
+) -> Result<(), AllocError>
+    ensures { OnOk result (string_bytes text.new ≡ string_bytes text.old
+        ++ target_text here.now.config here.now.unit target.now) }
+{
+    match target {
+        Reference::Variable(name) => put_stored(alloc, text, here, name.as_str()),
+        Reference::Element(name, _) => put_stored(alloc, text, here, name.as_str()),
+        _ => Ok(()),
+    }
+}
+
+// A name that is stored into, if it is a global.
+fn put_stored(
+    alloc: Global,
+    text: &mut String,
+    here: &UnitScope<'_>,
+    name: &str,
+) -> Result<(), AllocError>
+    ensures { OnOk result (string_bytes text.new ≡ string_bytes text.old
+        ++ stored_text here.now.config here.now.unit name.now) }
+{
+    if !is_external(here, name) {
+        return Ok(());
+    }
+    let writers = writers(alloc, here.names(), name)?;
+    put_writers(text, name, writers.as_slice())
+}
+
+// The tasks that store into a global, if there are two.
+fn put_writers(text: &mut String, name: &str, writers: &[Writer<'_>]) -> Result<(), AllocError>
+    ensures { OnOk result (string_bytes text.new ≡ string_bytes text.old
+        ++ writers_text name.now (map writer_shown writers.now)) }
+{
+    if are_two(writers) {
+        put_each_writer(text, name, writers)
+    } else {
+        Ok(())
+    }
+}
+
+fn put_each_writer(text: &mut String, name: &str, writers: &[Writer<'_>]) -> Result<(), AllocError>
+    ensures { OnOk result (string_bytes text.new ≡ string_bytes text.old
+        ++ flat_map (store_of_task name.now) (map writer_shown writers.now)) }
+{
+    'writers: for writer in writers {
+        put_writer(text, name, *writer)?;
+    }
+    Ok(())
+}
+
+#[tactic(auto, unfolding(crate::specs::NamesTasks::store_of_task))]
+fn put_writer(text: &mut String, name: &str, writer: Writer<'_>) -> Result<(), AllocError>
+    ensures { OnOk result (string_bytes text.new ≡ string_bytes text.old
+        ++ store_of_task name.now (writer_shown writer.entry)) }
+{
+    write!(text, "{} is stored by task {}", name, writer.task)?;
+    writeln!(text, " in line {}", writer.line)
+}
+
+// Whether two of them are different tasks.
+fn are_two(writers: &[Writer<'_>]) -> bool
+    ensures { result ≡ are_two (map writer_shown writers.now) }
+{
+    match writers.split_first() {
+        Some((first, others)) => has_other(first.task, others),
+        None => false,
+    }
+}
+
+// Whether one of them is another task.
+fn has_other(task: &str, writers: &[Writer<'_>]) -> bool
+    ensures { result ≡ list_any (is_other task.now) (map writer_shown writers.now) }
+{
+    'writers: for writer in writers {
+        if writer.task != task {
+            return true;
+        }
+    }
+    false
+}
+
+// The tasks whose programs store into a global, in the order of the PROGRAM lines.
+fn writers<'c>(alloc: Global, names: &'c Scoped, name: &str) -> Result<Vec<Writer<'c>>, AllocError>
+    ensures { IfOk result (λ w. map writer_shown w.items ≡ writers names.now name.now) }
+{
+    let mut writers = Vec::new(alloc);
+    push_lines(
+        &mut writers,
+        names,
+        name,
+        names.config().programs.as_slice(),
+    )?;
+    Ok(writers)
+}
+
+fn push_lines<'c>(
+    writers: &mut Vec<Writer<'c>>,
+    names: &'c Scoped,
+    name: &str,
+    lines: &'c [ProgramLine],
+) -> Result<(), AllocError>
+    ensures { OnOk result (map writer_shown writers.new.items ≡ map writer_shown writers.old.items
+        ++ flat_map (writer_of names.now name.now) lines.now) }
+{
+    'lines: for line in lines {
+        push_line(writers, names, name, line)?;
+    }
+    Ok(())
+}
+
+// The task of a PROGRAM line, if its program stores into a global.
+fn push_line<'c>(
+    writers: &mut Vec<Writer<'c>>,
+    names: &'c Scoped,
+    name: &str,
+    line: &'c ProgramLine,
+) -> Result<(), AllocError>
+    ensures { OnOk result (map writer_shown writers.new.items ≡ map writer_shown writers.old.items
+        ++ writer_of names.now name.now line.now) }
+{
+    match store_of_program(names, name, line.program.name.as_str()) {
+        Some(at) => push_writer(writers, line.task.name.as_str(), at),
+        None => Ok(()),
+    }
+}
+
+fn push_writer<'c>(
+    writers: &mut Vec<Writer<'c>>,
+    task: &'c str,
+    line: u32,
+) -> Result<(), AllocError>
+    ensures { OnOk result (map writer_shown writers.new.items ≡ map writer_shown writers.old.items
+        ++ writer_at task.now (Some line)) }
+{
+    writers.push(Writer { task, line })?;
+    Ok(())
+}
+
+// The line of the first store of the program of a name into a global.
+#[tactic(auto, using(il_scope::proofs::Laws::program_found))]
+fn store_of_program(names: &Scoped, name: &str, program: &str) -> Option<u32>
+    ensures { result ≡ option_and_then (first_store names.now name.now)
+        (program_named names.now program.now) }
+{
+    match names.program(program) {
+        Some(at) => store_of_unit(names, name, at),
+        None => None,
+    }
+}
+
+// The line of the first store of the unit of a number into a global.
+fn store_of_unit(names: &Scoped, name: &str, at: usize) -> Option<u32>
+    ensures { result ≡ option_and_then (first_store names.now name.now)
+        (slice_get names.now.units at) }
+{
+    match names.config().units.as_slice().get(at) {
+        Some(unit) => {
+            let here = UnitScope::of(names, at, unit);
+            first_store(&here, name)
+        }
+        None => None,
+    }
+}
+
+// The line of the first store of a unit into a global.
+fn first_store(here: &UnitScope<'_>, name: &str) -> Option<u32>
+    ensures { result ≡ first_store here.now.config name.now here.now.unit }
+{
+    if is_external(here, name) {
+        store_line(here.tree().body.steps.as_slice(), name)
+    } else {
+        None
+    }
+}
+
+// Whether a name means an external in a unit.
+fn is_external(here: &UnitScope<'_>, name: &str) -> bool
+    ensures { result ≡ is_external here.now.config here.now.unit name.now }
+{
+    is_external_origin(origin_named(here, name))
+}
+
+fn is_external_origin(origin: Option<Origin>) -> bool
+    ensures { result ≡ is_external_origin origin }
+{
+    matches!(origin, Some(Origin::External))
+}
+
+// The line of the first step that stores into a variable.
+fn store_line(steps: &[Step], name: &str) -> Option<u32>
+    ensures { result ≡ store_line name.now steps.now }
+{
+    'steps: for step in steps {
+        if stores(&step.instruction, name) {
+            return Some(step.place.line);
+        }
+    }
+    None
+}
+
+// Whether an instruction stores into a variable.
+fn stores(instruction: &Instruction, name: &str) -> bool
+    ensures { result ≡ is_one_of (stored_names instruction.now) name.now }
+{
+    match instruction {
+        Instruction::Store { target, .. } => is_target(&target.reference, name),
+        Instruction::Call { arguments, .. } => is_output(arguments.as_slice(), name),
+        _ => false,
+    }
+}
+
+// Whether the target of a store is a variable.
+fn is_target(target: &Reference, name: &str) -> bool
+    ensures { result ≡ is_one_of (named_variable target.now) name.now }
+{
+    match target {
+        Reference::Variable(target) => target.as_str() == name,
+        Reference::Element(target, _) => target.as_str() == name,
+        _ => false,
+    }
+}
+
+// Whether the target of one of the outputs is a variable.
+fn is_output(arguments: &[Argument], name: &str) -> bool
+    ensures { result ≡ is_one_of (flat_map argument_targets arguments.now) name.now }
+{
+    'arguments: for argument in arguments {
+        if is_target_of(argument, name) {
+            return true;
+        }
+    }
+    false
+}
+
+fn is_target_of(argument: &Argument, name: &str) -> bool
+    ensures { result ≡ is_one_of (argument_targets argument.now) name.now }
+{
+    match argument {
+        Argument::Output { target, .. } => target.name.as_str() == name,
+        Argument::Input { .. } => false,
+    }
+}

@@ -1,0 +1,652 @@
+// What is told of a name that is unknown where it stands (21).
+
+ghost use Rattle.std.specs.Prelude.{◌≡◌, ◌++◌, OnOk, flat_map, is_some, map, option_map, string_bytes};
+ghost use Rattle.il_rules.specs.Names.{block_variables, function_named};
+ghost use Rattle.il_reasons.specs.NamesNear.{near_shown, candidate_shown, nearest};
+ghost use Rattle.il_reasons.specs.NamesKnown.{functions_near};
+ghost use Rattle.il_reasons.specs.NamesUnknown.{unknown_line, no_function_line, instance_line, unit_line, standard_line, no_instance_line, no_word, no_word_line, unknown_text, unknown_variable, scalar_text, meaning_text, index_text, word_text, member_text, reference_text, read_text, short_form_text, argument_text, function_text, instruction_text, step_text, block_text, form_text, type_text, global_text, external_text, externals_text, types_text, unit_text, unknown_lines};
+
+use crate::names_known::{blocks_near, functions_near, globals_near, variables_near};
+use crate::names_meant::{Access, Meant, is_visible, meaning_of};
+use crate::names_near::{Candidate, Near, nearest, put_ending};
+use crate::names_spots::is_at;
+use il_scope::functions::standard_function;
+use il_scope::{Scoped, UnitScope};
+use il_spec::tree::{
+    Argument, Declaration, Form, Index, Instruction, Named, Operand, Place, Reference, Step,
+};
+use std::alloc::{AllocError, Global};
+
+/// Adds what is told of the names that are unknown at a place: each of an instruction's, an external's, or a type's, with one that is
+/// near (own rule).
+#[tactic(auto, unfolding(crate::specs::NamesUnknown::unknown_lines))]
+pub fn put_unknown_at(
+    alloc: Global,
+    text: &mut String,
+    names: &Scoped,
+    place: Place,
+) -> Result<(), AllocError>
+    ensures { OnOk result (string_bytes text.new ≡ string_bytes text.old
+        ++ unknown_lines names.now place) }
+{
+    put_units(alloc, text, names, place)?;
+    put_types(alloc, text, names, names.config().globals.as_slice(), place)
+}
+
+fn put_units(
+    alloc: Global,
+    text: &mut String,
+    names: &Scoped,
+    place: Place,
+) -> Result<(), AllocError>
+    ensures { OnOk result (string_bytes text.new ≡ string_bytes text.old
+        ++ flat_map (unit_text names.now place) names.now.units) }
+{
+    let units = names.config().units.as_slice();
+    'units: for at in 0..units.len() {
+        let here = UnitScope::of(names, at, &units[at]);
+        put_unit(alloc, text, &here, place)?;
+    }
+    Ok(())
+}
+
+// The types, the external names and the names in instructions of a unit.
+fn put_unit(
+    alloc: Global,
+    text: &mut String,
+    here: &UnitScope<'_>,
+    place: Place,
+) -> Result<(), AllocError>
+    ensures { OnOk result (string_bytes text.new ≡ string_bytes text.old
+        ++ unit_text here.now.config place here.now.unit) }
+{
+    let names = here.names();
+    let unit = here.tree();
+    put_types(alloc, text, names, unit.inputs.as_slice(), place)?;
+    put_types(alloc, text, names, unit.outputs.as_slice(), place)?;
+    put_types(alloc, text, names, unit.variables.as_slice(), place)?;
+    put_types(alloc, text, names, unit.externals.as_slice(), place)?;
+    put_externals(alloc, text, names, unit.externals.as_slice(), place)?;
+    put_steps(alloc, text, here, unit.body.steps.as_slice(), place)
+}
+
+// The types of declarations.
+fn put_types(
+    alloc: Global,
+    text: &mut String,
+    names: &Scoped,
+    declarations: &[Declaration],
+    place: Place,
+) -> Result<(), AllocError>
+    ensures { OnOk result (string_bytes text.new ≡ string_bytes text.old
+        ++ types_text names.now place declarations.now) }
+{
+    'declarations: for declaration in declarations {
+        put_type(alloc, text, names, declaration, place)?;
+    }
+    Ok(())
+}
+
+// The type at a place.
+fn put_type(
+    alloc: Global,
+    text: &mut String,
+    names: &Scoped,
+    declaration: &Declaration,
+    place: Place,
+) -> Result<(), AllocError>
+    ensures { OnOk result (string_bytes text.new ≡ string_bytes text.old
+        ++ type_text names.now place declaration.now) }
+{
+    if is_at(declaration.declared.place, place) {
+        put_form(alloc, text, names, &declaration.declared.form)
+    } else {
+        Ok(())
+    }
+}
+
+// A type's name that is no block's.
+fn put_form(alloc: Global, text: &mut String, names: &Scoped, form: &Form) -> Result<(), AllocError>
+    ensures { OnOk result (string_bytes text.new ≡ string_bytes text.old
+        ++ form_text names.now form.now) }
+{
+    match form {
+        Form::Block(name) => put_block(alloc, text, names, name.as_str()),
+        _ => Ok(()),
+    }
+}
+
+// A name that no block has.
+fn put_block(alloc: Global, text: &mut String, names: &Scoped, name: &str) -> Result<(), AllocError>
+    ensures { OnOk result (string_bytes text.new ≡ string_bytes text.old
+        ++ block_text names.now name.now) }
+{
+    if is_block(names, name) {
+        return Ok(());
+    }
+    let known = blocks_near(alloc, names.config())?;
+    put_unknown(alloc, text, name, known.as_slice())
+}
+
+// Whether a name is a block's.
+#[tactic(auto, using(il_scope::proofs::Laws::block_there))]
+fn is_block(names: &Scoped, name: &str) -> bool
+    ensures { result ≡ is_some (block_variables names.now name.now) }
+{
+    names.block(name).is_some()
+}
+
+// The external names of declarations.
+fn put_externals(
+    alloc: Global,
+    text: &mut String,
+    names: &Scoped,
+    externals: &[Declaration],
+    place: Place,
+) -> Result<(), AllocError>
+    ensures { OnOk result (string_bytes text.new ≡ string_bytes text.old
+        ++ flat_map (externals_text names.now place) externals.now) }
+{
+    'externals: for external in externals {
+        put_names(alloc, text, names, external.names.as_slice(), place)?;
+    }
+    Ok(())
+}
+
+// The external names of a declaration.
+fn put_names(
+    alloc: Global,
+    text: &mut String,
+    names: &Scoped,
+    named: &[Named],
+    place: Place,
+) -> Result<(), AllocError>
+    ensures { OnOk result (string_bytes text.new ≡ string_bytes text.old
+        ++ flat_map (external_text names.now place) named.now) }
+{
+    'named: for name in named {
+        put_external(alloc, text, names, name, place)?;
+    }
+    Ok(())
+}
+
+// The external name at a place.
+fn put_external(
+    alloc: Global,
+    text: &mut String,
+    names: &Scoped,
+    name: &Named,
+    place: Place,
+) -> Result<(), AllocError>
+    ensures { OnOk result (string_bytes text.new ≡ string_bytes text.old
+        ++ external_text names.now place name.now) }
+{
+    if is_at(name.place, place) {
+        put_global(alloc, text, names, name.name.as_str())
+    } else {
+        Ok(())
+    }
+}
+
+// An external name that no global has.
+#[tactic(auto, using(crate::proofs::Meanings::some_changed))]
+fn put_global(
+    alloc: Global,
+    text: &mut String,
+    names: &Scoped,
+    name: &str,
+) -> Result<(), AllocError>
+    ensures { OnOk result (string_bytes text.new ≡ string_bytes text.old
+        ++ global_text names.now name.now) }
+{
+    if names.global(name).is_some() {
+        return Ok(());
+    }
+    let known = globals_near(alloc, names.config())?;
+    put_unknown(alloc, text, name, known.as_slice())
+}
+
+// The instructions of a unit.
+fn put_steps(
+    alloc: Global,
+    text: &mut String,
+    here: &UnitScope<'_>,
+    steps: &[Step],
+    place: Place,
+) -> Result<(), AllocError>
+    ensures { OnOk result (string_bytes text.new ≡ string_bytes text.old
+        ++ flat_map (step_text here.now.config here.now.unit place) steps.now) }
+{
+    'steps: for step in steps {
+        put_step(alloc, text, here, step, place)?;
+    }
+    Ok(())
+}
+
+// The instruction at a place.
+fn put_step(
+    alloc: Global,
+    text: &mut String,
+    here: &UnitScope<'_>,
+    step: &Step,
+    place: Place,
+) -> Result<(), AllocError>
+    ensures { OnOk result (string_bytes text.new ≡ string_bytes text.old
+        ++ step_text here.now.config here.now.unit place step.now) }
+{
+    if is_at(step.place, place) {
+        put_instruction(alloc, text, here, &step.instruction)
+    } else {
+        Ok(())
+    }
+}
+
+// The names of an instruction; labels are no such names.
+fn put_instruction(
+    alloc: Global,
+    text: &mut String,
+    here: &UnitScope<'_>,
+    instruction: &Instruction,
+) -> Result<(), AllocError>
+    ensures { OnOk result (string_bytes text.new ≡ string_bytes text.old
+        ++ instruction_text here.now.config here.now.unit instruction.now) }
+{
+    match instruction {
+        Instruction::Load { operand, .. } => put_read(alloc, text, here, operand),
+        Instruction::Store { target, .. } => {
+            put_reference(alloc, text, here, Access::Stores, &target.reference)
+        }
+        Instruction::Operate { operand, .. } => put_read(alloc, text, here, operand),
+        Instruction::Defer { first, .. } => put_short_form(alloc, text, here, first),
+        Instruction::Call {
+            instance,
+            arguments,
+            ..
+        } => put_call(alloc, text, here, instance, arguments.as_slice()),
+        Instruction::Invoke { function, operands } => {
+            put_invoke(alloc, text, here, function, operands.as_slice())
+        }
+        _ => Ok(()),
+    }
+}
+
+// The operand of a short form, if there is one.
+fn put_short_form(
+    alloc: Global,
+    text: &mut String,
+    here: &UnitScope<'_>,
+    first: &Option<Operand>,
+) -> Result<(), AllocError>
+    ensures { OnOk result (string_bytes text.new ≡ string_bytes text.old
+        ++ short_form_text here.now.config here.now.unit first.now) }
+{
+    match first {
+        Some(operand) => put_read(alloc, text, here, operand),
+        None => Ok(()),
+    }
+}
+
+// The names of a CAL.
+fn put_call(
+    alloc: Global,
+    text: &mut String,
+    here: &UnitScope<'_>,
+    instance: &Named,
+    arguments: &[Argument],
+) -> Result<(), AllocError>
+    ensures { OnOk result (string_bytes text.new ≡ string_bytes text.old
+        ++ (meaning_text here.now.config here.now.unit instance.now.name
+        ++ flat_map (argument_text here.now.config here.now.unit) arguments.now)) }
+{
+    put_meaning(alloc, text, here, instance.name.as_str())?;
+    put_arguments(alloc, text, here, arguments)
+}
+
+fn put_arguments(
+    alloc: Global,
+    text: &mut String,
+    here: &UnitScope<'_>,
+    arguments: &[Argument],
+) -> Result<(), AllocError>
+    ensures { OnOk result (string_bytes text.new ≡ string_bytes text.old
+        ++ flat_map (argument_text here.now.config here.now.unit) arguments.now) }
+{
+    'arguments: for argument in arguments {
+        put_argument(alloc, text, here, argument)?;
+    }
+    Ok(())
+}
+
+fn put_argument(
+    alloc: Global,
+    text: &mut String,
+    here: &UnitScope<'_>,
+    argument: &Argument,
+) -> Result<(), AllocError>
+    ensures { OnOk result (string_bytes text.new ≡ string_bytes text.old
+        ++ argument_text here.now.config here.now.unit argument.now) }
+{
+    match argument {
+        Argument::Input { operand, .. } => put_read(alloc, text, here, operand),
+        Argument::Output { target, .. } => put_scalar(alloc, text, here, target.name.as_str()),
+    }
+}
+
+// The names of a function's call.
+fn put_invoke(
+    alloc: Global,
+    text: &mut String,
+    here: &UnitScope<'_>,
+    function: &Named,
+    operands: &[Operand],
+) -> Result<(), AllocError>
+    ensures { OnOk result (string_bytes text.new ≡ string_bytes text.old
+        ++ (function_text here.now.config function.now.name
+        ++ flat_map (read_text here.now.config here.now.unit) operands.now)) }
+{
+    put_function(alloc, text, here.names(), function.name.as_str())?;
+    put_operands(alloc, text, here, operands)
+}
+
+fn put_operands(
+    alloc: Global,
+    text: &mut String,
+    here: &UnitScope<'_>,
+    operands: &[Operand],
+) -> Result<(), AllocError>
+    ensures { OnOk result (string_bytes text.new ≡ string_bytes text.old
+        ++ flat_map (read_text here.now.config here.now.unit) operands.now) }
+{
+    'operands: for operand in operands {
+        put_read(alloc, text, here, operand)?;
+    }
+    Ok(())
+}
+
+// A function's name.
+#[tactic(auto, unfolding(crate::specs::NamesUnknown::function_text))]
+fn put_function(
+    alloc: Global,
+    text: &mut String,
+    names: &Scoped,
+    name: &str,
+) -> Result<(), AllocError>
+    ensures { OnOk result (string_bytes text.new ≡ string_bytes text.old
+        ++ function_text names.now name.now) }
+{
+    if standard_function(name).is_some() {
+        return Ok(());
+    }
+    if is_function(names, name) {
+        return Ok(());
+    }
+    put_no_function(alloc, text, names, name)
+}
+
+// Whether a name is an own function's.
+#[tactic(auto, using(il_scope::proofs::Laws::function_there))]
+fn is_function(names: &Scoped, name: &str) -> bool
+    ensures { result ≡ is_some (function_named names.now name.now) }
+{
+    names.function(name).is_some()
+}
+
+// A name that no function has.
+fn put_no_function(
+    alloc: Global,
+    text: &mut String,
+    names: &Scoped,
+    name: &str,
+) -> Result<(), AllocError>
+    ensures { OnOk result (string_bytes text.new ≡ string_bytes text.old
+        ++ no_function_line name.now (nearest name.now (functions_near names.now))) }
+{
+    let known = functions_near(alloc, names.config())?;
+    let near = nearest(alloc, name, known.as_slice())?;
+    put_no_function_line(text, name, near)
+}
+
+// What is read of an operand.
+fn put_read(
+    alloc: Global,
+    text: &mut String,
+    here: &UnitScope<'_>,
+    operand: &Operand,
+) -> Result<(), AllocError>
+    ensures { OnOk result (string_bytes text.new ≡ string_bytes text.old
+        ++ read_text here.now.config here.now.unit operand.now) }
+{
+    put_reference(alloc, text, here, Access::Reads, &operand.reference)
+}
+
+// What an operand names.
+fn put_reference(
+    alloc: Global,
+    text: &mut String,
+    here: &UnitScope<'_>,
+    access: Access,
+    reference: &Reference,
+) -> Result<(), AllocError>
+    ensures { OnOk result (string_bytes text.new ≡ string_bytes text.old
+        ++ reference_text here.now.config here.now.unit access reference.now) }
+{
+    match reference {
+        Reference::Literal(_) => Ok(()),
+        Reference::Variable(name) => put_scalar(alloc, text, here, name.as_str()),
+        Reference::Element(name, index) => put_element(alloc, text, here, name.as_str(), index),
+        Reference::Member(name, word) => {
+            put_member(alloc, text, here, access, name.as_str(), word.as_str())
+        }
+    }
+}
+
+fn put_element(
+    alloc: Global,
+    text: &mut String,
+    here: &UnitScope<'_>,
+    name: &str,
+    index: &Index,
+) -> Result<(), AllocError>
+    ensures { OnOk result (string_bytes text.new ≡ string_bytes text.old
+        ++ (meaning_text here.now.config here.now.unit name.now
+        ++ index_text here.now.config here.now.unit index.now)) }
+{
+    put_meaning(alloc, text, here, name)?;
+    put_index(alloc, text, here, index)
+}
+
+fn put_index(
+    alloc: Global,
+    text: &mut String,
+    here: &UnitScope<'_>,
+    index: &Index,
+) -> Result<(), AllocError>
+    ensures { OnOk result (string_bytes text.new ≡ string_bytes text.old
+        ++ index_text here.now.config here.now.unit index.now) }
+{
+    match index {
+        Index::Number(_) => Ok(()),
+        Index::Variable(name) => put_scalar(alloc, text, here, name.as_str()),
+    }
+}
+
+// A name where a scalar variable stands.
+fn put_scalar(
+    alloc: Global,
+    text: &mut String,
+    here: &UnitScope<'_>,
+    name: &str,
+) -> Result<(), AllocError>
+    ensures { OnOk result (string_bytes text.new ≡ string_bytes text.old
+        ++ scalar_text here.now.config here.now.unit name.now) }
+{
+    match meaning_of(here, name) {
+        Meant::Nothing => put_unknown_variable(alloc, text, here, name),
+        Meant::SingleVariable | Meant::ArrayVariable => Ok(()),
+        Meant::Instance => put_instance_line(text, name),
+        Meant::OwnUnit => put_unit_line(text, name),
+        Meant::Standard => put_standard_line(text, name),
+    }
+}
+
+// A name before an index or behind CAL.
+fn put_meaning(
+    alloc: Global,
+    text: &mut String,
+    here: &UnitScope<'_>,
+    name: &str,
+) -> Result<(), AllocError>
+    ensures { OnOk result (string_bytes text.new ≡ string_bytes text.old
+        ++ meaning_text here.now.config here.now.unit name.now) }
+{
+    match meaning_of(here, name) {
+        Meant::Nothing => put_unknown_variable(alloc, text, here, name),
+        _ => Ok(()),
+    }
+}
+
+// A name before a dot, and the word behind it.
+fn put_member(
+    alloc: Global,
+    text: &mut String,
+    here: &UnitScope<'_>,
+    access: Access,
+    name: &str,
+    word: &str,
+) -> Result<(), AllocError>
+    ensures { OnOk result (string_bytes text.new ≡ string_bytes text.old
+        ++ member_text here.now.config here.now.unit access name.now word.now) }
+{
+    match meaning_of(here, name) {
+        Meant::Nothing => put_unknown_variable(alloc, text, here, name),
+        Meant::Instance => put_word(text, here, access, name, word),
+        _ => put_no_instance_line(text, name),
+    }
+}
+
+// A word behind an instance.
+fn put_word(
+    text: &mut String,
+    here: &UnitScope<'_>,
+    access: Access,
+    name: &str,
+    word: &str,
+) -> Result<(), AllocError>
+    ensures { OnOk result (string_bytes text.new ≡ string_bytes text.old
+        ++ word_text here.now.config here.now.unit access name.now word.now) }
+{
+    if is_visible(here, access, name, word) {
+        Ok(())
+    } else {
+        put_no_word_line(text, access, name, word)
+    }
+}
+
+// A name that means nothing, of a variable.
+fn put_unknown_variable(
+    alloc: Global,
+    text: &mut String,
+    here: &UnitScope<'_>,
+    name: &str,
+) -> Result<(), AllocError>
+    ensures { OnOk result (string_bytes text.new ≡ string_bytes text.old
+        ++ unknown_variable here.now.config here.now.unit name.now) }
+{
+    let known = variables_near(alloc, here)?;
+    put_unknown(alloc, text, name, known.as_slice())
+}
+
+// A name among those that could have been meant.
+fn put_unknown(
+    alloc: Global,
+    text: &mut String,
+    name: &str,
+    known: &[Candidate<'_>],
+) -> Result<(), AllocError>
+    ensures { OnOk result (string_bytes text.new ≡ string_bytes text.old
+        ++ unknown_text name.now (map candidate_shown known.now)) }
+{
+    let near = nearest(alloc, name, known)?;
+    put_unknown_line(text, name, near)
+}
+
+#[tactic(auto, unfolding(crate::specs::NamesUnknown::unknown_line))]
+fn put_unknown_line(text: &mut String, name: &str, near: Option<Near<'_>>) -> Result<(), AllocError>
+    ensures { OnOk result (string_bytes text.new ≡ string_bytes text.old
+        ++ unknown_line name.now (option_map near_shown near.entry)) }
+{
+    write!(text, "{} is unknown here", name)?;
+    put_ending(text, near)
+}
+
+#[tactic(auto, unfolding(crate::specs::NamesUnknown::no_function_line))]
+fn put_no_function_line(
+    text: &mut String,
+    name: &str,
+    near: Option<Near<'_>>,
+) -> Result<(), AllocError>
+    ensures { OnOk result (string_bytes text.new ≡ string_bytes text.old
+        ++ no_function_line name.now (option_map near_shown near.entry)) }
+{
+    write!(text, "{} is no function", name)?;
+    put_ending(text, near)
+}
+
+#[tactic(auto, unfolding(crate::specs::NamesUnknown::instance_line))]
+fn put_instance_line(text: &mut String, name: &str) -> Result<(), AllocError>
+    ensures { OnOk result (string_bytes text.new ≡ string_bytes text.old
+        ++ instance_line name.now) }
+{
+    writeln!(text, "{} is an instance, no scalar variable", name)
+}
+
+#[tactic(auto, unfolding(crate::specs::NamesUnknown::unit_line))]
+fn put_unit_line(text: &mut String, name: &str) -> Result<(), AllocError>
+    ensures { OnOk result (string_bytes text.new ≡ string_bytes text.old ++ unit_line name.now) }
+{
+    writeln!(text, "{} is a unit, no variable", name)
+}
+
+#[tactic(auto, unfolding(crate::specs::NamesUnknown::standard_line))]
+fn put_standard_line(text: &mut String, name: &str) -> Result<(), AllocError>
+    ensures { OnOk result (string_bytes text.new ≡ string_bytes text.old
+        ++ standard_line name.now) }
+{
+    writeln!(
+        text,
+        "{} is a standard function or block, no variable",
+        name
+    )
+}
+
+#[tactic(auto, unfolding(crate::specs::NamesUnknown::no_instance_line))]
+fn put_no_instance_line(text: &mut String, name: &str) -> Result<(), AllocError>
+    ensures { OnOk result (string_bytes text.new ≡ string_bytes text.old
+        ++ no_instance_line name.now) }
+{
+    writeln!(text, "{} is no instance of a function block", name)
+}
+
+#[tactic(auto, unfolding(crate::specs::NamesUnknown::no_word_line))]
+fn put_no_word_line(
+    text: &mut String,
+    access: Access,
+    name: &str,
+    word: &str,
+) -> Result<(), AllocError>
+    ensures { OnOk result (string_bytes text.new ≡ string_bytes text.old
+        ++ no_word_line access name.now word.now) }
+{
+    text.push_str(name)?;
+    put_no_word(text, access)?;
+    writeln!(text, "{}", word)
+}
+
+fn put_no_word(text: &mut String, access: Access) -> Result<(), AllocError>
+    ensures { OnOk result (string_bytes text.new ≡ string_bytes text.old ++ no_word access) }
+{
+    match access {
+        Access::Reads => text.push_str(" has no output "),
+        Access::Stores => text.push_str(" has no input "),
+    }
+}
