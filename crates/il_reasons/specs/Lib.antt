@@ -1,2 +1,3 @@
 pub mod NameReasons
 pub mod Reasons
+pub mod TypeReasons

@@ -6,6 +6,9 @@ ghost use Rattle.il_spec.specs.Grammar.{Spells};
 ghost use Rattle.il_reasons.specs.Reasons.{IsReason, AreTold};
 
 mod names;
+mod types;
+mod types_operands;
+mod types_wanted;
 
 use il_parse::parse;
 use il_rules::Written;
@@ -16,12 +19,7 @@ use il_text::tokens;
 use std::alloc::{AllocError, Global};
 
 /// What is told of the refusal of a text with a number at a place: lines, each with its line feed, or none (own rule).
-pub fn reason(
-    alloc: Global,
-    text: &[u8],
-    number: u16,
-    place: Place,
-) -> Result<Vec<u8>, AllocError>
+pub fn reason(alloc: Global, text: &[u8], number: u16, place: Place) -> Result<Vec<u8>, AllocError>
     ensures { IfOk result (λ lines. IsReason text.now number place lines.items) }
 {
     match spelled(alloc, text) {
@@ -40,17 +38,13 @@ fn spelled(alloc: Global, text: &[u8]) -> Result<Written, Refusal>
 }
 
 // What is told of a fault of a configuration.
-fn told(
-    alloc: Global,
-    written: Written,
-    number: u16,
-    place: Place,
-) -> Result<Vec<u8>, AllocError>
+fn told(alloc: Global, written: Written, number: u16, place: Place) -> Result<Vec<u8>, AllocError>
     ensures { IfOk result (λ lines. AreTold written number place lines.items) }
 {
     let names = Scoped::of(alloc, written)?;
     match number {
         20 | 21 | 33 | 34 | 38 => names::told(alloc, &names, number, place),
+        30 | 31 | 32 => types::told(alloc, &names, number, place),
         _ => Ok(Vec::new(alloc)),
     }
 }

@@ -1,0 +1,2 @@
+mod TypeTexts
+mod TypeInputs
