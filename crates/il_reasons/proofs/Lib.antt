@@ -1,2 +1,3 @@
 mod TypeTexts
 mod TypeInputs
+mod ArgumentTexts

@@ -1,3 +1,4 @@
 pub mod NameReasons
 pub mod Reasons
 pub mod TypeReasons
+pub mod ArgumentReasons

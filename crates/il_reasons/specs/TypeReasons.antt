@@ -29,6 +29,7 @@ use Rattle.il_rules.specs.declared.names.StandardFunction.{StandardFunction}
 use Rattle.il_rules.specs.declared.names.StandardFunction.TheVariants.{Selected, Converted}
 use Rattle.il_rules.specs.Names.{Spelling, standard_function, function_named, named_forms}
 use Rattle.il_rules.specs.Types.{scalar_type, name_type, reference_type}
+use Rattle.il_reasons.specs.ArgumentReasons.{taken_lines}
 
 -- WORDS
 
@@ -188,7 +189,9 @@ type_lines c unit instruction = wanted_line (wanted_type c unit instruction) ++ 
 
 -- what is told of an instruction
 abbrev pub instruction_lines : Config → ProgramUnit → ℕ → Instruction → List ℕ
-instruction_lines c unit number instruction = if is_type_number number then type_lines c unit instruction else []
+instruction_lines c unit number instruction =
+    if is_type_number number then type_lines c unit instruction
+    else if number == 37 then taken_lines c unit instruction else []
 
 -- of the instruction whose operator stands behind so many bytes
 abbrev pub step_lines : Config → ProgramUnit → ℕ → ℕ → Step → List ℕ

@@ -7,8 +7,10 @@ ghost use Rattle.il_reasons.specs.Reasons.{IsReason, AreTold};
 
 mod names;
 mod types;
+mod types_arguments;
 mod types_operands;
 mod types_wanted;
+mod types_words;
 
 use il_parse::parse;
 use il_rules::Written;
@@ -44,7 +46,7 @@ fn told(alloc: Global, written: Written, number: u16, place: Place) -> Result<Ve
     let names = Scoped::of(alloc, written)?;
     match number {
         20 | 21 | 33 | 34 | 38 => names::told(alloc, &names, number, place),
-        30 | 31 | 32 => types::told(alloc, &names, number, place),
+        30 | 31 | 32 | 37 => types::told(alloc, &names, number, place),
         _ => Ok(Vec::new(alloc)),
     }
 }

@@ -3,13 +3,15 @@
 ghost use Rattle.std.specs.Prelude.{◌≡◌, ◌++◌, Some, flat_map, slice_get, string_bytes, IfOk, OnOk};
 ghost use Rattle.il_reasons.specs.TypeReasons.{is_type_number, type_lines, instruction_lines, step_lines, unit_lines, AreToldOfTypes};
 
+use crate::types_arguments::put_taken;
 use crate::types_operands::put_operands_of;
 use crate::types_wanted::put_wanted;
 use il_scope::{Scoped, UnitScope};
 use il_spec::tree::{Instruction, Place, Step, Unit};
 use std::alloc::{AllocError, Global};
 
-/// What is told of a fault of types (30, 31, 32): the operands of the instruction, each with its type.
+/// What is told of a fault of types: of 30, 31 and 32 the type that the current result must have and the operands with
+/// their types, of 37 the arguments and what is taken.
 pub(crate) fn told(
     alloc: Global,
     names: &Scoped,
@@ -19,24 +21,31 @@ pub(crate) fn told(
     ensures { IfOk result (λ lines. AreToldOfTypes names.now number place lines.items) }
 {
     let mut text = String::new(alloc);
-    put_units(&mut text, names, number, place.offset)?;
+    put_units(alloc, &mut text, names, number, place.offset)?;
     Ok(text.into_bytes())
 }
 
 // Of the instruction at a place, wherever it stands.
-fn put_units(text: &mut String, names: &Scoped, number: u16, offset: u32) -> Result<(), AllocError>
+fn put_units(
+    alloc: Global,
+    text: &mut String,
+    names: &Scoped,
+    number: u16,
+    offset: u32,
+) -> Result<(), AllocError>
     ensures { OnOk result (string_bytes text.new ≡ string_bytes text.old
         ++ flat_map (unit_lines names.now number offset) names.now.units) }
 {
     let units = names.config().units.as_slice();
     'units: for at in 0..units.len() {
-        put_unit(text, names, at, &units[at], number, offset)?;
+        put_unit(alloc, text, names, at, &units[at], number, offset)?;
     }
     Ok(())
 }
 
 // In a unit.
 fn put_unit(
+    alloc: Global,
     text: &mut String,
     names: &Scoped,
     at: usize,
@@ -49,11 +58,19 @@ fn put_unit(
         ++ unit_lines names.now number offset unit.now) }
 {
     let scope = UnitScope::of(names, at, unit);
-    put_steps(text, &scope, unit.body.steps.as_slice(), number, offset)
+    put_steps(
+        alloc,
+        text,
+        &scope,
+        unit.body.steps.as_slice(),
+        number,
+        offset,
+    )
 }
 
 // Among steps.
 fn put_steps(
+    alloc: Global,
     text: &mut String,
     scope: &UnitScope<'_>,
     steps: &[Step],
@@ -64,13 +81,14 @@ fn put_steps(
         ++ flat_map (step_lines scope.now.config scope.now.unit number offset) steps.now) }
 {
     'steps: for step in steps {
-        put_step(text, scope, step, number, offset)?;
+        put_step(alloc, text, scope, step, number, offset)?;
     }
     Ok(())
 }
 
 // A step, if it is the one.
 fn put_step(
+    alloc: Global,
     text: &mut String,
     scope: &UnitScope<'_>,
     step: &Step,
@@ -81,7 +99,7 @@ fn put_step(
         ++ step_lines scope.now.config scope.now.unit number offset step.now) }
 {
     if step.place.offset == offset {
-        put_instruction(text, scope, number, &step.instruction)
+        put_instruction(alloc, text, scope, number, &step.instruction)
     } else {
         Ok(())
     }
@@ -89,6 +107,7 @@ fn put_step(
 
 // What is told of an instruction.
 fn put_instruction(
+    alloc: Global,
     text: &mut String,
     scope: &UnitScope<'_>,
     number: u16,
@@ -99,6 +118,8 @@ fn put_instruction(
 {
     if is_type_number(number) {
         put_types(text, scope, instruction)
+    } else if number == 37 {
+        put_taken(alloc, text, scope, instruction)
     } else {
         Ok(())
     }
