@@ -1,3 +1,4 @@
 mod TypeTexts
 mod TypeInputs
 mod ArgumentTexts
+mod WantedLaws

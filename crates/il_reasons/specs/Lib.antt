@@ -2,3 +2,4 @@ pub mod NameReasons
 pub mod Reasons
 pub mod TypeReasons
 pub mod ArgumentReasons
+pub mod KindReasons

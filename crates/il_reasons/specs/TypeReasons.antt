@@ -28,8 +28,9 @@ use Rattle.il_spec.specs.declared.tree.Unit.{Unit as ProgramUnit}
 use Rattle.il_rules.specs.declared.names.StandardFunction.{StandardFunction}
 use Rattle.il_rules.specs.declared.names.StandardFunction.TheVariants.{Selected, Converted}
 use Rattle.il_rules.specs.Names.{Spelling, standard_function, function_named, named_forms}
-use Rattle.il_rules.specs.Types.{scalar_type, name_type, reference_type}
+use Rattle.il_rules.specs.Types.{scalar_type, name_type, reference_type, Deferred, typing_numbers}
 use Rattle.il_reasons.specs.ArgumentReasons.{taken_lines}
+use Rattle.il_reasons.specs.KindReasons.{kind_lines}
 
 -- WORDS
 
@@ -172,6 +173,10 @@ wanted_type c unit (Call condition instance arguments) = tested_type condition
 wanted_type c unit (Invoke function operands) = function_type (standard_function function.name) (function_named c function.name)
 wanted_type c unit _ = None
 
+-- with a current result of another type the instruction breaks a rule (3.2.2, 3.2.3)
+abbrev pub IsWanted : Config → ProgramUnit → Instruction → Elementary → Type 0
+IsWanted c unit instruction wanted = (found : Elementary) (deferred : Option Deferred) → typing_numbers c unit instruction (Some found) deferred ≡ [] → found ≡ wanted
+
 -- `the result must be INT`, where one type is wanted
 abbrev pub wanted_line : Option Elementary → List ℕ
 wanted_line None = []
@@ -191,7 +196,8 @@ type_lines c unit instruction = wanted_line (wanted_type c unit instruction) ++ 
 abbrev pub instruction_lines : Config → ProgramUnit → ℕ → Instruction → List ℕ
 instruction_lines c unit number instruction =
     if is_type_number number then type_lines c unit instruction
-    else if number == 37 then taken_lines c unit instruction else []
+    else if number == 37 then taken_lines c unit instruction
+    else if number == 25 then kind_lines c unit instruction else []
 
 -- of the instruction whose operator stands behind so many bytes
 abbrev pub step_lines : Config → ProgramUnit → ℕ → ℕ → Step → List ℕ

@@ -4,6 +4,7 @@ ghost use Rattle.std.specs.Prelude.{◌≡◌, ◌++◌, Some, flat_map, slice_g
 ghost use Rattle.il_reasons.specs.TypeReasons.{is_type_number, type_lines, instruction_lines, step_lines, unit_lines, AreToldOfTypes};
 
 use crate::types_arguments::put_taken;
+use crate::types_kinds::put_kinds;
 use crate::types_operands::put_operands_of;
 use crate::types_wanted::put_wanted;
 use il_scope::{Scoped, UnitScope};
@@ -11,7 +12,7 @@ use il_spec::tree::{Instruction, Place, Step, Unit};
 use std::alloc::{AllocError, Global};
 
 /// What is told of a fault of types: of 30, 31 and 32 the type that the current result must have and the operands with
-/// their types, of 37 the arguments and what is taken.
+/// their types, of 37 the arguments and what is taken, of 25 in an instruction the names of another kind.
 pub(crate) fn told(
     alloc: Global,
     names: &Scoped,
@@ -120,6 +121,8 @@ fn put_instruction(
         put_types(text, scope, instruction)
     } else if number == 37 {
         put_taken(alloc, text, scope, instruction)
+    } else if number == 25 {
+        put_kinds(text, scope, instruction)
     } else {
         Ok(())
     }

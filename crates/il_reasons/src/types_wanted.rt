@@ -1,12 +1,16 @@
 // The type that the current result must have at an instruction (IEC 61131-3:2003, 3.2.2, 3.2.3).
 
 ghost use Rattle.std.specs.Prelude.{◌≡◌, ◌++◌, List, None, Some, map, OnOk, string_bytes};
+ghost use Rattle.il_spec.specs.declared.tree.Config.{Config};
+ghost use Rattle.il_spec.specs.declared.tree.Elementary.{Elementary as TypeOf};
 ghost use Rattle.il_spec.specs.declared.tree.Form.{Form};
+ghost use Rattle.il_spec.specs.declared.tree.Instruction.{Instruction as Instructions};
+ghost use Rattle.il_spec.specs.declared.tree.Unit.{Unit as ProgramUnit};
 ghost use Rattle.il_rules.specs.Names.{Spelling, standard_function, function_named};
 ghost use Rattle.il_rules.specs.Types.{reference_type};
 ghost use Rattle.il_scope.specs.Units.{scalar_of};
 ghost use Rattle.il_typed.specs.Types.{elementary_of};
-ghost use Rattle.il_reasons.specs.TypeReasons.{tested_type, stored_type, operated_type, standard_type, first_type, function_type, wanted_type, wanted_line};
+ghost use Rattle.il_reasons.specs.TypeReasons.{tested_type, stored_type, operated_type, standard_type, first_type, function_type, wanted_type, IsWanted, wanted_line};
 
 use crate::types_operands::type_word;
 use il_rules::names::StandardFunction;
@@ -15,6 +19,12 @@ use il_scope::functions::standard_function;
 use il_spec::tree::{Condition, Elementary, Instruction, Operator, Reference, Scalar, Store};
 use il_typed::scope::Scope;
 use std::alloc::AllocError;
+
+/// A law: with a current result of another type than the one that must be there, an instruction breaks a rule.
+pub fn result_must_be()
+    ensures { (c : Config) (unit : ProgramUnit) (instruction : Instructions) (wanted : TypeOf)
+        → wanted_type c unit instruction ≡ Some wanted → IsWanted c unit instruction wanted }
+{}
 
 // The one type that a condition takes.
 fn tested_type(condition: Condition) -> Option<Elementary>
