@@ -6,6 +6,7 @@ use Rattle.il_spec.specs.declared.tree.Argument.TheVariants.{Input, Output}
 use Rattle.il_spec.specs.declared.tree.Condition.{Condition}
 use Rattle.il_spec.specs.declared.tree.Condition.TheVariants.{Always, WhenTrue, WhenFalse}
 use Rattle.il_spec.specs.declared.tree.Config.{Config}
+use Rattle.il_spec.specs.declared.tree.Declaration.{Declaration}
 use Rattle.il_spec.specs.declared.tree.Elementary.{Elementary}
 use Rattle.il_spec.specs.declared.tree.Elementary.TheVariants.{Bool as Boolean, Sint, Int, Dint, Usint, Uint, Udint, Time}
 use Rattle.il_spec.specs.declared.tree.Form.{Form}
@@ -15,6 +16,7 @@ use Rattle.il_spec.specs.declared.tree.Instruction.{Instruction}
 use Rattle.il_spec.specs.declared.tree.Instruction.TheVariants.{Load, Store as StoreInto, Not, Operate, Defer, Jump, Return, Call, Invoke}
 use Rattle.il_spec.specs.declared.tree.Literal.{Literal}
 use Rattle.il_spec.specs.declared.tree.Literal.TheVariants.{Truth, Bare, Whole, Time as Duration}
+use Rattle.il_spec.specs.declared.tree.Named.{Named}
 use Rattle.il_spec.specs.declared.tree.Operand.{Operand}
 use Rattle.il_spec.specs.declared.tree.Operator.{Operator}
 use Rattle.il_spec.specs.declared.tree.Operator.TheVariants.{Logic as LogicOperator}
@@ -182,15 +184,35 @@ abbrev pub wanted_line : Option Elementary → List ℕ
 wanted_line None = []
 wanted_line (Some wanted) = codes "the result must be " ++ (type_word wanted ++ codes "\n")
 
+-- THE INPUTS OF OWN FUNCTIONS
+
+-- `B of F is BOOL`, of an input with this type
+abbrev pub input_line : Spelling → Option Elementary → Named → List ℕ
+input_line function found n = type_line (n.name ++ (codes " of " ++ function)) found
+
+-- the inputs of a declaration
+abbrev pub declared_lines : Spelling → Declaration → List ℕ
+declared_lines function d = flat_map (input_line function (scalar_type d.declared.form)) d.names
+
+-- the inputs of an own function (2.5.1)
+abbrev pub inputs_lines : Spelling → Option ProgramUnit → List ℕ
+inputs_lines function None = []
+inputs_lines function (Some own) = flat_map (declared_lines function) own.inputs
+
+-- those of the function that an instruction calls
+abbrev pub called_lines : Config → Instruction → List ℕ
+called_lines c (Invoke function operands) = inputs_lines function.name (function_named c function.name)
+called_lines c _ = []
+
 -- INSTRUCTIONS
 
 -- whether the types of operands tell why: 30, 31 and 32
 abbrev pub is_type_number : ℕ → Bool
 is_type_number number = number == 30 || number == 31 || number == 32
 
--- the type that the current result must have, and the types of the operands
+-- the type that the current result must have, those of an own function's inputs, and those of the operands
 abbrev pub type_lines : Config → ProgramUnit → Instruction → List ℕ
-type_lines c unit instruction = wanted_line (wanted_type c unit instruction) ++ operand_lines c unit instruction
+type_lines c unit instruction = wanted_line (wanted_type c unit instruction) ++ (called_lines c instruction ++ operand_lines c unit instruction)
 
 -- what is told of an instruction
 abbrev pub instruction_lines : Config → ProgramUnit → ℕ → Instruction → List ℕ

@@ -4,6 +4,7 @@ ghost use Rattle.std.specs.Prelude.{◌≡◌, ◌++◌, Some, flat_map, slice_g
 ghost use Rattle.il_reasons.specs.TypeReasons.{is_type_number, type_lines, instruction_lines, step_lines, unit_lines, AreToldOfTypes};
 
 use crate::types_arguments::put_taken;
+use crate::types_inputs::put_called;
 use crate::types_kinds::put_kinds;
 use crate::types_operands::put_operands_of;
 use crate::types_wanted::put_wanted;
@@ -128,7 +129,7 @@ fn put_instruction(
     }
 }
 
-// The type that the current result must have, and the types of the operands.
+// The type that the current result must have, those of an own function's inputs, and those of the operands.
 fn put_types(
     text: &mut String,
     scope: &UnitScope<'_>,
@@ -138,6 +139,7 @@ fn put_types(
         ++ type_lines scope.now.config scope.now.unit instruction.now) }
 {
     put_wanted(text, scope, instruction)?;
+    put_called(text, scope.names(), instruction)?;
     put_operands_of(text, scope, instruction)
 }
 

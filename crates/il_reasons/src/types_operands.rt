@@ -30,8 +30,8 @@ fn truth_word(value: bool) -> &'static str
     if value { "TRUE" } else { "FALSE" }
 }
 
-// ` is INT`, and the end of the line.
-fn put_is(text: &mut String, found: Elementary) -> Result<(), AllocError>
+/// ` is INT`, and the end of the line.
+pub(crate) fn put_is(text: &mut String, found: Elementary) -> Result<(), AllocError>
     ensures { OnOk result (string_bytes text.new ≡ string_bytes text.old ++ is_text found) }
 {
     writeln!(text, " is {}", type_word(found))
