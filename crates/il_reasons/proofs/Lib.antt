@@ -3,3 +3,7 @@ pub mod Known
 pub mod Meanings
 pub mod Nearest
 pub mod EachTold
+mod TypeTexts
+mod TypeInputs
+mod ArgumentTexts
+mod WantedLaws

@@ -9,3 +9,6 @@ pub mod NamesTasks
 pub mod NamesTold
 pub mod NameReasons
 pub mod Reasons
+pub mod TypeReasons
+pub mod ArgumentReasons
+pub mod KindReasons

@@ -15,6 +15,13 @@ mod names_spots;
 mod names_stores;
 mod names_tasks;
 mod names_unknown;
+mod types;
+mod types_arguments;
+mod types_inputs;
+mod types_kinds;
+mod types_operands;
+mod types_wanted;
+mod types_words;
 
 use il_parse::parse;
 use il_rules::Written;
@@ -23,6 +30,7 @@ use il_spec::fault::Refusal;
 use il_spec::tree::Place;
 use il_text::tokens;
 use std::alloc::{AllocError, Global};
+pub use types_wanted::result_must_be;
 
 /// What is told of the refusal of a text with a number at a place: lines, each with its line feed, or none (own rule).
 pub fn reason(alloc: Global, text: &[u8], number: u16, place: Place) -> Result<Vec<u8>, AllocError>
@@ -50,6 +58,7 @@ fn told(alloc: Global, written: Written, number: u16, place: Place) -> Result<Ve
     let names = Scoped::of(alloc, written)?;
     match number {
         20 | 21 | 33 | 34 | 38 => names::told(alloc, &names, number, place),
+        25 | 30 | 31 | 32 | 37 => types::told(alloc, &names, number, place),
         _ => Ok(Vec::new(alloc)),
     }
 }

@@ -1,0 +1,251 @@
+// The operands of instructions, each with its type.
+
+ghost use Rattle.std.specs.Prelude.{◌≡◌, ◌++◌, OnOk, string_bytes};
+ghost use Rattle.il_reasons.specs.TypeReasons.{type_word, truth_word, is_text, literal_line, name_line, index_text, index_line, element_line, member_line, reference_lines, first_lines, operands_lines, argument_lines, arguments_lines, operand_lines};
+
+use il_spec::tree::{Argument, Elementary, Index, Instruction, Literal, Operand, Reference};
+use il_typed::scope::Scope;
+use std::alloc::AllocError;
+
+/// The word of a type.
+pub(crate) fn type_word(elementary: Elementary) -> &'static str
+    ensures { result.now ≡ type_word elementary }
+{
+    match elementary {
+        Elementary::Bool => "BOOL",
+        Elementary::Sint => "SINT",
+        Elementary::Int => "INT",
+        Elementary::Dint => "DINT",
+        Elementary::Usint => "USINT",
+        Elementary::Uint => "UINT",
+        Elementary::Udint => "UDINT",
+        Elementary::Time => "TIME",
+    }
+}
+
+// The word of a truth value.
+fn truth_word(value: bool) -> &'static str
+    ensures { result.now ≡ truth_word value }
+{
+    if value { "TRUE" } else { "FALSE" }
+}
+
+/// ` is INT`, and the end of the line.
+pub(crate) fn put_is(text: &mut String, found: Elementary) -> Result<(), AllocError>
+    ensures { OnOk result (string_bytes text.new ≡ string_bytes text.old ++ is_text found) }
+{
+    writeln!(text, " is {}", type_word(found))
+}
+
+// `5 is a bare number`, `INT#5 is INT`
+fn put_literal(text: &mut String, literal: Literal) -> Result<(), AllocError>
+    ensures { OnOk result (string_bytes text.new ≡ string_bytes text.old ++ literal_line literal) }
+{
+    match literal {
+        Literal::Truth(value) => {
+            text.push_str(truth_word(value))?;
+            put_is(text, Elementary::Bool)
+        }
+        Literal::Bare(value) => writeln!(text, "{} is a bare number", value),
+        Literal::Whole(written, value) => {
+            write!(text, "{}#{}", type_word(written), value)?;
+            put_is(text, written)
+        }
+        Literal::Time(value) => {
+            write!(text, "T#{}ms", value)?;
+            put_is(text, Elementary::Time)
+        }
+    }
+}
+
+// `V is INT`, of a scalar variable.
+fn put_name<S: Scope>(text: &mut String, scope: &S, name: &str) -> Result<(), AllocError>
+    ensures { OnOk result (string_bytes text.new ≡ string_bytes text.old
+        ++ name_line (S.config scope.now) (S.unit scope.now) name.now) }
+{
+    match scope.name_type(name) {
+        Some(found) => {
+            text.push_str(name)?;
+            put_is(text, found)
+        }
+        None => Ok(()),
+    }
+}
+
+// An index, as it is written.
+fn put_index(text: &mut String, index: &Index) -> Result<(), AllocError>
+    ensures { OnOk result (string_bytes text.new ≡ string_bytes text.old ++ index_text index.now) }
+{
+    match index {
+        Index::Number(value) => write!(text, "{}", *value),
+        Index::Variable(name) => text.push_str(name.as_str()),
+    }
+}
+
+// `I is INT`, of the variable of an index.
+fn put_index_type<S: Scope>(text: &mut String, scope: &S, index: &Index) -> Result<(), AllocError>
+    ensures { OnOk result (string_bytes text.new ≡ string_bytes text.old
+        ++ index_line (S.config scope.now) (S.unit scope.now) index.now) }
+{
+    match index {
+        Index::Number(_) => Ok(()),
+        Index::Variable(name) => put_name(text, scope, name.as_str()),
+    }
+}
+
+// `V[I] is INT`
+#[tactic(auto, unfolding(il_rules::specs::Types::reference_type))]
+fn put_element<S: Scope>(
+    text: &mut String,
+    scope: &S,
+    name: &str,
+    index: &Index,
+) -> Result<(), AllocError>
+    ensures { OnOk result (string_bytes text.new ≡ string_bytes text.old
+        ++ element_line (S.config scope.now) (S.unit scope.now) name.now index.now) }
+{
+    match scope.element_type(name) {
+        Some(found) => {
+            text.push_str(name)?;
+            text.push_str("[")?;
+            put_index(text, index)?;
+            text.push_str("]")?;
+            put_is(text, found)
+        }
+        None => Ok(()),
+    }
+}
+
+// `T.ET is TIME`
+#[tactic(auto, unfolding(il_rules::specs::Types::reference_type))]
+fn put_member<S: Scope>(
+    text: &mut String,
+    scope: &S,
+    name: &str,
+    word: &str,
+) -> Result<(), AllocError>
+    ensures { OnOk result (string_bytes text.new ≡ string_bytes text.old
+        ++ member_line (S.config scope.now) (S.unit scope.now) name.now word.now) }
+{
+    match scope.member_type(name, word) {
+        Some(found) => {
+            text.push_str(name)?;
+            text.push_str(".")?;
+            text.push_str(word)?;
+            put_is(text, found)
+        }
+        None => Ok(()),
+    }
+}
+
+// An operand with its type, and the variable of its index with its own.
+fn put_reference<S: Scope>(
+    text: &mut String,
+    scope: &S,
+    reference: &Reference,
+) -> Result<(), AllocError>
+    ensures { OnOk result (string_bytes text.new ≡ string_bytes text.old
+        ++ reference_lines (S.config scope.now) (S.unit scope.now) reference.now) }
+{
+    match reference {
+        Reference::Literal(literal) => put_literal(text, *literal),
+        Reference::Variable(name) => put_name(text, scope, name.as_str()),
+        Reference::Element(name, index) => {
+            put_element(text, scope, name.as_str(), index)?;
+            put_index_type(text, scope, index)
+        }
+        Reference::Member(name, word) => put_member(text, scope, name.as_str(), word.as_str()),
+    }
+}
+
+// The operand of a short form, if there is one.
+fn put_first<S: Scope>(
+    text: &mut String,
+    scope: &S,
+    first: &Option<Operand>,
+) -> Result<(), AllocError>
+    ensures { OnOk result (string_bytes text.new ≡ string_bytes text.old
+        ++ first_lines (S.config scope.now) (S.unit scope.now) first.now) }
+{
+    match first {
+        Some(operand) => put_reference(text, scope, &operand.reference),
+        None => Ok(()),
+    }
+}
+
+// Operands, in the written order.
+fn put_operands<S: Scope>(
+    text: &mut String,
+    scope: &S,
+    operands: &[Operand],
+) -> Result<(), AllocError>
+    ensures { OnOk result (string_bytes text.new ≡ string_bytes text.old
+        ++ operands_lines (S.config scope.now) (S.unit scope.now) operands.now) }
+{
+    'operands: for operand in operands {
+        put_reference(text, scope, &operand.reference)?;
+    }
+    Ok(())
+}
+
+// An argument of a CAL: the input or output of the instance, and what stands for it.
+fn put_argument<S: Scope>(
+    text: &mut String,
+    scope: &S,
+    instance: &str,
+    argument: &Argument,
+) -> Result<(), AllocError>
+    ensures { OnOk result (string_bytes text.new ≡ string_bytes text.old
+        ++ argument_lines (S.config scope.now) (S.unit scope.now) instance.now argument.now) }
+{
+    match argument {
+        Argument::Input { word, operand } => {
+            put_member(text, scope, instance, word.name.as_str())?;
+            put_reference(text, scope, &operand.reference)
+        }
+        Argument::Output { word, target } => {
+            put_member(text, scope, instance, word.name.as_str())?;
+            put_name(text, scope, target.name.as_str())
+        }
+    }
+}
+
+// Arguments, in the written order.
+fn put_arguments<S: Scope>(
+    text: &mut String,
+    scope: &S,
+    instance: &str,
+    arguments: &[Argument],
+) -> Result<(), AllocError>
+    ensures { OnOk result (string_bytes text.new ≡ string_bytes text.old
+        ++ arguments_lines (S.config scope.now) (S.unit scope.now) instance.now arguments.now) }
+{
+    'arguments: for argument in arguments {
+        put_argument(text, scope, instance, argument)?;
+    }
+    Ok(())
+}
+
+/// The operands of an instruction, each with its type, in the order of the text.
+pub(crate) fn put_operands_of<S: Scope>(
+    text: &mut String,
+    scope: &S,
+    instruction: &Instruction,
+) -> Result<(), AllocError>
+    ensures { OnOk result (string_bytes text.new ≡ string_bytes text.old
+        ++ operand_lines (S.config scope.now) (S.unit scope.now) instruction.now) }
+{
+    match instruction {
+        Instruction::Load { operand, .. } => put_reference(text, scope, &operand.reference),
+        Instruction::Store { target, .. } => put_reference(text, scope, &target.reference),
+        Instruction::Operate { operand, .. } => put_reference(text, scope, &operand.reference),
+        Instruction::Defer { first, .. } => put_first(text, scope, first),
+        Instruction::Call {
+            instance,
+            arguments,
+            ..
+        } => put_arguments(text, scope, instance.name.as_str(), arguments.as_slice()),
+        Instruction::Invoke { operands, .. } => put_operands(text, scope, operands.as_slice()),
+        _ => Ok(()),
+    }
+}
