@@ -1,2 +1,4 @@
-pub mod NameReasons
+pub mod RangeWords
+pub mod RangeReasons
+pub mod ChainReasons
 pub mod Reasons

@@ -1,0 +1,2 @@
+mod RangeUnits
+mod ChainUses
