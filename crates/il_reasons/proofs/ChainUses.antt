@@ -1,6 +1,6 @@
 -- The lines of uses are those of calls and of declarations.
-use Rattle.std.proofs.Common.{◌≡◌, ℕ, zero, suc, ◌<◌, Bool, true, false, if◌then◌else◌, List, [], ◌∷◌, ◌++◌, slice_get, Option, Some, None, option_map, option_and_then, refl, sym, ap, ◌∙◌, subst, arith}
-use Rattle.std.specs.Prelude.{◌≢◌, ⊥, not, All, Contains, nat_eq, bytes_eq, codes}
+use Rattle.std.proofs.Common.{◌≡◌, ℕ, zero, suc, ◌<◌, ◌≤◌, length, Bool, true, false, if◌then◌else◌, List, [], ◌∷◌, ◌++◌, slice_get, Option, Some, None, option_map, option_and_then, refl, sym, ap, ◌∙◌, subst, arith}
+use Rattle.std.specs.Prelude.{◌≢◌, not, All, Contains, nat_eq, bytes_eq, codes}
 use Rattle.std.proofs.lemmas.Slice.Eq.{bytes_eq-Decides}
 use Rattle.std.proofs.lemmas.List.Elements.{All-cons, All-nil}
 use Rattle.std.proofs.lemmas.List.Kept.{AllPairs-cons}
@@ -24,7 +24,9 @@ use Rattle.il_scope.specs.declared.entry.BlockType.TheVariants.{Standard as Stan
 use Rattle.il_scope.specs.Views.{function_number, function_block_number, block_type}
 use Rattle.il_scope.proofs.Laws.{function_found, function_block_found}
 use Rattle.il_declare.proofs.Members.{in_rest}
-use Rattle.il_reasons.specs.ChainReasons.{UsesIn, calls, declares, use_text, AreUsesTold, has_name, is_named, is_apart, AreUnitsOf, AreToldBetween, AreAdded, is_number, is_own, is_call_of, is_type_of, call_line, instance_line, use_line}
+use Rattle.il_order.proofs.Tabled.{in_place}
+use Rattle.il_spec.specs.declared.tree.Place.{Place}
+use Rattle.il_reasons.specs.ChainReasons.{UsesIn, calls, declares, use_text, AreUsesTold, has_name, is_named, is_apart, AreUnitsOf, AreToldBetween, AreAdded, IsRecursionTold, around, IsLongChainTold, along, IsUnitAt, is_number, is_own, is_call_of, is_type_of, call_line, instance_line, use_line}
 
 number_is : (to : ℕ) (o : Option ℕ) → is_number to o ≡ true → o ≡ Some to
 number_is to None e = let bad : false ≡ true = e in cc
@@ -51,24 +53,34 @@ own_of_type c name v e = by_standard (standard_block name) (function_block_numbe
     by_standard None None e = let bad : None ≡ Some (Own v) = e in cc
     by_standard None (Some k) e = let same : Some (Own k) ≡ Some (Own v) = e in cc
 
+abbrev or_one : ProgramUnit → Option ProgramUnit → ProgramUnit
+or_one a None = a
+or_one a (Some b) = b
+
 module _ (c : Config) (to : ℕ) where
   -- a line is that of a call
-  call_at : (steps : List Step) (line : ℕ) → call_line c to steps ≡ Some line → (s : Step) × Contains steps s × (is_call_of c to s.instruction ≡ true) × (line ≡ s.place.line)
+  abbrev IsCallAt : List Step → ℕ → Type 0
+  IsCallAt steps line = (s : Step) × Contains steps s × (is_call_of c to s.instruction ≡ true) × (line ≡ s.place.line)
+
+  call_at : (steps : List Step) (line : ℕ) → call_line c to steps ≡ Some line → IsCallAt steps line
   call_at [] line e = let bad : None ≡ Some line = e in cc
-  call_at (s ∷ steps) line e = by_test (is_call_of c to s.instruction) refl e
+  call_at (s ∷ steps) line e = by_test (is_call_of c to s.instruction) refl e (call_at steps line)
     where
-      by_test : (b : Bool) → is_call_of c to s.instruction ≡ b → (if b then Some s.place.line else call_line c to steps) ≡ Some line → (s' : Step) × Contains (s ∷ steps) s' × (is_call_of c to s'.instruction ≡ true) × (line ≡ s'.place.line)
-      by_test true is e = let same : Some s.place.line ≡ Some line = e in (s, (0, omega arith, refl), is, cc)
-      by_test false is e = let r = call_at steps line e in (r.0, in_rest s steps r.0 r.1, r.2, r.3)
+      by_test : (b : Bool) → is_call_of c to s.instruction ≡ b → (if b then Some s.place.line else call_line c to steps) ≡ Some line → (call_line c to steps ≡ Some line → IsCallAt steps line) → IsCallAt (s ∷ steps) line
+      by_test true is h more = let same : Some s.place.line ≡ Some line = h in (s, (0, omega arith, refl), is, cc)
+      by_test false is h more = let r = more h in (r.0, in_rest s steps r.0 r.1, r.2, r.3)
 
   -- or of a declaration
-  instance_at : (ds : List Declaration) (line : ℕ) → instance_line c to ds ≡ Some line → (d : Declaration) × Contains ds d × (is_type_of c to d.declared.form ≡ true) × (line ≡ d.declared.place.line)
+  abbrev IsInstanceAt : List Declaration → ℕ → Type 0
+  IsInstanceAt ds line = (d : Declaration) × Contains ds d × (is_type_of c to d.declared.form ≡ true) × (line ≡ d.declared.place.line)
+
+  instance_at : (ds : List Declaration) (line : ℕ) → instance_line c to ds ≡ Some line → IsInstanceAt ds line
   instance_at [] line e = let bad : None ≡ Some line = e in cc
-  instance_at (d ∷ ds) line e = by_test (is_type_of c to d.declared.form) refl e
+  instance_at (d ∷ ds) line e = by_test (is_type_of c to d.declared.form) refl e (instance_at ds line)
     where
-      by_test : (b : Bool) → is_type_of c to d.declared.form ≡ b → (if b then Some d.declared.place.line else instance_line c to ds) ≡ Some line → (d' : Declaration) × Contains (d ∷ ds) d' × (is_type_of c to d'.declared.form ≡ true) × (line ≡ d'.declared.place.line)
-      by_test true is e = let same : Some d.declared.place.line ≡ Some line = e in (d, (0, omega arith, refl), is, cc)
-      by_test false is e = let r = instance_at ds line e in (r.0, in_rest d ds r.0 r.1, r.2, r.3)
+      by_test : (b : Bool) → is_type_of c to d.declared.form ≡ b → (if b then Some d.declared.place.line else instance_line c to ds) ≡ Some line → (instance_line c to ds ≡ Some line → IsInstanceAt ds line) → IsInstanceAt (d ∷ ds) line
+      by_test true is h more = let same : Some d.declared.place.line ≡ Some line = h in (d, (0, omega arith, refl), is, cc)
+      by_test false is h more = let r = more h in (r.0, in_rest d ds r.0 r.1, r.2, r.3)
 
   module _ (u v : ProgramUnit) (there : slice_get c.units to ≡ Some v) where
     by_call : (s : Step) (line : ℕ) → Contains u.body.steps s → is_call_of c to s.instruction ≡ true → line ≡ s.place.line → UsesIn c u v line
@@ -159,3 +171,21 @@ next_added c u v next between other line old first mid new there uses apart one 
     are = (line, rest, uses, told.are, refl);
   },
 )
+
+-- what is told of a unit that uses itself
+pub around_told : (c : Config) (u : ProgramUnit) (between : List ℕ) (at : ℕ) (text lines : List ℕ) → slice_get c.units at ≡ Some u → AreToldBetween c u between at text → lines ≡ text → IsRecursionTold c u lines
+around_told c u between at text lines there told is =
+    let same : Some told.last ≡ Some u = sym told.is_last ∙ there in
+    around told.units (subst (AreUsesTold c u told.units u) (sym is) (subst (λ v. AreUsesTold c u told.units v text) (some_is told.last u same) told.are))
+  where
+    some_is : (a b : ProgramUnit) → Some a ≡ Some b → a ≡ b
+    some_is a b h = ap (λ o. or_one a o) h
+
+-- what is told of a chain that is too long
+pub along_told : (c : Config) (u : ProgramUnit) (between : List ℕ) (other : ℕ) (text lines : List ℕ) → 15 ≤ length between → is_apart c u.name.name between other ≡ true → AreToldBetween c u between other text → lines ≡ text → IsLongChainTold c u lines
+along_told c u between other text lines many apart told is =
+    along told.units told.last (omega (arith, many, told.many)) (one_apart c u between other told.units told.last told.are_units told.is_last apart told.apart) (subst (AreUsesTold c u told.units told.last) (sym is) told.are)
+
+-- a unit that stands at its place
+pub unit_is_at : (c : Config) (units : List ProgramUnit) (u : ProgramUnit) (at : ℕ) (p : Place) → units ≡ c.units → slice_get units at ≡ Some u → u.place.offset ≡ p.offset → IsUnitAt c p u
+unit_is_at c units u at p same there stands = record { among = in_place c.units at u (ap (λ us. slice_get us at) (sym same) ∙ there); stands = stands }

@@ -1,5 +1,5 @@
 -- What is told of faults of ranges (own rules).
-use Rattle.std.specs.Prelude.{◌≡◌, ◌≢◌, ⊥, ℕ, ℤ, pos, negsuc, int_le, Bool, true, false, ◌&&◌, if◌then◌else◌, nat_eq, List, [], ◌∷◌, ◌++◌, flat_map, Option, Some, None, option_and_then, codes}
+use Rattle.std.specs.Prelude.{◌≡◌, ◌≢◌, ℕ, ℤ, pos, negsuc, int_le, Bool, true, false, ◌&&◌, if◌then◌else◌, nat_eq, List, [], ◌∷◌, ◌++◌, flat_map, Option, Some, None, option_and_then, codes}
 use Rattle.il_spec.specs.declared.tree.Argument.{Argument}
 use Rattle.il_spec.specs.declared.tree.Argument.TheVariants.{Input, Output}
 use Rattle.il_spec.specs.declared.tree.Arithmetic.{Arithmetic}
@@ -304,10 +304,17 @@ overflow_text u k _ = []
 
 -- 44: ARGUMENTS
 
--- `input PV of C takes INT (0..100), and N is 0..300`
+-- `input PV of C takes `
+abbrev pub of_text : List ℕ → Spelling → Spelling → List ℕ → List ℕ
+of_text kind word instance verb = kind ++ (word ++ (codes " of " ++ (instance ++ verb)))
+
+-- `, and the value N is 0..300`
+abbrev pub value_text : Reference → Interval → List ℕ
+value_text r i = codes ", and the value" ++ (operand_name r ++ (codes " is " ++ (ends_text i ++ codes "\n")))
+
+-- `input PV of C takes INT (0..100), and the value N is 0..300`
 abbrev pub input_text : Spelling → Spelling → Scalar → Reference → Interval → List ℕ
-input_text instance word s r i =
-    codes "input " ++ (word ++ (codes " of " ++ (instance ++ (codes " takes " ++ (scalar_text s ++ (codes ", and the value" ++ (operand_name r ++ (codes " is " ++ (ends_text i ++ codes "\n")))))))))
+input_text instance word s r i = of_text (codes "input ") word instance (codes " takes ") ++ (scalar_text s ++ value_text r i)
 
 -- the same, where the range may leave the input's
 abbrev pub input_unless : Spelling → Spelling → Scalar → Reference → Interval → List ℕ
@@ -319,10 +326,13 @@ input_by instance word r None i = []
 input_by instance word r (Some s) None = []
 input_by instance word r (Some s) (Some i) = input_unless instance word s r i
 
--- `output CV of C is INT (-32768..32767), and V : INT (0..9), declared in line 3`
+-- `, and the target is V : INT (0..9), declared in line 3`
+abbrev pub aim_text : ProgramUnit → Spelling → Scalar → List ℕ
+aim_text u target t = codes ", and the target is " ++ (target ++ (codes " : " ++ (scalar_text t ++ (declared_text (declared_line u target) ++ codes "\n"))))
+
+-- `output CV of C is INT (-32768..32767), and the target is V : INT (0..9), declared in line 3`
 abbrev pub output_text : ProgramUnit → Spelling → Spelling → Scalar → Spelling → Scalar → List ℕ
-output_text u instance word s target t =
-    codes "output " ++ (word ++ (codes " of " ++ (instance ++ (codes " is " ++ (scalar_text s ++ (codes ", and the target is " ++ (target ++ (codes " : " ++ (scalar_text t ++ (declared_text (declared_line u target) ++ codes "\n"))))))))))
+output_text u instance word s target t = of_text (codes "output ") word instance (codes " is ") ++ (scalar_text s ++ aim_text u target t)
 
 -- whether the limits of one type lie within those of another
 abbrev pub limits_in : Option Subrange → Option Subrange → Bool
@@ -362,8 +372,7 @@ first_by name (Some s) (Some (Ranged e i)) = first_unless name s i
 
 -- `an input of F takes INT (0..9), and the value N is 0..300`, where an operand may leave it
 abbrev pub further_text : Spelling → Scalar → Reference → Interval → List ℕ
-further_text name s r i =
-    codes "an input of " ++ (name ++ (codes " takes " ++ (scalar_text s ++ (codes ", and the value" ++ (operand_name r ++ (codes " is " ++ (ends_text i ++ codes "\n")))))))
+further_text name s r i = codes "an input of " ++ (name ++ (codes " takes " ++ (scalar_text s ++ value_text r i)))
 
 abbrev pub further_unless : Spelling → Scalar → Reference → Interval → List ℕ
 further_unless name s r i = if lies_in i (declared_limits s) then [] else further_text name s r i
@@ -389,11 +398,19 @@ abbrev pub function_told : InUnit → Knowledge → Spelling → List Operand �
 function_told u k name operands None = []
 function_told u k name operands (Some f) = inputs_told u k name operands (input_scalars f)
 
+-- of a call of an instance
+abbrev pub call_text : InUnit → Knowledge → Instruction → List ℕ
+call_text u k (Call condition instance arguments) = flat_map (argument_text u k instance.name) arguments
+call_text u k _ = []
+
+-- of a call of a function
+abbrev pub invoke_text : InUnit → Knowledge → Instruction → List ℕ
+invoke_text u k (Invoke function operands) = function_told u k function.name operands (function_named u.config function.name)
+invoke_text u k _ = []
+
 -- of an instruction
 abbrev pub arguments_text : InUnit → Knowledge → Instruction → List ℕ
-arguments_text u k (Call condition instance arguments) = flat_map (argument_text u k instance.name) arguments
-arguments_text u k (Invoke function operands) = function_told u k function.name operands (function_named u.config function.name)
-arguments_text u k _ = []
+arguments_text u k i = call_text u k i ++ invoke_text u k i
 
 -- AT A PLACE
 

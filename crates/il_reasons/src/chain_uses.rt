@@ -93,12 +93,19 @@ struct Use<'n> {
     line: u32,
 }
 
+// The unit of a number, if there is one.
+fn unit_of(names: &Scoped, number: usize) -> Option<&Unit>
+    ensures { IfSome result (λ u. slice_get names.now.units number ≡ Some u.now) }
+{
+    names.config().units.as_slice().get(number)
+}
+
 // The unit of a number, where another uses it.
 fn use_of<'n>(names: &'n Scoped, user: &Unit, to: usize) -> Option<Use<'n>>
     ensures unit { IfSome result (λ u. slice_get names.now.units to ≡ Some u.unit.now) }
     ensures line { IfSome result (λ u. UsesIn names.now user.now u.unit.now u.line) }
 {
-    let unit = names.config().units.as_slice().get(to)?;
+    let unit = unit_of(names, to)?;
     let line = use_line(names, user, to)?;
     Some(Use { unit, line })
 }

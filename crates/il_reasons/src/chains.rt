@@ -108,12 +108,12 @@ pub(crate) fn told(
     ensures { IfOk result (λ lines. AreToldOfChains names.now number place lines.items) }
 {
     let units = names.config().units.as_slice();
-    let Some(Numbered { at, unit }) = unit_at(units, place.offset) else {
+    let Some(found) = unit_at(units, place.offset) else {
         return Ok(Vec::new(alloc));
     };
     match number {
-        36 => recursion_told(alloc, names, at, unit),
-        46 => long_told(alloc, names, at, unit),
+        36 => recursion_told(alloc, names, found.at, found.unit),
+        46 => long_told(alloc, names, found.at, found.unit),
         _ => Ok(Vec::new(alloc)),
     }
 }

@@ -1,18 +1,36 @@
 // What is told of an argument of an instance that may leave its input's range, and of an output that may leave its target's.
 
 ghost use Rattle.std.specs.Prelude.{◌≡◌, ◌++◌, flat_map, OnOk, string_bytes};
-ghost use Rattle.il_reasons.specs.RangeReasons.{input_text, input_unless, input_by, output_text, limits_in, output_unless, output_by, argument_text, arguments_text};
+ghost use Rattle.il_reasons.specs.RangeReasons.{of_text, input_text, input_unless, input_by, output_text, limits_in, output_unless, output_by, argument_text, aim_text, call_text, invoke_text, arguments_text};
 
-use crate::range_divisors::put_name;
+use crate::range_divisors::put_value;
 use crate::range_inputs::put_function;
 use crate::range_operands::{lies_in, range_at};
-use crate::range_words::{declared_line, put_declared, put_ends, put_scalar};
+use crate::range_words::{put_line_of, put_scalar};
 use il_interval::Interval;
 use il_ranges::PlaceFacts;
 use il_rules::elementary::declared_limits;
 use il_scope::UnitScope;
 use il_spec::tree::{Argument, Instruction, Reference, Scalar, Subrange, Unit};
 use std::alloc::AllocError;
+
+// `input PV of C takes `
+fn put_of(
+    text: &mut String,
+    kind: &str,
+    word: &str,
+    instance: &str,
+    verb: &str,
+) -> Result<(), AllocError>
+    ensures { OnOk result (string_bytes text.new ≡ string_bytes text.old
+        ++ of_text kind.now word.now instance.now verb.now) }
+{
+    text.push_str(kind)?;
+    text.push_str(word)?;
+    text.push_str(" of ")?;
+    text.push_str(instance)?;
+    text.push_str(verb)
+}
 
 // `input PV of C takes INT (0..100), and the value N is 0..300`
 fn put_input(
@@ -26,13 +44,9 @@ fn put_input(
     ensures { OnOk result (string_bytes text.new ≡ string_bytes text.old
         ++ input_text instance.now word.now scalar reference.now range) }
 {
-    write!(text, "input {} of {} takes ", word, instance)?;
+    put_of(text, "input ", word, instance, " takes ")?;
     put_scalar(text, scalar)?;
-    text.push_str(", and the value")?;
-    put_name(text, reference)?;
-    text.push_str(" is ")?;
-    put_ends(text, range)?;
-    text.push_str("\n")
+    put_value(text, reference, range)
 }
 
 // The same, where the range may leave the input's.
@@ -74,6 +88,19 @@ fn put_input_by(
     }
 }
 
+// `, and the target is V : INT (0..9), declared in line 3`
+fn put_aim(text: &mut String, unit: &Unit, target: &str, aim: Scalar) -> Result<(), AllocError>
+    ensures { OnOk result (string_bytes text.new ≡ string_bytes text.old
+        ++ aim_text unit.now target.now aim) }
+{
+    text.push_str(", and the target is ")?;
+    text.push_str(target)?;
+    text.push_str(" : ")?;
+    put_scalar(text, aim)?;
+    put_line_of(text, unit, target)?;
+    text.push_str("\n")
+}
+
 // `output CV of C is INT (-32768..32767), and the target is V : INT (0..9), declared in line 3`
 fn put_output(
     text: &mut String,
@@ -87,12 +114,9 @@ fn put_output(
     ensures { OnOk result (string_bytes text.new ≡ string_bytes text.old
         ++ output_text unit.now instance.now word.now scalar target.now aim) }
 {
-    write!(text, "output {} of {} is ", word, instance)?;
+    put_of(text, "output ", word, instance, " is ")?;
     put_scalar(text, scalar)?;
-    write!(text, ", and the target is {} : ", target)?;
-    put_scalar(text, aim)?;
-    put_declared(text, declared_line(unit, target))?;
-    text.push_str("\n")
+    put_aim(text, unit, target, aim)
 }
 
 // Whether limits lie within others.
@@ -193,15 +217,15 @@ fn put_each(
     Ok(())
 }
 
-/// Of an instruction.
-pub(crate) fn put_arguments(
+// Of a call of an instance.
+fn put_call(
     text: &mut String,
     unit: &UnitScope,
     known: &PlaceFacts,
     instruction: &Instruction,
 ) -> Result<(), AllocError>
     ensures { OnOk result (string_bytes text.new ≡ string_bytes text.old
-        ++ arguments_text unit.now known.now instruction.now) }
+        ++ call_text unit.now known.now instruction.now) }
 {
     match instruction {
         Instruction::Call {
@@ -217,4 +241,42 @@ pub(crate) fn put_arguments(
         ),
         _ => Ok(()),
     }
+}
+
+// Of a call of a function.
+fn put_invoke(
+    text: &mut String,
+    unit: &UnitScope,
+    known: &PlaceFacts,
+    instruction: &Instruction,
+) -> Result<(), AllocError>
+    ensures { OnOk result (string_bytes text.new ≡ string_bytes text.old
+        ++ invoke_text unit.now known.now instruction.now) }
+{
+    match instruction {
+        Instruction::Invoke { function, operands } => {
+            put_function(
+                text,
+                unit,
+                known,
+                function.name.as_str(),
+                operands.as_slice(),
+            )
+        }
+        _ => Ok(()),
+    }
+}
+
+/// Of an instruction.
+pub(crate) fn put_arguments(
+    text: &mut String,
+    unit: &UnitScope,
+    known: &PlaceFacts,
+    instruction: &Instruction,
+) -> Result<(), AllocError>
+    ensures { OnOk result (string_bytes text.new ≡ string_bytes text.old
+        ++ arguments_text unit.now known.now instruction.now) }
+{
+    put_call(text, unit, known, instruction)?;
+    put_invoke(text, unit, known, instruction)
 }

@@ -2,11 +2,11 @@
 
 ghost use Rattle.std.specs.Prelude.{◌≡◌, ◌++◌, OnOk, codes, string_bytes};
 ghost use Rattle.il_ranges.specs.Kinds.{is_division};
-ghost use Rattle.il_reasons.specs.RangeWords.{reference_text};
-ghost use Rattle.il_reasons.specs.RangeReasons.{operand_name, divided_text, divided_by, inner_text, divisor_text};
+ghost use Rattle.il_reasons.specs.RangeWords.{ends_text, reference_text};
+ghost use Rattle.il_reasons.specs.RangeReasons.{operand_name, divided_text, divided_by, inner_text, divisor_text, value_text};
 
 use crate::range_operands::range_at;
-use crate::range_words::{put_ends, put_reference};
+use crate::range_words::{put, put_ends, put_reference};
 use il_interval::Interval;
 use il_ranges::PlaceFacts;
 use il_run::known::Known;
@@ -23,8 +23,8 @@ fn put_spaced(text: &mut String, reference: &Reference) -> Result<(), AllocError
     put_reference(text, reference)
 }
 
-/// ` D`, the name of an operand that has one.
-pub(crate) fn put_name(text: &mut String, reference: &Reference) -> Result<(), AllocError>
+// ` D`, the name of an operand that has one.
+fn put_name(text: &mut String, reference: &Reference) -> Result<(), AllocError>
     ensures { OnOk result (string_bytes text.new ≡ string_bytes text.old
         ++ operand_name reference.now) }
 {
@@ -36,7 +36,49 @@ pub(crate) fn put_name(text: &mut String, reference: &Reference) -> Result<(), A
     }
 }
 
+/// ` D is 0..5`
+pub(crate) fn put_named_range(
+    text: &mut String,
+    reference: &Reference,
+    range: Interval,
+) -> Result<(), AllocError>
+    ensures { OnOk result (string_bytes text.new ≡ string_bytes text.old
+        ++ (operand_name reference.now ++ (codes " is " ++ (ends_text range ++ codes "\n")))) }
+{
+    put_name(text, reference)?;
+    text.push_str(" is ")?;
+    put_ends(text, range)?;
+    text.push_str("\n")
+}
+
+/// `, and the value N is 0..5`
+pub(crate) fn put_value(
+    text: &mut String,
+    reference: &Reference,
+    range: Interval,
+) -> Result<(), AllocError>
+    ensures { OnOk result (string_bytes text.new ≡ string_bytes text.old
+        ++ value_text reference.now range) }
+{
+    put(text, ", and the value")?;
+    put_named_range(text, reference, range)
+}
+
 // `the divisor D is 0..5`
+fn put_divisor_range(
+    text: &mut String,
+    reference: &Reference,
+    range: Interval,
+) -> Result<(), AllocError>
+    ensures { OnOk result (string_bytes text.new ≡ string_bytes text.old
+        ++ (codes "the divisor" ++ (operand_name reference.now ++ (codes " is "
+        ++ (ends_text range ++ codes "\n"))))) }
+{
+    put(text, "the divisor")?;
+    put_named_range(text, reference, range)
+}
+
+// The same, where there is a range.
 fn put_divided(
     text: &mut String,
     reference: &Reference,
@@ -46,13 +88,7 @@ fn put_divided(
         ++ divided_text reference.now range) }
 {
     match range {
-        Some(range) => {
-            text.push_str("the divisor")?;
-            put_name(text, reference)?;
-            text.push_str(" is ")?;
-            put_ends(text, range)?;
-            text.push_str("\n")
-        }
+        Some(range) => put_divisor_range(text, reference, range),
         None => Ok(()),
     }
 }
@@ -84,16 +120,22 @@ fn put_divided_by(
     }
 }
 
+// `the divisor in the parentheses is 0..5`
+fn put_inner_range(text: &mut String, range: Interval) -> Result<(), AllocError>
+    ensures { OnOk result (string_bytes text.new ≡ string_bytes text.old
+        ++ (codes "the divisor in the parentheses is " ++ (ends_text range ++ codes "\n"))) }
+{
+    put(text, "the divisor in the parentheses is ")?;
+    put_ends(text, range)?;
+    put(text, "\n")
+}
+
 // Of what `)` divides by, the current result.
 fn put_inner(text: &mut String, current: Option<Known>) -> Result<(), AllocError>
     ensures { OnOk result (string_bytes text.new ≡ string_bytes text.old ++ inner_text current) }
 {
     match current {
-        Some(Known::Ranged(_, range)) => {
-            text.push_str("the divisor in the parentheses is ")?;
-            put_ends(text, range)?;
-            text.push_str("\n")
-        }
+        Some(Known::Ranged(_, range)) => put_inner_range(text, range),
         Some(Known::Flag) => Ok(()),
         None => Ok(()),
     }

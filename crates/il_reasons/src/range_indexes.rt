@@ -3,8 +3,8 @@
 ghost use Rattle.std.specs.Prelude.{◌≡◌, ◌++◌, OnOk, string_bytes};
 ghost use Rattle.il_reasons.specs.RangeReasons.{index_range, outside_text, unless_within, array_text, element_text, operand_index_text, first_index_text, argument_index_text, operands_index_text, arguments_index_text, indexes_text};
 
-use crate::range_operands::{bounds_of, lies_within, only};
-use crate::range_words::{declared_line, put_declared, put_ends, put_index, put_limits};
+use crate::range_operands::{bounds_named, lies_within, only};
+use crate::range_words::{put, put_ends, put_index, put_limits, put_line_of};
 use il_interval::Interval;
 use il_ranges::PlaceFacts;
 use il_scope::UnitScope;
@@ -33,16 +33,16 @@ fn put_outside(
     ensures { OnOk result (string_bytes text.new ≡ string_bytes text.old
         ++ outside_text unit.now name.now index.now range bounds) }
 {
-    text.push_str("the index ")?;
+    put(text, "the index ")?;
     put_index(text, index)?;
-    text.push_str(" is ")?;
+    put(text, " is ")?;
     put_ends(text, range)?;
-    text.push_str(", and ")?;
-    text.push_str(name)?;
-    text.push_str(" has ")?;
+    put(text, ", and ")?;
+    put(text, name)?;
+    put(text, " has ")?;
     put_limits(text, bounds)?;
-    put_declared(text, declared_line(unit, name))?;
-    text.push_str("\n")
+    put_line_of(text, unit, name)?;
+    put(text, "\n")
 }
 
 // The same, where the index may lie outside of the array.
@@ -95,7 +95,7 @@ fn put_element(
 {
     match range {
         Some(range) => {
-            let bounds = bounds_of(unit.declared_type(name));
+            let bounds = bounds_named(unit, name);
             put_array(text, unit.tree(), name, index, range, bounds)
         }
         None => Ok(()),

@@ -4,9 +4,9 @@ ghost use Rattle.std.specs.Prelude.{◌≡◌, ◌++◌, OnOk, string_bytes};
 ghost use Rattle.il_rules.specs.Names.{function_named};
 ghost use Rattle.il_reasons.specs.RangeReasons.{first_text, first_unless, first_by, further_text, further_unless, further_by, operands_told, inputs_told, function_told};
 
-use crate::range_divisors::put_name;
+use crate::range_divisors::put_value;
 use crate::range_operands::{lies_in, range_at};
-use crate::range_words::{put_ends, put_scalar};
+use crate::range_words::{put, put_ends, put_scalar};
 use il_interval::Interval;
 use il_ranges::PlaceFacts;
 use il_rules::elementary::declared_limits;
@@ -78,13 +78,11 @@ fn put_further_input(
     ensures { OnOk result (string_bytes text.new ≡ string_bytes text.old
         ++ further_text name.now scalar reference.now range) }
 {
-    write!(text, "an input of {} takes ", name)?;
+    put(text, "an input of ")?;
+    put(text, name)?;
+    put(text, " takes ")?;
     put_scalar(text, scalar)?;
-    text.push_str(", and the value")?;
-    put_name(text, reference)?;
-    text.push_str(" is ")?;
-    put_ends(text, range)?;
-    text.push_str("\n")
+    put_value(text, reference, range)
 }
 
 // The same, where the operand may leave the input.

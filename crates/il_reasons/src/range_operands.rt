@@ -3,6 +3,7 @@
 ghost use Rattle.std.specs.Prelude.{◌≡◌, Option, Some, option_map, option_and_then};
 ghost use Rattle.il_spec.specs.declared.tree.Config.{Config};
 ghost use Rattle.il_spec.specs.declared.tree.Form.{Form};
+ghost use Rattle.il_rules.specs.Names.{form_named};
 ghost use Rattle.il_run.specs.Annotation.{only, range};
 ghost use Rattle.il_scope.specs.Views.{type_of};
 ghost use Rattle.il_reasons.specs.RangeReasons.{element_of, bounds_of, scalar_named, literal_range, range_at, lies_within, lies_in};
@@ -47,8 +48,8 @@ fn array_bounds(declared: VariableType) -> Option<Subrange>
     }
 }
 
-/// The bounds of an array, if there is a type.
-pub(crate) fn bounds_of(declared: Option<VariableType>) -> Option<Subrange>
+// The same, if there is a type.
+fn bounds_of(declared: Option<VariableType>) -> Option<Subrange>
     ensures { (config : Config) (form : Option Form) → declared ≡ option_map (type_of config) form
         → result ≡ bounds_of form }
 {
@@ -58,6 +59,20 @@ pub(crate) fn bounds_of(declared: Option<VariableType>) -> Option<Subrange>
     }
 }
 
+// The type of the elements of the array of a name.
+fn element_named(unit: &UnitScope, name: &str) -> Option<Scalar>
+    ensures { result ≡ element_of (form_named unit.now.config unit.now.unit name.now) }
+{
+    element_of(unit.declared_type(name))
+}
+
+/// The bounds of the array of a name.
+pub(crate) fn bounds_named(unit: &UnitScope, name: &str) -> Option<Subrange>
+    ensures { result ≡ bounds_of (form_named unit.now.config unit.now.unit name.now) }
+{
+    bounds_of(unit.declared_type(name))
+}
+
 /// The scalar type of what an operand names.
 pub(crate) fn scalar_named(unit: &UnitScope, reference: &Reference) -> Option<Scalar>
     ensures { result ≡ scalar_named unit.now reference.now }
@@ -65,7 +80,7 @@ pub(crate) fn scalar_named(unit: &UnitScope, reference: &Reference) -> Option<Sc
     match reference {
         Reference::Literal(_) => None,
         Reference::Variable(name) => unit.scalar(name.as_str()),
-        Reference::Element(name, _) => element_of(unit.declared_type(name.as_str())),
+        Reference::Element(name, _) => element_named(unit, name.as_str()),
         Reference::Member(name, word) => unit.member_scalar(name.as_str(), word.as_str()),
     }
 }

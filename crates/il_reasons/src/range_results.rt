@@ -1,12 +1,13 @@
 // What is told of a result that may leave its type.
 
-ghost use Rattle.std.specs.Prelude.{◌≡◌, ◌++◌, OnOk, true, string_bytes};
+ghost use Rattle.std.specs.Prelude.{◌≡◌, ◌++◌, OnOk, true, codes, string_bytes};
 ghost use Rattle.il_spec.specs.ElementaryTypes.{plain};
 ghost use Rattle.il_interval.specs.Interval.{IsOperand};
+ghost use Rattle.il_reasons.specs.RangeWords.{scalar_text};
 ghost use Rattle.il_reasons.specs.RangeReasons.{sign_text, given_by, is_end, is_operand, given_from, left_text, operated_text, operated_unless, operated_by, right_text, sides_text, operator_text, converted_text, converted_unless, absolute_text, absolute_unless, absolute_of, function_text, standard_text, invoked_text, overflow_text};
 
 use crate::range_operands::{lies_in, range_at};
-use crate::range_words::{put_ends, put_scalar};
+use crate::range_words::{put, put_ends, put_scalar};
 use il_interval::Interval;
 use il_ranges::PlaceFacts;
 use il_rules::elementary::limits;
@@ -204,15 +205,23 @@ fn put_operator(
     }
 }
 
+// ` is outside SINT (-128..127)`
+fn put_outside(text: &mut String, scalar: Scalar) -> Result<(), AllocError>
+    ensures { OnOk result (string_bytes text.new ≡ string_bytes text.old
+        ++ (codes " is outside " ++ (scalar_text scalar ++ codes "\n"))) }
+{
+    put(text, " is outside ")?;
+    put_scalar(text, scalar)?;
+    put(text, "\n")
+}
+
 // `0..300 is outside SINT (-128..127)`
 fn put_converted(text: &mut String, to: Elementary, range: Interval) -> Result<(), AllocError>
     ensures { OnOk result (string_bytes text.new ≡ string_bytes text.old
         ++ converted_text to range) }
 {
     put_ends(text, range)?;
-    text.push_str(" is outside ")?;
-    put_scalar(text, plain(to))?;
-    text.push_str("\n")
+    put_outside(text, plain(to))
 }
 
 // The same, where it is.

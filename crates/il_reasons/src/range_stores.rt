@@ -4,7 +4,7 @@ ghost use Rattle.std.specs.Prelude.{◌≡◌, ◌++◌, OnOk, string_bytes};
 ghost use Rattle.il_reasons.specs.RangeReasons.{stored_text, target_text, result_text, store_text};
 
 use crate::range_operands::scalar_named;
-use crate::range_words::{put_ends, put_reference, put_scalar, put_where};
+use crate::range_words::{put, put_ends, put_reference, put_scalar, put_where};
 use il_interval::Interval;
 use il_ranges::PlaceFacts;
 use il_run::known::Known;
@@ -23,14 +23,14 @@ fn put_stored(
     ensures { OnOk result (string_bytes text.new ≡ string_bytes text.old
         ++ stored_text unit.now range target.now scalar) }
 {
-    text.push_str("stores ")?;
+    put(text, "stores ")?;
     put_ends(text, range)?;
-    text.push_str(" into ")?;
+    put(text, " into ")?;
     put_reference(text, target)?;
-    text.push_str(" : ")?;
+    put(text, " : ")?;
     put_scalar(text, scalar)?;
     put_where(text, unit, target)?;
-    text.push_str("\n")
+    put(text, "\n")
 }
 
 // The same, where the target has a scalar type.

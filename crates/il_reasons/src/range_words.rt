@@ -1,6 +1,6 @@
 // Ranges, types, operands and the lines of declarations, as they are told.
 
-ghost use Rattle.std.specs.Prelude.{◌≡◌, ◌++◌, OnOk, codes, string_bytes};
+ghost use Rattle.std.specs.Prelude.{◌≡◌, ◌++◌, OnOk, codes, decimal, string_bytes};
 ghost use Rattle.il_rules.specs.Names.{or_else};
 ghost use Rattle.il_reports.specs.RangeLines.{type_word};
 ghost use Rattle.il_reasons.specs.RangeWords.{ends_text, limits_text, within_text, scalar_text, index_text, reference_text, line_among, line_in, result_line, declared_line, declared_text, instance_text, where_text};
@@ -26,6 +26,13 @@ fn type_word(elementary: Elementary) -> &'static str
         Elementary::Udint => "UDINT",
         Elementary::Time => "TIME",
     }
+}
+
+/// A piece of text.
+pub(crate) fn put(text: &mut String, piece: &str) -> Result<(), AllocError>
+    ensures { OnOk result (string_bytes text.new ≡ string_bytes text.old ++ piece.now) }
+{
+    text.push_str(piece)
 }
 
 /// `LO..HI`
@@ -160,8 +167,8 @@ fn first_line(first: Option<u32>, other: Option<u32>) -> Option<u32>
     }
 }
 
-/// The line in which a unit declares the variable that it means by a name; an image name has none.
-pub(crate) fn declared_line(unit: &Unit, name: &str) -> Option<u32>
+// The line in which a unit declares the variable that it means by a name; an image name has none.
+fn declared_line(unit: &Unit, name: &str) -> Option<u32>
     ensures { result ≡ declared_line unit.now name.now }
 {
     let own = result_line(unit.kind, &unit.name, name);
@@ -173,8 +180,8 @@ pub(crate) fn declared_line(unit: &Unit, name: &str) -> Option<u32>
     first_line(own, first_line(inputs, inner))
 }
 
-/// `, declared in line N`, where there is a line.
-pub(crate) fn put_declared(text: &mut String, line: Option<u32>) -> Result<(), AllocError>
+// `, declared in line N`, where there is a line.
+fn put_declared(text: &mut String, line: Option<u32>) -> Result<(), AllocError>
     ensures { OnOk result (string_bytes text.new ≡ string_bytes text.old ++ declared_text line) }
 {
     match line {
@@ -183,17 +190,39 @@ pub(crate) fn put_declared(text: &mut String, line: Option<u32>) -> Result<(), A
     }
 }
 
-// `, C declared in line N`, where there is a line.
+/// `, declared in line N` of the line in which a unit declares a name, where there is one.
+pub(crate) fn put_line_of(text: &mut String, unit: &Unit, name: &str) -> Result<(), AllocError>
+    ensures { OnOk result (string_bytes text.new ≡ string_bytes text.old
+        ++ declared_text (declared_line unit.now name.now)) }
+{
+    put_declared(text, declared_line(unit, name))
+}
+
+// ` declared in line N`
+fn put_in_line(text: &mut String, line: u32) -> Result<(), AllocError>
+    ensures { OnOk result (string_bytes text.new ≡ string_bytes text.old
+        ++ (codes " declared in line " ++ decimal line)) }
+{
+    write!(text, " declared in line {}", line)
+}
+
+// `, C declared in line N`
+fn put_declared_name(text: &mut String, name: &str, line: u32) -> Result<(), AllocError>
+    ensures { OnOk result (string_bytes text.new ≡ string_bytes text.old
+        ++ (codes ", " ++ (name.now ++ (codes " declared in line " ++ decimal line)))) }
+{
+    put(text, ", ")?;
+    put(text, name)?;
+    put_in_line(text, line)
+}
+
+// The same, where there is a line.
 fn put_instance(text: &mut String, name: &str, line: Option<u32>) -> Result<(), AllocError>
     ensures { OnOk result (string_bytes text.new ≡ string_bytes text.old
         ++ instance_text name.now line) }
 {
     match line {
-        Some(line) => {
-            text.push_str(", ")?;
-            text.push_str(name)?;
-            write!(text, " declared in line {}", line)
-        }
+        Some(line) => put_declared_name(text, name, line),
         None => Ok(()),
     }
 }
@@ -209,8 +238,8 @@ pub(crate) fn put_where(
 {
     match reference {
         Reference::Literal(_) => Ok(()),
-        Reference::Variable(name) => put_declared(text, declared_line(unit, name.as_str())),
-        Reference::Element(name, _) => put_declared(text, declared_line(unit, name.as_str())),
+        Reference::Variable(name) => put_line_of(text, unit, name.as_str()),
+        Reference::Element(name, _) => put_line_of(text, unit, name.as_str()),
         Reference::Member(name, _) => {
             put_instance(text, name.as_str(), declared_line(unit, name.as_str()))
         }

@@ -11,6 +11,7 @@ use crate::range_divisors::put_divisor;
 use crate::range_indexes::put_indexes;
 use crate::range_results::put_overflow;
 use crate::range_stores::put_store;
+use il_order::Ordered;
 use il_ranges::{PlaceFacts, RangeFault, Witness, shown_unit};
 use il_rules::{Found, PhaseFault};
 use il_scope::{Scoped, UnitScope};
@@ -119,6 +120,13 @@ fn unit_told(
     Ok(text_if(alloc, there, text))
 }
 
+// Adds a text.
+fn append(text: &mut String, more: &String) -> Result<(), AllocError>
+    ensures { OnOk result (string_bytes text.new ≡ string_bytes text.old ++ string_bytes more.now) }
+{
+    text.push_str(more.as_str())
+}
+
 // What is told of all units.
 fn units_told(
     alloc: Global,
@@ -135,9 +143,23 @@ fn units_told(
     let mut text = String::new(alloc);
     'units: for at in 0..units.len() {
         let one = unit_told(alloc, names, at, &units[at], fault, place)?;
-        text.push_str(one.as_str())?;
+        append(&mut text, &one)?;
     }
     Ok(text)
+}
+
+// The same of a configuration of which no earlier rule is broken.
+fn ordered_told(
+    alloc: Global,
+    ordered: &Ordered,
+    fault: RangeFault,
+    place: Place,
+) -> Result<String, AllocError>
+    ensures { IfOk result (λ t. AreUnitsTold ordered.now fault place ordered.now.units
+        (string_bytes t)) }
+{
+    let _config = ordered.config();
+    units_told(alloc, ordered.names(), fault, place)
 }
 
 // The fault of ranges with a number.
@@ -167,8 +189,7 @@ fn fault_told(
 {
     match unbroken(alloc, text) {
         Ok(ordered) => {
-            let _config = ordered.config();
-            let told = units_told(alloc, ordered.names(), fault, place)?;
+            let told = ordered_told(alloc, &ordered, fault, place)?;
             Ok(told.into_bytes())
         }
         Err(Refusal::Memory) => Err(AllocError),

@@ -9,9 +9,9 @@ use Rattle.il_reasons.proofs.ranges.units_told.Goals as goal
 
 pub units-preserved : goal.units-preserved
 units-preserved c =
-    units_next c.args.names.now c.args.fault c.args.place c.args.names.now.units c.units.at c.index-units-at.result (string_bytes c.units.text) (string_bytes c.push_str.new.self) (string_bytes c.in_ok-one.one)
+    units_next c.args.names.now c.args.fault c.args.place c.args.names.now.units c.units.at c.index-units-at.result (string_bytes c.units.text) (string_bytes c.append.new.text) (string_bytes c.in_ok-one.one)
     (read_at c.as_slice-units.result.now c.args.names.now.units c.units.at c.index-units-at.result (c.as_slice-units.ensures ∙ ap (λ (k : Config). k.units) c.config.ensures) c.units-test.true c.index-units-at.is)
-    c.units.invariant c.in_ok-one.ensures cc
+    c.units.invariant c.in_ok-one.ensures c.in_ok-append.ensures
 
 pub returns : goal.returns
 returns c =
