@@ -7,3 +7,6 @@ mod TypeTexts
 mod TypeInputs
 mod ArgumentTexts
 mod WantedLaws
+mod Pieces
+mod RangeUnits
+mod ChainUses

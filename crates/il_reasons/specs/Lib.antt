@@ -8,7 +8,10 @@ pub mod NamesStores
 pub mod NamesTasks
 pub mod NamesTold
 pub mod NameReasons
-pub mod Reasons
 pub mod TypeReasons
 pub mod ArgumentReasons
 pub mod KindReasons
+pub mod RangeWords
+pub mod RangeReasons
+pub mod ChainReasons
+pub mod Reasons

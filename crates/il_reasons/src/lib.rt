@@ -5,6 +5,9 @@ ghost use Rattle.std.specs.Prelude.{IfOk, IfSome};
 ghost use Rattle.il_spec.specs.Grammar.{Spells};
 ghost use Rattle.il_reasons.specs.Reasons.{IsReason, AreTold};
 
+mod chain_search;
+mod chain_uses;
+mod chains;
 mod names;
 mod names_again;
 mod names_known;
@@ -15,6 +18,15 @@ mod names_spots;
 mod names_stores;
 mod names_tasks;
 mod names_unknown;
+mod range_arguments;
+mod range_divisors;
+mod range_indexes;
+mod range_inputs;
+mod range_operands;
+mod range_results;
+mod range_stores;
+mod range_words;
+mod ranges;
 mod types;
 mod types_arguments;
 mod types_inputs;
@@ -34,6 +46,16 @@ pub use types_wanted::result_must_be;
 
 /// What is told of the refusal of a text with a number at a place: lines, each with its line feed, or none (own rule).
 pub fn reason(alloc: Global, text: &[u8], number: u16, place: Place) -> Result<Vec<u8>, AllocError>
+    ensures { IfOk result (λ lines. IsReason text.now number place lines.items) }
+{
+    match number {
+        40 | 41 | 42 | 43 | 44 => ranges::told(alloc, text, number, place),
+        _ => of_tree(alloc, text, number, place),
+    }
+}
+
+// What is told of a fault that is found in the tree alone.
+fn of_tree(alloc: Global, text: &[u8], number: u16, place: Place) -> Result<Vec<u8>, AllocError>
     ensures { IfOk result (λ lines. IsReason text.now number place lines.items) }
 {
     match spelled(alloc, text) {
@@ -59,6 +81,7 @@ fn told(alloc: Global, written: Written, number: u16, place: Place) -> Result<Ve
     match number {
         20 | 21 | 33 | 34 | 38 => names::told(alloc, &names, number, place),
         25 | 30 | 31 | 32 | 37 => types::told(alloc, &names, number, place),
+        36 | 46 => chains::told(alloc, &names, number, place),
         _ => Ok(Vec::new(alloc)),
     }
 }

@@ -1,9 +1,6 @@
-use Rattle.std.proofs.lemmas.Result.{IfOk-weaker}
-use Rattle.il_reasons.specs.Reasons.{IsReason, AreTold, spelled}
+use Rattle.il_reasons.specs.Reasons.{of_ranges}
+use Rattle.il_reasons.proofs.Pieces.{if_ok}
 use Rattle.il_reasons.proofs.reason.Goals as goal
 
--- what is told of the configuration that the text spells is told of the text
-pub returns-in-Ok : goal.returns-in-Ok
-returns-in-Ok c =
-    IfOk-weaker c.told.result (λ lines. AreTold c.in-Ok.written c.args.number c.args.place lines.items) (λ lines. IsReason c.args.text.now c.args.number c.args.place lines.items)
-    (λ lines told. spelled c.in-Ok.written c.in-Ok.ensures told) c.told.ensures
+pub returns-in-40 : goal.returns-in-40
+returns-in-40 c = if_ok c.told.result _ _ (λ lines told. of_ranges told) c.told.ensures

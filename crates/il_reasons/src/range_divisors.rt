@@ -1,0 +1,162 @@
+// What is told of a divisor that may be 0.
+
+ghost use Rattle.std.specs.Prelude.{◌≡◌, ◌++◌, OnOk, codes, string_bytes};
+ghost use Rattle.il_ranges.specs.Kinds.{is_division};
+ghost use Rattle.il_reasons.specs.RangeWords.{ends_text, reference_text};
+ghost use Rattle.il_reasons.specs.RangeReasons.{operand_name, divided_text, divided_by, inner_text, divisor_text, value_text};
+
+use crate::range_operands::range_at;
+use crate::range_words::{put, put_ends, put_reference};
+use il_interval::Interval;
+use il_ranges::PlaceFacts;
+use il_run::known::Known;
+use il_scope::UnitScope;
+use il_spec::tree::{Arithmetic, Instruction, Operator, Reference};
+use std::alloc::AllocError;
+
+// ` D`
+fn put_spaced(text: &mut String, reference: &Reference) -> Result<(), AllocError>
+    ensures { OnOk result (string_bytes text.new ≡ string_bytes text.old
+        ++ (codes " " ++ reference_text reference.now)) }
+{
+    text.push_str(" ")?;
+    put_reference(text, reference)
+}
+
+// ` D`, the name of an operand that has one.
+fn put_name(text: &mut String, reference: &Reference) -> Result<(), AllocError>
+    ensures { OnOk result (string_bytes text.new ≡ string_bytes text.old
+        ++ operand_name reference.now) }
+{
+    match reference {
+        Reference::Literal(_) => Ok(()),
+        Reference::Variable(_) => put_spaced(text, reference),
+        Reference::Element(_, _) => put_spaced(text, reference),
+        Reference::Member(_, _) => put_spaced(text, reference),
+    }
+}
+
+/// ` D is 0..5`
+pub(crate) fn put_named_range(
+    text: &mut String,
+    reference: &Reference,
+    range: Interval,
+) -> Result<(), AllocError>
+    ensures { OnOk result (string_bytes text.new ≡ string_bytes text.old
+        ++ (operand_name reference.now ++ (codes " is " ++ (ends_text range ++ codes "\n")))) }
+{
+    put_name(text, reference)?;
+    text.push_str(" is ")?;
+    put_ends(text, range)?;
+    text.push_str("\n")
+}
+
+/// `, and the value N is 0..5`
+pub(crate) fn put_value(
+    text: &mut String,
+    reference: &Reference,
+    range: Interval,
+) -> Result<(), AllocError>
+    ensures { OnOk result (string_bytes text.new ≡ string_bytes text.old
+        ++ value_text reference.now range) }
+{
+    put(text, ", and the value")?;
+    put_named_range(text, reference, range)
+}
+
+// `the divisor D is 0..5`
+fn put_divisor_range(
+    text: &mut String,
+    reference: &Reference,
+    range: Interval,
+) -> Result<(), AllocError>
+    ensures { OnOk result (string_bytes text.new ≡ string_bytes text.old
+        ++ (codes "the divisor" ++ (operand_name reference.now ++ (codes " is "
+        ++ (ends_text range ++ codes "\n"))))) }
+{
+    put(text, "the divisor")?;
+    put_named_range(text, reference, range)
+}
+
+// The same, where there is a range.
+fn put_divided(
+    text: &mut String,
+    reference: &Reference,
+    range: Option<Interval>,
+) -> Result<(), AllocError>
+    ensures { OnOk result (string_bytes text.new ≡ string_bytes text.old
+        ++ divided_text reference.now range) }
+{
+    match range {
+        Some(range) => put_divisor_range(text, reference, range),
+        None => Ok(()),
+    }
+}
+
+// Whether an operator divides.
+fn is_division(operator: Operator) -> bool
+    ensures { result ≡ is_division operator }
+{
+    matches!(
+        operator,
+        Operator::Arithmetic(Arithmetic::Div) | Operator::Arithmetic(Arithmetic::Mod)
+    )
+}
+
+// The same of an operator that divides.
+fn put_divided_by(
+    text: &mut String,
+    operator: Operator,
+    reference: &Reference,
+    range: Option<Interval>,
+) -> Result<(), AllocError>
+    ensures { OnOk result (string_bytes text.new ≡ string_bytes text.old
+        ++ divided_by operator reference.now range) }
+{
+    if is_division(operator) {
+        put_divided(text, reference, range)
+    } else {
+        Ok(())
+    }
+}
+
+// `the divisor in the parentheses is 0..5`
+fn put_inner_range(text: &mut String, range: Interval) -> Result<(), AllocError>
+    ensures { OnOk result (string_bytes text.new ≡ string_bytes text.old
+        ++ (codes "the divisor in the parentheses is " ++ (ends_text range ++ codes "\n"))) }
+{
+    put(text, "the divisor in the parentheses is ")?;
+    put_ends(text, range)?;
+    put(text, "\n")
+}
+
+// Of what `)` divides by, the current result.
+fn put_inner(text: &mut String, current: Option<Known>) -> Result<(), AllocError>
+    ensures { OnOk result (string_bytes text.new ≡ string_bytes text.old ++ inner_text current) }
+{
+    match current {
+        Some(Known::Ranged(_, range)) => put_inner_range(text, range),
+        Some(Known::Flag) => Ok(()),
+        None => Ok(()),
+    }
+}
+
+/// Of an instruction.
+pub(crate) fn put_divisor(
+    text: &mut String,
+    unit: &UnitScope,
+    known: &PlaceFacts,
+    instruction: &Instruction,
+) -> Result<(), AllocError>
+    ensures { OnOk result (string_bytes text.new ≡ string_bytes text.old
+        ++ divisor_text unit.now known.now instruction.now) }
+{
+    match instruction {
+        Instruction::Operate { operator, operand } => {
+            let range = range_at(unit, known, &operand.reference);
+            put_divided_by(text, *operator, &operand.reference, range)
+        }
+        Instruction::Evaluate => put_inner(text, known.result()),
+        _ => Ok(()),
+    }
+}

@@ -1,0 +1,210 @@
+// What is told of an index that may lie outside of its array.
+
+ghost use Rattle.std.specs.Prelude.{◌≡◌, ◌++◌, OnOk, string_bytes};
+ghost use Rattle.il_reasons.specs.RangeReasons.{index_range, outside_text, unless_within, array_text, element_text, operand_index_text, first_index_text, argument_index_text, operands_index_text, arguments_index_text, indexes_text};
+
+use crate::range_operands::{bounds_named, lies_within, only};
+use crate::range_words::{put, put_ends, put_index, put_limits, put_line_of};
+use il_interval::Interval;
+use il_ranges::PlaceFacts;
+use il_scope::UnitScope;
+use il_spec::tree::{Argument, Index, Instruction, Operand, Reference, Subrange, Unit};
+use std::alloc::AllocError;
+
+// The range of an index.
+fn index_range(known: &PlaceFacts, index: &Index) -> Option<Interval>
+    ensures { result ≡ index_range known.now index.now }
+{
+    match index {
+        Index::Number(number) => Some(only(*number)),
+        Index::Variable(name) => known.range(name.as_str()),
+    }
+}
+
+// `the index I is 0..9, and A has 1..8, declared in line 4`
+fn put_outside(
+    text: &mut String,
+    unit: &Unit,
+    name: &str,
+    index: &Index,
+    range: Interval,
+    bounds: Subrange,
+) -> Result<(), AllocError>
+    ensures { OnOk result (string_bytes text.new ≡ string_bytes text.old
+        ++ outside_text unit.now name.now index.now range bounds) }
+{
+    put(text, "the index ")?;
+    put_index(text, index)?;
+    put(text, " is ")?;
+    put_ends(text, range)?;
+    put(text, ", and ")?;
+    put(text, name)?;
+    put(text, " has ")?;
+    put_limits(text, bounds)?;
+    put_line_of(text, unit, name)?;
+    put(text, "\n")
+}
+
+// The same, where the index may lie outside of the array.
+fn put_unless_within(
+    text: &mut String,
+    unit: &Unit,
+    name: &str,
+    index: &Index,
+    range: Interval,
+    bounds: Subrange,
+) -> Result<(), AllocError>
+    ensures { OnOk result (string_bytes text.new ≡ string_bytes text.old
+        ++ unless_within unit.now name.now index.now range bounds) }
+{
+    if lies_within(range, bounds) {
+        Ok(())
+    } else {
+        put_outside(text, unit, name, index, range, bounds)
+    }
+}
+
+// The same, where the name is that of an array.
+fn put_array(
+    text: &mut String,
+    unit: &Unit,
+    name: &str,
+    index: &Index,
+    range: Interval,
+    bounds: Option<Subrange>,
+) -> Result<(), AllocError>
+    ensures { OnOk result (string_bytes text.new ≡ string_bytes text.old
+        ++ array_text unit.now name.now index.now range bounds) }
+{
+    match bounds {
+        Some(bounds) => put_unless_within(text, unit, name, index, range, bounds),
+        None => Ok(()),
+    }
+}
+
+// The same, where the index has a range.
+fn put_element(
+    text: &mut String,
+    unit: &UnitScope,
+    name: &str,
+    index: &Index,
+    range: Option<Interval>,
+) -> Result<(), AllocError>
+    ensures { OnOk result (string_bytes text.new ≡ string_bytes text.old
+        ++ element_text unit.now name.now index.now range) }
+{
+    match range {
+        Some(range) => {
+            let bounds = bounds_named(unit, name);
+            put_array(text, unit.tree(), name, index, range, bounds)
+        }
+        None => Ok(()),
+    }
+}
+
+// Of an operand.
+fn put_operand(
+    text: &mut String,
+    unit: &UnitScope,
+    known: &PlaceFacts,
+    reference: &Reference,
+) -> Result<(), AllocError>
+    ensures { OnOk result (string_bytes text.new ≡ string_bytes text.old
+        ++ operand_index_text unit.now known.now reference.now) }
+{
+    match reference {
+        Reference::Element(name, index) => {
+            put_element(text, unit, name.as_str(), index, index_range(known, index))
+        }
+        _ => Ok(()),
+    }
+}
+
+// Of an operand that may not be there.
+fn put_first(
+    text: &mut String,
+    unit: &UnitScope,
+    known: &PlaceFacts,
+    first: &Option<Operand>,
+) -> Result<(), AllocError>
+    ensures { OnOk result (string_bytes text.new ≡ string_bytes text.old
+        ++ first_index_text unit.now known.now first.now) }
+{
+    match first {
+        Some(operand) => put_operand(text, unit, known, &operand.reference),
+        None => Ok(()),
+    }
+}
+
+// Of an argument.
+fn put_argument(
+    text: &mut String,
+    unit: &UnitScope,
+    known: &PlaceFacts,
+    argument: &Argument,
+) -> Result<(), AllocError>
+    ensures { OnOk result (string_bytes text.new ≡ string_bytes text.old
+        ++ argument_index_text unit.now known.now argument.now) }
+{
+    match argument {
+        Argument::Input { operand, .. } => put_operand(text, unit, known, &operand.reference),
+        Argument::Output { .. } => Ok(()),
+    }
+}
+
+// Of operands, in the written order.
+fn put_operands(
+    text: &mut String,
+    unit: &UnitScope,
+    known: &PlaceFacts,
+    operands: &[Operand],
+) -> Result<(), AllocError>
+    ensures { OnOk result (string_bytes text.new ≡ string_bytes text.old
+        ++ operands_index_text unit.now known.now operands.now) }
+{
+    'operands: for operand in operands {
+        put_operand(text, unit, known, &operand.reference)?;
+    }
+    Ok(())
+}
+
+// Of arguments, in the written order.
+fn put_arguments(
+    text: &mut String,
+    unit: &UnitScope,
+    known: &PlaceFacts,
+    arguments: &[Argument],
+) -> Result<(), AllocError>
+    ensures { OnOk result (string_bytes text.new ≡ string_bytes text.old
+        ++ arguments_index_text unit.now known.now arguments.now) }
+{
+    'arguments: for argument in arguments {
+        put_argument(text, unit, known, argument)?;
+    }
+    Ok(())
+}
+
+/// Of an instruction.
+pub(crate) fn put_indexes(
+    text: &mut String,
+    unit: &UnitScope,
+    known: &PlaceFacts,
+    instruction: &Instruction,
+) -> Result<(), AllocError>
+    ensures { OnOk result (string_bytes text.new ≡ string_bytes text.old
+        ++ indexes_text unit.now known.now instruction.now) }
+{
+    match instruction {
+        Instruction::Load { operand, .. } => put_operand(text, unit, known, &operand.reference),
+        Instruction::Store { target, .. } => put_operand(text, unit, known, &target.reference),
+        Instruction::Operate { operand, .. } => put_operand(text, unit, known, &operand.reference),
+        Instruction::Defer { first, .. } => put_first(text, unit, known, first),
+        Instruction::Call { arguments, .. } => {
+            put_arguments(text, unit, known, arguments.as_slice())
+        }
+        Instruction::Invoke { operands, .. } => {
+            put_operands(text, unit, known, operands.as_slice())
+        }
+        _ => Ok(()),
+    }
+}

@@ -1,0 +1,360 @@
+// What is told of a result that may leave its type.
+
+ghost use Rattle.std.specs.Prelude.{◌≡◌, ◌++◌, OnOk, true, codes, string_bytes};
+ghost use Rattle.il_spec.specs.ElementaryTypes.{plain};
+ghost use Rattle.il_interval.specs.Interval.{IsOperand};
+ghost use Rattle.il_reasons.specs.RangeWords.{scalar_text};
+ghost use Rattle.il_reasons.specs.RangeReasons.{sign_text, given_by, is_end, is_operand, given_from, left_text, operated_text, operated_unless, operated_by, right_text, sides_text, operator_text, converted_text, converted_unless, absolute_text, absolute_unless, absolute_of, function_text, standard_text, invoked_text, overflow_text};
+
+use crate::range_operands::{lies_in, range_at};
+use crate::range_words::{put, put_ends, put_scalar};
+use il_interval::Interval;
+use il_ranges::PlaceFacts;
+use il_rules::elementary::limits;
+use il_rules::names::StandardFunction;
+use il_run::known::Known;
+use il_scope::UnitScope;
+use il_scope::functions::standard_function;
+use il_spec::tree::{Arithmetic, Elementary, Instruction, Operator, Reference, Scalar};
+use std::alloc::AllocError;
+
+// An elementary type without a subrange.
+fn plain(elementary: Elementary) -> Scalar
+    ensures { result ≡ plain elementary }
+{
+    Scalar {
+        elementary,
+        subrange: None,
+    }
+}
+
+// The sign of an operation.
+fn sign_text(kind: Arithmetic) -> &'static str
+    ensures { result.now ≡ sign_text kind }
+{
+    match kind {
+        Arithmetic::Add => " + ",
+        Arithmetic::Sub => " - ",
+        Arithmetic::Mul => " * ",
+        Arithmetic::Div => " / ",
+        Arithmetic::Mod => " MOD ",
+    }
+}
+
+// What an operation gives for all values of its sides, as far as it is told.
+fn given_by(kind: Arithmetic, left: Interval, right: Interval) -> Option<Interval>
+    requires left { IsOperand left }
+    requires right { IsOperand right }
+    ensures { result ≡ given_by kind left right }
+{
+    match kind {
+        Arithmetic::Add => Some(left.add(right)),
+        Arithmetic::Sub => Some(left.sub(right)),
+        Arithmetic::Mul => Some(left.mul(right)),
+        Arithmetic::Div => None,
+        Arithmetic::Mod => None,
+    }
+}
+
+// Whether a number is a DINT or a UDINT.
+fn is_end(number: i128) -> bool
+    ensures { result ≡ is_end number }
+{
+    -2_147_483_648 <= number && number <= 4_294_967_295
+}
+
+// Whether a range can be an operand.
+fn is_operand(range: Interval) -> bool
+    ensures is { result ≡ is_operand range }
+    ensures operand { result ≡ true → IsOperand range }
+{
+    is_end(range.lo) && is_end(range.hi) && range.lo <= range.hi
+}
+
+// What an operation gives, where its sides can be operands.
+fn given_from(kind: Arithmetic, left: Interval, right: Interval) -> Option<Interval>
+    ensures { result ≡ given_from kind left right }
+{
+    if is_operand(left) && is_operand(right) {
+        given_by(kind, left, right)
+    } else {
+        None
+    }
+}
+
+// ` gives 0..300, outside SINT (-128..127)`
+fn put_left(text: &mut String, elementary: Elementary, range: Interval) -> Result<(), AllocError>
+    ensures { OnOk result (string_bytes text.new ≡ string_bytes text.old
+        ++ left_text elementary range) }
+{
+    text.push_str(" gives ")?;
+    put_ends(text, range)?;
+    text.push_str(", outside ")?;
+    put_scalar(text, plain(elementary))?;
+    text.push_str("\n")
+}
+
+// `0..200 + 0..100 gives 0..300, outside SINT (-128..127)`
+fn put_operated(
+    text: &mut String,
+    elementary: Elementary,
+    kind: Arithmetic,
+    left: Interval,
+    right: Interval,
+    given: Interval,
+) -> Result<(), AllocError>
+    ensures { OnOk result (string_bytes text.new ≡ string_bytes text.old
+        ++ operated_text elementary kind left right given) }
+{
+    put_ends(text, left)?;
+    text.push_str(sign_text(kind))?;
+    put_ends(text, right)?;
+    put_left(text, elementary, given)
+}
+
+// The same, where the range is not of the type.
+fn put_operated_unless(
+    text: &mut String,
+    elementary: Elementary,
+    kind: Arithmetic,
+    left: Interval,
+    right: Interval,
+    given: Interval,
+) -> Result<(), AllocError>
+    ensures { OnOk result (string_bytes text.new ≡ string_bytes text.old
+        ++ operated_unless elementary kind left right given) }
+{
+    if lies_in(given, limits(elementary)) {
+        Ok(())
+    } else {
+        put_operated(text, elementary, kind, left, right, given)
+    }
+}
+
+// The same, where there is a range.
+fn put_operated_by(
+    text: &mut String,
+    elementary: Elementary,
+    kind: Arithmetic,
+    left: Interval,
+    right: Interval,
+    given: Option<Interval>,
+) -> Result<(), AllocError>
+    ensures { OnOk result (string_bytes text.new ≡ string_bytes text.old
+        ++ operated_by elementary kind left right given) }
+{
+    match given {
+        Some(given) => put_operated_unless(text, elementary, kind, left, right, given),
+        None => Ok(()),
+    }
+}
+
+// The same, where the right side has a range.
+fn put_right(
+    text: &mut String,
+    elementary: Elementary,
+    kind: Arithmetic,
+    left: Interval,
+    right: Option<Interval>,
+) -> Result<(), AllocError>
+    ensures { OnOk result (string_bytes text.new ≡ string_bytes text.old
+        ++ right_text elementary kind left right) }
+{
+    match right {
+        Some(right) => {
+            let given = given_from(kind, left, right);
+            put_operated_by(text, elementary, kind, left, right, given)
+        }
+        None => Ok(()),
+    }
+}
+
+// The same, where the left side has a range.
+fn put_sides(
+    text: &mut String,
+    kind: Arithmetic,
+    left: Option<Known>,
+    right: Option<Interval>,
+) -> Result<(), AllocError>
+    ensures { OnOk result (string_bytes text.new ≡ string_bytes text.old
+        ++ sides_text kind left right) }
+{
+    match left {
+        Some(Known::Ranged(elementary, left)) => put_right(text, elementary, kind, left, right),
+        Some(Known::Flag) => Ok(()),
+        None => Ok(()),
+    }
+}
+
+// Of an operator.
+fn put_operator(
+    text: &mut String,
+    unit: &UnitScope,
+    known: &PlaceFacts,
+    operator: Operator,
+    reference: &Reference,
+) -> Result<(), AllocError>
+    ensures { OnOk result (string_bytes text.new ≡ string_bytes text.old
+        ++ operator_text unit.now known.now operator reference.now) }
+{
+    match operator {
+        Operator::Arithmetic(kind) => {
+            put_sides(text, kind, known.result(), range_at(unit, known, reference))
+        }
+        _ => Ok(()),
+    }
+}
+
+// ` is outside SINT (-128..127)`
+fn put_outside(text: &mut String, scalar: Scalar) -> Result<(), AllocError>
+    ensures { OnOk result (string_bytes text.new ≡ string_bytes text.old
+        ++ (codes " is outside " ++ (scalar_text scalar ++ codes "\n"))) }
+{
+    put(text, " is outside ")?;
+    put_scalar(text, scalar)?;
+    put(text, "\n")
+}
+
+// `0..300 is outside SINT (-128..127)`
+fn put_converted(text: &mut String, to: Elementary, range: Interval) -> Result<(), AllocError>
+    ensures { OnOk result (string_bytes text.new ≡ string_bytes text.old
+        ++ converted_text to range) }
+{
+    put_ends(text, range)?;
+    put_outside(text, plain(to))
+}
+
+// The same, where it is.
+fn put_converted_unless(
+    text: &mut String,
+    to: Elementary,
+    range: Interval,
+) -> Result<(), AllocError>
+    ensures { OnOk result (string_bytes text.new ≡ string_bytes text.old
+        ++ converted_unless to range) }
+{
+    if lies_in(range, limits(to)) {
+        Ok(())
+    } else {
+        put_converted(text, to, range)
+    }
+}
+
+// `ABS of -128..5 gives 0..128, outside SINT (-128..127)`
+fn put_absolute(
+    text: &mut String,
+    elementary: Elementary,
+    range: Interval,
+) -> Result<(), AllocError>
+    requires { IsOperand range }
+    ensures { OnOk result (string_bytes text.new ≡ string_bytes text.old
+        ++ absolute_text elementary range) }
+{
+    text.push_str("ABS of ")?;
+    put_ends(text, range)?;
+    put_left(text, elementary, range.abs())
+}
+
+// The same, where it is.
+fn put_absolute_unless(
+    text: &mut String,
+    elementary: Elementary,
+    range: Interval,
+) -> Result<(), AllocError>
+    requires { IsOperand range }
+    ensures { OnOk result (string_bytes text.new ≡ string_bytes text.old
+        ++ absolute_unless elementary range) }
+{
+    if lies_in(range.abs(), limits(elementary)) {
+        Ok(())
+    } else {
+        put_absolute(text, elementary, range)
+    }
+}
+
+// The same of a range that can be an operand.
+fn put_absolute_of(
+    text: &mut String,
+    elementary: Elementary,
+    range: Interval,
+) -> Result<(), AllocError>
+    ensures { OnOk result (string_bytes text.new ≡ string_bytes text.old
+        ++ absolute_of elementary range) }
+{
+    if is_operand(range) {
+        put_absolute_unless(text, elementary, range)
+    } else {
+        Ok(())
+    }
+}
+
+// Of a standard function on the current result.
+fn put_function(
+    text: &mut String,
+    function: StandardFunction,
+    elementary: Elementary,
+    range: Interval,
+) -> Result<(), AllocError>
+    ensures { OnOk result (string_bytes text.new ≡ string_bytes text.old
+        ++ function_text function elementary range) }
+{
+    match function {
+        StandardFunction::Converted(_, to) => put_converted_unless(text, to, range),
+        StandardFunction::Absolute => put_absolute_of(text, elementary, range),
+        _ => Ok(()),
+    }
+}
+
+// The same, where there is one.
+fn put_standard(
+    text: &mut String,
+    function: Option<StandardFunction>,
+    elementary: Elementary,
+    range: Interval,
+) -> Result<(), AllocError>
+    ensures { OnOk result (string_bytes text.new ≡ string_bytes text.old
+        ++ standard_text function elementary range) }
+{
+    match function {
+        Some(function) => put_function(text, function, elementary, range),
+        None => Ok(()),
+    }
+}
+
+// The same, where the current result has a range.
+fn put_invoked(
+    text: &mut String,
+    function: Option<StandardFunction>,
+    current: Option<Known>,
+) -> Result<(), AllocError>
+    ensures { OnOk result (string_bytes text.new ≡ string_bytes text.old
+        ++ invoked_text function current) }
+{
+    match current {
+        Some(Known::Ranged(elementary, range)) => put_standard(text, function, elementary, range),
+        Some(Known::Flag) => Ok(()),
+        None => Ok(()),
+    }
+}
+
+/// Of an instruction.
+pub(crate) fn put_overflow(
+    text: &mut String,
+    unit: &UnitScope,
+    known: &PlaceFacts,
+    instruction: &Instruction,
+) -> Result<(), AllocError>
+    ensures { OnOk result (string_bytes text.new ≡ string_bytes text.old
+        ++ overflow_text unit.now known.now instruction.now) }
+{
+    match instruction {
+        Instruction::Operate { operator, operand } => {
+            put_operator(text, unit, known, *operator, &operand.reference)
+        }
+        Instruction::Invoke { function, .. } => {
+            let standard = standard_function(function.name.as_str());
+            put_invoked(text, standard, known.result())
+        }
+        _ => Ok(()),
+    }
+}

@@ -1,0 +1,89 @@
+// What is told of a stored value that may leave its variable's range.
+
+ghost use Rattle.std.specs.Prelude.{◌≡◌, ◌++◌, OnOk, string_bytes};
+ghost use Rattle.il_reasons.specs.RangeReasons.{stored_text, target_text, result_text, store_text};
+
+use crate::range_operands::scalar_named;
+use crate::range_words::{put, put_ends, put_reference, put_scalar, put_where};
+use il_interval::Interval;
+use il_ranges::PlaceFacts;
+use il_run::known::Known;
+use il_scope::UnitScope;
+use il_spec::tree::{Instruction, Reference, Scalar, Unit};
+use std::alloc::AllocError;
+
+// `stores 0..10 into V : INT (0..9), declared in line 3`
+fn put_stored(
+    text: &mut String,
+    unit: &Unit,
+    range: Interval,
+    target: &Reference,
+    scalar: Scalar,
+) -> Result<(), AllocError>
+    ensures { OnOk result (string_bytes text.new ≡ string_bytes text.old
+        ++ stored_text unit.now range target.now scalar) }
+{
+    put(text, "stores ")?;
+    put_ends(text, range)?;
+    put(text, " into ")?;
+    put_reference(text, target)?;
+    put(text, " : ")?;
+    put_scalar(text, scalar)?;
+    put_where(text, unit, target)?;
+    put(text, "\n")
+}
+
+// The same, where the target has a scalar type.
+fn put_target(
+    text: &mut String,
+    unit: &Unit,
+    range: Interval,
+    target: &Reference,
+    scalar: Option<Scalar>,
+) -> Result<(), AllocError>
+    ensures { OnOk result (string_bytes text.new ≡ string_bytes text.old
+        ++ target_text unit.now range target.now scalar) }
+{
+    match scalar {
+        Some(scalar) => put_stored(text, unit, range, target, scalar),
+        None => Ok(()),
+    }
+}
+
+// The same, where the current result has a range.
+fn put_result(
+    text: &mut String,
+    unit: &UnitScope,
+    target: &Reference,
+    current: Option<Known>,
+) -> Result<(), AllocError>
+    ensures { OnOk result (string_bytes text.new ≡ string_bytes text.old
+        ++ result_text unit.now target.now current) }
+{
+    match current {
+        Some(Known::Ranged(_, range)) => {
+            let scalar = scalar_named(unit, target);
+            put_target(text, unit.tree(), range, target, scalar)
+        }
+        Some(Known::Flag) => Ok(()),
+        None => Ok(()),
+    }
+}
+
+/// Of a store.
+pub(crate) fn put_store(
+    text: &mut String,
+    unit: &UnitScope,
+    known: &PlaceFacts,
+    instruction: &Instruction,
+) -> Result<(), AllocError>
+    ensures { OnOk result (string_bytes text.new ≡ string_bytes text.old
+        ++ store_text unit.now known.now instruction.now) }
+{
+    match instruction {
+        Instruction::Store { target, .. } => {
+            put_result(text, unit, &target.reference, known.result())
+        }
+        _ => Ok(()),
+    }
+}

@@ -1,0 +1,247 @@
+// Ranges, types, operands and the lines of declarations, as they are told.
+
+ghost use Rattle.std.specs.Prelude.{◌≡◌, ◌++◌, OnOk, codes, decimal, string_bytes};
+ghost use Rattle.il_rules.specs.Names.{or_else};
+ghost use Rattle.il_reports.specs.RangeLines.{type_word};
+ghost use Rattle.il_reasons.specs.RangeWords.{ends_text, limits_text, within_text, scalar_text, index_text, reference_text, line_among, line_in, result_line, declared_line, declared_text, instance_text, where_text};
+
+use il_interval::Interval;
+use il_rules::elementary::declared_limits;
+use il_spec::tree::{
+    Declaration, Elementary, Index, Named, Reference, Scalar, Subrange, Unit, UnitKind,
+};
+use std::alloc::AllocError;
+
+// The word of a type.
+fn type_word(elementary: Elementary) -> &'static str
+    ensures { result.now ≡ type_word elementary }
+{
+    match elementary {
+        Elementary::Bool => "BOOL",
+        Elementary::Sint => "SINT",
+        Elementary::Int => "INT",
+        Elementary::Dint => "DINT",
+        Elementary::Usint => "USINT",
+        Elementary::Uint => "UINT",
+        Elementary::Udint => "UDINT",
+        Elementary::Time => "TIME",
+    }
+}
+
+/// A piece of text.
+pub(crate) fn put(text: &mut String, piece: &str) -> Result<(), AllocError>
+    ensures { OnOk result (string_bytes text.new ≡ string_bytes text.old ++ piece.now) }
+{
+    text.push_str(piece)
+}
+
+/// `LO..HI`
+#[tactic(auto, unfolding(crate::specs::RangeWords::ends_text))]
+pub(crate) fn put_ends(text: &mut String, range: Interval) -> Result<(), AllocError>
+    ensures { OnOk result (string_bytes text.new ≡ string_bytes text.old ++ ends_text range) }
+{
+    write!(text, "{}..{}", range.lo, range.hi)
+}
+
+/// `LO..HI` of written limits.
+#[tactic(auto, unfolding(crate::specs::RangeWords::limits_text))]
+pub(crate) fn put_limits(text: &mut String, limits: Subrange) -> Result<(), AllocError>
+    ensures { OnOk result (string_bytes text.new ≡ string_bytes text.old ++ limits_text limits) }
+{
+    write!(text, "{}..{}", limits.lower, limits.upper)
+}
+
+// ` (LO..HI)`, where there are limits.
+fn put_within(text: &mut String, limits: Option<Subrange>) -> Result<(), AllocError>
+    ensures { OnOk result (string_bytes text.new ≡ string_bytes text.old ++ within_text limits) }
+{
+    match limits {
+        Some(limits) => {
+            text.push_str(" (")?;
+            put_limits(text, limits)?;
+            text.push_str(")")
+        }
+        None => Ok(()),
+    }
+}
+
+/// A scalar type with its limits, as `INT (0..9)`.
+pub(crate) fn put_scalar(text: &mut String, scalar: Scalar) -> Result<(), AllocError>
+    ensures { OnOk result (string_bytes text.new ≡ string_bytes text.old ++ scalar_text scalar) }
+{
+    text.push_str(type_word(scalar.elementary))?;
+    put_within(text, declared_limits(scalar))
+}
+
+/// An index.
+pub(crate) fn put_index(text: &mut String, index: &Index) -> Result<(), AllocError>
+    ensures { OnOk result (string_bytes text.new ≡ string_bytes text.old ++ index_text index.now) }
+{
+    match index {
+        Index::Number(number) => write!(text, "{}", *number),
+        Index::Variable(name) => text.push_str(name.as_str()),
+    }
+}
+
+// `A[I]`
+fn put_element(text: &mut String, name: &str, index: &Index) -> Result<(), AllocError>
+    ensures { OnOk result (string_bytes text.new ≡ string_bytes text.old
+        ++ (name.now ++ (codes "[" ++ (index_text index.now ++ codes "]")))) }
+{
+    text.push_str(name)?;
+    text.push_str("[")?;
+    put_index(text, index)?;
+    text.push_str("]")
+}
+
+// `C.PV`
+fn put_member(text: &mut String, name: &str, word: &str) -> Result<(), AllocError>
+    ensures { OnOk result (string_bytes text.new ≡ string_bytes text.old
+        ++ (name.now ++ (codes "." ++ word.now))) }
+{
+    text.push_str(name)?;
+    text.push_str(".")?;
+    text.push_str(word)
+}
+
+/// What an operand names, as it is written; a literal names nothing.
+pub(crate) fn put_reference(text: &mut String, reference: &Reference) -> Result<(), AllocError>
+    ensures { OnOk result (string_bytes text.new ≡ string_bytes text.old
+        ++ reference_text reference.now) }
+{
+    match reference {
+        Reference::Literal(_) => Ok(()),
+        Reference::Variable(name) => text.push_str(name.as_str()),
+        Reference::Element(name, index) => put_element(text, name.as_str(), index),
+        Reference::Member(name, word) => put_member(text, name.as_str(), word.as_str()),
+    }
+}
+
+// The line of the first of some names that is this one.
+fn line_among(names: &[Named], name: &str) -> Option<u32>
+    ensures { result ≡ line_among names.now name.now }
+{
+    for one in names {
+        if one.name.as_str() == name {
+            return Some(one.place.line);
+        }
+    }
+    None
+}
+
+// The same of the names of declarations.
+fn line_in(declarations: &[Declaration], name: &str) -> Option<u32>
+    ensures { result ≡ line_in declarations.now name.now }
+{
+    for declaration in declarations {
+        if let Some(line) = line_among(declaration.names.as_slice(), name) {
+            return Some(line);
+        }
+    }
+    None
+}
+
+// The line of a function's heading, under its own name.
+fn result_line(kind: UnitKind, own: &Named, name: &str) -> Option<u32>
+    ensures { result ≡ result_line kind own.now name.now }
+{
+    match kind {
+        UnitKind::Function(_, _) => {
+            if own.name.as_str() == name {
+                Some(own.place.line)
+            } else {
+                None
+            }
+        }
+        _ => None,
+    }
+}
+
+// The first line that is there.
+fn first_line(first: Option<u32>, other: Option<u32>) -> Option<u32>
+    ensures { result ≡ or_else first other }
+{
+    match first {
+        Some(line) => Some(line),
+        None => other,
+    }
+}
+
+// The line in which a unit declares the variable that it means by a name; an image name has none.
+fn declared_line(unit: &Unit, name: &str) -> Option<u32>
+    ensures { result ≡ declared_line unit.now name.now }
+{
+    let own = result_line(unit.kind, &unit.name, name);
+    let inputs = line_in(unit.inputs.as_slice(), name);
+    let outputs = line_in(unit.outputs.as_slice(), name);
+    let variables = line_in(unit.variables.as_slice(), name);
+    let externals = line_in(unit.externals.as_slice(), name);
+    let inner = first_line(outputs, first_line(variables, externals));
+    first_line(own, first_line(inputs, inner))
+}
+
+// `, declared in line N`, where there is a line.
+fn put_declared(text: &mut String, line: Option<u32>) -> Result<(), AllocError>
+    ensures { OnOk result (string_bytes text.new ≡ string_bytes text.old ++ declared_text line) }
+{
+    match line {
+        Some(line) => write!(text, ", declared in line {}", line),
+        None => Ok(()),
+    }
+}
+
+/// `, declared in line N` of the line in which a unit declares a name, where there is one.
+pub(crate) fn put_line_of(text: &mut String, unit: &Unit, name: &str) -> Result<(), AllocError>
+    ensures { OnOk result (string_bytes text.new ≡ string_bytes text.old
+        ++ declared_text (declared_line unit.now name.now)) }
+{
+    put_declared(text, declared_line(unit, name))
+}
+
+// ` declared in line N`
+fn put_in_line(text: &mut String, line: u32) -> Result<(), AllocError>
+    ensures { OnOk result (string_bytes text.new ≡ string_bytes text.old
+        ++ (codes " declared in line " ++ decimal line)) }
+{
+    write!(text, " declared in line {}", line)
+}
+
+// `, C declared in line N`
+fn put_declared_name(text: &mut String, name: &str, line: u32) -> Result<(), AllocError>
+    ensures { OnOk result (string_bytes text.new ≡ string_bytes text.old
+        ++ (codes ", " ++ (name.now ++ (codes " declared in line " ++ decimal line)))) }
+{
+    put(text, ", ")?;
+    put(text, name)?;
+    put_in_line(text, line)
+}
+
+// The same, where there is a line.
+fn put_instance(text: &mut String, name: &str, line: Option<u32>) -> Result<(), AllocError>
+    ensures { OnOk result (string_bytes text.new ≡ string_bytes text.old
+        ++ instance_text name.now line) }
+{
+    match line {
+        Some(line) => put_declared_name(text, name, line),
+        None => Ok(()),
+    }
+}
+
+/// The line in which what an operand names is declared, of a member the instance.
+pub(crate) fn put_where(
+    text: &mut String,
+    unit: &Unit,
+    reference: &Reference,
+) -> Result<(), AllocError>
+    ensures { OnOk result (string_bytes text.new ≡ string_bytes text.old
+        ++ where_text unit.now reference.now) }
+{
+    match reference {
+        Reference::Literal(_) => Ok(()),
+        Reference::Variable(name) => put_line_of(text, unit, name.as_str()),
+        Reference::Element(name, _) => put_line_of(text, unit, name.as_str()),
+        Reference::Member(name, _) => {
+            put_instance(text, name.as_str(), declared_line(unit, name.as_str()))
+        }
+    }
+}
