@@ -29,7 +29,7 @@ use Rattle.il_spec.specs.declared.tree.Argument.TheVariants.{Input, Output}
 use Rattle.il_spec.specs.declared.tree.Instruction.{Instruction}
 use Rattle.il_spec.specs.declared.tree.Instruction.TheVariants.{Load, Store as StoreInto, Not, Operate, Defer, Evaluate, Jump, Return, Call, Invoke}
 use Rattle.il_spec.specs.declared.tree.Step.{Step}
-use Rattle.il_rules.specs.Names.{Spelling, BlockVariables, Meaning, MeansVariable, MeansUnit, MeansStandard, meaning, meant_variable, block_variables, standard_function, function_named}
+use Rattle.il_rules.specs.Names.{Spelling, BlockVariables, Meaning, MeansVariable, MeansUnit, MeansStandard, meaning, meant_variable, block_variables, is_predeclared, standard_function, function_named}
 use Rattle.il_rules.specs.Declarations as rule
 use Rattle.il_rules.specs.Declarations.{unless, scalar_numbers, scalar_form_numbers, array_numbers, array_form_numbers, called_numbers, called_form_numbers, index_name_numbers, member_numbers, member_form_numbers, reference_numbers, argument_name_numbers, short_form_name_numbers, name_numbers, is_visible, Admitted, ScalarsAlone, ScalarsAndArrays, has_value, subrange_numbers, bounds_numbers, admits_arrays, admits_instances, instance_numbers, type_numbers, types_in, admitted_variables, result_types, unit_types, written_types, global_form, IsNameBroken, IsTypeBroken, IsExternal, IsUnknown, unknown_type, unknown_global, unknown_name}
 use Rattle.il_rules.specs.Types.{instance_block, block_of, label_place, HasUnknownLabel, unknown_label}
@@ -37,10 +37,10 @@ use Rattle.il_reasons.specs.declared.names_meant.Access.{Access}
 use Rattle.il_reasons.specs.declared.names_meant.Access.TheVariants.{Reads, Stores}
 use Rattle.il_reasons.specs.NamesNear.{Nearest, hint, ending, nearest}
 use Rattle.il_reasons.specs.NameSpots.{is_at}
-use Rattle.il_reasons.specs.NamesKnown.{functions_near, blocks_near, globals_near}
+use Rattle.il_reasons.specs.NamesKnown.{variables_near, functions_near, blocks_near, globals_near}
 use Rattle.il_reasons.specs.NamesLabels.{missing_line, missing_text, labels_near, jump_text, body_text, label_lines}
 use Rattle.il_reasons.specs.NamesLabels as labels
-use Rattle.il_reasons.specs.NamesUnknown.{meant_by, meant_by_form, unknown_line, no_function_line, instance_line, unit_line, standard_line, no_instance_line, no_word, no_word_line, unknown_text, scalar_by, meaning_by, member_by, rule_access, reference_text, read_text, index_text, argument_text, short_form_text, function_text, instruction_text, step_text, form_text, type_text, global_text, external_text, externals_text, types_text, unit_text, unknown_lines}
+use Rattle.il_reasons.specs.NamesUnknown.{unknown_variable, meant_by, meant_by_form, unknown_line, unseen_line, no_function_line, instance_line, unit_line, standard_line, no_instance_line, no_word, no_word_line, unknown_text, scalar_by, meaning_by, member_by, rule_access, reference_text, read_text, index_text, argument_text, short_form_text, function_text, instruction_text, step_text, form_text, type_text, global_text, external_text, externals_text, types_text, unit_text, unknown_lines}
 use Rattle.il_reasons.specs.NamesTold.{HasLine}
 use Rattle.il_reasons.specs.NameReasons.{name_lines}
 
@@ -59,6 +59,17 @@ ending_is near = ends (hint near)
 unknown_is : (name : Spelling) (near : Option Nearest) → HasLine (unknown_line name near)
 unfolding unknown_line
 unknown_is name near = behind name _ (behind (codes " is unknown here") _ (ending_is near))
+
+unseen_is : (name : Spelling) → HasLine (unseen_line name)
+unfolding unseen_line
+unseen_is name = behind name _ (ends (codes " is a predeclared name that this unit does not see"))
+
+variable_is : (config : Config) (unit : ProgramUnit) (name : Spelling) → HasLine (unknown_variable config unit name)
+variable_is config unit name = by_test (is_predeclared config name)
+  where
+    by_test : (b : Bool) → HasLine (if b then unseen_line name else unknown_text name (variables_near config unit))
+    by_test true = unseen_is name
+    by_test false = unknown_is name _
 
 no_function_is : (name : Spelling) (near : Option Nearest) → HasLine (no_function_line name near)
 unfolding no_function_line
@@ -95,7 +106,7 @@ scalar_told : (config : Config) (unit : ProgramUnit) (name : Spelling) (m : Opti
 scalar_told config unit name (Some (MeansVariable v)) h = scalar_form_told config unit name v.form h
 scalar_told config unit name (Some (MeansUnit u)) h = unit_is name
 scalar_told config unit name (Some MeansStandard) h = standard_is name
-scalar_told config unit name None h = unknown_is name _
+scalar_told config unit name None h = variable_is config unit name
 
 other : {X : Type 0} → Contains {X = ℕ} (25 ∷ []) 21 → X
 other h = let bad : ◌≡◌ {A = ℕ} 25 21 = one_in 25 21 h in absurd (omega (arith, bad))
@@ -109,7 +120,7 @@ array_told : (config : Config) (unit : ProgramUnit) (name : Spelling) (m : Optio
 array_told config unit name (Some (MeansVariable v)) h = array_form_told v.form h
 array_told config unit name (Some (MeansUnit u)) h = other h
 array_told config unit name (Some MeansStandard) h = other h
-array_told config unit name None h = unknown_is name _
+array_told config unit name None h = variable_is config unit name
 
 called_form_told : (f : Form) {X : Type 0} → Contains (called_form_numbers f) 21 → X
 called_form_told (OfScalar s) h = other h
@@ -120,7 +131,7 @@ called_told : (config : Config) (unit : ProgramUnit) (name : Spelling) (m : Opti
 called_told config unit name (Some (MeansVariable v)) h = called_form_told v.form h
 called_told config unit name (Some (MeansUnit u)) h = other h
 called_told config unit name (Some MeansStandard) h = other h
-called_told config unit name None h = unknown_is name _
+called_told config unit name None h = variable_is config unit name
 
 -- a word behind an instance
 word_told : (access : Access) (name word : Spelling) (b : Bool) → Contains (unless b 21) 21 → HasLine (if b then [] else no_word_line access name word)
@@ -137,7 +148,7 @@ member_told : (config : Config) (unit : ProgramUnit) (access : Access) (name wor
 member_told config unit access name word (Some (MeansVariable v)) e h = member_form_told config unit access name word v.form (ap (λ m. option_and_then (λ x. block_of config x.form) (meant_variable m)) e) h
 member_told config unit access name word (Some (MeansUnit u)) e h = no_instance_is name
 member_told config unit access name word (Some MeansStandard) e h = no_instance_is name
-member_told config unit access name word None e h = unknown_is name _
+member_told config unit access name word None e h = variable_is config unit name
 
 index_told : (config : Config) (unit : ProgramUnit) (i : Index) → Contains (index_name_numbers config unit i) 21 → HasLine (index_text config unit i)
 index_told config unit (NumberIndex n) h = absurd (none_in 21 h)

@@ -17,7 +17,7 @@ use Rattle.il_spec.specs.declared.tree.Argument.TheVariants.{Input, Output}
 use Rattle.il_spec.specs.declared.tree.Instruction.{Instruction}
 use Rattle.il_spec.specs.declared.tree.Instruction.TheVariants.{Load, Store as StoreInto, Not, Operate, Defer, Evaluate, Jump, Return, Call, Invoke}
 use Rattle.il_spec.specs.declared.tree.Step.{Step}
-use Rattle.il_rules.specs.Names.{Spelling, Meaning, MeansVariable, MeansUnit, MeansStandard, meaning, block_variables, standard_function, function_named}
+use Rattle.il_rules.specs.Names.{Spelling, Meaning, MeansVariable, MeansUnit, MeansStandard, meaning, block_variables, is_predeclared, standard_function, function_named}
 use Rattle.il_rules.specs.Declarations.{global_form, is_visible}
 use Rattle.il_rules.specs.Declarations as rule
 use Rattle.il_rules.specs.Types.{instance_block}
@@ -70,6 +70,10 @@ binding_meant None = Nothing
 unfoldable pub unknown_line : Spelling → Option Nearest → List ℕ
 unknown_line name near = name ++ (codes " is unknown here" ++ ending near)
 
+-- `NAME is a predeclared name that this unit does not see`
+unfoldable pub unseen_line : Spelling → List ℕ
+unseen_line name = name ++ codes " is a predeclared name that this unit does not see\n"
+
 -- `NAME is no function`, and a name that is near
 unfoldable pub no_function_line : Spelling → Option Nearest → List ℕ
 no_function_line name near = name ++ (codes " is no function" ++ ending near)
@@ -105,9 +109,9 @@ unknown_text name known = unknown_line name (nearest name known)
 
 -- NAMES IN INSTRUCTIONS
 
--- a name that means nothing, of a variable
+-- a name that means nothing in a unit: of the image where it is predeclared, since standard functions and blocks mean something everywhere
 abbrev pub unknown_variable : Config → ProgramUnit → Spelling → List ℕ
-unknown_variable config unit name = unknown_text name (variables_near config unit)
+unknown_variable config unit name = if is_predeclared config name then unseen_line name else unknown_text name (variables_near config unit)
 
 -- where a scalar variable stands: no instance, and nothing but a variable
 abbrev pub scalar_by : Config → ProgramUnit → Spelling → Meant → List ℕ

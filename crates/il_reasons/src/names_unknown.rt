@@ -4,7 +4,7 @@ ghost use Rattle.std.specs.Prelude.{◌≡◌, ◌++◌, OnOk, flat_map, is_some
 ghost use Rattle.il_rules.specs.Names.{block_variables, function_named};
 ghost use Rattle.il_reasons.specs.NamesNear.{near_shown, candidate_shown, nearest};
 ghost use Rattle.il_reasons.specs.NamesKnown.{functions_near};
-ghost use Rattle.il_reasons.specs.NamesUnknown.{unknown_line, no_function_line, instance_line, unit_line, standard_line, no_instance_line, no_word, no_word_line, unknown_text, unknown_variable, scalar_text, meaning_text, index_text, word_text, member_text, reference_text, read_text, short_form_text, argument_text, function_text, instruction_text, step_text, block_text, form_text, type_text, global_text, external_text, externals_text, types_text, unit_text, unknown_lines};
+ghost use Rattle.il_reasons.specs.NamesUnknown.{unknown_line, unseen_line, no_function_line, instance_line, unit_line, standard_line, no_instance_line, no_word, no_word_line, unknown_text, unknown_variable, scalar_text, meaning_text, index_text, word_text, member_text, reference_text, read_text, short_form_text, argument_text, function_text, instruction_text, step_text, block_text, form_text, type_text, global_text, external_text, externals_text, types_text, unit_text, unknown_lines};
 
 use crate::names_known::{blocks_near, functions_near, globals_near, variables_near};
 use crate::names_meant::{Access, Meant, is_visible, meaning_of};
@@ -542,7 +542,7 @@ fn put_word(
     }
 }
 
-// A name that means nothing, of a variable.
+// A name that means nothing in a unit.
 fn put_unknown_variable(
     alloc: Global,
     text: &mut String,
@@ -552,6 +552,9 @@ fn put_unknown_variable(
     ensures { OnOk result (string_bytes text.new ≡ string_bytes text.old
         ++ unknown_variable here.now.config here.now.unit name.now) }
 {
+    if here.names().is_predeclared(name) {
+        return put_unseen_line(text, name);
+    }
     let known = variables_near(alloc, here)?;
     put_unknown(alloc, text, name, known.as_slice())
 }
@@ -577,6 +580,15 @@ fn put_unknown_line(text: &mut String, name: &str, near: Option<Near<'_>>) -> Re
 {
     write!(text, "{} is unknown here", name)?;
     put_ending(text, near)
+}
+
+#[tactic(auto, unfolding(crate::specs::NamesUnknown::unseen_line))]
+fn put_unseen_line(text: &mut String, name: &str) -> Result<(), AllocError>
+    ensures { OnOk result (string_bytes text.new ≡ string_bytes text.old
+        ++ unseen_line name.now) }
+{
+    text.push_str(name)?;
+    text.push_str(" is a predeclared name that this unit does not see\n")
 }
 
 #[tactic(auto, unfolding(crate::specs::NamesUnknown::no_function_line))]
