@@ -8,6 +8,7 @@ ghost use Rattle.il_reasons.specs.Reasons.{IsReason, AreTold};
 mod names;
 mod types;
 mod types_arguments;
+mod types_initials;
 mod types_inputs;
 mod types_kinds;
 mod types_operands;
