@@ -8,9 +8,11 @@ pub mod NamesStores
 pub mod NamesTasks
 pub mod NamesTold
 pub mod NameReasons
+pub mod TypeWords
 pub mod TypeReasons
 pub mod ArgumentReasons
 pub mod KindReasons
+pub mod InitialReasons
 pub mod RangeWords
 pub mod RangeReasons
 pub mod ChainReasons

@@ -1,5 +1,5 @@
 -- What is told of types (own rules).
-use Rattle.std.specs.Prelude.{◌≡◌, ℕ, ◌==◌, Bool, true, false, ◌||◌, if◌then◌else◌, List, [], ◌∷◌, ◌++◌, flat_map, Option, Some, None, codes}
+use Rattle.std.specs.Prelude.{◌≡◌, ℕ, ◌==◌, Bool, ◌||◌, if◌then◌else◌, List, [], ◌∷◌, ◌++◌, flat_map, Option, Some, None, codes}
 use Rattle.std.specs.Fmt.{signed_decimal}
 use Rattle.il_spec.specs.declared.tree.Argument.{Argument}
 use Rattle.il_spec.specs.declared.tree.Argument.TheVariants.{Input, Output}
@@ -8,14 +8,12 @@ use Rattle.il_spec.specs.declared.tree.Condition.TheVariants.{Always, WhenTrue, 
 use Rattle.il_spec.specs.declared.tree.Config.{Config}
 use Rattle.il_spec.specs.declared.tree.Declaration.{Declaration}
 use Rattle.il_spec.specs.declared.tree.Elementary.{Elementary}
-use Rattle.il_spec.specs.declared.tree.Elementary.TheVariants.{Bool as Boolean, Sint, Int, Dint, Usint, Uint, Udint, Time}
+use Rattle.il_spec.specs.declared.tree.Elementary.TheVariants.{Bool as Boolean}
 use Rattle.il_spec.specs.declared.tree.Form.{Form}
 use Rattle.il_spec.specs.declared.tree.Index.{Index}
 use Rattle.il_spec.specs.declared.tree.Index.TheVariants.{Number as NumberIndex, Variable as VariableIndex}
 use Rattle.il_spec.specs.declared.tree.Instruction.{Instruction}
 use Rattle.il_spec.specs.declared.tree.Instruction.TheVariants.{Load, Store as StoreInto, Not, Operate, Defer, Jump, Return, Call, Invoke}
-use Rattle.il_spec.specs.declared.tree.Literal.{Literal}
-use Rattle.il_spec.specs.declared.tree.Literal.TheVariants.{Truth, Bare, Whole, Time as Duration}
 use Rattle.il_spec.specs.declared.tree.Named.{Named}
 use Rattle.il_spec.specs.declared.tree.Operand.{Operand}
 use Rattle.il_spec.specs.declared.tree.Operator.{Operator}
@@ -31,44 +29,12 @@ use Rattle.il_rules.specs.declared.names.StandardFunction.{StandardFunction}
 use Rattle.il_rules.specs.declared.names.StandardFunction.TheVariants.{Selected, Converted}
 use Rattle.il_rules.specs.Names.{Spelling, standard_function, function_named, named_forms}
 use Rattle.il_rules.specs.Types.{scalar_type, name_type, reference_type, Deferred, typing_numbers}
+use Rattle.il_reasons.specs.TypeWords.{type_word, type_line, literal_line}
 use Rattle.il_reasons.specs.ArgumentReasons.{taken_lines}
 use Rattle.il_reasons.specs.KindReasons.{kind_lines}
-
--- WORDS
-
--- the word of a type (2.3.1)
-abbrev pub type_word : Elementary → List ℕ
-type_word Boolean = codes "BOOL"
-type_word Sint = codes "SINT"
-type_word Int = codes "INT"
-type_word Dint = codes "DINT"
-type_word Usint = codes "USINT"
-type_word Uint = codes "UINT"
-type_word Udint = codes "UDINT"
-type_word Time = codes "TIME"
-
--- the word of a truth value (2.2.1)
-abbrev pub truth_word : Bool → List ℕ
-truth_word true = codes "TRUE"
-truth_word false = codes "FALSE"
-
--- ` is INT`, and the end of the line
-abbrev pub is_text : Elementary → List ℕ
-is_text found = codes " is " ++ (type_word found ++ codes "\n")
-
--- `V is INT`, where there is a type
-abbrev pub type_line : List ℕ → Option Elementary → List ℕ
-type_line shown None = []
-type_line shown (Some found) = shown ++ is_text found
+use Rattle.il_reasons.specs.InitialReasons.{initials_lines}
 
 -- OPERANDS
-
--- `5 is a bare number`, `INT#5 is INT`; a TIME is in milliseconds
-abbrev pub literal_line : Literal → List ℕ
-literal_line (Truth value) = truth_word value ++ is_text Boolean
-literal_line (Bare n) = signed_decimal n ++ codes " is a bare number\n"
-literal_line (Whole written n) = type_word written ++ (codes "#" ++ (signed_decimal n ++ is_text written))
-literal_line (Duration n) = codes "T#" ++ (signed_decimal n ++ (codes "ms" ++ is_text Time))
 
 -- `V is INT`, of a scalar variable
 abbrev pub name_line : Config → ProgramUnit → Spelling → List ℕ
@@ -229,6 +195,10 @@ step_lines c unit number offset step = if step.place.offset == offset then instr
 abbrev pub unit_lines : Config → ℕ → ℕ → ProgramUnit → List ℕ
 unit_lines c number offset unit = flat_map (step_lines c unit number offset) unit.body.steps
 
+-- of the declaration whose initial value stands behind so many bytes
+abbrev pub value_lines : Config → ℕ → ℕ → List ℕ
+value_lines c number offset = if number == 25 then initials_lines c offset else []
+
 -- these lines are told of a fault of types
 abbrev pub AreToldOfTypes : Config → ℕ → Place → List ℕ → Type 0
-AreToldOfTypes c number place lines = lines ≡ flat_map (unit_lines c number place.offset) c.units
+AreToldOfTypes c number place lines = lines ≡ flat_map (unit_lines c number place.offset) c.units ++ value_lines c number place.offset

@@ -29,6 +29,7 @@ mod range_words;
 mod ranges;
 mod types;
 mod types_arguments;
+mod types_initials;
 mod types_inputs;
 mod types_kinds;
 mod types_operands;

@@ -1,19 +1,21 @@
 // What is told of types and arguments.
 
 ghost use Rattle.std.specs.Prelude.{◌≡◌, ◌++◌, Some, flat_map, slice_get, string_bytes, IfOk, OnOk};
-ghost use Rattle.il_reasons.specs.TypeReasons.{is_type_number, type_lines, instruction_lines, step_lines, unit_lines, AreToldOfTypes};
+ghost use Rattle.il_reasons.specs.TypeReasons.{is_type_number, type_lines, instruction_lines, step_lines, unit_lines, value_lines, AreToldOfTypes};
 
 use crate::types_arguments::put_taken;
+use crate::types_initials::put_initials;
 use crate::types_inputs::put_called;
 use crate::types_kinds::put_kinds;
 use crate::types_operands::put_operands_of;
 use crate::types_wanted::put_wanted;
 use il_scope::{Scoped, UnitScope};
-use il_spec::tree::{Instruction, Place, Step, Unit};
+use il_spec::tree::{Config, Instruction, Place, Step, Unit};
 use std::alloc::{AllocError, Global};
 
 /// What is told of a fault of types: of 30, 31 and 32 the type that the current result must have and the operands with
-/// their types, of 37 the arguments and what is taken, of 25 in an instruction the names of another kind.
+/// their types, of 37 the arguments and what is taken, of 25 in an instruction the names of another kind,
+/// and at an initial value the declared names with their types.
 pub(crate) fn told(
     alloc: Global,
     names: &Scoped,
@@ -24,7 +26,25 @@ pub(crate) fn told(
 {
     let mut text = String::new(alloc);
     put_units(alloc, &mut text, names, number, place.offset)?;
+    put_values(&mut text, names.config(), number, place.offset)?;
     Ok(text.into_bytes())
+}
+
+// Of the declaration whose initial value stands at a place.
+fn put_values(
+    text: &mut String,
+    config: &Config,
+    number: u16,
+    offset: u32,
+) -> Result<(), AllocError>
+    ensures { OnOk result (string_bytes text.new ≡ string_bytes text.old
+        ++ value_lines config.now number offset) }
+{
+    if number == 25 {
+        put_initials(text, config, offset)
+    } else {
+        Ok(())
+    }
 }
 
 // Of the instruction at a place, wherever it stands.

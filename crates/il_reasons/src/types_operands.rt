@@ -1,7 +1,8 @@
 // The operands of instructions, each with its type.
 
 ghost use Rattle.std.specs.Prelude.{◌≡◌, ◌++◌, OnOk, string_bytes};
-ghost use Rattle.il_reasons.specs.TypeReasons.{type_word, truth_word, is_text, literal_line, name_line, index_text, index_line, element_line, member_line, reference_lines, first_lines, operands_lines, argument_lines, arguments_lines, operand_lines};
+ghost use Rattle.il_reasons.specs.TypeWords.{type_word, truth_word, is_text, literal_line};
+ghost use Rattle.il_reasons.specs.TypeReasons.{name_line, index_text, index_line, element_line, member_line, reference_lines, first_lines, operands_lines, argument_lines, arguments_lines, operand_lines};
 
 use il_spec::tree::{Argument, Elementary, Index, Instruction, Literal, Operand, Reference};
 use il_typed::scope::Scope;
@@ -37,8 +38,8 @@ pub(crate) fn put_is(text: &mut String, found: Elementary) -> Result<(), AllocEr
     writeln!(text, " is {}", type_word(found))
 }
 
-// `5 is a bare number`, `INT#5 is INT`
-fn put_literal(text: &mut String, literal: Literal) -> Result<(), AllocError>
+/// `5 is a bare number`, `INT#5 is INT`
+pub(crate) fn put_literal(text: &mut String, literal: Literal) -> Result<(), AllocError>
     ensures { OnOk result (string_bytes text.new ≡ string_bytes text.old ++ literal_line literal) }
 {
     match literal {
