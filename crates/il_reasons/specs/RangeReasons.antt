@@ -44,7 +44,7 @@ use Rattle.il_ranges.specs.Kinds.{is_division}
 use Rattle.il_ranges.specs.RangeFaults.{range_fault_number}
 use Rattle.il_ranges.specs.Shown.{AreKnownTo, steps_text}
 use Rattle.lift_load.specs.Loading.{IsSpelled, IsUnbroken}
-use Rattle.il_reasons.specs.RangeWords.{ends_text, limits_text, scalar_text, index_text, reference_text, declared_line, declared_text, where_text}
+use Rattle.il_reasons.specs.RangeWords.{ends_text, limits_text, scalar_text, index_name, reference_text, declared_line, declared_text, where_text}
 
 -- WHAT OPERANDS ARE
 
@@ -90,9 +90,13 @@ lies_in i (Some s) = lies_within i s
 
 -- 43: STORES
 
+-- ` into V : INT (0..9), declared in line 3`
+abbrev pub into_text : ProgramUnit → Reference → Scalar → List ℕ
+into_text u to s = codes " into " ++ (reference_text to ++ (codes " : " ++ (scalar_text s ++ (where_text u to ++ codes "\n"))))
+
 -- `stores 0..10 into V : INT (0..9), declared in line 3`
 abbrev pub stored_text : ProgramUnit → Interval → Reference → Scalar → List ℕ
-stored_text u i to s = codes "stores " ++ (ends_text i ++ (codes " into " ++ (reference_text to ++ (codes " : " ++ (scalar_text s ++ (where_text u to ++ codes "\n"))))))
+stored_text u i to s = codes "stores " ++ (ends_text i ++ into_text u to s)
 
 -- the same, where the target has a scalar type
 abbrev pub target_text : ProgramUnit → Interval → Reference → Option Scalar → List ℕ
@@ -117,10 +121,13 @@ abbrev pub index_range : Knowledge → Index → Option Interval
 index_range k (Number z) = Some (only z)
 index_range k (ByVariable name) = get k.variables name
 
+-- `, and A has 1..8, declared in line 4`
+abbrev pub array_has_text : ProgramUnit → Spelling → Subrange → List ℕ
+array_has_text u name s = codes ", and " ++ (name ++ (codes " has " ++ (limits_text s ++ (declared_text (declared_line u name) ++ codes "\n"))))
+
 -- `the index I is 0..9, and A has 1..8, declared in line 4`
 abbrev pub outside_text : ProgramUnit → Spelling → Index → Interval → Subrange → List ℕ
-outside_text u name index i s =
-    codes "the index " ++ (index_text index ++ (codes " is " ++ (ends_text i ++ (codes ", and " ++ (name ++ (codes " has " ++ (limits_text s ++ (declared_text (declared_line u name) ++ codes "\n"))))))))
+outside_text u name index i s = codes "the index" ++ (index_name index ++ (codes " is " ++ (ends_text i ++ array_has_text u name s)))
 
 -- the same, where the index may lie outside of the array
 abbrev pub unless_within : ProgramUnit → Spelling → Index → Interval → Subrange → List ℕ

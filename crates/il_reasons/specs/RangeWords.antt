@@ -1,9 +1,7 @@
 -- How ranges, types, operands and the lines of declarations are told (own rules).
-use Rattle.std.specs.Prelude.{ℕ, List, [], ◌∷◌, ◌++◌, if◌then◌else◌, Option, Some, None, codes, decimal, bytes_eq}
+use Rattle.std.specs.Prelude.{ℕ, int_le, List, [], ◌∷◌, ◌++◌, if◌then◌else◌, Option, Some, None, codes, decimal, bytes_eq}
 use Rattle.std.specs.Fmt.{signed_decimal}
 use Rattle.il_spec.specs.declared.tree.Declaration.{Declaration}
-use Rattle.il_spec.specs.declared.tree.Form.{Form}
-use Rattle.il_spec.specs.declared.tree.Form.TheVariants.{Array as OfArray}
 use Rattle.il_spec.specs.declared.tree.Index.{Index}
 use Rattle.il_spec.specs.declared.tree.Index.TheVariants.{Number, Variable as ByVariable}
 use Rattle.il_spec.specs.declared.tree.Named.{Named}
@@ -22,8 +20,12 @@ use Rattle.il_reports.specs.RangeLines.{type_word}
 -- RANGES AND TYPES
 
 -- `LO..HI`; TIME is in milliseconds
+unfoldable pub both_text : Interval → List ℕ
+both_text i = signed_decimal i.lo ++ (codes ".." ++ signed_decimal i.hi)
+
+-- the same, or the number alone where there is one
 unfoldable pub ends_text : Interval → List ℕ
-ends_text i = signed_decimal i.lo ++ (codes ".." ++ signed_decimal i.hi)
+ends_text i = if int_le i.hi i.lo then signed_decimal i.lo else both_text i
 
 -- the same of written limits
 unfoldable pub limits_text : Subrange → List ℕ
@@ -44,6 +46,11 @@ scalar_text s = type_word s.elementary ++ within_text (declared_limits s)
 abbrev pub index_text : Index → List ℕ
 index_text (Number z) = signed_decimal z
 index_text (ByVariable name) = name
+
+-- ` I`, an index that has a name
+abbrev pub index_name : Index → List ℕ
+index_name (Number z) = []
+index_name (ByVariable name) = codes " " ++ name
 
 -- what an operand names, as it is written; a literal names nothing
 abbrev pub reference_text : Reference → List ℕ

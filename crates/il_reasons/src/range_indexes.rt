@@ -1,10 +1,10 @@
 // What is told of an index that may lie outside of its array.
 
 ghost use Rattle.std.specs.Prelude.{◌≡◌, ◌++◌, OnOk, string_bytes};
-ghost use Rattle.il_reasons.specs.RangeReasons.{index_range, outside_text, unless_within, array_text, element_text, operand_index_text, first_index_text, argument_index_text, operands_index_text, arguments_index_text, indexes_text};
+ghost use Rattle.il_reasons.specs.RangeReasons.{index_range, array_has_text, outside_text, unless_within, array_text, element_text, operand_index_text, first_index_text, argument_index_text, operands_index_text, arguments_index_text, indexes_text};
 
 use crate::range_operands::{bounds_named, lies_within, only};
-use crate::range_words::{put, put_ends, put_index, put_limits, put_line_of};
+use crate::range_words::{put, put_ends, put_index_name, put_limits, put_line_of};
 use il_interval::Interval;
 use il_ranges::PlaceFacts;
 use il_scope::UnitScope;
@@ -21,6 +21,24 @@ fn index_range(known: &PlaceFacts, index: &Index) -> Option<Interval>
     }
 }
 
+// `, and A has 1..8, declared in line 4`
+fn put_array_has(
+    text: &mut String,
+    unit: &Unit,
+    name: &str,
+    bounds: Subrange,
+) -> Result<(), AllocError>
+    ensures { OnOk result (string_bytes text.new ≡ string_bytes text.old
+        ++ array_has_text unit.now name.now bounds) }
+{
+    text.push_str(", and ")?;
+    text.push_str(name)?;
+    text.push_str(" has ")?;
+    put_limits(text, bounds)?;
+    put_line_of(text, unit, name)?;
+    text.push_str("\n")
+}
+
 // `the index I is 0..9, and A has 1..8, declared in line 4`
 fn put_outside(
     text: &mut String,
@@ -33,16 +51,11 @@ fn put_outside(
     ensures { OnOk result (string_bytes text.new ≡ string_bytes text.old
         ++ outside_text unit.now name.now index.now range bounds) }
 {
-    put(text, "the index ")?;
-    put_index(text, index)?;
+    put(text, "the index")?;
+    put_index_name(text, index)?;
     put(text, " is ")?;
     put_ends(text, range)?;
-    put(text, ", and ")?;
-    put(text, name)?;
-    put(text, " has ")?;
-    put_limits(text, bounds)?;
-    put_line_of(text, unit, name)?;
-    put(text, "\n")
+    put_array_has(text, unit, name, bounds)
 }
 
 // The same, where the index may lie outside of the array.

@@ -1,7 +1,7 @@
 // What is told of a stored value that may leave its variable's range.
 
 ghost use Rattle.std.specs.Prelude.{◌≡◌, ◌++◌, OnOk, string_bytes};
-ghost use Rattle.il_reasons.specs.RangeReasons.{stored_text, target_text, result_text, store_text};
+ghost use Rattle.il_reasons.specs.RangeReasons.{into_text, stored_text, target_text, result_text, store_text};
 
 use crate::range_operands::scalar_named;
 use crate::range_words::{put, put_ends, put_reference, put_scalar, put_where};
@@ -11,6 +11,24 @@ use il_run::known::Known;
 use il_scope::UnitScope;
 use il_spec::tree::{Instruction, Reference, Scalar, Unit};
 use std::alloc::AllocError;
+
+// ` into V : INT (0..9), declared in line 3`
+fn put_into(
+    text: &mut String,
+    unit: &Unit,
+    target: &Reference,
+    scalar: Scalar,
+) -> Result<(), AllocError>
+    ensures { OnOk result (string_bytes text.new ≡ string_bytes text.old
+        ++ into_text unit.now target.now scalar) }
+{
+    text.push_str(" into ")?;
+    put_reference(text, target)?;
+    text.push_str(" : ")?;
+    put_scalar(text, scalar)?;
+    put_where(text, unit, target)?;
+    text.push_str("\n")
+}
 
 // `stores 0..10 into V : INT (0..9), declared in line 3`
 fn put_stored(
@@ -25,12 +43,7 @@ fn put_stored(
 {
     put(text, "stores ")?;
     put_ends(text, range)?;
-    put(text, " into ")?;
-    put_reference(text, target)?;
-    put(text, " : ")?;
-    put_scalar(text, scalar)?;
-    put_where(text, unit, target)?;
-    put(text, "\n")
+    put_into(text, unit, target, scalar)
 }
 
 // The same, where the target has a scalar type.

@@ -1,9 +1,10 @@
 // Ranges, types, operands and the lines of declarations, as they are told.
 
 ghost use Rattle.std.specs.Prelude.{◌≡◌, ◌++◌, OnOk, codes, decimal, string_bytes};
+ghost use Rattle.std.specs.Fmt.{signed_decimal};
 ghost use Rattle.il_rules.specs.Names.{or_else};
 ghost use Rattle.il_reports.specs.RangeLines.{type_word};
-ghost use Rattle.il_reasons.specs.RangeWords.{ends_text, limits_text, within_text, scalar_text, index_text, reference_text, line_among, line_in, result_line, declared_line, declared_text, instance_text, where_text};
+ghost use Rattle.il_reasons.specs.RangeWords.{both_text, ends_text, limits_text, within_text, scalar_text, index_text, index_name, reference_text, line_among, line_in, result_line, declared_line, declared_text, instance_text, where_text};
 
 use il_interval::Interval;
 use il_rules::elementary::declared_limits;
@@ -35,12 +36,31 @@ pub(crate) fn put(text: &mut String, piece: &str) -> Result<(), AllocError>
     text.push_str(piece)
 }
 
-/// `LO..HI`
+// `LO..HI`
+#[tactic(auto, unfolding(crate::specs::RangeWords::both_text))]
+fn put_both(text: &mut String, range: Interval) -> Result<(), AllocError>
+    ensures { OnOk result (string_bytes text.new ≡ string_bytes text.old ++ both_text range) }
+{
+    write!(text, "{}..{}", range.lo, range.hi)
+}
+
+// A number.
+fn put_number(text: &mut String, number: i128) -> Result<(), AllocError>
+    ensures { OnOk result (string_bytes text.new ≡ string_bytes text.old ++ signed_decimal number) }
+{
+    write!(text, "{}", number)
+}
+
+/// `LO..HI`, or the number alone where there is one.
 #[tactic(auto, unfolding(crate::specs::RangeWords::ends_text))]
 pub(crate) fn put_ends(text: &mut String, range: Interval) -> Result<(), AllocError>
     ensures { OnOk result (string_bytes text.new ≡ string_bytes text.old ++ ends_text range) }
 {
-    write!(text, "{}..{}", range.lo, range.hi)
+    if range.hi <= range.lo {
+        put_number(text, range.lo)
+    } else {
+        put_both(text, range)
+    }
 }
 
 /// `LO..HI` of written limits.
@@ -73,8 +93,27 @@ pub(crate) fn put_scalar(text: &mut String, scalar: Scalar) -> Result<(), AllocE
     put_within(text, declared_limits(scalar))
 }
 
-/// An index.
-pub(crate) fn put_index(text: &mut String, index: &Index) -> Result<(), AllocError>
+/// ` I`, an index that has a name.
+pub(crate) fn put_index_name(text: &mut String, index: &Index) -> Result<(), AllocError>
+    ensures { OnOk result (string_bytes text.new ≡ string_bytes text.old ++ index_name index.now) }
+{
+    match index {
+        Index::Number(_) => Ok(()),
+        Index::Variable(name) => put_spaced_name(text, name.as_str()),
+    }
+}
+
+// ` I`
+fn put_spaced_name(text: &mut String, name: &str) -> Result<(), AllocError>
+    ensures { OnOk result (string_bytes text.new ≡ string_bytes text.old
+        ++ (codes " " ++ name.now)) }
+{
+    text.push_str(" ")?;
+    text.push_str(name)
+}
+
+// An index.
+fn put_index(text: &mut String, index: &Index) -> Result<(), AllocError>
     ensures { OnOk result (string_bytes text.new ≡ string_bytes text.old ++ index_text index.now) }
 {
     match index {

@@ -1,4 +1,4 @@
-use Rattle.std.proofs.Common.{◌≡◌, ◌∷◌, sym, subst, true, string_bytes}
+use Rattle.std.proofs.Common.{sym, subst, string_bytes}
 use Rattle.il_reasons.specs.ChainReasons.{AreAdded}
 use Rattle.il_reasons.proofs.Pieces.{if_ok}
 use Rattle.il_reasons.proofs.ChainUses.{next_added}

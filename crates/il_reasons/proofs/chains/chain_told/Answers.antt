@@ -1,4 +1,4 @@
-use Rattle.std.proofs.Common.{ap, ◌∙◌, sym, string_bytes, rules, arith, ◌≡◌, ◌≤◌, length, true}
+use Rattle.std.proofs.Common.{ap, string_bytes, rules, ◌≡◌, true}
 use Rattle.il_reasons.specs.ChainReasons.{is_apart}
 use Rattle.il_reasons.proofs.Pieces.{of_some}
 use Rattle.il_reasons.proofs.ChainUses.{along_told}

@@ -1,9 +1,16 @@
-use Rattle.std.proofs.Common.{◌++◌, string_bytes}
-use Rattle.std.specs.Prelude.{codes, decimal}
+use Rattle.std.proofs.Common.{ℕ, List, ◌++◌, string_bytes}
+use Rattle.std.specs.Prelude.{codes}
 use Rattle.il_reasons.specs.RangeWords.{ends_text}
 use Rattle.il_reasons.specs.RangeReasons.{operand_name}
 use Rattle.il_reasons.proofs.Pieces.{join, on_ok}
 use Rattle.il_reasons.proofs.range_divisors.put_divisor_range.Goals as goal
 
 pub returns : goal.returns
-returns c = let new = string_bytes c.put_named_range.new.text in on_ok c.put_named_range.result _ _ (λ e. join (string_bytes c.args.text.now) (codes "the divisor") (string_bytes c.put.new.text) new (operand_name c.args.reference.now ++ (codes " is " ++ (ends_text c.args.range ++ codes "\n"))) c.in_ok-put.ensures (e)) c.put_named_range.ensures
+returns c =
+    let old = string_bytes c.args.text.now in
+    let new = string_bytes c.put_named_range.new.text in
+    let rest_1 : List ℕ = operand_name c.args.reference.now ++ (codes " is " ++ (ends_text c.args.range ++ codes "\n")) in
+    on_ok c.put_named_range.result _ _
+    (λ e.
+    join old (codes "the divisor") (string_bytes c.put.new.text) new rest_1 c.in_ok-put.ensures e)
+    c.put_named_range.ensures

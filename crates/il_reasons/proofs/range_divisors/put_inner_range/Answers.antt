@@ -1,8 +1,16 @@
-use Rattle.std.proofs.Common.{◌++◌, string_bytes}
-use Rattle.std.specs.Prelude.{codes, decimal}
+use Rattle.std.proofs.Common.{ℕ, List, ◌++◌, string_bytes}
+use Rattle.std.specs.Prelude.{codes}
 use Rattle.il_reasons.specs.RangeWords.{ends_text}
 use Rattle.il_reasons.proofs.Pieces.{join, on_ok}
 use Rattle.il_reasons.proofs.range_divisors.put_inner_range.Goals as goal
 
 pub returns : goal.returns
-returns c = let new = string_bytes c.put-2.new.text in on_ok c.put-2.result _ _ (λ e. join (string_bytes c.args.text.now) (codes "the divisor in the parentheses is ") (string_bytes c.put.new.text) new (ends_text c.args.range ++ (codes "\n")) c.in_ok-put.ensures (join (string_bytes c.put.new.text) (ends_text c.args.range) (string_bytes c.put_ends.new.text) new (codes "\n") c.in_ok-put_ends.ensures (e))) c.put-2.ensures
+returns c =
+    let old = string_bytes c.args.text.now in
+    let new = string_bytes c.put-2.new.text in
+    let rest_2 : List ℕ = codes "\n" in
+    let rest_1 : List ℕ = ends_text c.args.range ++ rest_2 in
+    on_ok c.put-2.result _ _
+    (λ e.
+    join old (codes "the divisor in the parentheses is ") (string_bytes c.put.new.text) new rest_1 c.in_ok-put.ensures (join (string_bytes c.put.new.text) (ends_text c.args.range) (string_bytes c.put_ends.new.text) new rest_2 c.in_ok-put_ends.ensures e))
+    c.put-2.ensures

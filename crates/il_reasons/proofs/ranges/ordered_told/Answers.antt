@@ -1,4 +1,4 @@
-use Rattle.std.proofs.Common.{sym, subst, string_bytes}
+use Rattle.std.proofs.Common.{sym, subst}
 use Rattle.il_spec.specs.declared.tree.Config.{Config}
 use Rattle.il_rules.specs.Faults.{BreaksDeclarations, Broken, Typing, HasNoFault}
 use Rattle.il_reasons.proofs.ranges.ordered_told.Goals as goal
