@@ -1,9 +1,11 @@
 //! What is told of a refusal beside its number and its place: the thing that stands there.
 #![tactic(auto)]
 
-ghost use Rattle.std.specs.Prelude.{IfOk, IfSome};
+ghost use Rattle.std.specs.Prelude.{◌≡◌, false, IfOk};
 ghost use Rattle.il_spec.specs.Grammar.{Spells};
-ghost use Rattle.il_reasons.specs.Reasons.{IsReason, AreTold};
+ghost use Rattle.il_parse.specs.Refused.{IsFault};
+ghost use Rattle.lift_load.specs.Loading.{SpellsNone};
+ghost use Rattle.il_reasons.specs.Reasons.{IsReason, AreTold, is_of_ranges, is_of_types, is_of_chains};
 
 mod chain_search;
 mod chain_uses;
@@ -49,14 +51,16 @@ pub use types_wanted::result_must_be;
 pub fn reason(alloc: Global, text: &[u8], number: u16, place: Place) -> Result<Vec<u8>, AllocError>
     ensures { IfOk result (λ lines. IsReason text.now number place lines.items) }
 {
-    match number {
-        40 | 41 | 42 | 43 | 44 => ranges::told(alloc, text, number, place),
-        _ => of_tree(alloc, text, number, place),
+    if is_of_ranges(number) {
+        ranges::told(alloc, text, number, place)
+    } else {
+        of_tree(alloc, text, number, place)
     }
 }
 
 // What is told of a fault that is found in the tree alone.
 fn of_tree(alloc: Global, text: &[u8], number: u16, place: Place) -> Result<Vec<u8>, AllocError>
+    requires { is_of_ranges number ≡ false }
     ensures { IfOk result (λ lines. IsReason text.now number place lines.items) }
 {
     match spelled(alloc, text) {
@@ -68,10 +72,12 @@ fn of_tree(alloc: Global, text: &[u8], number: u16, place: Place) -> Result<Vec<
 
 // The configuration that a text spells.
 fn spelled(alloc: Global, text: &[u8]) -> Result<Written, Refusal>
-    ensures { IfOk result (λ c. Spells text.now c) }
+    ensures found { IfOk result (λ c. Spells text.now c) }
+    ensures none { IsFault result → SpellsNone text.now }
 {
     let tokens = tokens(alloc, text)?;
-    parse(alloc, text, &tokens)
+    let written = parse(alloc, text, &tokens)?;
+    Ok(written)
 }
 
 // What is told of a fault of a configuration.
@@ -79,10 +85,32 @@ fn told(alloc: Global, written: Written, number: u16, place: Place) -> Result<Ve
     ensures { IfOk result (λ lines. AreTold written number place lines.items) }
 {
     let names = Scoped::of(alloc, written)?;
-    match number {
-        20 | 21 | 33 | 34 | 38 => names::told(alloc, &names, number, place),
-        25 | 30 | 31 | 32 | 37 => types::told(alloc, &names, number, place),
-        36 | 46 => chains::told(alloc, &names, number, place),
-        _ => Ok(Vec::new(alloc)),
+    if is_of_types(number) {
+        types::told(alloc, &names, number, place)
+    } else if is_of_chains(number) {
+        chains::told(alloc, &names, number, place)
+    } else {
+        names::told(alloc, &names, number, place)
     }
+}
+
+// Whether a number is that of a fault of ranges.
+fn is_of_ranges(number: u16) -> bool
+    ensures { result ≡ is_of_ranges number }
+{
+    matches!(number, 40 | 41 | 42 | 43 | 44)
+}
+
+// Whether it is that of a fault of types or arguments.
+fn is_of_types(number: u16) -> bool
+    ensures { result ≡ is_of_types number }
+{
+    matches!(number, 25 | 30 | 31 | 32 | 37)
+}
+
+// Whether it is that of a fault of chains of uses.
+fn is_of_chains(number: u16) -> bool
+    ensures { result ≡ is_of_chains number }
+{
+    matches!(number, 36 | 46)
 }

@@ -1,9 +1,8 @@
-use Rattle.std.proofs.Common.{subst}
+use Rattle.std.proofs.Common.{subst, sym, ◌∙◌}
 use Rattle.il_spec.specs.declared.tree.Config.{Config}
 use Rattle.il_reasons.specs.ChainReasons.{AreToldOfChains}
-use Rattle.il_reasons.specs.Reasons.{of_chains}
+use Rattle.il_reasons.specs.NameReasons.{AreToldOfNames}
+use Rattle.il_reasons.specs.TypeReasons.{AreToldOfTypes}
+use Rattle.il_reasons.specs.Reasons.{of_chains, of_names, of_types}
 use Rattle.il_reasons.proofs.Pieces.{if_ok}
 use Rattle.il_reasons.proofs.told.Goals as goal
-
-pub returns-in-36 : goal.returns-in-36
-returns-in-36 c = if_ok c.told.result _ _ (λ lines told. of_chains (subst (λ (k : Config). AreToldOfChains k c.args.number c.args.place lines.items) c.in_ok-names.ensures told)) c.told.ensures
