@@ -19,7 +19,7 @@ fn sr_is_set_dominant(rt: HostRuntime) {
         block.s1 = s1;
         block.r = r;
         block.sr();
-        assert_eq!(rt; block.q1, q1);
+        assert!(rt; block.q1 == q1);
     }
 }
 
@@ -37,7 +37,7 @@ fn rs_is_reset_dominant(rt: HostRuntime) {
         block.s = s;
         block.r1 = r1;
         block.rs();
-        assert_eq!(rt; block.q1, q1);
+        assert!(rt; block.q1 == q1);
     }
 }
 
@@ -48,14 +48,14 @@ fn edges_show_for_one_call(rt: HostRuntime) {
     for (clk, q) in [(true, true), (true, false), (false, false), (true, true)] {
         rising.clk = clk;
         rising.r_trig();
-        assert_eq!(rt; rising.q, q);
+        assert!(rt; rising.q == q);
     }
     // a first call with CLK FALSE is an edge
     let mut falling = EdgeDetector::new();
     for (clk, q) in [(false, true), (false, false), (true, false), (false, true)] {
         falling.clk = clk;
         falling.f_trig();
-        assert_eq!(rt; falling.q, q);
+        assert!(rt; falling.q == q);
     }
 }
 
@@ -67,7 +67,7 @@ fn ctu_counts_to_two(rt: HostRuntime) {
     for (cu, cv, q) in [(true, 1, false), (false, 1, false), (true, 2, true)] {
         block.cu = cu;
         block.ctu();
-        assert_eq!(rt; (block.cv, block.q), (cv, q));
+        assert!(rt; block.cv == cv && block.q == q);
     }
 }
 
@@ -80,7 +80,7 @@ fn ctd_counts_from_one(rt: HostRuntime) {
         block.ld = ld;
         block.cd = cd;
         block.ctd();
-        assert_eq!(rt; (block.cv, block.q), (cv, q));
+        assert!(rt; block.cv == cv && block.q == q);
     }
 }
 
@@ -103,7 +103,7 @@ fn ctud_counts_both_ways(rt: HostRuntime) {
         block.r = r;
         block.ld = ld;
         block.ctud();
-        assert_eq!(rt; (block.cv, block.qu, block.qd), (cv, qu, qd));
+        assert!(rt; block.cv == cv && block.qu == qu && block.qd == qd);
     }
 }
 
@@ -114,12 +114,12 @@ fn counters_stay_at_the_ends(rt: HostRuntime) {
     up.cu = true;
     up.cv = 32767;
     up.ctu();
-    assert_eq!(rt; up.cv, 32767);
+    assert!(rt; up.cv == 32767);
     let mut down = DownCounter::new();
     down.cd = true;
     down.cv = -32768;
     down.ctd();
-    assert_eq!(rt; down.cv, -32768);
+    assert!(rt; down.cv == -32768);
 }
 
 // NOW, IN; ET, Q
@@ -135,7 +135,7 @@ fn ton_delays_a_rise(rt: HostRuntime) {
     for (now, et, q) in [(500, 0, false), (300, 0, false), (1300, 1000, true)] {
         block.input = true;
         block.ton(now);
-        assert_eq!(rt; (block.et, block.q), (et, q));
+        assert!(rt; block.et == et && block.q == q);
     }
 }
 
@@ -151,7 +151,7 @@ fn tof_delays_a_fall(rt: HostRuntime) {
     ] {
         block.input = input;
         block.tof(now);
-        assert_eq!(rt; (block.et, block.q), (et, q));
+        assert!(rt; block.et == et && block.q == q);
     }
 }
 
@@ -167,6 +167,6 @@ fn tp_makes_a_pulse(rt: HostRuntime) {
     ] {
         block.input = input;
         block.tp(now);
-        assert_eq!(rt; (block.et, block.q), (et, q));
+        assert!(rt; block.et == et && block.q == q);
     }
 }

@@ -20,26 +20,23 @@ fn fields(pos: u8, run_limit: u8, time: u32) -> Fields {
     }
 }
 
+// Whether the fields of one car are in range for a group of so many cars, two floors and one slot.
+fn fit(pos: u8, run_limit: u8, time: u32, cars: u8) -> bool {
+    let sizes = Sizes {
+        cars,
+        floors: 2,
+        slots: 1,
+    };
+    in_range(&fields(pos, run_limit, time), sizes)
+}
+
 #[test]
 fn one_car_and_two_floors(rt: HostRuntime) {
-    let sizes = Sizes {
-        cars: 1,
-        floors: 2,
-        slots: 1,
-    };
-    assert!(rt; in_range(&fields(1, 1, 0), sizes));
-    assert!(rt; in_range(&fields(2, 0, 2_147_483_647), sizes));
-    assert!(rt; !in_range(&fields(3, 1, 0), sizes), "no such floor");
-    assert!(rt; !in_range(&fields(0, 1, 0), sizes), "no floor 0");
-    assert!(rt;
-        !in_range(&fields(1, 2, 0), sizes),
-        "RUNLIMIT over the cars"
-    );
-    assert!(rt; !in_range(&fields(1, 1, 2_147_483_648), sizes), "no TIME");
-    let two = Sizes {
-        cars: 2,
-        floors: 2,
-        slots: 1,
-    };
-    assert!(rt; !in_range(&fields(1, 1, 0), two), "a car without fields");
+    assert!(rt; fit(1, 1, 0, 1));
+    assert!(rt; fit(2, 0, 2_147_483_647, 1));
+    assert!(rt; !fit(3, 1, 0, 1), "no such floor");
+    assert!(rt; !fit(0, 1, 0, 1), "no floor 0");
+    assert!(rt; !fit(1, 2, 0, 1), "RUNLIMIT over the cars");
+    assert!(rt; !fit(1, 1, 2_147_483_648, 1), "no TIME");
+    assert!(rt; !fit(1, 1, 0, 2), "a car without fields");
 }

@@ -5,10 +5,11 @@ use lift_load::load;
 use lift_spec::journal::Entry;
 use lift_workers::gate::{Gate, Together};
 use lift_workers::run::{Plan, run};
+use std::alloc::Global;
 use std::sync::Wait;
 use std::sync::atomic::{AtomicBool, Ordering};
-use std::test::Fail;
 use std::thread;
+use std::thread::Threads;
 use std::time::{Clock, Duration};
 
 // How often a held worker looks whether the other has got on, and how many milliseconds it sleeps between.
@@ -58,30 +59,50 @@ impl<'c, C: Clock + Sync> Gate for HoldsCars<'c, C> {
     fn gives_up(&self, _rt: &impl Wait) {}
 }
 
+// The journal of so many rounds of two cars under a gate.
+fn journal_under<T: Gate + Sync, R: Threads + Wait + Sync>(
+    rt: &R,
+    alloc: Global,
+    gate: &T,
+    rounds: u16,
+) -> Option<Vec<Entry>> {
+    let Ok(verified) = load(alloc, TWO_IDLE) else {
+        return None;
+    };
+    let plan = Plan {
+        presses: &[],
+        rounds,
+        settings: &[],
+    };
+    match run(rt, alloc, verified, gate, plan) {
+        Ok(ran) => Some(ran.journal),
+        Err(_) => None,
+    }
+}
+
+// Whether the journal of so many rounds under a gate has so many entries.
+fn has_entries<T: Gate + Sync, R: Threads + Wait + Sync>(
+    rt: &R,
+    alloc: Global,
+    gate: &T,
+    rounds: u16,
+    entries: usize,
+) -> bool {
+    matches!(journal_under(rt, alloc, gate, rounds), Some(journal) if journal.len() == entries)
+}
+
 // Refuses all tasks in turn on one thread.
 #[test]
-fn cars_run_at_once(rt: HostRuntime) -> Result<(), Fail> {
+fn cars_run_at_once(rt: HostRuntime) {
     let gate = HoldsCars {
         clock: &rt,
         has_car_1_started: AtomicBool::new(false),
         has_car_2_committed: AtomicBool::new(false),
         has_waited_too_long: AtomicBool::new(false),
     };
-    let Ok(verified) = load(rt.alloc(), TWO_IDLE) else {
-        panic!(&rt; "no memory")
-    };
-    let plan = Plan {
-        presses: &[],
-        rounds: 3,
-        settings: &[],
-    };
-    let Ok(ran) = run(&rt, rt.alloc(), verified, &gate, plan) else {
-        panic!(&rt; "no memory")
-    };
-    assert!(rt; ran.journal.len() == 15);
+    assert!(rt; has_entries(&rt, rt.alloc(), &gate, 3, 15));
     assert!(rt; gate.has_car_2_committed.load(Ordering::SeqCst));
     assert!(rt; !gate.has_waited_too_long.load(Ordering::SeqCst));
-    Ok(())
 }
 
 // Whether entries are a refresh, and then a start and a commit of each of two cars.
@@ -106,22 +127,20 @@ fn has_scanned(entries: &[Entry], task: u8) -> bool {
     starts == 1 && commits == 1
 }
 
-#[test]
-fn together_a_round_ends_for_all_before_the_next_begins(rt: HostRuntime) -> Result<(), Fail> {
-    let Ok(verified) = load(rt.alloc(), TWO_IDLE) else {
-        panic!(&rt; "no memory")
-    };
-    let plan = Plan {
-        presses: &[],
-        rounds: 20,
-        settings: &[],
-    };
-    let Ok(ran) = run(&rt, rt.alloc(), verified, &Together::new(2), plan) else {
-        panic!(&rt; "no memory")
-    };
-    assert!(rt; ran.journal.len() == 100);
-    for round in ran.journal.chunks(5) {
-        assert!(rt; is_round(round));
+// Whether a journal is of so many entries, and each five of them are a round.
+fn has_rounds(journal: &[Entry], entries: usize) -> bool {
+    for round in journal.chunks(5) {
+        if !is_round(round) {
+            return false;
+        }
     }
-    Ok(())
+    journal.len() == entries
+}
+
+#[test]
+fn together_a_round_ends_for_all_before_the_next_begins(rt: HostRuntime) {
+    let Some(journal) = journal_under(&rt, rt.alloc(), &Together::new(2), 20) else {
+        panic!(&rt; "no memory")
+    };
+    assert!(rt; has_rounds(journal.as_slice(), 100));
 }

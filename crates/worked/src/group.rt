@@ -5,7 +5,7 @@ use lift_load::load;
 use lift_spec::calls::{Call, Slot};
 use lift_spec::event::{Event, Reply};
 use lift_spec::report::{EnteredCall, Report};
-use lift_spec::{Bounded, CarFields, Fields};
+use lift_spec::{Bounded, CarFields, Fields, SLOT_PLACES};
 use lift_world::{Replies, World};
 use std::alloc::{AllocError, Global};
 use std::mem;
@@ -26,7 +26,7 @@ pub enum Given {
 pub struct Left {
     pub replies: Vec<Reply>,
     pub reports: Vec<Report>,
-    pub slots: Vec<Slot>,
+    pub slots: Bounded<Slot, SLOT_PLACES>,
 }
 
 /// The group of a text as it opens.
@@ -34,57 +34,63 @@ pub fn opened(alloc: Global, text: &[u8]) -> Result<World, Refusal> {
     World::new(alloc, load(alloc, text)?)
 }
 
-/// Hands events to the group of a text, one after the other.
-pub fn play(alloc: Global, text: &[u8], given: &[Given]) -> Result<Left, Refusal> {
-    let events = events(alloc, given)?;
-    let mut world = opened(alloc, text)?;
+/// Hands events to the group of a text, one after the other, if there is memory.
+pub fn play(alloc: Global, text: &[u8], given: &[Given]) -> Option<Left> {
+    let Ok(mut world) = opened(alloc, text) else {
+        return None;
+    };
+    let events = events(alloc, given);
     let left = applied(alloc, &mut world, events.as_slice());
     world.release();
-    Ok(left?)
+    Some(left)
 }
 
 /// Whether one run over the events, from the opening of the group of a text, leaves just this.
-pub fn runs_so(alloc: Global, text: &[u8], given: &[Given], left: &Left) -> Result<bool, Refusal> {
-    let events = events(alloc, given)?;
-    let mut world = opened(alloc, text)?;
+pub fn runs_so(alloc: Global, text: &[u8], given: &[Given], left: &Left) -> bool {
+    let Ok(mut world) = opened(alloc, text) else {
+        return false;
+    };
+    let events = events(alloc, given);
     let replies = run(alloc, &mut world, events.as_slice());
     let slots = world.slots();
     world.release();
-    let replies = replies?;
-    Ok(
-        replies.as_slice() == left.replies.as_slice()
-            && same_reports(replies.reports(), left.reports.as_slice())
-            && slots.as_slice() == left.slots.as_slice(),
-    )
+    match replies {
+        Ok(replies) => same_replies(&replies, left) && slots.as_slice() == left.slots.as_slice(),
+        Err(_) => false,
+    }
 }
 
-// The events that a row hands in.
-fn events(alloc: Global, given: &[Given]) -> Result<Vec<Event>, AllocError> {
+fn same_replies(replies: &Replies, left: &Left) -> bool {
+    replies.as_slice() == left.replies.as_slice()
+        && same_reports(replies.reports(), left.reports.as_slice())
+}
+
+// The events that a row hands in. One that finds no memory is missing.
+fn events(alloc: Global, given: &[Given]) -> Vec<Event> {
     let mut events = Vec::new(alloc);
     for one in given {
-        events.push(event(*one))?;
+        let _ = events.push(event(*one));
     }
-    Ok(events)
+    events
 }
 
-// Applies the events one after the other.
-fn applied(alloc: Global, world: &mut World, events: &[Event]) -> Result<Left, AllocError> {
+// Applies the events one after the other. What finds no memory is missing.
+fn applied(alloc: Global, world: &mut World, events: &[Event]) -> Left {
     let mut report = Report::new();
     let mut replies = Vec::new(alloc);
     let mut reports = Vec::new(alloc);
     for event in events {
         let reply = world.apply(event, &mut report);
-        replies.push(reply)?;
+        let _ = replies.push(reply);
         if let Reply::Committed | Reply::Refreshed = reply {
-            reports.push(mem::replace(&mut report, Report::new()))?;
+            let _ = reports.push(mem::replace(&mut report, Report::new()));
         }
     }
-    let slots = Vec::from_slice(alloc, world.slots().as_slice())?;
-    Ok(Left {
+    Left {
         replies,
         reports,
-        slots,
-    })
+        slots: world.slots(),
+    }
 }
 
 // Runs over all of them, in two runs, one behind the other.

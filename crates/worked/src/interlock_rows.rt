@@ -1,8 +1,10 @@
 // Worked rows.
 
-ghost use Rattle.std.specs.Prelude.{◌≡◌, length};
+ghost use Rattle.std.specs.Prelude.{◌≡◌, ◌≤◌, length};
 
-use lift_interlock::{commit_keeps_obeying, refresh_gives_obeying, settle_all, settle_car};
+use lift_interlock::{
+    AllSettled, Settled, commit_keeps_obeying, refresh_gives_obeying, settle_all, settle_car,
+};
 use lift_spec::report::{Denial, Rule};
 use lift_spec::{Bounded, CarFields, CarOutputs, Fields, Image, Motor, Outputs};
 
@@ -25,6 +27,21 @@ fn running(motor: Motor) -> CarOutputs {
         opens: false,
     }
 }
+
+const UP: CarOutputs = CarOutputs {
+    motor: Motor::Up,
+    opens: false,
+};
+
+const DOWN: CarOutputs = CarOutputs {
+    motor: Motor::Down,
+    opens: false,
+};
+
+const STILL: CarOutputs = CarOutputs {
+    motor: Motor::Still,
+    opens: false,
+};
 
 // A group of one car.
 fn one_car(motor: Motor, locked: bool) -> Image
@@ -68,40 +85,90 @@ fn two_cars(first: Motor, second: Motor, run_limit: u8) -> Image
     }
 }
 
+// Whether a car has these outputs, and just these rules denied.
+fn has(settled: &Settled, outputs: CarOutputs, denied: &[Rule]) -> bool {
+    settled.outputs == outputs && settled.denials.as_slice() == denied
+}
+
+// Whether the wish of a car is settled so.
+fn settles(image: &Image, car: u8, wish: CarOutputs, outputs: CarOutputs, denied: &[Rule]) -> bool
+    requires car { (1 ≤ car) × (car ≤ length image.now.fields.cars) }
+    requires outputs { length image.now.outputs ≡ length image.now.fields.cars }
+{
+    has(
+        &settle_car(image, car, wish.motor, wish.opens),
+        outputs,
+        denied,
+    )
+}
+
+// The committed motor of one car, LOCKED and what it wishes; then its outputs, and the rule that denied.
+struct Commit {
+    committed: Motor,
+    locked: bool,
+    wish: CarOutputs,
+    outputs: CarOutputs,
+    denied: &'static [Rule],
+}
+
+static COMMITS: [Commit; 3] = [
+    Commit {
+        committed: Motor::Still,
+        locked: false,
+        wish: UP,
+        outputs: STILL,
+        denied: &[Rule::Unlocked],
+    },
+    Commit {
+        committed: Motor::Up,
+        locked: true,
+        wish: DOWN,
+        outputs: STILL,
+        denied: &[Rule::Reversal],
+    },
+    Commit {
+        committed: Motor::Still,
+        locked: true,
+        wish: CarOutputs {
+            motor: Motor::Up,
+            opens: true,
+        },
+        outputs: CarOutputs {
+            motor: Motor::Still,
+            opens: true,
+        },
+        denied: &[Rule::Unlocked],
+    },
+];
+
+// Whether the commit of one car is settled as its row says.
+fn settles_alone(row: &Commit) -> bool {
+    let image = one_car(row.committed, row.locked);
+    settles(&image, 1, row.wish, row.outputs, row.denied)
+}
+
+// Whether a wish to go up is settled so, for one of two cars of which one may run, with these motors.
+fn settles_beside(
+    first: Motor,
+    second: Motor,
+    car: u8,
+    outputs: CarOutputs,
+    denied: &[Rule],
+) -> bool
+    requires { (1 ≤ car) × (car ≤ 2) }
+{
+    let image = two_cars(first, second, 1);
+    settles(&image, car, UP, outputs, denied)
+}
+
 #[test]
 fn commits(rt: HostRuntime) {
-    // The committed motor, LOCKED and both wishes; then the motor, the open command and the rule that denied.
-    let rows = [
-        (
-            (Motor::Still, false, Motor::Up, false),
-            (Motor::Still, false, Rule::Unlocked),
-        ),
-        (
-            (Motor::Up, true, Motor::Down, false),
-            (Motor::Still, false, Rule::Reversal),
-        ),
-        (
-            (Motor::Still, true, Motor::Up, true),
-            (Motor::Still, true, Rule::Unlocked),
-        ),
-    ];
-    for ((committed, locked, wish, open_wish), (motor, opens, rule)) in rows {
-        let settled = settle_car(&one_car(committed, locked), 1, wish, open_wish);
-        assert!(rt; settled.outputs == CarOutputs { motor, opens });
-        assert!(rt; settled.denials.as_slice() == [rule].as_slice());
+    for row in &COMMITS {
+        assert!(rt; settles_alone(row));
     }
     // Of two cars that wish to go up where one may, that which commits first does.
-    let second = settle_car(
-        &two_cars(Motor::Still, Motor::Still, 1),
-        2,
-        Motor::Up,
-        false,
-    );
-    assert!(rt; second.outputs == running(Motor::Up));
-    assert!(rt; second.denials.as_slice().is_empty());
-    let first = settle_car(&two_cars(Motor::Still, Motor::Up, 1), 1, Motor::Up, false);
-    assert!(rt; first.outputs == running(Motor::Still));
-    assert!(rt; first.denials.as_slice() == [Rule::Crowded].as_slice());
+    assert!(rt; settles_beside(Motor::Still, Motor::Still, 2, UP, &[]));
+    assert!(rt; settles_beside(Motor::Still, Motor::Up, 1, STILL, &[Rule::Crowded]));
     commit_keeps_obeying();
 }
 
@@ -125,33 +192,46 @@ fn two_under_fire(first: Motor, second: Motor, top: bool) -> Image
     }
 }
 
+// Whether the wish of car 1 is settled so under FIRE, beside the motor of car 2.
+fn settles_under_fire(
+    second: Motor,
+    top: bool,
+    wish: CarOutputs,
+    outputs: CarOutputs,
+    denied: &[Rule],
+) -> bool {
+    let image = two_under_fire(Motor::Still, second, top);
+    settles(&image, 1, wish, outputs, denied)
+}
+
 #[test]
 fn commits_under_fire(rt: HostRuntime) {
     // Up while as many run as may: by 6, which comes before 5; at the top by 3, which comes before 6.
-    for (top, rule) in [(false, Rule::Fire), (true, Rule::AtEnd)] {
-        let image = two_under_fire(Motor::Still, Motor::Down, top);
-        let settled = settle_car(&image, 1, Motor::Up, false);
-        assert!(rt; settled.outputs == running(Motor::Still));
-        assert!(rt; settled.denials.as_slice() == [rule].as_slice());
-    }
+    assert!(rt; settles_under_fire(Motor::Down, false, UP, STILL, &[Rule::Fire]));
+    assert!(rt; settles_under_fire(Motor::Down, true, UP, STILL, &[Rule::AtEnd]));
     // Down is granted.
-    let image = two_under_fire(Motor::Still, Motor::Still, false);
-    let settled = settle_car(&image, 1, Motor::Down, false);
-    assert!(rt; settled.outputs == running(Motor::Down));
-    assert!(rt; settled.denials.as_slice().is_empty());
+    assert!(rt; settles_under_fire(Motor::Still, false, DOWN, DOWN, &[]));
+}
+
+// Whether all cars have these outputs, and these were denied.
+fn have(settled: &AllSettled, outputs: &[CarOutputs], denials: &[Denial]) -> bool {
+    settled.outputs.as_slice() == outputs && settled.denials.as_slice() == denials
+}
+
+// What two cars that go up have under a lower run limit.
+fn refreshed() -> AllSettled {
+    let before = two_cars(Motor::Up, Motor::Up, 2);
+    let under = two_cars(Motor::Up, Motor::Up, 1);
+    settle_all(&before.outputs, &under.fields)
 }
 
 #[test]
 fn refresh(rt: HostRuntime) {
-    let before = two_cars(Motor::Up, Motor::Up, 2);
-    let under = two_cars(Motor::Up, Motor::Up, 1);
-    let settled = settle_all(&before.outputs, &under.fields);
-    let outputs = [running(Motor::Up), running(Motor::Still)];
+    let outputs = [UP, STILL];
     let denials = [Denial {
         car: 2,
         rule: Rule::Crowded,
     }];
-    assert!(rt; settled.outputs.as_slice() == outputs.as_slice());
-    assert!(rt; settled.denials.as_slice() == denials.as_slice());
+    assert!(rt; have(&refreshed(), &outputs, &denials));
     refresh_gives_obeying();
 }

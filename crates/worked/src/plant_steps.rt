@@ -3,7 +3,7 @@
 ghost use Rattle.std.specs.Prelude.{◌≡◌, length};
 
 use lift_plant::plant::{Plant, plant_step, step_is_safe};
-use lift_spec::{CarFields, CarOutputs, Motor, Outputs};
+use lift_spec::{CarFields, CarOutputs, Fields, Motor, Outputs};
 
 // The outputs of a group of one car.
 fn outputs_of(motor: Motor, opens: bool) -> Outputs
@@ -14,45 +14,41 @@ fn outputs_of(motor: Motor, opens: bool) -> Outputs
     outputs
 }
 
+const AT_BOTTOM: CarFields = CarFields {
+    pos: 1,
+    level: true,
+    top: false,
+    bottom: true,
+    locked: true,
+    opened: false,
+};
+
+// Whether these are the fields of one car at 100 ms.
+fn are(fields: &Fields, wanted: CarFields) -> bool {
+    fields.time == 100 && fields.run_limit == 1 && fields.cars.as_slice() == [wanted].as_slice()
+}
+
+// Whether a step from the bottom of two floors, with these outputs, leads to these fields.
+fn steps_to(motor: Motor, opens: bool, wanted: CarFields) -> bool {
+    let before = Plant::new(1, 2);
+    let cars = before.cars();
+    let (plant, fields) = plant_step(before, &outputs_of(motor, opens));
+    cars == 1 && plant.cars() == 1 && are(&fields, wanted)
+}
+
 #[test]
 fn one_step(rt: HostRuntime) {
-    let at_bottom = CarFields {
-        pos: 1,
-        level: true,
-        top: false,
-        bottom: true,
-        locked: true,
-        opened: false,
+    assert!(rt; steps_to(Motor::Still, false, AT_BOTTOM));
+    let unlocked = CarFields {
+        locked: false,
+        ..AT_BOTTOM
     };
-    let rows = [
-        (Motor::Still, false, at_bottom),
-        (
-            Motor::Still,
-            true,
-            CarFields {
-                locked: false,
-                ..at_bottom
-            },
-        ),
-        (
-            Motor::Up,
-            false,
-            CarFields {
-                level: false,
-                bottom: false,
-                ..at_bottom
-            },
-        ),
-    ];
-    for (motor, opens, wanted) in rows {
-        let plant = Plant::new(1, 2);
-        assert_eq!(rt; plant.cars(), 1);
-        let (plant, fields) = plant_step(plant, &outputs_of(motor, opens));
-        assert_eq!(rt; plant.cars(), 1);
-        assert_eq!(rt; fields.time, 100);
-        assert_eq!(rt; fields.run_limit, 1);
-        assert_eq!(rt; fields.cars.len(), 1);
-        assert_eq!(rt; fields.cars.as_slice().first().copied(), Some(wanted));
-    }
+    assert!(rt; steps_to(Motor::Still, true, unlocked));
+    let risen = CarFields {
+        level: false,
+        bottom: false,
+        ..AT_BOTTOM
+    };
+    assert!(rt; steps_to(Motor::Up, false, risen));
     step_is_safe();
 }

@@ -30,7 +30,7 @@ fn worked_ranges(rt: HostRuntime) {
         (range(3, 3).join(range(10, 10)), range(3, 10)),
     ];
     for (found, wanted) in rows {
-        assert_eq!(rt; found, wanted);
+        assert!(rt; found == wanted);
     }
     assert!(rt; range(3, 4).within(range(3, 4)), "the same range");
     assert!(rt; !range(2, 4).within(range(3, 4)), "begins before");

@@ -1,6 +1,6 @@
 // A trace into a sink that takes a byte a call, and then fails.
 
-ghost use Rattle.std.specs.Prelude.{Some};
+ghost use Rattle.std.specs.Prelude.{◌≡◌, Some, false};
 
 use lift_host::sink::{Sink, SinkFault};
 use lift_spec::hand::Hand;
@@ -54,8 +54,10 @@ fn fields() -> Fields {
     }
 }
 
-#[test]
-fn a_sink_that_fails_has_the_bytes_before(rt: HostRuntime) {
+// Writes the trace of a refresh, a start and a commit.
+fn write_three(sink: &mut ByteByByte) -> Result<(), TraceFault>
+    requires { sink.old.failed ≡ false }
+{
     let journal = [
         Entry::Refresh {
             fields: fields(),
@@ -64,13 +66,18 @@ fn a_sink_that_fails_has_the_bytes_before(rt: HostRuntime) {
         Entry::Start(1),
         Entry::Commit(1),
     ];
+    write_trace(&journal, sink)
+}
+
+#[test]
+fn a_sink_that_fails_has_the_bytes_before(rt: HostRuntime) {
     let mut sink = ByteByByte {
         taken: Vec::new(rt.alloc()),
         calls_left: 13,
         failed: false,
     };
-    let written = write_trace(&journal, &mut sink);
-    assert!(rt; written == Err(TraceFault::Write));
+    let written = write_three(&mut sink);
+    let has_bytes = sink.taken.as_slice() == b"LIFTTRACE 2\nR".as_slice();
+    assert!(rt; has_bytes && matches!(written, Err(TraceFault::Write)));
     assert!(rt; TraceFault::Write.number() == Some(82));
-    assert!(rt; sink.taken.as_slice() == b"LIFTTRACE 2\nR".as_slice());
 }

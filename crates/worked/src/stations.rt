@@ -82,39 +82,29 @@ struct Hall {
 // Answered where a row names a task or a scan that isn't there.
 const NOBODY: u64 = 255;
 
-// Takes the pass of a task.
-fn take_pass<G: Naming>(passes: &mut Vec<TaskPass<G>>, task: u8) -> Option<TaskPass<G>> {
-    let at = passes.iter().position(|pass| pass.task() == task)?;
-    Some(passes.swap_remove(at))
-}
-
-// Takes the scan of a task.
-fn take_run<'s>(runs: &mut Vec<Run<'s>>, task: u8) -> Option<Scanned<'s>> {
-    let at = runs.iter().position(|run| run.task == task)?;
-    Some(runs.swap_remove(at).scanned)
-}
-
-// A scan of a task begins and runs to its end.
+// A scan of a task begins and runs to its end. One that finds no memory is not kept.
 fn start<'s, G: Naming, R: Wait>(
     rt: &R,
     station: &'s Station<G>,
     crew: &mut Crew<'s, G>,
     task: u8,
-) -> Result<u64, AllocError> {
-    let Some(pass) = take_pass(&mut crew.passes, task) else {
-        return Ok(NOBODY);
+) -> u64 {
+    let Some(at) = crew.passes.iter().position(|pass| pass.task() == task) else {
+        return NOBODY;
     };
+    let pass = crew.passes.swap_remove(at);
     let (pass, begun) = station.start(rt, pass);
-    let answer = match begun {
+    crew.passes.push_reserved(pass);
+    match begun {
         Ok(begun) => {
             let scanned = scan(station.verified(), begun);
-            crew.runs.push(Run { task, scanned })?;
-            0
+            match crew.runs.push(Run { task, scanned }) {
+                Ok(()) => 0,
+                Err(_) => NOBODY,
+            }
         }
         Err(fault) => u64::from(fault.number()),
-    };
-    crew.passes.push(pass)?;
-    Ok(answer)
+    }
 }
 
 // The scan of a task is committed with the pass of another.
@@ -125,23 +115,24 @@ fn commit<'s, G: Naming, R: Wait>(
     task: u8,
     by: u8,
     report: &mut Report,
-) -> Result<u64, AllocError> {
-    let Some(scanned) = take_run(&mut crew.runs, task) else {
-        return Ok(NOBODY);
+) -> u64 {
+    let Some(run) = crew.runs.iter().position(|run| run.task == task) else {
+        return NOBODY;
     };
-    let Some(pass) = take_pass(&mut crew.passes, by) else {
-        return Ok(NOBODY);
+    let Some(at) = crew.passes.iter().position(|pass| pass.task() == by) else {
+        return NOBODY;
     };
+    let Run { scanned, .. } = crew.runs.swap_remove(run);
+    let pass = crew.passes.swap_remove(at);
     let (pass, committed) = station.commit(rt, pass, scanned, report);
-    let answer = match committed {
+    crew.passes.push_reserved(pass);
+    match committed {
         Ok(()) => 0,
         Err((fault, scanned)) => {
-            crew.runs.push(Run { task, scanned })?;
+            crew.runs.push_reserved(Run { task, scanned });
             u64::from(fault.number())
         }
-    };
-    crew.passes.push(pass)?;
-    Ok(answer)
+    }
 }
 
 // The fields of so many cars at floor 1.
@@ -184,28 +175,38 @@ fn press_if(
     (pass, None)
 }
 
-// Presses at one of the panels.
-fn press(
-    alloc: Global,
+// Presses at the first of the panels, if it is the one that is meant. It is the last one then.
+fn press_first(
     desk: &Desk,
-    panels: Vec<PanelPass>,
+    panels: &mut Vec<PanelPass>,
     from: u8,
     panel: u8,
     to: u8,
-) -> Result<(Vec<PanelPass>, Option<Pressed>), AllocError>
-    requires panels { AreAllPanels desk.now panels.items }
+) -> Option<Pressed>
+    requires panels { AreAllPanels desk.now panels.old.items }
     requires to { IsFloorOf desk.now.floors to }
-    ensures { IfOk result (λ r. AreAllPanels desk.now r.0.items) }
+    ensures { AreAllPanels desk.now panels.new.items }
 {
-    let mut panels = panels;
-    let mut after = Vec::new(alloc);
-    let mut answer = None;
-    'panels: while let Some(pass) = panels.pop() {
-        let (back, told) = press_if(desk, pass, from, panel, to);
-        after.push(back)?;
-        answer = answer.or(told);
+    if panels.is_empty() {
+        return None;
     }
-    Ok((after, answer))
+    let pass = panels.remove(0);
+    let (pass, answer) = press_if(desk, pass, from, panel, to);
+    panels.push_reserved(pass);
+    answer
+}
+
+// Presses at one of the panels.
+fn press(desk: &Desk, panels: &mut Vec<PanelPass>, from: u8, panel: u8, to: u8) -> Option<Pressed>
+    requires panels { AreAllPanels desk.now panels.old.items }
+    requires to { IsFloorOf desk.now.floors to }
+    ensures { AreAllPanels desk.now panels.new.items }
+{
+    let mut answer = None;
+    'panels: for _ in 0..panels.len() {
+        answer = answer.or(press_first(desk, panels, from, panel, to));
+    }
+    answer
 }
 
 // The number of an answer to a press.
@@ -305,33 +306,27 @@ fn of_task<'s, G: Naming, R: Wait>(
     crew: &mut Crew<'s, G>,
     report: &mut Report,
     step: Step,
-) -> Result<Option<u64>, AllocError> {
+) -> Option<u64> {
     match step {
-        Step::Start(task) => Ok(Some(start(rt, station, crew, task)?)),
-        Step::Commit { scan, by } => Ok(Some(commit(rt, station, crew, scan, by, report)?)),
-        _ => Ok(None),
+        Step::Start(task) => Some(start(rt, station, crew, task)),
+        Step::Commit { scan, by } => Some(commit(rt, station, crew, scan, by, report)),
+        _ => None,
     }
 }
 
 // A press, if the step is one: what it answers.
-fn of_panel(
-    alloc: Global,
-    desk: &Desk,
-    panels: Vec<PanelPass>,
-    step: Step,
-) -> Result<(Vec<PanelPass>, Option<u64>), AllocError>
-    requires { AreAllPanels desk.now panels.items }
-    ensures { IfOk result (λ r. AreAllPanels desk.now r.0.items) }
+fn of_panel(desk: &Desk, panels: &mut Vec<PanelPass>, step: Step) -> Option<u64>
+    requires { AreAllPanels desk.now panels.old.items }
+    ensures { AreAllPanels desk.now panels.new.items }
 {
     match step {
         Step::Press { from, panel, to } => {
             if !(1..=desk.floors()).contains(&to) {
-                return Ok((panels, Some(NOBODY)));
+                return Some(NOBODY);
             }
-            let (panels, answer) = press(alloc, desk, panels, from, panel, to)?;
-            Ok((panels, Some(number_of(answer))))
+            Some(number_of(press(desk, panels, from, panel, to)))
         }
-        _ => Ok((panels, None)),
+        _ => None,
     }
 }
 
@@ -395,7 +390,6 @@ fn of_refresher<G: Naming, R: Wait>(
 // One step, and what it answers.
 fn take_step<'s, G: Naming, R: Wait>(
     rt: &R,
-    alloc: Global,
     station: &'s Station<G>,
     desk: &Desk,
     crew: &mut Crew<'s, G>,
@@ -403,25 +397,28 @@ fn take_step<'s, G: Naming, R: Wait>(
     hall: Hall,
     report: &mut Report,
     step: Step,
-) -> Result<(RefreshPass<G>, Hall, u64), AllocError>
+) -> (RefreshPass<G>, Hall, u64)
     requires table { hall.collector.table ≡ desk.now.table }
     requires floors { hall.collector.floors ≡ (sizes_of G.program.config).floors }
     requires switches { (n : ℕ)
         → opening_switches (sizes_of G.program.config).cars ≡ G.switches n }
     requires panels { AreAllPanels desk.now hall.panels.items }
-    ensures table { IfOk result (λ r. r.1.collector.table ≡ desk.now.table) }
-    ensures floors { IfOk result (λ r. r.1.collector.floors ≡ (sizes_of G.program.config).floors) }
-    ensures panels { IfOk result (λ r. AreAllPanels desk.now r.1.panels.items) }
+    ensures table { result.1.collector.table ≡ desk.now.table }
+    ensures floors { result.1.collector.floors ≡ (sizes_of G.program.config).floors }
+    ensures panels { AreAllPanels desk.now result.1.panels.items }
 {
-    let Hall { panels, collector } = hall;
-    let first = of_task(rt, station, crew, report, step)?;
-    let (panels, second) = of_panel(alloc, desk, panels, step)?;
+    let Hall {
+        mut panels,
+        collector,
+    } = hall;
+    let first = of_task(rt, station, crew, report, step);
+    let second = of_panel(desk, &mut panels, step);
     let (collector, third) = of_collector(desk, collector, step);
     let (refresher, collector, fourth) = of_refresher(
         rt, station, refresher, collector, report, step,
     );
     let answer = first.or(second).or(third).or(fourth).unwrap_or(NOBODY);
-    Ok((refresher, Hall { panels, collector }, answer))
+    (refresher, Hall { panels, collector }, answer)
 }
 
 // The passes behind the steps, and what the steps answered.
@@ -434,7 +431,7 @@ struct Rest<G: Naming> {
     answers: Vec<u64>,
 }
 
-// The steps of a row, one behind the other.
+// The steps of a row, one behind the other. An answer that finds no memory is missing.
 fn steps<'s, G: Naming, R: Wait>(
     rt: &R,
     alloc: Global,
@@ -444,14 +441,14 @@ fn steps<'s, G: Naming, R: Wait>(
     refresher: RefreshPass<G>,
     hall: Hall,
     row: &[Step],
-) -> Result<Rest<G>, AllocError>
+) -> Rest<G>
     requires table { hall.collector.table ≡ desk.now.table }
     requires floors { hall.collector.floors ≡ (sizes_of G.program.config).floors }
     requires switches { (n : ℕ)
         → opening_switches (sizes_of G.program.config).cars ≡ G.switches n }
     requires panels { AreAllPanels desk.now hall.panels.items }
-    ensures table { IfOk result (λ r. r.hall.collector.table ≡ desk.now.table) }
-    ensures panels { IfOk result (λ r. AreAllPanels desk.now r.hall.panels.items) }
+    ensures table { result.hall.collector.table ≡ desk.now.table }
+    ensures panels { AreAllPanels desk.now result.hall.panels.items }
 {
     let mut crew = Crew {
         passes,
@@ -464,7 +461,6 @@ fn steps<'s, G: Naming, R: Wait>(
     'steps: for one in row {
         let (pass, back, answer) = take_step(
             rt,
-            alloc,
             station,
             desk,
             &mut crew,
@@ -472,19 +468,19 @@ fn steps<'s, G: Naming, R: Wait>(
             hall,
             &mut report,
             *one,
-        )?;
+        );
         refresher = pass;
         hall = back;
-        answers.push(answer)?;
+        let _ = answers.push(answer);
     }
     let Crew { passes, .. } = crew;
-    Ok(Rest {
+    Rest {
         passes,
         refresher,
         hall,
         report,
         answers,
-    })
+    }
 }
 
 // Closes a station and its desk: what the steps left.
@@ -536,13 +532,8 @@ fn play_in<G: Naming, R: Wait>(
     let (desk, panels, collector) = opened;
     let (station, passes, refresher) = Station::<G>::new(alloc, blanks, verified, capacity)?;
     let hall = Hall { panels, collector };
-    match steps(rt, alloc, &station, &desk, passes, refresher, hall, row) {
-        Ok(rest) => Ok(closed(station, desk, rest)),
-        Err(_) => {
-            station.release();
-            Err(Refusal::Memory)
-        }
-    }
+    let rest = steps(rt, alloc, &station, &desk, passes, refresher, hall, row);
+    Ok(closed(station, desk, rest))
 }
 
 // A desk with so many panels on each floor, and its passes.
