@@ -1,8 +1,10 @@
 use Rattle.std.proofs.Common.{subst, sym, ◌∙◌}
 use Rattle.il_spec.specs.declared.tree.Config.{Config}
 use Rattle.il_reasons.specs.ChainReasons.{AreToldOfChains}
-use Rattle.il_reasons.specs.NameReasons.{AreToldOfNames}
-use Rattle.il_reasons.specs.TypeReasons.{AreToldOfTypes}
-use Rattle.il_reasons.specs.Reasons.{of_chains, of_names, of_types}
+use Rattle.il_reasons.specs.Reasons.{of_chains}
 use Rattle.il_reasons.proofs.Pieces.{if_ok}
 use Rattle.il_reasons.proofs.told.Goals as goal
+
+pub returns-then-is_of_chains : goal.returns-then-is_of_chains
+returns-then-is_of_chains c =
+    if_ok c.told-then-is_of_chains.result _ _ (λ lines told. of_chains (sym (c.if-is_of_chains.true ∙ c.is_of_chains.ensures)) (subst (λ (k : Config). AreToldOfChains k c.args.number c.args.place lines.items) c.in_ok-names.ensures told)) c.told-then-is_of_chains.ensures
