@@ -7,9 +7,9 @@ mod container;
 mod dead_ends;
 mod fault;
 mod limits;
-mod relation;
+pub mod relation;
 mod slots;
-mod uses;
+pub mod uses;
 mod variables;
 
 ghost use Rattle.std.specs.Prelude.{◌≡◌, IfOk, IfErr};

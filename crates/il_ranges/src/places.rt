@@ -9,7 +9,7 @@ ghost use Rattle.il_range_laws.specs.Facts.{shown};
 use crate::numbered_unit::NumberedUnit;
 use il_interval::Interval;
 use il_range_laws::facts::Facts;
-use il_run::known::Known;
+use il_run::known::{Known, KnownDeferred};
 use il_spec::tree::Step;
 use std::alloc::AllocError;
 use std::marker::Model;
@@ -47,6 +47,14 @@ impl<'n> PlaceFacts<'n> {
     {
         let _scope = self.scope;
         self.facts.result
+    }
+
+    /// What is known of the results that were set aside for a `)`, the innermost first.
+    pub fn deferred(&self) -> &[KnownDeferred]
+        ensures { result.now ≡ self.now.deferred }
+    {
+        let _scope = self.scope;
+        self.facts.deferred.as_slice()
     }
 
     /// The range of the variable of a name, if it is a scalar with numbers. TIME is in milliseconds.

@@ -4,13 +4,13 @@
 mod answer;
 mod container;
 mod costing;
-mod costs;
+pub mod costs;
 mod fault;
-mod path;
-mod table;
+pub mod path;
+pub mod table;
 mod tasks;
 mod units;
-mod ways;
+pub mod ways;
 
 ghost use Rattle.std.specs.Prelude.{◌≡◌, IfOk, IfErr};
 ghost use Rattle.il_rules.specs.Faults.{IsRefusedBy};
