@@ -1,6 +1,6 @@
 // The frames of bodies that run.
 
-ghost use Rattle.std.specs.Prelude.{◌≡◌, ◌≢◌, ◌<◌, ◌↔◌, ◌∷◌, [], length, IsSome, IsTrue, Some};
+ghost use Rattle.std.specs.Prelude.{◌≡◌, ◌≢◌, ◌<◌, ◌≤◌, ◌↔◌, ◌∷◌, [], length, slice_get, option_map, IsSome, IsTrue, Some};
 ghost use Rattle.il_exec.specs.Going.{rest_of};
 ghost use Rattle.il_exec.specs.Effect.{with_some};
 ghost use Rattle.il_exec.specs.Current.{left_of};
@@ -250,6 +250,22 @@ impl Frames {
     {
         self.callers.clear();
         self.aside.clear();
+    }
+
+    /// How many frames have called.
+    pub fn count(&self) -> usize
+        ensures is { result ≡ length self.now }
+        ensures few { result ≤ 16 }
+    {
+        self.callers.len()
+    }
+
+    /// A frame that has called, by how many of these have called behind it.
+    pub fn frame_at(&self, level: usize) -> Option<Frame>
+        ensures { result ≡ option_map (λ s. s.frame) (slice_get self.now level) }
+    {
+        let caller = self.callers.iter().rev().nth(level)?;
+        Some(caller.frame)
     }
 
     /// A further frame has called, and hands over its deferred operations.

@@ -1,5 +1,5 @@
 -- The name of a path, and the table of the names that a body stores into.
-use Rattle.std.proofs.Common.{◌≡◌, ◌<◌, ◌+◌, ◌||◌, ℕ, zero, suc, Bool, true, false, is_some, List, [], ◌∷◌, ◌++◌, Option, Some, None, flat_map, take, length, get_or, refl, ap, sym, ◌∙◌, arith, bytes_eq}
+use Rattle.std.proofs.Common.{◌≡◌, ◌<◌, ◌+◌, ◌||◌, ℕ, suc, Bool, true, false, is_some, List, [], ◌∷◌, ◌++◌, Option, Some, None, flat_map, take, length, get_or, refl, ap, sym, ◌∙◌, arith, bytes_eq}
 use Rattle.std.specs.Prelude.{◌≢◌, if◌then◌else◌, MatchOption}
 use Rattle.std.proofs.lemmas.Bool.{ne_eqb}
 use Rattle.std.proofs.lemmas.Str.Pattern.{IsSplitOnceResult, split_parts}

@@ -19,3 +19,4 @@ pub mod Shared
 pub mod Planned
 pub mod Standing
 pub mod Shown
+pub mod Looked

@@ -1,5 +1,5 @@
 -- Values that stand over others, and rows in two parts.
-use Rattle.std.proofs.Common.{◌≡◌, ℕ, ◌≤◌, Bool, true, false, List, [], ◌∷◌, ◌++◌, map, take, drop, length, refl, sym, ap, ◌∙◌, cond, Some, None, Option, ℤ, arith}
+use Rattle.std.proofs.Common.{◌≡◌, ℕ, ◌≤◌, Bool, true, false, List, [], ◌∷◌, ◌++◌, take, drop, length, refl, sym, ap, ◌∙◌, cond, Some, None, Option, ℤ, arith}
 use Rattle.std.proofs.lemmas.List.{length-take, length-append}
 use Rattle.std.specs.Prelude.{is_some}
 use Rattle.std.specs.Ordering.{eq_by_cmp}
@@ -9,9 +9,9 @@ use Rattle.il_rules.specs.Declarations.{declared_limits}
 use Rattle.il_run.specs.declared.value.Value.{Value}
 use Rattle.il_table.specs.NameMap.{Text, order, get, insert, empty, from_entries, with_entries, get-empty, get-insert, same_map}
 use Rattle.il_run.specs.State.{Values}
-use Rattle.il_run.specs.Scan.{entries_at, restricted}
+use Rattle.il_run.specs.Scan.{restricted}
 use Rattle.il_table.specs.ByText.{HaveSameNames}
-use Rattle.il_table.proofs.Texts.{same_text, same_names-insert}
+use Rattle.il_table.proofs.Texts.{same_names-insert}
 use Rattle.il_layout.specs.declared.flat.Cell.{Cell}
 use Rattle.il_layout.specs.Layout.{Rows, Fits, value_by, view_of, view}
 use Rattle.il_machine.specs.Scanning.{over, front, behind}

@@ -5,9 +5,7 @@ use Rattle.std.proofs.lemmas.List.{length-map}
 use Rattle.il_spec.specs.declared.tree.Config.{Config}
 use Rattle.il_spec.specs.declared.tree.Scalar.{Scalar}
 use Rattle.il_spec.specs.declared.tree.Unit.{Unit as ProgramUnit}
-use Rattle.il_spec.specs.declared.tree.UnitKind.{UnitKind}
-use Rattle.il_spec.specs.declared.tree.UnitKind.TheVariants.{Function, FunctionBlock, Program}
-use Rattle.il_rules.specs.Names.{is_function, is_function_kind, or_else}
+use Rattle.il_rules.specs.Names.{is_function, or_else}
 use Rattle.il_run.specs.declared.value.Value.{Value}
 use Rattle.il_table.specs.NameMap.{Text, get}
 use Rattle.il_run.specs.State.{Values}

@@ -1,17 +1,15 @@
 -- Where two scans of a task begin alike: with the same values.
-use Rattle.std.proofs.Common.{◌≡◌, ◌≢◌, ◌↔◌, ℕ, zero, suc, ◌<◌, ◌+◌, Bool, true, List, [], ◌∷◌, ◌++◌, map, length, Option, Some, None, ℤ, refl, sym, ap, ap₂, ◌∙◌, subst, arith}
+use Rattle.std.proofs.Common.{◌≡◌, ◌≢◌, ◌↔◌, ℕ, zero, suc, ◌<◌, Bool, true, List, [], ◌∷◌, length, Option, Some, None, ℤ, refl, sym, ap, ap₂, ◌∙◌, subst, arith}
 use Rattle.std.specs.Prelude.{slice_get}
-use Rattle.std.proofs.lemmas.List.{length-append, length-map}
 use Rattle.il_spec.specs.declared.tree.Config.{Config}
 use Rattle.il_spec.specs.declared.tree.Unit.{Unit as ProgramUnit}
 use Rattle.il_rules.specs.Declarations.{declared_limits}
-use Rattle.il_run.specs.declared.value.Value.{Value}
-use Rattle.il_table.specs.NameMap.{Text, get, insert}
+use Rattle.il_table.specs.NameMap.{get, insert}
 use Rattle.il_run.specs.State.{Frame, State}
 use Rattle.il_run.specs.Scan.{begins}
 use Rattle.il_layout.specs.declared.flat.Cell.{Cell}
 use Rattle.il_machine.specs.Starting.{FitsTask}
-use Rattle.il_layout.specs.Layout.{Rows, Fits, number_part, flag_part, value_by, view_of, view, AreOnce}
+use Rattle.il_layout.specs.Layout.{Rows, Fits, value_by, view_of, view, AreOnce}
 use Rattle.il_layout.specs.Program.{program_cells}
 use Rattle.il_layout.proofs.Kept.{has}
 use Rattle.il_exec.specs.Effect.{with_some}

@@ -5,3 +5,4 @@ pub mod Starting
 pub mod Standing
 pub mod Ran
 pub mod Sharing
+pub mod Looking

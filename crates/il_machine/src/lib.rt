@@ -2,6 +2,7 @@
 #![tactic(auto)]
 
 mod globals;
+mod looking;
 mod outputs;
 mod plans;
 pub mod rows;
@@ -16,6 +17,7 @@ pub use il_exec::rows::Rows;
 pub use il_layout::flat::Cell;
 pub use il_run::value::Value;
 pub use il_snapshot::opening_image;
+pub use looking::Standpoint;
 pub use rows::variable;
 pub use scanned::{OpenScan, Scanned, scan};
 pub use store::{Begin, Stepped, Store, finish, step};

@@ -124,8 +124,37 @@ fn is_same(one: Option<Value>, other: Option<Value>) -> bool
     }
 }
 
+// Whether two lists of numbers are the same.
+fn same_numbers(numbers: &[i64], others: &[i64]) -> bool
+    ensures { (result ≡ true) ↔ (numbers.now ≡ others.now) }
+{
+    numbers == others
+}
+
+// Whether two lists of flags are the same.
+fn same_flags(flags: &[bool], others: &[bool]) -> bool
+    ensures { (result ≡ true) ↔ (flags.now ≡ others.now) }
+{
+    flags == others
+}
+
+// Whether two rows are the same in each slot, also in what a slot doesn't show.
+fn is_same_rows(rows: &Rows, others: &Rows) -> bool
+    ensures { result ≡ true → rows.now ≡ others.now }
+{
+    same_numbers(rows.numbers.as_slice(), others.numbers.as_slice())
+        && same_flags(rows.flags.as_slice(), others.flags.as_slice())
+}
+
 // Whether rows hold the same value at each slot.
 fn same_values(rows: &Rows, others: &Rows, cells: &[Cell]) -> bool
+    ensures { (result ≡ true) ↔ HaveSameValues cells.now rows.now others.now }
+{
+    is_same_rows(rows, others) || same_by_slots(rows, others, cells)
+}
+
+// The same, slot by slot.
+fn same_by_slots(rows: &Rows, others: &Rows, cells: &[Cell]) -> bool
     ensures { (result ≡ true) ↔ HaveSameValues cells.now rows.now others.now }
 {
     for slot in 0..cells.len() {

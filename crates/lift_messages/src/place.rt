@@ -100,8 +100,8 @@ fn put_source(to: &mut Vec<u8>, source: &[u8]) -> Result<(), AllocError>
     to.extend_from_slice(b"\n")
 }
 
-// A byte as it is shown: a blank for a tab and a carriage return, `?` for another that can't be printed.
-fn shown(byte: u8) -> u8
+/// A byte as it is shown: a blank for a tab and a carriage return, `?` for another that can't be printed.
+pub fn shown(byte: u8) -> u8
     ensures { result ≡ shown byte }
 {
     match byte {

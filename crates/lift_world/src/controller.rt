@@ -1,6 +1,6 @@
 // A lift group: what the tasks share, where their scans stand, and its calls.
 
-ghost use Rattle.std.specs.Prelude.{◌≡◌, ◌≢◌, ℕ, suc, ◌+◌, ◌≤◌, [], length, slice_get, is_some, option_and_then, Some, Ok, IfOk, IfErr, IsSome};
+ghost use Rattle.std.specs.Prelude.{◌≡◌, ◌≢◌, ℕ, suc, ◌+◌, ◌≤◌, [], length, slice_get, is_some, option_and_then, option_map, Some, Ok, IfOk, IfErr, IfSome, IsSome};
 ghost use Rattle.il_machine.specs.Standing.{Standing, IsOf};
 ghost use Rattle.il_table.specs.NameMap as values;
 ghost use Rattle.lift_spec.specs.Image.{sizes_of, FieldsInRange, Obeys};
@@ -214,6 +214,19 @@ impl Controller {
             (task_at self.now.core.group task) }
     {
         self.core.variable(&self.verified, task, path)
+    }
+
+    /// Where the open scan of a task stands, if it has one.
+    pub fn scan(&self, task: u8) -> Option<&Store>
+        requires { IsController self.now }
+        ensures stands { option_map (λ s. s.now.state) result
+            ≡ model.scan_at (world_in self.now) task }
+        ensures of { IfSome result (λ s. IsOf self.now.verified.config task s.now) }
+    {
+        if !self.core.is_open(task) {
+            return None;
+        }
+        self.stores.get(usize::from(task))?.as_ref()
     }
 
     // Start: the task's scan begins.

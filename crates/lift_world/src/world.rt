@@ -1,10 +1,11 @@
 // The world.
 
 ghost use Rattle.il_spec.specs.declared.fault.Refusal.TheVariants.{Memory};
-ghost use Rattle.std.specs.Prelude.{◌≡◌, ℕ, ◌+◌, ◌≤◌, [], ◌∷◌, length, option_and_then, IfOk, IfErr, Ok, Some};
+ghost use Rattle.std.specs.Prelude.{◌≡◌, ℕ, ◌+◌, ◌≤◌, [], ◌∷◌, length, option_and_then, option_map, IfOk, IfErr, IfSome, Ok, Some};
 ghost use Rattle.il_spec.specs.declared.tree.Unit.{Unit as Organized};
 ghost use Rattle.il_table.specs.NameMap as values;
 ghost use Rattle.il_machine.specs.Listing.{TaskLine, task_line};
+ghost use Rattle.il_machine.specs.Standing.{IsOf};
 ghost use Rattle.lift_spec.specs.Calls.{slot_at};
 ghost use Rattle.lift_spec.specs.Image.{sizes_of, FieldsInRange, Obeys};
 ghost use Rattle.lift_spec.specs.Replies.{reply_with, Refused};
@@ -19,7 +20,7 @@ ghost use Rattle.lift_world.specs.Worlds.{PrintsEachBudget};
 
 use crate::controller::Controller;
 use crate::replies::Replies;
-use il_machine::{Value, Verified};
+use il_machine::{Store, Value, Verified};
 use il_spec::fault::Refusal;
 use lift_spec::calls::Slot;
 use lift_spec::event::{Event, EventFault, Reply};
@@ -173,6 +174,15 @@ impl World {
         ensures { result ≡ sizes_of self.now.program.config }
     {
         self.group.verified.sizes()
+    }
+
+    /// Where the open scan of a task stands, if it has one.
+    pub fn scan(&self, task: u8) -> Option<&Store>
+        ensures stands { option_map (λ s. s.now.state) result
+            ≡ model.scan_at self.now.world task }
+        ensures of { IfSome result (λ s. IsOf self.now.program.config task s.now) }
+    {
+        self.group.scan(task)
     }
 
     /// The value of a global, by its path, as the last commit left it.

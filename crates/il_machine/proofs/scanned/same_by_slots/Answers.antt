@@ -1,5 +1,5 @@
 use Rattle.std.proofs.Common.{◌≤◌, length, refl, arith, rules}
-use Rattle.il_machine.proofs.scanned.same_values.Goals as goal
+use Rattle.il_machine.proofs.scanned.same_by_slots.Goals as goal
 
 pub returns : goal.returns
 returns c =

@@ -1,0 +1,4 @@
+pub mod Chosen
+pub mod Stands
+pub mod Lines
+pub mod Shown

@@ -1,0 +1,121 @@
+-- The line of a step (own rules).
+use Rattle.std.specs.Prelude.{ℕ, ◌-◌, ◌*◌, ◌==◌, min, Bool, true, false, nat_lt, List, [], ◌∷◌, ◌++◌, flat_map, take, drop, length, replicate, slice_get, Option, Some, None, option_map, if◌then◌else◌, codes, decimal}
+use Rattle.std.specs.List.{prefix_len}
+use Rattle.std.specs.Str.{encode}
+use Rattle.il_spec.specs.declared.tree.Argument.{Argument}
+use Rattle.il_spec.specs.declared.tree.Argument.TheVariants.{Input, Output}
+use Rattle.il_spec.specs.declared.tree.Config.{Config}
+use Rattle.il_spec.specs.declared.tree.Instruction.{Instruction}
+use Rattle.il_spec.specs.declared.tree.Instruction.TheVariants.{Load, Store, Operate, Defer, Call, Invoke}
+use Rattle.il_spec.specs.declared.tree.Operand.{Operand}
+use Rattle.il_spec.specs.declared.tree.Place.{Place}
+use Rattle.il_spec.specs.declared.tree.Step.{Step}
+use Rattle.il_spec.specs.declared.tree.Unit.{Unit as UnitOf}
+use Rattle.il_rules.specs.Names.{unit_named}
+use Rattle.il_table.specs.NameMap.{Text}
+use Rattle.il_run.specs.declared.value.Content.{Content}
+use Rattle.il_run.specs.State.{Values, State}
+use Rattle.il_run.specs.Meaning.{under, member_path}
+use Rattle.lift_messages.specs.Places.{shown}
+use Rattle.lift_scan.specs.declared.before.Before.{Before}
+use Rattle.lift_scan.specs.Stands.{StandOf, of_stand, stand_at, step_at, result_text, named_text, reference_text}
+
+-- WHERE A STEP STANDS
+
+-- the place of a step; that of the END word, where there is none
+abbrev pub place_of_step : UnitOf → Option Step → Place
+place_of_step u None = u.body.end
+place_of_step u (Some s) = s.place
+
+abbrev pub place_at : Config → StandOf → Option Place
+place_at c stand = option_map (λ u. place_of_step u (slice_get u.body.steps stand.place)) (unit_named c stand.unit)
+
+-- what is kept of a state before a step: the body that runs, the one that called it, how many bodies there are, the current result, and the place in the text
+pub record Seen : Type 0 where
+  pub stand : StandOf
+  pub caller : Option StandOf
+  pub depth : ℕ
+  pub result : Option Content
+  pub place : Place
+
+abbrev pub seen_at : State → StandOf → Option Place → Option Seen
+seen_at s stand None = None
+seen_at s stand (Some place) = Some (record { stand = stand; caller = stand_at s 1; depth = length s.frames; result = s.result; place = place })
+
+abbrev pub seen_by : Config → State → Option StandOf → Option Seen
+seen_by c s None = None
+seen_by c s (Some stand) = seen_at s stand (place_at c stand)
+
+abbrev pub seen_of : Config → State → Option Seen
+seen_of c s = seen_by c s (stand_at s 0)
+
+-- the same as the code has it
+abbrev pub of_before : Before → Seen
+of_before b = record { stand = of_stand b.stand; caller = option_map of_stand b.caller; depth = b.depth; result = b.result; place = b.place }
+
+-- THE TEXT OF THE LINE
+
+-- no end of a line
+abbrev pub is_within_line : ℕ → Bool
+is_within_line byte = if byte == 10 then false else true
+
+-- what a line shows of the text from a place on: at most 60 bytes
+abbrev pub shown_front : List ℕ → List ℕ
+shown_front bytes = flat_map (λ b. encode (shown b)) (take (min 60 (prefix_len is_within_line bytes)) bytes)
+
+abbrev pub source_text : List ℕ → ℕ → List ℕ
+source_text source offset = shown_front (drop offset source)
+
+-- an output of a call, and the variable to which it goes
+abbrev pub output_text : Values → Text → Text → Text → Text → List ℕ
+output_text values path instance word target = named_text values (member_path (under path instance) word) ++ named_text values (under path target)
+
+-- what goes out of a call by an argument
+abbrev pub out_text : Values → Text → Text → Argument → List ℕ
+out_text values path instance (Input word operand) = []
+out_text values path instance (Output word target) = output_text values path instance word.name target.name
+
+-- what goes into a call by an argument, and out of it, where no body is entered
+abbrev pub argument_text : Values → Text → Text → Bool → Argument → List ℕ
+argument_text values path instance enters (Input word operand) = named_text values (member_path (under path instance) word.name)
+argument_text values path instance true (Output word target) = []
+argument_text values path instance false (Output word target) = output_text values path instance word.name target.name
+
+-- what is named by an instruction of a body at a path
+abbrev pub instruction_text : Values → Text → Bool → Instruction → List ℕ
+instruction_text values path enters (Load negated operand) = reference_text values path operand.reference
+instruction_text values path enters (Store store target) = reference_text values path target.reference
+instruction_text values path enters (Operate operator operand) = reference_text values path operand.reference
+instruction_text values path enters (Defer operator (Some first)) = reference_text values path first.reference
+instruction_text values path enters (Call condition instance arguments) = flat_map (argument_text values path instance.name enters) arguments
+instruction_text values path enters (Invoke function operands) = flat_map (λ (o : Operand). reference_text values path o.reference) operands
+instruction_text values path enters _ = []
+
+abbrev pub step_text : Values → Text → Bool → Option Step → List ℕ
+step_text values path enters None = []
+step_text values path enters (Some s) = instruction_text values path enters s.instruction
+
+-- what goes out of the body that a step leaves, by the instruction that called it
+abbrev pub call_text : Values → Text → Instruction → List ℕ
+call_text values path (Call condition instance arguments) = flat_map (out_text values path instance.name) arguments
+call_text values path _ = []
+
+abbrev pub left_by : Values → Text → Option Step → List ℕ
+left_by values path None = []
+left_by values path (Some s) = call_text values path s.instruction
+
+abbrev pub left_text : Config → Values → Option StandOf → List ℕ
+left_text c values None = []
+left_text c values (Some caller) = left_by values caller.path (step_at c caller.unit caller.place)
+
+-- what is named by a step that leaves a state
+abbrev pub names_text : Config → Seen → State → List ℕ
+names_text c seen s =
+    if nat_lt (length s.frames) seen.depth then left_text c s.values seen.caller
+    else step_text s.values seen.stand.path (nat_lt seen.depth (length s.frames)) (step_at c seen.stand.unit seen.stand.place)
+
+-- a line: the step, the current result before and behind it, and what it names, behind it
+abbrev pub line_text : Config → List ℕ → Seen → State → List ℕ
+line_text c source seen s =
+    replicate (2 * (seen.depth - 1)) 32 ++ (codes "line " ++ (decimal seen.place.line ++ (codes ": " ++ (source_text source seen.place.offset
+    ++ (codes ": " ++ (result_text seen.result ++ (codes " -> " ++ (result_text s.result ++ (names_text c seen s ++ codes "\n")))))))))

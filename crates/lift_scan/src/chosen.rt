@@ -1,0 +1,102 @@
+// Which scan of a trace is shown.
+
+ghost use Rattle.std.specs.Prelude.{◌≡◌};
+ghost use Rattle.lift_scan.specs.Chosen.{is_asked, committed, noted, chosen};
+
+use lift_spec::trace::TraceEvent;
+
+/// Which scan is asked for.
+#[derive(Clone, Copy)]
+pub struct Asked {
+    /// Its task: 0 is GROUP, k is CARk.
+    pub task: u8,
+    /// The round in which it was committed; none: the last one of the trace.
+    pub round: Option<u32>,
+    /// The line behind which nothing more is shown.
+    pub until: Option<u32>,
+}
+
+/// A scan of a trace.
+#[derive(Clone, Copy)]
+pub struct Chosen {
+    /// How many events of the trace stand up to its start, that with them.
+    pub front: usize,
+    /// The round of its commit.
+    pub round: u32,
+}
+
+// What is known of the scans of a task so far.
+#[derive(Clone, Copy)]
+struct Search {
+    round: u32,
+    started: Option<usize>,
+    found: Option<Chosen>,
+}
+
+// Whether a round is the one that is asked for; where none is, each.
+fn is_asked(wanted: Option<u32>, round: u32) -> bool
+    ensures { result ≡ is_asked wanted round }
+{
+    match wanted {
+        None => true,
+        Some(wanted) => wanted == round,
+    }
+}
+
+// A scan that was committed, by how many events stand up to its start.
+fn committed(started: Option<usize>, round: u32) -> Option<Chosen>
+    ensures { result ≡ committed started round }
+{
+    match started {
+        None => None,
+        Some(front) => Some(Chosen { front, round }),
+    }
+}
+
+// What is known behind an event, with which there are so many.
+fn noted(asked: Asked, count: usize, event: &TraceEvent, search: Search) -> Search
+    ensures { result ≡ noted asked count event.now search }
+{
+    match event {
+        TraceEvent::Start(task) => {
+            if *task == asked.task {
+                Search {
+                    started: Some(count),
+                    ..search
+                }
+            } else {
+                search
+            }
+        }
+        TraceEvent::Commit(task) => {
+            if *task == asked.task && is_asked(asked.round, search.round) {
+                Search {
+                    found: committed(search.started, search.round),
+                    ..search
+                }
+            } else {
+                search
+            }
+        }
+        TraceEvent::Refresh(_) => Search {
+            round: search.round.saturating_add(1),
+            ..search
+        },
+        _ => search,
+    }
+}
+
+/// The last scan of a task that a trace commits, in the round that is asked for.
+pub fn chosen(asked: Asked, events: &[TraceEvent]) -> Option<Chosen>
+    ensures { result ≡ chosen asked events.now }
+{
+    let mut search = Search {
+        round: 0,
+        started: None,
+        found: None,
+    };
+    'events: for (at, event) in events.iter().enumerate() {
+        search = noted(asked, at + 1, event, search);
+    }
+    search.found
+}

@@ -1,0 +1,12 @@
+//! A scan of a trace, instruction by instruction.
+#![tactic(auto)]
+
+mod before;
+pub mod chosen;
+mod line;
+pub mod shown;
+mod values;
+mod view;
+
+pub use chosen::Asked;
+pub use shown::{ScanStop, scan_text};

@@ -1,0 +1,170 @@
+// A scan, instruction by instruction.
+
+ghost use Rattle.std.specs.Prelude.{◌≡◌, ◌++◌, IfOk, IfErr, OnOk, option_map, string_bytes};
+ghost use Rattle.lift_spec.specs.Snapshot.{task_name};
+ghost use Rattle.lift_spec.specs.World.{scan_at};
+ghost use Rattle.lift_scan.specs.Lines.{of_before};
+ghost use Rattle.lift_scan.specs.Shown.{is_last, seen_in, line_by, lines_text, heading, IsScanShown, IsScanStopped};
+
+use crate::before::{Before, before};
+use crate::chosen::{Asked, Chosen, chosen};
+use crate::line::put_line;
+use crate::view::View;
+use lift_runs::replay::{Refused, replay};
+use lift_spec::event::{Event, Reply};
+use lift_spec::report::Report;
+use lift_spec::trace::TraceEvent;
+use lift_world::World;
+use std::alloc::{AllocError, Global};
+
+// The most instructions of a scan (own rule).
+const MOST: u32 = 1_000_000;
+
+/// Why no scan is shown.
+#[derive(Clone, Copy)]
+pub enum ScanStop {
+    /// The world refuses this event of the trace.
+    Refused(Refused),
+    /// The trace commits no such scan.
+    NoScan,
+    /// An allocation failed.
+    Memory,
+}
+
+impl From<AllocError> for ScanStop {
+    ghost use Rattle.std.specs.Prelude.{◌≡◌};
+    ghost use Rattle.lift_scan.specs.declared.shown.ScanStop.TheVariants.{Memory};
+
+    ghost from_gives = { λ _ s. s ≡ Memory };
+
+    fn from(_error: AllocError) -> ScanStop {
+        ScanStop::Memory
+    }
+}
+
+impl From<Refused> for ScanStop {
+    ghost use Rattle.std.specs.Prelude.{◌≡◌};
+    ghost use Rattle.lift_scan.specs.declared.shown.ScanStop.TheVariants as stop;
+
+    ghost from_gives = { λ r s. s ≡ stop.Refused r };
+
+    fn from(refused: Refused) -> ScanStop {
+        ScanStop::Refused(refused)
+    }
+}
+
+/// The last scan of a task that a trace commits, or that of a round, instruction by instruction: a line for each, with its place in `source`,
+/// the text of the configuration, the current result before and behind it, and the values that it names, as they stand behind it.
+pub fn scan_text(
+    alloc: Global,
+    world: &mut World,
+    events: &[TraceEvent],
+    asked: Asked,
+    source: &[u8],
+) -> Result<String, ScanStop>
+    ensures shown { IfOk result (λ text. IsScanShown world.old.program.config world.old.world
+        asked events.now source.now (string_bytes text)) }
+    ensures stopped { IfErr result (IsScanStopped world.old.program.config world.old.world
+        asked events.now) }
+    ensures same { world.new.program ≡ world.old.program }
+{
+    let Some(it) = chosen(asked, events) else {
+        return Err(ScanStop::NoScan);
+    };
+    let (front, _) = events.split_at(it.front.min(events.len()));
+    replay(world, front)?;
+    let mut text = heading(alloc, asked, it)?;
+    put_lines(alloc, world, asked, source, &mut text)?;
+    Ok(text)
+}
+
+// The heading of a scan.
+fn heading(alloc: Global, asked: Asked, it: Chosen) -> Result<String, AllocError>
+    ensures { IfOk result (λ text. string_bytes text ≡ heading asked it) }
+{
+    let mut text = String::new(alloc);
+    write!(text, "round {} scan ", it.round)?;
+    put_task(&mut text, asked.task)?;
+    text.push_str("\n")?;
+    Ok(text)
+}
+
+// The name of a task: 0 is GROUP, k is CARk.
+fn put_task(text: &mut String, task: u8) -> Result<(), AllocError>
+    ensures { OnOk result (string_bytes text.new ≡ string_bytes text.old ++ task_name task) }
+{
+    match task {
+        0 => text.push_str("GROUP"),
+        car => write!(text, "CAR{}", car),
+    }
+}
+
+// The lines of the open scan of a task, up to its end or the line behind which nothing more is shown.
+fn put_lines(
+    alloc: Global,
+    world: &mut World,
+    asked: Asked,
+    source: &[u8],
+    text: &mut String,
+) -> Result<(), AllocError>
+    ensures lines { OnOk result (string_bytes text.new ≡ string_bytes text.old
+        ++ lines_text world.old.program.config asked.task asked.until source.now 1000000
+        world.old.world) }
+    ensures same { world.new.program ≡ world.old.program }
+{
+    let mut report = Report::new();
+    'steps: for _ in 0..MOST {
+        let Some(seen) = seen(alloc, world, asked.task)? else {
+            return Ok(());
+        };
+        match world.apply(&Event::Instruction(asked.task), &mut report) {
+            Reply::More => put_step(alloc, text, source, world, asked.task, &seen)?,
+            Reply::End => return put_step(alloc, text, source, world, asked.task, &seen),
+            _ => return Ok(()),
+        }
+        if is_last(asked.until, seen.place.line) {
+            return Ok(());
+        }
+    }
+    Ok(())
+}
+
+// What is known before the next instruction of a task's open scan, if one is left.
+fn seen(alloc: Global, world: &World, task: u8) -> Result<Option<Before>, AllocError>
+    ensures { IfOk result (λ o. option_map of_before o
+        ≡ seen_in world.now.program.config world.now.world task) }
+{
+    match View::of(world, task) {
+        Some(view) => before(alloc, &view),
+        None => Ok(None),
+    }
+}
+
+// The line of a step that was taken.
+fn put_step(
+    alloc: Global,
+    text: &mut String,
+    source: &[u8],
+    world: &World,
+    task: u8,
+    before: &Before,
+) -> Result<(), AllocError>
+    ensures { OnOk result (string_bytes text.new ≡ string_bytes text.old
+        ++ line_by world.now.program.config source.now (of_before before.now)
+        (scan_at world.now.world task)) }
+{
+    match View::of(world, task) {
+        Some(view) => put_line(alloc, text, source, before, &view),
+        None => Ok(()),
+    }
+}
+
+// Whether nothing more is shown behind a line.
+fn is_last(until: Option<u32>, line: u32) -> bool
+    ensures { result ≡ is_last until line }
+{
+    match until {
+        None => false,
+        Some(until) => until == line,
+    }
+}

@@ -1,0 +1,165 @@
+// The open scan of a task, as it stands.
+
+ghost use Rattle.std.specs.Prelude.{◌≡◌, ◌+◌, IfOk, IfSome, Some, drop, length, option_map, slice_get, string_bytes};
+ghost use Rattle.il_table.specs.NameMap.{get};
+ghost use Rattle.il_rules.specs.Names.{unit_named};
+ghost use Rattle.il_run.specs.Meaning.{under};
+ghost use Rattle.il_run.specs.State.{Frame};
+ghost use Rattle.il_exec.specs.Framing.{path_in, path_over, instruction_in};
+ghost use Rattle.lift_spec.specs.World.{scan_at};
+ghost use Rattle.lift_scan.specs.Stands.{of_stand, stand_at, step_at, path_of_step};
+
+use il_machine::{Store, Value, Verified};
+use il_run::value::Content;
+use il_spec::tree::{Instruction, Step, Unit};
+use lift_world::World;
+use std::alloc::{AllocError, Global};
+use std::marker::Model;
+
+/// The open scan of a task, as it stands.
+pub struct View<'v> {
+    verified: &'v Verified,
+    store: &'v Store,
+}
+
+impl<'v> Model for View<'v> {
+    ghost use Rattle.std.specs.Prelude.{◌≡◌};
+    ghost use Rattle.il_machine.specs.Standing.{Standing, standing_code};
+
+    ghost Value = { Standing };
+
+    ghost coded = { standing_code };
+
+    ghost view = { λ v. v.store.now };
+
+    ghost invariant = { λ v. v.store.now.config ≡ v.verified.now.config };
+}
+
+/// A body that runs or has called: its unit, its path, and the place at which it stands.
+#[derive(Drop)]
+pub struct Stand {
+    pub unit: String,
+    pub path: String,
+    pub place: usize,
+}
+
+impl<'v> View<'v> {
+    /// That of a task of a world, if it has one.
+    pub fn of(world: &'v World, task: u8) -> Option<View<'v>>
+        ensures stands { option_map (λ s. s.state) result ≡ scan_at world.now.world task }
+        ensures config { IfSome result (λ s. s.config ≡ world.now.program.config) }
+    {
+        let store = world.scan(task)?;
+        Some(View {
+            verified: world.verified(),
+            store,
+        })
+    }
+
+    /// How many bodies run or have called; none behind the scan's end.
+    pub fn depth(&self) -> usize
+        ensures { result ≡ length self.now.state.frames }
+    {
+        self.store.depth()
+    }
+
+    /// The current result, if there is one.
+    pub fn result(&self) -> Option<Content>
+        ensures { result ≡ self.now.state.result }
+    {
+        self.store.result()
+    }
+
+    /// The value at a path.
+    pub fn value(&self, path: &str) -> Option<Value>
+        ensures { result ≡ get self.now.state.values path.now }
+    {
+        self.store.value(self.verified, path)
+    }
+
+    /// The unit of a name.
+    pub fn unit(&self, name: &str) -> Option<&'v Unit>
+        ensures { option_map (λ u. u.now) result ≡ unit_named self.now.config name.now }
+    {
+        if self.verified.names().is_predeclared(name) {
+            return None;
+        }
+        let units = self.verified.config().units.as_slice();
+        units.iter().find(|unit| unit.name.name.as_str() == name)
+    }
+
+    /// The instruction of a unit at a place, if it is no implicit RET.
+    pub fn step(&self, unit: &str, place: usize) -> Option<&'v Step>
+        ensures { option_map (λ s. s.now) result ≡ step_at self.now.config unit.now place }
+    {
+        self.unit(unit)?.body.steps.as_slice().get(place)
+    }
+
+    /// The body at a level, the one that runs at 0.
+    pub fn stand(&self, alloc: Global, level: usize) -> Result<Option<Stand>, AllocError>
+        ensures { IfOk result (λ o. option_map of_stand o ≡ stand_at self.now.state level) }
+    {
+        self.store.stacks();
+        let Some(standpoint) = self.store.standpoint(self.verified, level) else {
+            return Ok(None);
+        };
+        Ok(Some(Stand {
+            unit: String::from_str(alloc, standpoint.unit)?,
+            path: self.path(alloc, level)?,
+            place: standpoint.place,
+        }))
+    }
+
+    // The path of the body at a level: from the program's on, what each body runs.
+    fn path(&self, alloc: Global, level: usize) -> Result<String, AllocError>
+        ensures { IfOk result (λ p. string_bytes p
+            ≡ path_over self.now.config (drop (level + 1) self.now.state.frames)) }
+    {
+        self.store.stacks();
+        let mut path = String::new(alloc);
+        let mut left = self.depth();
+        'callers: while left.saturating_sub(1) > level {
+            left -= 1;
+            path = self.path_above(alloc, path, left)?;
+        }
+        Ok(path)
+    }
+
+    // The path of what the body at a level runs, by its own.
+    fn path_above(&self, alloc: Global, path: String, level: usize) -> Result<String, AllocError>
+        ensures { IfOk result (λ p. (f : Frame) → slice_get self.now.state.frames level ≡ Some f
+            → string_bytes p ≡ path_in (string_bytes path) (instruction_in self.now.config f)) }
+    {
+        match self.store.standpoint(self.verified, level) {
+            Some(caller) => path_in(alloc, path, self.step(caller.unit, caller.place)),
+            None => Ok(String::new(alloc)),
+        }
+    }
+}
+
+// The path of what an instruction of a body at a path runs.
+fn path_in(alloc: Global, path: String, step: Option<&Step>) -> Result<String, AllocError>
+    ensures { IfOk result (λ p. string_bytes p
+        ≡ path_of_step (string_bytes path) (option_map (λ s. s.now) step)) }
+{
+    let Some(step) = step else {
+        return Ok(String::new(alloc));
+    };
+    match &step.instruction {
+        Instruction::Call { instance, .. } => under(path, instance.name.as_str()),
+        Instruction::Invoke { function, .. } => String::from_str(alloc, function.name.as_str()),
+        _ => Ok(String::new(alloc)),
+    }
+}
+
+/// A variable of the body at a path.
+pub fn under(path: String, name: &str) -> Result<String, AllocError>
+    ensures { IfOk result (λ p. string_bytes p ≡ under (string_bytes path) name.now) }
+{
+    let mut path = path;
+    if !path.is_empty() {
+        path.push_str(".")?;
+    }
+    path.push_str(name)?;
+    Ok(path)
+}
