@@ -12,3 +12,4 @@ pub mod Replying
 pub mod Happening
 pub mod Alone
 pub mod Handing
+mod Standings

@@ -226,7 +226,7 @@ impl Controller {
         if !self.core.is_open(task) {
             return None;
         }
-        self.stores.get(usize::from(task))?.as_ref()
+        self.stores[usize::from(task)].as_ref()
     }
 
     // Start: the task's scan begins.
