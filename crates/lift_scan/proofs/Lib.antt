@@ -1,2 +1,3 @@
 mod Stacks
 mod Fronts
+mod Steps

@@ -1,7 +1,6 @@
 -- The line of a step (own rules).
-use Rattle.std.specs.Prelude.{ℕ, ◌-◌, ◌*◌, ◌==◌, min, Bool, true, false, nat_lt, List, [], ◌∷◌, ◌++◌, flat_map, take, drop, length, replicate, slice_get, Option, Some, None, option_map, if◌then◌else◌, codes, decimal}
+use Rattle.std.specs.Prelude.{ℕ, ◌-◌, ◌==◌, min, Bool, true, false, nat_lt, List, [], ◌++◌, flat_map, map, take, drop, length, replicate, slice_get, Option, Some, None, option_map, if◌then◌else◌, codes, decimal}
 use Rattle.std.specs.List.{prefix_len}
-use Rattle.std.specs.Str.{encode}
 use Rattle.il_spec.specs.declared.tree.Argument.{Argument}
 use Rattle.il_spec.specs.declared.tree.Argument.TheVariants.{Input, Output}
 use Rattle.il_spec.specs.declared.tree.Config.{Config}
@@ -61,7 +60,7 @@ is_within_line byte = if byte == 10 then false else true
 
 -- what a line shows of the text from a place on: at most 60 bytes
 abbrev pub shown_front : List ℕ → List ℕ
-shown_front bytes = flat_map (λ b. encode (shown b)) (take (min 60 (prefix_len is_within_line bytes)) bytes)
+shown_front bytes = map shown (take (min 60 (prefix_len is_within_line bytes)) bytes)
 
 abbrev pub source_text : List ℕ → ℕ → List ℕ
 source_text source offset = shown_front (drop offset source)
@@ -114,8 +113,15 @@ names_text c seen s =
     if nat_lt (length s.frames) seen.depth then left_text c s.values seen.caller
     else step_text s.values seen.stand.path (nat_lt seen.depth (length s.frames)) (step_at c seen.stand.unit seen.stand.place)
 
+-- a line's front: a blank for each body below, twice, and the step
+abbrev pub front_text : List ℕ → Seen → List ℕ
+front_text source seen =
+    replicate (seen.depth - 1) 32 ++ (replicate (seen.depth - 1) 32 ++ (codes "line " ++ (decimal seen.place.line ++ (codes ": " ++ (source_text source seen.place.offset ++ codes ": ")))))
+
+-- the current result before a step and behind it
+abbrev pub results_text : Seen → State → List ℕ
+results_text seen s = result_text seen.result ++ (codes " -> " ++ result_text s.result)
+
 -- a line: the step, the current result before and behind it, and what it names, behind it
 abbrev pub line_text : Config → List ℕ → Seen → State → List ℕ
-line_text c source seen s =
-    replicate (2 * (seen.depth - 1)) 32 ++ (codes "line " ++ (decimal seen.place.line ++ (codes ": " ++ (source_text source seen.place.offset
-    ++ (codes ": " ++ (result_text seen.result ++ (codes " -> " ++ (result_text s.result ++ (names_text c seen s ++ codes "\n")))))))))
+line_text c source seen s = front_text source seen ++ (results_text seen s ++ (names_text c seen s ++ codes "\n"))

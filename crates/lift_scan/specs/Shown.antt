@@ -1,10 +1,10 @@
 -- What `scan` prints (own rules).
-use Rattle.std.specs.Prelude.{◌≡◌, ℕ, zero, suc, ◌==◌, Bool, true, false, List, [], ◌++◌, take, Option, Some, None, Ok, if◌then◌else◌, codes, decimal}
+use Rattle.std.specs.Prelude.{◌≡◌, ℕ, zero, suc, ◌==◌, Bool, true, false, not, List, [], ◌++◌, take, Option, Some, None, Ok, codes, decimal}
 use Rattle.il_spec.specs.declared.tree.Config.{Config}
 use Rattle.il_run.specs.State.{State}
 use Rattle.lift_spec.specs.declared.event.Event.TheVariants.{Instruction}
 use Rattle.lift_spec.specs.declared.trace.TraceEvent.{TraceEvent}
-use Rattle.lift_spec.specs.Replies.{Reply, More, End}
+use Rattle.lift_spec.specs.Replies.{More, End}
 use Rattle.lift_spec.specs.Snapshot.{task_name}
 use Rattle.lift_spec.specs.World.{World, Next, happens, scan_at}
 use Rattle.lift_journal.specs.Rounds.{TakesAll, IsRefusedAt}
@@ -33,9 +33,14 @@ abbrev pub line_by : Config → List ℕ → Seen → Option State → List ℕ
 line_by c source seen None = []
 line_by c source seen (Some s) = line_text c source seen s
 
+-- what is shown of a world, where more is shown
+abbrev pub rest_if : Bool → (World → List ℕ) → World → List ℕ
+rest_if false rest w = []
+rest_if true rest w = rest w
+
 -- what is shown of a step and behind it, by what it is answered
 abbrev pub behind_reply : Config → ℕ → Option ℕ → List ℕ → (World → List ℕ) → Seen → Next → List ℕ
-behind_reply c task until source rest seen (Ok (v, More)) = line_by c source seen (scan_at v task) ++ (if is_last until seen.place.line then [] else rest v)
+behind_reply c task until source rest seen (Ok (v, More)) = line_by c source seen (scan_at v task) ++ rest_if (not (is_last until seen.place.line)) rest v
 behind_reply c task until source rest seen (Ok (v, End)) = line_by c source seen (scan_at v task)
 behind_reply c task until source rest seen _ = []
 
@@ -45,7 +50,7 @@ from_seen c task until source rest w None = []
 from_seen c task until source rest w (Some seen) = behind_reply c task until source rest seen (happens c w (Instruction task))
 
 -- the lines of the next instructions of a task's open scan, so many at most: those of the definitions' world, up to the scan's end or the line behind which nothing more is shown
-abbrev pub lines_text : Config → ℕ → Option ℕ → List ℕ → ℕ → World → List ℕ
+unfoldable pub lines_text : Config → ℕ → Option ℕ → List ℕ → ℕ → World → List ℕ
 lines_text c task until source zero w = []
 lines_text c task until source (suc fuel) w = from_seen c task until source (λ v. lines_text c task until source fuel v) w (seen_in c w task)
 

@@ -1,5 +1,5 @@
 -- The bodies of a scan, and the values that they name (own rules).
-use Rattle.std.specs.Prelude.{ℕ, Bool, List, [], ◌∷◌, ◌++◌, Option, Some, None, option_map, option_and_then, ℤ, codes, string_bytes, slice_get}
+use Rattle.std.specs.Prelude.{ℕ, true, false, List, [], ◌++◌, Option, Some, None, option_map, option_and_then, codes, string_bytes, slice_get}
 use Rattle.std.specs.Fmt.{signed_decimal}
 use Rattle.il_spec.specs.declared.tree.Config.{Config}
 use Rattle.il_spec.specs.declared.tree.Index.{Index}

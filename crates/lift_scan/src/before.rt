@@ -25,7 +25,7 @@ pub struct Before {
 }
 
 /// What is kept of a scan before its next step, if it has one.
-pub fn before(alloc: Global, view: &View<'_>) -> Result<Option<Before>, AllocError>
+pub fn next_step(alloc: Global, view: &View<'_>) -> Result<Option<Before>, AllocError>
     ensures { IfOk result (λ o. option_map of_before o ≡ seen_of view.now.config view.now.state) }
 {
     let Some(stand) = view.stand(alloc, 0)? else {

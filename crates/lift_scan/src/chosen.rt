@@ -87,7 +87,7 @@ fn noted(asked: Asked, count: usize, event: &TraceEvent, search: Search) -> Sear
 }
 
 /// The last scan of a task that a trace commits, in the round that is asked for.
-pub fn chosen(asked: Asked, events: &[TraceEvent]) -> Option<Chosen>
+pub fn choose(asked: Asked, events: &[TraceEvent]) -> Option<Chosen>
     ensures { result ≡ chosen asked events.now }
 {
     let mut search = Search {

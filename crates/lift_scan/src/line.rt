@@ -1,14 +1,15 @@
 // The line of a step.
 
-ghost use Rattle.std.specs.Prelude.{◌≡◌, ◌++◌, ◌*◌, ◌-◌, min, nat_lt, drop, flat_map, option_map, replicate, OnOk, string_bytes};
+ghost use Rattle.std.specs.Prelude.{◌≡◌, ◌≤◌, ◌++◌, flat_map, length, map, option_copied, option_map, replicate, OnOk, string_bytes};
 ghost use Rattle.std.specs.List.{prefix_len};
-ghost use Rattle.lift_scan.specs.Stands.{of_stand};
-ghost use Rattle.lift_scan.specs.Lines.{is_within_line, shown_front, source_text, of_before, out_text, output_text, argument_text, instruction_text, step_text, call_text, left_by, left_text, names_text, line_text};
+ghost use Rattle.lift_messages.specs.Places.{shown};
+ghost use Rattle.lift_scan.specs.Stands.{of_stand, reference_text};
+ghost use Rattle.lift_scan.specs.Lines.{is_within_line, shown_front, source_text, front_text, results_text, of_before, out_text, output_text, argument_text, instruction_text, step_text, call_text, left_by, left_text, names_text, line_text};
 
 use crate::before::Before;
 use crate::values::{put_member, put_reference, put_result, put_variable};
 use crate::view::{Stand, View};
-use il_spec::tree::{Argument, Instruction, Step};
+use il_spec::tree::{Argument, Instruction, Operand, Step};
 use lift_messages::place::shown;
 use std::alloc::{AllocError, Global};
 
@@ -26,24 +27,40 @@ pub fn put_line(
     ensures { OnOk result (string_bytes text.new ≡ string_bytes text.old
         ++ line_text after.now.config source.now (of_before before.now) after.now.state) }
 {
-    put_blanks(text, before.depth.saturating_sub(1))?;
-    write!(text, "line {}: ", before.place.line)?;
-    put_source(text, source, before.place.offset as usize)?;
-    text.push_str(": ")?;
-    put_result(text, before.result)?;
-    text.push_str(" -> ")?;
-    put_result(text, after.result())?;
+    put_front(text, source, before)?;
+    put_results(text, before, after)?;
     put_names(alloc, text, before, after)?;
     text.push_str("\n")
 }
 
-// Two blanks for each body below.
-fn put_blanks(text: &mut String, depth: usize) -> Result<(), AllocError>
+// The front of a line: the step.
+fn put_front(text: &mut String, source: &[u8], before: &Before) -> Result<(), AllocError>
     ensures { OnOk result (string_bytes text.new ≡ string_bytes text.old
-        ++ replicate (2 * depth) 32) }
+        ++ front_text source.now (of_before before.now)) }
 {
-    'bodies: for _ in 0..depth {
-        text.push_str("  ")?;
+    put_blanks(text, before.depth.saturating_sub(1))?;
+    put_blanks(text, before.depth.saturating_sub(1))?;
+    write!(text, "line {}: ", before.place.line)?;
+    put_source(text, source, before.place.offset as usize)?;
+    text.push_str(": ")
+}
+
+// The current result before a step and behind it.
+fn put_results(text: &mut String, before: &Before, after: &View<'_>) -> Result<(), AllocError>
+    ensures { OnOk result (string_bytes text.new ≡ string_bytes text.old
+        ++ results_text (of_before before.now) after.now.state) }
+{
+    put_result(text, before.result)?;
+    text.push_str(" -> ")?;
+    put_result(text, after.result())
+}
+
+// So many blanks.
+fn put_blanks(text: &mut String, count: usize) -> Result<(), AllocError>
+    ensures { OnOk result (string_bytes text.new ≡ string_bytes text.old ++ replicate count 32) }
+{
+    'blanks: for _ in 0..count {
+        text.push_str(" ")?;
     }
     Ok(())
 }
@@ -54,16 +71,23 @@ fn put_source(text: &mut String, source: &[u8], offset: usize) -> Result<(), All
         ++ source_text source.now offset) }
 {
     let (_, rest) = source.split_at(offset.min(source.len()));
-    put_front(text, rest)
+    put_first(text, rest)
 }
 
 // The front of a text, up to the end of its first line.
-fn put_front(text: &mut String, bytes: &[u8]) -> Result<(), AllocError>
+fn put_first(text: &mut String, bytes: &[u8]) -> Result<(), AllocError>
     ensures { OnOk result (string_bytes text.new ≡ string_bytes text.old
         ++ shown_front bytes.now) }
 {
     let (front, _) = bytes.split_at(line_length(bytes).min(MOST_BYTES));
-    'bytes: for byte in front {
+    put_shown(text, front)
+}
+
+// Bytes as they are shown.
+fn put_shown(text: &mut String, bytes: &[u8]) -> Result<(), AllocError>
+    ensures { OnOk result (string_bytes text.new ≡ string_bytes text.old ++ map shown bytes.now) }
+{
+    'bytes: for byte in bytes {
         text.push(char::from(shown(*byte)))?;
     }
     Ok(())
@@ -72,6 +96,7 @@ fn put_front(text: &mut String, bytes: &[u8]) -> Result<(), AllocError>
 // How many bytes the first line has.
 fn line_length(bytes: &[u8]) -> usize
     ensures is { result ≡ prefix_len is_within_line bytes.now }
+    ensures within { result ≤ length bytes.now }
 {
     let mut length = 0;
     'line: while length < bytes.len() && bytes[length] != b'\n' {
@@ -96,7 +121,14 @@ fn put_names(
     }
     let stand = &before.stand;
     let step = after.step(stand.unit.as_str(), stand.place);
-    put_step(alloc, text, after, stand.path.as_str(), before.depth < depth, step)
+    put_step(
+        alloc,
+        text,
+        after,
+        stand.path.as_str(),
+        before.depth < depth,
+        step,
+    )
 }
 
 // What goes out of a body that a step leaves, by the instruction that called it.
@@ -108,7 +140,7 @@ fn put_left(
 ) -> Result<(), AllocError>
     ensures { OnOk result (string_bytes text.new ≡ string_bytes text.old
         ++ left_text view.now.config view.now.state.values
-        (option_map (λ s. of_stand s.now) caller)) }
+        (option_map (λ s. of_stand s.now) caller.entry)) }
 {
     let Some(caller) = caller else {
         return Ok(());
@@ -138,8 +170,29 @@ fn put_call(
     else {
         return Ok(());
     };
-    let instance = instance.name.as_str();
-    'arguments: for argument in arguments.as_slice() {
+    put_outs(
+        alloc,
+        text,
+        view,
+        path,
+        instance.name.as_str(),
+        arguments.as_slice(),
+    )
+}
+
+// What goes out of a call by its arguments.
+fn put_outs(
+    alloc: Global,
+    text: &mut String,
+    view: &View<'_>,
+    path: &str,
+    instance: &str,
+    arguments: &[Argument],
+) -> Result<(), AllocError>
+    ensures { OnOk result (string_bytes text.new ≡ string_bytes text.old
+        ++ flat_map (out_text view.now.state.values path.now instance.now) arguments.now) }
+{
+    'arguments: for argument in arguments {
         put_out(alloc, text, view, path, instance, argument)?;
     }
     Ok(())
@@ -201,7 +254,7 @@ fn put_step(
     step: Option<&Step>,
 ) -> Result<(), AllocError>
     ensures { OnOk result (string_bytes text.new ≡ string_bytes text.old
-        ++ step_text view.now.state.values path.now enters (option_map (λ s. s.now) step)) }
+        ++ step_text view.now.state.values path.now enters (option_copied step.entry)) }
 {
     match step {
         Some(step) => put_instruction(alloc, text, view, path, enters, &step.instruction),
@@ -224,7 +277,8 @@ fn put_instruction(
     match instruction {
         Instruction::Load { operand, .. }
         | Instruction::Store {
-            target: operand, ..
+            target: operand,
+            ..
         }
         | Instruction::Operate { operand, .. }
         | Instruction::Defer {
@@ -235,18 +289,55 @@ fn put_instruction(
             instance,
             arguments,
             ..
-        } => {
-            'arguments: for argument in arguments.as_slice() {
-                put_argument(alloc, text, view, path, instance.name.as_str(), enters, argument)?;
-            }
-            Ok(())
-        }
+        } => put_arguments(
+            alloc,
+            text,
+            view,
+            path,
+            instance.name.as_str(),
+            enters,
+            arguments.as_slice(),
+        ),
         Instruction::Invoke { operands, .. } => {
-            'operands: for operand in operands.as_slice() {
-                put_reference(alloc, text, view, path, &operand.reference)?;
-            }
-            Ok(())
+            put_operands(alloc, text, view, path, operands.as_slice())
         }
         _ => Ok(()),
     }
+}
+
+// What goes into a call, and out of it where no body is entered.
+fn put_arguments(
+    alloc: Global,
+    text: &mut String,
+    view: &View<'_>,
+    path: &str,
+    instance: &str,
+    enters: bool,
+    arguments: &[Argument],
+) -> Result<(), AllocError>
+    ensures { OnOk result (string_bytes text.new ≡ string_bytes text.old ++ flat_map
+        (argument_text view.now.state.values path.now instance.now enters) arguments.now) }
+{
+    'arguments: for argument in arguments {
+        put_argument(alloc, text, view, path, instance, enters, argument)?;
+    }
+    Ok(())
+}
+
+// What the operands of a function name.
+fn put_operands(
+    alloc: Global,
+    text: &mut String,
+    view: &View<'_>,
+    path: &str,
+    operands: &[Operand],
+) -> Result<(), AllocError>
+    ensures { OnOk result (string_bytes text.new ≡ string_bytes text.old
+        ++ flat_map (λ o. reference_text view.now.state.values path.now o.reference)
+        operands.now) }
+{
+    'operands: for operand in operands {
+        put_reference(alloc, text, view, path, &operand.reference)?;
+    }
+    Ok(())
 }

@@ -1,13 +1,13 @@
 // A scan, instruction by instruction.
 
-ghost use Rattle.std.specs.Prelude.{◌≡◌, ◌++◌, IfOk, IfErr, OnOk, option_map, string_bytes};
+ghost use Rattle.std.specs.Prelude.{◌≡◌, ◌++◌, ℕ, List, IfOk, IfErr, OnOk, option_map, string_bytes, take};
 ghost use Rattle.lift_spec.specs.Snapshot.{task_name};
-ghost use Rattle.lift_spec.specs.World.{scan_at};
+ghost use Rattle.lift_spec.specs.World.{World as WorldOf, scan_at};
 ghost use Rattle.lift_scan.specs.Lines.{of_before};
-ghost use Rattle.lift_scan.specs.Shown.{is_last, seen_in, line_by, lines_text, heading, IsScanShown, IsScanStopped};
+ghost use Rattle.lift_scan.specs.Shown.{is_last, seen_in, line_by, from_seen, rest_if, lines_text, heading, IsScanShown, IsScanStopped};
 
-use crate::before::{Before, before};
-use crate::chosen::{Asked, Chosen, chosen};
+use crate::before::{Before, next_step};
+use crate::chosen::{Asked, Chosen, choose};
 use crate::line::put_line;
 use crate::view::View;
 use lift_runs::replay::{Refused, replay};
@@ -42,17 +42,6 @@ impl From<AllocError> for ScanStop {
     }
 }
 
-impl From<Refused> for ScanStop {
-    ghost use Rattle.std.specs.Prelude.{◌≡◌};
-    ghost use Rattle.lift_scan.specs.declared.shown.ScanStop.TheVariants as stop;
-
-    ghost from_gives = { λ r s. s ≡ stop.Refused r };
-
-    fn from(refused: Refused) -> ScanStop {
-        ScanStop::Refused(refused)
-    }
-}
-
 /// The last scan of a task that a trace commits, or that of a round, instruction by instruction: a line for each, with its place in `source`,
 /// the text of the configuration, the current result before and behind it, and the values that it names, as they stand behind it.
 pub fn scan_text(
@@ -68,14 +57,23 @@ pub fn scan_text(
         asked events.now) }
     ensures same { world.new.program ≡ world.old.program }
 {
-    let Some(it) = chosen(asked, events) else {
+    let Some(it) = choose(asked, events) else {
         return Err(ScanStop::NoScan);
     };
-    let (front, _) = events.split_at(it.front.min(events.len()));
-    replay(world, front)?;
+    if let Err(refused) = replay(world, front_of(events, it.front)) {
+        return Err(ScanStop::Refused(refused));
+    }
     let mut text = heading(alloc, asked, it)?;
     put_lines(alloc, world, asked, source, &mut text)?;
     Ok(text)
+}
+
+// The first events of a trace.
+fn front_of(events: &[TraceEvent], count: usize) -> &[TraceEvent]
+    ensures { result.now ≡ take count events.now }
+{
+    let (front, _) = events.split_at(count.min(events.len()));
+    front
 }
 
 // The heading of a scan.
@@ -114,19 +112,42 @@ fn put_lines(
 {
     let mut report = Report::new();
     'steps: for _ in 0..MOST {
-        let Some(seen) = seen(alloc, world, asked.task)? else {
-            return Ok(());
-        };
-        match world.apply(&Event::Instruction(asked.task), &mut report) {
-            Reply::More => put_step(alloc, text, source, world, asked.task, &seen)?,
-            Reply::End => return put_step(alloc, text, source, world, asked.task, &seen),
-            _ => return Ok(()),
-        }
-        if is_last(asked.until, seen.place.line) {
+        if !put_next(alloc, world, asked, source, text, &mut report)? {
             return Ok(());
         }
     }
     Ok(())
+}
+
+// Takes the next instruction of a task's open scan, if one is left, and writes its line. The answer is whether more may be shown.
+fn put_next(
+    alloc: Global,
+    world: &mut World,
+    asked: Asked,
+    source: &[u8],
+    text: &mut String,
+    report: &mut Report,
+) -> Result<bool, AllocError>
+    ensures shown { IfOk result (λ more. (rest : WorldOf → List ℕ) → string_bytes text.old
+        ++ from_seen world.old.program.config asked.task asked.until source.now rest
+        world.old.world (seen_in world.old.program.config world.old.world asked.task)
+        ≡ string_bytes text.new ++ rest_if more rest world.new.world) }
+    ensures same { world.new.program ≡ world.old.program }
+{
+    let Some(seen) = seen(alloc, world, asked.task)? else {
+        return Ok(false);
+    };
+    match world.apply(&Event::Instruction(asked.task), report) {
+        Reply::More => {
+            put_step(alloc, text, source, world, asked.task, &seen)?;
+            Ok(!is_last(asked.until, seen.place.line))
+        }
+        Reply::End => {
+            put_step(alloc, text, source, world, asked.task, &seen)?;
+            Ok(false)
+        }
+        _ => Ok(false),
+    }
 }
 
 // What is known before the next instruction of a task's open scan, if one is left.
@@ -135,7 +156,7 @@ fn seen(alloc: Global, world: &World, task: u8) -> Result<Option<Before>, AllocE
         ≡ seen_in world.now.program.config world.now.world task) }
 {
     match View::of(world, task) {
-        Some(view) => before(alloc, &view),
+        Some(view) => next_step(alloc, &view),
         None => Ok(None),
     }
 }

@@ -1,6 +1,6 @@
 // The open scan of a task, as it stands.
 
-ghost use Rattle.std.specs.Prelude.{◌≡◌, ◌+◌, IfOk, IfSome, Some, drop, length, option_map, slice_get, string_bytes};
+ghost use Rattle.std.specs.Prelude.{◌≡◌, ◌+◌, IfOk, IfSome, Some, bytes_eq, drop, find, length, option_copied, option_map, slice_get, string_bytes};
 ghost use Rattle.il_table.specs.NameMap.{get};
 ghost use Rattle.il_rules.specs.Names.{unit_named};
 ghost use Rattle.il_run.specs.Meaning.{under};
@@ -17,6 +17,7 @@ use std::alloc::{AllocError, Global};
 use std::marker::Model;
 
 /// The open scan of a task, as it stands.
+#[derive(Drop)]
 pub struct View<'v> {
     verified: &'v Verified,
     store: &'v Store,
@@ -79,18 +80,17 @@ impl<'v> View<'v> {
 
     /// The unit of a name.
     pub fn unit(&self, name: &str) -> Option<&'v Unit>
-        ensures { option_map (λ u. u.now) result ≡ unit_named self.now.config name.now }
+        ensures { option_copied result ≡ unit_named self.now.config name.now }
     {
         if self.verified.names().is_predeclared(name) {
             return None;
         }
-        let units = self.verified.config().units.as_slice();
-        units.iter().find(|unit| unit.name.name.as_str() == name)
+        unit_in(self.verified.config().units.as_slice(), name)
     }
 
     /// The instruction of a unit at a place, if it is no implicit RET.
     pub fn step(&self, unit: &str, place: usize) -> Option<&'v Step>
-        ensures { option_map (λ s. s.now) result ≡ step_at self.now.config unit.now place }
+        ensures { option_copied result ≡ step_at self.now.config unit.now place }
     {
         self.unit(unit)?.body.steps.as_slice().get(place)
     }
@@ -137,10 +137,24 @@ impl<'v> View<'v> {
     }
 }
 
+// The first unit of a name.
+fn unit_in<'v>(units: &'v [Unit], name: &str) -> Option<&'v Unit>
+    ensures { option_copied result ≡ find (λ u. bytes_eq u.name.name name.now) units.now }
+{
+    units.iter().find(|unit| is_named(unit, name))
+}
+
+// Whether a unit has a name.
+fn is_named(unit: &Unit, name: &str) -> bool
+    ensures { result ≡ bytes_eq unit.now.name.name name.now }
+{
+    unit.name.name.as_str() == name
+}
+
 // The path of what an instruction of a body at a path runs.
 fn path_in(alloc: Global, path: String, step: Option<&Step>) -> Result<String, AllocError>
     ensures { IfOk result (λ p. string_bytes p
-        ≡ path_of_step (string_bytes path) (option_map (λ s. s.now) step)) }
+        ≡ path_of_step (string_bytes path) (option_copied step.entry)) }
 {
     let Some(step) = step else {
         return Ok(String::new(alloc));

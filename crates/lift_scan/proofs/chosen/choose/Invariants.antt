@@ -1,6 +1,6 @@
 use Rattle.std.proofs.Common.{◌≡◌, drop}
 use Rattle.lift_scan.specs.Chosen.{noted_all, nothing_noted}
-use Rattle.lift_scan.proofs.chosen.chosen.Given as goal
+use Rattle.lift_scan.proofs.chosen.choose.Given as goal
 
 -- the events that are left make of what is known what all make
 abbrev pub invariant-events : goal.invariant-events

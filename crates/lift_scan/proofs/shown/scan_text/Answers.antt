@@ -1,0 +1,23 @@
+use Rattle.std.proofs.Common.{◌++◌, sym, ap, ◌∙◌, subst}
+use Rattle.il_machine.specs.Scanning.{Program}
+use Rattle.lift_journal.specs.Rounds.{TakesAll, IsRefusedAt}
+use Rattle.lift_scan.specs.Shown.{heading, lines_text}
+use Rattle.lift_scan.proofs.Fronts.{refused_in_front}
+use Rattle.lift_scan.proofs.shown.scan_text.Goals as goal
+
+pub returns-in-Err-clause-stopped : goal.returns-in-Err-clause-stopped
+returns-in-Err-clause-stopped c =
+    refused_in_front c.args.world.now.program.config c.args.world.now.world c.in-Some.it.front c.args.events.now c.in-Err.refused.index c.in-Err.refused.fault
+    (subst (λ es. IsRefusedAt c.args.world.now.program.config c.args.world.now.world es c.in-Err.refused.index c.in-Err.refused.fault) c.front_of.ensures c.in-Err.ensures.refused)
+
+pub returns-clause-shown : goal.returns-clause-shown
+returns-clause-shown c = record {
+  it = c.in-Some.it;
+  is = sym c.choose.ensures ∙ c.in-Some.is;
+  started = c.replay.new.world.world;
+  takes = subst (λ es. TakesAll c.args.world.now.program.config c.args.world.now.world es c.replay.new.world.world) c.front_of.ensures c.in_default-replay.ensures.taken;
+  text_is =
+      c.in_ok-put_lines.ensures.lines
+      ∙ ap (λ t. t ++ lines_text c.replay.new.world.program.config c.args.asked.task c.args.asked.until c.args.source.now 1000000 c.replay.new.world.world) c.in_ok-text.ensures
+      ∙ ap (λ (p : Program). heading c.args.asked c.in-Some.it ++ lines_text p.config c.args.asked.task c.args.asked.until c.args.source.now 1000000 c.replay.new.world.world) c.replay.ensures.same;
+}
