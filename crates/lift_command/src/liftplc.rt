@@ -88,11 +88,7 @@ fn plain_outcome(
 }
 
 // An outcome in the form that is asked for.
-fn in_form(
-    alloc: Global,
-    form: Option<Form>,
-    plain: Result<Output, Fault>,
-) -> Result<Output, Fault>
+fn in_form(alloc: Global, form: Option<Form>, plain: Result<Output, Fault>) -> Result<Output, Fault>
     ensures formed { IsInForm form plain result }
     ensures unwritten { plain ≢ Err Fault.CannotWrite → result ≢ Err Fault.CannotWrite }
 {

@@ -386,7 +386,9 @@ fn summary<'a>(alloc: Global) -> Arg<'a> {
     Arg::new(alloc, "summary")
         .long(long(SUMMARY))
         .action(ArgAction::SetTrue)
-        .help("Shows how many calls there are, and how long they wait and take, in seconds; not with --json")
+        .help(
+            "Shows how many calls there are, and how long they wait and take, in seconds; not with --json",
+        )
 }
 
 // The command that shows the calls.

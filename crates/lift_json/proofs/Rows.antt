@@ -2,7 +2,7 @@
 use Rattle.std.proofs.Common.{◌≡◌, refl}
 use Rattle.std.specs.Prelude.{codes}
 use Rattle.lift_json.specs.declared.form.Form.TheVariants.{Pairs, Ranges, Names, Calls, Denials}
-use Rattle.lift_json.specs.Lines.{json_text}
+use Rattle.lift_json.specs.Lines.{json_text, limits_text}
 
 pub accepted : json_text Pairs (codes "accepted\n") ≡ codes "{\"accepted\":true}\n"
 accepted = refl
@@ -17,6 +17,7 @@ pub a_limit : json_text Pairs (codes "limit units used 2 of 64\n") ≡ codes "{\
 a_limit = refl
 
 pub instructions : json_text Ranges (codes "PROGRAM C line 1\nline 3: result none, N -1..9, M 0..5\nline 4: result INT -5..9\nline 5: result BOOL, N 0..9\n") ≡ codes "{\"kind\":\"PROGRAM\",\"unit\":\"C\",\"line\":1}\n{\"line\":3,\"result\":null,\"variables\":[{\"name\":\"N\",\"from\":-1,\"to\":9},{\"name\":\"M\",\"from\":0,\"to\":5}]}\n{\"line\":4,\"result\":{\"type\":\"INT\",\"from\":-5,\"to\":9},\"variables\":[]}\n{\"line\":5,\"result\":{\"type\":\"BOOL\"},\"variables\":[{\"name\":\"N\",\"from\":0,\"to\":9}]}\n"
+unfolding limits_text
 instructions = refl
 
 pub a_refusal : json_text Ranges (codes "line 6: not reached\nline 7: refused 43\n") ≡ codes "{\"line\":6,\"reached\":false}\n{\"line\":7,\"refused\":43}\n"

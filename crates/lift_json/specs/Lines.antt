@@ -58,7 +58,7 @@ pair_end pairs.Unit = []
 -- RANGES
 
 -- the ends of `LO..HI`, behind which a comma may stand, and the end of their object
-abbrev pub limits_text : List ℕ → List ℕ
+unfoldable pub limits_text : List ℕ → List ℕ
 limits_text range = codes ",\"from\":" ++ (front Dot range ++ (codes ",\"to\":" ++ (front Comma (behind Dot (behind Dot range)) ++ codes "}")))
 
 -- what begins the variables of an instruction
@@ -201,7 +201,7 @@ word_text (state.Ranges here) word = range_text here word
 word_text (state.Names here) word = name_text here word
 word_text (state.Places here) word = place_text here word
 word_text (state.Denials here) word = denial_text here word
-word_text (state.Column here) word = column_key here ++ cell_text word
+word_text (state.Column which) word = column_key which ++ cell_text word
 
 -- what ends what was begun
 abbrev pub end_text : State → List ℕ
@@ -210,7 +210,7 @@ end_text (state.Ranges here) = range_end here
 end_text (state.Names here) = []
 end_text (state.Places here) = place_end here
 end_text (state.Denials here) = denial_end here
-end_text (state.Column here) = []
+end_text (state.Column which) = []
 
 -- what is written of words
 abbrev pub words_text : State → List (List ℕ) → List ℕ

@@ -116,4 +116,4 @@ next (state.Ranges here) word = next_range here word
 next (state.Names here) word = next_name here word
 next (state.Places here) word = next_place here word
 next (state.Denials here) word = state.Denials (next_denial here word)
-next (state.Column here) word = state.Column (next_column here)
+next (state.Column which) word = state.Column (next_column which)

@@ -179,6 +179,7 @@ fn put_type(json: &mut String, name: &str) -> Result<(), AllocError>
 }
 
 // The ends of `LO..HI`, behind which a comma may stand.
+#[tactic(auto, unfolding(crate::specs::Lines::limits_text))]
 fn put_limits(json: &mut String, range: &str) -> Result<(), AllocError>
     ensures { OnOk result (string_bytes json.new ≡ string_bytes json.old
         ++ limits_text range.now) }

@@ -1,6 +1,7 @@
 // What comes next in a line.
 
 ghost use Rattle.std.specs.Prelude.{◌≡◌};
+ghost use Rattle.lift_json.specs.Pieces.{front};
 ghost use Rattle.lift_json.specs.States.{begin, next, next_pair, next_range, next_type, next_name, next_place, place_after, next_denial, next_column};
 
 use crate::form::Form;

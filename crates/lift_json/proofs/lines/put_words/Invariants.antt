@@ -6,7 +6,7 @@ use Rattle.lift_json.proofs.lines.put_words.Given as goal
 
 -- the words that are left complete the text
 abbrev pub invariant-words : goal.invariant-words
-invariant-words l = string_bytes l.json ++ words_text l.here (pieces_left l.gap (option_map (λ left. left.now) l.rest)) ≡ string_bytes l.initial.json ++ words_text l.first (pieces l.gap l.line)
+invariant-words l = string_bytes l.json ++ words_text l.here (pieces_left l.gap (option_map (λ left. left.now) l.rest)) ≡ string_bytes l.initial.json ++ words_text l.fn.first (pieces l.gap l.line)
 
 abbrev pub decreases-words : goal.decreases-words
 decreases-words l = length (pieces_left l.gap (option_map (λ left. left.now) l.rest))
