@@ -4,4 +4,4 @@ pub mod Counted
 pub mod Drawn
 pub mod Followed
 pub mod Watching
-pub mod Limits
+pub mod Slots

@@ -1,7 +1,7 @@
 use Rattle.std.proofs.Common.{◌∙◌, sym, arith}
 use Rattle.il_machine.proofs.Sizes.{few_cars}
 use Rattle.lift_world.proofs.Opens.{task_there}
-use Rattle.lift_output.proofs.Limits.{slots_of, no_slots}
+use Rattle.lift_output.proofs.Slots.{slots_of, no_slots}
 use Rattle.lift_output.proofs.limits.put_task_slots.Goals as goal
 
 pub has_task-requires : goal.has_task-requires
