@@ -1,9 +1,9 @@
 // What the commands of `liftplc` do with a text.
 
-ghost use Rattle.std.specs.Prelude.{◌≡◌, ◌≢◌, Err, true};
+ghost use Rattle.std.specs.Prelude.{◌≡◌, ◌≢◌, ℕ, Some, Ok, Err, true, false};
 ghost use Rattle.il_reasons.specs.Reasons.{IsReason};
 ghost use Rattle.lift_command.specs.Loaded.{IsLoaded};
-ghost use Rattle.lift_command.specs.Runs.{IsKnown, IsRefusedOutcome, IsTextOutcome};
+ghost use Rattle.lift_command.specs.Runs.{IsInForm, IsKnown, IsPlainOutcome, IsRefusedOutcome, IsTextOutcome};
 ghost use Rattle.lift_output.specs.Outcomes.{HasWarnings, IsProgramOutcome, wanted_warnings};
 ghost use Rattle.lift_shell.specs.Runs.{runs};
 
@@ -15,8 +15,10 @@ use il_spec::tree::Place;
 use lift_host::files::Reading;
 use lift_host::request::{Request, Showing, Simulating};
 use lift_host::status::Fault;
+use lift_json::form::Form;
+use lift_json::lines::json_lines;
 use lift_load::{load, unbroken};
-use lift_messages::output::Output;
+use lift_messages::output::{Output, Warned};
 use lift_output::outcome::{outcome, ran};
 use lift_shell::commands::Commands;
 use std::alloc::{AllocError, Global};
@@ -39,10 +41,8 @@ impl Commands for Liftplc {
         text: &[u8],
         trace: &Reading,
     ) -> Result<Output, Fault> {
-        match loaded(alloc, text) {
-            Ok(verified) => outcome(alloc, request, verified, trace),
-            Err(refusal) => refused(alloc, request, text, refusal),
-        }
+        let plain = plain_outcome(alloc, request, text, trace);
+        in_form(alloc, Form::of(request), plain)
     }
 
     fn run<R: Threads + Wait + Sync>(
@@ -70,6 +70,52 @@ impl Commands for Liftplc {
     }
 }
 
+// What a request that isn't `run` gives of a text, without `--json`.
+fn plain_outcome(
+    alloc: Global,
+    request: Request<'_>,
+    text: &[u8],
+    trace: &Reading,
+) -> Result<Output, Fault>
+    requires { runs request ≡ false }
+    ensures gives { IsPlainOutcome request.entry text.now trace.now result }
+    ensures unwritten { result ≢ Err Fault.CannotWrite }
+{
+    match loaded(alloc, text) {
+        Ok(verified) => outcome(alloc, request, verified, text.len(), trace),
+        Err(refusal) => refused(alloc, request, text, refusal),
+    }
+}
+
+// An outcome in the form that is asked for.
+fn in_form(alloc: Global, form: Option<Form>, plain: Result<Output, Fault>) -> Result<Output, Fault>
+    ensures formed { IsInForm form plain result }
+    ensures unwritten { plain ≢ Err Fault.CannotWrite → result ≢ Err Fault.CannotWrite }
+{
+    let Some(form) = form else {
+        return plain;
+    };
+    match plain {
+        Ok(output) => formed(alloc, form, output),
+        Err(fault) => Err(fault),
+    }
+}
+
+// An output in a form. No command that has a form prints a trace.
+fn formed(alloc: Global, form: Form, output: Output) -> Result<Output, Fault>
+    ensures formed { IsInForm (Some form) (Ok output) result }
+    ensures unwritten { result ≢ Err Fault.CannotWrite }
+{
+    match output {
+        Output::Text(text) => Ok(Output::Text(json_lines(alloc, form, &text)?)),
+        Output::Warned(Warned { text, warnings }) => {
+            let text = json_lines(alloc, form, &text)?;
+            Ok(Output::Warned(Warned { text, warnings }))
+        }
+        Output::Trace(_) => Err(Fault::NoMemory),
+    }
+}
+
 // What `run` gives of a verified configuration, with what was read of its file behind `--calls`.
 fn run_verified<R: Threads + Wait + Sync>(
     rt: &R,
@@ -79,7 +125,7 @@ fn run_verified<R: Threads + Wait + Sync>(
     calls: &Reading,
 ) -> Result<Output, Fault>
     requires { runs request ≡ true }
-    ensures is { IsProgramOutcome request.entry verified calls.now result }
+    ensures is { (bytes : ℕ) → IsProgramOutcome request.entry verified bytes calls.now result }
     ensures warned { HasWarnings (wanted_warnings request.entry verified) result }
     ensures unwritten { result ≢ Err Fault.CannotWrite }
 {

@@ -7,8 +7,8 @@ use clap::error::ErrorKind;
 use clap::{Arg, ArgAction, Command};
 use lift_explain::explanation;
 use lift_host::request::{
-    ALL, CALLS, CUT, FIRE, Following, MOST_ROUNDS, Name, ROUNDS, SUMMARY, Showing, Simulating,
-    TOGETHER, TRACE, WARN, Words, is_digits, is_option, number_to,
+    ALL, CALLS, CUT, FIRE, Following, JSON, LIMITS, MOST_ROUNDS, Name, ROUNDS, SUMMARY, Showing,
+    Simulating, TOGETHER, TRACE, WARN, Words, is_digits, is_option, number_to,
 };
 use lift_host::serving::{SYNC, is_serve};
 use std::alloc::{AllocError, Global};
@@ -157,6 +157,22 @@ fn warn<'a>(alloc: Global) -> Arg<'a> {
         .help("Also tells, on standard error, what an accepted FILE declares or stores in vain")
 }
 
+// The flag `--limits`.
+fn limits<'a>(alloc: Global) -> Arg<'a> {
+    Arg::new(alloc, "limits")
+        .long(long(LIMITS))
+        .action(ArgAction::SetTrue)
+        .help("Also shows how much of each limit FILE uses")
+}
+
+// The flag `--json`.
+fn json<'a>(alloc: Global) -> Arg<'a> {
+    Arg::new(alloc, "json")
+        .long(long(JSON))
+        .action(ArgAction::SetTrue)
+        .help("Prints JSON, an object a line; docs/COMMANDS.md has the keys")
+}
+
 // The command that checks.
 fn check_command<'a>(alloc: Global) -> Result<Command<'a>, AllocError> {
     file_command(
@@ -165,6 +181,8 @@ fn check_command<'a>(alloc: Global) -> Result<Command<'a>, AllocError> {
         "Verifies FILE and shows its tasks and units",
     )
     .with(warn(alloc))
+    .with(limits(alloc))
+    .with(json(alloc))
 }
 
 // The command that shows what the verifier knows.
@@ -174,6 +192,7 @@ fn ranges_command<'a>(alloc: Global) -> Result<Command<'a>, AllocError> {
         Name::Show(Showing::Ranges).word(),
         "Shows the ranges that the verifier finds for each instruction of FILE",
     )
+    .with(json(alloc))
 }
 
 // The command that shows where names are.
@@ -183,6 +202,7 @@ fn xref_command<'a>(alloc: Global) -> Result<Command<'a>, AllocError> {
         Name::Show(Showing::Xref).word(),
         "Shows where FILE declares, reads, writes and calls each name",
     )
+    .with(json(alloc))
 }
 
 // A command that takes FILE.
@@ -267,6 +287,7 @@ fn denials_command<'a>(alloc: Global) -> Result<Command<'a>, AllocError> {
     .with(calls(alloc))
     .with(all(alloc))
     .with(cut(alloc))
+    .with(json(alloc))
 }
 
 // The arguments NAME of `watch`, and behind them PRESS.
@@ -365,7 +386,9 @@ fn summary<'a>(alloc: Global) -> Arg<'a> {
     Arg::new(alloc, "summary")
         .long(long(SUMMARY))
         .action(ArgAction::SetTrue)
-        .help("Shows how many calls there are, and how long they wait and take, in seconds")
+        .help(
+            "Shows how many calls there are, and how long they wait and take, in seconds; not with --json",
+        )
 }
 
 // The command that shows the calls.
@@ -376,6 +399,7 @@ fn calls_command<'a>(alloc: Global) -> Result<Command<'a>, AllocError> {
         "Replays a trace on FILE and prints its calls, from press to service, as CSV",
     )
     .with(summary(alloc))
+    .with(json(alloc))
 }
 
 // A command that takes FILE and TRACE.

@@ -55,14 +55,14 @@ word_of (name.Trace following.Watch) = codes "watch"
 -- the command of a request
 abbrev pub command_of : Request → Name
 command_of (request.Check checked) = name.Check
-command_of (request.Show command file) = name.Show command
+command_of (request.Show command shown) = name.Show command
 command_of (request.Rounds command rounds) = name.Rounds command
 command_of (request.Trace command traced) = name.Trace command
 
 -- the name of a request's file
 abbrev pub name_of : Request → List ℕ
 name_of (request.Check checked) = checked.file.now
-name_of (request.Show command file) = file.now
+name_of (request.Show command shown) = shown.file.now
 name_of (request.Rounds command rounds) = rounds.file.now
 name_of (request.Trace command traced) = traced.file.now
 
@@ -210,7 +210,7 @@ TakesTrace words following.Watch traced = GiveFollowed words traced × AreNames 
 -- more for a simulation, and `FILE TRACE` and more over a trace
 abbrev pub Takes : List (List ℕ) → Request → Type 0
 Takes words (request.Check checked) = IsFileWith (codes "--warn") words checked.file.now checked.warns
-Takes words (request.Show command file) = IsFile words file.now
+Takes words (request.Show command shown) = IsFile words shown.file.now
 Takes words (request.Rounds command rounds) = GiveRounds words rounds × NeedsName command (words_of rounds.presses)
 Takes words (request.Trace command traced) = TakesTrace words command traced
 
@@ -222,10 +222,11 @@ pub record Asks (words : List (List ℕ)) (request : Request) : Type 0 where
 
 -- WORDS AS THEY ARE READ
 
--- the flag of a command's own: `--all` of `denials`, `--together` of `run`, `--summary` of `calls`
+-- the flag of a command's own: `--limits` of `check`, `--all` of `denials`, `--together` of `run`, `--summary` of `calls`
 abbrev pub flag_of : List ℕ → Option (List ℕ)
 flag_of command =
-    if bytes_eq command (codes "denials") then Some (codes "--all")
+    if bytes_eq command (codes "check") then Some (codes "--limits")
+    else if bytes_eq command (codes "denials") then Some (codes "--all")
     else if bytes_eq command (codes "run") then Some (codes "--together")
     else if bytes_eq command (codes "calls") then Some (codes "--summary")
     else None
@@ -245,6 +246,16 @@ abbrev pub own_cut : List (List ℕ) → Option (List ℕ)
 own_cut [] = None
 own_cut (word ∷ words) = if bytes_eq word (codes "--explain") then own_cut words else cut_of word
 
+-- `--json` of a command that prints lines
+abbrev pub json_of : List ℕ → Option (List ℕ)
+json_of command =
+    if bytes_eq command (codes "check") || bytes_eq command (codes "ranges") || bytes_eq command (codes "xref") || bytes_eq command (codes "calls") || bytes_eq command (codes "denials") then Some (codes "--json") else None
+
+-- that of the command of words
+abbrev pub own_json : List (List ℕ) → Option (List ℕ)
+own_json [] = None
+own_json (word ∷ words) = if bytes_eq word (codes "--explain") then own_json words else json_of word
+
 -- whether `--explain` is among words
 abbrev pub explains : List (List ℕ) → Bool
 explains words = list_any (λ word. bytes_eq word (codes "--explain")) words
@@ -258,9 +269,13 @@ is_flag (Some flag) word = bytes_eq word flag
 abbrev pub names_flag : Option (List ℕ) → List (List ℕ) → Bool
 names_flag flag words = list_any (is_flag flag) words
 
+-- `--json` of words, where `--summary` isn't among them
+abbrev pub asked_json : List (List ℕ) → Option (List ℕ)
+asked_json words = if names_flag (Some (codes "--summary")) words then None else own_json words
+
 -- which flags of their command are
 abbrev pub flags_of : List (List ℕ) → Flags
-flags_of words = record { own = names_flag (own_flag words) words; cut = names_flag (own_cut words) words }
+flags_of words = record { own = names_flag (own_flag words) words; cut = names_flag (own_cut words) words; json = names_flag (asked_json words) words }
 
 -- a word, or for `--fire=ROUND`, `--trace=TRACE`, `--calls=CALLS` and `--rounds=A:B` two
 abbrev pub cut_word : List ℕ → List (List ℕ)
@@ -272,16 +287,16 @@ cut_word word =
     else word ∷ []
 
 -- the words in place of a word: none for `--explain`, and none for a flag of the command
-abbrev pub plain_word : Option (List ℕ) → Option (List ℕ) → List ℕ → List (List ℕ)
-plain_word own cut word = if bytes_eq word (codes "--explain") || is_flag own word || is_flag cut word then [] else cut_word word
+abbrev pub plain_word : Option (List ℕ) → Option (List ℕ) → Option (List ℕ) → List ℕ → List (List ℕ)
+plain_word own cut json word = if bytes_eq word (codes "--explain") || is_flag own word || is_flag cut word || is_flag json word then [] else cut_word word
 
 -- the words as they are read
 abbrev pub plain_words : List (List ℕ) → List (List ℕ)
-plain_words words = flat_map (plain_word (own_flag words) (own_cut words)) words
+plain_words words = flat_map (plain_word (own_flag words) (own_cut words) (asked_json words)) words
 
 -- a request with the flags of its command that stand among the words
 abbrev pub with_flags : Flags → Request → Request
-with_flags flags (request.Check checked) = request.Check checked
-with_flags flags (request.Show command file) = request.Show command file
-with_flags flags (request.Rounds command rounds) = request.Rounds command (record rounds { flag = flags.own })
-with_flags flags (request.Trace command traced) = request.Trace command (record traced { flag = flags.own; cut = flags.cut || traced.cut })
+with_flags flags (request.Check checked) = request.Check (record checked { limits = flags.own; json = flags.json })
+with_flags flags (request.Show command shown) = request.Show command (record shown { json = flags.json })
+with_flags flags (request.Rounds command rounds) = request.Rounds command (record rounds { flag = flags.own; json = flags.json })
+with_flags flags (request.Trace command traced) = request.Trace command (record traced { flag = flags.own; cut = flags.cut || traced.cut; json = flags.json })

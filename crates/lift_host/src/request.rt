@@ -1,7 +1,7 @@
 // What the words ask for.
 
 ghost use Rattle.std.specs.Prelude.{◌≡◌, ◌≤◌, ◌<◌, ◌∷◌, ◌++◌, ◌↔◌, [], ℕ, Bool, List, Option, Some, true, false, IfSome, IfOk, IsNone, IsTrue, MatchOption, OnOk, codes, bytes_eq, flat_map, length, map, option_map, slice_get, string_bytes};
-ghost use Rattle.lift_host.specs.Requests.{IsNumberTo, IsDigits, IsOption, AreNoOptions, LeaveOut, IsApart, AreApart, IsBehind, IsFlagApart, IsFile, IsFileBeside, IsFileWith, AreFiles, GiveRounds, GiveTrace, GiveDrawing, GiveFollowed, AreNames, Takes, TakesTrace, Asks, BeginsWithDigit, BeginWithName, NeedsName, AreNamesFirst, plain_words, plain_word, cut_word, flag_of, cut_of, own_flag, own_cut, is_flag, explains, names_flag, flags_of, with_flags, command_of, name_of, word_of, words_of};
+ghost use Rattle.lift_host.specs.Requests.{IsNumberTo, IsDigits, IsOption, AreNoOptions, LeaveOut, IsApart, AreApart, IsBehind, IsFlagApart, IsFile, IsFileBeside, IsFileWith, AreFiles, GiveRounds, GiveTrace, GiveDrawing, GiveFollowed, AreNames, Takes, TakesTrace, Asks, BeginsWithDigit, BeginWithName, NeedsName, AreNamesFirst, plain_words, plain_word, cut_word, flag_of, cut_of, json_of, own_flag, own_cut, own_json, asked_json, is_flag, explains, names_flag, flags_of, with_flags, command_of, name_of, word_of, words_of};
 ghost use Rattle.lift_host.specs.declared.request.Name.{Name};
 ghost use Rattle.lift_host.specs.declared.request.Request.{Request};
 ghost use Rattle.lift_host.specs.declared.request.Rounds.{Rounds};
@@ -53,6 +53,12 @@ const EXPLAIN: &str = "--explain";
 
 /// The option of `check` that has it tell what it warns of.
 pub const WARN: &str = "--warn";
+
+/// The flag of `check` that has it print how much of each limit is used.
+pub const LIMITS: &str = "--limits";
+
+/// The flag of the commands that print lines that has them print JSON, an object a line.
+pub const JSON: &str = "--json";
 
 /// A command that shows what is known of a text.
 #[derive(Clone, Copy)]
@@ -115,6 +121,19 @@ pub struct Checked<'w> {
     pub file: &'w str,
     /// Whether `--warn` stands beside it.
     pub warns: bool,
+    /// Whether how much of each limit is used is to be printed too.
+    pub limits: bool,
+    /// Whether JSON is to be printed.
+    pub json: bool,
+}
+
+/// What a command takes that shows what is known of a text.
+#[derive(Clone, Copy)]
+pub struct Shown<'w> {
+    /// The name of the file.
+    pub file: &'w str,
+    /// Whether JSON is to be printed.
+    pub json: bool,
 }
 
 /// What a command takes that simulates.
@@ -133,6 +152,8 @@ pub struct Rounds<'w> {
     /// Whether the command's own flag stands among the words: `denials` is to show all, also the stops at the ends of the shaft; a round of `run` is to end for
     /// all before the next begins.
     pub flag: bool,
+    /// Whether JSON is to be printed.
+    pub json: bool,
 }
 
 /// What a command takes that follows a trace.
@@ -150,14 +171,15 @@ pub struct Traced<'w> {
     pub flag: bool,
     /// Whether the trace may be cut off, and is taken up to its last whole line.
     pub cut: bool,
+    /// Whether JSON is to be printed.
+    pub json: bool,
 }
 
 /// What the words ask for.
 #[derive(Clone, Copy)]
 pub enum Request<'w> {
     Check(Checked<'w>),
-    /// The name of the file.
-    Show(Showing, &'w str),
+    Show(Showing, Shown<'w>),
     Rounds(Simulating, Rounds<'w>),
     Trace(Following, Traced<'w>),
 }
@@ -286,17 +308,27 @@ impl<'w> Words<'w> {
 }
 
 impl<'w> Request<'w> {
-    /// The same, with the flags of its command or without: `denials` is to show all, the rounds of `run` are to be together, `calls` is to print a
-    /// summary; a trace may be cut off.
+    /// The same, with the flags of its command or without: `check` is to print limits, `denials` is to show all, the rounds of `run` are to be together,
+    /// `calls` is to print a summary; a trace may be cut off; JSON is to be printed.
     pub fn with_flags(self, flags: Flags) -> Request<'w>
         ensures { result ≡ with_flags flags self.entry }
     {
+        let json = flags.json;
         match self {
+            Request::Check(checked) => {
+                Request::Check(Checked {
+                    limits: flags.own,
+                    json,
+                    ..checked
+                })
+            }
+            Request::Show(command, shown) => Request::Show(command, Shown { json, ..shown }),
             Request::Rounds(command, rounds) => {
                 Request::Rounds(
                     command,
                     Rounds {
                         flag: flags.own,
+                        json,
                         ..rounds
                     },
                 )
@@ -307,11 +339,11 @@ impl<'w> Request<'w> {
                     Traced {
                         flag: flags.own,
                         cut: flags.cut || traced.cut,
+                        json,
                         ..traced
                     },
                 )
             }
-            _ => self,
         }
     }
 
@@ -321,7 +353,7 @@ impl<'w> Request<'w> {
     {
         match self {
             Request::Check(checked) => checked.file,
-            Request::Show(_, file) => file,
+            Request::Show(_, shown) => shown.file,
             Request::Rounds(_, rounds) => rounds.file,
             Request::Trace(_, traced) => traced.file,
         }
@@ -376,7 +408,7 @@ fn takes(name: Name, rest: &[String]) -> Option<Request<'_>>
 {
     match name {
         Name::Check => Some(Request::Check(check_given(rest)?)),
-        Name::Show(command) => Some(Request::Show(command, file_alone(rest)?)),
+        Name::Show(command) => Some(Request::Show(command, shown_given(rest)?)),
         Name::Rounds(command) => simulates_or_follows(command, rest),
         Name::Trace(Following::Denials) => simulates_or_follows(Simulating::Denials, rest),
         Name::Trace(Following::Watch) => simulates_or_follows(Simulating::Watch, rest),
@@ -415,12 +447,12 @@ fn simulates_or_follows(command: Simulating, rest: &[String]) -> Option<Request<
 }
 
 // FILE, where it is the one word.
-fn file_alone(rest: &[String]) -> Option<&str>
-    ensures some { IfSome result (λ file. IsFile (map string_bytes rest.now) file.now) }
+fn shown_given(rest: &[String]) -> Option<Shown<'_>>
+    ensures some { IfSome result (λ shown. IsFile (map string_bytes rest.now) shown.file.now) }
     ensures none { IsNone result → (file : List ℕ) → IsFile (map string_bytes rest.now) file → ⊥ }
 {
     match rest {
-        [file] if !is_option(file) => Some(file),
+        [file] if !is_option(file) => Some(Shown { file, json: false }),
         _ => None,
     }
 }
@@ -493,6 +525,8 @@ fn check_given(rest: &[String]) -> Option<Checked<'_>>
     Some(Checked {
         file,
         warns: has_option,
+        limits: false,
+        json: false,
     })
 }
 
@@ -547,6 +581,7 @@ fn whole_trace_given(rest: &[String]) -> Option<Traced<'_>>
         span: None,
         flag: false,
         cut: false,
+        json: false,
     })
 }
 
@@ -565,6 +600,7 @@ fn drawing_given(rest: &[String]) -> Option<Traced<'_>>
         span: value,
         flag: false,
         cut: false,
+        json: false,
     })
 }
 
@@ -605,6 +641,7 @@ fn any_followed_given(rest: &[String]) -> Option<Traced<'_>>
         span: None,
         flag: false,
         cut,
+        json: false,
     })
 }
 
@@ -667,6 +704,7 @@ fn rounds_given(rest: &[String]) -> Option<Rounds<'_>>
         fire,
         calls,
         flag: false,
+        json: false,
     })
 }
 
@@ -940,10 +978,12 @@ fn is_explain(word: &str) -> bool
 /// Which flags of a command stand among its words.
 #[derive(Clone, Copy)]
 pub struct Flags {
-    /// That of the command's own: `--all` of `denials`, `--together` of `run`, `--summary` of `calls`.
+    /// That of the command's own: `--limits` of `check`, `--all` of `denials`, `--together` of `run`, `--summary` of `calls`.
     pub own: bool,
     /// `--cut` of `replay`, `draw` and `calls`; that of `denials` and `watch` over a trace is one of the words.
     pub cut: bool,
+    /// `--json` of `check`, `ranges`, `xref`, `calls` and `denials`. Beside `--summary` it stays one of the words.
+    pub json: bool,
 }
 
 /// The words of a command line as they are read, and the flags that may stand anywhere among them.
@@ -968,12 +1008,14 @@ pub fn read_words(alloc: Global, words: &[String]) -> Result<Plain, AllocError>
 {
     let own = own_flag(words);
     let cut = own_cut(words);
+    let json = asked_json(words);
     Ok(Plain {
-        words: plain_words(alloc, words, own, cut)?,
+        words: plain_words(alloc, words, own, cut, json)?,
         explains: explains(words),
         flags: Flags {
             own: names_flag(own, words),
             cut: names_flag(cut, words),
+            json: names_flag(json, words),
         },
     })
 }
@@ -1002,11 +1044,35 @@ fn own_cut(words: &[String]) -> Option<&'static str>
     None
 }
 
+// `--json`, where the words' command takes it.
+fn own_json(words: &[String]) -> Option<&'static str>
+    ensures { option_map (λ flag. flag.now) result ≡ own_json (map string_bytes words.now) }
+{
+    'words: for word in words {
+        if !is_explain(word) {
+            return json_of(word);
+        }
+    }
+    None
+}
+
+// The same, where `--summary` isn't one of the words.
+fn asked_json(words: &[String]) -> Option<&'static str>
+    ensures { option_map (λ flag. flag.now) result ≡ asked_json (map string_bytes words.now) }
+{
+    if names_flag(Some(SUMMARY), words) {
+        None
+    } else {
+        own_json(words)
+    }
+}
+
 // The flag of a command's own.
 fn flag_of(command: &str) -> Option<&'static str>
     ensures { option_map (λ flag. flag.now) result ≡ flag_of command.now }
 {
     match command {
+        "check" => Some(LIMITS),
         "denials" => Some(ALL),
         "run" => Some(TOGETHER),
         "calls" => Some(SUMMARY),
@@ -1020,6 +1086,16 @@ fn cut_of(command: &str) -> Option<&'static str>
 {
     match command {
         "replay" | "draw" | "calls" => Some(CUT),
+        _ => None,
+    }
+}
+
+// `--json`, where a command takes it.
+fn json_of(command: &str) -> Option<&'static str>
+    ensures { option_map (λ flag. flag.now) result ≡ json_of command.now }
+{
+    match command {
+        "check" | "ranges" | "xref" | "calls" | "denials" => Some(JSON),
         _ => None,
     }
 }
@@ -1065,14 +1141,16 @@ fn plain_words(
     words: &[String],
     own: Option<&str>,
     cut: Option<&str>,
+    json: Option<&str>,
 ) -> Result<Vec<String>, AllocError>
     ensures { IfOk result (λ plain. map string_bytes plain.items
         ≡ flat_map (plain_word (option_map (λ flag. flag.now) own.entry)
-        (option_map (λ flag. flag.now) cut.entry)) (map string_bytes words.now)) }
+        (option_map (λ flag. flag.now) cut.entry) (option_map (λ flag. flag.now) json.entry))
+        (map string_bytes words.now)) }
 {
     let mut plain = Vec::new(alloc);
     'words: for word in words {
-        add_plain(alloc, &mut plain, word, own, cut)?;
+        add_plain(alloc, &mut plain, word, own, cut, json)?;
     }
     Ok(plain)
 }
@@ -1084,12 +1162,14 @@ fn add_plain(
     word: &str,
     own: Option<&str>,
     cut: Option<&str>,
+    json: Option<&str>,
 ) -> Result<(), AllocError>
     ensures { OnOk result (map string_bytes plain.new.items ≡ map string_bytes plain.old.items
         ++ plain_word (option_map (λ flag. flag.now) own.entry)
-        (option_map (λ flag. flag.now) cut.entry) word.now) }
+        (option_map (λ flag. flag.now) cut.entry)
+        (option_map (λ flag. flag.now) json.entry) word.now) }
 {
-    if is_explain(word) || is_flag(own, word) || is_flag(cut, word) {
+    if is_explain(word) || is_flag(own, word) || is_flag(cut, word) || is_flag(json, word) {
         return Ok(());
     }
     add_word(alloc, plain, word)

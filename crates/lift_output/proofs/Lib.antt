@@ -4,3 +4,4 @@ pub mod Counted
 pub mod Drawn
 pub mod Followed
 pub mod Watching
+pub mod Slots

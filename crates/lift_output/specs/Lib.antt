@@ -1,4 +1,5 @@
 pub mod ImageText
+pub mod Limits
 pub mod Listing
 pub mod Outcomes
 pub mod Parts

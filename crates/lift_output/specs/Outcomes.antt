@@ -28,6 +28,7 @@ use Rattle.lift_journeys.specs.declared.log.Log.{Log}
 use Rattle.lift_journeys.specs.Lines.{lines_text}
 use Rattle.lift_journeys.specs.Summaries.{IsSummaryOf}
 use Rattle.lift_output.specs.ImageText.{image_text}
+use Rattle.lift_output.specs.Limits.{limits_text}
 use Rattle.lift_output.specs.Listing.{listing}
 use Rattle.lift_output.specs.Spans.{IsNoSpan}
 use Rattle.lift_output.specs.Tellings.{telling_of}
@@ -65,9 +66,14 @@ IsPrinted text (Ok output) = bytes_of output ≡ text
 IsPrinted text (Err fault.NoMemory) = Unit {0}
 IsPrinted text (Err _) = ⊥
 
--- `check` of a verified program prints its listing.
-abbrev pub IsCheckOutcome : Program → Outcome → Type 0
-IsCheckOutcome program = IsPrinted (listing program)
+-- what `check` shows of a program whose text has so many bytes: its listing, and behind it limits, where they are asked for
+abbrev pub check_shown : Bool → Program → ℕ → List ℕ
+check_shown false program bytes = listing program
+check_shown true program bytes = listing program ++ limits_text program bytes
+
+-- `check` of a verified program prints that.
+abbrev pub IsCheckOutcome : Bool → Program → ℕ → Outcome → Type 0
+IsCheckOutcome limits program bytes = IsPrinted (check_shown limits program bytes)
 
 -- what a request warns of: `check` of what is in vain, where that is asked for
 abbrev pub asked_warnings : Bool → Program → Option (List ℕ)
@@ -76,7 +82,7 @@ asked_warnings false program = None
 
 abbrev pub wanted_warnings : Request → Program → Option (List ℕ)
 wanted_warnings (request.Check checked) program = asked_warnings checked.warns program
-wanted_warnings (request.Show command file) program = None
+wanted_warnings (request.Show command shown) program = None
 wanted_warnings (request.Rounds command asked) program = None
 wanted_warnings (request.Trace command traced) program = None
 
@@ -363,9 +369,10 @@ IsRoundsOutcome simulating.Run program asked calls outcome = IsRunOutcome progra
 IsRoundsOutcome simulating.Denials program asked calls outcome = IsDenialsOutcome program asked calls outcome
 IsRoundsOutcome simulating.Watch program asked calls outcome = IsWatchOutcome program asked calls outcome
 
--- A verified program gives what its command prints, with what was read of its other file: the trace, or the file behind `--calls`.
-abbrev pub IsProgramOutcome : Request → Program → Reading → Outcome → Type 0
-IsProgramOutcome (request.Check checked) program other outcome = IsCheckOutcome program outcome
-IsProgramOutcome (request.Show command file) program other outcome = IsShowOutcome command program outcome
-IsProgramOutcome (request.Rounds command asked) program other outcome = IsRoundsOutcome command program asked other outcome
-IsProgramOutcome (request.Trace command traced) program other outcome = IsTraceOutcome (telling_of command traced) program other outcome
+-- A verified program, whose text has so many bytes, gives what its command prints, with what was read of its other file: the trace, or the file behind
+-- `--calls`. This is without `--json`.
+abbrev pub IsProgramOutcome : Request → Program → ℕ → Reading → Outcome → Type 0
+IsProgramOutcome (request.Check checked) program bytes other outcome = IsCheckOutcome checked.limits program bytes outcome
+IsProgramOutcome (request.Show command shown) program bytes other outcome = IsShowOutcome command program outcome
+IsProgramOutcome (request.Rounds command asked) program bytes other outcome = IsRoundsOutcome command program asked other outcome
+IsProgramOutcome (request.Trace command traced) program bytes other outcome = IsTraceOutcome (telling_of command traced) program other outcome

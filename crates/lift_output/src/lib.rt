@@ -3,6 +3,7 @@
 
 pub mod check;
 pub mod image;
+pub mod limits;
 pub mod outcome;
 pub mod span;
 pub mod telling;

@@ -4,7 +4,7 @@ ghost use Rattle.std.specs.Prelude.{◌≡◌, ◌≢◌, ◌≤◌, ◌+◌, �
 ghost use Rattle.lift_spec.specs.Image.{sizes_of};
 ghost use Rattle.lift_spec.specs.World.{opening};
 ghost use Rattle.lift_trace.specs.Reading.{Reads, greatest_trace};
-ghost use Rattle.lift_output.specs.Outcomes.{IsCheckOutcome, IsShowOutcome, HasWarnings, asked_warnings, wanted_warnings, IsFire, IsNoFire, calls_word, fire_settings, AreOfFile, AreOfReading, HasBadCalls, IsBadReading, AreDriven, IsUndriven, IsSimOutcome, IsRunOutcome, IsDenialsOutcome, IsWatchOutcome, IsRoundsOutcome, IsCallsText, IsFollowed, IsTraceOutcome, IsProgramOutcome};
+ghost use Rattle.lift_output.specs.Outcomes.{IsCheckOutcome, check_shown, IsShowOutcome, HasWarnings, asked_warnings, wanted_warnings, IsFire, IsNoFire, calls_word, fire_settings, AreOfFile, AreOfReading, HasBadCalls, IsBadReading, AreDriven, IsUndriven, IsSimOutcome, IsRunOutcome, IsDenialsOutcome, IsWatchOutcome, IsRoundsOutcome, IsCallsText, IsFollowed, IsTraceOutcome, IsProgramOutcome};
 ghost use Rattle.lift_output.specs.Parts.{fault_of_trace, fault_of_calls, IsTraceUnread, IsBadText, AreFollowed, AreValued, IsWatched};
 ghost use Rattle.lift_runs.specs.Driven.{ArePressed, AreSettings, switches_in};
 ghost use Rattle.lift_host.specs.CallsFile.{AreCallsOf};
@@ -16,6 +16,7 @@ ghost use Rattle.lift_workers.specs.Ran.{IsRun};
 
 use crate::check::check_text;
 use crate::image::image_text;
+use crate::limits::put_limits;
 use crate::span::span_of;
 use crate::telling::Telling;
 use il_machine::Verified;
@@ -24,7 +25,7 @@ use lift_draw::{Stop, drawing};
 use lift_host::calls::{CallsFault, CallsFile, read_calls};
 use lift_host::files::Reading;
 use lift_host::press::{Press, Set, Setting, fire_round, presses};
-use lift_host::request::{Name, Named, Request, Rounds, Showing, Simulating, Words};
+use lift_host::request::{Checked, Name, Named, Request, Rounds, Showing, Simulating, Words};
 use lift_host::status::Fault;
 use lift_journeys::lines::lines_text;
 use lift_journeys::log::Log;
@@ -51,21 +52,22 @@ use std::alloc::{AllocError, Global};
 use std::sync::Wait;
 use std::thread::Threads;
 
-/// What a request that isn't `run` prints over a verified configuration, with what was read of its trace or its file behind `--calls`, or
-/// why it prints nothing.
+/// What a request that isn't `run` prints over a verified configuration, whose text has so many bytes, with what was read of its trace or its
+/// file behind `--calls`, or why it prints nothing. `--json` changes nothing here.
 pub fn outcome(
     alloc: Global,
     request: Request<'_>,
     verified: Verified,
+    bytes: usize,
     other: &Reading,
 ) -> Result<Output, Fault>
     requires { command_of request ≢ Name.Rounds Simulating.Run }
-    ensures is { IsProgramOutcome request.entry verified other.now result }
+    ensures is { IsProgramOutcome request.entry verified bytes other.now result }
     ensures warned { HasWarnings (wanted_warnings request.entry verified) result }
     ensures unwritten { result ≢ Err Fault.CannotWrite }
 {
     match request {
-        Request::Check(asked) => checked(alloc, verified, asked.warns),
+        Request::Check(asked) => check_outcome(alloc, verified, asked, bytes),
         Request::Show(command, _) => shown(alloc, verified, command),
         Request::Rounds(command, asked) => rounds_outcome(alloc, verified, command, asked, other),
         Request::Trace(command, traced) => {
@@ -95,28 +97,55 @@ fn rounds_outcome(
     }
 }
 
-fn checked(alloc: Global, verified: Verified, warns: bool) -> Result<Output, Fault>
-    ensures is { IsCheckOutcome verified result }
-    ensures warned { HasWarnings (asked_warnings warns verified) result }
+fn check_outcome(
+    alloc: Global,
+    verified: Verified,
+    asked: Checked<'_>,
+    bytes: usize,
+) -> Result<Output, Fault>
+    ensures is { IsCheckOutcome asked.entry.limits verified bytes result }
+    ensures warned { HasWarnings (asked_warnings asked.entry.warns verified) result }
     ensures unwritten { result ≢ Err Fault.CannotWrite }
 {
-    let output = listed(alloc, &verified, warns);
+    let output = listed(alloc, &verified, asked, bytes);
     verified.release();
     output
 }
 
-// The tasks and units of a verified configuration, with what is in vain in it, where that is asked for.
-fn listed(alloc: Global, verified: &Verified, warns: bool) -> Result<Output, Fault>
-    ensures is { IsCheckOutcome verified.now result }
-    ensures warned { HasWarnings (asked_warnings warns verified.now) result }
+// The tasks and units of a verified configuration, with limits and with what is in vain in it, where that is asked for.
+fn listed(
+    alloc: Global,
+    verified: &Verified,
+    asked: Checked<'_>,
+    bytes: usize,
+) -> Result<Output, Fault>
+    ensures is { IsCheckOutcome asked.entry.limits verified.now bytes result }
+    ensures warned { HasWarnings (asked_warnings asked.entry.warns verified.now) result }
     ensures unwritten { result ≢ Err Fault.CannotWrite }
 {
-    let text = check_text(alloc, verified)?;
-    if !warns {
+    let text = check_shown(alloc, verified, asked.limits, bytes)?;
+    if !asked.warns {
         return Ok(Output::Text(text));
     }
     let warnings = warnings_text(alloc, verified.config())?;
     Ok(Output::Warned(Warned { text, warnings }))
+}
+
+// The tasks and units of a verified configuration, and behind them limits, where they are asked for.
+fn check_shown(
+    alloc: Global,
+    verified: &Verified,
+    limits: bool,
+    bytes: usize,
+) -> Result<String, AllocError>
+    ensures { IfOk result (λ text. string_bytes text ≡ check_shown limits verified.now bytes) }
+{
+    let mut text = check_text(alloc, verified)?;
+    if !limits {
+        return Ok(text);
+    }
+    put_limits(alloc, &mut text, verified, bytes)?;
+    Ok(text)
 }
 
 // What a command shows of a verified configuration.

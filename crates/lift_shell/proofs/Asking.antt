@@ -16,7 +16,7 @@ use Rattle.lift_messages.specs.Outputs.{Outcome}
 -- a request that is `run` with its flag is `run`
 runs_plain : (words : List (List ℕ)) (flags : Flags) (asked : Request) → Asks words asked → runs (with_flags flags asked) ≡ true → AskForRun words
 runs_plain words flags (request.Check checked) asks e = cc
-runs_plain words flags (request.Show command file) asks e = cc
+runs_plain words flags (request.Show command shown) asks e = cc
 runs_plain words flags (request.Rounds simulating.Sim rounds) asks e = cc
 runs_plain words flags (request.Rounds simulating.Run rounds) asks e = (rounds, asks)
 runs_plain words flags (request.Rounds simulating.Denials rounds) asks e = cc

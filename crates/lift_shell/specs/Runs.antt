@@ -43,7 +43,7 @@ most_calls_bytes = 4000001
 -- whether a request is `run`
 abbrev pub runs : Request → Bool
 runs (request.Check checked) = false
-runs (request.Show command file) = false
+runs (request.Show command shown) = false
 runs (request.Rounds simulating.Sim rounds) = false
 runs (request.Rounds simulating.Run rounds) = true
 runs (request.Rounds simulating.Denials rounds) = false
@@ -66,7 +66,7 @@ pub record IsForRun (plain : Plain) (request : Request) : Type 0 where
 -- the name of a request's other file: a trace, or the file of `--calls`
 abbrev pub other_of : Request → Option (List ℕ)
 other_of (request.Check checked) = None
-other_of (request.Show command file) = None
+other_of (request.Show command shown) = None
 other_of (request.Rounds command rounds) = option_map (λ calls. calls.now) rounds.calls
 other_of (request.Trace command traced) = Some traced.trace.now
 
@@ -91,7 +91,7 @@ other_name request = name_in (name_of request) (other_of request)
 -- a word of `watch` that stands behind a press and begins with no digit, as a name does
 abbrev pub IsLateName : Request → List ℕ → Type 0
 IsLateName (request.Check checked) word = ⊥
-IsLateName (request.Show command file) word = ⊥
+IsLateName (request.Show command shown) word = ⊥
 IsLateName (request.Rounds simulating.Sim rounds) word = ⊥
 IsLateName (request.Rounds simulating.Run rounds) word = ⊥
 IsLateName (request.Rounds simulating.Denials rounds) word = ⊥
@@ -174,7 +174,7 @@ IsCallsRead reads fails (Some name) (Failed why) = fails name most_calls_bytes w
 -- what may be read of a request's other file: a trace, or the file of `--calls`
 abbrev pub IsOtherRead : (List ℕ → ℕ → List ℕ → Type 0) → (List ℕ → ℕ → ReadFault → Type 0) → Request → Reading → Type 0
 IsOtherRead reads fails (request.Check checked) trace = Unit {0}
-IsOtherRead reads fails (request.Show command file) trace = Unit {0}
+IsOtherRead reads fails (request.Show command shown) trace = Unit {0}
 IsOtherRead reads fails (request.Rounds command rounds) trace = IsCallsRead reads fails (option_map (λ calls. calls.now) rounds.calls) trace
 IsOtherRead reads fails (request.Trace command traced) (Text text) = IsTraceText (reads traced.trace.now most_trace_bytes) traced.cut text.items
 IsOtherRead reads fails (request.Trace command traced) (Failed why) = IsTraceFault (fails traced.trace.now most_trace_bytes) traced.cut why

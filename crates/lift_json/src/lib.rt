@@ -1,0 +1,8 @@
+//! What the commands print, as JSON: an object a line.
+#![tactic(auto)]
+
+pub mod form;
+pub mod lines;
+mod pieces;
+mod put;
+mod states;

@@ -1,0 +1,303 @@
+// How much of each limit a configuration uses.
+
+ghost use Rattle.std.specs.Prelude.{◌≡◌, ◌≤◌, ◌<◌, ◌+◌, ◌++◌, IfOk, OnOk, None, Some, false, length, map, option_map, string_bytes};
+ghost use Rattle.il_spec.specs.Grammar.{depth_after, greatest_depth};
+ghost use Rattle.il_machine.specs.Listing.{unit_lines};
+ghost use Rattle.il_order.specs.Counted.{number_at};
+ghost use Rattle.il_order.specs.Related.{tabulate};
+ghost use Rattle.il_order.specs.Used.{uses};
+ghost use Rattle.lift_spec.specs.Image.{sizes_of};
+ghost use Rattle.lift_spec.specs.Snapshot.{program_of, task_name};
+ghost use Rattle.lift_output.specs.Limits.{chain_from, chain_through, chains, cost_use, greatest_below, limit_line, limit_words, limits_text, longest_chain, measured, most_line, most_of, slots_line, slots_text, task_slots, unit_use, use_shown, with_more};
+
+use il_machine::Verified;
+use il_order::relation::{Relation, holds};
+use il_order::uses::uses;
+use il_scope::Scoped;
+use il_spec::tree::{Instruction, Step, Unit};
+use lists::Items;
+use std::alloc::{AllocError, Global};
+
+const MOST_BYTES: usize = 262_144;
+
+const MOST_UNITS: usize = 64;
+
+const MOST_INSTRUCTIONS: usize = 4096;
+
+const MOST_NESTING: usize = 16;
+
+// The most units of a chain of uses.
+const MOST_CHAIN: usize = 16;
+
+// The most slots of a task, and of the globals.
+const MOST_SLOTS: usize = 4096;
+
+const MOST_COST: usize = 1_000_000;
+
+/// A unit, and how much of a limit it uses.
+#[derive(Clone, Copy)]
+struct Usage<'v> {
+    name: &'v str,
+    used: usize,
+}
+
+/// What is counted of a unit.
+#[derive(Clone, Copy)]
+enum Measure {
+    Instructions,
+    /// Parentheses that are open at once.
+    Nesting,
+}
+
+/// Writes how much a configuration uses of each limit, where its text has so many bytes: a line of each, of what is
+/// counted by unit the first that uses the most, and of slots each task.
+pub fn put_limits(
+    alloc: Global,
+    text: &mut String,
+    verified: &Verified,
+    bytes: usize,
+) -> Result<(), AllocError>
+    ensures { OnOk result (string_bytes text.new ≡ string_bytes text.old
+        ++ limits_text verified.now bytes) }
+{
+    let units = verified.config().units.as_slice();
+    put_limit(text, "bytes", bytes, MOST_BYTES)?;
+    put_limit(text, "units", units.len(), MOST_UNITS)?;
+    let instructions = greatest(units, Measure::Instructions);
+    put_most(text, "instructions", instructions, MOST_INSTRUCTIONS)?;
+    let nesting = greatest(units, Measure::Nesting);
+    put_most(text, "nesting", nesting, MOST_NESTING)?;
+    let chain = longest_chain(alloc, verified.names())?;
+    put_limit(text, "chain", chain, MOST_CHAIN)?;
+    put_slots(text, verified)?;
+    put_limit(text, "globals", verified.globals().len(), MOST_SLOTS)?;
+    put_most(text, "cost", most_costly(verified), MOST_COST)
+}
+
+// `limit NAME used N of N`.
+fn put_words(text: &mut String, name: &str, used: usize, most: usize) -> Result<(), AllocError>
+    ensures { OnOk result (string_bytes text.new ≡ string_bytes text.old
+        ++ limit_words name.now used most) }
+{
+    write!(text, "limit {} used {} of {}", name, used, most)
+}
+
+#[tactic(auto, unfolding(crate::specs::Limits::limit_line))]
+fn put_limit(text: &mut String, name: &str, used: usize, most: usize) -> Result<(), AllocError>
+    ensures { OnOk result (string_bytes text.new ≡ string_bytes text.old
+        ++ limit_line name.now used most) }
+{
+    put_words(text, name, used, most)?;
+    text.push_str("\n")
+}
+
+#[tactic(auto, unfolding(crate::specs::Limits::most_line))]
+fn put_most(
+    text: &mut String,
+    name: &str,
+    unit: Option<Usage<'_>>,
+    most: usize,
+) -> Result<(), AllocError>
+    ensures { OnOk result (string_bytes text.new ≡ string_bytes text.old
+        ++ most_line name.now (option_map use_shown unit.entry) most) }
+{
+    match unit {
+        Some(unit) => {
+            put_words(text, name, unit.used, most)?;
+            writeln!(text, " in {}", unit.name)
+        }
+        None => Ok(()),
+    }
+}
+
+// The one of two that uses more; of two that use as much the first.
+fn with_more<'v>(best: Option<Usage<'v>>, next: Usage<'v>) -> Usage<'v>
+    ensures { use_shown result ≡ with_more (option_map use_shown best.entry)
+        (use_shown next.entry) }
+{
+    match best {
+        Some(best) => if best.used < next.used { next } else { best },
+        None => next,
+    }
+}
+
+// The first unit of the most that is counted.
+fn greatest(units: &[Unit], measure: Measure) -> Option<Usage<'_>>
+    ensures { option_map use_shown result ≡ most_of None (map (unit_use measure) units.now) }
+{
+    let mut best = None;
+    'units: for unit in units {
+        let usage = Usage {
+            name: unit.name.name.as_str(),
+            used: measure.of(unit),
+        };
+        best = Some(with_more(best, usage));
+    }
+    best
+}
+
+impl Measure {
+    fn of(self, unit: &Unit) -> usize
+        ensures { result ≡ measured self unit.now }
+    {
+        match self {
+            Measure::Instructions => unit.body.steps.as_slice().len(),
+            Measure::Nesting => greatest_depth(unit.body.steps.as_slice()),
+        }
+    }
+}
+
+// How many parentheses are open at once at most.
+fn greatest_depth(steps: &[Step]) -> usize
+    ensures { result ≡ greatest_depth 0 steps.now }
+{
+    let mut depth = 0;
+    let mut greatest: usize = 0;
+    'steps: for step in steps {
+        greatest = greatest.max(depth);
+        depth = depth_after(depth, &step.instruction);
+    }
+    greatest.max(depth)
+}
+
+// How many parentheses are open behind an instruction.
+fn depth_after(depth: usize, instruction: &Instruction) -> usize
+    requires { depth < 18446744073709551615 }
+    ensures is { result ≡ depth_after depth instruction.now }
+    ensures few { result ≤ depth + 1 }
+{
+    match instruction {
+        Instruction::Defer { .. } => depth + 1,
+        Instruction::Evaluate => depth.saturating_sub(1),
+        _ => depth,
+    }
+}
+
+// The first unit that costs the most.
+fn most_costly(verified: &Verified) -> Option<Usage<'_>>
+    ensures { option_map use_shown result ≡ most_of None (map cost_use
+        (unit_lines verified.now.config.units verified.now.costs)) }
+{
+    let mut best = None;
+    'units: for unit in verified.units() {
+        let usage = Usage {
+            name: unit.name,
+            used: unit.cost as usize,
+        };
+        best = Some(with_more(best, usage));
+    }
+    best
+}
+
+// The units of the longest chain of uses.
+fn longest_chain(alloc: Global, names: &Scoped) -> Result<usize, AllocError>
+    ensures { IfOk result (λ most. most
+        ≡ longest_chain (uses names.now false) (length names.now.units)) }
+{
+    let count = names.config().units.as_slice().len();
+    let used = uses(alloc, names, false)?;
+    let lengths = chains(alloc, &used, count)?;
+    let mut longest: usize = 0;
+    'units: for from in 0..count {
+        longest = longest.max(number_at(&lengths, from));
+    }
+    Ok(longest)
+}
+
+// The longest chains from each unit on.
+fn chains(alloc: Global, used: &Relation, count: usize) -> Result<Items<usize>, AllocError>
+    ensures { IfOk result (λ lengths. lengths ≡ chains used.now count 16) }
+{
+    let mut lengths = Items::new(alloc);
+    'rounds: for _round in 0..MOST_CHAIN {
+        lengths = longer(alloc, used, &lengths, count)?;
+    }
+    Ok(lengths)
+}
+
+// The same, of one unit more.
+fn longer(
+    alloc: Global,
+    used: &Relation,
+    lengths: &Items<usize>,
+    count: usize,
+) -> Result<Items<usize>, AllocError>
+    ensures { IfOk result (λ longer. longer
+        ≡ tabulate count (λ from. chain_from used.now lengths.now count from)) }
+{
+    let mut longer = Items::new(alloc);
+    'units: for from in 0..count {
+        longer.push(chain_from(used, lengths, count, from))?;
+    }
+    Ok(longer)
+}
+
+// A unit, and behind it the longest chain that goes on at one that it uses.
+fn chain_from(used: &Relation, lengths: &Items<usize>, count: usize, from: usize) -> usize
+    ensures { result ≡ chain_from used.now lengths.now count from }
+{
+    let mut behind: usize = 0;
+    'units: for to in 0..count {
+        behind = behind.max(chain_through(used, lengths, from, to));
+    }
+    behind.saturating_add(1).min(MOST_CHAIN)
+}
+
+// The longest chain that goes on at a unit, if it is used.
+fn chain_through(used: &Relation, lengths: &Items<usize>, from: usize, to: usize) -> usize
+    ensures { result ≡ chain_through used.now lengths.now from to }
+{
+    if holds(used, from, to) {
+        number_at(lengths, to)
+    } else {
+        0
+    }
+}
+
+// A number of a list.
+fn number_at(numbers: &Items<usize>, at: usize) -> usize
+    ensures { result ≡ number_at numbers.now at }
+{
+    match numbers.as_slice().get(at) {
+        Some(number) => *number,
+        None => 0,
+    }
+}
+
+// The slots of each task.
+fn put_slots(text: &mut String, verified: &Verified) -> Result<(), AllocError>
+    ensures { OnOk result (string_bytes text.new ≡ string_bytes text.old
+        ++ slots_text verified.now.config) }
+{
+    'cars: for before in 0..verified.sizes().cars {
+        put_task_slots(text, verified, before + 1)?;
+    }
+    put_task_slots(text, verified, 0)
+}
+
+// The slots of a task, if the group has it.
+fn put_task_slots(text: &mut String, verified: &Verified, task: u8) -> Result<(), AllocError>
+    requires { task ≤ (sizes_of verified.now.config).cars }
+    ensures { OnOk result (string_bytes text.new ≡ string_bytes text.old
+        ++ task_slots verified.now.config task) }
+{
+    let _config = verified.config();
+    if !verified.has_task(task) {
+        return Ok(());
+    }
+    let slots = verified.opening_variables(task).numbers().len();
+    put_words(text, "slots", slots, MOST_SLOTS)?;
+    text.push_str(" in ")?;
+    put_task(text, task)?;
+    text.push_str("\n")
+}
+
+// The name of a task: 0 is GROUP, k is CARk.
+fn put_task(text: &mut String, task: u8) -> Result<(), AllocError>
+    ensures { OnOk result (string_bytes text.new ≡ string_bytes text.old ++ task_name task) }
+{
+    match task {
+        0 => text.push_str("GROUP"),
+        car => write!(text, "CAR{}", car),
+    }
+}
