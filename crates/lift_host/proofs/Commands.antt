@@ -18,7 +18,7 @@ named key =
     else if key == key_of (codes "sim") then name.Rounds simulating.Sim else if key == key_of (codes "run") then name.Rounds simulating.Run
     else if key == key_of (codes "denials") then name.Rounds simulating.Denials else if key == key_of (codes "watch") then name.Rounds simulating.Watch
     else if key == key_of (codes "replay") then name.Trace following.Replay
-    else if key == key_of (codes "draw") then name.Trace following.Draw else name.Trace following.Calls
+    else if key == key_of (codes "draw") then name.Trace following.Draw else if key == key_of (codes "scan") then name.Trace following.Scan else name.Trace following.Calls
 
 -- the simulation that has the name of a command over a trace
 abbrev pub same_of : Name → Name
@@ -40,6 +40,7 @@ is_named (name.Trace following.Draw) = refl
 is_named (name.Trace following.Calls) = refl
 is_named (name.Trace following.Denials) = refl
 is_named (name.Trace following.Watch) = refl
+is_named (name.Trace following.Scan) = refl
 
 -- so a word names one command, or `denials` or `watch`
 pub one_name : (n m : Name) → word_of n ≡ word_of m → same_of n ≡ same_of m

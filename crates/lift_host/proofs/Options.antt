@@ -1,9 +1,9 @@
 -- Words of a command line apart, by the first option among them.
-use Rattle.std.proofs.Common.{arith, ℕ, ◌≡◌, ◌<◌, Bool, true, false, get_or, List, [], ◌∷◌, ◌++◌, refl, sym, ap, ◌∙◌, subst, map, take, drop, length}
+use Rattle.std.proofs.Common.{arith, ℕ, ◌≡◌, ◌<◌, Bool, true, false, List, [], ◌∷◌, ◌++◌, refl, sym, ap, ◌∙◌, subst, map, take, drop, length}
 use Rattle.std.specs.Prelude.{Option, Some, codes, slice_get, String, string_bytes}
 use Rattle.std.specs.Global.{Global}
 use Rattle.lift_host.specs.Requests.{IsOption, AreNoOptions, AreApart, IsBehind, IsFirstApart, IsFlagApart}
-use Rattle.lift_host.specs.Requests.AreApart.{without, fire_first, calls_first}
+use Rattle.lift_host.specs.Requests.AreApart.{without, one_first, two_first}
 use Rattle.lift_host.proofs.Apart.{parted, front_of, is_at, has_one, front_none, back_none, both_none, nil_none, same_front}
 
 cut : {x y : List ℕ} {xs ys : List (List ℕ)} → x ∷ xs ≡ y ∷ ys → (x ≡ y) × (xs ≡ ys)
@@ -11,10 +11,10 @@ cut e = (cc, cc)
 
 -- WITHOUT OPTIONS
 
-only_plain : (words : List (List ℕ)) → AreNoOptions words → (positional : List (List ℕ)) (fire calls : Option (List ℕ)) → AreApart words positional fire calls → positional ≡ words
-only_plain words plain positional fire calls (without is f c) = sym is
-only_plain words plain positional fire calls (fire_first h) = absurd (has_one IsOption h.before (codes "--fire") h.rest refl (subst AreNoOptions h.are plain))
-only_plain words plain positional fire calls (calls_first h) = absurd (has_one IsOption h.before (codes "--calls") h.rest refl (subst AreNoOptions h.are plain))
+only_plain : (one two : List ℕ) → IsOption one → IsOption two → (words : List (List ℕ)) → AreNoOptions words → (positional : List (List ℕ)) (first second : Option (List ℕ)) → AreApart one two words positional first second → positional ≡ words
+only_plain one two is_one is_two words plain positional first second (without is f c) = sym is
+only_plain one two is_one is_two words plain positional first second (one_first h) = absurd (has_one IsOption h.before one h.rest is_one (subst AreNoOptions h.are plain))
+only_plain one two is_one is_two words plain positional first second (two_first h) = absurd (has_one IsOption h.before two h.rest is_two (subst AreNoOptions h.are plain))
 
 only_uncut : (words : List (List ℕ)) → AreNoOptions words → (positional : List (List ℕ)) (has : Bool) → IsFlagApart (codes "--cut") words positional has → positional ≡ words
 only_uncut words plain positional false is = sym is
@@ -28,10 +28,10 @@ ends words front [] n e f z before =
     (subst AreNoOptions (sym parts) (both_none IsOption (map string_bytes front) [] (front_of IsOption words front n e before) (nil_none IsOption)), parts)
 ends words front (x ∷ back) n e f z before = absurd (omega (arith, z))
 
-pub without_options : (words front back : List (String Global)) (n : ℕ) → front ≡ take n words → back ≡ drop n words → length back ≡ 0 → ((k : ℕ) (word : List ℕ) → k < n → slice_get (map string_bytes words) k ≡ Some word → IsOption word → ⊥)
-    → (positional : List (List ℕ)) (fire calls : Option (List ℕ)) → AreApart (map string_bytes words) positional fire calls → positional ≡ map string_bytes front ++ map string_bytes back
-without_options words front back n e f z before positional fire calls apart =
-    let are = ends words front back n e f z before in only_plain (map string_bytes words) are.0 positional fire calls apart ∙ are.1
+pub without_options : (one two : List ℕ) → IsOption one → IsOption two → (words front back : List (String Global)) (n : ℕ) → front ≡ take n words → back ≡ drop n words → length back ≡ 0 → ((k : ℕ) (word : List ℕ) → k < n → slice_get (map string_bytes words) k ≡ Some word → IsOption word → ⊥)
+    → (positional : List (List ℕ)) (first second : Option (List ℕ)) → AreApart one two (map string_bytes words) positional first second → positional ≡ map string_bytes front ++ map string_bytes back
+without_options one two is_one is_two words front back n e f z before positional first second apart =
+    let are = ends words front back n e f z before in only_plain one two is_one is_two (map string_bytes words) are.0 positional first second apart ∙ are.1
 
 pub without_cut : (words front back : List (String Global)) (n : ℕ) → front ≡ take n words → back ≡ drop n words → length back ≡ 0 → ((k : ℕ) (word : List ℕ) → k < n → slice_get (map string_bytes words) k ≡ Some word → IsOption word → ⊥)
     → (positional : List (List ℕ)) (has : Bool) → IsFlagApart (codes "--cut") (map string_bytes words) positional has → positional ≡ map string_bytes front ++ map string_bytes back
@@ -74,24 +74,22 @@ there first second words front option more positional value other is has h none 
       },
     )
 
-differ : codes "--fire" ≡ codes "--calls" → ⊥
-differ e = omega (arith, ap (λ l. get_or l 2 0) e)
+module _ (one two : List ℕ) (is_one : IsOption one) (is_two : IsOption two) (differ : one ≡ two → ⊥) (words front : List (List ℕ)) (option : List ℕ) (more positional : List (List ℕ)) (first second : Option (List ℕ)) (has : HasFirst words front option more)
+    (none : AreNoOptions positional) where
+  pub at_one : option ≡ one → AreApart one two words positional first second → FoundBehind two front more positional second
+  at_one is (without all f c) = absurd (has_one IsOption front option more has.is (subst AreNoOptions (sym all ∙ has.are) none))
+  at_one is (one_first h) = (there one two words front option more positional first second is_one has h none).1
+  at_one is (two_first h) = absurd (differ (sym is ∙ (there two one words front option more positional second first is_two has h none).0))
 
-module _ (words front : List (List ℕ)) (option : List ℕ) (more positional : List (List ℕ)) (fire calls : Option (List ℕ)) (has : HasFirst words front option more) (none : AreNoOptions positional) where
-  pub at_fire : option ≡ codes "--fire" → AreApart words positional fire calls → FoundBehind (codes "--calls") front more positional calls
-  at_fire is (without all f c) = absurd (has_one IsOption front option more has.is (subst AreNoOptions (sym all ∙ has.are) none))
-  at_fire is (fire_first h) = (there (codes "--fire") (codes "--calls") words front option more positional fire calls refl has h none).1
-  at_fire is (calls_first h) = absurd (differ (sym is ∙ (there (codes "--calls") (codes "--fire") words front option more positional calls fire refl has h none).0))
+  pub at_two : option ≡ two → AreApart one two words positional first second → FoundBehind one front more positional first
+  at_two is (without all f c) = absurd (has_one IsOption front option more has.is (subst AreNoOptions (sym all ∙ has.are) none))
+  at_two is (one_first h) = absurd (differ (sym (there one two words front option more positional first second is_one has h none).0 ∙ is))
+  at_two is (two_first h) = (there two one words front option more positional second first is_two has h none).1
 
-  pub at_calls : option ≡ codes "--calls" → AreApart words positional fire calls → FoundBehind (codes "--fire") front more positional fire
-  at_calls is (without all f c) = absurd (has_one IsOption front option more has.is (subst AreNoOptions (sym all ∙ has.are) none))
-  at_calls is (fire_first h) = absurd (differ (sym (there (codes "--fire") (codes "--calls") words front option more positional fire calls refl has h none).0 ∙ is))
-  at_calls is (calls_first h) = (there (codes "--calls") (codes "--fire") words front option more positional calls fire refl has h none).1
-
-  pub at_neither : (option ≡ codes "--fire" → ⊥) → (option ≡ codes "--calls" → ⊥) → AreApart words positional fire calls → ⊥
-  at_neither not_fire not_calls (without all f c) = has_one IsOption front option more has.is (subst AreNoOptions (sym all ∙ has.are) none)
-  at_neither not_fire not_calls (fire_first h) = not_fire (there (codes "--fire") (codes "--calls") words front option more positional fire calls refl has h none).0
-  at_neither not_fire not_calls (calls_first h) = not_calls (there (codes "--calls") (codes "--fire") words front option more positional calls fire refl has h none).0
+  pub at_neither : (option ≡ one → ⊥) → (option ≡ two → ⊥) → AreApart one two words positional first second → ⊥
+  at_neither not_one not_two (without all f c) = has_one IsOption front option more has.is (subst AreNoOptions (sym all ∙ has.are) none)
+  at_neither not_one not_two (one_first h) = not_one (there one two words front option more positional first second is_one has h none).0
+  at_neither not_one not_two (two_first h) = not_two (there two one words front option more positional second first is_two has h none).0
 
 -- the flag is it
 module _ (words front : List (List ℕ)) (option : List ℕ) (more positional : List (List ℕ)) (has : HasFirst words front option more) (none : AreNoOptions positional) where

@@ -51,6 +51,7 @@ word_of (name.Trace following.Draw) = codes "draw"
 word_of (name.Trace following.Calls) = codes "calls"
 word_of (name.Trace following.Denials) = codes "denials"
 word_of (name.Trace following.Watch) = codes "watch"
+word_of (name.Trace following.Scan) = codes "scan"
 
 -- the command of a request
 abbrev pub command_of : Request → Name
@@ -122,17 +123,17 @@ pub record IsFirstApart (first second : List ℕ) (words positional : List (List
   pub is_value : value ≡ Some word
   pub positional_is : positional ≡ before ++ others
 
--- words without `--fire ROUND` and `--calls CALLS`, which may stand anywhere among them in either order, with ROUND and CALLS
-pub data AreApart (words positional : List (List ℕ)) (fire calls : Option (List ℕ)) : Type 0 where
-  without : words ≡ positional → fire ≡ None → calls ≡ None → AreApart words positional fire calls
-  fire_first : IsFirstApart (codes "--fire") (codes "--calls") words positional fire calls → AreApart words positional fire calls
-  calls_first : IsFirstApart (codes "--calls") (codes "--fire") words positional calls fire → AreApart words positional fire calls
+-- words without two options and the values behind them, which may stand anywhere among them in either order, and those values
+pub data AreApart (one two : List ℕ) (words positional : List (List ℕ)) (first second : Option (List ℕ)) : Type 0 where
+  without : words ≡ positional → first ≡ None → second ≡ None → AreApart one two words positional first second
+  one_first : IsFirstApart one two words positional first second → AreApart one two words positional first second
+  two_first : IsFirstApart two one words positional second first → AreApart one two words positional first second
 
 -- FILE and ROUNDS, with any words behind them, and `--fire ROUND` and `--calls CALLS` anywhere among them; no other word is an option
 pub record GiveRounds (words : List (List ℕ)) (rounds : Rounds) : Type 0 where
   pub positional : List (List ℕ)
   pub text : List ℕ
-  pub apart : AreApart words positional (option_map (λ value. value.now) rounds.fire) (option_map (λ value. value.now) rounds.calls)
+  pub apart : AreApart (codes "--fire") (codes "--calls") words positional (option_map (λ value. value.now) rounds.fire) (option_map (λ value. value.now) rounds.calls)
   pub parts : positional ≡ rounds.file.now ∷ text ∷ words_of rounds.presses
   pub is_rounds : IsRounds text rounds.rounds
   pub plain : AreNoOptions positional
@@ -186,6 +187,16 @@ pub record GiveFollowed (words : List (List ℕ)) (traced : Traced) : Type 0 whe
   pub plain : AreNoOptions positional
   pub whole : traced.span ≡ None
 
+-- FILE, TRACE and TASK, with `--round N` and `--until LINE` anywhere among them; no other word is an option
+pub record GiveScan (words : List (List ℕ)) (traced : Traced) : Type 0 where
+  pub positional : List (List ℕ)
+  pub task : List ℕ
+  pub apart : AreApart (codes "--round") (codes "--until") words positional (option_map (λ value. value.now) traced.round) (option_map (λ value. value.now) traced.until)
+  pub parts : positional ≡ traced.file.now ∷ traced.trace.now ∷ task ∷ []
+  pub named : words_of traced.names ≡ task ∷ []
+  pub plain : AreNoOptions positional
+  pub uncut : traced.cut ≡ false
+
 -- `watch` needs a name behind ROUNDS
 abbrev pub NeedsName : Simulating → List (List ℕ) → Type 0
 NeedsName simulating.Sim words = Unit {0}
@@ -205,6 +216,7 @@ TakesTrace words following.Draw traced = GiveDrawing words traced
 TakesTrace words following.Calls traced = GiveTrace words traced
 TakesTrace words following.Denials traced = GiveFollowed words traced × AreNames false (words_of traced.names)
 TakesTrace words following.Watch traced = GiveFollowed words traced × AreNames true (words_of traced.names)
+TakesTrace words following.Scan traced = GiveScan words traced
 
 -- what a request takes behind its command: `FILE` and maybe `--warn` for check, `FILE` for what shows something of it, `FILE ROUNDS` and
 -- more for a simulation, and `FILE TRACE` and more over a trace
@@ -234,7 +246,7 @@ flag_of command =
 -- `--cut` of a command that is always over a trace
 abbrev pub cut_of : List ℕ → Option (List ℕ)
 cut_of command =
-    if bytes_eq command (codes "replay") || bytes_eq command (codes "draw") || bytes_eq command (codes "calls") then Some (codes "--cut") else None
+    if bytes_eq command (codes "replay") || bytes_eq command (codes "draw") || bytes_eq command (codes "calls") || bytes_eq command (codes "scan") then Some (codes "--cut") else None
 
 -- the flag of the command of words: this is the first word but `--explain`
 abbrev pub own_flag : List (List ℕ) → Option (List ℕ)
@@ -277,14 +289,21 @@ asked_json words = if names_flag (Some (codes "--summary")) words then None else
 abbrev pub flags_of : List (List ℕ) → Flags
 flags_of words = record { own = names_flag (own_flag words) words; cut = names_flag (own_cut words) words; json = names_flag (asked_json words) words }
 
--- a word, or for `--fire=ROUND`, `--trace=TRACE`, `--calls=CALLS` and `--rounds=A:B` two
+-- a word, or for the options of `scan` two
+abbrev pub cut_scan_word : List ℕ → List (List ℕ)
+cut_scan_word word =
+    if bytes_eq (take 8 word) (codes "--round=") then codes "--round" ∷ drop 8 word ∷ []
+    else if bytes_eq (take 8 word) (codes "--until=") then codes "--until" ∷ drop 8 word ∷ []
+    else word ∷ []
+
+-- a word, or for `--fire=ROUND`, `--trace=TRACE`, `--calls=CALLS`, `--rounds=A:B`, `--round=N` and `--until=LINE` two
 abbrev pub cut_word : List ℕ → List (List ℕ)
 cut_word word =
     if bytes_eq (take 7 word) (codes "--fire=") then codes "--fire" ∷ drop 7 word ∷ []
     else if bytes_eq (take 8 word) (codes "--trace=") then codes "--trace" ∷ drop 8 word ∷ []
     else if bytes_eq (take 8 word) (codes "--calls=") then codes "--calls" ∷ drop 8 word ∷ []
     else if bytes_eq (take 9 word) (codes "--rounds=") then codes "--rounds" ∷ drop 9 word ∷ []
-    else word ∷ []
+    else cut_scan_word word
 
 -- the words in place of a word: none for `--explain`, and none for a flag of the command
 abbrev pub plain_word : Option (List ℕ) → Option (List ℕ) → Option (List ℕ) → List ℕ → List (List ℕ)

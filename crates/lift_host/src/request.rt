@@ -1,7 +1,7 @@
 // What the words ask for.
 
 ghost use Rattle.std.specs.Prelude.{◌≡◌, ◌≤◌, ◌<◌, ◌∷◌, ◌++◌, ◌↔◌, [], ℕ, Bool, List, Option, Some, true, false, IfSome, IfOk, IsNone, IsTrue, MatchOption, OnOk, codes, bytes_eq, flat_map, length, map, option_map, slice_get, string_bytes};
-ghost use Rattle.lift_host.specs.Requests.{IsNumberTo, IsDigits, IsOption, AreNoOptions, LeaveOut, IsApart, AreApart, IsBehind, IsFlagApart, IsFile, IsFileBeside, IsFileWith, AreFiles, GiveRounds, GiveTrace, GiveDrawing, GiveFollowed, AreNames, Takes, TakesTrace, Asks, BeginsWithDigit, BeginWithName, NeedsName, AreNamesFirst, plain_words, plain_word, cut_word, flag_of, cut_of, json_of, own_flag, own_cut, own_json, asked_json, is_flag, explains, names_flag, flags_of, with_flags, command_of, name_of, word_of, words_of};
+ghost use Rattle.lift_host.specs.Requests.{IsNumberTo, IsDigits, IsOption, AreNoOptions, LeaveOut, IsApart, AreApart, IsBehind, IsFlagApart, IsFile, IsFileBeside, IsFileWith, AreFiles, GiveRounds, GiveTrace, GiveDrawing, GiveFollowed, GiveScan, AreNames, Takes, TakesTrace, Asks, BeginsWithDigit, BeginWithName, NeedsName, AreNamesFirst, plain_words, plain_word, cut_word, cut_scan_word, flag_of, cut_of, json_of, own_flag, own_cut, own_json, asked_json, is_flag, explains, names_flag, flags_of, with_flags, command_of, name_of, word_of, words_of};
 ghost use Rattle.lift_host.specs.declared.request.Name.{Name};
 ghost use Rattle.lift_host.specs.declared.request.Request.{Request};
 ghost use Rattle.lift_host.specs.declared.request.Rounds.{Rounds};
@@ -29,6 +29,18 @@ pub const ROUNDS: &str = "--rounds";
 
 // The same option, where its value stands in one word with it.
 const ROUNDS_IS: &str = "--rounds=";
+
+/// The option of `scan` whose value is the round in which the scan was committed.
+pub const ROUND: &str = "--round";
+
+// The same option, where its value stands in one word with it.
+const ROUND_IS: &str = "--round=";
+
+/// The option of `scan` whose value is the line behind which nothing more is shown.
+pub const UNTIL: &str = "--until";
+
+// The same option, where its value stands in one word with it.
+const UNTIL_IS: &str = "--until=";
 
 /// The option of `serve` whose value is the name of the trace that it writes.
 pub const TRACE: &str = "--trace";
@@ -95,6 +107,8 @@ pub enum Following {
     Denials,
     /// Values behind each of its rounds.
     Watch,
+    /// A scan of it, instruction by instruction.
+    Scan,
 }
 
 /// The name of a command. `denials` and `watch` are each the name of a simulation and of a command over a trace.
@@ -163,10 +177,14 @@ pub struct Traced<'w> {
     pub file: &'w str,
     /// The name of the trace.
     pub trace: &'w str,
-    /// The words behind TRACE, which are the names of `watch`; another command has none.
+    /// The words behind TRACE, which are the names of `watch`, and the task of `scan`; another command has none.
     pub names: Words<'w>,
     /// The word behind `--rounds`, which is to say what rounds `draw` shows.
     pub span: Option<&'w str>,
+    /// The word behind `--round`, which is to be the round of the scan that `scan` shows.
+    pub round: Option<&'w str>,
+    /// The word behind `--until`, which is to be the line behind which `scan` shows nothing more.
+    pub until: Option<&'w str>,
     /// Whether the command's own flag stands among the words: `calls` is to print a summary, `denials` is to show all.
     pub flag: bool,
     /// Whether the trace may be cut off, and is taken up to its last whole line.
@@ -201,6 +219,7 @@ impl Name {
             "replay" => Some(Name::Trace(Following::Replay)),
             "draw" => Some(Name::Trace(Following::Draw)),
             "calls" => Some(Name::Trace(Following::Calls)),
+            "scan" => Some(Name::Trace(Following::Scan)),
             _ => None,
         }
     }
@@ -222,6 +241,7 @@ impl Name {
             Name::Trace(Following::Calls) => "calls",
             Name::Trace(Following::Denials) => "denials",
             Name::Trace(Following::Watch) => "watch",
+            Name::Trace(Following::Scan) => "scan",
         }
     }
 }
@@ -549,6 +569,7 @@ fn trace_given(command: Following, rest: &[String]) -> Option<Traced<'_>>
         Following::Calls => whole_trace_given(rest),
         Following::Denials => followed_given(false, rest),
         Following::Watch => followed_given(true, rest),
+        Following::Scan => scan_given(rest),
     }
 }
 
@@ -579,6 +600,8 @@ fn whole_trace_given(rest: &[String]) -> Option<Traced<'_>>
         trace,
         names: Words::of(&[]),
         span: None,
+        round: None,
+        until: None,
         flag: false,
         cut: false,
         json: false,
@@ -598,6 +621,38 @@ fn drawing_given(rest: &[String]) -> Option<Traced<'_>>
         trace,
         names: Words::of(&[]),
         span: value,
+        round: None,
+        until: None,
+        flag: false,
+        cut: false,
+        json: false,
+    })
+}
+
+// FILE, TRACE and TASK, and maybe `--round N` and `--until LINE`.
+fn scan_given(rest: &[String]) -> Option<Traced<'_>>
+    ensures some { IfSome result (GiveScan (map string_bytes rest.now)) }
+    ensures none { IsNone result → (traced : Traced)
+        → GiveScan (map string_bytes rest.now) traced → ⊥ }
+{
+    let OptionsApart {
+        positional,
+        first,
+        second,
+    } = options_apart(ROUND, UNTIL, rest)?;
+    let (file, behind) = positional.split_first()?;
+    let (trace, names) = behind.split_first()?;
+    let (_task, more) = names.split_first()?;
+    if let Some((_next, _rest)) = more.split_first() {
+        return None;
+    }
+    Some(Traced {
+        file,
+        trace,
+        names,
+        span: None,
+        round: first,
+        until: second,
         flag: false,
         cut: false,
         json: false,
@@ -639,6 +694,8 @@ fn any_followed_given(rest: &[String]) -> Option<Traced<'_>>
         trace,
         names,
         span: None,
+        round: None,
+        until: None,
         flag: false,
         cut,
         json: false,
@@ -691,9 +748,9 @@ fn rounds_given(rest: &[String]) -> Option<Rounds<'_>>
 {
     let OptionsApart {
         positional,
-        fire,
-        calls,
-    } = options_apart(rest)?;
+        first,
+        second,
+    } = options_apart(FIRE, CALLS, rest)?;
     let (file, behind) = positional.split_first()?;
     let (rounds, presses) = behind.split_first()?;
     let rounds = number_to(MOST_ROUNDS, rounds)?;
@@ -701,8 +758,8 @@ fn rounds_given(rest: &[String]) -> Option<Rounds<'_>>
         file,
         rounds,
         presses,
-        fire,
-        calls,
+        fire: first,
+        calls: second,
         flag: false,
         json: false,
     })
@@ -746,51 +803,55 @@ fn begin_with_name(words: Words<'_>) -> bool
     }
 }
 
-// Words without the options of a simulation and the values behind them, and those values.
+// Words without two options and the values behind them, and those values.
 #[derive(Clone, Copy)]
 struct OptionsApart<'w> {
     positional: Words<'w>,
-    fire: Option<&'w str>,
-    calls: Option<&'w str>,
+    first: Option<&'w str>,
+    second: Option<&'w str>,
 }
 
-// The words behind such a command apart, where they have no other option and a word behind each of these.
-fn options_apart(rest: &[String]) -> Option<OptionsApart<'_>>
-    ensures some { IfSome result (λ apart. AreApart (map string_bytes rest.now)
-        (words_of apart.positional) (option_map (λ value. value.now) apart.fire)
-        (option_map (λ value. value.now) apart.calls)) }
+// The words behind such a command apart, where they have no option but these two and a word behind each of them.
+fn options_apart<'w>(one: &str, two: &str, rest: &'w [String]) -> Option<OptionsApart<'w>>
+    requires one { IsOption one.now }
+    requires two { IsOption two.now }
+    requires differ { one.now ≡ two.now → ⊥ }
+    ensures some { IfSome result (λ apart. AreApart one.now two.now (map string_bytes rest.now)
+        (words_of apart.positional) (option_map (λ value. value.now) apart.first)
+        (option_map (λ value. value.now) apart.second)) }
     ensures plain { IfSome result (λ apart. AreNoOptions (words_of apart.positional)) }
     ensures only { IfSome result (λ apart. (positional : List (List ℕ))
-        (fire calls : Option (List ℕ)) → AreApart (map string_bytes rest.now) positional fire calls
+        (first second : Option (List ℕ))
+        → AreApart one.now two.now (map string_bytes rest.now) positional first second
         → AreNoOptions positional → positional ≡ words_of apart.positional) }
-    ensures none { IsNone result → (positional : List (List ℕ)) (fire calls : Option (List ℕ))
-        → AreApart (map string_bytes rest.now) positional fire calls
+    ensures none { IsNone result → (positional : List (List ℕ)) (first second : Option (List ℕ))
+        → AreApart one.now two.now (map string_bytes rest.now) positional first second
         → AreNoOptions positional → ⊥ }
 {
     let (front, rest) = rest.split_at(first_option(rest));
     let Some((option, rest)) = rest.split_first() else {
         return Some(OptionsApart {
             positional: Words::around(front, rest),
-            fire: None,
-            calls: None,
+            first: None,
+            second: None,
         });
     };
-    if is_same(option, FIRE) {
-        let behind = from_value(CALLS, rest)?;
+    if is_same(option, one) {
+        let behind = from_value(two, rest)?;
         return Some(OptionsApart {
             positional: behind.words_from(front),
-            fire: Some(behind.value),
-            calls: behind.other,
+            first: Some(behind.value),
+            second: behind.other,
         });
     }
-    if !is_same(option, CALLS) {
+    if !is_same(option, two) {
         return None;
     }
-    let behind = from_value(FIRE, rest)?;
+    let behind = from_value(one, rest)?;
     Some(OptionsApart {
         positional: behind.words_from(front),
-        fire: behind.other,
-        calls: Some(behind.value),
+        first: behind.other,
+        second: Some(behind.value),
     })
 }
 
@@ -980,7 +1041,7 @@ fn is_explain(word: &str) -> bool
 pub struct Flags {
     /// That of the command's own: `--limits` of `check`, `--all` of `denials`, `--together` of `run`, `--summary` of `calls`.
     pub own: bool,
-    /// `--cut` of `replay`, `draw` and `calls`; that of `denials` and `watch` over a trace is one of the words.
+    /// `--cut` of `replay`, `draw`, `calls` and `scan`; that of `denials` and `watch` over a trace is one of the words.
     pub cut: bool,
     /// `--json` of `check`, `ranges`, `xref`, `calls` and `denials`. Beside `--summary` it stays one of the words.
     pub json: bool,
@@ -1085,7 +1146,7 @@ fn cut_of(command: &str) -> Option<&'static str>
     ensures { option_map (λ flag. flag.now) result ≡ cut_of command.now }
 {
     match command {
-        "replay" | "draw" | "calls" => Some(CUT),
+        "replay" | "draw" | "calls" | "scan" => Some(CUT),
         _ => None,
     }
 }
@@ -1214,6 +1275,22 @@ fn span_behind(word: &str) -> Option<&str>
     word.strip_prefix(ROUNDS_IS)
 }
 
+// The N of `--round=N`.
+fn number_behind(word: &str) -> Option<&str>
+    ensures some { IfSome result (λ number. word.now ≡ codes "--round=" ++ number.now) }
+    ensures none { IsNone result → (number : List ℕ) → word.now ≡ codes "--round=" ++ number → ⊥ }
+{
+    word.strip_prefix(ROUND_IS)
+}
+
+// The LINE of `--until=LINE`.
+fn line_behind(word: &str) -> Option<&str>
+    ensures some { IfSome result (λ line. word.now ≡ codes "--until=" ++ line.now) }
+    ensures none { IsNone result → (line : List ℕ) → word.now ≡ codes "--until=" ++ line → ⊥ }
+{
+    word.strip_prefix(UNTIL_IS)
+}
+
 // The option and the value that stand in one word.
 fn value_within(word: &str) -> Option<Valued<'_>>
     ensures { MatchOption result (cut_word word.now ≡ word.now ∷ [])
@@ -1237,10 +1314,30 @@ fn value_within(word: &str) -> Option<Valued<'_>>
             value: calls,
         });
     }
-    let span = span_behind(word)?;
+    if let Some(span) = span_behind(word) {
+        return Some(Valued {
+            option: ROUNDS,
+            value: span,
+        });
+    }
+    of_scan_within(word)
+}
+
+// The same of an option of `scan`.
+fn of_scan_within(word: &str) -> Option<Valued<'_>>
+    ensures { MatchOption result (cut_scan_word word.now ≡ word.now ∷ [])
+        (λ valued. cut_scan_word word.now ≡ valued.option.now ∷ valued.value.now ∷ []) }
+{
+    if let Some(number) = number_behind(word) {
+        return Some(Valued {
+            option: ROUND,
+            value: number,
+        });
+    }
+    let line = line_behind(word)?;
     Some(Valued {
-        option: ROUNDS,
-        value: span,
+        option: UNTIL,
+        value: line,
     })
 }
 
