@@ -1,5 +1,5 @@
 -- What a request gives of a text (own rules).
-use Rattle.std.specs.Prelude.{◌≡◌, ◌⊎◌, ℕ, List, length, Option, Some, None, Ok, Err}
+use Rattle.std.specs.Prelude.{◌≡◌, ◌⊎◌, ℕ, List, Option, Some, None, Ok, Err}
 use Rattle.il_spec.specs.declared.fault.Refusal.{Refusal}
 use Rattle.il_spec.specs.declared.tree.Config.{Config}
 use Rattle.il_reports.specs.RangeTexts.{AreRangesShown}
@@ -36,7 +36,7 @@ IsRefusedOutcome (request.Trace command traced) text why outcome = outcome ≡ E
 -- The text is refused with the fault that the verifier names, or the request is carried out over what it has verified; this is without `--json`.
 pub data IsPlainOutcome (request : Request) (text : List ℕ) (trace : Reading) (outcome : Outcome) : Type 0 where
   refused : (why : Refusal) → IsLoaded text (Err why) → IsRefusedOutcome request text why outcome → IsPlainOutcome request text trace outcome
-  accepted : (program : Program) → IsLoaded text (Ok program) → IsProgramOutcome request program (length text) trace outcome → HasWarnings (wanted_warnings request program) outcome → IsPlainOutcome request text trace outcome
+  accepted : (program : Program) → IsLoaded text (Ok program) → IsProgramOutcome request program text trace outcome → HasWarnings (wanted_warnings request program) outcome → IsPlainOutcome request text trace outcome
 
 -- an output in a form of lines: its text as JSON, with the same warnings
 pub record IsFormed (f : Form) (plain formed : Output) : Type 0 where

@@ -9,7 +9,7 @@ use Rattle.lift_host.specs.declared.files.ReadFault.{ReadFault}
 use Rattle.lift_host.specs.declared.serving.Serving.{Serving}
 use Rattle.lift_host.specs.declared.serving.Tracing.{Tracing}
 use Rattle.lift_host.specs.declared.status.Fault.{Fault}
-use Rattle.lift_host.specs.declared.status.Fault.TheVariants.{Misuse, RefusedText, Refused, BadPress, TooManyPresses, BadFire, BadSpan, BadName, CannotRead, CannotWrite, NoMemory}
+use Rattle.lift_host.specs.declared.status.Fault.TheVariants.{Misuse, RefusedText, Refused, BadPress, TooManyPresses, BadFire, BadSpan, BadScan, BadName, CannotRead, CannotWrite, NoMemory}
 use Rattle.lift_host.specs.declared.status.Status.{Status}
 use Rattle.lift_host.specs.declared.status.Status.TheVariants as with_status
 use Rattle.lift_host.specs.Messages.{fault_of, fault_of_reading, message_of, status_of}
@@ -97,6 +97,7 @@ IsRefusalBelow name text (BadPress word) below = below ≡ []
 IsRefusalBelow name text TooManyPresses below = below ≡ []
 IsRefusalBelow name text (BadFire word) below = below ≡ []
 IsRefusalBelow name text (BadSpan word) below = below ≡ []
+IsRefusalBelow name text (BadScan word) below = below ≡ []
 IsRefusalBelow name text (BadName word) below = below ≡ []
 IsRefusalBelow name text (CannotRead cause) below = below ≡ []
 IsRefusalBelow name text CannotWrite below = below ≡ []

@@ -1,6 +1,6 @@
 // What the commands of `liftplc` do with a text.
 
-ghost use Rattle.std.specs.Prelude.{◌≡◌, ◌≢◌, ℕ, Some, Ok, Err, true, false};
+ghost use Rattle.std.specs.Prelude.{◌≡◌, ◌≢◌, ℕ, List, Some, Ok, Err, true, false};
 ghost use Rattle.il_reasons.specs.Reasons.{IsReason};
 ghost use Rattle.lift_command.specs.Loaded.{IsLoaded};
 ghost use Rattle.lift_command.specs.Runs.{IsInForm, IsKnown, IsPlainOutcome, IsRefusedOutcome, IsTextOutcome};
@@ -82,7 +82,7 @@ fn plain_outcome(
     ensures unwritten { result ≢ Err Fault.CannotWrite }
 {
     match loaded(alloc, text) {
-        Ok(verified) => outcome(alloc, request, verified, text.len(), trace),
+        Ok(verified) => outcome(alloc, request, verified, text, trace),
         Err(refusal) => refused(alloc, request, text, refusal),
     }
 }
@@ -125,7 +125,7 @@ fn run_verified<R: Threads + Wait + Sync>(
     calls: &Reading,
 ) -> Result<Output, Fault>
     requires { runs request ≡ true }
-    ensures is { (bytes : ℕ) → IsProgramOutcome request.entry verified bytes calls.now result }
+    ensures is { (source : List ℕ) → IsProgramOutcome request.entry verified source calls.now result }
     ensures warned { HasWarnings (wanted_warnings request.entry verified) result }
     ensures unwritten { result ≢ Err Fault.CannotWrite }
 {

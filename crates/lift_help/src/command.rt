@@ -7,8 +7,8 @@ use clap::error::ErrorKind;
 use clap::{Arg, ArgAction, Command};
 use lift_explain::explanation;
 use lift_host::request::{
-    ALL, CALLS, CUT, FIRE, Following, JSON, LIMITS, MOST_ROUNDS, Name, ROUNDS, SUMMARY, Showing,
-    Simulating, TOGETHER, TRACE, WARN, Words, is_digits, is_option, number_to,
+    ALL, CALLS, CUT, FIRE, Following, JSON, LIMITS, MOST_ROUNDS, Name, ROUND, ROUNDS, SUMMARY,
+    Showing, Simulating, TOGETHER, TRACE, UNTIL, WARN, Words, is_digits, is_option, number_to,
 };
 use lift_host::serving::{SYNC, is_serve};
 use std::alloc::{AllocError, Global};
@@ -402,6 +402,41 @@ fn calls_command<'a>(alloc: Global) -> Result<Command<'a>, AllocError> {
     .with(json(alloc))
 }
 
+// The argument TASK.
+fn task<'a>(alloc: Global) -> Arg<'a> {
+    Arg::new(alloc, "TASK")
+        .required(true)
+        .help("A task: GROUP, or CAR1 and so on")
+}
+
+// The option `--round`.
+fn round<'a>(alloc: Global) -> Arg<'a> {
+    Arg::new(alloc, "round")
+        .long(long(ROUND))
+        .value_name("N")
+        .help("Shows the scan that is committed in round N")
+}
+
+// The option `--until`.
+fn until<'a>(alloc: Global) -> Arg<'a> {
+    Arg::new(alloc, "until")
+        .long(long(UNTIL))
+        .value_name("LINE")
+        .help("Shows nothing behind the first instruction of LINE")
+}
+
+// The command that shows a scan.
+fn scan_command<'a>(alloc: Global) -> Result<Command<'a>, AllocError> {
+    trace_command(
+        alloc,
+        Name::Trace(Following::Scan).word(),
+        "Replays a trace on FILE and prints the last scan of TASK that it commits, instruction by instruction",
+    )
+    .with(task(alloc))
+    .with(round(alloc))
+    .with(until(alloc))
+}
+
 // A command that takes FILE and TRACE.
 fn trace_command<'a>(
     alloc: Global,
@@ -515,6 +550,7 @@ fn add_trace_commands<'a>(
     add(commands, replay_command(alloc))?;
     add(commands, draw_command(alloc))?;
     add(commands, calls_command(alloc))?;
+    add(commands, scan_command(alloc))?;
     add_last_commands(alloc, commands)
 }
 

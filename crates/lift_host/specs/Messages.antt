@@ -15,7 +15,7 @@ use Rattle.lift_host.specs.declared.press.PressFault.TheVariants as press
 use Rattle.lift_host.specs.declared.status.Status.{Status}
 use Rattle.lift_host.specs.declared.status.Status.TheVariants as status
 use Rattle.lift_host.specs.declared.status.Fault.{Fault}
-use Rattle.lift_host.specs.declared.status.Fault.TheVariants.{Misuse, RefusedText, Refused, BadPress, TooManyPresses, BadFire, BadSpan, BadName, CannotRead, CannotWrite, NoMemory}
+use Rattle.lift_host.specs.declared.status.Fault.TheVariants.{Misuse, RefusedText, Refused, BadPress, TooManyPresses, BadFire, BadSpan, BadScan, BadName, CannotRead, CannotWrite, NoMemory}
 
 -- the exit status
 abbrev pub code_of : Status → ℕ
@@ -34,6 +34,7 @@ status_of (BadPress word) = status.Refused
 status_of TooManyPresses = status.Refused
 status_of (BadFire word) = status.Refused
 status_of (BadSpan word) = status.Refused
+status_of (BadScan word) = status.Refused
 status_of (BadName word) = status.Refused
 status_of (CannotRead cause) = status.CannotRead
 status_of CannotWrite = status.CannotWrite
@@ -52,6 +53,7 @@ message_of (BadPress word) = codes "bad press\n"
 message_of TooManyPresses = codes "bad press\n"
 message_of (BadFire word) = codes "bad fire\n"
 message_of (BadSpan word) = codes "bad rounds\n"
+message_of (BadScan word) = codes "bad scan\n"
 message_of (BadName word) = codes "bad name\n"
 message_of (CannotRead cause) = codes "cannot read\n"
 message_of CannotWrite = codes "cannot write\n"

@@ -45,6 +45,8 @@ pub enum Fault {
     BadFire(String),
     /// This word behind `--rounds` says no rounds.
     BadSpan(String),
+    /// This TASK, or this word behind `--round` or `--until`, is of no scan that the trace commits.
+    BadScan(String),
     /// This NAME of `watch` names nothing that has a value.
     BadName(String),
     CannotRead(Cause),
@@ -131,6 +133,7 @@ impl Fault {
             Fault::TooManyPresses => Status::Refused,
             Fault::BadFire(_) => Status::Refused,
             Fault::BadSpan(_) => Status::Refused,
+            Fault::BadScan(_) => Status::Refused,
             Fault::BadName(_) => Status::Refused,
             Fault::CannotRead(_) => Status::CannotRead,
             Fault::CannotWrite => Status::CannotWrite,
@@ -154,6 +157,7 @@ impl Fault {
             Fault::TooManyPresses => put_all(sink, b"bad press\n"),
             Fault::BadFire(_) => put_all(sink, b"bad fire\n"),
             Fault::BadSpan(_) => put_all(sink, b"bad rounds\n"),
+            Fault::BadScan(_) => put_all(sink, b"bad scan\n"),
             Fault::BadName(_) => put_all(sink, b"bad name\n"),
             Fault::CannotRead(_) => put_all(sink, b"cannot read\n"),
             Fault::CannotWrite => put_all(sink, b"cannot write\n"),

@@ -26,3 +26,4 @@ form_of (request.Trace following.Draw traced) = None
 form_of (request.Trace following.Calls traced) = asked_form traced.json form.Calls
 form_of (request.Trace following.Denials traced) = asked_form traced.json form.Denials
 form_of (request.Trace following.Watch traced) = None
+form_of (request.Trace following.Scan traced) = None

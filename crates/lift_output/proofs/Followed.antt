@@ -27,6 +27,7 @@ followed_is telling p text events (Err fault.NoMemory) reads is = tt
 followed_is telling p text events (Err (fault.Misuse words)) reads is = absurd is
 followed_is telling p text events (Err (fault.RefusedText number place)) reads is = absurd is
 followed_is telling p text events (Err (fault.BadPress word)) reads is = absurd is
+followed_is telling p text events (Err (fault.BadScan word)) reads is = absurd is
 followed_is telling p text events (Err fault.TooManyPresses) reads is = absurd is
 followed_is telling p text events (Err (fault.BadFire word)) reads is = absurd is
 followed_is telling p text events (Err (fault.CannotRead cause)) reads is = absurd is
@@ -37,6 +38,7 @@ pub valued_is : (names : Words) (p : Program) (events : List TraceEvent) (outcom
 valued_is names p events (Ok output) is = is
 valued_is names p events (Err (fault.Refused number line)) is = is
 valued_is names p events (Err (fault.BadSpan word)) is = absurd is
+valued_is names p events (Err (fault.BadScan word)) is = absurd is
 valued_is names p events (Err (fault.BadName word)) is = is
 valued_is names p events (Err fault.NoMemory) is = tt
 valued_is names p events (Err (fault.Misuse words)) is = absurd is

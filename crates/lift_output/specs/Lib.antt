@@ -5,3 +5,4 @@ pub mod Outcomes
 pub mod Parts
 pub mod Spans
 pub mod Tellings
+pub mod Scans

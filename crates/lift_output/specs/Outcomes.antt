@@ -1,5 +1,5 @@
 -- What a request gives of a verified configuration (own rules).
-use Rattle.std.specs.Prelude.{◌≡◌, ◌<◌, ◌⊎◌, ℕ, ◌+◌, ◌++◌, Bool, true, false, List, [], ◌∷◌, length, map, Option, Some, None, option_map, Ok, Err, IfOk, string_bytes}
+use Rattle.std.specs.Prelude.{◌≡◌, ◌<◌, ◌⊎◌, ℕ, ◌+◌, ◌++◌, Bool, true, false, List, [], ◌∷◌, length, map, Option, Some, None, option_map, Ok, Err, IfOk, IfErr, string_bytes}
 use Rattle.il_spec.specs.declared.tree.Config.{Config}
 use Rattle.il_reports.specs.RangeTexts.{AreRangesShown}
 use Rattle.il_machine.specs.Scanning.{Program}
@@ -12,6 +12,7 @@ use Rattle.lift_host.specs.declared.request.Request.{Request}
 use Rattle.lift_host.specs.declared.request.Rounds.{Rounds}
 use Rattle.lift_host.specs.declared.request.Request.TheVariants as request
 use Rattle.lift_host.specs.declared.request.Showing.{Showing}
+use Rattle.lift_host.specs.declared.request.Traced.{Traced}
 use Rattle.lift_host.specs.declared.request.Showing.TheVariants as showing
 use Rattle.lift_host.specs.declared.request.Simulating.{Simulating}
 use Rattle.lift_host.specs.declared.request.Simulating.TheVariants as simulating
@@ -30,6 +31,7 @@ use Rattle.lift_journeys.specs.Summaries.{IsSummaryOf}
 use Rattle.lift_output.specs.ImageText.{image_text}
 use Rattle.lift_output.specs.Limits.{limits_text}
 use Rattle.lift_output.specs.Listing.{listing}
+use Rattle.lift_output.specs.Scans.{IsScanOf, IsUnasked, IsUnaskedBy, HasNoScan}
 use Rattle.lift_output.specs.Spans.{IsNoSpan}
 use Rattle.lift_output.specs.Tellings.{telling_of}
 use Rattle.lift_output.specs.declared.telling.Telling.{Telling}
@@ -360,6 +362,21 @@ abbrev pub IsTraceOutcome : Telling → Program → Reading → Outcome → Type
 IsTraceOutcome telling program (Text text) outcome = IsFollowed telling program text.items outcome
 IsTraceOutcome telling program (Failed why) outcome = outcome ≡ Err (fault_of_reading why)
 
+-- SCANS
+
+-- `scan` shows a scan of the trace, or says what is wrong with it or with the words. Memory may be missing.
+abbrev pub IsScanned : Traced → Program → List ℕ → List ℕ → Outcome → Type 0
+IsScanned traced program source trace (Ok output) = IsScanOf traced program source trace (bytes_of output)
+IsScanned traced program source trace (Err (fault.Refused number line)) = IsTraceRefused program trace number line
+IsScanned traced program source trace (Err (fault.BadScan word)) = IsUnaskedBy traced (string_bytes word) ⊎ HasNoScan traced program trace (string_bytes word)
+IsScanned traced program source trace (Err fault.NoMemory) = Unit {0}
+IsScanned traced program source trace (Err _) = ⊥
+
+-- what was read of a trace has it, or reading failed; the words are read before
+abbrev pub IsScanOutcome : Traced → Program → List ℕ → Reading → Outcome → Type 0
+IsScanOutcome traced program source (Text text) outcome = IsScanned traced program source text.items outcome
+IsScanOutcome traced program source (Failed why) outcome = (outcome ≡ Err (fault_of_reading why)) ⊎ IfErr outcome (IsUnasked traced)
+
 -- REQUESTS
 
 -- what a simulation is asked for
@@ -369,10 +386,15 @@ IsRoundsOutcome simulating.Run program asked calls outcome = IsRunOutcome progra
 IsRoundsOutcome simulating.Denials program asked calls outcome = IsDenialsOutcome program asked calls outcome
 IsRoundsOutcome simulating.Watch program asked calls outcome = IsWatchOutcome program asked calls outcome
 
--- A verified program, whose text has so many bytes, gives what its command prints, with what was read of its other file: the trace, or the file behind
--- `--calls`. This is without `--json`.
-abbrev pub IsProgramOutcome : Request → Program → ℕ → Reading → Outcome → Type 0
-IsProgramOutcome (request.Check checked) program bytes other outcome = IsCheckOutcome checked.limits program bytes outcome
-IsProgramOutcome (request.Show command shown) program bytes other outcome = IsShowOutcome command program outcome
-IsProgramOutcome (request.Rounds command asked) program bytes other outcome = IsRoundsOutcome command program asked other outcome
-IsProgramOutcome (request.Trace command traced) program bytes other outcome = IsTraceOutcome (telling_of command traced) program other outcome
+-- what a command over a trace tells of the whole of it, or the scan that it shows of it
+abbrev pub IsToldOutcome : Option Telling → Traced → Program → List ℕ → Reading → Outcome → Type 0
+IsToldOutcome None traced program source trace outcome = IsScanOutcome traced program source trace outcome
+IsToldOutcome (Some telling) traced program source trace outcome = IsTraceOutcome telling program trace outcome
+
+-- A verified program of a text gives what its command prints, with what was read of its other file: the trace, or the file behind `--calls`. This is without
+-- `--json`.
+abbrev pub IsProgramOutcome : Request → Program → List ℕ → Reading → Outcome → Type 0
+IsProgramOutcome (request.Check checked) program source other outcome = IsCheckOutcome checked.limits program (length source) outcome
+IsProgramOutcome (request.Show command shown) program source other outcome = IsShowOutcome command program outcome
+IsProgramOutcome (request.Rounds command asked) program source other outcome = IsRoundsOutcome command program asked other outcome
+IsProgramOutcome (request.Trace command traced) program source other outcome = IsToldOutcome (telling_of command traced) traced program source other outcome

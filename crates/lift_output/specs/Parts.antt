@@ -1,5 +1,5 @@
 -- What parts of a request's outcome are; no public contract but these crate's own functions names them (own rules).
-use Rattle.std.specs.Prelude.{◌≡◌, ◌⊎◌, ℕ, ◌+◌, ◌++◌, List, Ok, Err, string_bytes}
+use Rattle.std.specs.Prelude.{◌≡◌, ◌⊎◌, ℕ, ◌+◌, ◌++◌, List, None, Ok, Err, string_bytes}
 use Rattle.il_machine.specs.Scanning.{Program}
 use Rattle.il_spec.specs.declared.tree.Config.{Config}
 use Rattle.lift_host.specs.declared.press.Press.{Press}
@@ -12,6 +12,11 @@ use Rattle.lift_host.specs.declared.status.Fault.{Fault}
 use Rattle.lift_host.specs.declared.status.Fault.TheVariants as fault
 use Rattle.lift_journal.specs.Rounds.{TakesAll, IsRefusedAt}
 use Rattle.lift_output.specs.Outcomes.{Says, IsBadSpan, IsBadName, IsTextOfValues}
+use Rattle.lift_host.specs.declared.request.Traced.{Traced}
+use Rattle.lift_scan.specs.declared.chosen.Asked.{Asked}
+use Rattle.lift_scan.specs.Chosen.{chosen}
+use Rattle.lift_scan.specs.Shown.{IsScanShown}
+use Rattle.lift_output.specs.Scans.{task_word}
 use Rattle.lift_output.specs.declared.telling.Telling.{Telling}
 use Rattle.lift_messages.specs.Outputs.{Outcome, bytes_of}
 use Rattle.lift_spec.specs.declared.event.EventFault.{EventFault}
@@ -60,6 +65,14 @@ AreFollowed telling program events (Err (fault.BadSpan word)) = IsBadSpan tellin
 AreFollowed telling program events (Err (fault.BadName word)) = IsBadName telling program (string_bytes word)
 AreFollowed telling program events (Err fault.NoMemory) = Unit {0}
 AreFollowed telling program events (Err _) = ⊥
+
+-- a scan of events is shown, from the opening
+abbrev pub AreScanned : Traced → Program → Asked → List ℕ → List TraceEvent → Outcome → Type 0
+AreScanned traced program asked source events (Ok output) = IsScanShown program.config (opening program.config) asked events source (bytes_of output)
+AreScanned traced program asked source events (Err (fault.Refused number line)) = (index : ℕ) × (why : EventFault) × IsRefusedAt program.config (opening program.config) events index why × (number ≡ event_fault_number why) × (line ≡ index + 2)
+AreScanned traced program asked source events (Err (fault.BadScan word)) = (chosen asked events ≡ None) × (string_bytes word ≡ task_word traced)
+AreScanned traced program asked source events (Err fault.NoMemory) = Unit {0}
+AreScanned traced program asked source events (Err _) = ⊥
 
 -- the values of names along events are told from the opening, or one of the names has no value
 abbrev pub AreValued : List (List ℕ) → Program → List TraceEvent → Outcome → Type 0

@@ -5,5 +5,6 @@ pub mod check;
 pub mod image;
 pub mod limits;
 pub mod outcome;
+pub mod scan;
 pub mod span;
 pub mod telling;

@@ -4,7 +4,8 @@ ghost use Rattle.std.specs.Prelude.{◌≡◌, ◌≢◌, ◌≤◌, ◌+◌, �
 ghost use Rattle.lift_spec.specs.Image.{sizes_of};
 ghost use Rattle.lift_spec.specs.World.{opening};
 ghost use Rattle.lift_trace.specs.Reading.{Reads, greatest_trace};
-ghost use Rattle.lift_output.specs.Outcomes.{IsCheckOutcome, check_shown, IsShowOutcome, HasWarnings, asked_warnings, wanted_warnings, IsFire, IsNoFire, calls_word, fire_settings, AreOfFile, AreOfReading, HasBadCalls, IsBadReading, AreDriven, IsUndriven, IsSimOutcome, IsRunOutcome, IsDenialsOutcome, IsWatchOutcome, IsRoundsOutcome, IsCallsText, IsFollowed, IsTraceOutcome, IsProgramOutcome};
+ghost use Rattle.lift_output.specs.Outcomes.{IsCheckOutcome, check_shown, IsShowOutcome, HasWarnings, asked_warnings, wanted_warnings, IsFire, IsNoFire, calls_word, fire_settings, AreOfFile, AreOfReading, HasBadCalls, IsBadReading, AreDriven, IsUndriven, IsSimOutcome, IsRunOutcome, IsDenialsOutcome, IsWatchOutcome, IsRoundsOutcome, IsCallsText, IsFollowed, IsTraceOutcome, IsToldOutcome, IsProgramOutcome};
+ghost use Rattle.lift_output.specs.Tellings.{telling_of};
 ghost use Rattle.lift_output.specs.Parts.{fault_of_trace, fault_of_calls, IsTraceUnread, IsBadText, AreFollowed, AreValued, IsWatched};
 ghost use Rattle.lift_runs.specs.Driven.{ArePressed, AreSettings, switches_in};
 ghost use Rattle.lift_host.specs.CallsFile.{AreCallsOf};
@@ -17,6 +18,7 @@ ghost use Rattle.lift_workers.specs.Ran.{IsRun};
 use crate::check::check_text;
 use crate::image::image_text;
 use crate::limits::put_limits;
+use crate::scan::scan_outcome;
 use crate::span::span_of;
 use crate::telling::Telling;
 use il_machine::Verified;
@@ -25,7 +27,9 @@ use lift_draw::{Stop, drawing};
 use lift_host::calls::{CallsFault, CallsFile, read_calls};
 use lift_host::files::Reading;
 use lift_host::press::{Press, Set, Setting, fire_round, presses};
-use lift_host::request::{Checked, Name, Named, Request, Rounds, Showing, Simulating, Words};
+use lift_host::request::{
+    Checked, Following, Name, Named, Request, Rounds, Showing, Simulating, Traced, Words,
+};
 use lift_host::status::Fault;
 use lift_journeys::lines::lines_text;
 use lift_journeys::log::Log;
@@ -52,27 +56,47 @@ use std::alloc::{AllocError, Global};
 use std::sync::Wait;
 use std::thread::Threads;
 
-/// What a request that isn't `run` prints over a verified configuration, whose text has so many bytes, with what was read of its trace or its
-/// file behind `--calls`, or why it prints nothing. `--json` changes nothing here.
+/// What a request that isn't `run` prints over the verified configuration of a text, with what was read of its trace or its file behind `--calls`,
+/// or why it prints nothing. `--json` changes nothing here.
 pub fn outcome(
     alloc: Global,
     request: Request<'_>,
     verified: Verified,
-    bytes: usize,
+    source: &[u8],
     other: &Reading,
 ) -> Result<Output, Fault>
     requires { command_of request ≢ Name.Rounds Simulating.Run }
-    ensures is { IsProgramOutcome request.entry verified bytes other.now result }
+    ensures is { IsProgramOutcome request.entry verified source.now other.now result }
     ensures warned { HasWarnings (wanted_warnings request.entry verified) result }
     ensures unwritten { result ≢ Err Fault.CannotWrite }
 {
     match request {
-        Request::Check(asked) => check_outcome(alloc, verified, asked, bytes),
+        Request::Check(asked) => check_outcome(alloc, verified, asked, source.len()),
         Request::Show(command, _) => shown(alloc, verified, command),
         Request::Rounds(command, asked) => rounds_outcome(alloc, verified, command, asked, other),
         Request::Trace(command, traced) => {
-            trace_outcome(alloc, verified, Telling::of(command, traced), other)
+            told_outcome(alloc, verified, command, traced, source, other)
         }
+    }
+}
+
+// What a command over a trace tells of the whole of it, or the scan that it shows of it.
+fn told_outcome(
+    alloc: Global,
+    verified: Verified,
+    command: Following,
+    traced: Traced<'_>,
+    source: &[u8],
+    trace: &Reading,
+) -> Result<Output, Fault>
+    ensures is { IsToldOutcome (telling_of command traced.entry) traced.entry verified source.now
+        trace.now result }
+    ensures unwritten { result ≢ Err Fault.CannotWrite }
+    ensures warned { HasWarnings None result }
+{
+    match Telling::of(command, traced) {
+        Some(telling) => trace_outcome(alloc, verified, telling, trace),
+        None => scan_outcome(alloc, verified, traced, source, trace),
     }
 }
 
@@ -491,7 +515,7 @@ fn fault_of(fault: TraceFault) -> Fault
 }
 
 // The events of a trace's text.
-fn events_of(alloc: Global, text: &[u8], cars: u8) -> Result<Vec<TraceEvent>, Fault>
+pub(crate) fn events_of(alloc: Global, text: &[u8], cars: u8) -> Result<Vec<TraceEvent>, Fault>
     ensures ok { IfOk result (λ events. Reads cars text.now (Ok events.items)) }
     ensures err { IfErr result (IsTraceUnread cars text.now) }
 {
@@ -646,7 +670,7 @@ fn calls_text(alloc: Global, log: &Log, summary: bool) -> Result<String, AllocEr
 }
 
 // The fault of an event that was refused. The first event of a trace stands in line 2.
-fn fault_of_event(refused: Refused) -> Fault
+pub(crate) fn fault_of_event(refused: Refused) -> Fault
     requires few { refused.index ≤ greatest_trace }
     ensures { result ≡ Fault.Refused (event_fault_number refused.fault) (refused.index + 2) }
 {

@@ -21,16 +21,17 @@ pub enum Telling<'w> {
 }
 
 impl<'w> Telling<'w> {
-    /// What a command tells, with what it takes.
-    pub fn of(command: Following, traced: Traced<'w>) -> Telling<'w>
+    /// What a command tells of a whole trace, with what it takes; `scan` shows a part of one.
+    pub fn of(command: Following, traced: Traced<'w>) -> Option<Telling<'w>>
         ensures { result ≡ telling_of command traced.entry }
     {
         match command {
-            Following::Replay => Telling::Image,
-            Following::Draw => Telling::Picture(traced.span),
-            Following::Calls => Telling::Calls(traced.flag),
-            Following::Denials => Telling::Denials(traced.flag),
-            Following::Watch => Telling::Values(traced.names),
+            Following::Replay => Some(Telling::Image),
+            Following::Draw => Some(Telling::Picture(traced.span)),
+            Following::Calls => Some(Telling::Calls(traced.flag)),
+            Following::Denials => Some(Telling::Denials(traced.flag)),
+            Following::Watch => Some(Telling::Values(traced.names)),
+            Following::Scan => None,
         }
     }
 }

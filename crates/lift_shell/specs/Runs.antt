@@ -106,6 +106,9 @@ press_sentence false = codes "no press: ROUND:FROM:TO or ROUND:FROM:TO:PANEL, a 
 abbrev pub fire_sentence : List ℕ
 fire_sentence = codes "no round of the run"
 
+abbrev pub scan_sentence : List ℕ
+scan_sentence = codes "the trace commits no such scan"
+
 abbrev pub span_sentence : List ℕ
 span_sentence = codes "no rounds: A:B, A: or :B, a first and a last round from 1 to 65535"
 
@@ -125,6 +128,7 @@ IsFaultBelow reasons request text trace (fault.BadPress word) below = (late : Bo
 IsFaultBelow reasons request text trace fault.TooManyPresses below = below ≡ plain_notice too_many_sentence
 IsFaultBelow reasons request text trace (fault.BadFire word) below = below ≡ word_notice (string_bytes word) fire_sentence
 IsFaultBelow reasons request text trace (fault.BadSpan word) below = below ≡ word_notice (string_bytes word) span_sentence
+IsFaultBelow reasons request text trace (fault.BadScan word) below = below ≡ word_notice (string_bytes word) scan_sentence
 IsFaultBelow reasons request text trace (fault.BadName word) below = below ≡ word_notice (string_bytes word) name_sentence
 IsFaultBelow reasons request text trace (fault.CannotRead cause) below = below ≡ file_notice (other_name request) (cause_sentence cause)
 IsFaultBelow reasons request text trace fault.CannotWrite below = below ≡ []

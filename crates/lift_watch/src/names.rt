@@ -248,8 +248,8 @@ fn in_task(name: &str) -> Option<InTask<'_>>
     Some(InTask { task, rest })
 }
 
-// The task of a name.
-fn task_of(word: &str) -> Option<u8>
+/// The task of a name: 0 is GROUP, k is CARk.
+pub fn task_of(word: &str) -> Option<u8>
     ensures some { IfSome result (λ task. (task ≤ MOST_CARS) × (word.now ≡ task_name task)) }
     ensures none { IsNone result → (task : ℕ) → task ≤ MOST_CARS → word.now ≡ task_name task → ⊥ }
 {

@@ -1,0 +1,167 @@
+// What `scan` prints.
+
+ghost use Rattle.std.specs.Prelude.{◌≡◌, ◌≢◌, ◌≤◌, ℕ, Some, None, Err, IfOk, IfErr, length, option_map};
+ghost use Rattle.lift_host.specs.Requests.{words_of};
+ghost use Rattle.lift_spec.specs.Image.{sizes_of};
+ghost use Rattle.lift_trace.specs.Reading.{greatest_trace};
+ghost use Rattle.lift_output.specs.Outcomes.{HasWarnings, IsScanned, IsScanOutcome};
+ghost use Rattle.lift_output.specs.Parts.{AreScanned};
+ghost use Rattle.lift_output.specs.Scans.{first_word, task_word, IsTaskWord, IsNumberWord, IsNoNumber, IsAsked, IsUnasked, IsBadNumber};
+
+use crate::outcome::{events_of, fault_of_event};
+use il_machine::Verified;
+use lift_host::files::Reading;
+use lift_host::request::{Traced, Words, number_to};
+use lift_host::status::Fault;
+use lift_messages::output::Output;
+use lift_scan::{Asked, ScanStop, scan_text};
+use lift_spec::trace::TraceEvent;
+use lift_watch::names::task_of;
+use lift_world::World;
+use std::alloc::{AllocError, Global};
+
+// The greatest round and the greatest line that a word says.
+const MOST: u16 = 65_535;
+
+/// What `scan` prints over the verified configuration of a text, with what was read of its trace, or why it prints nothing.
+pub fn scan_outcome(
+    alloc: Global,
+    verified: Verified,
+    traced: Traced<'_>,
+    source: &[u8],
+    trace: &Reading,
+) -> Result<Output, Fault>
+    ensures is { IsScanOutcome traced.entry verified source.now trace.now result }
+    ensures unwritten { result ≢ Err Fault.CannotWrite }
+    ensures warned { HasWarnings None result }
+{
+    let asked = asked_of(alloc, traced);
+    match asked {
+        Ok(asked) => read_outcome(alloc, verified, traced, asked, source, trace),
+        Err(fault) => {
+            verified.release();
+            Err(fault)
+        }
+    }
+}
+
+// The scan that the words ask for.
+fn asked_of(alloc: Global, traced: Traced<'_>) -> Result<Asked, Fault>
+    ensures ok { IfOk result (IsAsked traced.entry) }
+    ensures err { IfErr result (IsUnasked traced.entry) }
+{
+    let word = first_word(traced.names);
+    let Some(task) = task_named(alloc, word)? else {
+        return Err(Fault::BadScan(String::from_str(alloc, word)?));
+    };
+    Ok(Asked {
+        task,
+        round: number_of(alloc, traced.round)?,
+        until: number_of(alloc, traced.until)?,
+    })
+}
+
+// The first of the words.
+fn first_word<'w>(words: Words<'w>) -> &'w str
+    ensures { result.now ≡ first_word (words_of words.entry) }
+{
+    match words.split_first() {
+        Some((word, _)) => word,
+        None => "",
+    }
+}
+
+// The task that a word names, in any letter case.
+fn task_named(alloc: Global, word: &str) -> Result<Option<u8>, AllocError>
+    ensures some { IfOk result (λ o. (task : ℕ) → o ≡ Some task → IsTaskWord word.now task) }
+    ensures none { IfOk result (λ o. o ≡ None → (task : ℕ) → IsTaskWord word.now task → ⊥) }
+{
+    let word = word.to_ascii_uppercase(alloc)?;
+    Ok(task_of(word.as_str()))
+}
+
+// The number of a word, if there is one.
+fn number_of(alloc: Global, word: Option<&str>) -> Result<Option<u32>, Fault>
+    ensures ok { IfOk result (IsNumberWord (option_map (λ w. w.now) word.entry)) }
+    ensures err { IfErr result (IsBadNumber (option_map (λ w. w.now) word.entry)) }
+{
+    match word {
+        None => Ok(None),
+        Some(word) => match number_to(MOST, word) {
+            Some(number) => Ok(Some(u32::from(number))),
+            None => Err(Fault::BadScan(String::from_str(alloc, word)?)),
+        },
+    }
+}
+
+// What was read of a trace has it, or reading failed.
+fn read_outcome(
+    alloc: Global,
+    verified: Verified,
+    traced: Traced<'_>,
+    asked: Asked,
+    source: &[u8],
+    trace: &Reading,
+) -> Result<Output, Fault>
+    requires { IsAsked traced asked }
+    ensures is { IsScanOutcome traced.entry verified source.now trace.now result }
+    ensures unwritten { result ≢ Err Fault.CannotWrite }
+    ensures warned { HasWarnings None result }
+{
+    match trace {
+        Reading::Text(text) => scanned_text(alloc, verified, traced, asked, source, text),
+        Reading::Failed(why) => {
+            verified.release();
+            Err((*why).into())
+        }
+    }
+}
+
+// The scan of a trace's text.
+fn scanned_text(
+    alloc: Global,
+    verified: Verified,
+    traced: Traced<'_>,
+    asked: Asked,
+    source: &[u8],
+    text: &[u8],
+) -> Result<Output, Fault>
+    requires { IsAsked traced asked }
+    ensures is { IsScanned traced.entry verified source.now text.now result }
+    ensures warned { HasWarnings None result }
+{
+    match events_of(alloc, text, verified.sizes().cars) {
+        Ok(events) => scanned_events(alloc, verified, traced, asked, source, &events),
+        Err(fault) => {
+            verified.release();
+            Err(fault)
+        }
+    }
+}
+
+// The scan of a trace's events.
+fn scanned_events(
+    alloc: Global,
+    verified: Verified,
+    traced: Traced<'_>,
+    asked: Asked,
+    source: &[u8],
+    events: &[TraceEvent],
+) -> Result<Output, Fault>
+    requires few { length events.now ≤ greatest_trace }
+    ensures is { AreScanned traced.entry verified asked source.now events.now result }
+    ensures warned { HasWarnings None result }
+{
+    let mut world = World::new(alloc, verified)?;
+    let shown = scan_text(alloc, &mut world, events, asked, source);
+    world.release();
+    match shown {
+        Ok(text) => Ok(Output::Text(text)),
+        Err(ScanStop::Refused(refused)) => Err(fault_of_event(refused)),
+        Err(ScanStop::NoScan) => {
+            let word = first_word(traced.names);
+            Err(Fault::BadScan(String::from_str(alloc, word)?))
+        }
+        Err(ScanStop::Memory) => Err(Fault::NoMemory),
+    }
+}
