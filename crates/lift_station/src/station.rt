@@ -337,10 +337,7 @@ impl<G: Naming> Station<G> {
                 },
                 Ok(()),
             ),
-            Err((fault, scanned)) => (
-                TaskPass { share, store },
-                Err((fault, Ours::of(scanned))),
-            ),
+            Err((fault, scanned)) => (TaskPass { share, store }, Err((fault, Ours::of(scanned)))),
         }
     }
 
@@ -373,10 +370,7 @@ impl<G: Naming> Station<G> {
             .turn(self.program.program(), &mut share, scanned, report);
         match answer {
             Ok((store, next)) => (TaskPass { share, store }, Ok(next)),
-            Err((fault, scanned)) => (
-                TaskPass { share, store },
-                Err((fault, Ours::of(scanned))),
-            ),
+            Err((fault, scanned)) => (TaskPass { share, store }, Err((fault, Ours::of(scanned)))),
         }
     }
 

@@ -10,9 +10,12 @@ pub returns-in-Ok-start-clause-done : goal.returns-in-Ok-start-clause-done
 returns-in-Ok-start-clause-done g c =
     let a = c.audit.ensures in
     let did = c.in-Ok.ensures.done in
-    let number : task_of c.audit.new.share ≡ task_of c.args.share.now = ap (λ s. task_of s) a.same.1 in
-    (c.commit.new.self, added_there entry.Commit c.audit.new.self c.args.self.now a.same.0 (task_of c.audit.new.share) (task_of c.args.share.now) number did.0,
-     added_there entry.Start c.commit.new.self c.commit.new.self refl (task_of c.commit.new.share) (task_of c.args.share.now) (did.1.0 ∙ number) c.in-Ok-start.ensures.done.0, tt)
+    let number : task_of c.audit.new.share ≡ task_of c.args.share.now = ap (λ s. task_of s) a.same.1 in (
+      c.commit.new.self,
+      added_there entry.Commit c.audit.new.self c.args.self.now a.same.0 (task_of c.audit.new.share) (task_of c.args.share.now) number did.0,
+      added_there entry.Start c.commit.new.self c.commit.new.self refl (task_of c.commit.new.share) (task_of c.args.share.now) (did.1.0 ∙ number) c.in-Ok-start.ensures.done.0,
+      tt,
+    )
 
 pub returns-in-Ok-start-clause-turned : goal.returns-in-Ok-start-clause-turned
 returns-in-Ok-start-clause-turned g c =
