@@ -1,6 +1,6 @@
 -- What is shown under the lock is what a run shows.
 use Rattle.std.proofs.Common.{◌≡◌, ◌≢◌, ℕ, ◌%◌, ◌≤◌, Bool, true, false, List, Option, Some, None, refl, sym, ap, ◌∙◌, subst, arith}
-use Rattle.std.specs.Prelude.{is_some, if◌then◌else◌, IfSome, ◌==◌, length}
+use Rattle.std.specs.Prelude.{is_some, if◌then◌else◌, IfSome, IfOk, Result, ◌==◌, length}
 use Rattle.il_spec.specs.declared.tree.Config.{Config}
 use Rattle.il_run.specs.State.{State}
 use Rattle.il_machine.specs.Scanning.{Program, IsRunnable}
@@ -11,21 +11,26 @@ use Rattle.lift_spec.specs.declared.image.Image.{Image}
 use Rattle.lift_spec.specs.declared.calls.Call.{Call}
 use Rattle.lift_spec.specs.declared.report.Report.{Report}
 use Rattle.lift_spec.specs.Calls.{told_car}
-use Rattle.lift_spec.specs.Replies.{Committed, Refreshed}
+use Rattle.lift_spec.specs.Replies.{Reply, Committed, Refreshed}
 use Rattle.lift_spec.specs.World.{scan_at}
 use Rattle.lift_run_laws.specs.Accepted.{IsSound}
 use Rattle.lift_journal.specs.declared.fault.StationFault.{StationFault}
 use Rattle.lift_journal.specs.declared.fault.StationFault.TheVariants.{AlreadyOpen, JournalFull}
+use Rattle.lift_spec.specs.declared.journal.Entry.{Entry}
 use Rattle.lift_spec.specs.declared.journal.Entry.TheVariants as entry
 use Rattle.lift_spec.specs.Limits.{most_cars}
 use Rattle.lift_journal.specs.Journal.{entries_by, calls_entered, refresher, calls_entering, IsJournalOf}
 use Rattle.lift_journal.specs.Pages.{Page, Kept, Adds, IsSnapped, IsShown, IsTold}
 use Rattle.lift_journal.proofs.Journals.{entries_alternate}
-use Rattle.lift_book.specs.Ledgers.{SnappedNow, IsOpenHere, start_fault, full_fault}
-use Rattle.lift_station.specs.Counted.{IsNoneOrFull, calls_in, IsCommitted, IsRefreshed}
+use Rattle.lift_book.specs.Ledgers.{SnappedNow, IsOpenHere, start_fault, full_fault, fault_in}
+use Rattle.lift_station.specs.Counted.{IsNoneOrFull, calls_in, IsCommitted, IsTurned, IsRefreshed}
 
 pub snapped_so : (c : Config) (b : Page) → b.config ≡ c → Kept b → (t count : ℕ) → entries_by t b.journal ≡ count → (scan : State) → SnappedNow b t scan → IsSnapped c t count scan
 snapped_so c b is kept t count counted scan now = subst (λ (d : Config). IsSnapped d t count scan) is (b.journal, b.world, now.0, kept.run, counted, now.1, now.2)
+
+-- an entry of a task that was added to a page, by what the page and the task are
+pub added_there : {answer : Reply} {after : Page} (e : ℕ → Entry) (inside before : Page) → inside ≡ before → (n t : ℕ) → n ≡ t → Adds inside (e n) answer after → Adds before (e t) answer after
+added_there {answer} {after} e inside before same n t number adds = subst (λ (m : ℕ). Adds before (e m) answer after) number (subst (λ (l : Page). Adds l (e n) answer after) same adds)
 
 -- whether a scan of a task is open, by its number of entries
 module _ (c : Config) (sound : IsSound c) (b : Page) (is : b.config ≡ c) (kept : Kept b) (t : ℕ) (task : t ≢ refresher) (count : ℕ) (counted : entries_by t b.journal ≡ count) where
@@ -78,6 +83,10 @@ module _ (P v : Program) (lent : v ≡ P) (inside before : Page) (same : inside 
       let own : IsOf P.config t o × SnappedNow before t o.state = subst (λ m. IsOf P.config m o × SnappedNow before m o.state) number second in
       (own.0, snapped_so P.config before config kept t count (sym counted) o.state own.1)
 
+  -- a start begins with what is there
+  pub snapped_there : (o : Standing) → IsOf v.config n o × SnappedNow inside n o.state → SnappedNow before t o.state
+  snapped_there o facts = subst (λ m. SnappedNow before m o.state) number (subst (λ (l : Page). SnappedNow l n o.state) same facts.1)
+
   -- what is open there
   pub open_there : (f : Finished) → IsOpenHere inside n f → IsOpenHere before t f
   open_there f here = subst (λ m. IsOpenHere before m f) number (subst (λ (l : Page). IsOpenHere l n f) same here)
@@ -97,10 +106,19 @@ module _ (P v : Program) (lent : v ≡ P) (inside before : Page) (same : inside 
 
   pub committed_under : (f : Finished) (report : Report) (after : Page) → IsOpenHere inside n f → Adds inside (entry.Commit n) (Committed report) after → IsCommitted P.config t count f report
   committed_under f report after there adds =
-      let own : Adds before (entry.Commit t) (Committed report) after =
-      subst (λ m. Adds before (entry.Commit m) (Committed report) after) number (subst (λ (l : Page). Adds l (entry.Commit n) (Committed report) after) same adds)
-      in
-      record { before = before; config = config; kept = kept; counted = sym counted; is_open = open_there f there; after = after; adds = own }
+      record { before = before; config = config; kept = kept; counted = sym counted; is_open = open_there f there; after = after; adds = added_there entry.Commit inside before same n t number adds }
+
+  -- a commit, and right behind it a start
+  pub turned_under : (f : Finished) (report : Report) (after : Page) → IsOpenHere inside n f → Adds inside (entry.Commit n) (Committed report) after → (m : ℕ) → m ≡ n → (next : Result Standing StationFault) → fault_in next ≡ start_fault after m
+      → IfOk next (λ (o : Standing). IsOf P.config m o × SnappedNow after m o.state) → IsTurned P.config t count f report next
+  unfolding committed_under
+  turned_under f report after there adds m again next fault begins =
+      let own : m ≡ t = again ∙ number in
+      record {
+        committed = committed_under f report after there adds;
+        fault = fault ∙ ap (start_fault after) own;
+        begins = subst (λ k. IfOk next (λ (o : Standing). IsOf P.config k o × SnappedNow after k o.state)) own begins;
+      }
 
   module _ (runs : IsRunnable v.config) (few : n ≤ most_cars) where
     sound : IsSound P.config

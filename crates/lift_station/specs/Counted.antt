@@ -1,7 +1,7 @@
 -- What is counted, and what an answer shows (own rules).
-use Rattle.std.specs.Prelude.{◌≡◌, ℕ, ◌<◌, ◌≤◌, List, length, map, slice_index_or, Option, Some, None}
+use Rattle.std.specs.Prelude.{◌≡◌, ℕ, ◌<◌, ◌≤◌, List, length, map, slice_index_or, Option, Some, None, Result, IfOk}
 use Rattle.il_spec.specs.declared.tree.Config.{Config}
-use Rattle.il_machine.specs.Standing.{Finished}
+use Rattle.il_machine.specs.Standing.{Standing, Finished, IsOf}
 use Rattle.lift_spec.specs.declared.image.Fields.{Fields}
 use Rattle.lift_spec.specs.declared.report.Report.{Report}
 use Rattle.lift_spec.specs.declared.report.EnteredCall.{EnteredCall}
@@ -18,7 +18,7 @@ use Rattle.lift_plant.specs.Switches.{under}
 use Rattle.lift_journal.specs.Driven.{IsDrivenJournal}
 use Rattle.lift_journal.specs.Journal.{entries_by, calls_entered, refresher, calls_entering}
 use Rattle.lift_journal.specs.Pages.{Page, Kept, Adds}
-use Rattle.lift_book.specs.Ledgers.{IsOpenHere}
+use Rattle.lift_book.specs.Ledgers.{IsOpenHere, SnappedNow, start_fault, fault_in}
 
 -- the totals are the numbers of entries of the actors; one more counts the refreshes by the plant
 pub record Counted (totals : List ℕ) (journal : List Entry) : Type 0 where
@@ -49,6 +49,13 @@ pub record IsCommitted (c : Config) (t count : ℕ) (scan : Finished) (report : 
   pub is_open : IsOpenHere before t scan
   pub after : Page
   pub adds : Adds before (entry.Commit t) (Committed report) after
+
+-- The report is that of a commit of this very scan, at the end of a run that holds so many entries of the task. Right behind it comes a start of
+-- the task: it has the fault that it has there, and its scan begins with what the commit left.
+pub record IsTurned (c : Config) (t count : ℕ) (scan : Finished) (report : Report) (next : Result Standing StationFault) : Type 0 where
+  pub committed : IsCommitted c t count scan report
+  pub fault : fault_in next ≡ start_fault committed.after t
+  pub begins : IfOk next (λ (o : Standing). IsOf c t o × SnappedNow committed.after t o.state)
 
 -- The report is that of a refresh with these fields and this hand, at the end of a run that holds so many refreshes, which entered these
 -- calls; it enters the calls that it names, which are just the first of the hand while a slot is free there.

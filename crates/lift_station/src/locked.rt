@@ -10,12 +10,12 @@ ghost use Rattle.lift_spec.specs.World.{InRanges, opening};
 ghost use Rattle.lift_spec.specs.Replies.{Started, Committed, Refreshed};
 ghost use Rattle.lift_journal.specs.Journal.{AllCalls, calls_entered, calls_entering, entries_by, refresher};
 ghost use Rattle.lift_journal.specs.Driven.{IsDrivenJournal, first_plant};
-ghost use Rattle.lift_journal.specs.Pages.{Adds, Kept, IsSnapped, IsShown, IsTold};
+ghost use Rattle.lift_journal.specs.Pages.{Page, Adds, Kept, IsSnapped, IsShown, IsTold};
 ghost use Rattle.lift_spec.specs.declared.journal.Entry.TheVariants as entry;
 ghost use Rattle.lift_journal.specs.declared.fault.StationFault.TheVariants.{FieldOutOfRange, NotOpen, AlreadyOpen};
-ghost use Rattle.lift_book.specs.Ledgers.{fault_of, fault_in, full_fault, start_fault, refresh_fault, IsOpenHere};
-ghost use Rattle.lift_station.specs.Passes.{task_of, count_of, CountsOne};
-ghost use Rattle.lift_station.specs.Counted.{IsNoneOrFull, calls_in, IsCommitted, IsRefreshed, IsDrivenOn};
+ghost use Rattle.lift_book.specs.Ledgers.{fault_of, fault_in, full_fault, start_fault, refresh_fault, IsOpenHere, SnappedNow};
+ghost use Rattle.lift_station.specs.Passes.{task_of, count_of, CountsOne, KeepsStore};
+ghost use Rattle.lift_station.specs.Counted.{IsNoneOrFull, calls_in, IsCommitted, IsTurned, IsRefreshed, IsDrivenOn};
 
 use crate::actor::{Counts, Naming, RefreshPass, TaskShare};
 use crate::passes::TaskPass;
@@ -107,6 +107,7 @@ impl<G: Naming> Locked<G> {
             × CountsOne share.old share.new) }
         ensures begins { IfOk result (λ o. IsOf G.program.config (task_of share.old) o
             × IsSnapped G.program.config (task_of share.old) (count_of share.old) o.state) }
+        ensures now { IfOk result (λ o. SnappedNow self.old (task_of share.old) o.state) }
         ensures refused { IfErr result
             (λ r. (self.new ≡ self.old) × (share.new ≡ share.old) × (r.1 ≡ store)) }
     {
@@ -136,6 +137,7 @@ impl<G: Naming> Locked<G> {
             → fault_of result ≡ full_fault self.old }
         ensures other { ¬ (IsOpenHere self.old (task_of share.old) scanned.entry)
             → fault_of result ≡ Some NotOpen }
+        ensures mine { OnOk result (IsOpenHere self.old (task_of share.old) scanned.entry) }
         ensures even { count_of share.old % 2 ≡ 0 → fault_of result ≡ Some NotOpen }
         ensures done { OnOk result
             (Adds self.old (entry.Commit (task_of share.old)) (Committed report.new) self.new
@@ -160,6 +162,50 @@ impl<G: Naming> Locked<G> {
                 Ok(store)
             }
             Err(refused) => Err(refused),
+        }
+    }
+
+    /// A commit, and right behind it a start of the task's next scan. The store comes back where there was no start.
+    pub fn turn<'v>(
+        &mut self,
+        verified: &Verified,
+        share: &mut TaskShare<G>,
+        scanned: Scanned<'v>,
+        report: &mut Report,
+    ) -> Result<(Option<Store>, Result<OpenScan, StationFault>), (StationFault, Scanned<'v>)>
+        requires program { verified.now ≡ G.program }
+        requires own { scanned.config ≡ G.program.config }
+        requires there { HasTask G.program.config (task_of share.old) }
+        ensures open { IsOpenHere self.old (task_of share.old) scanned.entry
+            → fault_of result ≡ full_fault self.old }
+        ensures other { ¬ (IsOpenHere self.old (task_of share.old) scanned.entry)
+            → fault_of result ≡ Some NotOpen }
+        ensures even { count_of share.old % 2 ≡ 0 → fault_of result ≡ Some NotOpen }
+        ensures done { IfOk result (λ r. (between : Page)
+            × Adds self.old (entry.Commit (task_of share.old)) (Committed report.new) between
+            × OnOk r.1 (Adds between (entry.Start (task_of share.old)) Started self.new)
+            × OnErr r.1 (self.new ≡ between)) }
+        ensures turned { IfOk result (λ r. IsTurned G.program.config (task_of share.old)
+            (count_of share.old) scanned.entry report.new r.1) }
+        ensures next { IfOk result (λ r. IsNoneOrFull (fault_in r.1)) }
+        ensures begins { IfOk result (λ r. IfOk r.1 (λ o.
+            IsSnapped G.program.config (task_of share.old) (count_of share.old + 1) o.state)) }
+        ensures counts { IfOk result (λ r. (task_of share.new ≡ task_of share.old)
+            × OnOk r.1 (count_of share.new ≡ count_of share.old + 2)
+            × OnErr r.1 (count_of share.new ≡ count_of share.old + 1)) }
+        ensures store { IfOk result (λ r. KeepsStore G.program.config (task_of share.old)
+            (count_of share.new) r.0) }
+        ensures refused { IfErr result (λ r. (self.new ≡ self.old) × (share.new ≡ share.old)
+            × (report.new ≡ report.old) × (r.1 ≡ scanned.entry)) }
+    {
+        self.audit(share);
+        let store = match self.commit(verified, share, scanned, report) {
+            Ok(store) => store,
+            Err(refused) => return Err(refused),
+        };
+        match self.start(verified, share, store) {
+            Ok(open) => Ok((None, Ok(open))),
+            Err((fault, store)) => Ok((Some(store), Err(fault))),
         }
     }
 

@@ -14,12 +14,13 @@ ghost use Rattle.lift_book.specs.Ledgers.{fault_of, fault_in};
 ghost use Rattle.lift_desk.specs.Account.{times, membership};
 ghost use Rattle.lift_spec.specs.declared.calls.Call.{Call};
 ghost use Rattle.lift_station.specs.Passes.{task_of, count_of, counts_one, is_task, all_tasks};
-ghost use Rattle.lift_station.specs.Counted.{IsNoneOrFull, calls_in, IsCommitted, IsRefreshed, IsDrivenOn};
+ghost use Rattle.lift_station.specs.Counted.{IsNoneOrFull, calls_in, IsCommitted, IsTurned, IsRefreshed, IsDrivenOn};
 
 use crate::actor::{Blanks, Books, Naming, RefreshPass, TaskShare};
 use crate::locked::Locked;
+use crate::ours::Ours;
 use crate::passes::TaskPass;
-use il_machine::{OpenScan, Scanned, Store, Verified};
+use il_machine::{OpenScan, Scanned, Store, Verified, scan};
 use il_spec::fault::Refusal;
 use lift_book::Book;
 use lift_desk::HandPass;
@@ -187,6 +188,9 @@ pub struct Closed {
     pub book: Book,
 }
 
+/// What a turn answers: the next scan, or why it didn't begin; or why the scan was not committed, and the scan.
+pub type Turned<'v, G> = Result<Result<OpenScan, StationFault>, (StationFault, Ours<'v, G>)>;
+
 impl<G: Naming> Station<G> {
     /// A station of a program, with room for so many entries in its journal: the passes of its tasks, and the refresher's.
     pub fn new(
@@ -268,6 +272,16 @@ impl<G: Naming> Station<G> {
         }
     }
 
+    /// Runs a scan of the program from its start to its end (IEC 61131-3:2003, 3.2). It waits for no lock.
+    pub fn scan(&self, begun: OpenScan) -> Ours<'_, G>
+        requires { begun.config ≡ G.program.config }
+        ensures program { result.config ≡ begun.config }
+        ensures task { result.task ≡ begun.task }
+        ensures first { result.first ≡ begun.state }
+    {
+        Ours::of(scan(self.program.program(), begun))
+    }
+
     /// Commit: the pass's scan, which was run, hands over what it left. The scan's program is compared first; then it waits for the lock.
     pub fn commit<'v>(
         &self,
@@ -283,10 +297,33 @@ impl<G: Naming> Station<G> {
         ensures refused { IfErr result.1
             (λ r. (result.0 ≡ pass) × (report.new ≡ report.old) × (r.1 ≡ scanned.entry)) }
     {
-        pass.task();
         if !scanned.is_of(self.program.program()) {
             return (pass, Err((StationFault::NotOpen, scanned)));
         }
+        let (pass, answer) = self.commit_ours(rt, pass, Ours::of(scanned), report);
+        match answer {
+            Ok(()) => (pass, Ok(())),
+            Err((fault, ours)) => (pass, Err((fault, ours.into_scanned()))),
+        }
+    }
+
+    /// Commit of a scan of the station's own program, which is not compared again. It waits for the lock.
+    pub fn commit_ours<'v>(
+        &self,
+        rt: &impl Wait,
+        pass: TaskPass<G>,
+        ours: Ours<'v, G>,
+        report: &mut Report,
+    ) -> (TaskPass<G>, Result<(), (StationFault, Ours<'v, G>)>)
+        ensures even { pass.count % 2 ≡ 0 → fault_of result.1 ≡ Some NotOpen }
+        ensures done { OnOk result.1 (result.0 ≡ counts_one pass) }
+        ensures report { OnOk result.1
+            (IsCommitted G.program.config pass.task pass.count ours.entry report.new) }
+        ensures refused { IfErr result.1
+            (λ r. (result.0 ≡ pass) × (report.new ≡ report.old) × (r.1 ≡ ours.entry)) }
+    {
+        pass.task();
+        let scanned = ours.into_scanned();
         let (mut share, store) = pass.into_parts();
         let answer = self
             .book
@@ -300,7 +337,40 @@ impl<G: Naming> Station<G> {
                 },
                 Ok(()),
             ),
-            Err(refused) => (TaskPass { share, store }, Err(refused)),
+            Err((fault, scanned)) => (TaskPass { share, store }, Err((fault, Ours::of(scanned)))),
+        }
+    }
+
+    /// Turn: a commit of a scan of the station's own program, and right behind it a start of the task's next scan, under one lock. Where the
+    /// commit is refused there is no start; where the start is refused, the scan is committed. It waits for the lock.
+    pub fn turn<'v>(
+        &self,
+        rt: &impl Wait,
+        pass: TaskPass<G>,
+        ours: Ours<'v, G>,
+        report: &mut Report,
+    ) -> (TaskPass<G>, Turned<'v, G>)
+        ensures even { pass.count % 2 ≡ 0 → fault_of result.1 ≡ Some NotOpen }
+        ensures next { IfOk result.1 (λ next. IsNoneOrFull (fault_in next)) }
+        ensures done { IfOk result.1 (λ next. OnOk next (result.0 ≡ counts_one (counts_one pass))
+            × OnErr next (result.0 ≡ counts_one pass)) }
+        ensures turned { IfOk result.1 (λ next.
+            IsTurned G.program.config pass.task pass.count ours.entry report.new next) }
+        ensures begins { IfOk result.1 (λ next. IfOk next (λ o.
+            IsSnapped G.program.config pass.task (pass.count + 1) o.state)) }
+        ensures refused { IfErr result.1
+            (λ r. (result.0 ≡ pass) × (report.new ≡ report.old) × (r.1 ≡ ours.entry)) }
+    {
+        pass.task();
+        let scanned = ours.into_scanned();
+        let (mut share, store) = pass.into_parts();
+        let answer = self
+            .book
+            .lock(rt)
+            .turn(self.program.program(), &mut share, scanned, report);
+        match answer {
+            Ok((store, next)) => (TaskPass { share, store }, Ok(next)),
+            Err((fault, scanned)) => (TaskPass { share, store }, Err((fault, Ours::of(scanned)))),
         }
     }
 

@@ -4,6 +4,12 @@ use std::sync::{Condvar, Mutex, Wait};
 
 /// What the workers of a run call on their way. In it they can be held. No clause says that a call comes back.
 pub trait Gate {
+    /// Whether it holds no task. Then a task commits a scan and starts its next one in one step: it calls `begins` of a round before `committed`
+    /// of the one before.
+    fn is_open(&self) -> bool {
+        false
+    }
+
     /// A task is about to begin its scan of a round. Rounds count from 1.
     fn begins(&self, rt: &impl Wait, task: u8, round: u16);
 
@@ -25,6 +31,10 @@ pub trait Gate {
 pub struct Open;
 
 impl Gate for Open {
+    fn is_open(&self) -> bool {
+        true
+    }
+
     fn begins(&self, _rt: &impl Wait, _task: u8, _round: u16) {}
 
     fn started(&self, _rt: &impl Wait, _task: u8) {}

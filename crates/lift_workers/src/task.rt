@@ -4,11 +4,12 @@ ghost use Rattle.std.specs.Prelude.{◌≡◌, ◌+◌, ◌++◌, ◌∷◌, [],
 
 use crate::fault::RunFault;
 use crate::gate::Gate;
-use il_machine::scan;
+use il_machine::OpenScan;
 use lift_journal::fault::StationFault;
 use lift_spec::report::Report;
 use lift_station::{Naming, Station, TaskPass};
 use std::alloc::{AllocError, Global};
+use std::marker::Model;
 use std::sync::Wait;
 use std::thread::{Promise, PromisedHandle, Scope, Threads};
 
@@ -28,29 +29,127 @@ impl<G: Naming> Promise<Result<TaskPass<G>, StationFault>> for TaskRounds {
 /// The handle of a task's worker.
 pub type TaskHandle<G> = PromisedHandle<Result<TaskPass<G>, StationFault>, TaskRounds>;
 
-// A round of a task, once its gate lets it begin: a scan begins, runs to its end and is committed.
-fn round<G: Naming, T: Gate, R: Wait>(
+// A task's pass, and its scan that has begun. Contracts see it as the pass.
+#[derive(Drop)]
+struct Begun<G: Naming> {
+    pass: TaskPass<G>,
+    scan: OpenScan,
+}
+
+impl<G: Naming> Model for Begun<G> {
+    ghost use Rattle.std.specs.Prelude.{◌≡◌};
+    ghost use Rattle.lift_station.specs.Passes.{TaskCount, task_count_code};
+
+    ghost Value = { TaskCount };
+
+    ghost coded = { task_count_code };
+
+    ghost view = { λ b. b.pass };
+
+    ghost invariant = { λ b. b.scan.config ≡ G.program.config };
+}
+
+// A task's scan of a round begins, once its gate lets it.
+fn begin<G: Naming, T: Gate, R: Wait>(
     rt: &R,
     station: &Station<G>,
     gate: &T,
     pass: TaskPass<G>,
-    number: u16,
-    report: &mut Report,
-) -> Result<TaskPass<G>, StationFault>
-    ensures { IfOk result (λ p. (p.task ≡ pass.task) × (p.count ≡ pass.count + 2)) }
+    round: u16,
+) -> Result<Begun<G>, StationFault>
+    ensures { IfOk result (λ b. (b.task ≡ pass.task) × (b.count ≡ pass.count + 1)) }
 {
     let task = pass.task();
-    gate.begins(rt, task, number);
-    let (pass, begun) = station.start(rt, pass);
-    let begun = begun?;
+    gate.begins(rt, task, round);
+    let (pass, scan) = station.start(rt, pass);
+    let scan = scan?;
     gate.started(rt, task);
-    let scanned = scan(station.verified(), begun);
-    let (pass, committed) = station.commit(rt, pass, scanned, report);
-    if let Err((fault, _scanned)) = committed {
+    Ok(Begun { pass, scan })
+}
+
+// A scan that has begun runs to its end, and is committed.
+fn end<G: Naming, T: Gate, R: Wait>(
+    rt: &R,
+    station: &Station<G>,
+    gate: &T,
+    begun: Begun<G>,
+    report: &mut Report,
+) -> Result<TaskPass<G>, StationFault>
+    ensures { IfOk result (λ p. (p.task ≡ begun.task) × (p.count ≡ begun.count + 1)) }
+{
+    let Begun { pass, scan } = begun;
+    let task = pass.task();
+    let (pass, committed) = station.commit_ours(rt, pass, station.scan(scan), report);
+    if let Err((fault, _ours)) = committed {
         return Err(fault);
     }
     gate.committed(rt, task);
     Ok(pass)
+}
+
+// The same, and the task's scan of the next round begins in the same step.
+fn turn<G: Naming, T: Gate, R: Wait>(
+    rt: &R,
+    station: &Station<G>,
+    gate: &T,
+    begun: Begun<G>,
+    round: u16,
+    report: &mut Report,
+) -> Result<Begun<G>, StationFault>
+    ensures { IfOk result (λ b. (b.task ≡ begun.task) × (b.count ≡ begun.count + 2)) }
+{
+    let Begun { pass, scan } = begun;
+    let task = pass.task();
+    gate.begins(rt, task, round);
+    let (pass, turned) = station.turn(rt, pass, station.scan(scan), report);
+    match turned {
+        Ok(Ok(scan)) => {
+            gate.committed(rt, task);
+            gate.started(rt, task);
+            Ok(Begun { pass, scan })
+        }
+        Ok(Err(fault)) => Err(fault),
+        Err((fault, _ours)) => Err(fault),
+    }
+}
+
+// A scan that has begun is run and committed, and the task's scan of the next round begins.
+fn go_on<G: Naming, T: Gate, R: Wait>(
+    rt: &R,
+    station: &Station<G>,
+    gate: &T,
+    begun: Begun<G>,
+    round: u16,
+    report: &mut Report,
+) -> Result<Begun<G>, StationFault>
+    ensures { IfOk result (λ b. (b.task ≡ begun.task) × (b.count ≡ begun.count + 2)) }
+{
+    if gate.is_open() {
+        return turn(rt, station, gate, begun, round, report);
+    }
+    let pass = end(rt, station, gate, begun, report)?;
+    begin(rt, station, gate, pass, round)
+}
+
+// So many rounds of a task.
+fn all_rounds<G: Naming, T: Gate, R: Wait>(
+    rt: &R,
+    station: &Station<G>,
+    gate: &T,
+    pass: TaskPass<G>,
+    rounds: u16,
+) -> Result<TaskPass<G>, StationFault>
+    ensures { IfOk result (λ p. (p.task ≡ pass.task) × (p.count ≡ pass.count + (rounds + rounds))) }
+{
+    if rounds == 0 {
+        return Ok(pass);
+    }
+    let mut report = Report::new();
+    let mut begun = begin(rt, station, gate, pass, 1)?;
+    'rounds: for below in 1..rounds {
+        begun = go_on(rt, station, gate, begun, below + 1, &mut report)?;
+    }
+    end(rt, station, gate, begun, &mut report)
 }
 
 /// So many rounds of a task. At a fault it gives up.
@@ -63,18 +162,11 @@ pub fn work<G: Naming, T: Gate, R: Wait>(
 ) -> Result<TaskPass<G>, StationFault>
     ensures { IfOk result (λ p. (p.task ≡ pass.task) × (p.count ≡ pass.count + (rounds + rounds))) }
 {
-    let mut pass = pass;
-    let mut report = Report::new();
-    'rounds: for below in 0..rounds {
-        match round(rt, station, gate, pass, below + 1, &mut report) {
-            Ok(next) => pass = next,
-            Err(fault) => {
-                gate.gives_up(rt);
-                return Err(fault);
-            }
-        }
+    let done = all_rounds(rt, station, gate, pass, rounds);
+    if done.is_err() {
+        gate.gives_up(rt);
     }
-    Ok(pass)
+    done
 }
 
 // Starts the worker of a task.

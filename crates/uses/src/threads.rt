@@ -3,7 +3,7 @@
 ghost use Rattle.std.specs.Prelude.{◌≡◌, ◌+◌, ℕ, IfOk, slice_index_or};
 ghost use Rattle.lift_journal.specs.Pages.{Kept};
 
-use il_machine::{Verified, scan};
+use il_machine::Verified;
 use il_spec::fault::Refusal;
 use lift_load::load;
 use lift_spec::report::Report;
@@ -29,8 +29,7 @@ fn drive<G: Naming, R: Wait>(rt: &R, station: &Station<G>, pass: TaskPass<G>) ->
         let Ok(begun) = begun else {
             return pass;
         };
-        let scanned = scan(station.verified(), begun);
-        let (back, committed) = station.commit(rt, pass, scanned, &mut report);
+        let (back, committed) = station.commit_ours(rt, pass, station.scan(begun), &mut report);
         pass = back;
         if committed.is_err() {
             return pass;

@@ -5,7 +5,7 @@ ghost use Rattle.lift_plant.specs.Switches.{opening_switches};
 ghost use Rattle.lift_spec.specs.Image.{sizes_of};
 
 use crate::memory::lines::{allocation, no_allocation, print};
-use crate::memory::station_scans::next_scan;
+use crate::memory::station_scans::{next_scan, next_turn};
 use crate::memory::text::{FLOORS, TEXT};
 use il_machine::Verified;
 use il_spec::fault::Refusal;
@@ -19,8 +19,8 @@ use std::io::Print;
 use std::marker::Brand;
 use std::sync::Wait;
 
-// How many entries the journal has room for: those of two refreshes and of three scans.
-const ENTRIES: usize = 8;
+// How many entries the journal has room for: those of two refreshes and of six scans.
+const ENTRIES: usize = 14;
 
 // A refresh by the plant, and one with the fields that the image then has: whether they are done, and how many calls are left in the hand.
 fn refresh<G: Naming, R: Wait>(
@@ -58,17 +58,20 @@ fn close<G: Naming>(station: Station<G>, passes: Vec<TaskPass<G>>, pass: Refresh
     entries
 }
 
-// Four scans: of each task, and one that finds the journal full.
+// Two scans of the first task, one of each task, one of the first that finds the journal full behind its commit, and one that finds it full.
 fn scans<G: Naming, R: Print + Wait>(
     rt: &R,
     station: &Station<G>,
     passes: &mut Vec<TaskPass<G>>,
     report: &mut Report,
 ) {
+    let turns = "Station::start, scan, turn and commit_ours, told";
     let calls = "Station::start and commit, told";
+    print(rt, turns, &next_turn(rt, station, passes, report));
     print(rt, calls, &next_scan(rt, station, passes, report));
     print(rt, calls, &next_scan(rt, station, passes, report));
     print(rt, calls, &next_scan(rt, station, passes, report));
+    print(rt, turns, &next_turn(rt, station, passes, report));
     print(rt, calls, &next_scan(rt, station, passes, report));
 }
 

@@ -3,7 +3,7 @@ use Rattle.lift_spec.specs.declared.journal.Entry.TheVariants as entry
 use Rattle.lift_station.specs.Passes.{task_of, count_of}
 use Rattle.lift_station.proofs.AtPlant.{at_scanned}
 use Rattle.lift_station.proofs.Totals.{counted_more, tally_stays}
-use Rattle.lift_station.proofs.Showing.{scan_left, committed_under, none_open_under}
+use Rattle.lift_station.proofs.Showing.{scan_left, open_there, committed_under, none_open_under}
 use Rattle.lift_station.proofs.locked.Locked.commit.Goals as goal
 
 pub returns-in-Err-clause-even : goal.returns-in-Err-clause-even
@@ -17,6 +17,12 @@ returns-in-Ok-clause-even g c = λ even.
     let a = c.audit.ensures in
     c.in-Ok.ensures.other (none_open_under g.G.Naming.program c.args.verified.now c.requires.program c.self.inside.book c.args.self.now (c.self.view_is ∙ a.same.0) a.program a.kept c.task.result (task_of c.args.share.now) (c.task.ensures.0 ∙ ap (λ s. task_of s) a.same.1) (count_of c.args.share.now) a.count
     c.config-config.ensures.runnable c.task.ensures.1 even c.args.scanned)
+
+pub returns-in-Ok-clause-mine : goal.returns-in-Ok-clause-mine
+returns-in-Ok-clause-mine g c =
+    let a = c.audit.ensures in
+    open_there g.G.Naming.program c.args.verified.now c.requires.program c.self.inside.book c.args.self.now (c.self.view_is ∙ a.same.0) a.program a.kept c.task.result (task_of c.args.share.now) (c.task.ensures.0 ∙ ap (λ s. task_of s) a.same.1) (count_of c.args.share.now) a.count
+    c.args.scanned c.in-Ok.ensures.mine
 
 pub returns-in-Ok-clause-report : goal.returns-in-Ok-clause-report
 returns-in-Ok-clause-report g c =

@@ -3,7 +3,7 @@ use Rattle.lift_spec.specs.declared.journal.Entry.TheVariants as entry
 use Rattle.lift_station.specs.Passes.{task_of, count_of}
 use Rattle.lift_station.proofs.AtPlant.{at_scanned}
 use Rattle.lift_station.proofs.Totals.{counted_more, tally_stays}
-use Rattle.lift_station.proofs.Showing.{begun_under, odd_under, even_under}
+use Rattle.lift_station.proofs.Showing.{begun_under, snapped_there, odd_under, even_under}
 use Rattle.lift_station.proofs.locked.Locked.start.Goals as goal
 
 pub returns-in-Err-clause-odd : goal.returns-in-Err-clause-odd
@@ -28,6 +28,12 @@ pub returns-in-Ok-clause-begins : goal.returns-in-Ok-clause-begins
 returns-in-Ok-clause-begins g c =
     let a = c.audit.ensures in
     begun_under g.G.Naming.program c.args.verified.now c.requires.program c.self.inside.book c.args.self.now (c.self.view_is ∙ a.same.0) a.program a.kept c.task.result (task_of c.args.share.now) (c.task.ensures.0 ∙ ap (λ s. task_of s) a.same.1) (count_of c.args.share.now) a.count
+    c.in-Ok.open c.in-Ok.ensures.begins
+
+pub returns-in-Ok-clause-now : goal.returns-in-Ok-clause-now
+returns-in-Ok-clause-now g c =
+    let a = c.audit.ensures in
+    snapped_there g.G.Naming.program c.args.verified.now c.requires.program c.self.inside.book c.args.self.now (c.self.view_is ∙ a.same.0) a.program a.kept c.task.result (task_of c.args.share.now) (c.task.ensures.0 ∙ ap (λ s. task_of s) a.same.1) (count_of c.args.share.now) a.count
     c.in-Ok.open c.in-Ok.ensures.begins
 
 pub invariant_of-self : goal.invariant_of-self
