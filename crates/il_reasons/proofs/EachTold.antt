@@ -38,11 +38,10 @@ use Rattle.il_reasons.specs.declared.names_meant.Access.TheVariants.{Reads, Stor
 use Rattle.il_reasons.specs.NamesNear.{Nearest, hint, ending, nearest}
 use Rattle.il_reasons.specs.NameSpots.{is_at}
 use Rattle.il_reasons.specs.NamesKnown.{variables_near, functions_near, blocks_near, globals_near}
-use Rattle.il_reasons.specs.NamesLabels.{missing_line, missing_text, labels_near, jump_text, body_text, label_lines}
-use Rattle.il_reasons.specs.NamesLabels as labels
-use Rattle.il_reasons.specs.NamesUnknown.{unknown_variable, meant_by, meant_by_form, unknown_line, unseen_line, no_function_line, instance_line, unit_line, standard_line, no_instance_line, no_word, no_word_line, unknown_text, scalar_by, meaning_by, member_by, rule_access, reference_text, read_text, index_text, argument_text, short_form_text, function_text, instruction_text, step_text, form_text, type_text, global_text, external_text, externals_text, types_text, unit_text, unknown_lines}
+use Rattle.il_reasons.specs.NamesLabels.{missing_line, missing_text, labels_near, jump_text}
+use Rattle.il_reasons.specs.NamesUnknown.{unknown_variable, meant_by, meant_by_form, unknown_line, unseen_line, no_function_line, instance_line, unit_line, standard_line, no_instance_line, no_word, no_word_line, unknown_text, scalar_by, meaning_by, member_by, rule_access, reference_text, read_text, index_text, argument_text, short_form_text, function_text, instruction_text, form_text, type_text, global_text, external_text, externals_text, types_text, unit_text, unknown_lines}
 use Rattle.il_reasons.specs.NamesTold.{HasLine}
-use Rattle.il_reasons.specs.NameReasons.{name_lines}
+use Rattle.il_reasons.specs.TreeReasons.{instruction_lines, step_lines, unit_lines, place_lines, tree_lines, AreToldOfTree}
 
 -- LINES
 
@@ -210,20 +209,26 @@ same_place there place e = subst (λ p. is_at there p ≡ true) (sym e) (grind (
 there_told : (there place : Place) (text : List ℕ) → place ≡ there → HasLine text → HasLine (if is_at there place then text else [])
 there_told there place text e h = subst (λ b. HasLine (if b then text else [])) (sym (same_place there place e)) h
 
--- of a unit
-in_steps : (config : Config) (place : Place) (u : ProgramUnit) (s : Step) → Contains u.body.steps s → HasLine (step_text config u place s) → HasLine (unit_text config place u)
-in_steps config place u s there h =
-    behind (types_text config place u.inputs) _ (behind (types_text config place u.outputs) _ (behind (types_text config place u.variables) _ (behind (types_text config place u.externals) _
-    (behind (flat_map (externals_text config place) u.externals) _ (in_flat (step_text config u place) u.body.steps s 10 there h)))))
+-- of an instruction
+in_steps : (config : Config) (number : ℕ) (place : Place) (u : ProgramUnit) (s : Step) → Contains config.units u → Contains u.body.steps s → place ≡ s.place → HasLine (instruction_lines config u number s.instruction) → HasLine (tree_lines config number place)
+in_steps config number place u s in_units in_body at h =
+    Contains-append_left (flat_map (unit_lines config number place.offset) config.units) (place_lines config number place) 10
+    (in_flat (unit_lines config number place.offset) config.units u 10 in_units
+    (in_flat (step_lines config u number place.offset) u.body.steps s 10 in_body (there_told s.place place (instruction_lines config u number s.instruction) at h)))
 
+-- of what is declared
+in_declared : (config : Config) (place : Place) → HasLine (unknown_lines config place) → HasLine (tree_lines config 21 place)
+unfolding place_lines
+in_declared config place h = behind (flat_map (unit_lines config 21 place.offset) config.units) (unknown_lines config place) h
+
+-- of a unit
 of_unit : (config : Config) (place : Place) (u : ProgramUnit) → Contains config.units u → HasLine (unit_text config place u) → HasLine (unknown_lines config place)
 unfolding unknown_lines
 of_unit config place u there h = Contains-append_left (flat_map (unit_text config place) config.units) (types_text config place config.globals) 10 (in_flat (unit_text config place) config.units u 10 there h)
 
 -- a name in an instruction
-name_told : (config : Config) (place : Place) → IsNameBroken config 21 place → HasLine (unknown_lines config place)
-name_told config place (u, s, in_units, in_body, broken, at) =
-    of_unit config place u in_units (in_steps config place u s in_body (there_told s.place place (instruction_text config u s.instruction) at (instruction_told config u s.instruction broken)))
+name_told : (config : Config) (place : Place) → IsNameBroken config 21 place → HasLine (tree_lines config 21 place)
+name_told config place (u, s, in_units, in_body, broken, at) = in_steps config 21 place u s in_units in_body at (instruction_told config u s.instruction broken)
 
 -- an external
 global_told : (config : Config) (name : Spelling) → global_form config name ≡ None → HasLine (global_text config name)
@@ -233,8 +238,7 @@ external_told : (config : Config) (place : Place) (d : Declaration) (n : Named) 
 external_told config place d n e none at =
     let u = e.unit in
     of_unit config place u e.written (behind (types_text config place u.inputs) _ (behind (types_text config place u.outputs) _ (behind (types_text config place u.variables) _ (behind (types_text config place u.externals) _
-    (Contains-append_left (flat_map (externals_text config place) u.externals) (flat_map (step_text config u place) u.body.steps) 10
-    (in_flat (externals_text config place) u.externals d 10 e.listed (in_flat (external_text config place) d.names n 10 e.named (there_told n.place place (global_text config n.name) at (global_told config n.name none)))))))))
+    (in_flat (externals_text config place) u.externals d 10 e.listed (in_flat (external_text config place) d.names n 10 e.named (there_told n.place place (global_text config n.name) at (global_told config n.name none))))))))
 
 -- a number that no rule of these gives
 not_this : {X : Type 0} (b : Bool) (n : ℕ) → n ≢ 21 → Contains (unless b n) 21 → X
@@ -320,9 +324,9 @@ type_told config place (t, there, broken, at) =
     ]
 
 -- 21: of each unknown name something is told
-pub unknown_is_told : (config : Config) (place : Place) → IsUnknown config place → HasLine (unknown_lines config place)
-unknown_is_told config place (unknown_type h) = type_told config place h
-unknown_is_told config place (unknown_global d n e none at) = external_told config place d n e none at
+pub unknown_is_told : (config : Config) (place : Place) → IsUnknown config place → HasLine (tree_lines config 21 place)
+unknown_is_told config place (unknown_type h) = in_declared config place (type_told config place h)
+unknown_is_told config place (unknown_global d n e none at) = in_declared config place (external_told config place d n e none at)
 unknown_is_told config place (unknown_name h) = name_told config place h
 
 -- LABELS
@@ -340,17 +344,17 @@ in_list (y ∷ xs) zero x e = (zero, omega arith, cc)
 in_list (y ∷ xs) (suc k) x e = in_rest y xs x (in_list xs k x e)
 
 -- 34: of each label that a body lacks something is told
-pub label_is_told : (config : Config) (place : Place) → HasUnknownLabel config place → HasLine (label_lines config place)
-unfolding label_lines
+pub label_is_told : (config : Config) (place : Place) → HasUnknownLabel config place → HasLine (tree_lines config 34 place)
 label_is_told config place (unknown_label u i s label jump lacks at) =
     let told : HasLine (jump_text u.body s.instruction) = subst (λ x. HasLine (jump_text u.body x)) (sym jump.jumps.jumps) (missing_told u.body label.name lacks) in
-    in_flat (body_text place) config.units u 10 jump.written (in_flat (labels.step_text u.body place) u.body.steps s 10 (in_list u.body.steps i s jump.jumps.stands) (there_told s.place place (jump_text u.body s.instruction) at told))
+    in_steps config 34 place u s jump.written (in_list u.body.steps i s jump.jumps.stands) at told
 
--- in what is told of a fault of names
-pub unknown_has_line : (config : Config) (number : ℕ) (place : Place) (lines : List ℕ) → lines ≡ name_lines config number place → number ≡ 21 → IsUnknown config place → HasLine lines
-unfolding name_lines
-unknown_has_line config number place lines e is broken = subst HasLine (sym (e ∙ ap (λ n. name_lines config n place) is)) (unknown_is_told config place broken)
+-- in what is told of a fault that the tree shows
+line_of : (config : Config) (number n : ℕ) (place : Place) (lines : List ℕ) → AreToldOfTree config number place lines → number ≡ n → HasLine (tree_lines config n place) → HasLine lines
+line_of config number n place lines (result, shown, is) same h = subst HasLine (sym (is ∙ ap (λ k. result ++ tree_lines config k place) same)) (behind result (tree_lines config n place) h)
 
-pub label_has_line : (config : Config) (number : ℕ) (place : Place) (lines : List ℕ) → lines ≡ name_lines config number place → number ≡ 34 → HasUnknownLabel config place → HasLine lines
-unfolding name_lines
-label_has_line config number place lines e is broken = subst HasLine (sym (e ∙ ap (λ n. name_lines config n place) is)) (label_is_told config place broken)
+pub unknown_has_line : (config : Config) (number : ℕ) (place : Place) (lines : List ℕ) → AreToldOfTree config number place lines → number ≡ 21 → IsUnknown config place → HasLine lines
+unknown_has_line config number place lines told is broken = line_of config number 21 place lines told is (unknown_is_told config place broken)
+
+pub label_has_line : (config : Config) (number : ℕ) (place : Place) (lines : List ℕ) → AreToldOfTree config number place lines → number ≡ 34 → HasUnknownLabel config place → HasLine lines
+label_has_line config number place lines told is broken = line_of config number 34 place lines told is (label_is_told config place broken)

@@ -10,3 +10,5 @@ mod WantedLaws
 mod Pieces
 mod RangeUnits
 mod ChainUses
+mod ResultPasses
+mod PathRuns

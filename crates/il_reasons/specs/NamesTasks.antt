@@ -4,19 +4,11 @@ use Rattle.std.specs.List.{list_any}
 use Rattle.il_spec.specs.declared.tree.Config.{Config}
 use Rattle.il_spec.specs.declared.tree.Unit.{Unit as ProgramUnit}
 use Rattle.il_spec.specs.declared.tree.ProgramLine.{ProgramLine}
-use Rattle.il_spec.specs.declared.tree.Place.{Place}
-use Rattle.il_spec.specs.declared.tree.Reference.{Reference}
-use Rattle.il_spec.specs.declared.tree.Reference.TheVariants.{Literal as OfLiteral, Variable as OfVariable, Element as OfElement, Member as OfMember}
-use Rattle.il_spec.specs.declared.tree.Argument.{Argument}
-use Rattle.il_spec.specs.declared.tree.Argument.TheVariants.{Input, Output}
-use Rattle.il_spec.specs.declared.tree.Instruction.{Instruction}
-use Rattle.il_spec.specs.declared.tree.Instruction.TheVariants.{Load, Store as StoreInto, Not, Operate, Defer, Evaluate, Jump, Return, Call, Invoke}
 use Rattle.il_spec.specs.declared.tree.Step.{Step}
 use Rattle.il_rules.specs.Names.{Spelling, is_one_of, program_named}
 use Rattle.il_rules.specs.Types.{stored_names}
 use Rattle.il_rules.specs.declared.names.Origin.{Origin}
 use Rattle.il_rules.specs.declared.names.Origin.TheVariants.{Input as AsInput, Output as AsOutput, Local as AsVariable, External as AsExternal, FunctionResult as AsResult, ReadImage as AsReadImage, WrittenImage as AsWrittenImage}
-use Rattle.il_reasons.specs.NameSpots.{is_at}
 use Rattle.il_reasons.specs.NamesStores.{origin_named}
 use Rattle.il_reasons.specs.declared.names_tasks.Writer.{Writer}
 
@@ -90,40 +82,3 @@ writers_text name ws = if are_two ws then flat_map (store_of_task name) ws else 
 -- a name that is stored into, if it is a global
 abbrev pub stored_text : Config → ProgramUnit → Spelling → List ℕ
 stored_text config unit name = if is_external config unit name then writers_text name (writers config name) else []
-
--- the target of a store (3.2.2)
-abbrev pub target_text : Config → ProgramUnit → Reference → List ℕ
-target_text config unit (OfLiteral literal) = []
-target_text config unit (OfVariable name) = stored_text config unit name
-target_text config unit (OfElement name index) = stored_text config unit name
-target_text config unit (OfMember name word) = []
-
--- the target of an output (3.2.3)
-abbrev pub argument_text : Config → ProgramUnit → Argument → List ℕ
-argument_text config unit (Input word operand) = []
-argument_text config unit (Output word target) = stored_text config unit target.name
-
--- the targets of an instruction
-abbrev pub instruction_text : Config → ProgramUnit → Instruction → List ℕ
-instruction_text config unit (Load negated operand) = []
-instruction_text config unit (StoreInto store target) = target_text config unit target.reference
-instruction_text config unit Not = []
-instruction_text config unit (Operate operator operand) = []
-instruction_text config unit (Defer operator first) = []
-instruction_text config unit Evaluate = []
-instruction_text config unit (Jump condition label) = []
-instruction_text config unit (Return condition) = []
-instruction_text config unit (Call condition instance arguments) = flat_map (argument_text config unit) arguments
-instruction_text config unit (Invoke function operands) = []
-
--- the instruction at a place
-abbrev pub step_text : Config → ProgramUnit → Place → Step → List ℕ
-step_text config unit place step = if is_at step.place place then instruction_text config unit step.instruction else []
-
--- the instructions of a unit
-abbrev pub unit_text : Config → Place → ProgramUnit → List ℕ
-unit_text config place unit = flat_map (step_text config unit place) unit.body.steps
-
--- 38: what is told of the globals that are stored into at a place
-unfoldable pub task_lines : Config → Place → List ℕ
-task_lines config place = flat_map (unit_text config place) config.units

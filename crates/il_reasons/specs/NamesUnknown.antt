@@ -16,7 +16,6 @@ use Rattle.il_spec.specs.declared.tree.Argument.{Argument}
 use Rattle.il_spec.specs.declared.tree.Argument.TheVariants.{Input, Output}
 use Rattle.il_spec.specs.declared.tree.Instruction.{Instruction}
 use Rattle.il_spec.specs.declared.tree.Instruction.TheVariants.{Load, Store as StoreInto, Not, Operate, Defer, Evaluate, Jump, Return, Call, Invoke}
-use Rattle.il_spec.specs.declared.tree.Step.{Step}
 use Rattle.il_rules.specs.Names.{Spelling, Meaning, MeansVariable, MeansUnit, MeansStandard, meaning, block_variables, is_predeclared, standard_function, function_named}
 use Rattle.il_rules.specs.Declarations.{global_form, is_visible}
 use Rattle.il_rules.specs.Declarations as rule
@@ -189,7 +188,7 @@ unfoldable pub function_text : Config → Spelling → List ℕ
 function_text config name =
     if is_some (standard_function name) then [] else (if is_some (function_named config name) then [] else no_function_line name (nearest name (functions_near config)))
 
--- the names of an instruction; labels are no such names (3.2.1)
+-- 21: the names of an instruction; labels are no such names (3.2.1)
 abbrev pub instruction_text : Config → ProgramUnit → Instruction → List ℕ
 instruction_text config unit (Load negated operand) = read_text config unit operand
 instruction_text config unit (StoreInto store target) = reference_text config unit Stores target.reference
@@ -201,10 +200,6 @@ instruction_text config unit (Jump condition label) = []
 instruction_text config unit (Return condition) = []
 instruction_text config unit (Call condition instance arguments) = meaning_text config unit instance.name ++ flat_map (argument_text config unit) arguments
 instruction_text config unit (Invoke function operands) = function_text config function.name ++ flat_map (read_text config unit) operands
-
--- the instruction at a place
-abbrev pub step_text : Config → ProgramUnit → Place → Step → List ℕ
-step_text config unit place step = if is_at step.place place then instruction_text config unit step.instruction else []
 
 -- DECLARATIONS
 
@@ -240,15 +235,15 @@ types_text config place declarations = flat_map (type_text config place) declara
 
 -- ALL
 
--- of a unit the types, the external names and the names in instructions
+-- of a unit the types and the external names
 abbrev pub unit_text : Config → Place → ProgramUnit → List ℕ
 unit_text config place unit =
     types_text config place unit.inputs
     ++ (types_text config place unit.outputs
     ++ (types_text config place unit.variables
     ++ (types_text config place unit.externals
-    ++ (flat_map (externals_text config place) unit.externals ++ flat_map (step_text config unit place) unit.body.steps))))
+    ++ flat_map (externals_text config place) unit.externals)))
 
--- 21: what is told of the names that are unknown at a place
+-- 21: what is told of the declared names that are unknown at a place
 unfoldable pub unknown_lines : Config → Place → List ℕ
 unknown_lines config place = flat_map (unit_text config place) config.units ++ types_text config place config.globals

@@ -26,7 +26,7 @@ use Rattle.il_spec.specs.declared.tree.Subrange.{Subrange}
 use Rattle.il_spec.specs.declared.tree.Unit.{Unit as ProgramUnit}
 use Rattle.il_spec.specs.ElementaryTypes.{limits, plain}
 use Rattle.il_interval.specs.declared.Interval.{Interval}
-use Rattle.il_interval.specs.Interval.{interval_add, interval_sub, interval_mul, interval_abs}
+use Rattle.il_interval.specs.Interval.{interval_abs}
 use Rattle.il_table.specs.NameMap.{get}
 use Rattle.il_rules.specs.declared.names.StandardFunction.{StandardFunction}
 use Rattle.il_rules.specs.declared.names.StandardFunction.TheVariants.{Absolute, Converted}
@@ -36,7 +36,9 @@ use Rattle.il_rules.specs.Declarations.{declared_limits}
 use Rattle.il_rules.specs.Least.{NumberedFault}
 use Rattle.il_run.specs.declared.known.Known.{Known}
 use Rattle.il_run.specs.declared.known.Known.TheVariants.{Flag, Ranged}
+use Rattle.il_run.specs.declared.known.KnownDeferred.{KnownDeferred}
 use Rattle.il_run.specs.Annotation.{Knowledge, only, range}
+use Rattle.il_range_laws.specs.Found.{combined}
 use Rattle.il_scope.specs.Units.{InUnit, scalar_of, input_scalars}
 use Rattle.il_ranges.specs.declared.fault.RangeFault.{RangeFault}
 use Rattle.il_ranges.specs.declared.fault.RangeFault.TheVariants.{Overflow, ZeroDivisor, Index as OutOfArray, Subrange as OutOfRange, Argument as OutOfInput}
@@ -217,14 +219,6 @@ sign_text Mul = codes " * "
 sign_text Div = codes " / "
 sign_text Mod = codes " MOD "
 
--- what an operation gives for all values of its sides, as far as it is told
-abbrev pub given_by : Arithmetic → Interval → Interval → Option Interval
-given_by Add i j = Some (interval_add i j)
-given_by Sub i j = Some (interval_sub i j)
-given_by Mul i j = Some (interval_mul i j)
-given_by Div i j = None
-given_by Mod i j = None
-
 -- whether a range can be an operand: it has a number, and its ends are a DINT or a UDINT
 abbrev pub is_end : ℤ → Bool
 is_end z = int_le (negsuc 2147483647) z && int_le z (pos 4294967295)
@@ -232,9 +226,9 @@ is_end z = int_le (negsuc 2147483647) z && int_le z (pos 4294967295)
 abbrev pub is_operand : Interval → Bool
 is_operand i = is_end i.lo && (is_end i.hi && int_le i.lo i.hi)
 
--- the same of two ranges that can be operands
+-- what an operation gives for all values of two ranges that can be operands; nothing where a divisor may be 0
 abbrev pub given_from : Arithmetic → Interval → Interval → Option Interval
-given_from kind i j = if is_operand i && is_operand j then given_by kind i j else None
+given_from kind i j = if is_operand i && is_operand j then combined kind i j else None
 
 -- ` gives 0..300, outside SINT (-128..127)`
 abbrev pub left_text : Elementary → Interval → List ℕ
@@ -303,9 +297,26 @@ invoked_text f (Some (Ranged e i)) = standard_text f e i
 invoked_text f (Some Flag) = []
 invoked_text f None = []
 
+-- the range of what is known of a value, if it has one
+abbrev pub known_range : Option Known → Option Interval
+known_range (Some (Ranged e i)) = Some i
+known_range (Some Flag) = None
+known_range None = None
+
+-- of an operator that waits for its `)`, with what is known of the result that was set aside and of the current one (3.2.2)
+abbrev pub aside_text : Operator → Known → Option Known → List ℕ
+aside_text (OfArithmetic kind) left right = sides_text kind (Some left) (known_range right)
+aside_text _ left right = []
+
+-- of a `)`
+abbrev pub evaluated_text : List KnownDeferred → Option Known → List ℕ
+evaluated_text [] right = []
+evaluated_text (d ∷ deferred) right = aside_text d.operator d.left right
+
 -- of an instruction
 abbrev pub overflow_text : InUnit → Knowledge → Instruction → List ℕ
 overflow_text u k (Operate operator o) = operator_text u k operator o.reference
+overflow_text u k Evaluate = evaluated_text k.deferred k.result
 overflow_text u k (Invoke function operands) = invoked_text (standard_function function.name) k.result
 overflow_text u k _ = []
 
@@ -405,19 +416,11 @@ abbrev pub function_told : InUnit → Knowledge → Spelling → List Operand �
 function_told u k name operands None = []
 function_told u k name operands (Some f) = inputs_told u k name operands (input_scalars f)
 
--- of a call of an instance
-abbrev pub call_text : InUnit → Knowledge → Instruction → List ℕ
-call_text u k (Call condition instance arguments) = flat_map (argument_text u k instance.name) arguments
-call_text u k _ = []
-
--- of a call of a function
-abbrev pub invoke_text : InUnit → Knowledge → Instruction → List ℕ
-invoke_text u k (Invoke function operands) = function_told u k function.name operands (function_named u.config function.name)
-invoke_text u k _ = []
-
--- of an instruction
+-- of a call of an instance or of a function
 abbrev pub arguments_text : InUnit → Knowledge → Instruction → List ℕ
-arguments_text u k i = call_text u k i ++ invoke_text u k i
+arguments_text u k (Call condition instance arguments) = flat_map (argument_text u k instance.name) arguments
+arguments_text u k (Invoke function operands) = function_told u k function.name operands (function_named u.config function.name)
+arguments_text u k _ = []
 
 -- AT A PLACE
 

@@ -15,7 +15,7 @@ use Rattle.il_spec.specs.declared.tree.UnitKind.TheVariants.{Function, FunctionB
 use Rattle.il_interval.specs.declared.Interval.{Interval}
 use Rattle.il_rules.specs.Names.{Spelling, or_else}
 use Rattle.il_rules.specs.Declarations.{declared_limits}
-use Rattle.il_reports.specs.RangeLines.{type_word}
+use Rattle.il_reasons.specs.TypeWords.{type_word}
 
 -- RANGES AND TYPES
 

@@ -1,6 +1,5 @@
 -- What is told of types (own rules).
-use Rattle.std.specs.Prelude.{◌≡◌, ℕ, ◌==◌, Bool, ◌||◌, if◌then◌else◌, List, [], ◌∷◌, ◌++◌, flat_map, Option, Some, None, codes}
-use Rattle.std.specs.Fmt.{signed_decimal}
+use Rattle.std.specs.Prelude.{◌≡◌, ℕ, ◌==◌, Bool, ◌||◌, List, [], ◌∷◌, ◌++◌, flat_map, Option, Some, None, codes}
 use Rattle.il_spec.specs.declared.tree.Argument.{Argument}
 use Rattle.il_spec.specs.declared.tree.Argument.TheVariants.{Input, Output}
 use Rattle.il_spec.specs.declared.tree.Condition.{Condition}
@@ -18,10 +17,8 @@ use Rattle.il_spec.specs.declared.tree.Named.{Named}
 use Rattle.il_spec.specs.declared.tree.Operand.{Operand}
 use Rattle.il_spec.specs.declared.tree.Operator.{Operator}
 use Rattle.il_spec.specs.declared.tree.Operator.TheVariants.{Logic as LogicOperator}
-use Rattle.il_spec.specs.declared.tree.Place.{Place}
 use Rattle.il_spec.specs.declared.tree.Reference.{Reference}
 use Rattle.il_spec.specs.declared.tree.Reference.TheVariants.{Literal as OfLiteral, Variable as OfVariable, Element as OfElement, Member as OfMember}
-use Rattle.il_spec.specs.declared.tree.Step.{Step}
 use Rattle.il_spec.specs.declared.tree.Store.{Store}
 use Rattle.il_spec.specs.declared.tree.Store.TheVariants.{Plain, Negated, Set, Reset}
 use Rattle.il_spec.specs.declared.tree.Unit.{Unit as ProgramUnit}
@@ -30,20 +27,13 @@ use Rattle.il_rules.specs.declared.names.StandardFunction.TheVariants.{Selected,
 use Rattle.il_rules.specs.Names.{Spelling, standard_function, function_named, named_forms}
 use Rattle.il_rules.specs.Types.{scalar_type, name_type, reference_type, Deferred, typing_numbers}
 use Rattle.il_reasons.specs.TypeWords.{type_word, type_line, literal_line}
-use Rattle.il_reasons.specs.ArgumentReasons.{taken_lines}
-use Rattle.il_reasons.specs.KindReasons.{kind_lines}
-use Rattle.il_reasons.specs.InitialReasons.{initials_lines}
+use Rattle.il_reasons.specs.RangeWords.{index_text}
 
 -- OPERANDS
 
 -- `V is INT`, of a scalar variable
 abbrev pub name_line : Config → ProgramUnit → Spelling → List ℕ
 name_line c unit name = type_line name (name_type c unit name)
-
--- an index, as it is written
-abbrev pub index_text : Index → List ℕ
-index_text (NumberIndex n) = signed_decimal n
-index_text (VariableIndex name) = name
 
 -- `I is INT`, of the variable of an index
 abbrev pub index_line : Config → ProgramUnit → Index → List ℕ
@@ -179,26 +169,3 @@ is_type_number number = number == 30 || number == 31 || number == 32
 -- the type that the current result must have, those of an own function's inputs, and those of the operands
 abbrev pub type_lines : Config → ProgramUnit → Instruction → List ℕ
 type_lines c unit instruction = wanted_line (wanted_type c unit instruction) ++ (called_lines c instruction ++ operand_lines c unit instruction)
-
--- what is told of an instruction
-abbrev pub instruction_lines : Config → ProgramUnit → ℕ → Instruction → List ℕ
-instruction_lines c unit number instruction =
-    if is_type_number number then type_lines c unit instruction
-    else if number == 37 then taken_lines c unit instruction
-    else if number == 25 then kind_lines c unit instruction else []
-
--- of the instruction whose operator stands behind so many bytes
-abbrev pub step_lines : Config → ProgramUnit → ℕ → ℕ → Step → List ℕ
-step_lines c unit number offset step = if step.place.offset == offset then instruction_lines c unit number step.instruction else []
-
--- the same in a unit
-abbrev pub unit_lines : Config → ℕ → ℕ → ProgramUnit → List ℕ
-unit_lines c number offset unit = flat_map (step_lines c unit number offset) unit.body.steps
-
--- of the declaration whose initial value stands behind so many bytes
-abbrev pub value_lines : Config → ℕ → ℕ → List ℕ
-value_lines c number offset = if number == 25 then initials_lines c offset else []
-
--- these lines are told of a fault of types
-abbrev pub AreToldOfTypes : Config → ℕ → Place → List ℕ → Type 0
-AreToldOfTypes c number place lines = lines ≡ flat_map (unit_lines c number place.offset) c.units ++ value_lines c number place.offset

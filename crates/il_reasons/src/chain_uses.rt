@@ -158,9 +158,8 @@ fn put_use(text: &mut String, user: &Unit, used: &Use) -> Result<(), AllocError>
     ensures { OnOk result (string_bytes text.new ≡ string_bytes text.old
         ++ use_text user.now used.now.unit.now used.now.line) }
 {
-    text.push_str(user.name.name.as_str())?;
-    text.push_str(" uses ")?;
-    text.push_str(used.unit.name.name.as_str())?;
+    let used_name = used.unit.name.name.as_str();
+    write!(text, "{} uses {}", user.name.name.as_str(), used_name)?;
     write!(text, " in line {}", used.line)
 }
 

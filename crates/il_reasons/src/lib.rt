@@ -5,12 +5,12 @@ ghost use Rattle.std.specs.Prelude.{◌≡◌, false, IfOk};
 ghost use Rattle.il_spec.specs.Grammar.{Spells};
 ghost use Rattle.il_parse.specs.Refused.{IsFault};
 ghost use Rattle.lift_load.specs.Loading.{SpellsNone};
-ghost use Rattle.il_reasons.specs.Reasons.{IsReason, AreTold, is_of_ranges, is_of_types, is_of_chains};
+ghost use Rattle.il_reasons.specs.Reasons.{IsReason, AreTold, is_of_ranges, is_of_chains, is_of_costs};
 
 mod chain_search;
 mod chain_uses;
 mod chains;
-mod names;
+mod costs;
 mod names_again;
 mod names_known;
 mod names_labels;
@@ -18,6 +18,7 @@ mod names_meant;
 mod names_near;
 mod names_spots;
 mod names_stores;
+mod names_targets;
 mod names_tasks;
 mod names_unknown;
 mod range_arguments;
@@ -29,12 +30,14 @@ mod range_results;
 mod range_stores;
 mod range_words;
 mod ranges;
+mod tree;
 mod types;
 mod types_arguments;
 mod types_initials;
 mod types_inputs;
 mod types_kinds;
 mod types_operands;
+mod types_results;
 mod types_wanted;
 mod types_words;
 
@@ -85,12 +88,12 @@ fn told(alloc: Global, written: Written, number: u16, place: Place) -> Result<Ve
     ensures { IfOk result (λ lines. AreTold written number place lines.items) }
 {
     let names = Scoped::of(alloc, written)?;
-    if is_of_types(number) {
-        types::told(alloc, &names, number, place)
-    } else if is_of_chains(number) {
+    if is_of_chains(number) {
         chains::told(alloc, &names, number, place)
+    } else if is_of_costs(number) {
+        costs::told(alloc, &names, place)
     } else {
-        names::told(alloc, &names, number, place)
+        tree::told(alloc, &names, number, place)
     }
 }
 
@@ -101,16 +104,16 @@ fn is_of_ranges(number: u16) -> bool
     matches!(number, 40 | 41 | 42 | 43 | 44)
 }
 
-// Whether it is that of a fault of types or arguments.
-fn is_of_types(number: u16) -> bool
-    ensures { result ≡ is_of_types number }
-{
-    matches!(number, 25 | 30 | 31 | 32 | 37)
-}
-
 // Whether it is that of a fault of chains of uses.
 fn is_of_chains(number: u16) -> bool
     ensures { result ≡ is_of_chains number }
 {
     matches!(number, 36 | 46)
+}
+
+// Whether it is that of a unit that costs too much.
+fn is_of_costs(number: u16) -> bool
+    ensures { result ≡ is_of_costs number }
+{
+    number == 50
 }

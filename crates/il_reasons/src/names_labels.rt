@@ -1,81 +1,17 @@
 // What is told of a label that does not stand in its unit (34).
 
-ghost use Rattle.std.specs.Prelude.{◌≡◌, ◌++◌, IfOk, OnOk, flat_map, option_map, string_bytes};
+ghost use Rattle.std.specs.Prelude.{◌≡◌, ◌++◌, IfOk, OnOk, option_map, string_bytes};
 ghost use Rattle.il_reasons.specs.NamesNear.{near_shown, nearest};
-ghost use Rattle.il_reasons.specs.NamesLabels.{missing_line, labels_near, missing_text, jump_text, step_text, body_text, label_lines};
+ghost use Rattle.il_reasons.specs.NamesLabels.{missing_line, labels_near, missing_text, jump_text};
 
 use crate::names_near::{Near, nearest, push_spots, put_ending};
-use crate::names_spots::{is_at, label_spots};
+use crate::names_spots::label_spots;
 use il_scope::label_table;
-use il_spec::tree::{Body, Config, Instruction, Place, Step, Unit};
+use il_spec::tree::{Body, Instruction};
 use std::alloc::{AllocError, Global};
 
-/// Adds what is told of the label of the jump at a place: that it doesn't stand in its unit, and one that is near (own rule).
-#[tactic(auto, unfolding(crate::specs::NamesLabels::label_lines))]
-pub fn put_label_at(
-    alloc: Global,
-    text: &mut String,
-    config: &Config,
-    place: Place,
-) -> Result<(), AllocError>
-    ensures { OnOk result (string_bytes text.new ≡ string_bytes text.old
-        ++ label_lines config.now place) }
-{
-    put_units(alloc, text, config.units.as_slice(), place)
-}
-
-fn put_units(
-    alloc: Global,
-    text: &mut String,
-    units: &[Unit],
-    place: Place,
-) -> Result<(), AllocError>
-    ensures { OnOk result (string_bytes text.new ≡ string_bytes text.old
-        ++ flat_map (body_text place) units.now) }
-{
-    'units: for unit in units {
-        put_steps(alloc, text, &unit.body, unit.body.steps.as_slice(), place)?;
-    }
-    Ok(())
-}
-
-// The instructions of a body.
-fn put_steps(
-    alloc: Global,
-    text: &mut String,
-    body: &Body,
-    steps: &[Step],
-    place: Place,
-) -> Result<(), AllocError>
-    ensures { OnOk result (string_bytes text.new ≡ string_bytes text.old
-        ++ flat_map (step_text body.now place) steps.now) }
-{
-    'steps: for step in steps {
-        put_step(alloc, text, body, step, place)?;
-    }
-    Ok(())
-}
-
-// The instruction at a place.
-fn put_step(
-    alloc: Global,
-    text: &mut String,
-    body: &Body,
-    step: &Step,
-    place: Place,
-) -> Result<(), AllocError>
-    ensures { OnOk result (string_bytes text.new ≡ string_bytes text.old
-        ++ step_text body.now place step.now) }
-{
-    if is_at(step.place, place) {
-        put_jump(alloc, text, body, &step.instruction)
-    } else {
-        Ok(())
-    }
-}
-
-// The label of a jump.
-fn put_jump(
+/// Adds what is told of the label of a jump: that it doesn't stand in its unit, and one that is near (own rule).
+pub(crate) fn put_jump(
     alloc: Global,
     text: &mut String,
     body: &Body,

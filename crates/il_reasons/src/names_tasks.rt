@@ -4,13 +4,12 @@ ghost use Rattle.std.specs.Prelude.{◌≡◌, ◌++◌, Some, IfOk, OnOk, flat_
 ghost use Rattle.std.specs.List.{list_any};
 ghost use Rattle.il_rules.specs.Names.{is_one_of, program_named};
 ghost use Rattle.il_rules.specs.Types.{stored_names, named_variable, argument_targets};
-ghost use Rattle.il_reasons.specs.NamesTasks.{writer_shown, is_external_origin, is_external, store_line, first_store, writer_at, writer_of, writers, is_other, are_two, store_of_task, writers_text, stored_text, target_text, argument_text, instruction_text, step_text, unit_text, task_lines};
+ghost use Rattle.il_reasons.specs.NamesTasks.{writer_shown, is_external, store_line, first_store, writer_at, writer_of, writers, is_other, are_two, store_of_task, writers_text, stored_text};
 
-use crate::names_spots::is_at;
 use crate::names_stores::origin_named;
 use il_rules::names::Origin;
 use il_scope::{Scoped, UnitScope};
-use il_spec::tree::{Argument, Instruction, Place, ProgramLine, Reference, Step};
+use il_spec::tree::{Argument, Instruction, ProgramLine, Reference, Step};
 use std::alloc::{AllocError, Global};
 
 /// A task whose program stores into a global, and the line of the first of its stores.
@@ -20,153 +19,8 @@ pub struct Writer<'c> {
     pub line: u32,
 }
 
-/// Adds what is told of the globals that are stored into at a place: the tasks that store into each, if there are two (own rule).
-#[tactic(auto, unfolding(crate::specs::NamesTasks::task_lines))]
-pub fn put_tasks_at(
-    alloc: Global,
-    text: &mut String,
-    names: &Scoped,
-    place: Place,
-) -> Result<(), AllocError>
-    ensures { OnOk result (string_bytes text.new ≡ string_bytes text.old
-        ++ task_lines names.now place) }
-{
-    put_units(alloc, text, names, place)
-}
-
-fn put_units(
-    alloc: Global,
-    text: &mut String,
-    names: &Scoped,
-    place: Place,
-) -> Result<(), AllocError>
-    ensures { OnOk result (string_bytes text.new ≡ string_bytes text.old
-        ++ flat_map (unit_text names.now place) names.now.units) }
-{
-    let units = names.config().units.as_slice();
-    'units: for at in 0..units.len() {
-        let here = UnitScope::of(names, at, &units[at]);
-        put_unit(alloc, text, &here, place)?;
-    }
-    Ok(())
-}
-
-fn put_unit(
-    alloc: Global,
-    text: &mut String,
-    here: &UnitScope<'_>,
-    place: Place,
-) -> Result<(), AllocError>
-    ensures { OnOk result (string_bytes text.new ≡ string_bytes text.old
-        ++ unit_text here.now.config place here.now.unit) }
-{
-    let unit = here.tree();
-    put_steps(alloc, text, here, unit.body.steps.as_slice(), place)
-}
-
-fn put_steps(
-    alloc: Global,
-    text: &mut String,
-    here: &UnitScope<'_>,
-    steps: &[Step],
-    place: Place,
-) -> Result<(), AllocError>
-    ensures { OnOk result (string_bytes text.new ≡ string_bytes text.old
-        ++ flat_map (step_text here.now.config here.now.unit place) steps.now) }
-{
-    'steps: for step in steps {
-        put_step(alloc, text, here, step, place)?;
-    }
-    Ok(())
-}
-
-// The instruction at a place.
-fn put_step(
-    alloc: Global,
-    text: &mut String,
-    here: &UnitScope<'_>,
-    step: &Step,
-    place: Place,
-) -> Result<(), AllocError>
-    ensures { OnOk result (string_bytes text.new ≡ string_bytes text.old
-        ++ step_text here.now.config here.now.unit place step.now) }
-{
-    if is_at(step.place, place) {
-        put_instruction(alloc, text, here, &step.instruction)
-    } else {
-        Ok(())
-    }
-}
-
-// The targets of an instruction.
-fn put_instruction(
-    alloc: Global,
-    text: &mut String,
-    here: &UnitScope<'_>,
-    instruction: &Instruction,
-) -> Result<(), AllocError>
-    ensures { OnOk result (string_bytes text.new ≡ string_bytes text.old
-        ++ instruction_text here.now.config here.now.unit instruction.now) }
-{
-    match instruction {
-        Instruction::Store { target, .. } => put_target(alloc, text, here, &target.reference),
-        Instruction::Call { arguments, .. } => {
-            put_arguments(alloc, text, here, arguments.as_slice())
-        }
-        _ => Ok(()),
-    }
-}
-
-fn put_arguments(
-    alloc: Global,
-    text: &mut String,
-    here: &UnitScope<'_>,
-    arguments: &[Argument],
-) -> Result<(), AllocError>
-    ensures { OnOk result (string_bytes text.new ≡ string_bytes text.old
-        ++ flat_map (argument_text here.now.config here.now.unit) arguments.now) }
-{
-    'arguments: for argument in arguments {
-        put_argument(alloc, text, here, argument)?;
-    }
-    Ok(())
-}
-
-// The target of an output.
-fn put_argument(
-    alloc: Global,
-    text: &mut String,
-    here: &UnitScope<'_>,
-    argument: &Argument,
-) -> Result<(), AllocError>
-    ensures { OnOk result (string_bytes text.new ≡ string_bytes text.old
-        ++ argument_text here.now.config here.now.unit argument.now) }
-{
-    match argument {
-        Argument::Output { target, .. } => put_stored(alloc, text, here, target.name.as_str()),
-        Argument::Input { .. } => Ok(()),
-    }
-}
-
-// The target of a store.
-fn put_target(
-    alloc: Global,
-    text: &mut String,
-    here: &UnitScope<'_>,
-    target: &Reference,
-) -> Result<(), AllocError>
-    ensures { OnOk result (string_bytes text.new ≡ string_bytes text.old
-        ++ target_text here.now.config here.now.unit target.now) }
-{
-    match target {
-        Reference::Variable(name) => put_stored(alloc, text, here, name.as_str()),
-        Reference::Element(name, _) => put_stored(alloc, text, here, name.as_str()),
-        _ => Ok(()),
-    }
-}
-
-// A name that is stored into, if it is a global.
-fn put_stored(
+/// The tasks that store into a name, if it is a global and there are two.
+pub(crate) fn put_stored(
     alloc: Global,
     text: &mut String,
     here: &UnitScope<'_>,
@@ -333,13 +187,7 @@ fn first_store(here: &UnitScope<'_>, name: &str) -> Option<u32>
 fn is_external(here: &UnitScope<'_>, name: &str) -> bool
     ensures { result ≡ is_external here.now.config here.now.unit name.now }
 {
-    is_external_origin(origin_named(here, name))
-}
-
-fn is_external_origin(origin: Option<Origin>) -> bool
-    ensures { result ≡ is_external_origin origin }
-{
-    matches!(origin, Some(Origin::External))
+    matches!(origin_named(here, name), Some(Origin::External))
 }
 
 // The line of the first step that stores into a variable.

@@ -4,7 +4,7 @@ ghost use Rattle.std.specs.Prelude.{◌≡◌, ◌++◌, OnOk, flat_map, is_some
 ghost use Rattle.il_rules.specs.Names.{block_variables, function_named};
 ghost use Rattle.il_reasons.specs.NamesNear.{near_shown, candidate_shown, nearest};
 ghost use Rattle.il_reasons.specs.NamesKnown.{functions_near};
-ghost use Rattle.il_reasons.specs.NamesUnknown.{unknown_line, unseen_line, no_function_line, instance_line, unit_line, standard_line, no_instance_line, no_word, no_word_line, unknown_text, unknown_variable, scalar_text, meaning_text, index_text, word_text, member_text, reference_text, read_text, short_form_text, argument_text, function_text, instruction_text, step_text, block_text, form_text, type_text, global_text, external_text, externals_text, types_text, unit_text, unknown_lines};
+ghost use Rattle.il_reasons.specs.NamesUnknown.{unknown_line, unseen_line, no_function_line, instance_line, unit_line, standard_line, no_instance_line, no_word_line, unknown_text, unknown_variable, scalar_text, meaning_text, index_text, word_text, member_text, reference_text, read_text, argument_text, function_text, instruction_text, block_text, type_text, global_text, external_text, externals_text, types_text, unit_text, unknown_lines};
 
 use crate::names_known::{blocks_near, functions_near, globals_near, variables_near};
 use crate::names_meant::{Access, Meant, is_visible, meaning_of};
@@ -13,12 +13,11 @@ use crate::names_spots::is_at;
 use il_scope::functions::standard_function;
 use il_scope::{Scoped, UnitScope};
 use il_spec::tree::{
-    Argument, Declaration, Form, Index, Instruction, Named, Operand, Place, Reference, Step,
+    Argument, Declaration, Form, Index, Instruction, Named, Operand, Place, Reference, Unit,
 };
 use std::alloc::{AllocError, Global};
 
-/// Adds what is told of the names that are unknown at a place: each of an instruction's, an external's, or a type's, with one that is
-/// near (own rule).
+/// Adds what is told of the declared names that are unknown at a place: an external's or a type's, with one that is near (own rule).
 #[tactic(auto, unfolding(crate::specs::NamesUnknown::unknown_lines))]
 pub fn put_unknown_at(
     alloc: Global,
@@ -29,45 +28,43 @@ pub fn put_unknown_at(
     ensures { OnOk result (string_bytes text.new ≡ string_bytes text.old
         ++ unknown_lines names.now place) }
 {
-    put_units(alloc, text, names, place)?;
-    put_types(alloc, text, names, names.config().globals.as_slice(), place)
+    let config = names.config();
+    put_units(alloc, text, names, config.units.as_slice(), place)?;
+    put_types(alloc, text, names, config.globals.as_slice(), place)
 }
 
 fn put_units(
     alloc: Global,
     text: &mut String,
     names: &Scoped,
+    units: &[Unit],
     place: Place,
 ) -> Result<(), AllocError>
     ensures { OnOk result (string_bytes text.new ≡ string_bytes text.old
-        ++ flat_map (unit_text names.now place) names.now.units) }
+        ++ flat_map (unit_text names.now place) units.now) }
 {
-    let units = names.config().units.as_slice();
-    'units: for at in 0..units.len() {
-        let here = UnitScope::of(names, at, &units[at]);
-        put_unit(alloc, text, &here, place)?;
+    'units: for unit in units {
+        put_unit(alloc, text, names, unit, place)?;
     }
     Ok(())
 }
 
-// The types, the external names and the names in instructions of a unit.
+// The types and the external names of a unit.
 fn put_unit(
     alloc: Global,
     text: &mut String,
-    here: &UnitScope<'_>,
+    names: &Scoped,
+    unit: &Unit,
     place: Place,
 ) -> Result<(), AllocError>
     ensures { OnOk result (string_bytes text.new ≡ string_bytes text.old
-        ++ unit_text here.now.config place here.now.unit) }
+        ++ unit_text names.now place unit.now) }
 {
-    let names = here.names();
-    let unit = here.tree();
     put_types(alloc, text, names, unit.inputs.as_slice(), place)?;
     put_types(alloc, text, names, unit.outputs.as_slice(), place)?;
     put_types(alloc, text, names, unit.variables.as_slice(), place)?;
     put_types(alloc, text, names, unit.externals.as_slice(), place)?;
-    put_externals(alloc, text, names, unit.externals.as_slice(), place)?;
-    put_steps(alloc, text, here, unit.body.steps.as_slice(), place)
+    put_externals(alloc, text, names, unit.externals.as_slice(), place)
 }
 
 // The types of declarations.
@@ -87,7 +84,7 @@ fn put_types(
     Ok(())
 }
 
-// The type at a place.
+// The type at a place, where it is a name that is no block's.
 fn put_type(
     alloc: Global,
     text: &mut String,
@@ -98,19 +95,10 @@ fn put_type(
     ensures { OnOk result (string_bytes text.new ≡ string_bytes text.old
         ++ type_text names.now place declaration.now) }
 {
-    if is_at(declaration.declared.place, place) {
-        put_form(alloc, text, names, &declaration.declared.form)
-    } else {
-        Ok(())
+    if !is_at(declaration.declared.place, place) {
+        return Ok(());
     }
-}
-
-// A type's name that is no block's.
-fn put_form(alloc: Global, text: &mut String, names: &Scoped, form: &Form) -> Result<(), AllocError>
-    ensures { OnOk result (string_bytes text.new ≡ string_bytes text.old
-        ++ form_text names.now form.now) }
-{
-    match form {
+    match &declaration.declared.form {
         Form::Block(name) => put_block(alloc, text, names, name.as_str()),
         _ => Ok(()),
     }
@@ -206,43 +194,8 @@ fn put_global(
     put_unknown(alloc, text, name, known.as_slice())
 }
 
-// The instructions of a unit.
-fn put_steps(
-    alloc: Global,
-    text: &mut String,
-    here: &UnitScope<'_>,
-    steps: &[Step],
-    place: Place,
-) -> Result<(), AllocError>
-    ensures { OnOk result (string_bytes text.new ≡ string_bytes text.old
-        ++ flat_map (step_text here.now.config here.now.unit place) steps.now) }
-{
-    'steps: for step in steps {
-        put_step(alloc, text, here, step, place)?;
-    }
-    Ok(())
-}
-
-// The instruction at a place.
-fn put_step(
-    alloc: Global,
-    text: &mut String,
-    here: &UnitScope<'_>,
-    step: &Step,
-    place: Place,
-) -> Result<(), AllocError>
-    ensures { OnOk result (string_bytes text.new ≡ string_bytes text.old
-        ++ step_text here.now.config here.now.unit place step.now) }
-{
-    if is_at(step.place, place) {
-        put_instruction(alloc, text, here, &step.instruction)
-    } else {
-        Ok(())
-    }
-}
-
-// The names of an instruction; labels are no such names.
-fn put_instruction(
+/// Adds what is told of the unknown names of an instruction; labels are no such names (own rule).
+pub(crate) fn put_instruction(
     alloc: Global,
     text: &mut String,
     here: &UnitScope<'_>,
@@ -252,54 +205,41 @@ fn put_instruction(
         ++ instruction_text here.now.config here.now.unit instruction.now) }
 {
     match instruction {
-        Instruction::Load { operand, .. } => put_read(alloc, text, here, operand),
+        Instruction::Load { operand, .. } => put_reference(
+            alloc,
+            text,
+            here,
+            Access::Reads,
+            &operand.reference,
+        ),
         Instruction::Store { target, .. } => {
             put_reference(alloc, text, here, Access::Stores, &target.reference)
         }
-        Instruction::Operate { operand, .. } => put_read(alloc, text, here, operand),
-        Instruction::Defer { first, .. } => put_short_form(alloc, text, here, first),
+        Instruction::Operate { operand, .. } => put_reference(
+            alloc,
+            text,
+            here,
+            Access::Reads,
+            &operand.reference,
+        ),
+        Instruction::Defer { first, .. } => match first {
+            Some(operand) => { put_reference(alloc, text, here, Access::Reads, &operand.reference) }
+            None => Ok(()),
+        },
         Instruction::Call {
             instance,
             arguments,
             ..
-        } => put_call(alloc, text, here, instance, arguments.as_slice()),
+        } => {
+            put_meaning(alloc, text, here, instance.name.as_str())?;
+            put_arguments(alloc, text, here, arguments.as_slice())
+        }
         Instruction::Invoke { function, operands } => {
-            put_invoke(alloc, text, here, function, operands.as_slice())
+            put_function(alloc, text, here.names(), function.name.as_str())?;
+            put_operands(alloc, text, here, operands.as_slice())
         }
         _ => Ok(()),
     }
-}
-
-// The operand of a short form, if there is one.
-fn put_short_form(
-    alloc: Global,
-    text: &mut String,
-    here: &UnitScope<'_>,
-    first: &Option<Operand>,
-) -> Result<(), AllocError>
-    ensures { OnOk result (string_bytes text.new ≡ string_bytes text.old
-        ++ short_form_text here.now.config here.now.unit first.now) }
-{
-    match first {
-        Some(operand) => put_read(alloc, text, here, operand),
-        None => Ok(()),
-    }
-}
-
-// The names of a CAL.
-fn put_call(
-    alloc: Global,
-    text: &mut String,
-    here: &UnitScope<'_>,
-    instance: &Named,
-    arguments: &[Argument],
-) -> Result<(), AllocError>
-    ensures { OnOk result (string_bytes text.new ≡ string_bytes text.old
-        ++ (meaning_text here.now.config here.now.unit instance.now.name
-        ++ flat_map (argument_text here.now.config here.now.unit) arguments.now)) }
-{
-    put_meaning(alloc, text, here, instance.name.as_str())?;
-    put_arguments(alloc, text, here, arguments)
 }
 
 fn put_arguments(
@@ -327,25 +267,15 @@ fn put_argument(
         ++ argument_text here.now.config here.now.unit argument.now) }
 {
     match argument {
-        Argument::Input { operand, .. } => put_read(alloc, text, here, operand),
+        Argument::Input { operand, .. } => put_reference(
+            alloc,
+            text,
+            here,
+            Access::Reads,
+            &operand.reference,
+        ),
         Argument::Output { target, .. } => put_scalar(alloc, text, here, target.name.as_str()),
     }
-}
-
-// The names of a function's call.
-fn put_invoke(
-    alloc: Global,
-    text: &mut String,
-    here: &UnitScope<'_>,
-    function: &Named,
-    operands: &[Operand],
-) -> Result<(), AllocError>
-    ensures { OnOk result (string_bytes text.new ≡ string_bytes text.old
-        ++ (function_text here.now.config function.now.name
-        ++ flat_map (read_text here.now.config here.now.unit) operands.now)) }
-{
-    put_function(alloc, text, here.names(), function.name.as_str())?;
-    put_operands(alloc, text, here, operands)
 }
 
 fn put_operands(
@@ -358,7 +288,7 @@ fn put_operands(
         ++ flat_map (read_text here.now.config here.now.unit) operands.now) }
 {
     'operands: for operand in operands {
-        put_read(alloc, text, here, operand)?;
+        put_reference(alloc, text, here, Access::Reads, &operand.reference)?;
     }
     Ok(())
 }
@@ -406,19 +336,6 @@ fn put_no_function(
     put_no_function_line(text, name, near)
 }
 
-// What is read of an operand.
-fn put_read(
-    alloc: Global,
-    text: &mut String,
-    here: &UnitScope<'_>,
-    operand: &Operand,
-) -> Result<(), AllocError>
-    ensures { OnOk result (string_bytes text.new ≡ string_bytes text.old
-        ++ read_text here.now.config here.now.unit operand.now) }
-{
-    put_reference(alloc, text, here, Access::Reads, &operand.reference)
-}
-
 // What an operand names.
 fn put_reference(
     alloc: Global,
@@ -433,26 +350,14 @@ fn put_reference(
     match reference {
         Reference::Literal(_) => Ok(()),
         Reference::Variable(name) => put_scalar(alloc, text, here, name.as_str()),
-        Reference::Element(name, index) => put_element(alloc, text, here, name.as_str(), index),
+        Reference::Element(name, index) => {
+            put_meaning(alloc, text, here, name.as_str())?;
+            put_index(alloc, text, here, index)
+        }
         Reference::Member(name, word) => {
             put_member(alloc, text, here, access, name.as_str(), word.as_str())
         }
     }
-}
-
-fn put_element(
-    alloc: Global,
-    text: &mut String,
-    here: &UnitScope<'_>,
-    name: &str,
-    index: &Index,
-) -> Result<(), AllocError>
-    ensures { OnOk result (string_bytes text.new ≡ string_bytes text.old
-        ++ (meaning_text here.now.config here.now.unit name.now
-        ++ index_text here.now.config here.now.unit index.now)) }
-{
-    put_meaning(alloc, text, here, name)?;
-    put_index(alloc, text, here, index)
 }
 
 fn put_index(
@@ -587,8 +492,11 @@ fn put_unseen_line(text: &mut String, name: &str) -> Result<(), AllocError>
     ensures { OnOk result (string_bytes text.new ≡ string_bytes text.old
         ++ unseen_line name.now) }
 {
-    text.push_str(name)?;
-    text.push_str(" is a predeclared name that this unit does not see\n")
+    writeln!(
+        text,
+        "{} is a predeclared name that this unit does not see",
+        name
+    )
 }
 
 #[tactic(auto, unfolding(crate::specs::NamesUnknown::no_function_line))]
@@ -649,16 +557,8 @@ fn put_no_word_line(
     ensures { OnOk result (string_bytes text.new ≡ string_bytes text.old
         ++ no_word_line access name.now word.now) }
 {
-    text.push_str(name)?;
-    put_no_word(text, access)?;
-    writeln!(text, "{}", word)
-}
-
-fn put_no_word(text: &mut String, access: Access) -> Result<(), AllocError>
-    ensures { OnOk result (string_bytes text.new ≡ string_bytes text.old ++ no_word access) }
-{
     match access {
-        Access::Reads => text.push_str(" has no output "),
-        Access::Stores => text.push_str(" has no input "),
+        Access::Reads => writeln!(text, "{} has no output {}", name, word),
+        Access::Stores => writeln!(text, "{} has no input {}", name, word),
     }
 }

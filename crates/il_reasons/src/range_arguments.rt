@@ -1,7 +1,7 @@
 // What is told of an argument of an instance that may leave its input's range, and of an output that may leave its target's.
 
 ghost use Rattle.std.specs.Prelude.{◌≡◌, ◌++◌, flat_map, OnOk, string_bytes};
-ghost use Rattle.il_reasons.specs.RangeReasons.{of_text, input_text, input_unless, input_by, output_text, limits_in, output_unless, output_by, argument_text, aim_text, call_text, invoke_text, arguments_text};
+ghost use Rattle.il_reasons.specs.RangeReasons.{of_text, input_text, input_by, output_text, limits_in, output_by, argument_text, aim_text, arguments_text};
 
 use crate::range_divisors::put_value;
 use crate::range_inputs::put_function;
@@ -25,11 +25,8 @@ fn put_of(
     ensures { OnOk result (string_bytes text.new ≡ string_bytes text.old
         ++ of_text kind.now word.now instance.now verb.now) }
 {
-    text.push_str(kind)?;
-    text.push_str(word)?;
-    text.push_str(" of ")?;
-    text.push_str(instance)?;
-    text.push_str(verb)
+    write!(text, "{}{} of ", kind, word)?;
+    write!(text, "{}{}", instance, verb)
 }
 
 // `input PV of C takes INT (0..100), and the value N is 0..300`
@@ -49,26 +46,7 @@ fn put_input(
     put_value(text, reference, range)
 }
 
-// The same, where the range may leave the input's.
-fn put_input_unless(
-    text: &mut String,
-    instance: &str,
-    word: &str,
-    scalar: Scalar,
-    reference: &Reference,
-    range: Interval,
-) -> Result<(), AllocError>
-    ensures { OnOk result (string_bytes text.new ≡ string_bytes text.old
-        ++ input_unless instance.now word.now scalar reference.now range) }
-{
-    if lies_in(range, declared_limits(scalar)) {
-        Ok(())
-    } else {
-        put_input(text, instance, word, scalar, reference, range)
-    }
-}
-
-// The same, where both have a range.
+// The same, where both have a range, and it may leave the input's.
 fn put_input_by(
     text: &mut String,
     instance: &str,
@@ -82,7 +60,11 @@ fn put_input_by(
 {
     match (scalar, range) {
         (Some(scalar), Some(range)) => {
-            put_input_unless(text, instance, word, scalar, reference, range)
+            if lies_in(range, declared_limits(scalar)) {
+                Ok(())
+            } else {
+                put_input(text, instance, word, scalar, reference, range)
+            }
         }
         _ => Ok(()),
     }
@@ -93,9 +75,7 @@ fn put_aim(text: &mut String, unit: &Unit, target: &str, aim: Scalar) -> Result<
     ensures { OnOk result (string_bytes text.new ≡ string_bytes text.old
         ++ aim_text unit.now target.now aim) }
 {
-    text.push_str(", and the target is ")?;
-    text.push_str(target)?;
-    text.push_str(" : ")?;
+    write!(text, ", and the target is {} : ", target)?;
     put_scalar(text, aim)?;
     put_line_of(text, unit, target)?;
     text.push_str("\n")
@@ -131,27 +111,7 @@ fn limits_in(limits: Option<Subrange>, others: Option<Subrange>) -> bool
     }
 }
 
-// The same, where the output may leave the target's range.
-fn put_output_unless(
-    text: &mut String,
-    unit: &Unit,
-    instance: &str,
-    word: &str,
-    scalar: Scalar,
-    target: &str,
-    aim: Scalar,
-) -> Result<(), AllocError>
-    ensures { OnOk result (string_bytes text.new ≡ string_bytes text.old
-        ++ output_unless unit.now instance.now word.now scalar target.now aim) }
-{
-    if limits_in(declared_limits(scalar), declared_limits(aim)) {
-        Ok(())
-    } else {
-        put_output(text, unit, instance, word, scalar, target, aim)
-    }
-}
-
-// The same, where both have a scalar type.
+// The same, where both have a scalar type, and the output may leave the target's range.
 fn put_output_by(
     text: &mut String,
     unit: &Unit,
@@ -166,7 +126,11 @@ fn put_output_by(
 {
     match (scalar, aim) {
         (Some(scalar), Some(aim)) => {
-            put_output_unless(text, unit, instance, word, scalar, target, aim)
+            if limits_in(declared_limits(scalar), declared_limits(aim)) {
+                Ok(())
+            } else {
+                put_output(text, unit, instance, word, scalar, target, aim)
+            }
         }
         _ => Ok(()),
     }
@@ -217,15 +181,15 @@ fn put_each(
     Ok(())
 }
 
-// Of a call of an instance.
-fn put_call(
+/// Of an instruction.
+pub(crate) fn put_arguments(
     text: &mut String,
     unit: &UnitScope,
     known: &PlaceFacts,
     instruction: &Instruction,
 ) -> Result<(), AllocError>
     ensures { OnOk result (string_bytes text.new ≡ string_bytes text.old
-        ++ call_text unit.now known.now instruction.now) }
+        ++ arguments_text unit.now known.now instruction.now) }
 {
     match instruction {
         Instruction::Call {
@@ -239,21 +203,6 @@ fn put_call(
             instance.name.as_str(),
             arguments.as_slice(),
         ),
-        _ => Ok(()),
-    }
-}
-
-// Of a call of a function.
-fn put_invoke(
-    text: &mut String,
-    unit: &UnitScope,
-    known: &PlaceFacts,
-    instruction: &Instruction,
-) -> Result<(), AllocError>
-    ensures { OnOk result (string_bytes text.new ≡ string_bytes text.old
-        ++ invoke_text unit.now known.now instruction.now) }
-{
-    match instruction {
         Instruction::Invoke { function, operands } => {
             put_function(
                 text,
@@ -265,18 +214,4 @@ fn put_invoke(
         }
         _ => Ok(()),
     }
-}
-
-/// Of an instruction.
-pub(crate) fn put_arguments(
-    text: &mut String,
-    unit: &UnitScope,
-    known: &PlaceFacts,
-    instruction: &Instruction,
-) -> Result<(), AllocError>
-    ensures { OnOk result (string_bytes text.new ≡ string_bytes text.old
-        ++ arguments_text unit.now known.now instruction.now) }
-{
-    put_call(text, unit, known, instruction)?;
-    put_invoke(text, unit, known, instruction)
 }

@@ -3,7 +3,7 @@
 ghost use Rattle.std.specs.Prelude.{◌≡◌, ◌++◌, OnOk, codes, string_bytes};
 ghost use Rattle.il_ranges.specs.Kinds.{is_division};
 ghost use Rattle.il_reasons.specs.RangeWords.{ends_text, reference_text};
-ghost use Rattle.il_reasons.specs.RangeReasons.{operand_name, divided_text, divided_by, inner_text, divisor_text, value_text};
+ghost use Rattle.il_reasons.specs.RangeReasons.{operand_name, divided_by, inner_text, divisor_text, value_text};
 
 use crate::range_operands::range_at;
 use crate::range_words::{put, put_ends, put_reference};
@@ -78,21 +78,6 @@ fn put_divisor_range(
     put_named_range(text, reference, range)
 }
 
-// The same, where there is a range.
-fn put_divided(
-    text: &mut String,
-    reference: &Reference,
-    range: Option<Interval>,
-) -> Result<(), AllocError>
-    ensures { OnOk result (string_bytes text.new ≡ string_bytes text.old
-        ++ divided_text reference.now range) }
-{
-    match range {
-        Some(range) => put_divisor_range(text, reference, range),
-        None => Ok(()),
-    }
-}
-
 // Whether an operator divides.
 fn is_division(operator: Operator) -> bool
     ensures { result ≡ is_division operator }
@@ -103,7 +88,7 @@ fn is_division(operator: Operator) -> bool
     )
 }
 
-// The same of an operator that divides.
+// The same of an operator that divides, where there is a range.
 fn put_divided_by(
     text: &mut String,
     operator: Operator,
@@ -113,10 +98,12 @@ fn put_divided_by(
     ensures { OnOk result (string_bytes text.new ≡ string_bytes text.old
         ++ divided_by operator reference.now range) }
 {
-    if is_division(operator) {
-        put_divided(text, reference, range)
-    } else {
-        Ok(())
+    if !is_division(operator) {
+        return Ok(());
+    }
+    match range {
+        Some(range) => put_divisor_range(text, reference, range),
+        None => Ok(()),
     }
 }
 

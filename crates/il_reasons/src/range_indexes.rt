@@ -1,7 +1,7 @@
 // What is told of an index that may lie outside of its array.
 
 ghost use Rattle.std.specs.Prelude.{◌≡◌, ◌++◌, OnOk, string_bytes};
-ghost use Rattle.il_reasons.specs.RangeReasons.{index_range, array_has_text, outside_text, unless_within, array_text, element_text, operand_index_text, first_index_text, argument_index_text, operands_index_text, arguments_index_text, indexes_text};
+ghost use Rattle.il_reasons.specs.RangeReasons.{index_range, array_has_text, outside_text, element_text, operand_index_text, argument_index_text, operands_index_text, arguments_index_text, indexes_text};
 
 use crate::range_operands::{bounds_named, lies_within, only};
 use crate::range_words::{put, put_ends, put_index_name, put_limits, put_line_of};
@@ -31,9 +31,7 @@ fn put_array_has(
     ensures { OnOk result (string_bytes text.new ≡ string_bytes text.old
         ++ array_has_text unit.now name.now bounds) }
 {
-    text.push_str(", and ")?;
-    text.push_str(name)?;
-    text.push_str(" has ")?;
+    write!(text, ", and {} has ", name)?;
     put_limits(text, bounds)?;
     put_line_of(text, unit, name)?;
     text.push_str("\n")
@@ -58,44 +56,7 @@ fn put_outside(
     put_array_has(text, unit, name, bounds)
 }
 
-// The same, where the index may lie outside of the array.
-fn put_unless_within(
-    text: &mut String,
-    unit: &Unit,
-    name: &str,
-    index: &Index,
-    range: Interval,
-    bounds: Subrange,
-) -> Result<(), AllocError>
-    ensures { OnOk result (string_bytes text.new ≡ string_bytes text.old
-        ++ unless_within unit.now name.now index.now range bounds) }
-{
-    if lies_within(range, bounds) {
-        Ok(())
-    } else {
-        put_outside(text, unit, name, index, range, bounds)
-    }
-}
-
-// The same, where the name is that of an array.
-fn put_array(
-    text: &mut String,
-    unit: &Unit,
-    name: &str,
-    index: &Index,
-    range: Interval,
-    bounds: Option<Subrange>,
-) -> Result<(), AllocError>
-    ensures { OnOk result (string_bytes text.new ≡ string_bytes text.old
-        ++ array_text unit.now name.now index.now range bounds) }
-{
-    match bounds {
-        Some(bounds) => put_unless_within(text, unit, name, index, range, bounds),
-        None => Ok(()),
-    }
-}
-
-// The same, where the index has a range.
+// The same, where the name is that of an array, and the index has a range that may lie outside of it.
 fn put_element(
     text: &mut String,
     unit: &UnitScope,
@@ -106,10 +67,16 @@ fn put_element(
     ensures { OnOk result (string_bytes text.new ≡ string_bytes text.old
         ++ element_text unit.now name.now index.now range) }
 {
-    match range {
-        Some(range) => {
-            let bounds = bounds_named(unit, name);
-            put_array(text, unit.tree(), name, index, range, bounds)
+    let Some(range) = range else {
+        return Ok(());
+    };
+    match bounds_named(unit, name) {
+        Some(bounds) => {
+            if lies_within(range, bounds) {
+                Ok(())
+            } else {
+                put_outside(text, unit.tree(), name, index, range, bounds)
+            }
         }
         None => Ok(()),
     }
@@ -130,22 +97,6 @@ fn put_operand(
             put_element(text, unit, name.as_str(), index, index_range(known, index))
         }
         _ => Ok(()),
-    }
-}
-
-// Of an operand that may not be there.
-fn put_first(
-    text: &mut String,
-    unit: &UnitScope,
-    known: &PlaceFacts,
-    first: &Option<Operand>,
-) -> Result<(), AllocError>
-    ensures { OnOk result (string_bytes text.new ≡ string_bytes text.old
-        ++ first_index_text unit.now known.now first.now) }
-{
-    match first {
-        Some(operand) => put_operand(text, unit, known, &operand.reference),
-        None => Ok(()),
     }
 }
 
@@ -211,7 +162,10 @@ pub(crate) fn put_indexes(
         Instruction::Load { operand, .. } => put_operand(text, unit, known, &operand.reference),
         Instruction::Store { target, .. } => put_operand(text, unit, known, &target.reference),
         Instruction::Operate { operand, .. } => put_operand(text, unit, known, &operand.reference),
-        Instruction::Defer { first, .. } => put_first(text, unit, known, first),
+        Instruction::Defer { first, .. } => match first {
+            Some(operand) => put_operand(text, unit, known, &operand.reference),
+            None => Ok(()),
+        },
         Instruction::Call { arguments, .. } => {
             put_arguments(text, unit, known, arguments.as_slice())
         }

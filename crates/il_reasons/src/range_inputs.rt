@@ -2,7 +2,7 @@
 
 ghost use Rattle.std.specs.Prelude.{◌≡◌, ◌++◌, OnOk, string_bytes};
 ghost use Rattle.il_rules.specs.Names.{function_named};
-ghost use Rattle.il_reasons.specs.RangeReasons.{first_text, first_unless, first_by, further_text, further_unless, further_by, operands_told, inputs_told, function_told};
+ghost use Rattle.il_reasons.specs.RangeReasons.{first_text, first_by, further_text, further_by, operands_told, inputs_told, function_told};
 
 use crate::range_divisors::put_value;
 use crate::range_operands::{lies_in, range_at};
@@ -32,24 +32,7 @@ fn put_first_input(
     text.push_str("\n")
 }
 
-// The same, where the current result may leave the input.
-fn put_first_unless(
-    text: &mut String,
-    name: &str,
-    scalar: Scalar,
-    range: Interval,
-) -> Result<(), AllocError>
-    ensures { OnOk result (string_bytes text.new ≡ string_bytes text.old
-        ++ first_unless name.now scalar range) }
-{
-    if lies_in(range, declared_limits(scalar)) {
-        Ok(())
-    } else {
-        put_first_input(text, name, scalar, range)
-    }
-}
-
-// The same, where both have a range.
+// The same, where both have a range, and the current result may leave the input.
 fn put_first(
     text: &mut String,
     name: &str,
@@ -61,7 +44,11 @@ fn put_first(
 {
     match (scalar, current) {
         (Some(scalar), Some(Known::Ranged(_, range))) => {
-            put_first_unless(text, name, scalar, range)
+            if lies_in(range, declared_limits(scalar)) {
+                Ok(())
+            } else {
+                put_first_input(text, name, scalar, range)
+            }
         }
         _ => Ok(()),
     }
@@ -85,25 +72,7 @@ fn put_further_input(
     put_value(text, reference, range)
 }
 
-// The same, where the operand may leave the input.
-fn put_further_unless(
-    text: &mut String,
-    name: &str,
-    scalar: Scalar,
-    reference: &Reference,
-    range: Interval,
-) -> Result<(), AllocError>
-    ensures { OnOk result (string_bytes text.new ≡ string_bytes text.old
-        ++ further_unless name.now scalar reference.now range) }
-{
-    if lies_in(range, declared_limits(scalar)) {
-        Ok(())
-    } else {
-        put_further_input(text, name, scalar, reference, range)
-    }
-}
-
-// The same, where both have a range.
+// The same, where both have a range, and the operand may leave the input.
 fn put_further(
     text: &mut String,
     name: &str,
@@ -115,7 +84,13 @@ fn put_further(
         ++ further_by name.now scalar reference.now range) }
 {
     match (scalar, range) {
-        (Some(scalar), Some(range)) => put_further_unless(text, name, scalar, reference, range),
+        (Some(scalar), Some(range)) => {
+            if lies_in(range, declared_limits(scalar)) {
+                Ok(())
+            } else {
+                put_further_input(text, name, scalar, reference, range)
+            }
+        }
         _ => Ok(()),
     }
 }

@@ -3,8 +3,9 @@
 ghost use Rattle.std.specs.Prelude.{◌≡◌, ◌++◌, OnOk, true, codes, string_bytes};
 ghost use Rattle.il_spec.specs.ElementaryTypes.{plain};
 ghost use Rattle.il_interval.specs.Interval.{IsOperand};
+ghost use Rattle.il_range_laws.specs.Found.{combined};
 ghost use Rattle.il_reasons.specs.RangeWords.{scalar_text};
-ghost use Rattle.il_reasons.specs.RangeReasons.{sign_text, given_by, is_end, is_operand, given_from, left_text, operated_text, operated_unless, operated_by, right_text, sides_text, operator_text, converted_text, converted_unless, absolute_text, absolute_unless, absolute_of, function_text, standard_text, invoked_text, overflow_text};
+ghost use Rattle.il_reasons.specs.RangeReasons.{sign_text, is_end, is_operand, given_from, left_text, operated_text, operated_by, sides_text, operator_text, known_range, evaluated_text, converted_unless, absolute_text, absolute_of, function_text, invoked_text, overflow_text};
 
 use crate::range_operands::{lies_in, range_at};
 use crate::range_words::{put, put_ends, put_scalar};
@@ -12,10 +13,11 @@ use il_interval::Interval;
 use il_ranges::PlaceFacts;
 use il_rules::elementary::limits;
 use il_rules::names::StandardFunction;
-use il_run::known::Known;
+use il_run::known::{Known, KnownDeferred};
 use il_scope::UnitScope;
 use il_scope::functions::standard_function;
 use il_spec::tree::{Arithmetic, Elementary, Instruction, Operator, Reference, Scalar};
+use il_transfer::may_be_zero;
 use std::alloc::AllocError;
 
 // An elementary type without a subrange.
@@ -41,18 +43,30 @@ fn sign_text(kind: Arithmetic) -> &'static str
     }
 }
 
-// What an operation gives for all values of its sides, as far as it is told.
-fn given_by(kind: Arithmetic, left: Interval, right: Interval) -> Option<Interval>
+// What an operation gives for all values of its sides; nothing where a divisor may be 0.
+fn combined(kind: Arithmetic, left: Interval, right: Interval) -> Option<Interval>
     requires left { IsOperand left }
     requires right { IsOperand right }
-    ensures { result ≡ given_by kind left right }
+    ensures { result ≡ combined kind left right }
 {
     match kind {
         Arithmetic::Add => Some(left.add(right)),
         Arithmetic::Sub => Some(left.sub(right)),
         Arithmetic::Mul => Some(left.mul(right)),
-        Arithmetic::Div => None,
-        Arithmetic::Mod => None,
+        Arithmetic::Div => {
+            if may_be_zero(right) {
+                None
+            } else {
+                Some(left.div(right))
+            }
+        }
+        Arithmetic::Mod => {
+            if may_be_zero(right) {
+                None
+            } else {
+                Some(left.mod_(right))
+            }
+        }
     }
 }
 
@@ -76,7 +90,7 @@ fn given_from(kind: Arithmetic, left: Interval, right: Interval) -> Option<Inter
     ensures { result ≡ given_from kind left right }
 {
     if is_operand(left) && is_operand(right) {
-        given_by(kind, left, right)
+        combined(kind, left, right)
     } else {
         None
     }
@@ -112,26 +126,7 @@ fn put_operated(
     put_left(text, elementary, given)
 }
 
-// The same, where the range is not of the type.
-fn put_operated_unless(
-    text: &mut String,
-    elementary: Elementary,
-    kind: Arithmetic,
-    left: Interval,
-    right: Interval,
-    given: Interval,
-) -> Result<(), AllocError>
-    ensures { OnOk result (string_bytes text.new ≡ string_bytes text.old
-        ++ operated_unless elementary kind left right given) }
-{
-    if lies_in(given, limits(elementary)) {
-        Ok(())
-    } else {
-        put_operated(text, elementary, kind, left, right, given)
-    }
-}
-
-// The same, where there is a range.
+// The same, where there is a range, and it is not of the type.
 fn put_operated_by(
     text: &mut String,
     elementary: Elementary,
@@ -144,32 +139,18 @@ fn put_operated_by(
         ++ operated_by elementary kind left right given) }
 {
     match given {
-        Some(given) => put_operated_unless(text, elementary, kind, left, right, given),
-        None => Ok(()),
-    }
-}
-
-// The same, where the right side has a range.
-fn put_right(
-    text: &mut String,
-    elementary: Elementary,
-    kind: Arithmetic,
-    left: Interval,
-    right: Option<Interval>,
-) -> Result<(), AllocError>
-    ensures { OnOk result (string_bytes text.new ≡ string_bytes text.old
-        ++ right_text elementary kind left right) }
-{
-    match right {
-        Some(right) => {
-            let given = given_from(kind, left, right);
-            put_operated_by(text, elementary, kind, left, right, given)
+        Some(given) => {
+            if lies_in(given, limits(elementary)) {
+                Ok(())
+            } else {
+                put_operated(text, elementary, kind, left, right, given)
+            }
         }
         None => Ok(()),
     }
 }
 
-// The same, where the left side has a range.
+// The same, where both sides have a range.
 fn put_sides(
     text: &mut String,
     kind: Arithmetic,
@@ -180,7 +161,13 @@ fn put_sides(
         ++ sides_text kind left right) }
 {
     match left {
-        Some(Known::Ranged(elementary, left)) => put_right(text, elementary, kind, left, right),
+        Some(Known::Ranged(elementary, left)) => match right {
+            Some(right) => {
+                let given = given_from(kind, left, right);
+                put_operated_by(text, elementary, kind, left, right, given)
+            }
+            None => Ok(()),
+        },
         Some(Known::Flag) => Ok(()),
         None => Ok(()),
     }
@@ -215,16 +202,7 @@ fn put_outside(text: &mut String, scalar: Scalar) -> Result<(), AllocError>
     put(text, "\n")
 }
 
-// `0..300 is outside SINT (-128..127)`
-fn put_converted(text: &mut String, to: Elementary, range: Interval) -> Result<(), AllocError>
-    ensures { OnOk result (string_bytes text.new ≡ string_bytes text.old
-        ++ converted_text to range) }
-{
-    put_ends(text, range)?;
-    put_outside(text, plain(to))
-}
-
-// The same, where it is.
+// `0..300 is outside SINT (-128..127)`, where it is.
 fn put_converted_unless(
     text: &mut String,
     to: Elementary,
@@ -236,7 +214,8 @@ fn put_converted_unless(
     if lies_in(range, limits(to)) {
         Ok(())
     } else {
-        put_converted(text, to, range)
+        put_ends(text, range)?;
+        put_outside(text, plain(to))
     }
 }
 
@@ -255,24 +234,7 @@ fn put_absolute(
     put_left(text, elementary, range.abs())
 }
 
-// The same, where it is.
-fn put_absolute_unless(
-    text: &mut String,
-    elementary: Elementary,
-    range: Interval,
-) -> Result<(), AllocError>
-    requires { IsOperand range }
-    ensures { OnOk result (string_bytes text.new ≡ string_bytes text.old
-        ++ absolute_unless elementary range) }
-{
-    if lies_in(range.abs(), limits(elementary)) {
-        Ok(())
-    } else {
-        put_absolute(text, elementary, range)
-    }
-}
-
-// The same of a range that can be an operand.
+// The same of a range that can be an operand, where it is.
 fn put_absolute_of(
     text: &mut String,
     elementary: Elementary,
@@ -281,10 +243,13 @@ fn put_absolute_of(
     ensures { OnOk result (string_bytes text.new ≡ string_bytes text.old
         ++ absolute_of elementary range) }
 {
-    if is_operand(range) {
-        put_absolute_unless(text, elementary, range)
-    } else {
+    if !is_operand(range) {
+        return Ok(());
+    }
+    if lies_in(range.abs(), limits(elementary)) {
         Ok(())
+    } else {
+        put_absolute(text, elementary, range)
     }
 }
 
@@ -305,23 +270,7 @@ fn put_function(
     }
 }
 
-// The same, where there is one.
-fn put_standard(
-    text: &mut String,
-    function: Option<StandardFunction>,
-    elementary: Elementary,
-    range: Interval,
-) -> Result<(), AllocError>
-    ensures { OnOk result (string_bytes text.new ≡ string_bytes text.old
-        ++ standard_text function elementary range) }
-{
-    match function {
-        Some(function) => put_function(text, function, elementary, range),
-        None => Ok(()),
-    }
-}
-
-// The same, where the current result has a range.
+// The same, where there is one, and the current result has a range.
 fn put_invoked(
     text: &mut String,
     function: Option<StandardFunction>,
@@ -331,9 +280,43 @@ fn put_invoked(
         ++ invoked_text function current) }
 {
     match current {
-        Some(Known::Ranged(elementary, range)) => put_standard(text, function, elementary, range),
+        Some(Known::Ranged(elementary, range)) => match function {
+            Some(function) => put_function(text, function, elementary, range),
+            None => Ok(()),
+        },
         Some(Known::Flag) => Ok(()),
         None => Ok(()),
+    }
+}
+
+// The range of what is known of a value, if it has one.
+fn known_range(known: Option<Known>) -> Option<Interval>
+    ensures { result ≡ known_range known }
+{
+    match known {
+        Some(Known::Ranged(_, range)) => Some(range),
+        Some(Known::Flag) => None,
+        None => None,
+    }
+}
+
+// Of a `)`.
+fn put_evaluated(
+    text: &mut String,
+    deferred: &[KnownDeferred],
+    right: Option<Known>,
+) -> Result<(), AllocError>
+    ensures { OnOk result (string_bytes text.new ≡ string_bytes text.old
+        ++ evaluated_text deferred.now right) }
+{
+    match deferred {
+        [] => Ok(()),
+        [innermost, ..] => match innermost.operator {
+            Operator::Arithmetic(kind) => {
+                put_sides(text, kind, Some(innermost.left), known_range(right))
+            }
+            _ => Ok(()),
+        },
     }
 }
 
@@ -351,6 +334,7 @@ pub(crate) fn put_overflow(
         Instruction::Operate { operator, operand } => {
             put_operator(text, unit, known, *operator, &operand.reference)
         }
+        Instruction::Evaluate => put_evaluated(text, known.deferred(), known.result()),
         Instruction::Invoke { function, .. } => {
             let standard = standard_function(function.name.as_str());
             put_invoked(text, standard, known.result())

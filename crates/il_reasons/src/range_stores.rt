@@ -1,7 +1,7 @@
 // What is told of a stored value that may leave its variable's range.
 
 ghost use Rattle.std.specs.Prelude.{◌≡◌, ◌++◌, OnOk, string_bytes};
-ghost use Rattle.il_reasons.specs.RangeReasons.{into_text, stored_text, target_text, result_text, store_text};
+ghost use Rattle.il_reasons.specs.RangeReasons.{into_text, stored_text, result_text, store_text};
 
 use crate::range_operands::scalar_named;
 use crate::range_words::{put, put_ends, put_reference, put_scalar, put_where};
@@ -46,24 +46,7 @@ fn put_stored(
     put_into(text, unit, target, scalar)
 }
 
-// The same, where the target has a scalar type.
-fn put_target(
-    text: &mut String,
-    unit: &Unit,
-    range: Interval,
-    target: &Reference,
-    scalar: Option<Scalar>,
-) -> Result<(), AllocError>
-    ensures { OnOk result (string_bytes text.new ≡ string_bytes text.old
-        ++ target_text unit.now range target.now scalar) }
-{
-    match scalar {
-        Some(scalar) => put_stored(text, unit, range, target, scalar),
-        None => Ok(()),
-    }
-}
-
-// The same, where the current result has a range.
+// The same, where the current result has a range, and the target a scalar type.
 fn put_result(
     text: &mut String,
     unit: &UnitScope,
@@ -74,10 +57,10 @@ fn put_result(
         ++ result_text unit.now target.now current) }
 {
     match current {
-        Some(Known::Ranged(_, range)) => {
-            let scalar = scalar_named(unit, target);
-            put_target(text, unit.tree(), range, target, scalar)
-        }
+        Some(Known::Ranged(_, range)) => match scalar_named(unit, target) {
+            Some(scalar) => put_stored(text, unit.tree(), range, target, scalar),
+            None => Ok(()),
+        },
         Some(Known::Flag) => Ok(()),
         None => Ok(()),
     }

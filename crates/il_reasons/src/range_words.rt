@@ -3,31 +3,13 @@
 ghost use Rattle.std.specs.Prelude.{◌≡◌, ◌++◌, OnOk, codes, decimal, string_bytes};
 ghost use Rattle.std.specs.Fmt.{signed_decimal};
 ghost use Rattle.il_rules.specs.Names.{or_else};
-ghost use Rattle.il_reports.specs.RangeLines.{type_word};
 ghost use Rattle.il_reasons.specs.RangeWords.{both_text, ends_text, limits_text, within_text, scalar_text, index_text, index_name, reference_text, line_among, line_in, result_line, declared_line, declared_text, instance_text, where_text};
 
+use crate::types_operands::type_word;
 use il_interval::Interval;
 use il_rules::elementary::declared_limits;
-use il_spec::tree::{
-    Declaration, Elementary, Index, Named, Reference, Scalar, Subrange, Unit, UnitKind,
-};
+use il_spec::tree::{Declaration, Index, Named, Reference, Scalar, Subrange, Unit, UnitKind};
 use std::alloc::AllocError;
-
-// The word of a type.
-fn type_word(elementary: Elementary) -> &'static str
-    ensures { result.now ≡ type_word elementary }
-{
-    match elementary {
-        Elementary::Bool => "BOOL",
-        Elementary::Sint => "SINT",
-        Elementary::Int => "INT",
-        Elementary::Dint => "DINT",
-        Elementary::Usint => "USINT",
-        Elementary::Uint => "UINT",
-        Elementary::Udint => "UDINT",
-        Elementary::Time => "TIME",
-    }
-}
 
 /// A piece of text.
 pub(crate) fn put(text: &mut String, piece: &str) -> Result<(), AllocError>
@@ -112,8 +94,8 @@ fn put_spaced_name(text: &mut String, name: &str) -> Result<(), AllocError>
     text.push_str(name)
 }
 
-// An index.
-fn put_index(text: &mut String, index: &Index) -> Result<(), AllocError>
+/// An index, as it is written.
+pub(crate) fn put_index(text: &mut String, index: &Index) -> Result<(), AllocError>
     ensures { OnOk result (string_bytes text.new ≡ string_bytes text.old ++ index_text index.now) }
 {
     match index {
@@ -127,8 +109,7 @@ fn put_element(text: &mut String, name: &str, index: &Index) -> Result<(), Alloc
     ensures { OnOk result (string_bytes text.new ≡ string_bytes text.old
         ++ (name.now ++ (codes "[" ++ (index_text index.now ++ codes "]")))) }
 {
-    text.push_str(name)?;
-    text.push_str("[")?;
+    write!(text, "{}[", name)?;
     put_index(text, index)?;
     text.push_str("]")
 }
@@ -138,9 +119,7 @@ fn put_member(text: &mut String, name: &str, word: &str) -> Result<(), AllocErro
     ensures { OnOk result (string_bytes text.new ≡ string_bytes text.old
         ++ (name.now ++ (codes "." ++ word.now))) }
 {
-    text.push_str(name)?;
-    text.push_str(".")?;
-    text.push_str(word)
+    write!(text, "{}.{}", name, word)
 }
 
 /// What an operand names, as it is written; a literal names nothing.

@@ -91,8 +91,7 @@ fn put_count(
 {
     match taken {
         Some(taken) => {
-            text.push_str(name)?;
-            text.push_str(" takes ")?;
+            write!(text, "{} takes ", name)?;
             put_arguments_count(text, taken)?;
             text.push_str(", ")?;
             put_standing(text, standing)?;

@@ -32,9 +32,7 @@ fn put_input(
 {
     match found {
         Some(found) => {
-            text.push_str(named.name.as_str())?;
-            text.push_str(" of ")?;
-            text.push_str(function)?;
+            write!(text, "{} of {}", named.name.as_str(), function)?;
             put_is(text, found)
         }
         None => Ok(()),

@@ -4,7 +4,7 @@ ghost use Rattle.std.specs.Prelude.{◌≡◌, ◌++◌, OnOk, string_bytes};
 ghost use Rattle.il_rules.specs.Names.{meaning};
 ghost use Rattle.il_rules.specs.Declarations.{scalar_numbers, array_numbers, called_numbers};
 ghost use Rattle.il_declare.specs.Mentions.{scalar_of, array_of, called_of};
-ghost use Rattle.il_reasons.specs.KindReasons.{is_other_kind, array_line, no_array_line, no_instance_line, index_kind, reference_kind, first_kind, operand_kinds, argument_kind, argument_kinds, kind_lines};
+ghost use Rattle.il_reasons.specs.KindReasons.{is_other_kind, array_line, no_array_line, no_instance_line, index_kind, reference_kind, operand_kinds, argument_kind, argument_kinds, kind_lines};
 
 use il_scope::UnitScope;
 use il_scope::entry::{Binding, VariableType};
@@ -136,21 +136,6 @@ fn put_reference(
     }
 }
 
-// Of the operand of a short form, if there is one.
-fn put_first(
-    text: &mut String,
-    scope: &UnitScope<'_>,
-    first: &Option<Operand>,
-) -> Result<(), AllocError>
-    ensures { OnOk result (string_bytes text.new ≡ string_bytes text.old
-        ++ first_kind scope.now.config scope.now.unit first.now) }
-{
-    match first {
-        Some(operand) => put_reference(text, scope, &operand.reference),
-        None => Ok(()),
-    }
-}
-
 // Of operands, in the written order.
 fn put_operands(
     text: &mut String,
@@ -181,21 +166,6 @@ fn put_argument(
     }
 }
 
-// Of a CAL: its instance, and its arguments in the written order.
-fn put_call(
-    text: &mut String,
-    scope: &UnitScope<'_>,
-    instance: &str,
-    arguments: &[Argument],
-) -> Result<(), AllocError>
-    ensures { OnOk result (string_bytes text.new ≡ string_bytes text.old
-        ++ (no_instance_line scope.now.config scope.now.unit instance.now
-        ++ argument_kinds scope.now.config scope.now.unit arguments.now)) }
-{
-    put_no_instance(text, scope, instance)?;
-    put_arguments(text, scope, arguments)
-}
-
 // Of arguments.
 fn put_arguments(
     text: &mut String,
@@ -224,12 +194,18 @@ pub(crate) fn put_kinds(
         Instruction::Load { operand, .. } => put_reference(text, scope, &operand.reference),
         Instruction::Store { target, .. } => put_reference(text, scope, &target.reference),
         Instruction::Operate { operand, .. } => put_reference(text, scope, &operand.reference),
-        Instruction::Defer { first, .. } => put_first(text, scope, first),
+        Instruction::Defer { first, .. } => match first {
+            Some(operand) => put_reference(text, scope, &operand.reference),
+            None => Ok(()),
+        },
         Instruction::Call {
             instance,
             arguments,
             ..
-        } => put_call(text, scope, instance.name.as_str(), arguments.as_slice()),
+        } => {
+            put_no_instance(text, scope, instance.name.as_str())?;
+            put_arguments(text, scope, arguments.as_slice())
+        }
         Instruction::Invoke { operands, .. } => put_operands(text, scope, operands.as_slice()),
         _ => Ok(()),
     }

@@ -2,8 +2,9 @@
 
 ghost use Rattle.std.specs.Prelude.{◌≡◌, ◌++◌, OnOk, string_bytes};
 ghost use Rattle.il_reasons.specs.TypeWords.{type_word, truth_word, is_text, literal_line};
-ghost use Rattle.il_reasons.specs.TypeReasons.{name_line, index_text, index_line, element_line, member_line, reference_lines, first_lines, operands_lines, argument_lines, arguments_lines, operand_lines};
+ghost use Rattle.il_reasons.specs.TypeReasons.{name_line, index_line, element_line, member_line, reference_lines, operands_lines, argument_lines, arguments_lines, operand_lines};
 
+use crate::range_words::put_index;
 use il_spec::tree::{Argument, Elementary, Index, Instruction, Literal, Operand, Reference};
 use il_typed::scope::Scope;
 use std::alloc::AllocError;
@@ -44,8 +45,12 @@ pub(crate) fn put_literal(text: &mut String, literal: Literal) -> Result<(), All
 {
     match literal {
         Literal::Truth(value) => {
-            text.push_str(truth_word(value))?;
-            put_is(text, Elementary::Bool)
+            writeln!(
+                text,
+                "{} is {}",
+                truth_word(value),
+                type_word(Elementary::Bool)
+            )
         }
         Literal::Bare(value) => writeln!(text, "{} is a bare number", value),
         Literal::Whole(written, value) => {
@@ -65,21 +70,8 @@ fn put_name<S: Scope>(text: &mut String, scope: &S, name: &str) -> Result<(), Al
         ++ name_line (S.config scope.now) (S.unit scope.now) name.now) }
 {
     match scope.name_type(name) {
-        Some(found) => {
-            text.push_str(name)?;
-            put_is(text, found)
-        }
+        Some(found) => writeln!(text, "{} is {}", name, type_word(found)),
         None => Ok(()),
-    }
-}
-
-// An index, as it is written.
-fn put_index(text: &mut String, index: &Index) -> Result<(), AllocError>
-    ensures { OnOk result (string_bytes text.new ≡ string_bytes text.old ++ index_text index.now) }
-{
-    match index {
-        Index::Number(value) => write!(text, "{}", *value),
-        Index::Variable(name) => text.push_str(name.as_str()),
     }
 }
 
@@ -107,8 +99,7 @@ fn put_element<S: Scope>(
 {
     match scope.element_type(name) {
         Some(found) => {
-            text.push_str(name)?;
-            text.push_str("[")?;
+            write!(text, "{}[", name)?;
             put_index(text, index)?;
             text.push_str("]")?;
             put_is(text, found)
@@ -130,9 +121,7 @@ fn put_member<S: Scope>(
 {
     match scope.member_type(name, word) {
         Some(found) => {
-            text.push_str(name)?;
-            text.push_str(".")?;
-            text.push_str(word)?;
+            write!(text, "{}.{}", name, word)?;
             put_is(text, found)
         }
         None => Ok(()),
@@ -156,21 +145,6 @@ fn put_reference<S: Scope>(
             put_index_type(text, scope, index)
         }
         Reference::Member(name, word) => put_member(text, scope, name.as_str(), word.as_str()),
-    }
-}
-
-// The operand of a short form, if there is one.
-fn put_first<S: Scope>(
-    text: &mut String,
-    scope: &S,
-    first: &Option<Operand>,
-) -> Result<(), AllocError>
-    ensures { OnOk result (string_bytes text.new ≡ string_bytes text.old
-        ++ first_lines (S.config scope.now) (S.unit scope.now) first.now) }
-{
-    match first {
-        Some(operand) => put_reference(text, scope, &operand.reference),
-        None => Ok(()),
     }
 }
 
@@ -240,7 +214,10 @@ pub(crate) fn put_operands_of<S: Scope>(
         Instruction::Load { operand, .. } => put_reference(text, scope, &operand.reference),
         Instruction::Store { target, .. } => put_reference(text, scope, &target.reference),
         Instruction::Operate { operand, .. } => put_reference(text, scope, &operand.reference),
-        Instruction::Defer { first, .. } => put_first(text, scope, first),
+        Instruction::Defer { first, .. } => match first {
+            Some(operand) => put_reference(text, scope, &operand.reference),
+            None => Ok(()),
+        },
         Instruction::Call {
             instance,
             arguments,

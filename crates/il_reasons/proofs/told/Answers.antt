@@ -7,4 +7,4 @@ use Rattle.il_reasons.proofs.told.Goals as goal
 
 pub returns-then-is_of_chains : goal.returns-then-is_of_chains
 returns-then-is_of_chains c =
-    if_ok c.told-then-is_of_chains.result _ _ (λ lines told. of_chains (sym c.is_of_chains.ensures ∙ c.if-is_of_chains.true) (subst (λ (k : Config). AreToldOfChains k c.args.number c.args.place lines.items) c.in_ok-names.ensures told)) c.told-then-is_of_chains.ensures
+    if_ok c.told.result _ _ (λ lines told. of_chains (sym c.is_of_chains.ensures ∙ c.if-is_of_chains.true) (subst (λ (k : Config). AreToldOfChains k c.args.number c.args.place lines.items) c.in_ok-names.ensures told)) c.told.ensures

@@ -1,0 +1,210 @@
+// What is told of a fault that the tree shows: of the instruction at a place, and of what is declared there.
+
+ghost use Rattle.std.specs.Prelude.{◌≡◌, ◌++◌, Some, flat_map, slice_get, string_bytes, IfOk, OnOk};
+ghost use Rattle.il_rules.specs.Declarations.{IsUnknown};
+ghost use Rattle.il_rules.specs.Types.{HasUnknownLabel};
+ghost use Rattle.il_reasons.specs.NamesTold.{HasLine};
+ghost use Rattle.il_reasons.specs.ResultReasons.{IsResultToldIf};
+ghost use Rattle.il_reasons.specs.TypeReasons.{is_type_number};
+ghost use Rattle.il_reasons.specs.TreeReasons.{named_lines, instruction_lines, step_lines, unit_lines, place_lines, AreToldOfTree};
+
+use crate::names_again::put_again_at;
+use crate::names_labels::put_jump;
+use crate::names_targets::put_targets;
+use crate::names_unknown::{put_instruction as put_names, put_unknown_at};
+use crate::types::{is_type_number, put_types};
+use crate::types_arguments::put_taken;
+use crate::types_initials::put_initials;
+use crate::types_kinds::put_kinds;
+use crate::types_results::result_told;
+use il_scope::{Scoped, UnitScope};
+use il_spec::tree::{Instruction, Place, Step, Unit};
+use std::alloc::{AllocError, Global};
+
+/// What is told of a fault that the tree shows: lines, each with its line feed, or none (own rule). Of 30, 31 and 32 the type that the
+/// current result has and the one that it must have, and the operands with their types, of 37 the arguments and what is taken, of 25
+/// in an instruction the names of another kind, and at an initial value the declared names with their types, of 33 and 38 the
+/// targets. Of an unknown name (21) and of a label that does not stand in its unit (34) there is a line.
+pub(crate) fn told(
+    alloc: Global,
+    names: &Scoped,
+    number: u16,
+    place: Place,
+) -> Result<Vec<u8>, AllocError>
+    ensures told { IfOk result (λ lines. AreToldOfTree names.now number place lines.items) }
+    ensures unknown { IfOk result (λ lines. number ≡ 21 → IsUnknown names.now place
+        → HasLine lines.items) }
+    ensures label { IfOk result (λ lines. number ≡ 34 → HasUnknownLabel names.now place
+        → HasLine lines.items) }
+{
+    lines_of(alloc, names, number, place)
+}
+
+// What is told of a fault that the tree shows.
+fn lines_of(alloc: Global, names: &Scoped, number: u16, place: Place) -> Result<Vec<u8>, AllocError>
+    ensures { IfOk result (λ lines. AreToldOfTree names.now number place lines.items) }
+{
+    let mut text = result_text(alloc, names, number, place.offset)?;
+    put_units(alloc, &mut text, names, number, place.offset)?;
+    put_declared(alloc, &mut text, names, number, place)?;
+    Ok(text.into_bytes())
+}
+
+// Of what is declared at a place.
+#[tactic(auto, unfolding(crate::specs::TreeReasons::place_lines))]
+fn put_declared(
+    alloc: Global,
+    text: &mut String,
+    names: &Scoped,
+    number: u16,
+    place: Place,
+) -> Result<(), AllocError>
+    ensures { OnOk result (string_bytes text.new ≡ string_bytes text.old
+        ++ place_lines names.now number place) }
+{
+    match number {
+        20 => put_again_at(alloc, text, names, place),
+        21 => put_unknown_at(alloc, text, names, place),
+        25 => put_initials(text, names.config(), place.offset),
+        _ => Ok(()),
+    }
+}
+
+// Of the current result, where the types tell why.
+fn result_text(
+    alloc: Global,
+    names: &Scoped,
+    number: u16,
+    offset: u32,
+) -> Result<String, AllocError>
+    ensures { IfOk result (λ t.
+        IsResultToldIf (is_type_number number) names.now offset (string_bytes t)) }
+{
+    if is_type_number(number) {
+        result_told(alloc, names, offset)
+    } else {
+        Ok(String::new(alloc))
+    }
+}
+
+// Of the instruction at a place, wherever it stands.
+fn put_units(
+    alloc: Global,
+    text: &mut String,
+    names: &Scoped,
+    number: u16,
+    offset: u32,
+) -> Result<(), AllocError>
+    ensures { OnOk result (string_bytes text.new ≡ string_bytes text.old
+        ++ flat_map (unit_lines names.now number offset) names.now.units) }
+{
+    let units = names.config().units.as_slice();
+    'units: for at in 0..units.len() {
+        put_unit(alloc, text, names, at, &units[at], number, offset)?;
+    }
+    Ok(())
+}
+
+// In a unit.
+fn put_unit(
+    alloc: Global,
+    text: &mut String,
+    names: &Scoped,
+    at: usize,
+    unit: &Unit,
+    number: u16,
+    offset: u32,
+) -> Result<(), AllocError>
+    requires { slice_get names.now.units at ≡ Some unit.now }
+    ensures { OnOk result (string_bytes text.new ≡ string_bytes text.old
+        ++ unit_lines names.now number offset unit.now) }
+{
+    let scope = UnitScope::of(names, at, unit);
+    put_steps(
+        alloc,
+        text,
+        &scope,
+        unit.body.steps.as_slice(),
+        number,
+        offset,
+    )
+}
+
+// Among steps.
+fn put_steps(
+    alloc: Global,
+    text: &mut String,
+    scope: &UnitScope<'_>,
+    steps: &[Step],
+    number: u16,
+    offset: u32,
+) -> Result<(), AllocError>
+    ensures { OnOk result (string_bytes text.new ≡ string_bytes text.old
+        ++ flat_map (step_lines scope.now.config scope.now.unit number offset) steps.now) }
+{
+    'steps: for step in steps {
+        put_step(alloc, text, scope, step, number, offset)?;
+    }
+    Ok(())
+}
+
+// A step, if it is the one.
+fn put_step(
+    alloc: Global,
+    text: &mut String,
+    scope: &UnitScope<'_>,
+    step: &Step,
+    number: u16,
+    offset: u32,
+) -> Result<(), AllocError>
+    ensures { OnOk result (string_bytes text.new ≡ string_bytes text.old
+        ++ step_lines scope.now.config scope.now.unit number offset step.now) }
+{
+    if step.place.offset == offset {
+        put_instruction(alloc, text, scope, number, &step.instruction)
+    } else {
+        Ok(())
+    }
+}
+
+// What is told of an instruction.
+fn put_instruction(
+    alloc: Global,
+    text: &mut String,
+    scope: &UnitScope<'_>,
+    number: u16,
+    instruction: &Instruction,
+) -> Result<(), AllocError>
+    ensures { OnOk result (string_bytes text.new ≡ string_bytes text.old
+        ++ instruction_lines scope.now.config scope.now.unit number instruction.now) }
+{
+    if is_type_number(number) {
+        put_types(text, scope, instruction)
+    } else if number == 37 {
+        put_taken(alloc, text, scope, instruction)
+    } else if number == 25 {
+        put_kinds(text, scope, instruction)
+    } else {
+        put_named(alloc, text, scope, number, instruction)
+    }
+}
+
+// Of the names of an instruction.
+fn put_named(
+    alloc: Global,
+    text: &mut String,
+    scope: &UnitScope<'_>,
+    number: u16,
+    instruction: &Instruction,
+) -> Result<(), AllocError>
+    ensures { OnOk result (string_bytes text.new ≡ string_bytes text.old
+        ++ named_lines scope.now.config scope.now.unit number instruction.now) }
+{
+    match number {
+        21 => put_names(alloc, text, scope, instruction),
+        33 => put_targets(alloc, text, scope, number, instruction),
+        34 => put_jump(alloc, text, &scope.tree().body, instruction),
+        38 => put_targets(alloc, text, scope, number, instruction),
+        _ => Ok(()),
+    }
+}
