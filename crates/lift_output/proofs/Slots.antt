@@ -1,13 +1,17 @@
--- How much of each limit is used.
-use Rattle.std.proofs.Common.{◌≡◌, ℕ, ◌++◌, List, [], Option, Some, None, Bool, false, length, refl, sym, ap, ◌∙◌}
-use Rattle.std.specs.Prelude.{codes, is_some}
+-- How many slots a task uses.
+use Rattle.std.proofs.Common.{◌≡◌, ℕ, List, [], Option, Some, None, Bool, false, length, refl, sym, ap, ◌∙◌}
+use Rattle.std.specs.Prelude.{is_some, Result, Ok, Err, OnOk}
 use Rattle.il_spec.specs.declared.tree.Config.{Config}
 use Rattle.il_spec.specs.declared.tree.Unit.{Unit as ProgramUnit}
 use Rattle.il_layout.specs.Layout.{Rows}
 use Rattle.il_layout.specs.Program.{own_cells}
 use Rattle.il_machine.specs.Scanning.{FitsOwn}
-use Rattle.lift_spec.specs.Snapshot.{has_task, program_of, task_name}
-use Rattle.lift_output.specs.Limits.{limit_words, slots_line, task_slots}
+use Rattle.lift_spec.specs.Snapshot.{has_task, program_of}
+use Rattle.lift_output.specs.Limits.{slots_words, slots_line, task_slots}
+
+pub on_ok : {A E P Q : Type 0} (r : Result A E) → (P → Q) → OnOk r P → OnOk r Q
+on_ok (Ok x) f is = f is
+on_ok (Err e) f is = tt
 
 -- a task that isn't there has no line
 no_line : (c : Config) (o : Option ProgramUnit) (task : ℕ) → is_some o ≡ false → slots_line c o task ≡ []
@@ -19,9 +23,9 @@ pub no_slots : (c : Config) (task : ℕ) → has_task c task ≡ false → task_
 no_slots c task none = no_line c (program_of c task) task none
 
 -- another has one of its opening rows
-line_of : (c : Config) (u : ProgramUnit) (task n : ℕ) → n ≡ length (own_cells c u) → slots_line c (Some u) task ≡ limit_words (codes "slots") n 4096 ++ (codes " in " ++ (task_name task ++ codes "\n"))
+line_of : (c : Config) (u : ProgramUnit) (task n : ℕ) → n ≡ length (own_cells c u) → slots_line c (Some u) task ≡ slots_words task n
 unfolding slots_line
-line_of c u task n is = ap (λ (k : ℕ). limit_words (codes "slots") k 4096 ++ (codes " in " ++ (task_name task ++ codes "\n"))) (sym is)
+line_of c u task n is = ap (slots_words task) (sym is)
 
-pub slots_of : (c : Config) (task : ℕ) (r : Rows) → FitsOwn c task r → task_slots c task ≡ limit_words (codes "slots") (length r.numbers) 4096 ++ (codes " in " ++ (task_name task ++ codes "\n"))
+pub slots_of : (c : Config) (task : ℕ) (r : Rows) → FitsOwn c task r → task_slots c task ≡ slots_words task (length r.numbers)
 slots_of c task r fits = ap (λ (o : Option ProgramUnit). slots_line c o task) fits.1.program ∙ line_of c fits.0 task (length r.numbers) fits.2.numbers

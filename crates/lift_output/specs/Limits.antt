@@ -77,20 +77,28 @@ abbrev pub chain_from : List (List Bool) → List ℕ → ℕ → ℕ → ℕ
 chain_from used lengths count from = min (greatest_below count (λ to. chain_through used lengths from to) + 1) 16
 
 -- the longest chains from each unit on, of so many units at most
-abbrev pub chains : List (List Bool) → ℕ → ℕ → List ℕ
+unfoldable pub chains : List (List Bool) → ℕ → ℕ → List ℕ
 chains used count zero = []
 chains used count (suc most) = tabulate count (λ from. chain_from used (chains used count most) count from)
 
+-- the greatest of so many numbers
+unfoldable pub longest_of : List ℕ → ℕ → ℕ
+longest_of lengths count = greatest_below count (λ from. number_at lengths from)
+
 -- the units of the longest chain of uses, the first counted (2.5)
 abbrev pub longest_chain : List (List Bool) → ℕ → ℕ
-longest_chain used count = greatest_below count (λ from. number_at (chains used count 16) from)
+longest_chain used count = longest_of (chains used count 16) count
 
 -- SLOTS
+
+-- the line of so many slots of a task
+unfoldable pub slots_words : ℕ → ℕ → List ℕ
+slots_words task slots = limit_words (codes "slots") slots 4096 ++ (codes " in " ++ (task_name task ++ codes "\n"))
 
 -- the slots of a task, its own and those of the functions that it reaches
 unfoldable pub slots_line : Config → Option ProgramUnit → ℕ → List ℕ
 slots_line c None task = []
-slots_line c (Some unit) task = limit_words (codes "slots") (length (own_cells c unit)) 4096 ++ (codes " in " ++ (task_name task ++ codes "\n"))
+slots_line c (Some unit) task = slots_words task (length (own_cells c unit))
 
 abbrev pub task_slots : Config → ℕ → List ℕ
 task_slots c task = slots_line c (program_of c task) task
@@ -106,14 +114,20 @@ slots_text c = car_slots c (sizes_of c).cars ++ task_slots c 0
 
 -- ALL LIMITS
 
+-- of a text of so many bytes, and of its units
+unfoldable pub unit_limits : Config → ℕ → List ℕ
+unit_limits c bytes =
+    limit_line (codes "bytes") bytes 262144
+    ++ (limit_line (codes "units") (length c.units) 64
+    ++ (most_line (codes "instructions") (most_of None (map (unit_use Instructions) c.units)) 4096 ++ most_line (codes "nesting") (most_of None (map (unit_use Nesting) c.units)) 16))
+
+-- of chains, slots and costs
+unfoldable pub run_limits : Program → List ℕ
+run_limits p =
+    limit_line (codes "chain") (longest_chain (uses p.config false) (length p.config.units)) 16
+    ++ (slots_text p.config
+    ++ (limit_line (codes "globals") (length (global_cells p.config)) 4096 ++ most_line (codes "cost") (most_of None (map cost_use (unit_lines p.config.units p.costs))) 1000000))
+
 -- of a program whose text has so many bytes
 abbrev pub limits_text : Program → ℕ → List ℕ
-limits_text p bytes =
-    limit_line (codes "bytes") bytes 262144
-    ++ (limit_line (codes "units") (length p.config.units) 64
-    ++ (most_line (codes "instructions") (most_of None (map (unit_use Instructions) p.config.units)) 4096
-    ++ (most_line (codes "nesting") (most_of None (map (unit_use Nesting) p.config.units)) 16
-    ++ (limit_line (codes "chain") (longest_chain (uses p.config false) (length p.config.units)) 16
-    ++ (slots_text p.config
-    ++ (limit_line (codes "globals") (length (global_cells p.config)) 4096
-    ++ most_line (codes "cost") (most_of None (map cost_use (unit_lines p.config.units p.costs))) 1000000))))))
+limits_text p bytes = unit_limits p.config bytes ++ run_limits p

@@ -8,13 +8,13 @@ ghost use Rattle.il_order.specs.Related.{tabulate};
 ghost use Rattle.il_order.specs.Used.{uses};
 ghost use Rattle.lift_spec.specs.Image.{sizes_of};
 ghost use Rattle.lift_spec.specs.Snapshot.{program_of, task_name};
-ghost use Rattle.lift_output.specs.Limits.{chain_from, chain_through, chains, cost_use, greatest_below, limit_line, limit_words, limits_text, longest_chain, measured, most_line, most_of, slots_line, slots_text, task_slots, unit_use, use_shown, with_more};
+ghost use Rattle.lift_output.specs.Limits.{chain_from, chain_through, chains, cost_use, limit_line, limit_words, limits_text, longest_chain, longest_of, run_limits, measured, most_line, most_of, slots_text, slots_words, task_slots, unit_limits, unit_use, use_shown, with_more};
 
 use il_machine::Verified;
 use il_order::relation::{Relation, holds};
 use il_order::uses::uses;
 use il_scope::Scoped;
-use il_spec::tree::{Instruction, Step, Unit};
+use il_spec::tree::{Config, Instruction, Step, Unit};
 use lists::Items;
 use std::alloc::{AllocError, Global};
 
@@ -60,13 +60,31 @@ pub fn put_limits(
     ensures { OnOk result (string_bytes text.new ≡ string_bytes text.old
         ++ limits_text verified.now bytes) }
 {
-    let units = verified.config().units.as_slice();
+    put_unit_limits(text, verified.config(), bytes)?;
+    put_run_limits(alloc, text, verified)
+}
+
+// Of a text of so many bytes, and of its units.
+#[tactic(auto, unfolding(crate::specs::Limits::unit_limits))]
+fn put_unit_limits(text: &mut String, config: &Config, bytes: usize) -> Result<(), AllocError>
+    ensures { OnOk result (string_bytes text.new ≡ string_bytes text.old
+        ++ unit_limits config.now bytes) }
+{
+    let units = config.units.as_slice();
     put_limit(text, "bytes", bytes, MOST_BYTES)?;
     put_limit(text, "units", units.len(), MOST_UNITS)?;
     let instructions = greatest(units, Measure::Instructions);
     put_most(text, "instructions", instructions, MOST_INSTRUCTIONS)?;
     let nesting = greatest(units, Measure::Nesting);
-    put_most(text, "nesting", nesting, MOST_NESTING)?;
+    put_most(text, "nesting", nesting, MOST_NESTING)
+}
+
+// Of chains, slots and costs.
+#[tactic(auto, unfolding(crate::specs::Limits::run_limits))]
+fn put_run_limits(alloc: Global, text: &mut String, verified: &Verified) -> Result<(), AllocError>
+    ensures { OnOk result (string_bytes text.new ≡ string_bytes text.old
+        ++ run_limits verified.now) }
+{
     let chain = longest_chain(alloc, verified.names())?;
     put_limit(text, "chain", chain, MOST_CHAIN)?;
     put_slots(text, verified)?;
@@ -197,14 +215,23 @@ fn longest_chain(alloc: Global, names: &Scoped) -> Result<usize, AllocError>
     let count = names.config().units.as_slice().len();
     let used = uses(alloc, names, false)?;
     let lengths = chains(alloc, &used, count)?;
+    Ok(longest_of(&lengths, count))
+}
+
+// The greatest of so many numbers.
+#[tactic(auto, unfolding(crate::specs::Limits::longest_of))]
+fn longest_of(lengths: &Items<usize>, count: usize) -> usize
+    ensures { result ≡ longest_of lengths.now count }
+{
     let mut longest: usize = 0;
     'units: for from in 0..count {
-        longest = longest.max(number_at(&lengths, from));
+        longest = longest.max(number_at(lengths, from));
     }
-    Ok(longest)
+    longest
 }
 
 // The longest chains from each unit on.
+#[tactic(auto, unfolding(crate::specs::Limits::chains))]
 fn chains(alloc: Global, used: &Relation, count: usize) -> Result<Items<usize>, AllocError>
     ensures { IfOk result (λ lengths. lengths ≡ chains used.now count 16) }
 {
@@ -286,6 +313,14 @@ fn put_task_slots(text: &mut String, verified: &Verified, task: u8) -> Result<()
         return Ok(());
     }
     let slots = verified.opening_variables(task).numbers().len();
+    put_slots_words(text, task, slots)
+}
+
+#[tactic(auto, unfolding(crate::specs::Limits::slots_words))]
+fn put_slots_words(text: &mut String, task: u8, slots: usize) -> Result<(), AllocError>
+    ensures { OnOk result (string_bytes text.new ≡ string_bytes text.old
+        ++ slots_words task slots) }
+{
     put_words(text, "slots", slots, MOST_SLOTS)?;
     text.push_str(" in ")?;
     put_task(text, task)?;
