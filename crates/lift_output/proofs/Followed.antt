@@ -58,6 +58,7 @@ unpictured_is span p events (fault.BadName word) is = absurd is
 unpictured_is span p events (fault.Misuse words) is = absurd is
 unpictured_is span p events (fault.RefusedText number place) is = absurd is
 unpictured_is span p events (fault.BadPress word) is = absurd is
+unpictured_is span p events (fault.BadScan word) is = absurd is
 unpictured_is span p events fault.TooManyPresses is = absurd is
 unpictured_is span p events (fault.BadFire word) is = absurd is
 unpictured_is span p events (fault.CannotRead cause) is = absurd is

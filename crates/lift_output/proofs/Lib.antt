@@ -5,3 +5,4 @@ pub mod Drawn
 pub mod Followed
 pub mod Watching
 pub mod Slots
+pub mod Scanned

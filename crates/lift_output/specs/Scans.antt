@@ -63,9 +63,9 @@ IsBadNumber word _ = ⊥
 
 -- the words ask for none, and this is the one that is wrong
 pub data IsUnaskedBy (traced : Traced) (named : List ℕ) : Type 0 where
-  task : named ≡ task_word traced → ((task : ℕ) → IsTaskWord named task → ⊥) → IsUnaskedBy traced named
-  round : IsNoNumber (round_word traced) named → IsUnaskedBy traced named
-  until : IsNoNumber (until_word traced) named → IsUnaskedBy traced named
+  of_task : named ≡ task_word traced → ((task : ℕ) → IsTaskWord named task → ⊥) → IsUnaskedBy traced named
+  of_round : IsNoNumber (round_word traced) named → IsUnaskedBy traced named
+  of_until : IsNoNumber (until_word traced) named → IsUnaskedBy traced named
 
 -- so says a fault; memory may be missing
 abbrev pub IsUnasked : Traced → Fault → Type 0
