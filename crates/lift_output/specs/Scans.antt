@@ -11,7 +11,7 @@ use Rattle.lift_scan.specs.Chosen.{chosen}
 use Rattle.lift_scan.specs.Shown.{IsScanShown}
 use Rattle.lift_spec.specs.declared.trace.TraceEvent.{TraceEvent}
 use Rattle.lift_spec.specs.Image.{sizes_of}
-use Rattle.lift_spec.specs.Limits.{MOST_CARS}
+use Rattle.lift_spec.specs.declared.image.TheConstants.{MOST_CARS}
 use Rattle.lift_spec.specs.Snapshot.{task_name}
 use Rattle.lift_spec.specs.World.{opening}
 use Rattle.lift_trace.specs.Reading.{Reads}
