@@ -6,7 +6,7 @@ use crate::actor::Naming;
 use il_machine::Scanned;
 use std::marker::{Model, PhantomData};
 
-/// A scan that was run to its end, of the program of its station. Only `Station::scan` makes one, so its commit compares no programs.
+/// A scan that was run to its end, of the program of its station, which its type keeps: a commit of it compares no programs.
 /// Contracts see it as the scan.
 pub struct Ours<'v, G: Naming> {
     scanned: Scanned<'v>,
