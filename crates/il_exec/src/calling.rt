@@ -5,7 +5,7 @@ ghost use Rattle.il_spec.specs.declared.tree.Elementary.TheVariants.{Int};
 ghost use Rattle.il_layout.specs.Layout.{rows};
 ghost use Rattle.il_exec.specs.Effect.{with_some, operand, read, write, boolean_of, number_of};
 ghost use Rattle.il_exec.specs.Going.{acts, assigned, copied, passed};
-ghost use Rattle.il_exec.specs.Quick.{ended, is_timer, flat_of, standard, called_behind};
+ghost use Rattle.il_exec.specs.Quick.{is_timer, flat_of, standard, called_behind};
 ghost use Rattle.il_exec.specs.Current.{left_of};
 
 use crate::blocks::call_block;
@@ -171,18 +171,6 @@ pub fn acts_on(condition: Condition, current: &Current) -> bool
         Condition::Always => true,
         Condition::WhenTrue => current.is_true(),
         Condition::WhenFalse => !current.is_true(),
-    }
-}
-
-/// Whether a return acts.
-#[inline(always)]
-pub fn leaves(current: &Current, instruction: &Flat) -> bool
-    requires { IsSome (ended instruction.now (left_of current.now)) }
-    ensures { ended instruction.now (left_of current.now) ≡ Some result }
-{
-    match instruction {
-        Flat::Return { condition } => acts_on(*condition, current),
-        _ => unreachable!(),
     }
 }
 
