@@ -12,6 +12,7 @@ pub mod Invoking
 pub mod Steps
 pub mod Stays
 pub mod Tails
+pub mod Behind
 pub mod Pairwise
 pub mod Hopped
 pub mod Nevers

@@ -2,6 +2,7 @@
 #![tactic(auto)]
 
 pub mod blocks;
+mod calling;
 pub mod current;
 pub mod frames;
 pub mod hopping;
