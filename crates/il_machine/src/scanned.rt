@@ -39,7 +39,7 @@ impl Model for OpenScan {
 pub struct Scanned<'v> {
     verified: &'v Verified,
     task: u8,
-    scan: ScanState,
+    scan: Box<ScanState>,
     first: Rows,
     began: Snapshot<ScanState>,
 }
@@ -54,14 +54,14 @@ impl<'v> Model for Scanned<'v> {
     ghost coded = { finished_code };
 
     ghost view = { λ s. finished record
-        { config = s.verified.now.config; task = s.task; first = s.began.value; last = s.scan } };
+        { config = s.verified.now.config; task = s.task; first = s.began.value; last = s.scan.value } };
 
     ghost invariant = { λ s. (s.first ≡ s.began.value.rows)
         × IsRan record {
           config = s.verified.now.config;
           task = s.task;
           first = s.began.value;
-          last = s.scan;
+          last = s.scan.value;
         } };
 }
 
@@ -92,7 +92,7 @@ pub fn scan<'v>(verified: &'v Verified, begun: OpenScan) -> Scanned<'v>
     let OpenScan { store } = begun;
     let (task, mut scan, mut first) = store.into_parts();
     copy_front(&mut first, &scan.rows);
-    let began = Snapshot::of(&scan);
+    let began = Snapshot::of(&*scan);
     let budget = verified.budget(task);
     scan.run(verified.running(task), budget);
     Scanned {

@@ -12,7 +12,7 @@ returns c =
     let config = c.args.verified.now.config in
     let task = c.args.store.now.task in
     let (s, rows, scan, stands) = c.rows.ensures in
-    let r : Ran = record { config = c.self.inside.verified.now.config; task = c.self.inside.task; first = c.self.inside.began.value; last = c.self.inside.scan } in
+    let r : Ran = record { config = c.self.inside.verified.now.config; task = c.self.inside.task; first = c.self.inside.began.value; last = c.self.inside.scan.value } in
     let begins : Begins config task s = begun_of config task s c.args.store.now stands scan c.requires.begins config refl in
     let program : r.config ≡ config = ap (λ (g : Finished). g.config) c.self.view_is ∙ c.requires.program in
     let own : c.self.inside.task ≡ c.task.result = search rules in

@@ -10,7 +10,7 @@ pub returns-clause-variables : goal.returns-clause-variables
 returns-clause-variables c =
     let config = c.self.inside.program.value.config in
     let task = c.self.inside.task in
-    let scan = c.self.inside.scan in
+    let scan = c.self.inside.scan.value in
     let v = c.args.variables.now in
     let new = c.copy_front.new.first in
     let fits : FitsOwn config task v = subst (λ (s : Standing). FitsOwn s.config s.task v) (sym c.self.view_is) c.requires.fits in
@@ -22,7 +22,7 @@ pub returns-clause-own : goal.returns-clause-own
 returns-clause-own c =
     let config = c.self.inside.program.value.config in
     let task = c.self.inside.task in
-    let scan = c.self.inside.scan in
+    let scan = c.self.inside.scan.value in
     let v = c.args.variables.now in
     let new = c.copy_front.new.first in
     let fits : FitsOwn config task v = subst (λ (s : Standing). FitsOwn s.config s.task v) (sym c.self.view_is) c.requires.fits in

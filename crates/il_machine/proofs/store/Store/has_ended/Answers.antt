@@ -1,5 +1,5 @@
 use Rattle.std.proofs.Common.{◌≡◌, ◌∙◌, ap, sym, subst, is_some, true, ◌↔◌, []}
-use Rattle.il_machine.specs.declared.store.Store.TheInside.{Inside}
+use Rattle.il_exec.specs.Going.{Stored}
 use Rattle.il_machine.specs.Standing.{Standing}
 use Rattle.il_machine.proofs.Ending.{ended_by}
 use Rattle.il_machine.proofs.store.Store.has_ended.Goals as goal
@@ -7,4 +7,4 @@ use Rattle.il_machine.proofs.store.Store.has_ended.Goals as goal
 pub returns : goal.returns
 returns c =
     subst (λ (s : Standing). (c.is_none.result ≡ true) ↔ (s.state.frames ≡ [])) c.self.view_is
-    (ended_by c.self.inside.program.value.config c.self.invariant.0 c.self.inside.task c.self.inside.scan c.self.invariant.1 c.is_none.result (sym (ap (λ (i : Inside). is_some i.scan.running) c.self-inside.view_is) ∙ c.is_none.ensures))
+    (ended_by c.self.inside.program.value.config c.self.invariant.0 c.self.inside.task c.self.inside.scan.value c.self.invariant.1 c.is_none.result (sym (ap (λ (s : Stored). is_some s.running) (c.behind-self.view_is ∙ c.deref.ensures)) ∙ c.is_none.ensures))

@@ -9,4 +9,4 @@ use Rattle.il_machine.proofs.store.Store.holds.Goals as goal
 pub returns : goal.returns
 returns c =
     subst (λ (s : Standing). (u : ProgramUnit) → IsTaskOf s.config s.task u → ScanHolds s.config s.task u 0 s.state) c.self.view_is
-    (holds_of c.self.inside.program.value.config c.self.invariant.0 c.self.inside.task c.self.inside.scan c.self.invariant.1)
+    (holds_of c.self.inside.program.value.config c.self.invariant.0 c.self.inside.task c.self.inside.scan.value c.self.invariant.1)

@@ -1,15 +1,15 @@
 use Rattle.std.proofs.Common.{◌∙◌, ap, sym, subst}
 use Rattle.il_machine.proofs.Standing.{now_is, own_task, scan_here}
-use Rattle.il_machine.specs.declared.store.Store.TheInside.{Inside}
+use Rattle.il_exec.specs.Going.{Stored}
 use Rattle.il_machine.specs.Scanning.{IsScanOf}
 use Rattle.il_machine.specs.Ran.{standing}
 use Rattle.il_machine.proofs.store.Store.rows.Goals as goal
 
 pub returns : goal.returns
 returns c =
-    let of = own_task c.self.inside.program.value.config c.self.inside.task c.self.inside.scan c.args.self.now c.self.view_is c.args.verified.now.config c.requires in (
-      c.self.inside.scan,
-      ap (λ (i : Inside). i.scan.rows) c.self-inside.view_is,
-      subst (λ n. IsScanOf c.args.verified.now.config n c.self.inside.scan) (sym of.1) (scan_here c.self.inside.program.value.config c.self.inside.task c.self.inside.scan c.args.self.now c.self.view_is c.args.verified.now.config c.self.inside.task (own_task c.self.inside.program.value.config c.self.inside.task c.self.inside.scan c.args.self.now c.self.view_is c.args.verified.now.config c.requires) c.self.inside.scan c.self.invariant.1),
-      ap (λ n. standing c.args.verified.now.config n c.self.inside.scan) of.1 ∙ now_is c.self.inside.program.value.config c.self.inside.task c.self.inside.scan c.args.self.now c.self.view_is c.args.verified.now.config c.self.inside.task (own_task c.self.inside.program.value.config c.self.inside.task c.self.inside.scan c.args.self.now c.self.view_is c.args.verified.now.config c.requires),
+    let of = own_task c.self.inside.program.value.config c.self.inside.task c.self.inside.scan.value c.args.self.now c.self.view_is c.args.verified.now.config c.requires in (
+      c.self.inside.scan.value,
+      ap (λ (s : Stored). s.rows) (c.behind-self.view_is ∙ c.deref.ensures),
+      subst (λ n. IsScanOf c.args.verified.now.config n c.self.inside.scan.value) (sym of.1) (scan_here c.self.inside.program.value.config c.self.inside.task c.self.inside.scan.value c.args.self.now c.self.view_is c.args.verified.now.config c.self.inside.task (own_task c.self.inside.program.value.config c.self.inside.task c.self.inside.scan.value c.args.self.now c.self.view_is c.args.verified.now.config c.requires) c.self.inside.scan.value c.self.invariant.1),
+      ap (λ n. standing c.args.verified.now.config n c.self.inside.scan.value) of.1 ∙ now_is c.self.inside.program.value.config c.self.inside.task c.self.inside.scan.value c.args.self.now c.self.view_is c.args.verified.now.config c.self.inside.task (own_task c.self.inside.program.value.config c.self.inside.task c.self.inside.scan.value c.args.self.now c.self.view_is c.args.verified.now.config c.requires),
     )
