@@ -8,6 +8,7 @@ mod TypeInputs
 mod ArgumentTexts
 mod WantedLaws
 mod Pieces
+mod Standing
 mod RangeUnits
 mod ChainUses
 mod ResultPasses
