@@ -9,6 +9,7 @@ mod ArgumentTexts
 mod WantedLaws
 mod Pieces
 mod Standing
+mod Unspelled
 mod RangeUnits
 mod ChainUses
 mod ResultPasses

@@ -1,5 +1,5 @@
 -- What is told of a token with which no text of the language goes on (own rules).
-use Rattle.std.specs.Prelude.{◌≡◌, ℕ, ◌≤◌, ◌==◌, nat_le, if◌then◌else◌, ◌⊎◌, List, [], ◌∷◌, ◌++◌, length, take, slice_range, flat_map, Option, Some, None, codes}
+use Rattle.std.specs.Prelude.{◌≡◌, ℕ, ◌<◌, ◌≤◌, ◌==◌, nat_le, if◌then◌else◌, ◌⊎◌, List, [], ◌∷◌, ◌++◌, length, take, slice_range, flat_map, Option, Some, None, codes}
 use Rattle.il_spec.specs.declared.token.Kind.{Kind}
 use Rattle.il_spec.specs.declared.token.Kind.TheVariants.{LineEnd, Word}
 use Rattle.il_spec.specs.declared.token.Token.{Token}
@@ -8,7 +8,8 @@ use Rattle.il_spec.specs.declared.keyword.Keyword.{Keyword}
 use Rattle.il_spec.specs.Text.{name_of}
 use Rattle.il_spec.specs.Words.{keyword_of}
 use Rattle.il_spec.specs.Grammar.{Spells}
-use Rattle.il_reasons.specs.ExpectedKinds.{ExpectedKind, expected_kinds}
+use Rattle.il_reasons.specs.declared.expected.Expected.{Expected}
+use Rattle.il_reasons.specs.ExpectedKinds.{ExpectedKind, kind_of, expected_kinds}
 
 -- a text of the language
 abbrev pub IsOfLanguage : List ℕ → Type 0
@@ -51,10 +52,14 @@ abbrev pub found_line : List ℕ → ℕ → Option Token → List ℕ
 found_line text offset None = if nat_le (length text) offset then codes "the text ends there\n" else []
 found_line text offset (Some t) = token_line text t
 
+-- ", `)`, `;`"
+abbrev pub other_words : List ExpectedKind → List ℕ
+other_words kinds = flat_map (λ (k : ExpectedKind). codes ", " ++ k.words) kinds
+
 -- "there could stand: a name, `)`"
 abbrev pub expected_line : List ExpectedKind → List ℕ
 expected_line [] = []
-expected_line (kind ∷ kinds) = codes "there could stand: " ++ (kind.words ++ (flat_map (λ (k : ExpectedKind). codes ", " ++ k.words) kinds ++ codes "\n"))
+expected_line (kind ∷ kinds) = codes "there could stand: " ++ kind.words ++ (other_words kinds ++ codes "\n")
 
 -- What is told of the token at a place of a text with these tokens: what stands there, and at most eight kinds that can stand there.
 pub record AreToldOfToken (text : List ℕ) (tokens : List Token) (offset : ℕ) (lines : List ℕ) : Type 0 where
@@ -62,3 +67,9 @@ pub record AreToldOfToken (text : List ℕ) (tokens : List Token) (offset : ℕ)
   pub few : length kinds ≤ 8
   pub can : CanStandOf text offset kinds expected_kinds
   pub are : lines ≡ found_line text offset (token_at offset tokens) ++ expected_line kinds
+
+-- AS THE CODE FINDS THEM
+
+-- a kind is told behind others, where fewer than eight are and it can stand there, or it is not
+abbrev pub AddsKind : List ℕ → ℕ → Expected → List Expected → List Expected → Type 0
+AddsKind text offset kind old new = (new ≡ old) ⊎ ((length old < 8) × CanStand text offset (kind_of kind) × (new ≡ old ++ kind ∷ []))

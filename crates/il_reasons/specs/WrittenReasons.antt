@@ -27,8 +27,12 @@ form_text (OfArray bounds element) = codes "ARRAY [" ++ (limits_text bounds ++ (
 form_text (OfBlock block) = codes "an instance of " ++ block
 
 -- `V is INT (0..5)`, of a declared name
+abbrev pub form_words : Form → Named → List ℕ
+form_words form n = n.name ++ (codes " is " ++ form_text form)
+
+-- the same as a line
 abbrev pub form_line : Form → Named → List ℕ
-form_line form n = n.name ++ (codes " is " ++ (form_text form ++ codes "\n"))
+form_line form n = form_words form n ++ codes "\n"
 
 -- `BOOL has no subranges`, where one is written (2.3.3.1)
 abbrev pub subrange_line : Scalar → List ℕ
@@ -66,7 +70,7 @@ written_lines wanted offset d =
 -- `the global V is BOOL in line 12`, of a global with this name (2.4.3)
 abbrev pub global_line : Spelling → Form → Named → List ℕ
 global_line name form n =
-    if bytes_eq n.name name then codes "the global " ++ (n.name ++ (codes " is " ++ (form_text form ++ (codes " in line " ++ (decimal n.place.line ++ codes "\n"))))) else []
+    if bytes_eq n.name name then codes "the global " ++ (form_words form n ++ (codes " in line " ++ (decimal n.place.line ++ codes "\n"))) else []
 
 -- of the globals of a declaration
 abbrev pub global_lines : Spelling → Declaration → List ℕ

@@ -6,8 +6,8 @@ use il_spec::fault::Refusal;
 use il_spec::token::{Kind, Token};
 use std::alloc::{AllocError, Global};
 
-// How many bytes a search may read in all. The longest text is read some 200 times.
-const MOST_BYTES: usize = 50_000_000;
+// How many bytes a search may read in all: the longest text some 76 times.
+const MOST_BYTES: usize = 20_000_000;
 
 // How many pieces a rest has at most.
 const MOST_PIECES: usize = 40;
@@ -139,9 +139,8 @@ fn search_start(
     let start = unit_start(text, tokens, offset);
     let unit = text.get(start..).unwrap_or(b"");
     match spelled(alloc, unit) {
-        Err(Refusal::Fault { number: 10, place }) if place.offset as usize == offset - start => {
-            Ok(start)
-        }
+        Err(Refusal::Fault { number: 10, place })
+            if place.offset as usize == offset.saturating_sub(start) => { Ok(start) }
         Err(Refusal::Memory) => Err(AllocError),
         _ => Ok(0),
     }

@@ -83,9 +83,20 @@ fn unspelled(alloc: Global, text: &[u8], number: u16, place: Place) -> Result<Ve
     requires other { is_of_ranges number ≡ false }
     ensures { IfOk result (λ lines. IsReason text.now number place lines.items) }
 {
-    if number != 10 {
-        return Ok(Vec::new(alloc));
+    if number == 10 {
+        token_told(alloc, text, number, place)
+    } else {
+        Ok(Vec::new(alloc))
     }
+}
+
+// What is told of an unexpected token.
+fn token_told(alloc: Global, text: &[u8], number: u16, place: Place) -> Result<Vec<u8>, AllocError>
+    requires spelled { SpellsNone text.now }
+    requires other { is_of_ranges number ≡ false }
+    requires number { number ≡ 10 }
+    ensures { IfOk result (λ lines. IsReason text.now number place lines.items) }
+{
     match tokens(alloc, text) {
         Ok(tokens) => unexpected::told(alloc, text, &tokens, place.offset),
         Err(Refusal::Memory) => Err(AllocError),

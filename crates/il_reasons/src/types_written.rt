@@ -1,10 +1,10 @@
 // Written types that are not what their places ask for, and what is wanted there (IEC 61131-3:2003, 2.3.3.1, 2.4.3).
 
-ghost use Rattle.std.specs.Prelude.{◌≡◌, ◌++◌, flat_map, OnOk, string_bytes};
+ghost use Rattle.std.specs.Prelude.{◌≡◌, ◌++◌, flat_map, codes, decimal, OnOk, string_bytes};
 ghost use Rattle.il_spec.specs.declared.tree.Form.TheVariants.{Scalar as OfScalar};
-ghost use Rattle.il_reasons.specs.WrittenReasons.{written_scalar, form_text, form_line, subrange_line, form_subrange_line, array_line, instance_line, wanted_line, written_lines, global_line, global_lines, globals_lines, external_lines, result_lines, wanted_variables, unit_written, misplaced_lines};
+ghost use Rattle.il_reasons.specs.WrittenReasons.{written_scalar, form_text, form_words, form_line, subrange_line, form_subrange_line, array_line, instance_line, wanted_line, written_lines, global_line, global_lines, globals_lines, external_lines, result_lines, wanted_variables, unit_written, misplaced_lines};
 
-use crate::range_words::{put_limits, put_within};
+use crate::range_words::{put, put_limits, put_within};
 use crate::types_operands::type_word;
 use il_rules::elementary::is_whole;
 use il_spec::tree::{Config, Declaration, Form, Named, Scalar, Unit, UnitKind};
@@ -26,6 +26,15 @@ fn put_scalar(text: &mut String, scalar: Scalar) -> Result<(), AllocError>
     put_within(text, scalar.subrange)
 }
 
+// `an instance of TON`
+fn put_instance(text: &mut String, block: &str) -> Result<(), AllocError>
+    ensures { OnOk result (string_bytes text.new ≡ string_bytes text.old
+        ++ (codes "an instance of " ++ block.now)) }
+{
+    put(text, "an instance of ")?;
+    put(text, block)
+}
+
 // `INT (0..5)`, `ARRAY [1..4] OF INT`, `an instance of TON`
 fn put_form(text: &mut String, form: &Form) -> Result<(), AllocError>
     ensures { OnOk result (string_bytes text.new ≡ string_bytes text.old ++ form_text form.now) }
@@ -38,21 +47,26 @@ fn put_form(text: &mut String, form: &Form) -> Result<(), AllocError>
             text.push_str("] OF ")?;
             put_scalar(text, *element)
         }
-        Form::Block(block) => {
-            text.push_str("an instance of ")?;
-            text.push_str(block.as_str())
-        }
+        Form::Block(block) => put_instance(text, block.as_str()),
     }
 }
 
 // `V is INT (0..5)`, of a declared name.
+fn put_form_words(text: &mut String, form: &Form, named: &Named) -> Result<(), AllocError>
+    ensures { OnOk result (string_bytes text.new ≡ string_bytes text.old
+        ++ form_words form.now named.now) }
+{
+    text.push_str(named.name.as_str())?;
+    text.push_str(" is ")?;
+    put_form(text, form)
+}
+
+// The same as a line.
 fn put_named(text: &mut String, form: &Form, named: &Named) -> Result<(), AllocError>
     ensures { OnOk result (string_bytes text.new ≡ string_bytes text.old
         ++ form_line form.now named.now) }
 {
-    text.push_str(named.name.as_str())?;
-    text.push_str(" is ")?;
-    put_form(text, form)?;
+    put_form_words(text, form, named)?;
     text.push_str("\n")
 }
 
@@ -158,17 +172,35 @@ fn put_declarations(
     Ok(())
 }
 
-// `the global V is BOOL in line 12`, of a global with this name.
+// ` in line 12`, and the end of the line.
+fn put_in_line(text: &mut String, line: u32) -> Result<(), AllocError>
+    ensures { OnOk result (string_bytes text.new ≡ string_bytes text.old
+        ++ (codes " in line " ++ (decimal line ++ codes "\n"))) }
+{
+    writeln!(text, " in line {}", line)
+}
+
+// `the global V is BOOL in line 12`
+fn put_found(text: &mut String, form: &Form, named: &Named) -> Result<(), AllocError>
+    ensures { OnOk result (string_bytes text.new ≡ string_bytes text.old
+        ++ (codes "the global " ++ (form_words form.now named.now
+        ++ (codes " in line " ++ (decimal named.now.place.line ++ codes "\n"))))) }
+{
+    put(text, "the global ")?;
+    put_form_words(text, form, named)?;
+    put_in_line(text, named.place.line)
+}
+
+// The same, of a global with this name.
 fn put_global(text: &mut String, name: &str, form: &Form, named: &Named) -> Result<(), AllocError>
     ensures { OnOk result (string_bytes text.new ≡ string_bytes text.old
         ++ global_line name.now form.now named.now) }
 {
-    if named.name.as_str() != name {
-        return Ok(());
+    if named.name.as_str() == name {
+        put_found(text, form, named)
+    } else {
+        Ok(())
     }
-    write!(text, "the global {} is ", named.name.as_str())?;
-    put_form(text, form)?;
-    writeln!(text, " in line {}", named.place.line)
 }
 
 // Of the globals of a declaration.

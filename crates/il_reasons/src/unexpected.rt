@@ -1,10 +1,10 @@
 // What is told of a token with which no text of the language goes on.
 
-ghost use Rattle.std.specs.Prelude.{◌≡◌, ◌++◌, ◌≤◌, length, map, take, flat_map, codes, true, None, IfOk, OnOk};
+ghost use Rattle.std.specs.Prelude.{◌≡◌, ◌∷◌, ◌++◌, ◌≤◌, [], length, map, take, slice_range, codes, true, None, IfOk, OnOk};
 ghost use Rattle.il_spec.specs.Text.{AreTokens, upper_case};
 ghost use Rattle.il_spec.specs.declared.token.Kind.TheVariants.{Word};
-ghost use Rattle.il_reasons.specs.ExpectedKinds.{ExpectedKind, kind_of, expected_kinds};
-ghost use Rattle.il_reasons.specs.TokenReasons.{IsOfLanguage, CanStand, CanStandOf, AreToldOfToken, going_on, token_line, token_at, found_line, expected_line};
+ghost use Rattle.il_reasons.specs.ExpectedKinds.{kind_of, expected_kinds};
+ghost use Rattle.il_reasons.specs.TokenReasons.{IsOfLanguage, CanStand, CanStandOf, AreToldOfToken, AddsKind, going_on, token_line, token_at, found_line, other_words, expected_line};
 
 use crate::expected::{Expected, kinds};
 use crate::expected_search::Search;
@@ -58,6 +58,32 @@ fn going_on(
     Ok(whole)
 }
 
+// Whether nothing stands behind the end of a text, which has no sample.
+fn ends_there(sample: &str, rest: &[u8]) -> bool
+    ensures { result ≡ true → sample.now ≡ [] → rest.now ≡ [] }
+{
+    if sample.is_empty() {
+        rest.is_empty()
+    } else {
+        true
+    }
+}
+
+// Whether a text of the language goes on from a place with a token of a kind and this rest.
+fn spells_with(
+    alloc: Global,
+    text: &[u8],
+    offset: usize,
+    kind: &Expected,
+    rest: &[u8],
+) -> Result<bool, AllocError>
+    requires { kind.now.sample.now ≡ [] → rest.now ≡ [] }
+    ensures { IfOk result (λ can. can ≡ true → CanStand text.now offset (kind_of kind.now)) }
+{
+    let whole = going_on(alloc, text, offset, kind, rest)?;
+    is_of_language(alloc, &whole)
+}
+
 // Whether a kind can stand at a place with this rest.
 fn stands_with(
     alloc: Global,
@@ -68,11 +94,11 @@ fn stands_with(
 ) -> Result<bool, AllocError>
     ensures { IfOk result (λ can. can ≡ true → CanStand text.now offset (kind_of kind.now)) }
 {
-    if kind.sample.is_empty() && !rest.is_empty() {
-        return Ok(false);
+    if ends_there(kind.sample, rest) {
+        spells_with(alloc, text, offset, kind, rest)
+    } else {
+        Ok(false)
     }
-    let whole = going_on(alloc, text, offset, kind, rest)?;
-    is_of_language(alloc, &whole)
 }
 
 // Whether a kind can stand at a place, with the rest that a search finds.
@@ -92,6 +118,26 @@ fn can_stand(
     }
 }
 
+// Tells a kind behind others, where it can stand at a place and fewer than eight are told.
+fn push_kind(
+    alloc: Global,
+    text: &[u8],
+    offset: usize,
+    kind: &Expected,
+    search: &mut Search,
+    kinds: &mut Vec<Expected>,
+) -> Result<(), AllocError>
+    ensures { OnOk result (AddsKind text.now offset kind.now kinds.old.items kinds.new.items) }
+{
+    if kinds.len() >= MOST_KINDS {
+        return Ok(());
+    }
+    if can_stand(alloc, text, offset, kind, search)? {
+        kinds.push(*kind)?;
+    }
+    Ok(())
+}
+
 // The kinds that can stand at a place, among some, with a search there.
 fn kinds_among(
     alloc: Global,
@@ -106,9 +152,7 @@ fn kinds_among(
 {
     let mut kinds = Vec::new(alloc);
     'kinds: for kind in all {
-        if kinds.len() < MOST_KINDS && can_stand(alloc, text, offset, kind, search)? {
-            kinds.push(*kind)?;
-        }
+        push_kind(alloc, text, offset, kind, search, &mut kinds)?;
     }
     Ok(kinds)
 }
@@ -160,6 +204,15 @@ fn put_word(lines: &mut Vec<u8>, source: &Source, token: &Token) -> Result<(), A
     }
 }
 
+// A token that is no word and no line's end.
+fn put_plain(lines: &mut Vec<u8>, source: &Source, token: &Token) -> Result<(), AllocError>
+    ensures { OnOk result (lines.new.items ≡ lines.old.items
+        ++ (codes "`" ++ (slice_range source.now token.now.start token.now.end
+        ++ codes "` stands there\n"))) }
+{
+    put_shown(lines, source.bytes_of(token), b"` stands there\n")
+}
+
 // A token.
 fn put_token(lines: &mut Vec<u8>, source: &Source, token: &Token) -> Result<(), AllocError>
     ensures { OnOk result (lines.new.items ≡ lines.old.items ++ token_line source.now token.now) }
@@ -167,7 +220,9 @@ fn put_token(lines: &mut Vec<u8>, source: &Source, token: &Token) -> Result<(), 
     match token.kind {
         Kind::LineEnd => lines.extend_from_slice(b"the line ends there\n"),
         Kind::Word => put_word(lines, source, token),
-        _ => put_shown(lines, source.bytes_of(token), b"` stands there\n"),
+        Kind::Number(_) => put_plain(lines, source, token),
+        Kind::Typed(_) => put_plain(lines, source, token),
+        Kind::Sign(_) => put_plain(lines, source, token),
     }
 }
 
@@ -217,7 +272,7 @@ fn put_found(
 // Kinds behind the first.
 fn put_others(lines: &mut Vec<u8>, kinds: &[Expected]) -> Result<(), AllocError>
     ensures { OnOk result (lines.new.items ≡ lines.old.items
-        ++ flat_map (λ (k : ExpectedKind). codes ", " ++ k.words) (map kind_of kinds.now)) }
+        ++ other_words (map kind_of kinds.now)) }
 {
     'kinds: for kind in kinds {
         put_other(lines, kind)?;
@@ -234,18 +289,49 @@ fn put_other(lines: &mut Vec<u8>, kind: &Expected) -> Result<(), AllocError>
     lines.extend_from_slice(kind.words.as_bytes())
 }
 
+// A piece of text.
+fn put(lines: &mut Vec<u8>, piece: &str) -> Result<(), AllocError>
+    ensures { OnOk result (lines.new.items ≡ lines.old.items ++ piece.now) }
+{
+    lines.extend_from_slice(piece.as_bytes())
+}
+
+// The first kind.
+fn put_first(lines: &mut Vec<u8>, first: &Expected) -> Result<(), AllocError>
+    ensures { OnOk result (lines.new.items ≡ lines.old.items
+        ++ (codes "there could stand: " ++ (kind_of first.now).words)) }
+{
+    put(lines, "there could stand: ")?;
+    put(lines, first.words)
+}
+
+// The others, and the end of the line.
+fn put_rest(lines: &mut Vec<u8>, others: &[Expected]) -> Result<(), AllocError>
+    ensures { OnOk result (lines.new.items ≡ lines.old.items
+        ++ (other_words (map kind_of others.now) ++ codes "\n")) }
+{
+    put_others(lines, others)?;
+    lines.extend_from_slice(b"\n")
+}
+
+// Kinds, a first one and others.
+fn put_kinds(lines: &mut Vec<u8>, first: &Expected, others: &[Expected]) -> Result<(), AllocError>
+    ensures { OnOk result (lines.new.items ≡ lines.old.items
+        ++ expected_line (kind_of first.now ∷ map kind_of others.now)) }
+{
+    put_first(lines, first)?;
+    put_rest(lines, others)
+}
+
 // What could stand at the place, if something is known.
 fn put_expected(lines: &mut Vec<u8>, kinds: &[Expected]) -> Result<(), AllocError>
     ensures { OnOk result (lines.new.items ≡ lines.old.items
         ++ expected_line (map kind_of kinds.now)) }
 {
-    let Some((first, others)) = kinds.split_first() else {
-        return Ok(());
-    };
-    lines.extend_from_slice(b"there could stand: ")?;
-    lines.extend_from_slice(first.words.as_bytes())?;
-    put_others(lines, others)?;
-    lines.extend_from_slice(b"\n")
+    match kinds.split_first() {
+        Some((first, others)) => put_kinds(lines, first, others),
+        None => Ok(()),
+    }
 }
 
 /// What is told of a token with which no text of the language goes on (own rule): what stands there, and at most eight kinds that
