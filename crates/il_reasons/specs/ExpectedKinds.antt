@@ -16,7 +16,7 @@ abbrev pub kind_of : Expected → ExpectedKind
 kind_of row = expects row.words.now row.sample.now
 
 -- the kinds, in the order in which they are told
-abbrev pub expected_kinds : List ExpectedKind
+unfoldable pub expected_kinds : List ExpectedKind
 expected_kinds =
     expects (codes "the end of the line") (codes "\n") ∷
     expects (codes "the end of the text") [] ∷

@@ -278,6 +278,7 @@ static KINDS: [Expected; 49] = [
 ];
 
 /// The kinds of what may be expected, in the order in which they are told.
+#[tactic(auto, unfolding(crate::specs::ExpectedKinds::expected_kinds))]
 pub(crate) fn kinds() -> &'static [Expected]
     ensures { map kind_of result.now ≡ expected_kinds }
 {
