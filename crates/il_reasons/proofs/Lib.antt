@@ -8,6 +8,8 @@ mod TypeInputs
 mod ArgumentTexts
 mod WantedLaws
 mod Pieces
+mod Standing
+mod Unspelled
 mod RangeUnits
 mod ChainUses
 mod ResultPasses

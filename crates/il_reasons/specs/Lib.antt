@@ -15,8 +15,11 @@ pub mod TypeReasons
 pub mod ArgumentReasons
 pub mod KindReasons
 pub mod InitialReasons
+pub mod WrittenReasons
 pub mod TreeReasons
 pub mod RangeReasons
 pub mod ChainReasons
 pub mod CostReasons
+pub mod ExpectedKinds
+pub mod TokenReasons
 pub mod Reasons

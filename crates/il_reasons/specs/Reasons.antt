@@ -2,11 +2,14 @@
 use Rattle.std.specs.Prelude.{◌≡◌, ℕ, ◌==◌, ◌||◌, Bool, true, false, List, []}
 use Rattle.il_spec.specs.declared.tree.Config.{Config}
 use Rattle.il_spec.specs.declared.tree.Place.{Place}
+use Rattle.il_spec.specs.declared.token.Token.{Token}
+use Rattle.il_spec.specs.Text.{AreTokens}
 use Rattle.il_spec.specs.Grammar.{Spells}
-use Rattle.lift_load.specs.Loading.{SpellsNone}
+use Rattle.lift_load.specs.Loading.{SpellsNone, HasTokens}
 use Rattle.il_reasons.specs.ChainReasons.{AreToldOfChains}
 use Rattle.il_reasons.specs.CostReasons.{AreToldOfCosts}
 use Rattle.il_reasons.specs.RangeReasons.{AreToldOfRanges}
+use Rattle.il_reasons.specs.TokenReasons.{AreToldOfToken}
 use Rattle.il_reasons.specs.TreeReasons.{AreToldOfTree}
 
 -- the numbers of faults of ranges, of chains of uses, and of costs
@@ -25,8 +28,10 @@ pub data AreTold (c : Config) (number : ℕ) (place : Place) (lines : List ℕ) 
   of_costs : is_of_costs number ≡ true → AreToldOfCosts c place lines → AreTold c number place lines
   of_tree : is_of_chains number ≡ false → is_of_costs number ≡ false → AreToldOfTree c number place lines → AreTold c number place lines
 
--- these lines are told of the refusal of a text: those of its ranges, or those of the configuration that it spells; none, where it spells none
+-- These lines are told of the refusal of a text: those of its ranges, or those of the configuration that it spells. Where it spells none, those of the
+-- unexpected token (10), and nothing of another fault or where it has no tokens.
 pub data IsReason (text : List ℕ) (number : ℕ) (place : Place) (lines : List ℕ) : Type 0 where
   of_ranges : is_of_ranges number ≡ true → AreToldOfRanges text number place lines → IsReason text number place lines
-  unspelled : is_of_ranges number ≡ false → SpellsNone text → lines ≡ [] → IsReason text number place lines
+  unexpected : number ≡ 10 → SpellsNone text → (tokens : List Token) → AreTokens text 0 tokens → AreToldOfToken text tokens place.offset lines → IsReason text number place lines
+  unspelled : is_of_ranges number ≡ false → (number ≡ 10 → HasTokens text → ⊥) → SpellsNone text → lines ≡ [] → IsReason text number place lines
   spelled : is_of_ranges number ≡ false → (c : Config) → Spells text c → AreTold c number place lines → IsReason text number place lines

@@ -14,6 +14,7 @@ use Rattle.il_reasons.specs.NamesTargets.{targets_text}
 use Rattle.il_reasons.specs.NamesUnknown.{instruction_text, unknown_lines}
 use Rattle.il_reasons.specs.ResultReasons.{IsResultToldIf}
 use Rattle.il_reasons.specs.TypeReasons.{is_type_number, type_lines}
+use Rattle.il_reasons.specs.WrittenReasons.{misplaced_lines}
 
 -- of the names of an instruction
 abbrev pub named_lines : Config → ProgramUnit → ℕ → Instruction → List ℕ
@@ -38,12 +39,12 @@ step_lines c unit number offset step = if step.place.offset == offset then instr
 abbrev pub unit_lines : Config → ℕ → ℕ → ProgramUnit → List ℕ
 unit_lines c number offset unit = flat_map (step_lines c unit number offset) unit.body.steps
 
--- of what is declared at a place: a name again, the name of no type or global, an initial value
+-- of what is declared at a place: a name again, the name of no type or global, an initial value or a type
 unfoldable pub place_lines : Config → ℕ → Place → List ℕ
 place_lines c number place =
     if number == 20 then again_lines c place
     else if number == 21 then unknown_lines c place
-    else if number == 25 then initials_lines c place.offset else []
+    else if number == 25 then initials_lines c place.offset ++ misplaced_lines c place.offset else []
 
 -- of the instruction at a place, and of what is declared there
 abbrev pub tree_lines : Config → ℕ → Place → List ℕ

@@ -11,6 +11,8 @@ mod chain_search;
 mod chain_uses;
 mod chains;
 mod costs;
+mod expected;
+mod expected_search;
 mod names_again;
 mod names_known;
 mod names_labels;
@@ -40,6 +42,8 @@ mod types_operands;
 mod types_results;
 mod types_wanted;
 mod types_words;
+mod types_written;
+mod unexpected;
 
 use il_parse::parse;
 use il_rules::Written;
@@ -68,6 +72,33 @@ fn of_tree(alloc: Global, text: &[u8], number: u16, place: Place) -> Result<Vec<
 {
     match spelled(alloc, text) {
         Ok(written) => told(alloc, written, number, place),
+        Err(Refusal::Memory) => Err(AllocError),
+        Err(Refusal::Fault { .. }) => unspelled(alloc, text, number, place),
+    }
+}
+
+// What is told of a text that spells no configuration.
+fn unspelled(alloc: Global, text: &[u8], number: u16, place: Place) -> Result<Vec<u8>, AllocError>
+    requires spelled { SpellsNone text.now }
+    requires other { is_of_ranges number ≡ false }
+    ensures { IfOk result (λ lines. IsReason text.now number place lines.items) }
+{
+    if number == 10 {
+        token_told(alloc, text, number, place)
+    } else {
+        Ok(Vec::new(alloc))
+    }
+}
+
+// What is told of an unexpected token.
+fn token_told(alloc: Global, text: &[u8], number: u16, place: Place) -> Result<Vec<u8>, AllocError>
+    requires spelled { SpellsNone text.now }
+    requires other { is_of_ranges number ≡ false }
+    requires number { number ≡ 10 }
+    ensures { IfOk result (λ lines. IsReason text.now number place lines.items) }
+{
+    match tokens(alloc, text) {
+        Ok(tokens) => unexpected::told(alloc, text, &tokens, place.offset),
         Err(Refusal::Memory) => Err(AllocError),
         Err(Refusal::Fault { .. }) => Ok(Vec::new(alloc)),
     }

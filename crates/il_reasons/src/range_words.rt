@@ -53,8 +53,8 @@ pub(crate) fn put_limits(text: &mut String, limits: Subrange) -> Result<(), Allo
     write!(text, "{}..{}", limits.lower, limits.upper)
 }
 
-// ` (LO..HI)`, where there are limits.
-fn put_within(text: &mut String, limits: Option<Subrange>) -> Result<(), AllocError>
+/// ` (LO..HI)`, where there are limits.
+pub(crate) fn put_within(text: &mut String, limits: Option<Subrange>) -> Result<(), AllocError>
     ensures { OnOk result (string_bytes text.new ≡ string_bytes text.old ++ within_text limits) }
 {
     match limits {

@@ -3,10 +3,12 @@
 ghost use Rattle.std.specs.Prelude.{◌≡◌, ◌++◌, Some, flat_map, slice_get, string_bytes, IfOk, OnOk};
 ghost use Rattle.il_rules.specs.Declarations.{IsUnknown};
 ghost use Rattle.il_rules.specs.Types.{HasUnknownLabel};
+ghost use Rattle.il_reasons.specs.InitialReasons.{initials_lines};
 ghost use Rattle.il_reasons.specs.NamesTold.{HasLine};
 ghost use Rattle.il_reasons.specs.ResultReasons.{IsResultToldIf};
 ghost use Rattle.il_reasons.specs.TypeReasons.{is_type_number};
 ghost use Rattle.il_reasons.specs.TreeReasons.{named_lines, instruction_lines, step_lines, unit_lines, place_lines, AreToldOfTree};
+ghost use Rattle.il_reasons.specs.WrittenReasons.{misplaced_lines};
 
 use crate::names_again::put_again_at;
 use crate::names_labels::put_jump;
@@ -17,13 +19,14 @@ use crate::types_arguments::put_taken;
 use crate::types_initials::put_initials;
 use crate::types_kinds::put_kinds;
 use crate::types_results::result_told;
+use crate::types_written::put_misplaced;
 use il_scope::{Scoped, UnitScope};
-use il_spec::tree::{Instruction, Place, Step, Unit};
+use il_spec::tree::{Config, Instruction, Place, Step, Unit};
 use std::alloc::{AllocError, Global};
 
 /// What is told of a fault that the tree shows: lines, each with its line feed, or none (own rule). Of 30, 31 and 32 the type that the
 /// current result has and the one that it must have, and the operands with their types, of 37 the arguments and what is taken, of 25
-/// in an instruction the names of another kind, and at an initial value the declared names with their types, of 33 and 38 the
+/// in an instruction the names of another kind, and at an initial value or a type the declared names with their types, of 33 and 38 the
 /// targets. Of an unknown name (21) and of a label that does not stand in its unit (34) there is a line.
 pub(crate) fn told(
     alloc: Global,
@@ -65,9 +68,18 @@ fn put_declared(
     match number {
         20 => put_again_at(alloc, text, names, place),
         21 => put_unknown_at(alloc, text, names, place),
-        25 => put_initials(text, names.config(), place.offset),
+        25 => put_of_other_type(text, names.config(), place.offset),
         _ => Ok(()),
     }
+}
+
+// Of the initial value or the type at a place.
+fn put_of_other_type(text: &mut String, config: &Config, offset: u32) -> Result<(), AllocError>
+    ensures { OnOk result (string_bytes text.new ≡ string_bytes text.old
+        ++ (initials_lines config.now offset ++ misplaced_lines config.now offset)) }
+{
+    put_initials(text, config, offset)?;
+    put_misplaced(text, config, offset)
 }
 
 // Of the current result, where the types tell why.
