@@ -9,7 +9,7 @@ mod ArgumentTexts
 mod WantedLaws
 mod Pieces
 mod Standing
-mod Unspelled
+mod NothingSpelled
 mod RangeUnits
 mod ChainUses
 mod ResultPasses

@@ -1,5 +1,5 @@
 -- What is told of a written type that is not what its place asks for (own rules).
-use Rattle.std.specs.Prelude.{ℕ, ◌==◌, Bool, true, false, not, ◌&&◌, bytes_eq, if◌then◌else◌, List, [], ◌++◌, flat_map, Option, Some, None, is_some, codes, decimal}
+use Rattle.std.specs.Prelude.{ℕ, ◌==◌, not, ◌&&◌, bytes_eq, if◌then◌else◌, List, [], ◌++◌, flat_map, is_some, codes, decimal}
 use Rattle.il_spec.specs.declared.tree.Config.{Config}
 use Rattle.il_spec.specs.declared.tree.Declaration.{Declaration}
 use Rattle.il_spec.specs.declared.tree.Form.{Form}

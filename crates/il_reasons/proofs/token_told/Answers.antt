@@ -1,5 +1,5 @@
 use Rattle.il_reasons.proofs.Pieces.{if_ok}
-use Rattle.il_reasons.proofs.Unspelled.{no_tokens, token_told}
+use Rattle.il_reasons.proofs.NothingSpelled.{no_tokens, token_told}
 use Rattle.il_reasons.proofs.token_told.Goals as goal
 
 pub returns-in-Ok : goal.returns-in-Ok
@@ -9,4 +9,5 @@ returns-in-Ok c =
     c.told.ensures
 
 pub returns-in-Err-Fault : goal.returns-in-Err-Fault
-returns-in-Err-Fault c = ?
+returns-in-Err-Fault c =
+    no_tokens c.args.text.now c.args.number c.args.place c.new.result.items (rw c.in-Err-Fault.field-0-is at c.in-Err-Fault.ensures.refused) c.requires.other c.requires.spelled c.new.ensures.items
