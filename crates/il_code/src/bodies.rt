@@ -1,9 +1,7 @@
 // The flat code of bodies.
 
 ghost use Rattle.std.specs.Prelude.{◌≡◌, ◌++◌, ◌∷◌, [], IfOk, option_map};
-ghost use Rattle.il_rules.specs.Names.{Spelling};
 ghost use Rattle.il_rules.specs.Types.{label_place};
-ghost use Rattle.il_table.specs.NameMap as map;
 ghost use Rattle.il_run.specs.Meaning.{natural, denotation, Constant};
 ghost use Rattle.il_layout.specs.Flattened.{typed, operand_of, place_or_zero, flat, flat_code};
 ghost use Rattle.il_layout.specs.Program.{program_names};
@@ -13,17 +11,15 @@ use crate::here::Here;
 use crate::invokes::invoke;
 use crate::operands::{beside, loaded};
 use il_layout::flat::{Flat, Operand};
-use il_scope::label_table;
 use il_spec::tree::{Condition, Instruction, Operand as Written};
-use il_table::Table;
 use lists::Items;
 use std::alloc::{AllocError, Global};
 
 // The place of a label, or 0 where there is none.
-fn place_of(labels: &Table<usize>, name: &str) -> usize
-    ensures { result ≡ place_or_zero (map.get labels.now name.now) }
+fn place_of(here: &Here, name: &str) -> usize
+    ensures { result ≡ place_or_zero (label_place here.now.scope.unit.body name.now) }
 {
-    match labels.get(name) {
+    match here.scope.label(name) {
         Some(place) => place,
         None => 0,
     }
@@ -43,14 +39,7 @@ fn short_form(here: &Here, first: &Option<Written>) -> Option<Operand>
 }
 
 // An instruction of the tree in flat code.
-fn flat(
-    alloc: Global,
-    here: &Here,
-    labels: &Table<usize>,
-    instruction: &Instruction,
-) -> Result<Flat, AllocError>
-    requires { (name : Spelling) → map.get labels.now name
-        ≡ label_place here.now.scope.unit.body name }
+fn flat(alloc: Global, here: &Here, instruction: &Instruction) -> Result<Flat, AllocError>
     ensures { IfOk result (λ f. f ≡ flat
         (program_names here.now.scope.config here.now.scope.unit.name.name) here.now.scope.config
         here.now.scope.unit instruction.now) }
@@ -76,7 +65,7 @@ fn flat(
         Instruction::Evaluate => Ok(Flat::Evaluate),
         Instruction::Jump { condition, label } => Ok(Flat::Jump {
             condition: *condition,
-            to: place_of(labels, label.name.as_str()),
+            to: place_of(here, label.name.as_str()),
         }),
         Instruction::Return { condition } => Ok(Flat::Return {
             condition: *condition,
@@ -93,28 +82,16 @@ fn flat(
 }
 
 // The flat code of the written instructions.
-fn steps_code(alloc: Global, here: &Here, labels: &Table<usize>) -> Result<Items<Flat>, AllocError>
-    requires { (name : Spelling) → map.get labels.now name
-        ≡ label_place here.now.scope.unit.body name }
+fn steps_code(alloc: Global, here: &Here) -> Result<Items<Flat>, AllocError>
     ensures { IfOk result (λ code. code ++ Flat.Return Condition.Always ∷ []
         ≡ flat_code (program_names here.now.scope.config here.now.scope.unit.name.name)
         here.now.scope.config here.now.scope.unit here.now.scope.unit.body.steps) }
 {
     let mut code = Items::new(alloc);
     for step in here.scope.tree().body.steps.as_slice() {
-        code.push(flat(alloc, here, labels, &step.instruction)?)?;
+        code.push(flat(alloc, here, &step.instruction)?)?;
     }
     Ok(code)
-}
-
-// The same, where the labels are not known yet.
-fn body_code(alloc: Global, here: &Here) -> Result<Items<Flat>, AllocError>
-    ensures { IfOk result (λ code. code ++ Flat.Return Condition.Always ∷ []
-        ≡ flat_code (program_names here.now.scope.config here.now.scope.unit.name.name)
-        here.now.scope.config here.now.scope.unit here.now.scope.unit.body.steps) }
-{
-    let labels = label_table(alloc, &here.scope.tree().body)?;
-    steps_code(alloc, here, &labels)
 }
 
 /// The flat code of a unit's body: one instruction for each written one, and the implicit RET.
@@ -123,7 +100,7 @@ pub fn flat_code(alloc: Global, here: &Here) -> Result<Items<Flat>, AllocError>
         ≡ flat_code (program_names here.now.scope.config here.now.scope.unit.name.name)
         here.now.scope.config here.now.scope.unit here.now.scope.unit.body.steps) }
 {
-    let mut code = body_code(alloc, here)?;
+    let mut code = steps_code(alloc, here)?;
     code.push(Flat::Return {
         condition: Condition::Always,
     })?;

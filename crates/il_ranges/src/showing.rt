@@ -11,7 +11,7 @@ use crate::numbering::{Numbering, numbering_of};
 use crate::places::{PlaceFacts, Witness};
 use crate::unit_flow::{UnitFlow, entry};
 use il_rules::Found;
-use il_scope::{Scoped, UnitScope, label_table};
+use il_scope::{Scoped, UnitScope};
 use il_spec::tree::{Step, Unit};
 use il_transfer::carried::Carried;
 use il_transfer::observer::Observer;
@@ -88,9 +88,8 @@ pub fn shown_unit<W: Witness + Drop>(
         (W.text r.1) r.0) }
 {
     let named = UnitScope::of(names, at, unit);
-    let labels = label_table(alloc, &unit.body)?;
     let numbering = numbering_of(alloc, &named)?;
-    let scope = NumberedUnit::of(&named, &labels, &numbering);
+    let scope = NumberedUnit::of(&named, &numbering);
     showing_fault(
         alloc,
         &scope,

@@ -6,7 +6,7 @@ ghost use Rattle.il_reasons.specs.NamesLabels.{missing_line, labels_near, missin
 
 use crate::names_near::{Near, nearest, push_spots, put_ending};
 use crate::names_spots::label_spots;
-use il_scope::label_table;
+use il_scope::UnitScope;
 use il_spec::tree::{Body, Instruction};
 use std::alloc::{AllocError, Global};
 
@@ -14,28 +14,32 @@ use std::alloc::{AllocError, Global};
 pub(crate) fn put_jump(
     alloc: Global,
     text: &mut String,
-    body: &Body,
+    scope: &UnitScope<'_>,
     instruction: &Instruction,
 ) -> Result<(), AllocError>
     ensures { OnOk result (string_bytes text.new ≡ string_bytes text.old
-        ++ jump_text body.now instruction.now) }
+        ++ jump_text scope.now.unit.body instruction.now) }
 {
     match instruction {
-        Instruction::Jump { label, .. } => put_missing(alloc, text, body, label.name.as_str()),
+        Instruction::Jump { label, .. } => put_missing(alloc, text, scope, label.name.as_str()),
         _ => Ok(()),
     }
 }
 
 // The name of a label, where the body lacks it.
-fn put_missing(alloc: Global, text: &mut String, body: &Body, name: &str) -> Result<(), AllocError>
+fn put_missing(
+    alloc: Global,
+    text: &mut String,
+    scope: &UnitScope<'_>,
+    name: &str,
+) -> Result<(), AllocError>
     ensures { OnOk result (string_bytes text.new ≡ string_bytes text.old
-        ++ missing_text body.now name.now) }
+        ++ missing_text scope.now.unit.body name.now) }
 {
-    let labels = label_table(alloc, body)?;
-    if labels.get(name).is_some() {
+    if scope.label(name).is_some() {
         return Ok(());
     }
-    let near = near_label(alloc, body, name)?;
+    let near = near_label(alloc, &scope.tree().body, name)?;
     put_missing_line(text, name, near)
 }
 

@@ -215,7 +215,7 @@ fn put_named(
     match number {
         21 => put_names(alloc, text, scope, instruction),
         33 => put_targets(alloc, text, scope, number, instruction),
-        34 => put_jump(alloc, text, &scope.tree().body, instruction),
+        34 => put_jump(alloc, text, scope, instruction),
         38 => put_targets(alloc, text, scope, number, instruction),
         _ => Ok(()),
     }

@@ -6,7 +6,7 @@ ghost use Rattle.il_rules.specs.Types.{opener, IsResultAt, IsDeferredAt};
 ghost use Rattle.il_reasons.specs.ResultReasons.{result_line, aside_line, deferred_lines, tested_line, result_lines, IsResultOf, IsResultTold};
 
 use crate::types_operands::type_word;
-use il_scope::{Scoped, UnitScope, label_table};
+use il_scope::{Scoped, UnitScope};
 use il_spec::tree::{Body, Condition, Elementary, Instruction, Operator, Step};
 use il_typed::places::{fresh, innermost, pass_on, result_at, set_aside};
 use il_typed::scope::Scope;
@@ -35,7 +35,6 @@ fn types_at<S: Scope>(
         (opener (S.unit scope.now).body place) t.deferred) }
 {
     let steps = body.steps.as_slice();
-    let labels = label_table(alloc, body)?;
     let mut table = fresh(alloc, steps.len())?;
     let mut waiting = Vec::new(alloc);
     for at in 0..place {
@@ -44,8 +43,6 @@ fn types_at<S: Scope>(
         let deferred = innermost(waiting.as_slice());
         pass_on(
             scope,
-            &labels,
-            body,
             at,
             &step.instruction,
             arrival,

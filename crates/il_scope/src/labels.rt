@@ -1,10 +1,7 @@
 // The places of labels (IEC 61131-3:2003, 3.2.1).
 
-ghost use Rattle.std.specs.Prelude.{◌≡◌, IfOk};
-ghost use Rattle.il_rules.specs.Names.{Spelling};
-ghost use Rattle.il_rules.specs.Types.{label_place};
-ghost use Rattle.il_table.specs.NameMap as map;
-ghost use Rattle.il_scope.specs.LabelTables.{AreFrom, AreWith};
+ghost use Rattle.std.specs.Prelude.{IfOk};
+ghost use Rattle.il_scope.specs.LabelTables.{AreFrom, AreWith, HasLabels};
 
 use il_spec::tree::{Body, Named};
 use il_table::Table;
@@ -12,8 +9,7 @@ use std::alloc::{AllocError, Global};
 
 /// The place of each label of a body, counted from 0; the first with a name counts.
 pub fn label_table(alloc: Global, body: &Body) -> Result<Table<usize>, AllocError>
-    ensures { IfOk result (λ labels. (name : Spelling) → map.get labels name
-        ≡ label_place body.now name) }
+    ensures { IfOk result (HasLabels body.now) }
 {
     let steps = body.steps.as_slice();
     let mut labels = Table::new(alloc);

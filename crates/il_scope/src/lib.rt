@@ -17,7 +17,6 @@ mod unit;
 mod words;
 
 pub use image::{ImageRow, image_rows};
-pub use labels::label_table;
 pub use meaning::is_seen_by;
 pub use numbers::is_program;
 pub use scoped::Scoped;

@@ -1,9 +1,11 @@
 // Units and blocks by names.
 
-ghost use Rattle.std.specs.Prelude.{◌≡◌, None, IfSome, option_map, option_and_then, slice_get};
+ghost use Rattle.std.specs.Prelude.{◌≡◌, Some, None, IfSome, option_map, option_and_then, slice_get};
 ghost use Rattle.il_spec.specs.declared.tree.Config.{Config};
+ghost use Rattle.il_spec.specs.declared.tree.Unit.{Unit as ProgramUnit};
 ghost use Rattle.il_rules.specs.Names.{entry_of, is_one_of, standard_inputs, standard_outputs};
 ghost use Rattle.il_rules.specs.Declarations.{names_of_units};
+ghost use Rattle.il_rules.specs.Types.{label_place};
 ghost use Rattle.il_scope.specs.declared.entry.BlockType.TheVariants.{Own};
 ghost use Rattle.il_scope.specs.Views.{type_of, variables_of_block};
 ghost use Rattle.il_scope.specs.Tables.{AreUnits, AreTables};
@@ -104,6 +106,18 @@ pub fn input_scalars(tables: &Tables, number: usize) -> Option<&[Option<Scalar>]
 {
     match tables.scopes.as_slice().get(number) {
         Some(scope) => Some(scope.scalars.as_slice()),
+        None => None,
+    }
+}
+
+/// The place of a label in the body of the unit of a number.
+#[inline(always)]
+pub fn label(tables: &Tables, at: usize, name: &str) -> Option<usize>
+    ensures { (config : Config) (unit : ProgramUnit) → AreTables config tables.now
+        → slice_get config.units at ≡ Some unit → result ≡ label_place unit.body name.now }
+{
+    match tables.scopes.as_slice().get(at) {
+        Some(scope) => scope.labels.get(name),
         None => None,
     }
 }

@@ -4,13 +4,14 @@ ghost use Rattle.std.specs.Prelude.{◌≡◌, IfOk, Some, None, IfSome, option_
 ghost use Rattle.il_spec.specs.declared.tree.Unit.{Unit as ProgramUnit};
 ghost use Rattle.il_rules.specs.Names.{entry_of, is_one_of, is_predeclared, meaning, program_role, variable_named};
 ghost use Rattle.il_rules.specs.Declarations.{global_form, names_of_units};
+ghost use Rattle.il_rules.specs.Types.{label_place};
 ghost use Rattle.il_scope.specs.Images.{image_in};
 ghost use Rattle.il_scope.specs.Units.{AreInputsOf};
 ghost use Rattle.il_scope.specs.Views.{block_type, function_number, program_number, unit_number, type_of, binding_of, variable_of, variables_of_block};
 
 use crate::entry::{Binding, BlockType, ImageName, Variable, VariableType};
 use crate::image::{ImageRow, image_in};
-use crate::lookup::{block_input, block_output, input_scalars, is_unit};
+use crate::lookup::{block_input, block_output, input_scalars, is_unit, label};
 use crate::meaning::{meaning, variable};
 use crate::numbers::{block_type, function_number, program_number, unit_number};
 use crate::tables::{Tables, tables_of, type_of};
@@ -151,6 +152,15 @@ impl Scoped {
             ≡ option_map (variable_of self.now) (variable_named self.now unit name.now) }
     {
         variable(&self.tables, at, name)
+    }
+
+    /// The place of a label in the body of the unit of a number, counted from 0 (3.2.1); the first of a name counts.
+    #[inline(always)]
+    pub fn label(&self, at: usize, name: &str) -> Option<usize>
+        ensures { (unit : ProgramUnit) → slice_get self.now.units at ≡ Some unit → result
+            ≡ label_place unit.body name.now }
+    {
+        label(&self.tables, at, name)
     }
 
     /// The image name of a row of the table (own rule).

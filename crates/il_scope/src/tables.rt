@@ -10,6 +10,7 @@ ghost use Rattle.il_scope.specs.Tables.{with_role, AreUnits, HasForms, HasNames,
 use crate::entry::{Variable, VariableType};
 use crate::image::{ImageRow, image_in, image_rows};
 use crate::inputs::input_scalars;
+use crate::labels::label_table;
 use crate::meaning::image_seen;
 use crate::numbers::block_type;
 use crate::roles::task_role;
@@ -19,7 +20,7 @@ use il_table::Table;
 use lists::Items;
 use std::alloc::{AllocError, Global};
 
-/// The variables of a unit by their names.
+/// The variables and the labels of a unit by their names.
 #[derive(Drop)]
 pub struct Scope {
     /// The types of its inputs; the first of a name counts.
@@ -31,6 +32,8 @@ pub struct Scope {
     /// What its body names: a function's result, the variables of all lists, then the image names; the first of a name counts.
     /// None where the unit doesn't see an image name.
     pub own: Table<Option<Variable>>,
+    /// The places of its labels, counted from 0; the first of a name counts.
+    pub labels: Table<usize>,
 }
 
 /// The names of a configuration.
@@ -141,6 +144,7 @@ fn scope_of(
         outputs: form_table(alloc, config, units, unit.outputs.as_slice())?,
         scalars: input_scalars(alloc, unit)?,
         own: own_table(alloc, config, units, roles, unit)?,
+        labels: label_table(alloc, &unit.body)?,
     })
 }
 

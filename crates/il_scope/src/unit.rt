@@ -244,6 +244,14 @@ impl<'n> UnitScope<'n> {
         scalar_if(self.member(name, word))
     }
 
+    /// The place of a label in its body, counted from 0 (3.2.1); the first of a name counts.
+    #[inline(always)]
+    pub fn label(&self, name: &str) -> Option<usize>
+        ensures { result ≡ rules.label_place self.now.unit.body name.now }
+    {
+        self.names.label(self.at, name)
+    }
+
     /// The scalar types of the inputs of the own function of a name, in their order (2.5.1).
     pub fn own_inputs(&self, name: &str) -> Option<&'n [Option<Scalar>]>
         ensures none { result ≡ None → function_named self.now.config name.now ≡ None }

@@ -115,6 +115,10 @@ impl<'n> Scope for UnitScope<'n> {
         }
     }
 
+    fn label(&self, name: &str) -> Option<usize> {
+        self.label(name)
+    }
+
     fn standard_function(&self, name: &str) -> Option<StandardFunction> {
         standard_function(name)
     }

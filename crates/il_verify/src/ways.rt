@@ -2,15 +2,11 @@
 
 ghost use Rattle.std.specs.Prelude.{◌≡◌, IfOk, Some, map, slice_get};
 ghost use Rattle.il_spec.specs.declared.tree.Unit.{Unit as ProgramUnit};
-ghost use Rattle.il_rules.specs.Names.{Spelling};
-ghost use Rattle.il_rules.specs.Types.{label_place};
-ghost use Rattle.il_table.specs.NameMap as map;
 ghost use Rattle.il_verify.specs.Ways.{way_of, callee_of};
 
+use il_scope::Scoped;
 use il_scope::entry::{Binding, BlockType, VariableType};
-use il_scope::{Scoped, label_table};
 use il_spec::tree::{Condition, Instruction, Unit};
-use il_table::Table;
 use lists::Items;
 use std::alloc::{AllocError, Global};
 
@@ -38,40 +34,22 @@ pub fn ways(alloc: Global, names: &Scoped, at: usize, unit: &Unit) -> Result<Ite
     ensures { IfOk result (λ ways. ways
         ≡ map (λ s. way_of names.now unit.now s.instruction) unit.now.body.steps) }
 {
-    let labels = label_table(alloc, &unit.body)?;
-    ways_by(alloc, names, at, unit, &labels)
-}
-
-// The same with the places of labels.
-fn ways_by(
-    alloc: Global,
-    names: &Scoped,
-    at: usize,
-    unit: &Unit,
-    labels: &Table<usize>,
-) -> Result<Items<Way>, AllocError>
-    requires unit { slice_get names.now.units at ≡ Some unit.now }
-    requires labels { (name : Spelling) → map.get labels.now name ≡ label_place unit.now.body name }
-    ensures { IfOk result (λ ways. ways
-        ≡ map (λ s. way_of names.now unit.now s.instruction) unit.now.body.steps) }
-{
     let mut ways = Items::new(alloc);
     'steps: for step in unit.body.steps.as_slice() {
-        ways.push(way_of(names, at, labels, &step.instruction))?;
+        ways.push(way_of(names, at, &step.instruction))?;
     }
     Ok(ways)
 }
 
 // The way of an instruction.
-fn way_of(names: &Scoped, at: usize, labels: &Table<usize>, instruction: &Instruction) -> Way
-    ensures { (unit : ProgramUnit) → slice_get names.now.units at ≡ Some unit
-        → ((name : Spelling) → map.get labels.now name ≡ label_place unit.body name) → result
+fn way_of(names: &Scoped, at: usize, instruction: &Instruction) -> Way
+    ensures { (unit : ProgramUnit) → slice_get names.now.units at ≡ Some unit → result
         ≡ way_of names.now unit instruction.now }
 {
     match instruction {
         Instruction::Jump { condition, label } => Way::Jump {
             condition: *condition,
-            to: labels.get(label.name.as_str()),
+            to: names.label(at, label.name.as_str()),
         },
         Instruction::Return { condition } => Way::Return {
             condition: *condition,

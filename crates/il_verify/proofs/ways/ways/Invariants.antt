@@ -1,6 +1,6 @@
 use Rattle.std.proofs.Common.{◌≡◌, ◌++◌, map, drop}
 use Rattle.il_verify.specs.Ways.{way_of}
-use Rattle.il_verify.proofs.ways.ways_by.Given as goal
+use Rattle.il_verify.proofs.ways.ways.Given as goal
 
 -- the ways of the steps so far, and those of what is left
 abbrev pub invariant-steps : goal.invariant-steps
