@@ -5,3 +5,4 @@ pub mod Seen
 pub mod Laws
 pub mod Owned
 mod LabelTable
+pub mod Stored

@@ -32,7 +32,7 @@ scalars_of_names (d ∷ declarations) = map-append (λ (input : Spelling × Form
     both (n ∷ ns) = ap (λ l. scalar_of (Some d.declared.form) ∷ l) (both ns)
 
 -- one item more of a list of lists
-flat_more : {A B : Type 0} (f : A → List B) (xs : List A) (i : ℕ) (x : A) → i < length xs → x ≡ get_or xs i x → flat_map f (take (i + 1) xs) ≡ flat_map f (take i xs) ++ f x
+pub flat_more : {A B : Type 0} (f : A → List B) (xs : List A) (i : ℕ) (x : A) → i < length xs → x ≡ get_or xs i x → flat_map f (take (i + 1) xs) ≡ flat_map f (take i xs) ++ f x
 flat_more f xs i x low there = ap (flat_map f) (take_next xs i x low there) ∙ flat_map-append f (take i xs) (x ∷ []) ∙ ap (λ l. flat_map f (take i xs) ++ l) (append-nil (f x))
 
 pub declared_next : (ds : List Declaration) (i : ℕ) (d : Declaration) (each : Option Scalar) (names : List Named) (types new : List (Option Scalar)) → i < length ds → d ≡ get_or ds i d → each ≡ scalar_of (Some d.declared.form) → names ≡ d.names → new ≡ types ++ map (λ n. each) names → types ≡ declared_scalars (take i ds) → new ≡ declared_scalars (take (i + 1) ds)

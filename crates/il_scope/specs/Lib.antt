@@ -6,3 +6,4 @@ pub mod Cars
 pub mod Tables
 pub mod Meanings
 pub mod LabelTables
+pub mod StoredNames

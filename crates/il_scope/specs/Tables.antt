@@ -22,6 +22,7 @@ use Rattle.il_scope.specs.Views.{place_of, type_of, variable_of, image_entry}
 use Rattle.il_scope.specs.Units.{input_scalars}
 use Rattle.il_scope.specs.Meanings.{listed_as, image_seen}
 use Rattle.il_scope.specs.LabelTables.{HasLabels}
+use Rattle.il_scope.specs.StoredNames.{HasStored}
 
 -- the number of the first unit of each name
 abbrev pub AreUnits : Config → NameMap ℕ → Type 0
@@ -75,13 +76,14 @@ with_role cars line roles = with_role_of (task_role cars line.task.name) line.pr
 abbrev pub HasRoles : Config → List ProgramLine → NameMap Role → Type 0
 HasRoles config lines roles = (name : Spelling) → get roles name ≡ program_role config name lines
 
--- the variables and the labels of a unit
+-- the variables, the labels and the stores of a unit
 pub record IsScope (config : Config) (unit : ProgramUnit) (scope : Scope) : Type 0 where
   pub inputs : HasForms config unit.inputs scope.inputs
   pub outputs : HasForms config unit.outputs scope.outputs
   pub scalars : scope.scalars ≡ input_scalars unit
   pub own : HasOwn config unit scope.own
   pub labels : HasLabels unit.body scope.labels
+  pub stored : HasStored unit.body.steps scope.stored
 
 -- the scope of each unit
 abbrev pub AreScopes : Config → List ProgramUnit → List Scope → Type 0

@@ -12,6 +12,7 @@ mod meaning;
 mod numbers;
 pub mod roles;
 mod scoped;
+mod stores;
 mod tables;
 mod unit;
 mod words;

@@ -8,6 +8,7 @@ ghost use Rattle.il_rules.specs.Declarations.{names_of_units};
 ghost use Rattle.il_rules.specs.Types.{label_place};
 ghost use Rattle.il_scope.specs.declared.entry.BlockType.TheVariants.{Own};
 ghost use Rattle.il_scope.specs.Views.{type_of, variables_of_block};
+ghost use Rattle.il_scope.specs.StoredNames.{is_stored};
 ghost use Rattle.il_scope.specs.Tables.{AreUnits, AreTables};
 ghost use Rattle.il_scope.specs.Units.{AreInputsOf};
 
@@ -119,5 +120,17 @@ pub fn label(tables: &Tables, at: usize, name: &str) -> Option<usize>
     match tables.scopes.as_slice().get(at) {
         Some(scope) => scope.labels.get(name),
         None => None,
+    }
+}
+
+/// Whether the body of the unit of a number stores into a variable of a name.
+#[inline(always)]
+pub fn stores(tables: &Tables, at: usize, name: &str) -> bool
+    ensures { (config : Config) (unit : ProgramUnit) → AreTables config tables.now
+        → slice_get config.units at ≡ Some unit → result ≡ is_stored unit.body.steps name.now }
+{
+    match tables.scopes.as_slice().get(at) {
+        Some(scope) => scope.stored.get(name).is_some(),
+        None => false,
     }
 }

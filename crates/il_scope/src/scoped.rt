@@ -6,12 +6,13 @@ ghost use Rattle.il_rules.specs.Names.{entry_of, is_one_of, is_predeclared, mean
 ghost use Rattle.il_rules.specs.Declarations.{global_form, names_of_units};
 ghost use Rattle.il_rules.specs.Types.{label_place};
 ghost use Rattle.il_scope.specs.Images.{image_in};
+ghost use Rattle.il_scope.specs.StoredNames.{is_stored};
 ghost use Rattle.il_scope.specs.Units.{AreInputsOf};
 ghost use Rattle.il_scope.specs.Views.{block_type, function_number, program_number, unit_number, type_of, binding_of, variable_of, variables_of_block};
 
 use crate::entry::{Binding, BlockType, ImageName, Variable, VariableType};
 use crate::image::{ImageRow, image_in};
-use crate::lookup::{block_input, block_output, input_scalars, is_unit, label};
+use crate::lookup::{block_input, block_output, input_scalars, is_unit, label, stores};
 use crate::meaning::{meaning, variable};
 use crate::numbers::{block_type, function_number, program_number, unit_number};
 use crate::tables::{Tables, tables_of, type_of};
@@ -161,6 +162,15 @@ impl Scoped {
             ≡ label_place unit.body name.now }
     {
         label(&self.tables, at, name)
+    }
+
+    /// Whether the body of the unit of a number stores into a variable of a name, or into an element of it.
+    #[inline(always)]
+    pub fn stores(&self, at: usize, name: &str) -> bool
+        ensures { (unit : ProgramUnit) → slice_get self.now.units at ≡ Some unit → result
+            ≡ is_stored unit.body.steps name.now }
+    {
+        stores(&self.tables, at, name)
     }
 
     /// The image name of a row of the table (own rule).

@@ -14,13 +14,14 @@ use crate::labels::label_table;
 use crate::meaning::image_seen;
 use crate::numbers::block_type;
 use crate::roles::task_role;
+use crate::stores::stored_by;
 use il_rules::names::{Origin, Role};
 use il_spec::tree::{Config, Declaration, Form, Named, ProgramLine, Scalar, Unit, UnitKind};
 use il_table::Table;
 use lists::Items;
 use std::alloc::{AllocError, Global};
 
-/// The variables and the labels of a unit by their names.
+/// The variables, the labels and the stores of a unit by their names.
 #[derive(Drop)]
 pub struct Scope {
     /// The types of its inputs; the first of a name counts.
@@ -34,6 +35,8 @@ pub struct Scope {
     pub own: Table<Option<Variable>>,
     /// The places of its labels, counted from 0; the first of a name counts.
     pub labels: Table<usize>,
+    /// The names that its body stores into.
+    pub stored: Table<bool>,
 }
 
 /// The names of a configuration.
@@ -145,6 +148,7 @@ fn scope_of(
         scalars: input_scalars(alloc, unit)?,
         own: own_table(alloc, config, units, roles, unit)?,
         labels: label_table(alloc, &unit.body)?,
+        stored: stored_by(alloc, unit.body.steps.as_slice())?,
     })
 }
 

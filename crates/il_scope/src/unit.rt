@@ -7,6 +7,7 @@ ghost use Rattle.il_spec.specs.declared.tree.Form.TheVariants.{Block as BlockFor
 ghost use Rattle.il_rules.specs.Names.{Spelling, entry_of, form_named, function_named, meaning, variable_named};
 ghost use Rattle.il_rules.specs.Types as rules;
 ghost use Rattle.il_scope.specs.Views.{binding_of, block_type, type_of, variable_of, variables_of_block};
+ghost use Rattle.il_scope.specs.StoredNames.{is_stored};
 ghost use Rattle.il_scope.specs.Units.{AreInputsOf, is_block, kind_result, own_scalar, scalar_of};
 
 use crate::entry::{Binding, BlockType, Variable, VariableType};
@@ -250,6 +251,13 @@ impl<'n> UnitScope<'n> {
         ensures { result ≡ rules.label_place self.now.unit.body name.now }
     {
         self.names.label(self.at, name)
+    }
+
+    /// Whether its body stores into a variable of a name, or into an element of it.
+    pub fn stores(&self, name: &str) -> bool
+        ensures { result ≡ is_stored self.now.unit.body.steps name.now }
+    {
+        self.names.stores(self.at, name)
     }
 
     /// The scalar types of the inputs of the own function of a name, in their order (2.5.1).
