@@ -1,16 +1,15 @@
 -- The programs of PROGRAM lines by the number of their unit.
-use Rattle.std.proofs.Common.{◌≡◌, ℕ, ◌≤◌, List, length, Option, Some, None, option_and_then, slice_get, [], refl, sym, ap, ◌∙◌}
+use Rattle.std.proofs.Common.{◌≡◌, ℕ, ◌≤◌, List, length, Option, Some, None, option_and_then, slice_get, sym, ap, ◌∙◌}
 use Rattle.il_spec.specs.declared.tree.Config.{Config}
 use Rattle.il_spec.specs.declared.tree.Unit.{Unit as ProgramUnit}
-use Rattle.il_spec.specs.declared.tree.Step.{Step}
+use Rattle.il_spec.specs.declared.tree.Declaration.{Declaration}
 use Rattle.il_table.specs.NameMap.{NameMap}
 use Rattle.il_rules.specs.Names.{Spelling, program_named}
 use Rattle.il_scope.specs.Views.{program_number}
 use Rattle.il_scope.proofs.Laws.{program_found}
 use Rattle.il_scope.proofs.Seen.{none_at}
 use Rattle.il_typed.specs.declared.writers.Writer.{Writer}
-use Rattle.il_typed.specs.Writers.{noted, noted_line, names_stored}
-use Rattle.il_typed.proofs.Sharing.{nothing_noted}
+use Rattle.il_typed.specs.Writers.{noted, noted_line, declared_stored}
 
 module _ (config : Config) (key name : Spelling) (same : key ≡ name) where
   -- a number is that of a unit
@@ -24,12 +23,8 @@ module _ (config : Config) (key name : Spelling) (same : key ≡ name) where
   pub nothing_past : (line k : ℕ) (table : NameMap Writer) (units : List ProgramUnit) → Some k ≡ program_number config key → units ≡ config.units → length units ≤ k → table ≡ noted_line config.programs line (program_named config name) table
   nothing_past line k table units is all past = sym (ap (λ o. noted_line config.programs line o table) (numbered (Some k) is ∙ ap (λ l. slice_get l k) (sym all) ∙ none_at units k past))
 
-  -- a program, what its body stores noted
-  pub body_noted : (line k : ℕ) (table new : NameMap Writer) (unit of : ProgramUnit) (steps : List Step) → Some k ≡ program_number config key → slice_get config.units k ≡ Some unit → of ≡ unit → steps ≡ unit.body.steps → new ≡ noted config.programs line of table (names_stored steps) → new ≡ noted_line config.programs line (program_named config name) table
-  body_noted line k table new unit of steps is there one listed noted_steps =
-      noted_steps ∙ ap (λ u. noted config.programs line u table (names_stored steps)) one ∙ ap (λ l. noted config.programs line unit table (names_stored l)) listed
+  -- a program, what it stores into of its externals noted
+  pub body_noted : (line k : ℕ) (table new : NameMap Writer) (unit of : ProgramUnit) (externals : List Declaration) → Some k ≡ program_number config key → slice_get config.units k ≡ Some unit → of ≡ unit → externals ≡ unit.externals → new ≡ noted config.programs line of table (declared_stored of externals) → new ≡ noted_line config.programs line (program_named config name) table
+  body_noted line k table new unit of externals is there one listed noted_names =
+      noted_names ∙ ap (λ u. noted config.programs line u table (declared_stored u externals)) one ∙ ap (λ l. noted config.programs line unit table (declared_stored unit l)) listed
       ∙ sym (ap (λ o. noted_line config.programs line o table) (numbered (Some k) is ∙ there))
-
-  -- a program that writes no global
-  pub nothing_stored : (line k : ℕ) (table : NameMap Writer) (unit : ProgramUnit) → Some k ≡ program_number config key → slice_get config.units k ≡ Some unit → unit.externals ≡ [] → table ≡ noted_line config.programs line (program_named config name) table
-  nothing_stored line k table unit is there none = body_noted line k table table unit unit unit.body.steps is there refl refl (sym (nothing_noted config.programs line unit table (names_stored unit.body.steps) none))

@@ -1,12 +1,14 @@
 -- Which globals two tasks write.
 use Rattle.std.proofs.Common.{◌≡◌, ◌≢◌, ℕ, zero, suc, ◌+◌, ◌<◌, ◌⊎◌, inl, inr, Bool, true, false, ◌||◌, ◌&&◌, if◌then◌else◌, List, [], ◌∷◌, length, slice_get, refl, sym, ap, ◌∙◌, subst, Option, Some, None, option_map, bytes_eq, arith}
-use Rattle.std.specs.Prelude.{Contains, find, map, ◌++◌}
+use Rattle.std.specs.Prelude.{Contains, find, map, flat_map, ◌++◌}
 use Rattle.std.specs.List.{list_any}
 use Rattle.std.proofs.lemmas.Option.{slice_get_within, get_or_from_slice_get, slice_get-get_or}
 use Rattle.std.proofs.lemmas.Slice.Eq.{bytes_eq-Decides}
 use Rattle.il_spec.specs.declared.tree.Config.{Config}
 use Rattle.il_spec.specs.declared.tree.Unit.{Unit as ProgramUnit}
 use Rattle.il_spec.specs.declared.tree.Step.{Step}
+use Rattle.il_spec.specs.declared.tree.Declaration.{Declaration}
+use Rattle.il_spec.specs.declared.tree.Named.{Named}
 use Rattle.il_spec.specs.declared.tree.Form.{Form}
 use Rattle.il_spec.specs.declared.tree.Form.TheVariants.{Scalar as OfScalar}
 use Rattle.il_spec.specs.declared.tree.UnitKind.{UnitKind}
@@ -25,10 +27,11 @@ use Rattle.il_typed.specs.Faults.{HasStoreOfTwo}
 use Rattle.il_scope.specs.declared.entry.Variable.{Variable}
 use Rattle.il_scope.specs.Views.{variable_of}
 use Rattle.il_scope.proofs.Filled.{get-inserted}
-use Rattle.il_declare.proofs.Members.{in_flat, from_flat}
+use Rattle.il_scope.specs.StoredNames.{is_stored}
+use Rattle.il_declare.proofs.Members.{none_in, one_in, in_rest, in_flat, from_flat, from_map}
 use Rattle.il_typed.specs.declared.writers.Writer.{Writer}
 use Rattle.il_typed.specs.declared.writers.Writer.TheVariants.{Task, Several}
-use Rattle.il_typed.specs.Writers.{is_external, is_external_origin, is_external_variable, is_same_task, is_task_of, writer_after, note, noted, names_stored, noted_line, WritesBelow, AreTwoTasks, IsWriter, AreWriters, is_several, is_shared, HasSharedStores}
+use Rattle.il_typed.specs.Writers.{is_external, is_external_origin, is_external_variable, is_same_task, is_task_of, writer_after, note, noted, names_stored, if_stored, declared_stored, noted_line, WritesBelow, AreTwoTasks, IsWriter, AreWriters, is_several, is_shared, HasSharedStores}
 
 -- EXTERNALS
 
@@ -113,8 +116,16 @@ is_external_there unit name e = by_own (own_variable unit name) e
     by_own (Some v) e = ap is_external_origin (same v.origin AsExternal e)
     by_own None e = let bad : ◌≡◌ {A = Option Origin} None (Some AsExternal) = e in cc
 
--- a unit without externals has no external of any name
+-- externals stand behind all others
 module _ (test : rule.Variable → Bool) where
+  external_behind : (xs ys : List rule.Variable) → is_external_variable (find test xs) ≡ false → is_external_variable (find test (xs ++ ys)) ≡ true → is_external_variable (find test ys) ≡ true
+  external_behind [] ys none e = e
+  external_behind (x ∷ xs) ys none e = by_first (test x) none e (external_behind xs ys)
+    where
+      by_first : (b : Bool) → is_external_variable (if b then Some x else find test xs) ≡ false → is_external_variable (if b then Some x else find test (xs ++ ys)) ≡ true → (is_external_variable (find test xs) ≡ false → is_external_variable (find test (xs ++ ys)) ≡ true → is_external_variable (find test ys) ≡ true) → is_external_variable (find test ys) ≡ true
+      by_first true is e further = absurd (let bad : false ≡ true = sym is ∙ e in cc)
+      by_first false is e further = further is e
+
   no_external_appended : (xs ys : List rule.Variable) → is_external_variable (find test xs) ≡ false → is_external_variable (find test ys) ≡ false → is_external_variable (find test (xs ++ ys)) ≡ false
   no_external_appended [] ys none rest = rest
   no_external_appended (x ∷ xs) ys none rest = by_first (test x) none (λ k. no_external_appended xs ys k rest)
@@ -140,24 +151,84 @@ module _ (test : rule.Variable → Bool) where
   no_external_result FunctionBlock name = refl
   no_external_result Program name = refl
 
-  no_external_found : (unit : ProgramUnit) → unit.externals ≡ [] → is_external_variable (find test (variables_of unit)) ≡ false
-  no_external_found unit none =
-      no_external_appended _ (with_origin AsExternal unit.externals)
+  -- what stands in front of the externals
+  external_among : (unit : ProgramUnit) → is_external_variable (find test (variables_of unit)) ≡ true → is_external_variable (find test (with_origin AsExternal unit.externals)) ≡ true
+  external_among unit e =
+      external_behind _ (with_origin AsExternal unit.externals)
       (no_external_appended _ (with_origin AsVariable unit.variables)
       (no_external_appended _ (with_origin AsOutput unit.outputs)
       (no_external_appended (result_of unit.kind unit.name.name) (with_origin AsInput unit.inputs) (no_external_result unit.kind unit.name.name) (no_external_of_origin AsInput (named_forms unit.inputs) refl))
       (no_external_of_origin AsOutput (named_forms unit.outputs) refl))
-      (no_external_of_origin AsVariable (named_forms unit.variables) refl))
-      (ap (λ l. is_external_variable (find test (with_origin AsExternal l))) none)
+      (no_external_of_origin AsVariable (named_forms unit.variables) refl)) e
 
-no_external : (unit : ProgramUnit) (name : Spelling) → unit.externals ≡ [] → is_external unit name ≡ false
+named_in : (o : Origin) (q : Spelling) (vs : List (Spelling × Form)) → is_external_variable (find (λ v. bytes_eq v.name q) (map (λ (v : Spelling × Form). record { name = v.0; form = v.1; origin = o }) vs)) ≡ true → (v : Spelling × Form) × Contains vs v × (v.0 ≡ q)
+named_in o q [] e = absurd (let bad : false ≡ true = e in cc)
+named_in o q (v ∷ vs) e = by_first (bytes_eq v.0 q) refl e (named_in o q vs)
+  where
+    rest : List rule.Variable
+    rest = map (λ (v : Spelling × Form). record { name = v.0; form = v.1; origin = o }) vs
+
+    by_first : (b : Bool) → bytes_eq v.0 q ≡ b → is_external_variable (if b then Some (record { name = v.0; form = v.1; origin = o }) else find (λ v. bytes_eq v.name q) rest) ≡ true → (is_external_variable (find (λ v. bytes_eq v.name q) rest) ≡ true → (w : Spelling × Form) × Contains vs w × (w.0 ≡ q)) → (w : Spelling × Form) × Contains (v ∷ vs) w × (w.0 ≡ q)
+    by_first true is e further = (v, (0, omega arith, refl), (bytes_eq-Decides v.0 q).0 is)
+    by_first false is e further = let r = further e in (r.0, in_rest v vs r.0 r.1, r.2)
+
+-- an external of a unit is declared as one
+pub record IsDeclaredExternal (unit : ProgramUnit) (name : Spelling) : Type 0 where
+  pub declaration : Declaration
+  pub among : Contains unit.externals declaration
+  pub named : Named
+  pub listed : Contains declaration.names named
+  pub is : named.name ≡ name
+
+external_declared : (unit : ProgramUnit) (name : Spelling) → is_external unit name ≡ true → IsDeclaredExternal unit name
 unfolding is_external
-no_external unit name none = no_external_found (λ v. bytes_eq v.name name) unit none
+external_declared unit name e =
+    let v = named_in AsExternal name (named_forms unit.externals) (external_among (λ v. bytes_eq v.name name) unit e) in
+    let d = from_flat (λ (d : Declaration). map (λ (n : Named). (n.name, d.declared.form)) d.names) unit.externals v.0 v.1 in
+    let n = from_map (λ (n : Named). (n.name, d.0.declared.form)) d.0.names v.0 d.2 in
+    record { declaration = d.0; among = d.1; named = n.0; listed = n.1; is = ap (λ (p : Spelling × Form). p.0) n.2 ∙ v.2 }
 
--- such a unit writes no global
-pub nothing_noted : (lines : List ProgramLine) (line : ℕ) (unit : ProgramUnit) (table : NameMap Writer) (names : List Spelling) → unit.externals ≡ [] → noted lines line unit table names ≡ table
-nothing_noted lines line unit table [] none = refl
-nothing_noted lines line unit table (n ∷ ns) none = nothing_noted lines line unit (note lines line unit table n) ns none ∙ ap (λ b. if b then insert table n (writer_after lines line (get table n)) else table) (no_external unit n none)
+-- EXTERNALS THAT ARE STORED INTO
+
+any_in : (test : Spelling → Bool) (xs : List Spelling) → list_any test xs ≡ true → (x : Spelling) × Contains xs x × (test x ≡ true)
+any_in test [] e = let bad : false ≡ true = e in cc
+any_in test (x ∷ xs) e = by_first (test x) refl e (any_in test xs)
+  where
+    by_first : (b : Bool) → test x ≡ b → (b || list_any test xs) ≡ true → (list_any test xs ≡ true → (y : Spelling) × Contains xs y × (test y ≡ true)) → (y : Spelling) × Contains (x ∷ xs) y × (test y ≡ true)
+    by_first true is e rest = (x, (0, omega arith, refl), is)
+    by_first false is e rest = let r = rest e in (r.0, (suc r.1.0, omega (arith, r.1.1), r.1.2), r.2)
+
+in_any : (test : Spelling → Bool) (xs : List Spelling) (x : Spelling) → Contains xs x → test x ≡ true → list_any test xs ≡ true
+in_any test [] x (k, low, e) is = absurd (omega arith)
+in_any test (y ∷ xs) x (zero, low, e) is = ap (λ b. b || list_any test xs) (ap test e ∙ is)
+in_any test (y ∷ xs) x (suc k, low, e) is = either (test y) (in_any test xs x (k, omega arith, e) is)
+  where
+    either : (a : Bool) → list_any test xs ≡ true → (a || list_any test xs) ≡ true
+    either true h = refl
+    either false h = h
+
+-- an external that the instructions store into
+stored_external : (unit : ProgramUnit) (name : Spelling) → is_external unit name ≡ true → Contains (names_stored unit.body.steps) name → Contains (declared_stored unit unit.externals) name
+stored_external unit name external stored =
+    let d = external_declared unit name external in
+    in_flat (λ (d : Declaration). flat_map (if_stored unit) d.names) unit.externals d.declaration name d.among
+    (in_flat (if_stored unit) d.declaration.names d.named name d.listed (by_test d.named d.is (is_stored unit.body.steps d.named.name) (ap (is_stored unit.body.steps) d.is ∙ in_any (λ n. bytes_eq n name) (names_stored unit.body.steps) name stored ((bytes_eq-Decides name name).1 refl))))
+  where
+    by_test : (n : Named) → n.name ≡ name → (b : Bool) → b ≡ true → Contains (if b then n.name ∷ [] else []) name
+    by_test n same true is = (0, omega arith, same)
+    by_test n same false is = absurd (let bad : false ≡ true = is in cc)
+
+external_stored : (unit : ProgramUnit) (name : Spelling) → Contains (declared_stored unit unit.externals) name → Contains (names_stored unit.body.steps) name
+external_stored unit name c =
+    let d = from_flat (λ (d : Declaration). flat_map (if_stored unit) d.names) unit.externals name c in
+    let n = from_flat (if_stored unit) d.0.names name d.2 in
+    by_test n.0 (is_stored unit.body.steps n.0.name) refl n.2
+  where
+    by_test : (n : Named) (b : Bool) → is_stored unit.body.steps n.name ≡ b → Contains (if b then n.name ∷ [] else []) name → Contains (names_stored unit.body.steps) name
+    by_test n true is c =
+        let a = any_in (λ m. bytes_eq m n.name) (names_stored unit.body.steps) is in
+        subst (Contains (names_stored unit.body.steps)) ((bytes_eq-Decides a.0 n.name).0 a.2 ∙ one_in n.name name c) a.1
+    by_test n false is c = absurd (none_in name c)
 
 -- WRITERS
 
@@ -274,37 +345,22 @@ module _ (config : Config) (k : ℕ) (of : ProgramLine) (there : slice_get confi
           never : {u : ProgramUnit} → Some u ≡ None → ⊥
           never e = cc
       by_program (Some unit) named =
-          writer_same config.programs (With config.programs k of unit there (λ task. WritesBelow config k task name) name (names_stored unit.body.steps)) (λ task. WritesBelow config (k + 1) task name) (get (noted config.programs k unit table (names_stored unit.body.steps)) name) up down
-          (noted_kept config.programs k of unit there (λ q task. WritesBelow config k task q) (names_stored unit.body.steps) table before name)
+          writer_same config.programs (With config.programs k of unit there (λ task. WritesBelow config k task name) name (declared_stored unit unit.externals)) (λ task. WritesBelow config (k + 1) task name) (get (noted config.programs k unit table (declared_stored unit unit.externals)) name) up down
+          (noted_kept config.programs k of unit there (λ q task. WritesBelow config k task q) (declared_stored unit unit.externals) table before name)
         where
-          up : (t : Spelling) → With config.programs k of unit there (λ task. WritesBelow config k task name) name (names_stored unit.body.steps) t → WritesBelow config (k + 1) t name
+          up : (t : Spelling) → With config.programs k of unit there (λ task. WritesBelow config k task name) name (declared_stored unit unit.externals) t → WritesBelow config (k + 1) t name
           up t (inl w) = below_more t name w
-          up t (inr (s, x, c)) = record { at = k; line = of; unit = unit; low = omega arith; listed = there; of_task = sym s; of_program = named; external = x; stores = c }
+          up t (inr (s, x, c)) = record { at = k; line = of; unit = unit; low = omega arith; listed = there; of_task = sym s; of_program = named; external = x; stores = external_stored unit name c }
 
-          down : (t : Spelling) → WritesBelow config (k + 1) t name → With config.programs k of unit there (λ task. WritesBelow config k task name) name (names_stored unit.body.steps) t
+          down : (t : Spelling) → WritesBelow config (k + 1) t name → With config.programs k of unit there (λ task. WritesBelow config k task name) name (declared_stored unit unit.externals) t
           down t w = elim (below_cases t name w) [ inl b ↦ inl b | inr h ↦ inr (at_unit t h (same h.unit unit (sym h.of_program ∙ named))) ]
             where
-              at_unit : (t : Spelling) → (h : WritesHere t name) → h.unit ≡ unit → (t ≡ of.task.name) × (is_external unit name ≡ true) × Contains (names_stored unit.body.steps) name
-              at_unit t h e = (sym h.of_task, ap (λ u. is_external u name) (sym e) ∙ h.external, subst (λ u. Contains (names_stored u.body.steps) name) e h.stores)
+              at_unit : (t : Spelling) → (h : WritesHere t name) → h.unit ≡ unit → (t ≡ of.task.name) × (is_external unit name ≡ true) × Contains (declared_stored unit unit.externals) name
+              at_unit t h e =
+                  let external = ap (λ u. is_external u name) (sym e) ∙ h.external in
+                  (sym h.of_task, external, stored_external unit name external (subst (λ u. Contains (names_stored u.body.steps) name) e h.stores))
 
 -- STORES OF TWO
-
-any_in : (test : Spelling → Bool) (xs : List Spelling) → list_any test xs ≡ true → (x : Spelling) × Contains xs x × (test x ≡ true)
-any_in test [] e = let bad : false ≡ true = e in cc
-any_in test (x ∷ xs) e = by_first (test x) refl e (any_in test xs)
-  where
-    by_first : (b : Bool) → test x ≡ b → (b || list_any test xs) ≡ true → (list_any test xs ≡ true → (y : Spelling) × Contains xs y × (test y ≡ true)) → (y : Spelling) × Contains (x ∷ xs) y × (test y ≡ true)
-    by_first true is e rest = (x, (0, omega arith, refl), is)
-    by_first false is e rest = let r = rest e in (r.0, (suc r.1.0, omega (arith, r.1.1), r.1.2), r.2)
-
-in_any : (test : Spelling → Bool) (xs : List Spelling) (x : Spelling) → Contains xs x → test x ≡ true → list_any test xs ≡ true
-in_any test [] x (k, low, e) is = absurd (omega arith)
-in_any test (y ∷ xs) x (zero, low, e) is = ap (λ b. b || list_any test xs) (ap test e ∙ is)
-in_any test (y ∷ xs) x (suc k, low, e) is = either (test y) (in_any test xs x (k, omega arith, e) is)
-  where
-    either : (a : Bool) → list_any test xs ≡ true → (a || list_any test xs) ≡ true
-    either true h = refl
-    either false h = h
 
 pub both_true : (a b : Bool) → (a && b) ≡ true → (a ≡ true) × (b ≡ true)
 both_true true true e = (refl, refl)

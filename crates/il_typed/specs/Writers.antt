@@ -4,6 +4,8 @@ use Rattle.std.specs.List.{list_any}
 use Rattle.il_spec.specs.declared.tree.Config.{Config}
 use Rattle.il_spec.specs.declared.tree.Unit.{Unit as ProgramUnit}
 use Rattle.il_spec.specs.declared.tree.ProgramLine.{ProgramLine}
+use Rattle.il_spec.specs.declared.tree.Declaration.{Declaration}
+use Rattle.il_spec.specs.declared.tree.Named.{Named}
 use Rattle.il_spec.specs.declared.tree.Step.{Step}
 use Rattle.il_spec.specs.declared.tree.Place.{Place}
 use Rattle.il_table.specs.NameMap.{NameMap, get, insert}
@@ -12,6 +14,7 @@ use Rattle.il_rules.specs.declared.names.Origin.TheVariants.{Input as AsInput, O
 use Rattle.il_rules.specs.Names.{Spelling, Variable, own_variable, program_named}
 use Rattle.il_rules.specs.Types.{stored_names}
 use Rattle.il_rules.specs.Least.{When, Below}
+use Rattle.il_scope.specs.StoredNames.{is_stored}
 use Rattle.il_typed.specs.declared.writers.Writer.{Writer}
 use Rattle.il_typed.specs.declared.writers.Writer.TheVariants.{Task, Several}
 
@@ -65,10 +68,18 @@ noted lines line unit table (n ∷ ns) = noted lines line unit (note lines line 
 abbrev pub names_stored : List Step → List Spelling
 names_stored steps = flat_map (λ s. stored_names s.instruction) steps
 
+-- a name, if a unit stores into it
+abbrev pub if_stored : ProgramUnit → Named → List Spelling
+if_stored unit n = if is_stored unit.body.steps n.name then n.name ∷ [] else []
+
+-- the declared names that a unit stores into
+abbrev pub declared_stored : ProgramUnit → List Declaration → List Spelling
+declared_stored unit declarations = flat_map (λ d. flat_map (if_stored unit) d.names) declarations
+
 -- the globals that the program of a PROGRAM line writes
 abbrev pub noted_line : List ProgramLine → ℕ → Option ProgramUnit → NameMap Writer → NameMap Writer
 noted_line lines line None table = table
-noted_line lines line (Some unit) table = noted lines line unit table (names_stored unit.body.steps)
+noted_line lines line (Some unit) table = noted lines line unit table (declared_stored unit unit.externals)
 
 -- a PROGRAM line below an index gives a task a program that writes a global
 pub record WritesBelow (config : Config) (count : ℕ) (task name : Spelling) : Type 0 where

@@ -1,18 +1,18 @@
 // Globals that two tasks write (own rule).
 
-ghost use Rattle.std.specs.Prelude.{◌≡◌, [], IfOk, IsFalse, flat_map, length};
+ghost use Rattle.std.specs.Prelude.{◌≡◌, IfOk, flat_map, length};
 ghost use Rattle.std.specs.List.{list_any};
 ghost use Rattle.il_rules.specs.Names.{program_named};
 ghost use Rattle.il_rules.specs.Types.{argument_targets, named_variable, stored_names};
 ghost use Rattle.il_rules.specs.Least.{IsLeast};
 ghost use Rattle.il_typed.specs.Faults.{HasStoreOfTwo};
-ghost use Rattle.il_typed.specs.Writers.{is_external_origin, is_external, is_same_task, writer_after, note, noted, noted_line, names_stored, is_several, is_shared, stores_shared, HasSharedStore, HasSharedStores, AreWriters};
+ghost use Rattle.il_typed.specs.Writers.{is_external_origin, is_external, is_same_task, writer_after, note, noted, noted_line, if_stored, declared_stored, is_several, is_shared, stores_shared, HasSharedStore, HasSharedStores, AreWriters};
 
 use crate::fault::TypeFault;
 use il_rules::names::Origin;
 use il_rules::{Found, earlier, fault_if};
 use il_scope::{Scoped, UnitScope};
-use il_spec::tree::{Argument, Instruction, ProgramLine, Reference, Step, Unit};
+use il_spec::tree::{Argument, Declaration, Instruction, Named, ProgramLine, Reference, Unit};
 use il_table::Table;
 use std::alloc::{AllocError, Global};
 
@@ -60,14 +60,7 @@ fn writers_of(alloc: Global, names: &Scoped) -> Result<Table<Writer>, AllocError
     Ok(writers)
 }
 
-// Whether a unit has externals.
-fn has_externals(unit: &Unit) -> bool
-    ensures { IsFalse result → unit.now.externals ≡ [] }
-{
-    !unit.externals.as_slice().is_empty()
-}
-
-// Notes what the program of a PROGRAM line writes.
+// Notes the globals that the program of a PROGRAM line writes.
 fn note_line(
     alloc: Global,
     names: &Scoped,
@@ -85,118 +78,81 @@ fn note_line(
     let Some(unit) = names.config().units.as_slice().get(at) else {
         return Ok(());
     };
-    if !has_externals(unit) {
-        return Ok(());
-    }
     let scope = UnitScope::of(names, at, unit);
     let lines = names.config().programs.as_slice();
-    note_steps(
+    note_externals(
         alloc,
         lines,
         number,
         &scope,
-        unit.body.steps.as_slice(),
+        unit.externals.as_slice(),
         writers,
     )?;
     Ok(())
 }
 
-// Notes what instructions store into.
-fn note_steps(
+// Notes those of a unit's externals that it stores into.
+fn note_externals(
     alloc: Global,
     lines: &[ProgramLine],
     line: usize,
     scope: &UnitScope,
-    steps: &[Step],
-    writers: &mut Table<Writer>,
-) -> Result<(), AllocError>
-    ensures { IfOk result (λ _. writers.new
-        ≡ noted lines.now line scope.now.unit writers.old (names_stored steps.now)) }
-{
-    for step in steps {
-        note_stores(alloc, lines, line, scope, &step.instruction, writers)?;
-    }
-    Ok(())
-}
-
-// Notes what an instruction stores into.
-fn note_stores(
-    alloc: Global,
-    lines: &[ProgramLine],
-    line: usize,
-    scope: &UnitScope,
-    instruction: &Instruction,
-    writers: &mut Table<Writer>,
-) -> Result<(), AllocError>
-    ensures { IfOk result (λ _. writers.new
-        ≡ noted lines.now line scope.now.unit writers.old (stored_names instruction.now)) }
-{
-    match instruction {
-        Instruction::Store { target, .. } => {
-            note_target(alloc, lines, line, scope, &target.reference, writers)
-        }
-        Instruction::Call { arguments, .. } => {
-            note_outputs(alloc, lines, line, scope, arguments.as_slice(), writers)
-        }
-        _ => Ok(()),
-    }
-}
-
-// Notes the target of a store.
-fn note_target(
-    alloc: Global,
-    lines: &[ProgramLine],
-    line: usize,
-    scope: &UnitScope,
-    target: &Reference,
-    writers: &mut Table<Writer>,
-) -> Result<(), AllocError>
-    ensures { IfOk result (λ _. writers.new
-        ≡ noted lines.now line scope.now.unit writers.old (named_variable target.now)) }
-{
-    match target {
-        Reference::Variable(name) => note(alloc, lines, line, scope, name.as_str(), writers),
-        Reference::Element(name, _) => note(alloc, lines, line, scope, name.as_str(), writers),
-        _ => Ok(()),
-    }
-}
-
-// Notes the targets of outputs.
-fn note_outputs(
-    alloc: Global,
-    lines: &[ProgramLine],
-    line: usize,
-    scope: &UnitScope,
-    arguments: &[Argument],
+    externals: &[Declaration],
     writers: &mut Table<Writer>,
 ) -> Result<(), AllocError>
     ensures { IfOk result (λ _. writers.new
         ≡ noted lines.now line scope.now.unit writers.old
-        (flat_map argument_targets arguments.now)) }
+        (declared_stored scope.now.unit externals.now)) }
 {
-    for argument in arguments {
-        note_output(alloc, lines, line, scope, argument, writers)?;
+    for declaration in externals {
+        note_names(
+            alloc,
+            lines,
+            line,
+            scope,
+            declaration.names.as_slice(),
+            writers,
+        )?;
     }
     Ok(())
 }
 
-// Notes the target of an output.
-fn note_output(
+// Notes those of some names.
+fn note_names(
     alloc: Global,
     lines: &[ProgramLine],
     line: usize,
     scope: &UnitScope,
-    argument: &Argument,
+    names: &[Named],
     writers: &mut Table<Writer>,
 ) -> Result<(), AllocError>
     ensures { IfOk result (λ _. writers.new
-        ≡ noted lines.now line scope.now.unit writers.old (argument_targets argument.now)) }
+        ≡ noted lines.now line scope.now.unit writers.old
+        (flat_map (if_stored scope.now.unit) names.now)) }
 {
-    match argument {
-        Argument::Output { target, .. } => {
-            note(alloc, lines, line, scope, target.name.as_str(), writers)
-        }
-        Argument::Input { .. } => Ok(()),
+    for named in names {
+        note_stored(alloc, lines, line, scope, named, writers)?;
+    }
+    Ok(())
+}
+
+// Notes a name, if the unit stores into it.
+fn note_stored(
+    alloc: Global,
+    lines: &[ProgramLine],
+    line: usize,
+    scope: &UnitScope,
+    named: &Named,
+    writers: &mut Table<Writer>,
+) -> Result<(), AllocError>
+    ensures { IfOk result (λ _. writers.new
+        ≡ noted lines.now line scope.now.unit writers.old (if_stored scope.now.unit named.now)) }
+{
+    let name = named.name.as_str();
+    if scope.stores(name) {
+        note(alloc, lines, line, scope, name, writers)
+    } else {
+        Ok(())
     }
 }
 

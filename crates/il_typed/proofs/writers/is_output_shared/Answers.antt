@@ -3,7 +3,7 @@ use Rattle.std.specs.List.{list_any}
 use Rattle.il_rules.specs.Types.{argument_targets}
 use Rattle.il_scope.proofs.Filled.{take_all}
 use Rattle.il_typed.specs.Writers.{is_shared}
-use Rattle.il_typed.proofs.Written.{any_next}
+use Rattle.il_scope.proofs.Stored.{any_next}
 use Rattle.il_typed.proofs.writers.is_output_shared.Goals as goal
 
 pub loop-argument-preserved : goal.loop-argument-preserved

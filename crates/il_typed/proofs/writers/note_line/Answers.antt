@@ -1,7 +1,7 @@
 use Rattle.std.proofs.Common.{ap, ◌∙◌}
 use Rattle.il_scope.proofs.Seen.{read_at}
-use Rattle.il_typed.specs.Writers.{noted, names_stored}
-use Rattle.il_typed.proofs.Programs.{nothing, nothing_past, nothing_stored, body_noted}
+use Rattle.il_typed.specs.Writers.{noted, declared_stored}
+use Rattle.il_typed.proofs.Programs.{nothing, nothing_past, body_noted}
 use Rattle.il_typed.proofs.writers.note_line.Goals as goal
 
 pub returns-in_default : goal.returns-in_default
@@ -15,11 +15,6 @@ of-scope-requires c = read_at c.as_slice.result.now c.args.names.now.units c.in-
 
 pub returns : goal.returns
 returns c =
-    body_noted c.args.names.now c.as_str.result.now c.args.line.now.program.name c.as_str.ensures c.args.number c.in-Some.at c.args.writers.now c.note_steps.new.writers c.in-Some-get.unit.now c.of-scope.result.unit c.as_slice-2.result.now c.in-Some.ensures
+    body_noted c.args.names.now c.as_str.result.now c.args.line.now.program.name c.as_str.ensures c.args.number c.in-Some.at c.args.writers.now c.note_externals.new.writers c.in-Some-get.unit.now c.of-scope.result.unit c.as_slice-2.result.now c.in-Some.ensures
     (read_at c.as_slice.result.now c.args.names.now.units c.in-Some.at c.in-Some-get.unit.now (c.as_slice.ensures ∙ ap (λ k. k.units) c.config.ensures) c.in-Some-get.ensures.lookup.3.0 c.in-Some-get.ensures.lookup.1) c.of-scope.ensures.unit c.as_slice-2.ensures
-    (c.in_ok-note_steps.ensures ∙ ap (λ l. noted l c.args.number c.of-scope.result.unit c.args.writers.now (names_stored c.as_slice-2.result.now)) (c.as_slice-lines.ensures ∙ ap (λ k. k.programs) c.config-2.ensures))
-
-pub returns-then-not-has_externals : goal.returns-then-not-has_externals
-returns-then-not-has_externals c =
-    nothing_stored c.args.names.now c.as_str.result.now c.args.line.now.program.name c.as_str.ensures c.args.number c.in-Some.at c.args.writers.now c.in-Some-get.unit.now c.in-Some.ensures
-    (read_at c.as_slice.result.now c.args.names.now.units c.in-Some.at c.in-Some-get.unit.now (c.as_slice.ensures ∙ ap (λ k. k.units) c.config.ensures) c.in-Some-get.ensures.lookup.3.0 c.in-Some-get.ensures.lookup.1) (c.has_externals.ensures c.if-not-has_externals.true)
+    (c.in_ok-note_externals.ensures ∙ ap (λ l. noted l c.args.number c.of-scope.result.unit c.args.writers.now (declared_stored c.of-scope.result.unit c.as_slice-2.result.now)) (c.as_slice-lines.ensures ∙ ap (λ k. k.programs) c.config-2.ensures))
