@@ -52,7 +52,8 @@ use Rattle.lift_run_laws.proofs.Tasks.{is_sized}
 use Rattle.il_snapshot.specs.declared.image.TheConstants.{CAR_VALUES}
 use Rattle.il_machine.specs.declared.sharing.Transfer.{Transfer}
 use Rattle.il_machine.specs.Scanning.{IsRunnable, IsScanOf, kept_of, state_of}
-use Rattle.il_machine.specs.Sharing.{globals_in, FitsGlobals, external_cells, image_count, between, slot_in, base_name, is_stored, stores_cell, transfer, transfers, taken}
+use Rattle.il_scope.specs.StoredNames.{is_stored}
+use Rattle.il_machine.specs.Sharing.{globals_in, FitsGlobals, external_cells, image_count, between, slot_in, base_name, stores_cell, transfer, transfers, taken}
 use Rattle.il_machine.specs.Starting.{shared_value, AreListed}
 use Rattle.il_machine.proofs.Copied.{between_is, reads_path, shared_is, IsShared, taken_is, taken_fits}
 use Rattle.il_machine.proofs.Given.{cells_of, kind_by, seen_cells_are}

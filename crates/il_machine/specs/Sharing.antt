@@ -3,12 +3,11 @@ use Rattle.std.specs.Prelude.{◌≡◌, ℕ, zero, suc, ◌+◌, ◌-◌, ◌*�
 use Rattle.il_spec.specs.declared.tree.Config.{Config}
 use Rattle.il_spec.specs.declared.tree.Step.{Step}
 use Rattle.il_spec.specs.declared.tree.Unit.{Unit as ProgramUnit}
-use Rattle.il_rules.specs.Names.{is_one_of}
-use Rattle.il_rules.specs.Types.{stored_names}
-use Rattle.il_table.specs.NameMap.{NameMap, Text, get}
+use Rattle.il_table.specs.NameMap.{Text}
 use Rattle.il_run.specs.State.{Values}
 use Rattle.il_run.specs.Meaning.{entities}
 use Rattle.il_run.specs.Scan.{program_of as line_program}
+use Rattle.il_scope.specs.StoredNames.{is_stored}
 use Rattle.il_layout.specs.declared.flat.Cell.{Cell}
 use Rattle.il_layout.specs.Cells.{entity_cells, instance_cells}
 use Rattle.il_layout.specs.Flattened.{place_or_zero}
@@ -61,19 +60,7 @@ abbrev pub base_name : Text → Text
 base_name [] = []
 base_name (b ∷ bs) = if b == 91 then [] else b ∷ base_name bs
 
--- whether a body stores into a variable of a name
-abbrev pub is_stored : List Step → Text → Bool
-is_stored steps name = is_one_of (flat_map (λ s. stored_names s.instruction) steps) name
-
--- a table has the names that it stores into
-abbrev pub HasStored : NameMap Bool → List Step → Type 0
-HasStored stored steps = (name : Text) → is_some (get stored name) ≡ is_stored steps name
-
--- one has, beside what another has, just these names
-abbrev pub AddsNames : NameMap Bool → NameMap Bool → List Text → Type 0
-AddsNames old new added = (q : Text) → is_some (get new q) ≡ (is_some (get old q) || is_one_of added q)
-
--- whether it stores into the variable of a cell
+-- whether a body stores into the variable of a cell
 abbrev pub stores_cell : List Step → Cell → Bool
 stores_cell steps x = is_stored steps (base_name x.path)
 

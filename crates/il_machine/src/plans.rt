@@ -14,6 +14,7 @@ use crate::sharing::{Transfer, between, image_count, slots_in, transfers};
 use crate::verified::line_number;
 use il_code::Code;
 use il_layout::flat::Cell;
+use il_scope::UnitScope;
 use il_spec::tree::Config;
 use lift_spec::image::{Sizes, TASK_PLACES};
 use lists::Items;
@@ -83,10 +84,10 @@ fn plan_at(alloc: Global, code: &Code, task: u8, line: usize) -> Result<TaskPlan
         (λ s. (u : ProgramUnit) → program_of code.now task ≡ Some u → IsPlan code.now u s) }
 {
     let unit = program_number(code, task, line);
-    let steps = code.config().units.as_slice()[unit].body.steps.as_slice();
+    let scope = UnitScope::of(code.names(), unit, &code.config().units.as_slice()[unit]);
     let cells = externals(code, task, line);
     let listed = slots_in(alloc, code.globals(), cells)?;
-    let written = transfers(alloc, steps, code.task(line), code.globals(), cells)?;
+    let written = transfers(alloc, &scope, code.task(line), code.globals(), cells)?;
     Ok(TaskPlan {
         line,
         unit,

@@ -10,6 +10,15 @@ use Rattle.il_machine.specs.Sharing.{slot_in, transfers, external_cells}
 use Rattle.il_machine.proofs.Lines.{got_within, line_of_task}
 use Rattle.il_machine.proofs.plans.plan_at.Goals as goal
 
+pub of-scope-requires : goal.of-scope-requires
+of-scope-requires c =
+    let config = c.args.code.now in
+    let u = c.requires.there.0 in
+    let stands = c.program_number-unit.ensures.stands u c.requires.there.1.program in
+    let units = c.as_slice.ensures ∙ ap (λ (k : Config). k.units) c.config.ensures.is in
+    ap (λ (k : Config). slice_get k.units c.program_number-unit.result) c.names.ensures.is
+    ∙ read_at c.as_slice.result.now config.units c.program_number-unit.result c.index-as_slice-unit.result units (got_within c.as_slice.result.now c.program_number-unit.result u (ap (λ l. slice_get l c.program_number-unit.result) units ∙ stands)) c.index-as_slice-unit.is
+
 pub returns : goal.returns
 returns c = λ u is.
     let config = c.args.code.now in
@@ -19,7 +28,7 @@ returns c = λ u is.
     let units = c.as_slice.ensures ∙ ap (λ (k : Config). k.units) c.config.ensures.is in
     let read = read_at c.as_slice.result.now config.units c.program_number-unit.result c.index-as_slice-unit.result units (got_within c.as_slice.result.now c.program_number-unit.result u (ap (λ l. slice_get l c.program_number-unit.result) units ∙ stands)) c.index-as_slice-unit.is in
     let unit : c.index-as_slice-unit.result ≡ u = same_Some c.index-as_slice-unit.result u (sym read ∙ stands) in
-    let steps : c.as_slice-steps.result.now ≡ u.body.steps = c.as_slice-steps.ensures ∙ ap (λ (v : ProgramUnit). v.body.steps) (sym c.index-as_slice-unit.is ∙ unit) in
+    let steps : c.of-scope.result.unit.body.steps ≡ u.body.steps = ap (λ (v : ProgramUnit). v.body.steps) (c.of-scope.ensures.unit ∙ unit) in
     let cells = c.externals-cells.ensures u is in
     record {
       within = c.requires.within;
