@@ -41,14 +41,7 @@ fn types_at<S: Scope>(
         let step = &steps[at];
         let arrival = table[at];
         let deferred = innermost(waiting.as_slice());
-        pass_on(
-            scope,
-            at,
-            &step.instruction,
-            arrival,
-            deferred,
-            &mut table,
-        );
+        pass_on(scope, at, &step.instruction, arrival, deferred, &mut table);
         set_aside(&mut waiting, &step.instruction, result_at(arrival))?;
     }
     let reached = table[place];
