@@ -15,9 +15,10 @@ use Rattle.il_reasons.specs.ExpectedKinds.{ExpectedKind, kind_of, expected_kinds
 abbrev pub IsOfLanguage : List ℕ → Type 0
 IsOfLanguage text = (c : Config) × Spells text c
 
--- a text, cut before a place, with a token of a kind and some rest behind it
+-- a text, cut before a place, with a token of a kind and some rest behind it; blanks part them, so that the token is neither a
+-- part of another one nor made longer by the rest
 abbrev pub going_on : List ℕ → ℕ → ExpectedKind → List ℕ → List ℕ
-going_on text offset kind rest = take offset text ++ (codes " " ++ (kind.sample ++ rest))
+going_on text offset kind rest = take offset text ++ (codes " " ++ (kind.sample ++ (codes " " ++ rest)))
 
 -- A kind can stand at a place: with some rest behind it the text is one of the language. Behind the end of a text nothing stands.
 pub record CanStand (text : List ℕ) (offset : ℕ) (kind : ExpectedKind) : Type 0 where

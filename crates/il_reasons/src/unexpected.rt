@@ -54,6 +54,7 @@ fn going_on(
     whole.extend_from_slice(cut(text, offset))?;
     whole.push(b' ')?;
     whole.extend_from_slice(kind.sample.as_bytes())?;
+    whole.push(b' ')?;
     whole.extend_from_slice(rest)?;
     Ok(whole)
 }
