@@ -2,3 +2,5 @@
 #![tactic(auto)]
 
 pub mod command;
+mod misuse;
+mod table;
