@@ -2,7 +2,6 @@ pub mod Numbers
 pub mod Slots
 pub mod Does
 pub mod Calls
-pub mod Words
 pub mod Passing
 pub mod Parts
 pub mod Framed
@@ -12,7 +11,7 @@ pub mod Invoking
 pub mod Steps
 pub mod Stays
 pub mod Tails
-pub mod Behind
+pub mod BlockCalls
 pub mod Pairwise
 pub mod Hopped
 pub mod Nevers
