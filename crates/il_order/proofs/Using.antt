@@ -67,7 +67,7 @@ found_at c (Some k) named U e f = (k, refl, e ∙ f)
 -- BLOCKS
 
 -- an own block's number is its unit's
-own_of_type : (c : Config) (name : Spelling) (v : ℕ) → block_type c name ≡ Some (Own v) → function_block_number c name ≡ Some v
+pub own_of_type : (c : Config) (name : Spelling) (v : ℕ) → block_type c name ≡ Some (Own v) → function_block_number c name ≡ Some v
 unfolding block_type
 own_of_type c name v e = by_standard (standard_block name) (function_block_number c name) e
   where

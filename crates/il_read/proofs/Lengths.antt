@@ -4,6 +4,7 @@ use Rattle.std.specs.Prelude.{bytes_eq, ◌==◌, if◌then◌else◌}
 use Rattle.il_spec.specs.Text.{entry_of}
 use Rattle.il_spec.specs.Words.{reserved_words, keyword_of}
 use Rattle.il_read.specs.Lengths.{one_letter_words, two_letter_words, three_letter_words, four_letter_words, five_letter_words, longer_words}
+use Rattle.il_text.proofs.Cases.{unlike}
 
 -- the entries of these lengths
 abbrev kept : {A : Type 0} → (ℕ → Bool) → List (List ℕ × A) → List (List ℕ × A)
@@ -14,13 +15,6 @@ kept p (e ∷ es) = if p (length e.0) then e ∷ kept p es else kept p es
 and_false : (b : Bool) → (b && false) ≡ false
 and_false true = refl
 and_false false = refl
-
--- words of different lengths differ
-unlike : (xs ys : List ℕ) → (length xs ≡ length ys → ⊥) → bytes_eq xs ys ≡ false
-unlike [] [] apart = absurd (apart refl)
-unlike [] (y ∷ ys) apart = refl
-unlike (x ∷ xs) [] apart = refl
-unlike (x ∷ xs) (y ∷ ys) apart = rw (unlike xs ys (λ e. apart (ap suc e))) (and_false (eqb x y))
 
 -- entries of other lengths may be left out
 kept_same : {A : Type 0} (p : ℕ → Bool) (es : List (List ℕ × A)) (w : List ℕ) → p (length w) ≡ true → entry_of (kept p es) w ≡ entry_of es w

@@ -23,6 +23,7 @@ use Rattle.il_scope.specs.Views.{function_number, function_block_number, block_t
 use Rattle.il_scope.proofs.Laws.{function_found, function_block_found}
 use Rattle.il_declare.proofs.Members.{in_rest}
 use Rattle.il_order.proofs.Tabled.{in_place}
+use Rattle.il_order.proofs.Using.{own_of_type}
 use Rattle.il_spec.specs.declared.tree.Place.{Place}
 use Rattle.il_reasons.specs.ChainReasons.{UsesIn, calls, declares, use_text, AreUsesTold, has_name, is_named, is_apart, AreUnitsOf, AreToldBetween, AreAdded, IsRecursionTold, around, IsLongChainTold, along, IsUnitAt, is_number, is_own, is_call_of, is_type_of, call_line, instance_line, use_line}
 
@@ -40,16 +41,6 @@ own_is to (Some (Own k)) e = ap (λ x. Some (Own x)) (same k to e)
   where
     same : (a b : ℕ) → nat_eq a b ≡ true → a ≡ b
     same a b e = grind (arith, nat_tests)
-
--- an own block's number is its unit's
-own_of_type : (c : Config) (name : Spelling) (v : ℕ) → block_type c name ≡ Some (Own v) → function_block_number c name ≡ Some v
-unfolding block_type
-own_of_type c name v e = by_standard (standard_block name) (function_block_number c name) e
-  where
-    by_standard : (s : Option StandardBlock) (o : Option ℕ) → or_else (option_map (λ b. StandardType b) s) (option_map Own o) ≡ Some (Own v) → o ≡ Some v
-    by_standard (Some b) o e = let bad : Some (StandardType b) ≡ Some (Own v) = e in cc
-    by_standard None None e = let bad : None ≡ Some (Own v) = e in cc
-    by_standard None (Some k) e = let same : Some (Own k) ≡ Some (Own v) = e in cc
 
 abbrev or_one : ProgramUnit → Option ProgramUnit → ProgramUnit
 or_one a None = a
