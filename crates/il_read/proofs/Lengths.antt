@@ -1,5 +1,5 @@
 -- A reserved word, looked for among those of its length.
-use Rattle.std.proofs.Common.{◌≡◌, ℕ, zero, suc, List, [], ◌∷◌, length, Bool, true, false, ◌&&◌, eqb, Some, None, refl, ap}
+use Rattle.std.proofs.Common.{◌≡◌, ℕ, zero, suc, List, [], ◌∷◌, length, Bool, true, false, Some, None, refl, ap}
 use Rattle.std.specs.Prelude.{bytes_eq, ◌==◌, if◌then◌else◌}
 use Rattle.il_spec.specs.Text.{entry_of}
 use Rattle.il_spec.specs.Words.{reserved_words, keyword_of}
@@ -10,11 +10,6 @@ use Rattle.il_text.proofs.Cases.{unlike}
 abbrev kept : {A : Type 0} → (ℕ → Bool) → List (List ℕ × A) → List (List ℕ × A)
 kept p [] = []
 kept p (e ∷ es) = if p (length e.0) then e ∷ kept p es else kept p es
-
--- what is false ends a conjunction
-and_false : (b : Bool) → (b && false) ≡ false
-and_false true = refl
-and_false false = refl
 
 -- entries of other lengths may be left out
 kept_same : {A : Type 0} (p : ℕ → Bool) (es : List (List ℕ × A)) (w : List ℕ) → p (length w) ≡ true → entry_of (kept p es) w ≡ entry_of es w

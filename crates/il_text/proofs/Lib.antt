@@ -5,7 +5,7 @@ mod Runs
 mod Capped
 mod Numbers
 mod Durations
-mod Cases
+pub mod Cases
 mod Literals
 pub mod Places
 mod Signs
