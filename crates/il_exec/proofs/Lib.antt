@@ -16,3 +16,5 @@ pub mod Pairwise
 pub mod Hopped
 pub mod Nevers
 pub mod Callers
+pub mod Along
+pub mod Spelled

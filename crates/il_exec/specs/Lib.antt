@@ -5,3 +5,4 @@ pub mod Framing
 pub mod Quick
 pub mod Frames
 pub mod Current
+pub mod Windows

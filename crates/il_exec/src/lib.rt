@@ -11,5 +11,6 @@ mod place;
 pub mod quick;
 pub mod rows;
 pub mod scan_state;
+pub mod windows;
 
 pub use scan_state::ScanState;

@@ -12,7 +12,7 @@ ghost use Rattle.il_run.specs.Paths.{longest};
 ghost use Rattle.il_verify.specs.Costs.{IsTooLong, cost_of, path_of};
 ghost use Rattle.il_layout.specs.Program.{program_names};
 ghost use Rattle.il_layout.specs.Whole.{unit_code};
-ghost use Rattle.il_exec.specs.Quick.{AreAllQuick};
+ghost use Rattle.il_exec.specs.Windows.{AreAllQuick};
 ghost use Rattle.il_machine.specs.Sharing.{ArePlans};
 ghost use Rattle.lift_run_laws.specs.Runs.{RunsWell};
 ghost use Rattle.lift_load.specs.Loading.{IsSpelled, SpellsOnly, SpellsNone, IsUnbroken, IsAccepted, IsRefusedFor, IsSpelledWith, IsExplained, ReportsFaultOfText};

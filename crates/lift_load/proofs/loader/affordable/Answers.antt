@@ -4,7 +4,7 @@ use Rattle.il_run.specs.Paths.{longest}
 use Rattle.il_verify.specs.Costs.{cost_of, path_of}
 use Rattle.il_layout.specs.Program.{program_names}
 use Rattle.il_layout.specs.Whole.{unit_code}
-use Rattle.il_exec.specs.Quick.{AreAllQuick}
+use Rattle.il_exec.specs.Windows.{AreAllQuick}
 use Rattle.il_machine.specs.Sharing.{ArePlans}
 use Rattle.lift_load.proofs.loader.affordable.Goals as goal
 
