@@ -6,8 +6,8 @@ ghost use Rattle.il_run.specs.declared.known.KnownDeferred.{KnownDeferred};
 
 use crate::carried::Carried;
 use il_range_laws::facts::Facts;
-use il_rules::elementary::is_same_type;
 use il_row::{Row, hull};
+use il_rules::elementary::is_same_type;
 use il_run::known::{Known, KnownDeferred};
 use lists::Items;
 
