@@ -1,4 +1,4 @@
-use Rattle.std.proofs.Common.{◌≡◌, ◌∙◌}
+use Rattle.std.proofs.Common.{◌∙◌}
 use Rattle.il_transfer.proofs.Joins.{row_joined_is}
 use Rattle.il_transfer.proofs.join.join_rows.Goals as goal
 
