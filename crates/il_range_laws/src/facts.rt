@@ -1,13 +1,13 @@
 // What the pass keeps of a place.
 
-use il_interval::Interval;
+use il_row::Row;
 use il_run::known::{Known, KnownDeferred};
 use lists::Items;
 
 /// A range for each variable that has a number, the current result, and what is set aside.
 #[derive(Drop)]
 pub struct Facts {
-    pub row: Items<Interval>,
+    pub row: Row,
     pub result: Option<Known>,
     pub deferred: Items<KnownDeferred>,
 }

@@ -1,21 +1,18 @@
 -- Tests as the code has them are those of the definitions.
-use Rattle.std.proofs.Common.{◌≡◌, ℕ, zero, suc, ◌+◌, Bool, true, false, not, ◌&&◌, if◌then◌else◌, List, [], ◌∷◌, Option, Some, None, option_map, option_and_then, refl, sym, ap, ◌∙◌, subst, slice_get, ℤ, pos, negsuc, ◌≤ℤ◌, arith}
+use Rattle.std.proofs.Common.{◌≡◌, ℕ, suc, Bool, true, false, ◌&&◌, if◌then◌else◌, List, [], ◌∷◌, Option, Some, None, option_map, option_and_then, refl, sym, ap, ◌∙◌, subst, slice_get, ℤ, pos, negsuc, ◌≤ℤ◌, arith}
 use Rattle.std.proofs.lemmas.Int.{ints}
 use Rattle.std.specs.Prelude.{int_le}
 use Rattle.il_interval.specs.declared.Interval.{Interval}
-use Rattle.il_interval.specs.Interval.{IsEnd, IsOperand}
+use Rattle.il_interval.specs.Interval.{IsEnd}
 use Rattle.il_interval.specs.Compared.{interval_narrow}
 use Rattle.il_spec.specs.declared.tree.Elementary.{Elementary}
 use Rattle.il_spec.specs.declared.tree.Elementary.TheVariants.{Bool as BoolType, Sint, Int, Dint, Usint, Uint, Udint, Time}
-use Rattle.il_spec.specs.declared.tree.Literal.{Literal}
 use Rattle.il_spec.specs.declared.tree.Literal.TheVariants.{Truth, Bare, Whole, Time as Duration}
 use Rattle.il_spec.specs.declared.tree.Reference.{Reference}
 use Rattle.il_spec.specs.declared.tree.Reference.TheVariants.{Literal as OfLiteral, Variable as OfVariable, Element as OfElement, Member as OfMember}
 use Rattle.il_spec.specs.declared.tree.Scalar.{Scalar}
 use Rattle.il_spec.specs.declared.tree.Named.{Named}
-use Rattle.il_spec.specs.declared.tree.Operand.{Operand}
 use Rattle.il_spec.specs.declared.tree.Operator.TheVariants.{Logic, Arithmetic, Comparison}
-use Rattle.il_spec.specs.declared.tree.Condition.{Condition}
 use Rattle.il_spec.specs.declared.tree.Condition.TheVariants.{Always, WhenTrue, WhenFalse}
 use Rattle.il_spec.specs.declared.tree.Instruction.{Instruction}
 use Rattle.il_spec.specs.declared.tree.Instruction.TheVariants.{Load, Store, Not, Operate, Defer, Evaluate, Jump, Return, Call, Invoke}
@@ -26,11 +23,11 @@ use Rattle.il_rules.specs.Types.{label_place}
 use Rattle.il_table.specs.NameMap.{Text, get}
 use Rattle.il_run.specs.Meaning.{Denotation, Constant, Direct, Numbered, Indexed, Inside, Unknown}
 use Rattle.il_run.specs.Step.{instruction_at, instruction_or_return}
-use Rattle.il_run.specs.Tests.{Test, if_value, literal_number, operand_number, counted_variable, loaded_variable, comparison_of, jump_on, if_unlabelled, unlabelled, compared_at, test_at}
+use Rattle.il_run.specs.Tests.{Test, operand_number, counted_variable, loaded_variable, comparison_of, jump_on, if_unlabelled, unlabelled, compared_at, test_at}
 use Rattle.il_run.proofs.Testing.{jumps_on}
-use Rattle.il_run.specs.Annotation.{acts_at, range, declared_range}
+use Rattle.il_run.specs.Annotation.{range, declared_range}
 use Rattle.il_range_laws.specs.declared.facts.Facts.{Facts}
-use Rattle.il_range_laws.specs.Facts.{Names, range_by, row_at, row_put, put_by, facts, IsFine}
+use Rattle.il_range_laws.specs.Facts.{Names, range_by, row_at, put_by, facts, IsFine}
 use Rattle.il_range_laws.specs.Found.{provided}
 use Rattle.il_range_laws.specs.Pass.{Moves}
 use Rattle.il_range_laws.specs.Steps.{has_condition, is_bare, narrowed_row_by, narrowed_row, sided, landing, testing_to, moves_of_test, moves_of, moves_by, moves}

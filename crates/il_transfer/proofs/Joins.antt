@@ -1,48 +1,18 @@
--- A row joined with another as far as a number.
+-- Rows that are joined, and what is set aside.
 use Rattle.std.proofs.Common.{◌≡◌, ◌≢◌, Option, Some, None, option_map, sym, subst, ◌∙◌, ℕ, zero, suc, ◌+◌, ◌<◌, List, [], ◌∷◌, length, get_or, refl, ap, arith}
 use Rattle.std.specs.Prelude.{slice_set}
 use Rattle.il_interval.specs.declared.Interval.{Interval}
 use Rattle.il_interval.specs.Interval.{interval_join}
+use Rattle.il_row.specs.Ranges.{row_joined}
 use Rattle.il_range_laws.specs.Facts.{row_join, one_join, cons_if, deferred_join}
 use Rattle.il_run.specs.declared.known.KnownDeferred.{KnownDeferred}
 use Rattle.il_range_laws.proofs.Rows.{set_length}
 
-pub joined_to : ℕ → List Interval → List Interval → List Interval
-joined_to zero xs ys = xs
-joined_to (suc i) [] ys = []
-joined_to (suc i) (x ∷ xs) [] = x ∷ xs
-joined_to (suc i) (x ∷ xs) (y ∷ ys) = interval_join x y ∷ joined_to i xs ys
-
-pub joined_start : (xs ys : List Interval) → joined_to 0 xs ys ≡ xs
-unfolding joined_to
-joined_start xs ys = refl
-
-pub joined_length : (i : ℕ) (xs ys : List Interval) → length (joined_to i xs ys) ≡ length xs
-unfolding joined_to
-joined_length zero xs ys = refl
-joined_length (suc i) [] ys = refl
-joined_length (suc i) (x ∷ xs) [] = refl
-joined_length (suc i) (x ∷ xs) (y ∷ ys) = ap suc (joined_length i xs ys)
-
-pub joined_step : (i : ℕ) (xs ys : List Interval) (d : Interval) → i < length xs → i < length ys → slice_set (joined_to i xs ys) i (interval_join (get_or (joined_to i xs ys) i d) (get_or ys i d)) ≡ joined_to (suc i) xs ys
-unfolding joined_to
-joined_step zero (x ∷ xs) (y ∷ ys) d h k = refl
-joined_step (suc i) (x ∷ xs) (y ∷ ys) d h k = ap (λ zs. interval_join x y ∷ zs) (joined_step i xs ys d (omega arith) (omega arith))
-joined_step i [] ys d h k = absurd (omega arith)
-joined_step i (x ∷ xs) [] d h k = absurd (omega arith)
-
-pub joined_end : (xs ys : List Interval) → length xs ≡ length ys → joined_to (length ys) xs ys ≡ row_join xs ys
-unfolding joined_to
-joined_end [] [] e = refl
-joined_end (x ∷ xs) (y ∷ ys) e = ap (λ zs. interval_join x y ∷ zs) (joined_end xs ys (omega arith))
-joined_end [] (y ∷ ys) e = absurd (omega arith)
-joined_end (x ∷ xs) [] e = absurd (omega arith)
-
-pub joined_on : (i : ℕ) (now new first second xs ys : List Interval) (d r : Interval) → now ≡ joined_to i xs ys → first ≡ now → second ≡ ys → r ≡ interval_join (get_or first i d) (get_or second i d) → new ≡ slice_set now i r → i < length xs → i < length ys → new ≡ joined_to (i + 1) xs ys
-joined_on i now new first second xs ys d r is f s ri n h k =
-    let one : i + 1 ≡ suc i = omega arith in
-    let step = joined_step i xs ys d h k in
-    cc
+-- rows are joined range by range
+pub row_joined_is : (xs ys : List Interval) → row_joined xs ys ≡ row_join xs ys
+row_joined_is [] ys = refl
+row_joined_is (x ∷ xs) [] = refl
+row_joined_is (x ∷ xs) (y ∷ ys) = ap (λ zs. interval_join x y ∷ zs) (row_joined_is xs ys)
 
 -- WHAT IS SET ASIDE
 

@@ -1,26 +1,15 @@
 // What is known where two paths meet.
 
 ghost use Rattle.std.specs.Prelude.{◌≡◌, length, Option, Some, None, if◌then◌else◌};
-ghost use Rattle.il_interval.specs.Interval.{interval_join};
 ghost use Rattle.il_range_laws.specs.Facts.{known_join, result_join, is_same_operator, one_join, deferred_join, row_join, facts_join};
 ghost use Rattle.il_run.specs.declared.known.KnownDeferred.{KnownDeferred};
 
 use crate::carried::Carried;
-use il_interval::Interval;
 use il_range_laws::facts::Facts;
+use il_row::{Row, hull};
 use il_rules::elementary::is_same_type;
 use il_run::known::{Known, KnownDeferred};
 use lists::Items;
-
-/// The hull of two ranges.
-pub fn hull(first: Interval, second: Interval) -> Interval
-    ensures { result ≡ interval_join first second }
-{
-    Interval {
-        lo: first.lo.min(second.lo),
-        hi: first.hi.max(second.hi),
-    }
-}
 
 // What is known of a value from two paths, if it has one type.
 fn known_join(first: Known, second: Known) -> Option<Known>
@@ -82,21 +71,18 @@ fn join_deferred(deferred: &mut Items<KnownDeferred>, other: &Items<KnownDeferre
 }
 
 /// Each range with that of the same number.
-pub fn join_rows(row: &mut Items<Interval>, other: &Items<Interval>)
+pub fn join_rows(row: &mut Row, other: &Row)
     requires { length row.old ≡ length other.now }
     ensures { row.new ≡ row_join row.old other.now }
 {
-    for number in 0..other.as_slice().len() {
-        let joined = hull(row.as_slice()[number], other.as_slice()[number]);
-        row.set(number, joined);
-    }
+    row.join(other);
 }
 
 // What is known on two paths, if something covers both.
 fn join_into(facts: &mut Facts, other: &Facts) -> bool
     ensures { facts_join facts.old other.now ≡ (if result then Some facts.new else None) }
 {
-    if facts.row.as_slice().len() != other.row.as_slice().len() {
+    if facts.row.len() != other.row.len() {
         return false;
     }
     if !join_deferred(&mut facts.deferred, &other.deferred) {

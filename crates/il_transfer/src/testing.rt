@@ -17,11 +17,11 @@ use crate::meant::{Meant, put, range_in};
 use crate::pass::Handed;
 use crate::scope::Scope;
 use il_interval::Interval;
+use il_row::Row;
 use il_rules::elementary::{has_value, is_counted, is_same_type, is_whole};
 use il_spec::tree::{
     Comparison, Condition, Elementary, Instruction, Literal, Operator, Reference, Scalar, Step,
 };
-use lists::Items;
 use std::alloc::{AllocError, Global};
 
 /// A scalar variable, with its number if it has one, is compared with a literal's number.
@@ -169,7 +169,7 @@ pub fn test_at<S: Scope>(scope: &S, steps: &[Step], place: usize) -> Option<Vari
 }
 
 // Keeps what an outcome leaves of the range of the variable; false where it leaves nothing.
-fn narrow(row: &mut Items<Interval>, test: VariableTest, holds: bool) -> bool
+fn narrow(row: &mut Row, test: VariableTest, holds: bool) -> bool
     requires operands { IsFineTest row.old test }
     ensures { narrowed_in test holds row.old ≡ (if result then Some row.new else None) }
 {
