@@ -1,4 +1,5 @@
 pub mod Combinators
+pub mod Alike
 pub mod Leads
 pub mod Types
 pub mod Operands
