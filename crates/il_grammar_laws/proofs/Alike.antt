@@ -5,7 +5,7 @@ use Rattle.il_spec.specs.declared.token.Token.{Token}
 use Rattle.il_spec.specs.declared.token.Sign.TheVariants.{Comma}
 use Rattle.il_spec.specs.declared.token.Kind.TheVariants as kind
 use Rattle.il_spec.specs.declared.tree.Place.{Place}
-use Rattle.il_spec.specs.Grammar.{Front, Gap, tight, loose, is_line_end, skip_line_ends, ◌⟨◌⟩◌, ◌⋯◌, AfterLines, Nothing, TheEnd, No, One, At, Repeats, TheSign, Listed}
+use Rattle.il_spec.specs.Grammar.{Front, Gap, tight, loose, is_line_end, skip_line_ends, ◌⟨◌⟩◌, ◌⨾◌, ◌⋯◌, AfterLines, Nothing, TheEnd, No, One, At, Repeats, TheSign, Listed}
 use Rattle.il_grammar_laws.specs.Alike.{HasSameBytes, IsEndOf, AreAlike, IsGap, Carries}
 
 -- an end is no longer than the whole
@@ -163,6 +163,27 @@ follows is far first second = in_turn is far (gap_length is) first second
 -- a rule that looks at the first token behind line ends, and another behind these
 pub follows_lines : {F G : List ℕ → Front} {two : Gap} → IsGap two → Carries loose F → Carries two G → Carries two (λ text. F text ⋯ G text)
 follows_lines far first second = in_turn loose_gap far (λ k. omega arith) first second
+
+-- behind line ends an end is an end
+pub skip_length : (m ts : List Token) → IsEndOf m ts → length (skip_line_ends m) ≤ length (skip_line_ends ts)
+skip_length m [] e = let same = ap (λ x. length (skip_line_ends x)) e in omega (arith, same)
+skip_length m (t ∷ ts) (inl e) = let same = ap (λ x. length (skip_line_ends x)) e in omega (arith, same)
+skip_length m (t ∷ ts) (inr p) = go (is_line_end t.kind) (skip_length m ts p)
+  where
+    go : (b : Bool) → length (skip_line_ends m) ≤ length (skip_line_ends ts) → length (skip_line_ends m) ≤ length (if b then skip_line_ends ts else t ∷ ts)
+    go true f = f
+    go false f = let less = end_length (skip_line_ends ts) ts (skip_ends ts) in omega (arith, f, less)
+
+-- two rules that look at the first token behind line ends, one directly behind the other
+pub follows_directly : {F G : List ℕ → Front} → Carries loose F → Carries loose G → Carries loose (λ text. F text ⨾ G text)
+follows_directly first second = record {
+  ends = λ text ts m p. end_of_end m p.0 ts (first.ends text ts p.0 p.1) (second.ends text p.0 m p.2);
+  over = λ text other back ts us m a p l.
+      let a1 = skip_length m p.0 (second.ends text p.0 m p.2) in
+      let f = first.over text other back ts us p.0 a p.1 (omega (arith, l, a1)) in
+      let g = second.over text other back p.0 f.0 m f.2 p.2 l in
+      (g.0, (f.0, f.1, g.1), g.2);
+}
 
 -- behind any number of line ends
 pub after : {F : List ℕ → Front} {look : Gap} → IsGap look → Carries look F → Carries look (λ text. AfterLines (F text))

@@ -8,6 +8,7 @@ pub mod Instructions
 pub mod Bodies
 pub mod Units
 pub mod Configurations
+pub mod Local
 pub mod Walk
 pub mod Words
 pub mod Shown
