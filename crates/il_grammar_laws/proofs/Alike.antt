@@ -6,7 +6,7 @@ use Rattle.il_spec.specs.declared.token.Sign.TheVariants.{Comma}
 use Rattle.il_spec.specs.declared.token.Kind.TheVariants as kind
 use Rattle.il_spec.specs.declared.tree.Place.{Place}
 use Rattle.il_spec.specs.Grammar.{Front, Gap, tight, loose, is_line_end, skip_line_ends, ◌⟨◌⟩◌, ◌⨾◌, ◌⋯◌, AfterLines, Nothing, TheEnd, No, One, At, Repeats, TheSign, Listed}
-use Rattle.il_grammar_laws.specs.Alike.{HasSameBytes, IsEndOf, AreAlike, IsGap, Carries}
+use Rattle.il_grammar_laws.specs.Alike.{HasSameBytes, IsEndOf, AreAlike, IsGap, Carries, IsTold}
 
 -- an end is no longer than the whole
 pub end_length : (back ts : List Token) → IsEndOf back ts → length back ≤ length ts
@@ -115,6 +115,9 @@ still_none {P = P} same text other back [] us a none m p = subst (λ x. One (P o
 still_none {P = P} same text other back (t ∷ ts) us a none m p =
     let here = subst (λ x. One (P other) x m) a.1 p in
     none ts (same other text t (sym a.2) here.0, refl)
+
+pub one_told : {P : List ℕ → Token → Type 0} → ((text other : List ℕ) (t : Token) → HasSameBytes text other t → P text t → P other t) → IsTold (λ text. One (P text))
+one_told same = record { still = λ text other back ts us a none m p. still_none same text other back ts us a none m p }
 
 -- no such token
 pub no_carries : {P : List ℕ → Token → Type 0} → ((text other : List ℕ) (t : Token) → HasSameBytes text other t → P text t → P other t)

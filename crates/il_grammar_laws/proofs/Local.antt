@@ -45,8 +45,8 @@ use Rattle.std.specs.Char.{is_ascii_digit}
 use Rattle.il_spec.specs.Words.{keyword_of, IsName}
 use Rattle.il_spec.specs.Grammar.{Front, Gap, tight, loose, ◌⟨◌⟩◌, ◌⨾◌, ◌⋯◌, AfterLines, Nothing, TheEnd, No, One, At, Repeats, Listed, IsPlace, is_nested, unit_word, end_word, HasItsLists}
 use Rattle.il_spec.specs.Grammar.{TheSign, TheLineEnd, ANumber, ATyped, TheWord, AWord, AName, TheName, SomeName, TheText, ADecimal, ALiteral, SpellsSubrange, SpellsScalar, SpellsForm, SpellsType, SpellsInitial, SpellsDeclaration, SpellsExternal, SpellsList, SpellsFilledList, SpellsOptionalList, SpellsIndex, SpellsReference, SpellsOperand, SpellsTarget, TheLetterN, BehindAmpersand, SpellsAmpersand, SpellsShortly, SpellsOperator, SpellsArgument, SpellsArguments, SpellsOperands, SpellsFirst, SpellsInstruction, SpellsLabel, SpellsLabelled, SpellsStep, SpellsLabelLine, SpellsBody, SpellsNoExternals, SpellsExternals, SpellsResult, SpellsUnit, SpellsSize, SpellsGlobals, SpellsTask, SpellsProgramLine, SpellsSizes, SpellsResource, SpellsConfig}
-use Rattle.il_grammar_laws.specs.Alike.{HasSameBytes, IsEndOf, AreAlike, IsGap, Carries, IsLocal, IsLocalPart}
-use Rattle.il_grammar_laws.proofs.Alike.{end_same, end_length, tight_gap, loose_gap, loosely, one_carries, no_carries, none_after_lines, nothing_carries, follows, follows_lines, follows_directly, after, placed, given, one_of, never, repeated, listed}
+use Rattle.il_grammar_laws.specs.Alike.{HasSameBytes, IsEndOf, AreAlike, IsGap, Carries, IsLocal, IsLocalPart, IsTold}
+use Rattle.il_grammar_laws.proofs.Alike.{end_same, end_length, tight_gap, loose_gap, loosely, one_carries, one_told, no_carries, none_after_lines, nothing_carries, follows, follows_lines, follows_directly, after, placed, given, one_of, never, repeated, listed}
 use Rattle.il_grammar_laws.proofs.Leads.{word_one, word_sure, name_one, any_word_one, the_name_one, sign_sure, line_end_sure, number_one, typed_one}
 use Rattle.il_grammar_laws.proofs.Combinators.{place_of}
 use Rattle.il_grammar_laws.proofs.Types.{literal_one, subrange_one, scalar_one, form_one, type_one, initial_one, declaration_one, external_one, declarations_one, externals_one, filled_list_one, optional_list_one}
@@ -65,66 +65,106 @@ same_name text other t s = ap upper_case s
 pub word_same : (k : Keyword) (text other : List ℕ) (t : Token) → HasSameBytes text other t → (t.kind ≡ kind.Word) × (keyword_of (name_of text t) ≡ Some k) → (t.kind ≡ kind.Word) × (keyword_of (name_of other t) ≡ Some k)
 word_same k text other t s p = (p.0, ap keyword_of (sym (same_name text other t s)) ∙ p.1)
 
-sign_carries : (s : Sign) → Carries tight (λ text. TheSign s)
+pub sign_carries : (s : Sign) → Carries tight (λ text. TheSign s)
 sign_carries s = one_carries (λ text other t same p. p)
 
-line_end_carries : Carries tight (λ text. TheLineEnd)
+pub line_end_carries : Carries tight (λ text. TheLineEnd)
 line_end_carries = one_carries (λ text other t same p. p)
 
-number_carries : (v : ℤ) → Carries tight (λ text. ANumber v)
+pub number_carries : (v : ℤ) → Carries tight (λ text. ANumber v)
 number_carries v = one_carries (λ text other t same p. p)
 
-typed_carries : (v : Literal) → Carries tight (λ text. ATyped v)
+pub typed_carries : (v : Literal) → Carries tight (λ text. ATyped v)
 typed_carries v = one_carries (λ text other t same p. p)
 
-word_carries : (k : Keyword) → Carries tight (λ text. TheWord text k)
+pub word_carries : (k : Keyword) → Carries tight (λ text. TheWord text k)
 word_carries k = one_carries (word_same k)
 
-any_word_carries : (n : List ℕ) → Carries tight (λ text. AWord text n)
+pub any_word_carries : (n : List ℕ) → Carries tight (λ text. AWord text n)
 any_word_carries n = one_carries (λ text other t same p. (p.0, sym (same_name text other t same) ∙ p.1))
 
-name_carries : (n : List ℕ) → Carries tight (λ text. AName text n)
+pub name_carries : (n : List ℕ) → Carries tight (λ text. AName text n)
 name_carries n = one_carries (λ text other t same p. (p.0, sym (same_name text other t same) ∙ p.1, p.2))
 
-the_name_carries : (n : Named) → Carries tight (λ text. TheName text n)
+pub the_name_carries : (n : Named) → Carries tight (λ text. TheName text n)
 the_name_carries n = placed n.place (name_carries n.name)
 
-some_name_carries : Carries tight (λ text. SomeName text)
+pub some_name_carries : Carries tight (λ text. SomeName text)
 some_name_carries = one_carries (λ text other t same p. (p.0, subst (λ x. IsName x) (same_name text other t same) p.1))
 
-text_carries : (n : List ℕ) → Carries tight (λ text. TheText text n)
+pub text_carries : (n : List ℕ) → Carries tight (λ text. TheText text n)
 text_carries n = one_carries (λ text other t same p. (p.0, subst (λ x. IsTrue (bytes_eq x n)) (same_name text other t same) p.1))
 
-decimal_carries : (v : ℤ) → Carries tight (λ text. ADecimal text v)
+pub decimal_carries : (v : ℤ) → Carries tight (λ text. ADecimal text v)
 decimal_carries v = one_carries (λ text other t same p. (p.0, subst (λ x. IsTrue (is_grouped is_ascii_digit x)) same p.1))
 
-letter_carries : (at : ℕ) → Carries tight (λ text. TheLetterN text at)
+pub letter_carries : (at : ℕ) → Carries tight (λ text. TheLetterN text at)
 letter_carries at = one_carries (λ text other t same p. (p.0, subst (λ x. IsTrue (bytes_eq x (codes "N"))) (same_name text other t same) p.1, p.2))
 
-end_carries : Carries tight (λ text. TheEnd)
+pub end_carries : Carries tight (λ text. TheEnd)
 end_carries = record { ends = λ text ts m p. end_same ts m (p.0 ∙ sym p.1); over = go }
   where
     go : (text other : List ℕ) (back ts us m : List Token) → AreAlike text other back ts us → TheEnd ts m → length back ≤ length m → (n : List Token) × TheEnd us n × AreAlike text other back m n
     go text other back [] us m a p l = ([], (a.1, refl), subst (λ x. AreAlike text other back x []) (sym p.1) (a.0, refl))
     go text other back (t ∷ ts) us m a p l = let e = p.0 in absurd cc
 
+-- and whether one stands there is told by the first
+pub sign_told : (s : Sign) → IsTold (λ text. TheSign s)
+sign_told s = one_told (λ text other t same p. p)
+
+pub line_end_told : IsTold (λ text. TheLineEnd)
+line_end_told = one_told (λ text other t same p. p)
+
+pub number_told : (v : ℤ) → IsTold (λ text. ANumber v)
+number_told v = one_told (λ text other t same p. p)
+
+pub typed_told : (v : Literal) → IsTold (λ text. ATyped v)
+typed_told v = one_told (λ text other t same p. p)
+
+pub word_told : (k : Keyword) → IsTold (λ text. TheWord text k)
+word_told k = one_told (word_same k)
+
+pub any_word_told : (n : List ℕ) → IsTold (λ text. AWord text n)
+any_word_told n = one_told (λ text other t same p. (p.0, sym (same_name text other t same) ∙ p.1))
+
+pub name_told : (n : List ℕ) → IsTold (λ text. AName text n)
+name_told n = one_told (λ text other t same p. (p.0, sym (same_name text other t same) ∙ p.1, p.2))
+
+pub some_name_told : IsTold (λ text. SomeName text)
+some_name_told = one_told (λ text other t same p. (p.0, subst (λ x. IsName x) (same_name text other t same) p.1))
+
+pub text_told : (n : List ℕ) → IsTold (λ text. TheText text n)
+text_told n = one_told (λ text other t same p. (p.0, subst (λ x. IsTrue (bytes_eq x n)) (same_name text other t same) p.1))
+
+pub decimal_told : (v : ℤ) → IsTold (λ text. ADecimal text v)
+decimal_told v = one_told (λ text other t same p. (p.0, subst (λ x. IsTrue (is_grouped is_ascii_digit x)) same p.1))
+
+pub letter_told : (at : ℕ) → IsTold (λ text. TheLetterN text at)
+letter_told at = one_told (λ text other t same p. (p.0, subst (λ x. IsTrue (bytes_eq x (codes "N"))) (same_name text other t same) p.1, p.2))
+
+pub literal_told : (l : Literal) → IsTold (λ text. ALiteral text l)
+literal_told (literal.Truth truth) = word_told (word.Truth truth)
+literal_told (literal.Bare value) = number_told value
+literal_told (literal.Whole type value) = typed_told (literal.Whole type value)
+literal_told (literal.Time value) = typed_told (literal.Time value)
+
 -- types
-literal_carries : (l : Literal) → Carries tight (λ text. ALiteral text l)
+pub literal_carries : (l : Literal) → Carries tight (λ text. ALiteral text l)
 literal_carries (literal.Truth truth) = word_carries (word.Truth truth)
 literal_carries (literal.Bare value) = number_carries value
 literal_carries (literal.Whole type value) = typed_carries (literal.Whole type value)
 literal_carries (literal.Time value) = typed_carries (literal.Time value)
 
-subrange_carries : (s : Option Subrange) → Carries loose (λ text. SpellsSubrange text s)
+pub subrange_carries : (s : Option Subrange) → Carries loose (λ text. SpellsSubrange text s)
 subrange_carries None = none_after_lines (λ text other t same p. p)
 subrange_carries (Some s) =
     loosely (after tight_gap (follows loose_gap tight_gap (sign_carries OpenParenthesis) (follows loose_gap tight_gap (number_carries s.lower) (follows loose_gap tight_gap (sign_carries Range)
     (follows loose_gap tight_gap (number_carries s.upper) (sign_carries CloseParenthesis))))))
 
-scalar_carries : (s : Scalar) → Carries loose (λ text. SpellsScalar text s)
+pub scalar_carries : (s : Scalar) → Carries loose (λ text. SpellsScalar text s)
 scalar_carries s = follows tight_gap loose_gap (word_carries (word.Elementary s.elementary)) (subrange_carries s.subrange)
 
-form_carries : (f : TypeForm) → Carries loose (λ text. SpellsForm text f)
+pub form_carries : (f : TypeForm) → Carries loose (λ text. SpellsForm text f)
 form_carries (form.Scalar s) = scalar_carries s
 form_carries (form.Array bounds element) =
     follows loose_gap loose_gap (word_carries word.Array) (follows loose_gap loose_gap (sign_carries OpenBracket) (follows loose_gap loose_gap (number_carries bounds.lower)
@@ -132,58 +172,58 @@ form_carries (form.Array bounds element) =
     (follows loose_gap loose_gap (word_carries word.Of) (scalar_carries element)))))))
 form_carries (form.Block n) = loosely (name_carries n)
 
-type_carries : (t : WrittenType) → Carries loose (λ text. SpellsType text t)
+pub type_carries : (t : WrittenType) → Carries loose (λ text. SpellsType text t)
 type_carries t = placed t.place (form_carries t.form)
 
-initial_carries : (i : Option Initial) → Carries tight (λ text. SpellsInitial text i)
+pub initial_carries : (i : Option Initial) → Carries tight (λ text. SpellsInitial text i)
 initial_carries None = sign_carries Semicolon
 initial_carries (Some i) = follows loose_gap tight_gap (sign_carries Assign) (follows loose_gap tight_gap (placed i.place (literal_carries i.literal)) (sign_carries Semicolon))
 
-names_carries : (ns : List Named) → Carries tight (λ text. Listed loose (TheName text) ns (TheSign Colon))
+pub names_carries : (ns : List Named) → Carries tight (λ text. Listed loose (TheName text) ns (TheSign Colon))
 names_carries ns = listed loose_gap tight_gap the_name_carries (sign_carries Colon) ns
 
-declaration_carries : (d : Declaration) → Carries tight (λ text. SpellsDeclaration text d)
+pub declaration_carries : (d : Declaration) → Carries tight (λ text. SpellsDeclaration text d)
 declaration_carries d = follows loose_gap tight_gap (names_carries d.names) (follows_lines tight_gap (type_carries d.declared) (initial_carries d.initial))
 
-external_carries : (d : Declaration) → Carries tight (λ text. SpellsExternal text d)
+pub external_carries : (d : Declaration) → Carries tight (λ text. SpellsExternal text d)
 external_carries d = record {
   ends = λ text ts m p. (declaration_carries d).ends text ts m p.2;
   over = λ text other back ts us m a p l. let f = (declaration_carries d).over text other back ts us m a p.2 l in (f.0, (p.0, p.1, f.1), f.2);
 }
 
-list_carries : (k : Keyword) {P : List ℕ → Declaration → Front} → ((d : Declaration) → Carries tight (λ text. P text d)) → (ds : List Declaration) → Carries tight (λ text. SpellsList text k (P text) ds)
+pub list_carries : (k : Keyword) {P : List ℕ → Declaration → Front} → ((d : Declaration) → Carries tight (λ text. P text d)) → (ds : List Declaration) → Carries tight (λ text. SpellsList text k (P text) ds)
 list_carries k one ds = after tight_gap (follows loose_gap tight_gap (word_carries k) (repeated tight_gap (λ d. loosely (one d)) (word_carries word.EndVar) ds))
 
-filled_carries : (k : Keyword) (ds : List Declaration) → Carries loose (λ text. SpellsFilledList text k ds)
+pub filled_carries : (k : Keyword) (ds : List Declaration) → Carries loose (λ text. SpellsFilledList text k ds)
 filled_carries k [] = none_after_lines (word_same k)
 filled_carries k (d ∷ ds) = loosely (list_carries k declaration_carries (d ∷ ds))
 
-optional_carries : (k : Keyword) {P : List ℕ → Declaration → Front} → ((d : Declaration) → Carries tight (λ text. P text d)) → (ds : List Declaration) → Carries loose (λ text. SpellsOptionalList text k (P text) ds)
+pub optional_carries : (k : Keyword) {P : List ℕ → Declaration → Front} → ((d : Declaration) → Carries tight (λ text. P text d)) → (ds : List Declaration) → Carries loose (λ text. SpellsOptionalList text k (P text) ds)
 optional_carries k one ds = one_of (loosely (list_carries k one ds)) (given _ (none_after_lines (word_same k)))
 
 -- operands
-index_carries : (i : Index) → Carries tight (λ text. SpellsIndex text i)
+pub index_carries : (i : Index) → Carries tight (λ text. SpellsIndex text i)
 index_carries (index.Number value) = number_carries value
 index_carries (index.Variable n) = name_carries n
 
-reference_carries : {gap : Gap} → IsGap gap → (r : Reference) → Carries tight (λ text. SpellsReference text gap r)
+pub reference_carries : {gap : Gap} → IsGap gap → (r : Reference) → Carries tight (λ text. SpellsReference text gap r)
 reference_carries is (reference.Literal value) = literal_carries value
 reference_carries is (reference.Variable n) = follows is tight_gap (name_carries n) (follows tight_gap tight_gap (no_carries (λ text other t same p. p)) (no_carries (λ text other t same p. p)))
 reference_carries is (reference.Element n i) =
     follows is tight_gap (name_carries n) (follows is tight_gap (sign_carries OpenBracket) (follows is tight_gap (index_carries i) (sign_carries CloseBracket)))
 reference_carries is (reference.Member n m) = follows is tight_gap (name_carries n) (follows is tight_gap (sign_carries Dot) (any_word_carries m))
 
-operand_carries : {gap : Gap} → IsGap gap → (o : Operand) → Carries tight (λ text. SpellsOperand text gap o)
+pub operand_carries : {gap : Gap} → IsGap gap → (o : Operand) → Carries tight (λ text. SpellsOperand text gap o)
 operand_carries is o = placed o.place (reference_carries is o.reference)
 
-target_carries : (o : Operand) → Carries tight (λ text. SpellsTarget text o)
+pub target_carries : (o : Operand) → Carries tight (λ text. SpellsTarget text o)
 target_carries o = given _ (operand_carries tight_gap o)
 
 behind_ampersand : (b : Bool) (at : ℕ) → Carries tight (λ text. BehindAmpersand text b at)
 behind_ampersand true at = letter_carries at
 behind_ampersand false at = no_carries (λ text other t same p. (p.0, subst (λ x. IsTrue (bytes_eq x (codes "N"))) (same_name text other t same) p.1, p.2))
 
-ampersand_carries : (b : Bool) → Carries tight (λ text. SpellsAmpersand text b)
+pub ampersand_carries : (b : Bool) → Carries tight (λ text. SpellsAmpersand text b)
 ampersand_carries b = record { ends = ends; over = go }
   where
     ends : (text : List ℕ) (ts m : List Token) → SpellsAmpersand text b ts m → IsEndOf m ts
@@ -204,41 +244,41 @@ ampersand_carries b = record { ends = ends; over = go }
             let f = (behind_ampersand b t.end).over text other back ts a.0 m c p.1 l in
             (f.0, subst (λ x. SpellsAmpersand other b x f.0) (sym a.1) (p.0, f.1), f.2)
 
-shortly_carries : (o : Operator) → Carries tight (λ text. SpellsShortly text o)
+pub shortly_carries : (o : Operator) → Carries tight (λ text. SpellsShortly text o)
 shortly_carries (operator.Logic Conjunction negated) = ampersand_carries negated
 shortly_carries (operator.Logic Disjunction negated) = never
 shortly_carries (operator.Logic Exclusive negated) = never
 shortly_carries (operator.Arithmetic a) = never
 shortly_carries (operator.Comparison c) = never
 
-operator_carries : (o : Operator) → Carries tight (λ text. SpellsOperator text o)
+pub operator_carries : (o : Operator) → Carries tight (λ text. SpellsOperator text o)
 operator_carries o = one_of (word_carries (word.Operate o)) (shortly_carries o)
 
 -- arguments
-argument_carries : (a : Argument) → Carries tight (λ text. SpellsArgument text a)
+pub argument_carries : (a : Argument) → Carries tight (λ text. SpellsArgument text a)
 argument_carries (argument.Input input operand) = follows loose_gap tight_gap (placed input.place (any_word_carries input.name)) (follows loose_gap tight_gap (sign_carries Assign) (operand_carries loose_gap operand))
 argument_carries (argument.Output output target) = follows loose_gap tight_gap (placed output.place (any_word_carries output.name)) (follows loose_gap tight_gap (sign_carries Arrow) (the_name_carries target))
 
-inside_carries : (xs : List Argument) → Carries tight (λ text. Listed loose (SpellsArgument text) xs (TheSign CloseParenthesis))
+pub inside_carries : (xs : List Argument) → Carries tight (λ text. Listed loose (SpellsArgument text) xs (TheSign CloseParenthesis))
 inside_carries xs = listed loose_gap tight_gap argument_carries (sign_carries CloseParenthesis) xs
 
-arguments_carries : (xs : List Argument) → Carries tight (λ text. SpellsArguments text xs)
+pub arguments_carries : (xs : List Argument) → Carries tight (λ text. SpellsArguments text xs)
 arguments_carries [] = one_of line_end_carries (follows loose_gap tight_gap (sign_carries OpenParenthesis) (follows tight_gap tight_gap (sign_carries CloseParenthesis) line_end_carries))
 arguments_carries (x ∷ xs) = follows loose_gap tight_gap (sign_carries OpenParenthesis) (follows tight_gap tight_gap (inside_carries (x ∷ xs)) line_end_carries)
 
-listed_operands_carry : (xs : List Operand) → Carries tight (λ text. Listed tight (SpellsOperand text tight) xs TheLineEnd)
+pub listed_operands_carry : (xs : List Operand) → Carries tight (λ text. Listed tight (SpellsOperand text tight) xs TheLineEnd)
 listed_operands_carry xs = listed tight_gap tight_gap (operand_carries tight_gap) line_end_carries xs
 
-operands_carries : (xs : List Operand) → Carries tight (λ text. SpellsOperands text xs)
+pub operands_carries : (xs : List Operand) → Carries tight (λ text. SpellsOperands text xs)
 operands_carries [] = line_end_carries
 operands_carries (x ∷ xs) = listed_operands_carry (x ∷ xs)
 
-first_carries : (o : Option Operand) → Carries tight (λ text. SpellsFirst text o)
+pub first_carries : (o : Option Operand) → Carries tight (λ text. SpellsFirst text o)
 first_carries None = line_end_carries
 first_carries (Some o) = follows tight_gap tight_gap (operand_carries tight_gap o) line_end_carries
 
 -- instructions
-instruction_carries : (i : Instruction) → Carries tight (λ text. SpellsInstruction text i)
+pub instruction_carries : (i : Instruction) → Carries tight (λ text. SpellsInstruction text i)
 instruction_carries (instruction.Load negated operand) = follows tight_gap tight_gap (word_carries _) (follows tight_gap tight_gap (operand_carries tight_gap operand) line_end_carries)
 instruction_carries (instruction.Store store target) = follows tight_gap tight_gap (word_carries _) (follows tight_gap tight_gap (target_carries target) line_end_carries)
 instruction_carries instruction.Not = follows tight_gap tight_gap (word_carries _) line_end_carries
@@ -250,41 +290,41 @@ instruction_carries (instruction.Return condition) = follows tight_gap tight_gap
 instruction_carries (instruction.Call condition instance arguments) = follows tight_gap tight_gap (word_carries _) (follows tight_gap tight_gap (the_name_carries instance) (arguments_carries arguments))
 instruction_carries (instruction.Invoke function operands) = follows tight_gap tight_gap (the_name_carries function) (operands_carries operands)
 
-label_carries : (n : Named) → Carries tight (λ text. SpellsLabel text n)
+pub label_carries : (n : Named) → Carries tight (λ text. SpellsLabel text n)
 label_carries n = follows tight_gap tight_gap (the_name_carries n) (sign_carries Colon)
 
-label_line_carries : (n : Named) → Carries tight (λ text. SpellsLabelLine text n)
+pub label_line_carries : (n : Named) → Carries tight (λ text. SpellsLabelLine text n)
 label_line_carries n = follows tight_gap tight_gap (label_carries n) line_end_carries
 
-labelled_carries : {F : List ℕ → Front} → Carries tight F → (ns : List Named) → Carries tight (λ text. SpellsLabelled text ns (F text))
+pub labelled_carries : {F : List ℕ → Front} → Carries tight F → (ns : List Named) → Carries tight (λ text. SpellsLabelled text ns (F text))
 labelled_carries one [] = one
 labelled_carries one (n ∷ []) = follows loose_gap tight_gap (label_carries n) one
 labelled_carries one (n ∷ o ∷ ns) = follows tight_gap tight_gap (label_carries n) (follows loose_gap tight_gap line_end_carries (labelled_carries one (o ∷ ns)))
 
-step_carries : (s : Step) → Carries tight (λ text. SpellsStep text s)
+pub step_carries : (s : Step) → Carries tight (λ text. SpellsStep text s)
 step_carries s = labelled_carries (placed s.place (instruction_carries s.instruction)) s.labels
 
-ends_carry : (k : Keyword) (place : Place) (ns : List Named) → Carries tight (λ text. Repeats (SpellsLabelLine text) ns (At place (TheWord text k)))
+pub ends_carry : (k : Keyword) (place : Place) (ns : List Named) → Carries tight (λ text. Repeats (SpellsLabelLine text) ns (At place (TheWord text k)))
 ends_carry k place ns = repeated tight_gap (λ n. loosely (label_line_carries n)) (placed place (word_carries k)) ns
 
-body_carries : (k : Keyword) (b : Body) → Carries tight (λ text. SpellsBody text k b)
+pub body_carries : (k : Keyword) (b : Body) → Carries tight (λ text. SpellsBody text k b)
 body_carries k b = given _ (follows loose_gap tight_gap line_end_carries (repeated tight_gap (λ s. loosely (step_carries s)) (ends_carry k b.end b.last_labels) b.steps))
 
 -- units
-no_externals_carry : (ds : List Declaration) → Carries loose (λ text. SpellsNoExternals text ds)
+pub no_externals_carry : (ds : List Declaration) → Carries loose (λ text. SpellsNoExternals text ds)
 no_externals_carry ds = given _ (none_after_lines (word_same word.VarExternal))
 
-unit_externals_carry : (kind : UnitKind) (ds : List Declaration) → Carries loose (λ text. SpellsExternals text kind ds)
+pub unit_externals_carry : (kind : UnitKind) (ds : List Declaration) → Carries loose (λ text. SpellsExternals text kind ds)
 unit_externals_carry (unit.Function result place) ds = no_externals_carry ds
 unit_externals_carry unit.FunctionBlock ds = no_externals_carry ds
 unit_externals_carry unit.Program ds = optional_carries word.VarExternal external_carries ds
 
-result_carries : (kind : UnitKind) → Carries loose (λ text. SpellsResult text kind)
+pub result_carries : (kind : UnitKind) → Carries loose (λ text. SpellsResult text kind)
 result_carries (unit.Function result place) = after loose_gap (follows loose_gap loose_gap (sign_carries Colon) (placed place (scalar_carries result)))
 result_carries unit.FunctionBlock = loosely nothing_carries
 result_carries unit.Program = loosely nothing_carries
 
-unit_carries : (u : ProgramUnit) → Carries loose (λ text. SpellsUnit text u)
+pub unit_carries : (u : ProgramUnit) → Carries loose (λ text. SpellsUnit text u)
 unit_carries u =
     given _ (follows loose_gap loose_gap (placed u.place (word_carries (unit_word u.kind))) (follows_directly (loosely (the_name_carries u.name)) (follows_directly (result_carries u.kind)
     (follows_directly (filled_carries word.VarInput u.inputs) (follows_directly (filled_carries word.VarOutput u.outputs)
@@ -292,34 +332,34 @@ unit_carries u =
     (loosely (body_carries (end_word u.kind) u.body)))))))))
 
 -- the configuration
-size_carries : (n : List ℕ) (s : Size) → Carries tight (λ text. SpellsSize text n s)
+pub size_carries : (n : List ℕ) (s : Size) → Carries tight (λ text. SpellsSize text n s)
 size_carries n s =
     follows loose_gap tight_gap (text_carries n) (follows loose_gap tight_gap (sign_carries Colon) (follows loose_gap tight_gap (word_carries _) (follows loose_gap tight_gap (sign_carries Assign)
     (follows loose_gap tight_gap (placed s.place (decimal_carries s.value)) (sign_carries Semicolon)))))
 
-globals_carry : (place : Option Place) (ds : List Declaration) → Carries loose (λ text. SpellsGlobals text place ds)
+pub globals_carry : (place : Option Place) (ds : List Declaration) → Carries loose (λ text. SpellsGlobals text place ds)
 globals_carry None ds = given _ (none_after_lines (word_same word.VarGlobal))
 globals_carry (Some place) ds =
     loosely (after tight_gap (placed place (follows loose_gap tight_gap (word_carries word.VarGlobal) (repeated tight_gap (λ d. loosely (declaration_carries d)) (word_carries word.EndVar) ds))))
 
-task_carries : (t : Task) → Carries tight (λ text. SpellsTask text t)
+pub task_carries : (t : Task) → Carries tight (λ text. SpellsTask text t)
 task_carries t =
     follows loose_gap tight_gap (placed t.place (word_carries word.Task)) (follows loose_gap tight_gap (the_name_carries t.name) (follows loose_gap tight_gap (sign_carries OpenParenthesis)
     (follows loose_gap tight_gap (word_carries word.Interval) (follows loose_gap tight_gap (sign_carries Assign) (follows loose_gap tight_gap (typed_carries (literal.Time t.interval))
     (follows loose_gap tight_gap (sign_carries Comma) (follows loose_gap tight_gap (word_carries word.Priority) (follows loose_gap tight_gap (sign_carries Assign)
     (follows loose_gap tight_gap (decimal_carries t.priority) (follows loose_gap tight_gap (sign_carries CloseParenthesis) (sign_carries Semicolon)))))))))))
 
-program_line_carries : (p : ProgramLine) → Carries tight (λ text. SpellsProgramLine text p)
+pub program_line_carries : (p : ProgramLine) → Carries tight (λ text. SpellsProgramLine text p)
 program_line_carries p =
     follows loose_gap tight_gap (placed p.place (word_carries word.Program)) (follows loose_gap tight_gap (the_name_carries p.name) (follows loose_gap tight_gap (word_carries word.With)
     (follows loose_gap tight_gap (the_name_carries p.task) (follows loose_gap tight_gap (sign_carries Colon) (follows loose_gap tight_gap (the_name_carries p.program) (sign_carries Semicolon))))))
 
-sizes_carry : (c : Config) → Carries tight (λ text. SpellsSizes text c)
+pub sizes_carry : (c : Config) → Carries tight (λ text. SpellsSizes text c)
 sizes_carry c =
     follows loose_gap tight_gap (word_carries word.VarGlobal) (follows loose_gap tight_gap (word_carries word.Constant) (follows loose_gap tight_gap (size_carries (codes "CARS") c.cars)
     (follows loose_gap tight_gap (size_carries (codes "FLOORS") c.floors) (follows loose_gap tight_gap (size_carries (codes "SLOTS") c.slots) (word_carries word.EndVar)))))
 
-resource_carries : (c : Config) → Carries tight (λ text. SpellsResource text c)
+pub resource_carries : (c : Config) → Carries tight (λ text. SpellsResource text c)
 resource_carries c =
     follows loose_gap tight_gap (word_carries word.Resource) (follows loose_gap tight_gap some_name_carries (follows loose_gap tight_gap (word_carries word.On) (follows loose_gap tight_gap some_name_carries
     (repeated tight_gap (λ t. loosely (task_carries t)) (repeated tight_gap (λ p. loosely (program_line_carries p)) (placed c.end_resource (word_carries word.EndResource)) c.programs) c.tasks))))

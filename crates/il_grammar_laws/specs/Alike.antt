@@ -43,3 +43,7 @@ pub record IsLocal {A : Type 0} (look : Gap) (P : List ℕ → A → Front) : Ty
 pub record IsLocalPart (look : Gap) (F : List ℕ → Front) : Type 0 where
   pub one : (text : List ℕ) → IsSure (F text)
   pub carries : Carries look F
+
+-- Whether a rule stands there is told by the first token (own rule).
+pub record IsTold (F : List ℕ → Front) : Type 0 where
+  pub still : (text other : List ℕ) (back ts us : List Token) → AreAlike text other back ts us → ((m : List Token) → F text ts m → ⊥) → (m : List Token) → F other us m → ⊥
