@@ -80,7 +80,7 @@ pub loose_gap : IsGap loose
 loose_gap = record { ends = λ ts. skip_ends ts; alike = λ text other back ts us a l. skip_alike text other back ts us a l }
 
 -- what a gap leaves is no longer
-gap_length : {gap : Gap} → IsGap gap → (ts : List Token) → length (gap ts) ≤ length ts
+pub gap_length : {gap : Gap} → IsGap gap → (ts : List Token) → length (gap ts) ≤ length ts
 gap_length {gap = gap} is ts = end_length (gap ts) ts (is.ends ts)
 
 -- a rule that looks no further than the next token

@@ -364,6 +364,10 @@ resource_carries c =
     follows loose_gap tight_gap (word_carries word.Resource) (follows loose_gap tight_gap some_name_carries (follows loose_gap tight_gap (word_carries word.On) (follows loose_gap tight_gap some_name_carries
     (repeated tight_gap (λ t. loosely (task_carries t)) (repeated tight_gap (λ p. loosely (program_line_carries p)) (placed c.end_resource (word_carries word.EndResource)) c.programs) c.tasks))))
 
+-- a rule that looks no further than the next token
+pub loosely_local : {A : Type 0} {P : List ℕ → A → Front} → IsLocal tight P → IsLocal loose P
+loosely_local law = record { one = law.one; carries = λ x. loosely (law.carries x) }
+
 -- what is one, and holds of alike tokens
 pub sign_local : (s : Sign) → IsLocalPart tight (λ text. TheSign s)
 sign_local s = record { one = λ text. sign_sure s; carries = sign_carries s }
