@@ -317,7 +317,7 @@ module _ (text : List ℕ) where
   -- a parenthesis opens behind any line ends, and what follows are no limits
   pub subrange_refused : (ts k : List Token) (e : Stop) → TheSign OpenParenthesis (skip_line_ends ts) k
       → Refuses (λ text (s : Subrange). TheSign OpenParenthesis ⋯ ANumber s.lower ⋯ TheSign Range ⋯ ANumber s.upper ⋯ TheSign CloseParenthesis) text (skip_line_ends ts) e → Refuses SpellsSubrange text ts e
-  subrange_refused ts k e there bad = lift (λ back gone. record {
+  subrange_refused ts k e there bad = lift (loose_gap.ends ts) (λ back gone. record {
     inside = end_of_end back (skip_line_ends ts) ts (loose_gap.ends ts) gone.inside;
     never = λ other us a x r w.
         let b = loose_gap.alike text other back ts us a (end_length back (skip_line_ends ts) gone.inside) in
