@@ -391,7 +391,7 @@ module _ (text : List ℕ) where
 
   -- no instruction begins so
   pub none_refused : (room : Bool) (l : Lead) (ts : List Token) (e : Stop) → lead_at text ts ≡ l → sort_at (plain l) ≡ none → e ≡ fault_at Unexpected ts → Refuses (λ text. SpellsRoomy text room) text ts e
-  none_refused room l ts e is_so out here = by_lead Unexpected (λ other us same x r w. none_refused_lacks other room l us (same ∙ is_so) out x r w) here
+  none_refused room l ts e is_so out here = by_lead Unexpected refl (λ other us same x r w. none_refused_lacks other room l us (same ∙ is_so) out x r w) here
 
 -- a word that begins no instruction
 pub no_word : (k : Keyword) → ((n : Bool) → k ≡ word.Load n → ⊥) → ((s : Store) → k ≡ word.Store s → ⊥) → (k ≡ word.Not → ⊥) → ((o : Operator) → k ≡ word.Operate o → ⊥) → ((c : Condition) → k ≡ word.Jump c → ⊥)
