@@ -1,3 +1,4 @@
+pub mod Ahead
 pub mod Repeated
 pub mod Parts
 pub mod Ascii

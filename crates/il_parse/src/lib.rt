@@ -70,7 +70,7 @@ pub fn parse(alloc: Global, text: &[u8], tokens: &[Token]) -> Result<Written, Re
 fn read(alloc: Global, text: &[u8], tokens: &[Token]) -> Result<Config, Stop>
     requires { AreTokens text.now 0 tokens.now }
     ensures reads { IfOk result (λ c. Reads (SpellsSmallConfig text.now) tokens.now c []) }
-    ensures refused { IfErr result (λ e. Refuses (SpellsSmallConfig text.now) tokens.now e) }
+    ensures refused { IfErr result (λ e. Refuses SpellsSmallConfig text.now tokens.now e) }
 {
     let upper = in_upper_case(alloc, text)?;
     let source = Source::new(alloc, text, &upper);

@@ -5,7 +5,7 @@ use Rattle.il_parse.proofs.bodies.placed.Goals as goal
 
 pub returns-then-not-may_begin-clause-refused : goal.returns-then-not-may_begin-clause-refused
 returns-then-not-may_begin-clause-refused c =
-    stands_not c.args.source.now _ _ _ _ _ (ap (λ l. may_begin c.args.depth c.args.load l) (sym c.requires.lead) ∙ sym c.may_begin.ensures ∙ c.if-not-may_begin.true)
+    stands_not c.args.source.now _ _ _ _ _ (ap (λ l. may_begin c.args.depth c.args.load l) (sym c.requires.lead) ∙ sym c.may_begin.ensures ∙ c.if-not-may_begin.true) c.outside-then-not-may_begin.ensures
 
 pub returns-clause-reads : goal.returns-clause-reads
 returns-clause-reads c =
