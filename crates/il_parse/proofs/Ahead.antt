@@ -38,6 +38,11 @@ pub up_ahead : {X A : Type 0} {P : List ℕ → A → Front} {text : List ℕ} {
 up_ahead {P = P} {text = text} {ts = ts} (Err y) same bad = subst (λ (z : Stop). RefusesAhead P text ts z) (sym same) bad
 up_ahead (Ok x) same bad = tt
 
+-- what is said of an error goes up with it
+pub up_so : {X : Type 0} (P : Stop → Type 0) {e : Stop} (r : Result X Stop) → IsErrAnd r (λ y. y ≡ e) → P e → IfErr r P
+up_so P (Err y) same bad = subst P (sym same) bad
+up_so P (Ok x) same bad = tt
+
 -- a part of the value
 pub part_ahead : {A B : Type 0} {P : List ℕ → A → Front} {text : List ℕ} {ts : List Token} {e : Stop} (f : B → A) → RefusesAhead P text ts e → RefusesAhead (λ text b. P text (f b)) text ts e
 part_ahead f bad = record {

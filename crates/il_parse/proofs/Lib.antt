@@ -7,3 +7,4 @@ pub mod Entries
 pub mod Missing
 pub mod External
 pub mod OneUnit
+pub mod Turn

@@ -6,7 +6,7 @@ ghost use Rattle.il_spec.specs.Text.{AreTokens, upper_case};
 ghost use Rattle.il_spec.specs.Grammar.{AfterLines, SpellsConfig, Spells, IsWithinLimits};
 ghost use Rattle.il_spec.specs.declared.tree.Config.{Config};
 ghost use Rattle.il_read.specs.Reads.{Reads, Refuses};
-ghost use Rattle.il_parse.specs.Refused.{IsFault, IsOfParser, IsSmall};
+ghost use Rattle.il_parse.specs.Refused.{IsFault, IsOfParser, IsSmall, GoesOnNowhere};
 ghost use Rattle.il_parse.specs.Parts.{SpellsSmallConfig};
 
 mod bodies;
@@ -48,6 +48,9 @@ pub fn parse(alloc: Global, text: &[u8], tokens: &[Token]) -> Result<Written, Re
     // What is spelled within the limits is read, unless memory runs out.
     ensures refused { IsFault result → (c : Config)
         → AfterLines (SpellsConfig text.now c) tokens.now [] → IsSmall c → ⊥ }
+
+    // With the token that a fault names, no text goes on.
+    ensures nowhere { IfErr result (λ e. GoesOnNowhere text.now tokens.now e) }
 
     // What is refused is 10, what no text goes on with, 11, too many open parentheses, or 12, too many units or instructions.
     ensures number { IfErr result (λ e. IsOfParser e) }

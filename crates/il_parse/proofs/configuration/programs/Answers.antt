@@ -1,7 +1,7 @@
 use Rattle.std.proofs.Common.{refl}
 use Rattle.il_spec.specs.declared.keyword.Keyword.TheVariants as word
 use Rattle.il_spec.specs.Grammar.{TheWord}
-use Rattle.il_read.proofs.Chain.{up, goes_on, item_refused, ended}
+use Rattle.il_read.proofs.Chain.{starts, up, goes_on, item_refused, ended}
 use Rattle.il_parse.proofs.Missing.{it_stands, it_is_missing}
 use Rattle.il_grammar_laws.proofs.Local.{program_line_local, loosely_local}
 use Rattle.il_parse.proofs.Parts.{no_word_told}
@@ -22,3 +22,6 @@ pub returns-clause-reads : goal.returns-clause-reads
 returns-clause-reads c =
     let missing = it_is_missing (TheWord c.args.source.now word.Program) c.programs.tokens _ c.word_stands.ensures.stands c.programs-test.false in
     ended _ _ _ _ _ _ _ c.programs.invariant (refl, missing)
+
+pub programs-init : goal.programs-init
+programs-init c = rw c.new-programs.ensures (starts _ _ _ _)

@@ -1,5 +1,6 @@
+use Rattle.il_spec.specs.Grammar.{loose}
 use Rattle.il_spec.specs.declared.token.Sign.TheVariants.{Colon}
-use Rattle.il_read.proofs.Chain.{behind, up}
+use Rattle.il_read.proofs.Chain.{first_missing, behind, up}
 use Rattle.il_parse.specs.Headings.{PlacedScalar}
 use Rattle.il_grammar_laws.proofs.Local.{sign_local}
 use Rattle.il_grammar_laws.proofs.Alike.{loose_gap}
@@ -10,3 +11,7 @@ pub returns-in_err-placed_scalar-clause-refused : goal.returns-in_err-placed_sca
 returns-in_err-placed_scalar-clause-refused c =
     up _ c.from_residual-in_err-placed_scalar.ensures.1
     (after_refused (behind loose_gap (λ text x. PlacedScalar text x) (sign_local Colon) (rw c.skip_lines.ensures.rest at c.in_ok-sign.ensures.reads) (rw c.skip_lines-2.ensures.rest at c.in_err-placed_scalar.ensures.refused)))
+
+pub returns-in_err-sign-clause-refused : goal.returns-in_err-sign-clause-refused
+returns-in_err-sign-clause-refused c =
+    up _ c.from_residual.ensures.1 (after_refused (first_missing loose (λ text x. PlacedScalar text x) (rw c.skip_lines.ensures.rest at c.in_err-sign.ensures.refused)))

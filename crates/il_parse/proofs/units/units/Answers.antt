@@ -1,9 +1,11 @@
 use Rattle.il_spec.specs.declared.keyword.Keyword.TheVariants as word
 use Rattle.il_spec.specs.Grammar.{TheWord}
-use Rattle.il_read.proofs.Chain.{up, goes_on, item_refused, ended, was_there, was_missing, too_many, within_refused, within_read}
+use Rattle.il_read.proofs.Chain.{starts, up, goes_on, item_refused, ended, was_there, was_missing, too_many, within_refused, within_read}
 use Rattle.il_parse.proofs.Parts.{few_more}
 use Rattle.il_grammar_laws.proofs.Local.{word_told}
 use Rattle.il_parse.proofs.OneUnit.{small_unit_local}
+use Rattle.il_parse.specs.Parts.{SpellsUnits}
+use Rattle.std.proofs.Common.{arith}
 use Rattle.il_parse.proofs.units.units.Goals as goal
 
 pub returns-then-is_full-clause-refused : goal.returns-then-is_full-clause-refused
@@ -27,4 +29,7 @@ units-preserved c =
 
 pub returns-clause-reads : goal.returns-clause-reads
 returns-clause-reads c =
-    within_read _ 64 c.units.invariant.0 (ended _ _ _ _ _ _ _ c.units.invariant.1 (was_there (TheWord c.args.source.now word.Configuration) c.units.tokens _ c.eat_word.new.tokens c.eat_word.ensures.eaten c.units-test.false))
+    within_read SpellsUnits {text = c.args.source.now} 64 c.units.invariant.0 (ended _ _ _ _ _ _ _ c.units.invariant.1 (was_there (TheWord c.args.source.now word.Configuration) c.units.tokens _ c.eat_word.new.tokens c.eat_word.ensures.eaten c.units-test.false))
+
+pub units-init : goal.units-init
+units-init c = rw c.new-units.ensures (omega arith, starts _ _ _ _)

@@ -1,6 +1,6 @@
 use Rattle.il_spec.specs.declared.keyword.Keyword.TheVariants as word
 use Rattle.il_spec.specs.Grammar.{TheWord}
-use Rattle.il_read.proofs.Chain.{up, goes_on, item_refused, ended, was_there, was_missing}
+use Rattle.il_read.proofs.Chain.{starts, up, goes_on, item_refused, ended, was_there, was_missing}
 use Rattle.il_grammar_laws.proofs.Local.{external_local, loosely_local, word_told}
 use Rattle.il_parse.proofs.variables.externals_inside.Goals as goal
 
@@ -18,3 +18,6 @@ externals-preserved c =
 pub returns-clause-reads : goal.returns-clause-reads
 returns-clause-reads c =
     ended _ _ _ _ _ _ _ c.externals.invariant (was_there (TheWord c.args.source.now word.EndVar) c.externals.tokens _ c.eat_word.new.tokens c.eat_word.ensures.eaten c.externals-test.false)
+
+pub externals-init : goal.externals-init
+externals-init c = rw c.new-externals.ensures (starts _ _ _ _)

@@ -1,6 +1,6 @@
 use Rattle.il_spec.specs.declared.keyword.Keyword.TheVariants as word
 use Rattle.il_spec.specs.Grammar.{TheWord}
-use Rattle.il_parse.proofs.Missing.{empty_refused, full_refused, it_stands}
+use Rattle.il_parse.proofs.Missing.{no_full, empty_refused, full_refused, it_stands}
 use Rattle.il_parse.proofs.Ahead.{up_ahead}
 use Rattle.il_parse.proofs.variables.full_list.Goals as goal
 
@@ -14,3 +14,6 @@ pub returns-in_err-declarations-clause-refused : goal.returns-in_err-declaration
 returns-in_err-declarations-clause-refused c =
     up_ahead _ c.from_residual-in_err-declarations.ensures.1
     (full_refused c.args.source.now _ _ _ _ (rw c.skip_lines.ensures.rest at c.in_ok-word.ensures.reads) (rw c.skip_lines-2.ensures.rest at c.in_err-declarations.ensures.refused))
+
+pub returns-in_err-word-clause-refused : goal.returns-in_err-word-clause-refused
+returns-in_err-word-clause-refused c = up_ahead _ c.from_residual.ensures.1 (no_full c.args.source.now _ _ _ (rw c.skip_lines.ensures.rest at c.in_err-word.ensures.refused))
