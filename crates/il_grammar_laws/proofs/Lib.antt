@@ -1,5 +1,6 @@
 pub mod Combinators
 pub mod Alike
+pub mod Bytes
 pub mod Leads
 pub mod Types
 pub mod Operands

@@ -1,11 +1,12 @@
 -- Which answer refuses a text, and the limits of a tree.
-use Rattle.std.specs.Prelude.{◌≡◌, ◌≤◌, ℕ, List, [], ◌∷◌, Result, Ok, Err, length, ⊤}
+use Rattle.std.specs.Prelude.{◌≡◌, ◌≤◌, ℕ, List, [], ◌∷◌, ◌++◌, take, Result, Ok, Err, length, ⊤}
 use Rattle.il_spec.specs.declared.fault.Refusal.{Refusal}
 use Rattle.il_spec.specs.declared.fault.Refusal.TheVariants as refusal
 use Rattle.il_spec.specs.declared.tree.Config.{Config}
 use Rattle.il_rules.specs.Written.{HasFewInstructions, IsNested}
 use Rattle.il_spec.specs.declared.token.Token.{Token}
 use Rattle.il_spec.specs.declared.tree.Place.{Place}
+use Rattle.il_spec.specs.Text.{AreTokens}
 use Rattle.il_spec.specs.Grammar.{AfterLines, SpellsConfig}
 use Rattle.il_grammar_laws.specs.Alike.{IsEndOf, AreAlike}
 use Rattle.il_read.specs.declared.stop.SyntaxError.{SyntaxError}
@@ -41,3 +42,12 @@ GoesOnNowhere text tokens (refusal.Fault number place) =
     (error : SyntaxError) × (at : List Token) × (number ≡ number_of error) × IsEndOf at tokens × IsPlaceAt place at
     × ((other : List ℕ) (others : List Token) → AreAlike text other (turn error text at) tokens others → (c : Config) → AfterLines (SpellsConfig other c) others [] → IsSmall c → ⊥)
 GoesOnNowhere text tokens refusal.Memory = ⊤
+
+-- The same, by the bytes: with the token that the fault names no text goes on that has the same bytes up to its end, and the same tokens.
+abbrev pub NoTextGoesOn : List ℕ → List Token → Refusal → Type 0
+NoTextGoesOn text tokens (refusal.Fault number place) =
+    (error : SyntaxError) × (at : List Token) × (number ≡ number_of error) × IsEndOf at tokens × IsPlaceAt place at
+    × ((front : List Token) (t : Token) (rest : List Token) → tokens ≡ front ++ t ∷ rest → turn error text at ≡ t ∷ rest
+    → (other : List ℕ) → take t.end text ≡ take t.end other → (others : List Token) → AreTokens other 0 (front ++ t ∷ others)
+    → (c : Config) → AfterLines (SpellsConfig other c) (front ++ t ∷ others) [] → IsSmall c → ⊥)
+NoTextGoesOn text tokens refusal.Memory = ⊤

@@ -6,7 +6,7 @@ ghost use Rattle.il_spec.specs.Text.{AreTokens, upper_case};
 ghost use Rattle.il_spec.specs.Grammar.{AfterLines, SpellsConfig, Spells, IsWithinLimits};
 ghost use Rattle.il_spec.specs.declared.tree.Config.{Config};
 ghost use Rattle.il_read.specs.Reads.{Reads, Refuses};
-ghost use Rattle.il_parse.specs.Refused.{IsFault, IsOfParser, IsSmall, GoesOnNowhere};
+ghost use Rattle.il_parse.specs.Refused.{IsFault, IsOfParser, IsSmall, GoesOnNowhere, NoTextGoesOn};
 ghost use Rattle.il_parse.specs.Parts.{SpellsSmallConfig};
 
 mod bodies;
@@ -51,6 +51,7 @@ pub fn parse(alloc: Global, text: &[u8], tokens: &[Token]) -> Result<Written, Re
 
     // With the token that a fault names, no text goes on.
     ensures nowhere { IfErr result (λ e. GoesOnNowhere text.now tokens.now e) }
+    ensures texts { IfErr result (λ e. NoTextGoesOn text.now tokens.now e) }
 
     // What is refused is 10, what no text goes on with, 11, too many open parentheses, or 12, too many units or instructions.
     ensures number { IfErr result (λ e. IsOfParser e) }

@@ -1,6 +1,7 @@
-use Rattle.std.proofs.Common.{[], sym, ◌∙◌, ap, subst}
+use Rattle.std.proofs.Common.{[], ◌∷◌, ◌++◌, sym, ◌∙◌, ap, subst}
 use Rattle.il_read.specs.Reads.{number_of}
 use Rattle.il_parse.specs.Refused.{IsPlaceAt}
+use Rattle.il_grammar_laws.proofs.Bytes.{texts_alike}
 use Rattle.il_parse.proofs.Turn.{fault_parts}
 use Rattle.il_grammar_laws.proofs.Configurations.{config_one}
 use Rattle.il_grammar_laws.proofs.Spelled.{spelled_written}
@@ -40,4 +41,16 @@ returns-in-Err-Fault-clause-nowhere c =
       bad.3,
       subst (λ x. IsPlaceAt x bad.1) (sym c.unwrap_or.ensures) parts.1,
       λ other others a d w small. bad.4.never other others a d [] (w, small),
+    )
+
+pub returns-in-Err-Fault-clause-texts : goal.returns-in-Err-Fault-clause-texts
+returns-in-Err-Fault-clause-texts c =
+    let bad = (rw c.in-Err-Fault.field-0-is at c.in-Err-Fault.ensures.refused).fault tt in
+    let parts = fault_parts c.in-Err-Fault.error bad.0 c.in-Err-Fault.place bad.1 bad.2 c.end_of.result in (
+      bad.0,
+      bad.1,
+      c.number.ensures ∙ ap number_of parts.0,
+      bad.3,
+      subst (λ x. IsPlaceAt x bad.1) (sym c.unwrap_or.ensures) parts.1,
+      λ front t rest split here other same others cut d w small. bad.4.never other (front ++ t ∷ others) (texts_alike c.args.text.now other c.args.tokens.now _ front t rest others c.requires split here same) d [] (w, small),
     )
