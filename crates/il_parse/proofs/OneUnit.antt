@@ -101,7 +101,6 @@ module _ (text : List ℕ) where
         );
       }
 
-
   -- a function block is its parts
   block_parts : (k : UnitKind) (p : Place) (n : Named) (ins outs vs es : List Declaration) (b : Body) (ts r : List Token)
       → SpellsUnitOf text word.FunctionBlock (record { place = p; kind = k; name = n; inputs = ins; outputs = outs; variables = vs; externals = es; body = b }) ts r → SpellsBlock text (p, n, (ins, outs, vs, b)) ts r
@@ -139,7 +138,6 @@ module _ (text : List ℕ) where
           ),
         );
       }
-
 
   -- a function is its parts
   function_parts : (k : UnitKind) (p : Place) (n : Named) (ins outs vs es : List Declaration) (b : Body) (ts r : List Token)
@@ -188,7 +186,6 @@ module _ (text : List ℕ) where
         );
       }
 
-
   -- a unit of a kind is a unit
   pub unit_read : (k : Keyword) (ts r : List Token) (u : ProgramUnit) → Reads (SpellsUnitOf text k) ts u r → Reads (SpellsSmallUnit text) ts u r
   unit_read k ts r u here = record { found = here.found.1 }
@@ -200,7 +197,6 @@ module _ (text : List ℕ) where
       let b = unit_lead text u ts r w.0 in
       cc
 
-
   -- a unit begins with a word that stands there
   begins : (u : ProgramUnit) (ts r : List Token) → SpellsSmallUnit text u ts r → (m : List Token) × TheWord text (unit_word u.kind) ts m
   begins u ts r w = (w.0.1.0, at_holds text (TheWord text (unit_word u.kind)) u.place ts w.0.1.0 w.0.1.1)
@@ -211,7 +207,6 @@ module _ (text : List ℕ) where
   is_other unit.Program ts p b m w = absurd (p m w)
   is_other unit.FunctionBlock ts p b m w = absurd (b m w)
   is_other (unit.Function s q) ts p b m w = refl
-
 
   -- a unit within the limits is one
   pub small_unit_one : IsDeterministic (SpellsSmallUnit text)

@@ -120,7 +120,6 @@ module _ (text : List ℕ) where
   pub globals_read : (ts r : List Token) (p : Place) (ds : List Declaration) → Reads (SpellsGlobalList text) ts (p, ds) r → Reads (SpellsSomeGlobals text) ts (Some p, ds) r
   globals_read ts r p ds here = record { found = list_placed p (Repeats (SpellsDeclaration text) ds (TheWord text word.EndVar)) (skip_line_ends ts) r here.found }
 
-
   -- what the program lines begin with is no TASK
   program_no_task : (ls : List ProgramLine) (p : Place) (ts r s : List Token) → Repeats (SpellsProgramLine text) ls (At p (TheWord text word.EndResource)) ts r → TheWord text word.Task ts s → ⊥
   program_no_task [] p ts r s w t =
@@ -214,7 +213,6 @@ module _ (text : List ℕ) where
   to_whole c ts r w small =
       let split = end_apart (SpellsUnit text) (TheWord text word.Configuration) (Behind c) c.units ts r w in
       (split.0, (to_small (TheWord text word.Configuration) c.units ts split.0 small.instructions small.nesting split.1, small.units), to_group c (skip_line_ends split.0) r split.2)
-
 
   pub config_read : (ts r : List Token) (us : List ProgramUnit) (g : Group) → Reads SpellsWhole (skip_line_ends ts) (us, g) r → Reads (SpellsSmallConfig text) ts (config us g) r
   config_read ts r us g here =
