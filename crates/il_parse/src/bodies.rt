@@ -204,7 +204,8 @@ fn outer(
     requires { IsLast last }
     ensures reads { IfOk result (λ x. Reads (SpellsNext source.now last 0 load full) tokens.old x
         tokens.new) }
-    ensures refused { IfErr result (λ e. Refuses (λ text. SpellsNext text last 0 load full) source.now tokens.old e) }
+    ensures refused { IfErr result (λ e. Refuses
+        (λ text. SpellsNext text last 0 load full) source.now tokens.old e) }
     ensures shorter { IfOk result (λ x. Shortens tokens.old x tokens.new) }
 {
     let (labels, alone) = labels(source, tokens)?;
@@ -234,7 +235,8 @@ fn next_entry(
     requires last { IsLast last }
     ensures reads { IfOk result (λ x. Reads (SpellsNext source.now last depth load full)
         tokens.old x tokens.new) }
-    ensures refused { IfErr result (λ e. Refuses (λ text. SpellsNext text last depth load full) source.now tokens.old e) }
+    ensures refused { IfErr result (λ e. Refuses
+        (λ text. SpellsNext text last depth load full) source.now tokens.old e) }
     ensures shorter { IfOk result (λ x. Shortens tokens.old x tokens.new) }
 {
     if depth == 0 {
@@ -283,7 +285,8 @@ fn is_full(steps: &Items<Step>) -> bool
 fn steps(source: &Source, tokens: &mut Tokens, last: Keyword) -> Result<Body, Stop>
     requires { IsLast last }
     ensures reads { IfOk result (λ b. Reads (SpellsSteps source.now last) tokens.old b tokens.new) }
-    ensures refused { IfErr result (λ e. Refuses (λ text. SpellsSteps text last) source.now tokens.old e) }
+    ensures refused { IfErr result (λ e. Refuses
+        (λ text. SpellsSteps text last) source.now tokens.old e) }
 {
     let mut steps = Items::new(source.alloc());
     let mut depth = 0;
@@ -313,7 +316,8 @@ pub fn body(source: &Source, tokens: &mut Tokens, last: Keyword) -> Result<Body,
     requires { IsLast last }
     ensures reads { IfOk result (λ b. Reads (SpellsSmallBody source.now last) tokens.old b
         tokens.new) }
-    ensures refused { IfErr result (λ e. RefusesAhead (λ text. SpellsSmallBody text last) source.now tokens.old e) }
+    ensures refused { IfErr result (λ e. RefusesAhead
+        (λ text. SpellsSmallBody text last) source.now tokens.old e) }
 {
     source.line_end(tokens)?;
     tokens.skip_lines();

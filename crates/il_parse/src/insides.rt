@@ -61,7 +61,8 @@ pub fn function_inside(
 ) -> Result<(Items<Declaration>, Items<Declaration>, Body), Stop>
     ensures reads { IfOk result (λ x. Reads (SpellsFunctionInside source.now) tokens.old x
         tokens.new) }
-    ensures refused { IfErr result (λ e. RefusesAhead SpellsFunctionInside source.now tokens.old e) }
+    ensures refused { IfErr result (λ e. RefusesAhead
+        SpellsFunctionInside source.now tokens.old e) }
 {
     let inputs = full_list(source, tokens, Keyword::VarInput)?;
     no_list(source, tokens, Keyword::VarOutput)?;

@@ -27,7 +27,8 @@ pub fn comes(source: &Source, tokens: &Tokens, keyword: Keyword) -> bool
 pub fn no_list(source: &Source, tokens: &Tokens, keyword: Keyword) -> Result<(), Stop>
     ensures reads { IfOk result (λ _. Stands (No (AfterLines (TheWord source.now keyword)))
         tokens.now tokens.now) }
-    ensures refused { IfErr result (λ e. MissesAhead (λ text. No (AfterLines (TheWord text keyword)))
+    ensures refused { IfErr result (λ e. MissesAhead
+        (λ text. No (AfterLines (TheWord text keyword)))
         source.now tokens.now e) }
 {
     if comes(source, tokens, keyword) {
@@ -59,7 +60,8 @@ pub fn full_list(
 ) -> Result<Items<Declaration>, Stop>
     ensures reads { IfOk result (λ ds. Reads (SpellsFull source.now keyword) tokens.old ds
         tokens.new) }
-    ensures refused { IfErr result (λ e. RefusesAhead (λ text. SpellsFull text keyword) source.now tokens.old e) }
+    ensures refused { IfErr result (λ e. RefusesAhead
+        (λ text. SpellsFull text keyword) source.now tokens.old e) }
 {
     tokens.skip_lines();
     source.word(tokens, keyword)?;
@@ -78,7 +80,8 @@ pub fn filled_list(
 ) -> Result<Items<Declaration>, Stop>
     ensures reads { IfOk result (λ ds. Reads (SpellsFilledList source.now keyword) tokens.old ds
         tokens.new) }
-    ensures refused { IfErr result (λ e. RefusesAhead (λ text. SpellsFilledList text keyword) source.now tokens.old e) }
+    ensures refused { IfErr result (λ e. RefusesAhead
+        (λ text. SpellsFilledList text keyword) source.now tokens.old e) }
 {
     if !comes(source, tokens, keyword) {
         return Ok(Items::new(source.alloc()));
@@ -96,7 +99,8 @@ pub fn optional_list(
         (SpellsOptionalList source.now keyword (SpellsDeclaration source.now)) tokens.old ds
         tokens.new) }
     ensures refused { IfErr result (λ e. RefusesAhead
-        (λ text. SpellsOptionalList text keyword (SpellsDeclaration text)) source.now tokens.old e) }
+        (λ text. SpellsOptionalList text keyword (SpellsDeclaration text))
+        source.now tokens.old e) }
 {
     if !comes(source, tokens, keyword) {
         return Ok(Items::new(source.alloc()));
@@ -161,7 +165,8 @@ pub fn externals(source: &Source, tokens: &mut Tokens) -> Result<Items<Declarati
         (SpellsOptionalList source.now word.VarExternal (SpellsExternal source.now)) tokens.old ds
         tokens.new) }
     ensures refused { IfErr result (λ e. RefusesAhead
-        (λ text. SpellsOptionalList text word.VarExternal (SpellsExternal text)) source.now tokens.old e) }
+        (λ text. SpellsOptionalList text word.VarExternal (SpellsExternal text))
+        source.now tokens.old e) }
 {
     if !comes(source, tokens, Keyword::VarExternal) {
         return Ok(Items::new(source.alloc()));

@@ -85,7 +85,8 @@ impl<'t> Source<'t> {
     pub fn plain_word(&self, tokens: &mut Tokens, word: &str) -> Result<(), Stop>
         ensures reads { IfOk result (λ u. Stands (TheText self.now word.now) tokens.old
             tokens.new) }
-        ensures refused { IfErr result (λ e. Misses (λ text. TheText text word.now) self.now tokens.old e) }
+        ensures refused { IfErr result (λ e. Misses
+            (λ text. TheText text word.now) self.now tokens.old e) }
         ensures shorter { IfOk result (λ _. length tokens.new < length tokens.old) }
     {
         let Some(token) = tokens.first() else {
@@ -166,7 +167,8 @@ impl<'t> Source<'t> {
     pub fn size(&self, tokens: &mut Tokens, word: &str) -> Result<Size, Stop>
         ensures reads { IfOk result (λ s. Reads (SpellsSize self.now word.now) tokens.old s
             tokens.new) }
-        ensures refused { IfErr result (λ e. Refuses (λ text. SpellsSize text word.now) self.now tokens.old e) }
+        ensures refused { IfErr result (λ e. Refuses
+            (λ text. SpellsSize text word.now) self.now tokens.old e) }
         ensures shorter { IfOk result (λ _. length tokens.new < length tokens.old) }
     {
         self.plain_word(tokens, word)?;
@@ -227,7 +229,8 @@ impl<'t> Source<'t> {
     pub fn placed_word(&self, tokens: &mut Tokens, keyword: Keyword) -> Result<Place, Stop>
         ensures reads { IfOk result (λ p. Reads (PlacedWord self.now keyword) tokens.old p
             tokens.new) }
-        ensures refused { IfErr result (λ e. Refuses (λ text. PlacedWord text keyword) self.now tokens.old e) }
+        ensures refused { IfErr result (λ e. Refuses
+            (λ text. PlacedWord text keyword) self.now tokens.old e) }
         ensures shorter { IfOk result (λ _. length tokens.new < length tokens.old) }
     {
         let Some(place) = tokens.place() else {
