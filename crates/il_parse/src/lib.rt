@@ -34,7 +34,7 @@ pub use variables::{comes, externals, filled_list, full_list, no_list, optional_
 ///
 /// Fault 10 stands at the first token with which no text goes on; at the end of the text its line is one more than the line
 /// feeds. Fault 11 stands at the 17th parenthesis that is open at once, and fault 12 at the 65th unit and at the operator of a
-/// unit's 4097th instruction.
+/// unit's 4097th instruction. That no text goes on with it is proved, that one goes on with the token before it is only tested.
 pub fn parse(alloc: Global, text: &[u8], tokens: &[Token]) -> Result<Written, Refusal>
     requires { AreTokens text.now 0 tokens.now }
     // What is read is spelled so.
