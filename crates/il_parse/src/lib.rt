@@ -1,7 +1,7 @@
 //! Parser: the tree that the tokens of a text spell.
 #![tactic(auto)]
 
-ghost use Rattle.std.specs.Prelude.{◌≡◌, ◌≤◌, length, IfOk, IfErr, []};
+ghost use Rattle.std.specs.Prelude.{◌≡◌, ◌<◌, ◌≤◌, length, IfOk, IfErr, []};
 ghost use Rattle.il_spec.specs.Text.{AreTokens, upper_case};
 ghost use Rattle.il_spec.specs.Grammar.{AfterLines, SpellsConfig, Spells, IsWithinLimits};
 ghost use Rattle.il_spec.specs.declared.tree.Config.{Config};
@@ -93,7 +93,9 @@ fn in_upper_case(alloc: Global, text: &[u8]) -> Result<Vec<u8>, AllocError>
 }
 
 // The place of the end of a text. Its line is one more than the line feeds.
-fn end_of(text: &[u8]) -> Place {
+fn end_of(text: &[u8]) -> Place
+    ensures { length text.now < 4294967296 → result.offset ≡ length text.now }
+{
     let feeds = text.iter().filter(|byte| **byte == b'\n').count();
     Place {
         offset: as_u32(text.len()),
@@ -102,6 +104,8 @@ fn end_of(text: &[u8]) -> Place {
 }
 
 // A count of bytes of a text, which has fewer than 2^32.
-fn as_u32(count: usize) -> u32 {
+fn as_u32(count: usize) -> u32
+    ensures { count < 4294967296 → result ≡ count }
+{
     u32::try_from(count).unwrap_or(u32::MAX)
 }

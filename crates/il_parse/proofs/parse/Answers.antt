@@ -34,23 +34,23 @@ of-requires-clause-nested c = c.in-Ok.ensures.reads.found.1.nesting
 pub returns-in-Err-Fault-clause-nowhere : goal.returns-in-Err-Fault-clause-nowhere
 returns-in-Err-Fault-clause-nowhere c =
     let bad = (rw c.in-Err-Fault.field-0-is at c.in-Err-Fault.ensures.refused).fault tt in
-    let parts = fault_parts c.in-Err-Fault.error bad.0 c.in-Err-Fault.place bad.1 bad.2 c.end_of.result in (
+    let parts = fault_parts c.in-Err-Fault.error bad.0 c.in-Err-Fault.place bad.1 bad.2 c.args.text.now c.end_of.result c.end_of.ensures in (
       bad.0,
       bad.1,
       c.number.ensures ∙ ap number_of parts.0,
       bad.3,
-      subst (λ x. IsPlaceAt x bad.1) (sym c.unwrap_or.ensures) parts.1,
+      subst (λ x. IsPlaceAt c.args.text.now x bad.1) (sym c.unwrap_or.ensures) parts.1,
       λ other others a d w small. bad.4.never other others a d [] (w, small),
     )
 
 pub returns-in-Err-Fault-clause-texts : goal.returns-in-Err-Fault-clause-texts
 returns-in-Err-Fault-clause-texts c =
     let bad = (rw c.in-Err-Fault.field-0-is at c.in-Err-Fault.ensures.refused).fault tt in
-    let parts = fault_parts c.in-Err-Fault.error bad.0 c.in-Err-Fault.place bad.1 bad.2 c.end_of.result in (
+    let parts = fault_parts c.in-Err-Fault.error bad.0 c.in-Err-Fault.place bad.1 bad.2 c.args.text.now c.end_of.result c.end_of.ensures in (
       bad.0,
       bad.1,
       c.number.ensures ∙ ap number_of parts.0,
       bad.3,
-      subst (λ x. IsPlaceAt x bad.1) (sym c.unwrap_or.ensures) parts.1,
+      subst (λ x. IsPlaceAt c.args.text.now x bad.1) (sym c.unwrap_or.ensures) parts.1,
       λ front t rest split here other same others cut d w small. bad.4.never other (front ++ t ∷ others) (texts_alike c.args.text.now other c.args.tokens.now _ front t rest others c.requires split here same) d [] (w, small),
     )
