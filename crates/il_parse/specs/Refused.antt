@@ -6,7 +6,7 @@ use Rattle.il_spec.specs.declared.tree.Config.{Config}
 use Rattle.il_rules.specs.Written.{HasFewInstructions, IsNested}
 use Rattle.il_spec.specs.declared.token.Token.{Token}
 use Rattle.il_spec.specs.declared.tree.Place.{Place}
-use Rattle.il_spec.specs.Text.{AreTokens}
+use Rattle.il_spec.specs.Text.{AreTokens, line_at}
 use Rattle.il_spec.specs.Grammar.{AfterLines, SpellsConfig}
 use Rattle.il_grammar_laws.specs.Alike.{IsEndOf, AreAlike}
 use Rattle.il_read.specs.declared.stop.SyntaxError.{SyntaxError}
@@ -29,9 +29,9 @@ pub record IsSmall (c : Config) : Type 0 where
   pub instructions : HasFewInstructions c
   pub nesting : IsNested c
 
--- the place of the first of these tokens of a text, or of its end
+-- the place of the first of these tokens of a text, or of its end, where a place can name it
 abbrev pub IsPlaceAt : List ℕ → Place → List Token → Type 0
-IsPlaceAt text place [] = length text < 4294967296 → place.offset ≡ length text
+IsPlaceAt text place [] = length text < 4294967295 → (place.offset ≡ length text) × (place.line ≡ line_at text (length text))
 IsPlaceAt text place (t ∷ ts) = (place.offset ≡ t.start) × (place.line ≡ t.line)
 
 -- A fault names the first of the tokens `at`, or where there is none the end of the text. With it no text goes on: whatever text

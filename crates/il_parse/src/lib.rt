@@ -2,7 +2,7 @@
 #![tactic(auto)]
 
 ghost use Rattle.std.specs.Prelude.{◌≡◌, ◌<◌, ◌≤◌, length, IfOk, IfErr, []};
-ghost use Rattle.il_spec.specs.Text.{AreTokens, upper_case};
+ghost use Rattle.il_spec.specs.Text.{AreTokens, upper_case, line_at};
 ghost use Rattle.il_spec.specs.Grammar.{AfterLines, SpellsConfig, Spells, IsWithinLimits};
 ghost use Rattle.il_spec.specs.declared.tree.Config.{Config};
 ghost use Rattle.il_read.specs.Reads.{Reads, Refuses};
@@ -94,7 +94,9 @@ fn in_upper_case(alloc: Global, text: &[u8]) -> Result<Vec<u8>, AllocError>
 
 // The place of the end of a text. Its line is one more than the line feeds.
 fn end_of(text: &[u8]) -> Place
-    ensures { length text.now < 4294967296 → result.offset ≡ length text.now }
+    ensures offset { length text.now < 4294967295 → result.offset ≡ length text.now }
+    ensures line { length text.now < 4294967295
+        → result.line ≡ line_at text.now (length text.now) }
 {
     let feeds = text.iter().filter(|byte| **byte == b'\n').count();
     Place {

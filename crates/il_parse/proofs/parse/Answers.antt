@@ -34,7 +34,7 @@ of-requires-clause-nested c = c.in-Ok.ensures.reads.found.1.nesting
 pub returns-in-Err-Fault-clause-nowhere : goal.returns-in-Err-Fault-clause-nowhere
 returns-in-Err-Fault-clause-nowhere c =
     let bad = (rw c.in-Err-Fault.field-0-is at c.in-Err-Fault.ensures.refused).fault tt in
-    let parts = fault_parts c.in-Err-Fault.error bad.0 c.in-Err-Fault.place bad.1 bad.2 c.args.text.now c.end_of.result c.end_of.ensures in (
+    let parts = fault_parts c.in-Err-Fault.error bad.0 c.in-Err-Fault.place bad.1 bad.2 c.args.text.now c.end_of.result c.end_of.ensures.offset c.end_of.ensures.line in (
       bad.0,
       bad.1,
       c.number.ensures ∙ ap number_of parts.0,
@@ -46,7 +46,7 @@ returns-in-Err-Fault-clause-nowhere c =
 pub returns-in-Err-Fault-clause-texts : goal.returns-in-Err-Fault-clause-texts
 returns-in-Err-Fault-clause-texts c =
     let bad = (rw c.in-Err-Fault.field-0-is at c.in-Err-Fault.ensures.refused).fault tt in
-    let parts = fault_parts c.in-Err-Fault.error bad.0 c.in-Err-Fault.place bad.1 bad.2 c.args.text.now c.end_of.result c.end_of.ensures in (
+    let parts = fault_parts c.in-Err-Fault.error bad.0 c.in-Err-Fault.place bad.1 bad.2 c.args.text.now c.end_of.result c.end_of.ensures.offset c.end_of.ensures.line in (
       bad.0,
       bad.1,
       c.number.ensures ∙ ap number_of parts.0,
