@@ -1,4 +1,6 @@
 pub mod Combinators
+pub mod Alike
+pub mod Bytes
 pub mod Leads
 pub mod Types
 pub mod Operands
@@ -7,6 +9,7 @@ pub mod Instructions
 pub mod Bodies
 pub mod Units
 pub mod Configurations
+pub mod Local
 pub mod Walk
 pub mod Words
 pub mod Shown

@@ -1,5 +1,5 @@
 -- What comes next in a body.
-use Rattle.std.proofs.Common.{◌≡◌, ℕ, zero, suc, ◌+◌, ◌<◌, ◌≤◌, Bool, true, false, not, ◌&&◌, List, [], ◌∷◌, ◌++◌, length, length-append, append-nil, refl, sym, ◌∙◌, ap, inl, inr, Option, Some, None, arith}
+use Rattle.std.proofs.Common.{◌≡◌, ℕ, zero, suc, ◌+◌, ◌<◌, ◌≤◌, Bool, true, false, not, ◌&&◌, List, [], ◌∷◌, ◌++◌, drop, length, length-append, subst, append-nil, refl, sym, ◌∙◌, ap, inl, inr, Option, Some, None, arith}
 use Rattle.std.proofs.lemmas.Bool.{cases_lt}
 use Rattle.std.proofs.lemmas.Bool.Decides.{nat_tests}
 use Rattle.std.specs.Prelude.{IsTrue, IsFalse, ◌==◌, max}
@@ -19,17 +19,26 @@ use Rattle.il_spec.specs.declared.tree.Body.{Body}
 use Rattle.il_spec.specs.Grammar.{Front, At, skip_line_ends, Repeats, TheWord, SpellsOperator, SpellsShortly, SpellsAmpersand, SpellsInstruction, SpellsLabelled, SpellsStep, SpellsLabelLine, may_stand, closes, leaves, is_load, depth_after, needs_load, is_nested, greatest_depth}
 use Rattle.il_grammar_laws.proofs.Leads.{at_holds, reserved}
 use Rattle.il_grammar_laws.proofs.Instructions.{sort_at, none}
-use Rattle.il_grammar_laws.proofs.Bodies.{step_one, step_no_end}
+use Rattle.il_grammar_laws.proofs.Bodies.{step_no_end}
 use Rattle.il_read.specs.Lead.{lead_at}
-use Rattle.il_read.specs.Reads.{IsFault, Reads, Refuses, HasRoom, IsPlaceOf, SpellsRoomy}
+use Rattle.std.specs.Prelude.{◌⊎◌}
+use Rattle.il_spec.specs.declared.token.Kind.TheVariants as kind
+use Rattle.il_spec.specs.Text.{name_of}
+use Rattle.il_grammar_laws.specs.Alike.{IsEndOf, AreAlike}
+use Rattle.il_grammar_laws.proofs.Alike.{end_self, end_length, end_of_end}
+use Rattle.il_grammar_laws.proofs.Local.{step_local, loosely_local}
+use Rattle.il_read.specs.declared.stop.SyntaxError.{SyntaxError}
+use Rattle.il_read.specs.declared.stop.SyntaxError.TheVariants.{Unexpected, TooMany}
+use Rattle.il_read.specs.Reads.{IsFault, Reads, GoesOnNoMore, Refuses, turn, past_name, fault_at, HasRoom, IsPlaceOf, SpellsRoomy}
 use Rattle.il_read.specs.declared.lead.Lead.{Lead}
 use Rattle.il_read.specs.declared.lead.Lead.TheVariants as lead
 use Rattle.il_read.specs.declared.stop.Stop.{Stop}
-use Rattle.il_read.proofs.Leaves.{word_lead, sign_lead, the_name_lead}
-use Rattle.il_read.proofs.Chain.{HasRead, goes_on, ended}
+use Rattle.il_read.proofs.Leaves.{word_lead, word_there, sign_lead, name_there, the_name_lead, lead_alike}
+use Rattle.il_read.proofs.Chain.{HasRead, lift, ended}
+use Rattle.il_parse.proofs.Ahead.{goes_on_apart}
 use Rattle.il_read.specs.Settings.{TakesWord}
 use Rattle.il_read.proofs.Nesting.{IsOpen, one_open, closed}
-use Rattle.il_parse.specs.Bodies.{closes_lead, leaves_lead, ends_lead, loads_lead, may_begin, bare, SpellsPlaced, HasLabels, TakesEnd, SpellsNext, IsLast, SpellsSteps}
+use Rattle.il_parse.specs.Bodies.{closes_lead, leaves_lead, ends_lead, loads_lead, may_begin, bare, SpellsPlaced, RefusesPlaced, HasLabels, TakesEnd, SpellsNext, IsLast, SpellsSteps}
 use Rattle.il_parse.specs.declared.bodies.Entry.{Entry}
 use Rattle.il_parse.specs.declared.bodies.Entry.TheVariants as entry
 
@@ -65,6 +74,10 @@ zero_is : (d : ℕ) → (d == 0) ≡ true → d ≡ 0
 zero_is zero e = refl
 zero_is (suc d) e = let bad : false ≡ true = sym (not_zero d) ∙ e in absurd cc
 
+-- the labels at the end of a body, and its end
+abbrev pub TheEnds : List ℕ → Keyword → List Named × Place → Front
+TheEnds text last b = Repeats (SpellsLabelLine text) b.0 (At b.1 (TheWord text last))
+
 module _ (text : List ℕ) where
   ampersand_lead : (b : Bool) (ts r : List Token) → SpellsAmpersand text b ts r → lead_at text ts ≡ lead.Sign Ampersand
   ampersand_lead b [] r p = absurd p
@@ -97,18 +110,6 @@ module _ (text : List ℕ) where
   pub may_so : (depth : ℕ) (load : Bool) (p : Place) (i : Instruction) (ts r : List Token) → SpellsInstruction text i ts r → may_begin depth load (lead_at text ts) ≡ may_stand depth load (bare p i)
   may_so zero load p i ts r w = ap not (tells i ts r w).closing
   may_so (suc depth) load p i ts r w = let t = tells i ts r w in rw (not_zero depth, t.leaving, t.loading) refl
-
-  -- it may not stand there
-  pub stands_not : (depth : ℕ) (load full : Bool) (ts : List Token) (e : Stop) → may_begin depth load (lead_at text ts) ≡ false → Refuses (SpellsPlaced text depth load full) ts e
-  stands_not depth load full ts e out = record {
-    never = λ is x r w.
-        let bad = sym out ∙ may_so depth load x.0 x.1 ts r (at_holds text (SpellsInstruction text x.1) x.0 ts r w.0) ∙ w.1 in
-        cc;
-  }
-
-  -- the body is full
-  pub full_refused : (depth : ℕ) (load full : Bool) (ts : List Token) (e : Stop) → full ≡ true → Refuses (SpellsPlaced text depth load full) ts e
-  full_refused depth load full ts e is_full = record { never = λ is x r w. let bad : not full ≡ true = w.3 in let same = ap not is_full in cc }
 
   -- an instruction that is read, and may stand there
   room_enough : (room : Bool) (depth : ℕ) (i : Instruction) → depth ≤ 16 → (IsTrue room → depth < 16) → HasRoom room i → depth_after depth i ≤ 16
@@ -149,38 +150,9 @@ module _ (text : List ℕ) where
   pub end_out : (last : Keyword) (alone : Bool) (ts : List Token) → alone ≡ false → TakesEnd text last alone ts None ts
   end_out last alone ts off = (refl, λ p q at is. let bad : alone ≡ true = is in cc)
 
-  -- behind labels stands no instruction, and no end
-  pub outer_refused : (last : Keyword) (load full alone : Bool) (start m : List Token) (ns : List Named) (e : Stop) → HasLabels text start ns alone m
-      → ((p : Place) (r : List Token) → At p (TheWord text last) m r → IsTrue alone → ⊥) → Refuses (SpellsPlaced text 0 load full) m e → Refuses (SpellsNext text last 0 load full) start e
-  outer_refused last load full alone start m ns e labels out bad = record { never = go }
-    where
-      go : IsFault e → (x : Entry) (r : List Token) → SpellsNext text last 0 load full x start r → ⊥
-      go is (entry.Step s) r w =
-          let a = labels.no_other s.place s.instruction s.labels r w.0 in
-          bad.never is (s.place, s.instruction) r (a.1, w.1.0, w.1.1, w.1.2)
-      go is (entry.End ls p) r w = let a = labels.no_other_end last p ls r w.0 in out p r a.1 a.2
-
-  -- in parentheses stand no labels, and no end
-  pub inner_refused : (last : Keyword) (depth : ℕ) (load full : Bool) (ts : List Token) (e : Stop) → (depth ≡ 0 → ⊥) → Refuses (SpellsPlaced text depth load full) ts e → Refuses (SpellsNext text last depth load full) ts e
-  inner_refused last zero load full ts e inside bad = absurd (inside refl)
-  inner_refused last (suc depth) load full ts e inside bad = record { never = go }
-    where
-      unlabelled : IsFault e → (ls : List Named) (p : Place) (i : Instruction) (r : List Token) → SpellsLabelled text ls (At p (SpellsInstruction text i)) ts r
-          → IsTrue (may_stand (suc depth) load (record { labels = ls; place = p; instruction = i })) → depth_after (suc depth) i ≤ 16 → IsTrue (not full) → ⊥
-      unlabelled is [] p i r w may deep free = bad.never is (p, i) r (w, may, deep, free)
-      unlabelled is (l ∷ ls) p i r w may deep free = let bad : false ≡ true = sym (not_zero (length ls)) ∙ both_left _ _ (both_left _ _ may) in cc
-
-      go : IsFault e → (x : Entry) (r : List Token) → SpellsNext text last (suc depth) load full x ts r → ⊥
-      go is (entry.Step s) r w = unlabelled is s.labels s.place s.instruction r w.0 w.1.0 w.1.1 w.1.2
-      go is (entry.End ls p) r w = inside w.1
-
   pub inner_read : (last : Keyword) (depth : ℕ) (load full : Bool) (ts r : List Token) (p : Place) (i : Instruction) → Reads (SpellsPlaced text depth load full) ts (p, i) r
       → Reads (SpellsNext text last depth load full) ts (entry.Step (record { labels = []; place = p; instruction = i })) r
   inner_read last depth load full ts r p i here = record { found = (here.found.0, (here.found.1, here.found.2, here.found.3)) }
-
-  -- the labels at the end of a body, and its end
-  abbrev pub TheEnds : Keyword → List Named × Place → Front
-  TheEnds last b = Repeats (SpellsLabelLine text) b.0 (At b.1 (TheWord text last))
 
   -- the body has no such instructions
   at_least : (d : ℕ) (xs : List Step) → d ≤ greatest_depth d xs
@@ -191,52 +163,238 @@ module _ (text : List ℕ) where
   free true n is few = let a = is refl in absurd (omega (arith, a, few))
   free false n is few = refl
 
-  pub steps_refused : (last : Keyword) (start ts : List Token) (xs : List Step) (depth : ℕ) (load full : Bool) (most : ℕ) (e : Stop) → (IsTrue full → length xs ≡ 4096) → IsOpen xs depth load most
-      → ((b : List Named × Place) → HasRead (SpellsStep text) (TheEnds last b) start xs ts) → Refuses (SpellsNext text last depth load full) ts e → Refuses (SpellsSteps text last) start e
-  steps_refused last start ts xs depth load full most e is_full opens so_far bad = record {
-    never = λ is b r w.
-        let l = (so_far (b.last_labels, b.end)).left b.steps r w.0 in
-        go is b r w l.0 l.1 l.2;
-  }
-    where
-      go : IsFault e → (b : Body) (r : List Token) → SpellsSteps text last b start r → (more : List Step) → b.steps ≡ xs ++ more → Repeats (SpellsStep text) more (TheEnds last (b.last_labels, b.end)) ts r → ⊥
-      go is b r w [] same left =
-          let here : b.steps ≡ xs = same ∙ append-nil xs in
-          let shut : (depth == 0) ≡ true = sym (closed xs depth load most opens) ∙ ap (λ ys. is_nested 0 false ys) (sym here) ∙ w.1 in
-          bad.never is (entry.End b.last_labels b.end) r (left, zero_is depth shut)
-      go is b r w (y ∷ more) same left =
-          let nested = sym (opens.nested (y ∷ more)) ∙ ap (λ ys. is_nested 0 false ys) (sym same) ∙ w.1 in
-          let may = both_left (may_stand depth load y) _ nested in
-          let deep = sym (opens.deep (y ∷ more)) ∙ ap (λ ys. greatest_depth 0 ys) (sym same) in
-          let least = at_least (depth_after depth y.instruction) more in
-          let small : depth_after depth y.instruction ≤ 16 = omega (arith, deep, least, w.3) in
-          let size = ap length same ∙ length-append xs (y ∷ more) in
-          let few : length xs < 4096 = omega (arith, size, w.2) in
-          bad.never is (entry.Step y) left.0 (left.1, (may, small, free full (length xs) is_full few))
-
   pub steps_read : (last : Keyword) (start ts r : List Token) (xs : List Step) (depth : ℕ) (load full : Bool) (most : ℕ) (ls : List Named) (p : Place) → most ≤ 16 → depth ≤ 16 → length xs ≤ 4096 → IsOpen xs depth load most
-      → ((b : List Named × Place) → HasRead (SpellsStep text) (TheEnds last b) start xs ts) → Reads (SpellsNext text last depth load full) ts (entry.End ls p) r
+      → ((b : List Named × Place) → HasRead SpellsStep (λ text. TheEnds text last b) text start xs ts) → Reads (SpellsNext text last depth load full) ts (entry.End ls p) r
       → Reads (SpellsSteps text last) start (record { steps = xs; last_labels = ls; end = p }) r
   steps_read last start ts r xs depth load full most ls p most_small small few opens so_far here =
       let deep = sym (opens.deep []) ∙ ap (λ ys. greatest_depth 0 ys) (append-nil xs) in
       record {
         found = (
-          (ended _ _ start xs ts r (so_far (ls, p)) here.found.0).found,
+          (ended _ _ _ start xs ts r (so_far (ls, p)) here.found.0).found,
           closed xs depth load most opens ∙ ap (λ d. d == 0) here.found.1,
           few,
           omega (arith, deep, most_small, small),
         );
       }
 
-  pub step_on : (last : Keyword) → IsLast last → (start ts m : List Token) (xs : List Step) (depth : ℕ) (load full : Bool) (x : Step)
-      → ((b : List Named × Place) → HasRead (SpellsStep text) (TheEnds last b) start xs ts) → Reads (SpellsNext text last depth load full) ts (entry.Step x) m
-      → (b : List Named × Place) → HasRead (SpellsStep text) (TheEnds last b) start (xs ++ x ∷ []) (skip_line_ends m)
-  step_on last is start ts m xs depth load full x so_far here b =
-      goes_on _ _ (step_one text) start xs ts x m (λ r w. (step_no_end text last (last_none last is)).never x b ts m r here.found.0 w) (so_far b) (record { found = here.found.0 })
-
   pub open_on : (last : Keyword) (ts m : List Token) (xs : List Step) (depth : ℕ) (load full : Bool) (most : ℕ) (x : Step) → IsOpen xs depth load most → Reads (SpellsNext text last depth load full) ts (entry.Step x) m
       → IsOpen (xs ++ x ∷ []) (depth_after depth x.instruction) (needs_load x.instruction) (max most depth)
   open_on last ts m xs depth load full most x opens here = one_open xs depth load most x opens here.found.1.0
+
+-- what an instruction is, without the labels
+past_inside : (l : Lead) (ts : List Token) → IsEndOf (past_name l ts) ts
+past_inside lead.Name [] = refl
+past_inside lead.Name (t ∷ ts) = inr (end_self ts)
+past_inside lead.Nothing ts = end_self ts
+past_inside (lead.Reserved k) ts = end_self ts
+past_inside (lead.Number v) ts = end_self ts
+past_inside (lead.Typed v) ts = end_self ts
+past_inside (lead.Sign s) ts = end_self ts
+past_inside lead.LineEnd ts = end_self ts
+
+-- there is room where the depth allows it
+has_room : (room : Bool) (depth : ℕ) (i : Instruction) → (IsFalse room → 16 ≤ depth) → depth_after depth i ≤ 16 → HasRoom room i
+has_room true depth (instruction.Defer op first) out deep = refl
+has_room false depth (instruction.Defer op first) out deep = let a = out refl in absurd (omega (arith, a, deep))
+has_room room depth (instruction.Load n o) out deep = tt
+has_room room depth (instruction.Store k o) out deep = tt
+has_room room depth instruction.Not out deep = tt
+has_room room depth (instruction.Operate op o) out deep = tt
+has_room room depth instruction.Evaluate out deep = tt
+has_room room depth (instruction.Jump k n) out deep = tt
+has_room room depth (instruction.Return k) out deep = tt
+has_room room depth (instruction.Call k n a) out deep = tt
+has_room room depth (instruction.Invoke f a) out deep = tt
+
+-- a place of a token
+abbrev place_of : Token → Place
+place_of t = record { offset = t.start; line = t.line }
+
+module _ (text : List ℕ) where
+  -- it may not stand there
+  pub stands_not : (depth : ℕ) (load full : Bool) (ts : List Token) (e : Stop) → may_begin depth load (lead_at text ts) ≡ false → e ≡ fault_at Unexpected ts → RefusesPlaced text depth load full ts e
+  stands_not depth load full ts e out here = record { fault = λ is. (Unexpected, ts, here, end_self ts, named, record { inside = end_self ts; never = go }) }
+    where
+      named : depth ≡ 0 → lead_at text ts ≡ lead.Name → IsEndOf ts (drop 1 ts)
+      named z l =
+          let yes : may_begin 0 load lead.Name ≡ true = refl in
+          let bad : true ≡ false = sym yes ∙ ap (λ d. may_begin d load lead.Name) (sym z) ∙ ap (λ x. may_begin depth load x) (sym l) ∙ out in
+          absurd cc
+
+      go : (other : List ℕ) (us : List Token) → AreAlike text other ts ts us → (x : Place × Instruction) (r : List Token) → SpellsPlaced other depth load full x us r → ⊥
+      go other us a x r w =
+          let here : may_begin depth load (lead_at other us) ≡ false = ap (λ l. may_begin depth load l) (lead_alike text other ts ts us a) ∙ out in
+          let bad : false ≡ true = sym here ∙ may_so other depth load x.0 x.1 us r (at_holds other (SpellsInstruction other x.1) x.0 us r w.0) ∙ w.1 in
+          cc
+
+  -- the text ends
+  pub none_stands : (depth : ℕ) (load full : Bool) (ts : List Token) (e : Stop) → ts ≡ [] → e ≡ fault_at Unexpected ts → RefusesPlaced text depth load full ts e
+  unfolding lead_at
+  none_stands depth load full [] e empty here = record {
+    fault = λ is. (
+      Unexpected,
+      [],
+      here,
+      refl,
+      λ z l. absurd cc,
+      record { inside = refl; never = λ other us a x r w. subst (λ (v : List Token). At x.0 (SpellsInstruction other x.1) v r) a.1 w.0 },
+    );
+  }
+  none_stands depth load full (t ∷ ts) e empty here = absurd cc
+
+  -- the body is full
+  pub full_refused : (depth : ℕ) (load full : Bool) (l : Lead) (ts : List Token) (e : Stop) → full ≡ true → l ≡ lead_at text ts → (e ≡ fault_at TooMany ts) ⊎ ((e ≡ fault_at Unexpected ts) × (l ≡ lead.Name → ⊥))
+      → RefusesPlaced text depth load full ts e
+  full_refused depth load full l ts e is_full same how = record { fault = λ is. choose how }
+    where
+      out : (other : List ℕ) (us : List Token) (x : Place × Instruction) (r : List Token) → SpellsPlaced other depth load full x us r → ⊥
+      out other us x r w = let bad : not full ≡ true = w.3 in let is = ap not is_full in cc
+
+      choose : (e ≡ fault_at TooMany ts) ⊎ ((e ≡ fault_at Unexpected ts) × (l ≡ lead.Name → ⊥))
+          → (error : SyntaxError) × (at : List Token) × (e ≡ fault_at error at) × IsEndOf at ts
+          × (depth ≡ 0 → lead_at text ts ≡ lead.Name → IsEndOf (turn error text at) (drop 1 ts)) × GoesOnNoMore (λ text. SpellsPlaced text depth load full) text ts (turn error text at)
+      choose (inl here) = (
+        TooMany,
+        ts,
+        here,
+        end_self ts,
+        λ z name. subst (λ (x : Lead). IsEndOf (past_name x ts) (drop 1 ts)) (sym name) (end_self (drop 1 ts)),
+        record { inside = past_inside (lead_at text ts) ts; never = λ other us a x r w. out other us x r w },
+      )
+      choose (inr here) = (
+        Unexpected,
+        ts,
+        here.0,
+        end_self ts,
+        λ z name. absurd (here.1 (same ∙ name)),
+        record { inside = end_self ts; never = λ other us a x r w. out other us x r w },
+      )
+
+  -- A name alone on its line calls a function without operands: so it is the token behind a name that nothing goes on with.
+  behind_name : (room : Bool) (back ts : List Token) → GoesOnNoMore (λ text. SpellsRoomy text room) text ts back → lead_at text ts ≡ lead.Name → IsEndOf back (drop 1 ts)
+  unfolding lead_at
+  behind_name room back [] gone name = absurd cc
+  behind_name room back (t ∷ ts) gone name = go gone.inside
+    where
+      line : Token
+      line = record { kind = kind.LineEnd; start = 0; end = 0; line = 0 }
+
+      call : Instruction
+      call = instruction.Invoke (record { place = place_of t; name = name_of text t }) []
+
+      go : ((back ≡ t ∷ ts) ⊎ IsEndOf back ts) → IsEndOf back ts
+      go (inr p) = p
+      go (inl e) =
+          let a : AreAlike text text back (t ∷ ts) (t ∷ line ∷ []) = (line ∷ [], refl, refl, inl e) in
+          let named = name_there text t (t ∷ line ∷ []) (line ∷ []) refl (lead_alike text text back (t ∷ ts) (t ∷ line ∷ []) a ∙ name) in
+          let it : SpellsRoomy text room call (t ∷ line ∷ []) [] = (tt, (line ∷ [], (refl, refl, named), (refl, refl))) in
+          absurd (gone.never text (t ∷ line ∷ []) a call [] it)
+
+  -- no instruction is read there
+  pub placed_refused : (room : Bool) (depth : ℕ) (load full : Bool) (ts : List Token) (e : Stop) → (IsFalse room → 16 ≤ depth) → Refuses (λ text. SpellsRoomy text room) text ts e → RefusesPlaced text depth load full ts e
+  placed_refused room depth load full ts e out bad = record {
+    fault = λ is.
+        let b = bad.fault is in (
+          b.0,
+          b.1,
+          b.2,
+          b.3,
+          λ z name. behind_name room (turn b.0 text b.1) ts b.4 name,
+          record {
+            inside = b.4.inside;
+            never = λ other us a x r w. b.4.never other us a x.1 r (has_room room depth x.1 out w.2, at_holds other (SpellsInstruction other x.1) x.0 us r w.0);
+          },
+        );
+  }
+
+  -- a word that ends the body stands in alike tokens where it stands in these
+  last_there : (last : Keyword) (other : List ℕ) (back m vs : List Token) (p : Place) (r : List Token) → AreAlike text other back m vs → At p (TheWord other last) vs r → (q : Place) × (k : List Token) × At q (TheWord text last) m k
+  last_there last other back [] vs p r a w = absurd (subst (λ (x : List Token). At p (TheWord other last) x r) a.1 w)
+  last_there last other back (t ∷ m) vs p r a w =
+      let l = sym (lead_alike text other back (t ∷ m) vs a) ∙ word_lead other last vs r (at_holds other (TheWord other last) p vs r w) in
+      (place_of t, m, (refl, refl, word_there text last (t ∷ m) l))
+
+  -- behind labels stands no instruction, and no end
+  pub outer_refused : (last : Keyword) (load full alone : Bool) (start m : List Token) (ns : List Named) (e : Stop) → HasLabels text start ns alone m
+      → ((p : Place) (r : List Token) → At p (TheWord text last) m r → IsTrue alone → ⊥) → RefusesPlaced text 0 load full m e → Refuses (λ text. SpellsNext text last 0 load full) text start e
+  outer_refused last load full alone start m ns e labels out bad = record {
+    fault = λ is.
+        let b = bad.fault is in
+        let back = turn b.0 text b.1 in (
+          b.0,
+          b.1,
+          b.2,
+          end_of_end b.1 m start labels.inside b.3,
+          record { inside = end_of_end back m start labels.inside b.5.inside; never = λ other us a x r w. go back (λ name. end_length back (drop 1 m) (b.4 refl name)) b.5 other us a x r w },
+        );
+  }
+    where
+      go : (back : List Token) → (lead_at text m ≡ lead.Name → length back ≤ length (drop 1 m)) → GoesOnNoMore (λ text. SpellsPlaced text 0 load full) text m back
+          → (other : List ℕ) (us : List Token) → AreAlike text other back start us → (x : Entry) (r : List Token) → SpellsNext other last 0 load full x us r → ⊥
+      go back named gone other us a (entry.Step s) r w =
+          let read = labels.left other back us a (end_length back m gone.inside) named in
+          let n = read.2 s.place s.instruction s.labels r w.0 in
+          gone.never other read.0 read.1 (s.place, s.instruction) r (n.1, w.1.0, w.1.1, w.1.2)
+      go back named gone other us a (entry.End ls p) r w =
+          let read = labels.left other back us a (end_length back m gone.inside) named in
+          let n = read.3 last p ls r w.0 in
+          let there = last_there last other back m read.0 p r read.1 n.1 in
+          out there.0 there.1 there.2 n.2
+
+  -- in parentheses stand no labels, and no end
+  pub inner_refused : (last : Keyword) (depth : ℕ) (load full : Bool) (ts : List Token) (e : Stop) → (depth ≡ 0 → ⊥) → RefusesPlaced text depth load full ts e → Refuses (λ text. SpellsNext text last depth load full) text ts e
+  inner_refused last zero load full ts e inside bad = absurd (inside refl)
+  inner_refused last (suc depth) load full ts e inside bad = record {
+    fault = λ is.
+        let b = bad.fault is in
+        (b.0, b.1, b.2, b.3, record { inside = b.5.inside; never = λ other us a x r w. go (turn b.0 text b.1) b.5 other us a x r w });
+  }
+    where
+      unlabelled : (back : List Token) → GoesOnNoMore (λ text. SpellsPlaced text (suc depth) load full) text ts back → (other : List ℕ) (us : List Token) → AreAlike text other back ts us
+          → (ls : List Named) (p : Place) (i : Instruction) (r : List Token) → SpellsLabelled other ls (At p (SpellsInstruction other i)) us r
+          → IsTrue (may_stand (suc depth) load (record { labels = ls; place = p; instruction = i })) → depth_after (suc depth) i ≤ 16 → IsTrue (not full) → ⊥
+      unlabelled back gone other us a [] p i r w may deep free = gone.never other us a (p, i) r (w, may, deep, free)
+      unlabelled back gone other us a (l ∷ ls) p i r w may deep free = let bad : false ≡ true = sym (not_zero (length ls)) ∙ both_left _ _ (both_left _ _ may) in cc
+
+      go : (back : List Token) → GoesOnNoMore (λ text. SpellsPlaced text (suc depth) load full) text ts back → (other : List ℕ) (us : List Token) → AreAlike text other back ts us
+          → (x : Entry) (r : List Token) → SpellsNext other last (suc depth) load full x us r → ⊥
+      go back gone other us a (entry.Step s) r w = unlabelled back gone other us a s.labels s.place s.instruction r w.0 w.1.0 w.1.1 w.1.2
+      go back gone other us a (entry.End ls p) r w = inside w.1
+
+  -- the body has no such instructions
+  pub steps_refused : (last : Keyword) (start ts : List Token) (xs : List Step) (depth : ℕ) (load full : Bool) (most : ℕ) (e : Stop) → (IsTrue full → length xs ≡ 4096) → IsOpen xs depth load most
+      → ((b : List Named × Place) → HasRead SpellsStep (λ text. TheEnds text last b) text start xs ts) → Refuses (λ text. SpellsNext text last depth load full) text ts e → Refuses (λ text. SpellsSteps text last) text start e
+  steps_refused last start ts xs depth load full most e is_full opens so_far bad =
+      let within = (so_far ([], record { offset = 0; line = 0 })).inside in
+      lift within (λ back gone. record {
+        inside = end_of_end back ts start within gone.inside;
+        never = λ other us a b r w.
+            let so = (so_far (b.last_labels, b.end)).left other back us a (end_length back ts gone.inside) in
+            let l = so.2 b.steps r w.0 in
+            go back gone other so.0 so.1 b us r w l.0 l.1 l.2;
+      }) bad
+    where
+      go : (back : List Token) → GoesOnNoMore (λ text. SpellsNext text last depth load full) text ts back → (other : List ℕ) (vs : List Token) → AreAlike text other back ts vs
+          → (b : Body) (us r : List Token) → SpellsSteps other last b us r → (more : List Step) → b.steps ≡ xs ++ more → Repeats (SpellsStep other) more (TheEnds other last (b.last_labels, b.end)) vs r → ⊥
+      go back gone other vs a b us r w [] same left =
+          let here : b.steps ≡ xs = same ∙ append-nil xs in
+          let shut : (depth == 0) ≡ true = sym (closed xs depth load most opens) ∙ ap (λ ys. is_nested 0 false ys) (sym here) ∙ w.1 in
+          gone.never other vs a (entry.End b.last_labels b.end) r (left, zero_is depth shut)
+      go back gone other vs a b us r w (y ∷ more) same left =
+          let nested = sym (opens.nested (y ∷ more)) ∙ ap (λ ys. is_nested 0 false ys) (sym same) ∙ w.1 in
+          let may = both_left (may_stand depth load y) _ nested in
+          let deep = sym (opens.deep (y ∷ more)) ∙ ap (λ ys. greatest_depth 0 ys) (sym same) in
+          let least = at_least text (depth_after depth y.instruction) more in
+          let small : depth_after depth y.instruction ≤ 16 = omega (arith, deep, least, w.3) in
+          let size = ap length same ∙ length-append xs (y ∷ more) in
+          let few : length xs < 4096 = omega (arith, size, w.2) in
+          gone.never other vs a (entry.Step y) left.0 (left.1, (may, small, free text full (length xs) is_full few))
+
+  pub step_on : (last : Keyword) → IsLast last → (start ts m : List Token) (xs : List Step) (depth : ℕ) (load full : Bool) (x : Step)
+      → ((b : List Named × Place) → HasRead SpellsStep (λ text. TheEnds text last b) text start xs ts) → Reads (SpellsNext text last depth load full) ts (entry.Step x) m
+      → (b : List Named × Place) → HasRead SpellsStep (λ text. TheEnds text last b) text start (xs ++ x ∷ []) (skip_line_ends m)
+  step_on last is start ts m xs depth load full x so_far here b =
+      goes_on_apart SpellsStep (λ text. TheEnds text last b) text (loosely_local step_local) start xs ts x m (λ other us r q w v. (step_no_end other last (last_none last is)).never x b us q r w v) (so_far b) (record { found = here.found.0 })
 
 -- there is room for one more
 pub few_on : (full : Bool) (n : ℕ) → IsTrue (not full) → (IsFalse full → n ≡ 4096 → ⊥) → n ≤ 4096 → n + 1 ≤ 4096

@@ -6,11 +6,11 @@ use Rattle.il_spec.specs.declared.tree.Named.{Named}
 use Rattle.il_spec.specs.declared.tree.WrittenType.{WrittenType}
 use Rattle.il_spec.specs.declared.tree.Initial.{Initial}
 use Rattle.il_spec.specs.Grammar.{loose, ◌⋯◌, Listed, TheSign, TheName, SpellsType, SpellsInitial, SpellsExternal}
-use Rattle.il_grammar_laws.proofs.Leads.{sign_sure, the_name_one}
-use Rattle.il_grammar_laws.proofs.Types.{type_one}
+use Rattle.il_grammar_laws.proofs.Alike.{tight_gap, loose_gap}
+use Rattle.il_grammar_laws.proofs.Local.{sign_local, the_name_local, type_local}
 use Rattle.il_read.specs.Reads.{Reads, Refuses, Stands, Misses}
 use Rattle.il_read.specs.declared.stop.Stop.{Stop}
-use Rattle.il_read.proofs.Chain.{first, later, behind, first_missing, last_missing}
+use Rattle.il_read.proofs.Chain.{past, first, later, later_lines, behind, first_missing, last_missing}
 
 module _ (text : List ℕ) where
   -- an external declaration, as its name and its type
@@ -26,26 +26,27 @@ module _ (text : List ℕ) where
   parts ns t None ts r one none w = names_of ns t ts r one w
   parts ns t (Some i) ts r one none w = absurd cc
 
-  refused : (ts : List Token) (e : Stop) → Refuses SpellsOne ts e → Refuses (SpellsExternal text) ts e
-  refused ts e bad = record { never = λ is d r w. let x = parts d.names d.declared d.initial ts r w.0 w.1 w.2 in bad.never is (x.0, d.declared) r x.1 }
+module _ (text : List ℕ) where
+  refused : (ts : List Token) (e : Stop) → Refuses SpellsOne text ts e → Refuses SpellsExternal text ts e
+  refused ts e bad = past tight_gap (λ other us back a gone d r w. let x = parts other d.names d.declared d.initial us r w.0 w.1 w.2 in gone (x.0, d.declared) r x.1) bad
 
-  pub name_refused : (ts : List Token) (e : Stop) → Refuses (TheName text) ts e → Refuses (SpellsExternal text) ts e
-  name_refused ts e bad = refused ts e (first (λ x. x.0) loose (λ x. TheSign Colon ⋯ SpellsType text x.1 ⋯ TheSign Semicolon) bad)
+  pub name_refused : (ts : List Token) (e : Stop) → Refuses TheName text ts e → Refuses SpellsExternal text ts e
+  name_refused ts e bad = refused ts e (first (λ x. x.0) loose (λ text x. TheSign Colon ⋯ SpellsType text x.1 ⋯ TheSign Semicolon) bad)
 
-  pub colon_refused : (ts m : List Token) (n : Named) (e : Stop) → Reads (TheName text) ts n m → Misses (TheSign Colon) (loose m) e → Refuses (SpellsExternal text) ts e
+  pub colon_refused : (ts m : List Token) (n : Named) (e : Stop) → Reads (TheName text) ts n m → Misses (λ text. TheSign Colon) text (loose m) e → Refuses SpellsExternal text ts e
   colon_refused ts m n e name bad =
-      refused ts e (later (λ x. x.0) loose (λ x. TheSign Colon ⋯ SpellsType text x.1 ⋯ TheSign Semicolon) (the_name_one text) name (first_missing loose (λ x. SpellsType text x.1 ⋯ TheSign Semicolon) bad))
+      refused ts e (later (λ x. x.0) loose_gap (λ text x. TheSign Colon ⋯ SpellsType text x.1 ⋯ TheSign Semicolon) the_name_local name (first_missing loose (λ text x. SpellsType text x.1 ⋯ TheSign Semicolon) bad))
 
-  pub type_refused : (ts m k : List Token) (n : Named) (e : Stop) → Reads (TheName text) ts n m → Stands (TheSign Colon) (loose m) k → Refuses (SpellsType text) (loose k) e → Refuses (SpellsExternal text) ts e
+  pub type_refused : (ts m k : List Token) (n : Named) (e : Stop) → Reads (TheName text) ts n m → Stands (TheSign Colon) (loose m) k → Refuses SpellsType text (loose k) e → Refuses SpellsExternal text ts e
   type_refused ts m k n e name colon bad =
-      refused ts e (later (λ x. x.0) loose (λ x. TheSign Colon ⋯ SpellsType text x.1 ⋯ TheSign Semicolon) (the_name_one text) name
-      (behind loose (λ x. SpellsType text x.1 ⋯ TheSign Semicolon) (sign_sure Colon) colon (first (λ x. x.1) loose (λ x. TheSign Semicolon) bad)))
+      refused ts e (later (λ x. x.0) loose_gap (λ text x. TheSign Colon ⋯ SpellsType text x.1 ⋯ TheSign Semicolon) the_name_local name
+      (behind loose_gap (λ text x. SpellsType text x.1 ⋯ TheSign Semicolon) (sign_local Colon) colon (first (λ x. x.1) loose (λ text x. TheSign Semicolon) bad)))
 
-  pub semicolon_refused : (ts m k l : List Token) (n : Named) (t : WrittenType) (e : Stop) → Reads (TheName text) ts n m → Stands (TheSign Colon) (loose m) k → Reads (SpellsType text) (loose k) t l → Misses (TheSign Semicolon) (loose l) e
-      → Refuses (SpellsExternal text) ts e
+  pub semicolon_refused : (ts m k l : List Token) (n : Named) (t : WrittenType) (e : Stop) → Reads (TheName text) ts n m → Stands (TheSign Colon) (loose m) k → Reads (SpellsType text) (loose k) t l → Misses (λ text. TheSign Semicolon) text (loose l) e
+      → Refuses SpellsExternal text ts e
   semicolon_refused ts m k l n t e name colon type bad =
-      refused ts e (later (λ x. x.0) loose (λ x. TheSign Colon ⋯ SpellsType text x.1 ⋯ TheSign Semicolon) (the_name_one text) name
-      (behind loose (λ x. SpellsType text x.1 ⋯ TheSign Semicolon) (sign_sure Colon) colon (later (λ x. x.1) loose (λ x. TheSign Semicolon) (type_one text) type (last_missing bad))))
+      refused ts e (later (λ x. x.0) loose_gap (λ text x. TheSign Colon ⋯ SpellsType text x.1 ⋯ TheSign Semicolon) the_name_local name
+      (behind loose_gap (λ text x. SpellsType text x.1 ⋯ TheSign Semicolon) (sign_local Colon) colon (later_lines (λ x. x.1) (λ text x. TheSign Semicolon) type_local type (last_missing bad))))
 
   pub external_read : (ts m k l r : List Token) (n : Named) (t : WrittenType) → Reads (TheName text) ts n m → Stands (TheSign Colon) (loose m) k → Reads (SpellsType text) (loose k) t l → Stands (TheSign Semicolon) (loose l) r
       → Reads (SpellsExternal text) ts (record { names = n ∷ []; declared = t; initial = None }) r

@@ -1,16 +1,24 @@
 -- Labels, as a loop reads them.
-use Rattle.std.proofs.Common.{◌≡◌, ℕ, ◌<◌, true, false, List, [], ◌∷◌, ◌++◌, length, append-nil, refl, sym, ◌∙◌, ap, subst, arith}
+use Rattle.std.proofs.Common.{◌≡◌, ℕ, ◌<◌, ◌≤◌, drop, true, false, List, [], ◌∷◌, ◌++◌, length, append-nil, refl, sym, ◌∙◌, ap, subst, arith}
 use Rattle.il_spec.specs.declared.token.Token.{Token}
 use Rattle.il_spec.specs.declared.keyword.Keyword.{Keyword}
 use Rattle.il_spec.specs.declared.tree.Place.{Place}
 use Rattle.il_spec.specs.declared.tree.Named.{Named}
 use Rattle.il_spec.specs.declared.tree.Instruction.{Instruction}
-use Rattle.il_spec.specs.Grammar.{Front, One, At, skip_line_ends, Repeats, TheWord, TheLineEnd, AName, SpellsInstruction, SpellsLabel, SpellsLabelled, SpellsLabelLine}
+use Rattle.il_spec.specs.Grammar.{Front, One, At, TheSign, skip_line_ends, Repeats, TheWord, TheLineEnd, AName, SpellsInstruction, SpellsLabel, SpellsLabelled, SpellsLabelLine}
 use Rattle.il_grammar_laws.proofs.Leads.{at_holds, line_end_sure}
 use Rattle.il_grammar_laws.proofs.Instructions.{instruction_no_label}
 use Rattle.il_grammar_laws.proofs.Bodies.{skip_one, label_one}
-use Rattle.il_read.proofs.Leaves.{word_lead}
-use Rattle.il_read.proofs.Settings.{label_lead}
+use Rattle.il_spec.specs.declared.token.Sign.TheVariants.{Colon}
+use Rattle.il_spec.specs.Text.{name_of}
+use Rattle.il_grammar_laws.specs.Alike.{IsEndOf, AreAlike}
+use Rattle.il_grammar_laws.proofs.Alike.{end_self, end_length, end_of_end, loose_gap}
+use Rattle.il_grammar_laws.proofs.Local.{label_local, line_end_local, line_end_told}
+use Rattle.il_read.specs.Lead.{lead_at}
+use Rattle.il_read.specs.declared.lead.Lead.TheVariants as lead
+use Rattle.il_read.proofs.Instructions.{behind_one, next_gap}
+use Rattle.il_read.proofs.Leaves.{word_lead, sign_lead, sign_there, lead_alike}
+use Rattle.il_read.proofs.Settings.{label_lead, label_there}
 use Rattle.il_read.proofs.Chain.{regroup}
 use Rattle.il_parse.specs.Bodies.{HasLabels}
 
@@ -37,17 +45,6 @@ module _ (text : List ℕ) where
   no_last : (n : Named) (k : Keyword) (p : Place) (ts r m : List Token) → SpellsLabel text n ts m → TheLast k p ts r → ⊥
   no_last n k p ts r m l w = let a = label_lead text n ts m l in let b = word_lead text k ts r (at_holds text (TheWord text k) p ts r w) in cc
 
-  -- What labels were read, each on a line of its own.
-  pub record Behind (start : List Token) (ns : List Named) (ts : List Token) : Type 0 where
-    names : (p : Place) (i : Instruction) (more : List Named) (r : List Token) → SpellsLabelled text more (ThePlaced p i) ts r → SpellsLabelled text (ns ++ more) (ThePlaced p i) start r
-    no_other : (p : Place) (i : Instruction) (ys : List Named) (r : List Token) → SpellsLabelled text ys (ThePlaced p i) start r → (more : List Named) × (ys ≡ ns ++ more) × SpellsLabelled text more (ThePlaced p i) ts r
-    ends : (k : Keyword) (p : Place) (more : List Named) (r : List Token) → Repeats (SpellsLabelLine text) more (TheLast k p) ts r → Repeats (SpellsLabelLine text) (ns ++ more) (TheLast k p) start r
-    no_other_end : (k : Keyword) (p : Place) (ys : List Named) (r : List Token) → Repeats (SpellsLabelLine text) ys (TheLast k p) start r → (more : List Named) × (ys ≡ ns ++ more) × Repeats (SpellsLabelLine text) more (TheLast k p) ts r
-
-  -- no label is read yet
-  pub none_behind : (ts : List Token) → Behind ts [] ts
-  none_behind ts = record { names = λ p i more r w. w; no_other = λ p i ys r w. (ys, refl, w); ends = λ k p more r w. w; no_other_end = λ k p ys r w. (ys, refl, w) }
-
   -- one label on its line, and what follows
   name_first : (n : Named) (ts m l : List Token) → SpellsLabel text n ts m → TheLineEnd m l → (p : Place) (i : Instruction) (more : List Named) (r : List Token)
       → SpellsLabelled text more (ThePlaced p i) (skip_line_ends l) r → SpellsLabelled text (n ∷ more) (ThePlaced p i) ts r
@@ -73,57 +70,137 @@ module _ (text : List ℕ) where
       let ended = line_end_sure.only m w.0 l (subst (λ (x : List Token). TheLineEnd x w.0) same.1 w.1.2) line in
       (ys, ap (λ x. x ∷ ys) same.0, subst (λ (x : List Token). Repeats (SpellsLabelLine text) ys (TheLast k p) (skip_line_ends x) r) ended w.2)
 
-  -- one more, on its line
-  pub one_behind : (start : List Token) (ns : List Named) (ts m l : List Token) (n : Named) → SpellsLabel text n ts m → TheLineEnd m l → Behind start ns ts → Behind start (ns ++ n ∷ []) (skip_line_ends l)
-  one_behind start ns ts m l n label line so_far = record {
-    names = λ p i more r w. subst (λ (zs : List Named). SpellsLabelled text zs (ThePlaced p i) start r) (regroup ns n more) (so_far.names p i (n ∷ more) r (name_first n ts m l label line p i more r w));
-    no_other = λ p i ys r w.
-        let a = so_far.no_other p i ys r w in
-        let b = first_of n ts m l label line p i a.0 r a.2 in
-        (b.0, a.1 ∙ ap (λ zs. ns ++ zs) b.1 ∙ regroup ns n b.0, b.2);
-    ends = λ k p more r w. subst (λ (zs : List Named). Repeats (SpellsLabelLine text) zs (TheLast k p) start r) (regroup ns n more) (so_far.ends k p (n ∷ more) r (l, (m, label, line), w));
-    no_other_end = λ k p ys r w.
-        let a = so_far.no_other_end k p ys r w in
-        let b = last_of n ts m l label line k p a.0 r a.2 in
-        (b.0, a.1 ∙ ap (λ zs. ns ++ zs) b.1 ∙ regroup ns n b.0, b.2);
+-- What labels were read, each on a line of its own.
+pub record Behind (text : List ℕ) (start : List Token) (ns : List Named) (ts : List Token) : Type 0 where
+  inside : IsEndOf ts start
+  names : (p : Place) (i : Instruction) (more : List Named) (r : List Token) → SpellsLabelled text more (ThePlaced text p i) ts r → SpellsLabelled text (ns ++ more) (ThePlaced text p i) start r
+  ends : (k : Keyword) (p : Place) (more : List Named) (r : List Token) → Repeats (SpellsLabelLine text) more (TheLast text k p) ts r → Repeats (SpellsLabelLine text) (ns ++ more) (TheLast text k p) start r
+  left : (other : List ℕ) (back us : List Token) → AreAlike text other back start us → length back ≤ length ts
+      → (vs : List Token) × AreAlike text other back ts vs
+      × ((p : Place) (i : Instruction) (ys : List Named) (r : List Token) → SpellsLabelled other ys (ThePlaced other p i) us r → (more : List Named) × (ys ≡ ns ++ more) × SpellsLabelled other more (ThePlaced other p i) vs r)
+      × ((k : Keyword) (p : Place) (ys : List Named) (r : List Token) → Repeats (SpellsLabelLine other) ys (TheLast other k p) us r → (more : List Named) × (ys ≡ ns ++ more) × Repeats (SpellsLabelLine other) more (TheLast other k p) vs r)
+
+module _ (text : List ℕ) where
+  -- no label is read yet
+  pub none_behind : (ts : List Token) → Behind text ts [] ts
+  none_behind ts = record {
+    inside = end_self ts;
+    names = λ p i more r w. w;
+    ends = λ k p more r w. w;
+    left = λ other back us a l. (us, a, λ p i ys r w. (ys, refl, w), λ k p ys r w. (ys, refl, w));
   }
+
+  -- one more, on its line
+  pub one_behind : (start : List Token) (ns : List Named) (ts m l : List Token) (n : Named) → SpellsLabel text n ts m → TheLineEnd m l → Behind text start ns ts → Behind text start (ns ++ n ∷ []) (skip_line_ends l)
+  one_behind start ns ts m l n label line so_far =
+      let e1 = (label_local.carries n).ends text ts m label in
+      let e2 = line_end_local.carries.ends text m l line in
+      let e3 = loose_gap.ends l in
+      let within = end_of_end (skip_line_ends l) m ts e1 (end_of_end (skip_line_ends l) l m e2 e3) in
+      record {
+        inside = end_of_end (skip_line_ends l) ts start so_far.inside within;
+        names = λ p i more r w. subst (λ (zs : List Named). SpellsLabelled text zs (ThePlaced text p i) start r) (regroup ns n more) (so_far.names p i (n ∷ more) r (name_first text n ts m l label line p i more r w));
+        ends = λ k p more r w. subst (λ (zs : List Named). Repeats (SpellsLabelLine text) zs (TheLast text k p) start r) (regroup ns n more) (so_far.ends k p (n ∷ more) r (l, (m, label, line), w));
+        left = λ other back us a z.
+            let l1 = end_length (skip_line_ends l) l e3 in
+            let l2 = end_length l m e2 in
+            let l3 = end_length m ts e1 in
+            let so = so_far.left other back us a (omega (arith, z, l1, l2, l3)) in
+            let d = (label_local.carries n).over text other back ts so.0 m so.1 label (omega (arith, z, l1, l2)) in
+            let f = line_end_local.carries.over text other back m d.0 l d.2 line (omega (arith, z, l1)) in (
+              skip_line_ends f.0,
+              loose_gap.alike text other back l f.0 f.2 z,
+              λ p i ys r w.
+                  let x = so.2 p i ys r w in
+                  let b = first_of other n so.0 d.0 f.0 d.1 f.1 p i x.0 r x.2 in
+                  (b.0, x.1 ∙ ap (λ zs. ns ++ zs) b.1 ∙ regroup ns n b.0, b.2),
+              λ k p ys r w.
+                  let x = so.3 k p ys r w in
+                  let b = last_of other n so.0 d.0 f.0 d.1 f.1 k p x.0 r x.2 in
+                  (b.0, x.1 ∙ ap (λ zs. ns ++ zs) b.1 ∙ regroup ns n b.0, b.2),
+            );
+      }
+
+  -- where no label stands, none stands in alike tokens, as the token behind a name tells
+  label_still : (other : List ℕ) (back ts vs : List Token) → AreAlike text other back ts vs → (lead_at text ts ≡ lead.Name → length back ≤ length (drop 1 ts))
+      → ((n : Named) (r : List Token) → SpellsLabel text n ts r → ⊥) → (n : Named) (r : List Token) → SpellsLabel other n vs r → ⊥
+  unfolding lead_at
+  label_still other back [] vs a named out n r w =
+      let l = lead_alike text other back [] vs a in
+      let b = label_lead other n vs r w in
+      none_there (sym b ∙ l)
+    where
+      none_there : lead.Name ≡ lead_at text [] → ⊥
+      none_there e = cc
+  label_still other back (t ∷ ts) vs a named out n r w =
+      let name = sym (lead_alike text other back (t ∷ ts) vs a) ∙ label_lead other n vs r w in
+      let b = next_gap.alike text other back (t ∷ ts) vs a (named name) in
+      let colon : TheSign Colon (drop 1 vs) r = subst (λ (x : List Token). TheSign Colon x r) (behind_one _ vs w.0 (at_holds other (AName other n.name) n.place vs w.0 w.1)) w.2 in
+      let there = sign_there text Colon ts (sym (lead_alike text other back ts (drop 1 vs) b) ∙ sign_lead other Colon (drop 1 vs) r colon) in
+      let place : Place = record { offset = t.start; line = t.line } in
+      let it : Named = record { place = place; name = name_of text t } in
+      out it (drop 1 ts) (label_there text t (t ∷ ts) ts (drop 1 ts) it refl name refl refl refl there)
 
   -- no label more: the last stands alone on its line
-  pub alone_behind : (start : List Token) (ns : List Named) (ts : List Token) → ((n : Named) (r : List Token) → SpellsLabel text n ts r → ⊥) → Behind start ns ts → HasLabels text start ns true ts
+  pub alone_behind : (start : List Token) (ns : List Named) (ts : List Token) → ((n : Named) (r : List Token) → SpellsLabel text n ts r → ⊥) → Behind text start ns ts → HasLabels text start ns true ts
   alone_behind start ns ts out so_far = record {
-    names = λ p i r w. subst (λ (zs : List Named). SpellsLabelled text zs (ThePlaced p i) start r) (append-nil ns) (so_far.names p i [] r w);
-    no_other = λ p i ys r w. let a = so_far.no_other p i ys r w in let b = placed p i a.0 r a.2 in (a.1 ∙ ap (λ zs. ns ++ zs) b.0 ∙ append-nil ns, b.1);
-    ends = λ is k p r w. subst (λ (zs : List Named). Repeats (SpellsLabelLine text) zs (TheLast k p) start r) (append-nil ns) (so_far.ends k p [] r w);
-    no_other_end = λ k p ys r w. let a = so_far.no_other_end k p ys r w in let b = last k p a.0 r a.2 in (a.1 ∙ ap (λ zs. ns ++ zs) b.0 ∙ append-nil ns, b.1, refl);
+    inside = so_far.inside;
+    names = λ p i r w. subst (λ (zs : List Named). SpellsLabelled text zs (ThePlaced text p i) start r) (append-nil ns) (so_far.names p i [] r w);
+    ends = λ is k p r w. subst (λ (zs : List Named). Repeats (SpellsLabelLine text) zs (TheLast text k p) start r) (append-nil ns) (so_far.ends k p [] r w);
+    left = λ other back us a z named.
+        let so = so_far.left other back us a z in
+        let none = label_still other back ts so.0 so.1 named out in (
+          so.0,
+          so.1,
+          λ p i ys r w. let x = so.2 p i ys r w in let b = placed other so.0 none p i x.0 r x.2 in (x.1 ∙ ap (λ zs. ns ++ zs) b.0 ∙ append-nil ns, b.1),
+          λ k p ys r w. let x = so.3 k p ys r w in let b = last other so.0 none k p x.0 r x.2 in (x.1 ∙ ap (λ zs. ns ++ zs) b.0 ∙ append-nil ns, b.1, refl),
+        );
   }
     where
-      placed : (p : Place) (i : Instruction) (more : List Named) (r : List Token) → SpellsLabelled text more (ThePlaced p i) ts r → (more ≡ []) × ThePlaced p i ts r
-      placed p i [] r w = (refl, w)
-      placed p i (y ∷ []) r w = absurd (out y w.0 w.1)
-      placed p i (y ∷ z ∷ zs) r w = absurd (out y w.0 w.1)
+      placed : (other : List ℕ) (vs : List Token) → ((n : Named) (r : List Token) → SpellsLabel other n vs r → ⊥) → (p : Place) (i : Instruction) (more : List Named) (r : List Token)
+          → SpellsLabelled other more (ThePlaced other p i) vs r → (more ≡ []) × ThePlaced other p i vs r
+      placed other vs none p i [] r w = (refl, w)
+      placed other vs none p i (y ∷ []) r w = absurd (none y w.0 w.1)
+      placed other vs none p i (y ∷ z ∷ zs) r w = absurd (none y w.0 w.1)
 
-      last : (k : Keyword) (p : Place) (more : List Named) (r : List Token) → Repeats (SpellsLabelLine text) more (TheLast k p) ts r → (more ≡ []) × TheLast k p ts r
-      last k p [] r w = (refl, w)
-      last k p (y ∷ ys) r w = absurd (out y w.1.0 w.1.1)
+      last : (other : List ℕ) (vs : List Token) → ((n : Named) (r : List Token) → SpellsLabel other n vs r → ⊥) → (k : Keyword) (p : Place) (more : List Named) (r : List Token)
+          → Repeats (SpellsLabelLine other) more (TheLast other k p) vs r → (more ≡ []) × TheLast other k p vs r
+      last other vs none k p [] r w = (refl, w)
+      last other vs none k p (y ∷ ys) r w = absurd (none y w.1.0 w.1.1)
 
   -- one more, behind which its line goes on
-  pub beside : (start : List Token) (ns : List Named) (ts m : List Token) (n : Named) → SpellsLabel text n ts m → ((l : List Token) → TheLineEnd m l → ⊥) → Behind start ns ts
+  pub beside : (start : List Token) (ns : List Named) (ts m : List Token) (n : Named) → SpellsLabel text n ts m → ((l : List Token) → TheLineEnd m l → ⊥) → Behind text start ns ts
       → HasLabels text start (ns ++ n ∷ []) false (skip_line_ends m)
-  beside start ns ts m n label out so_far = record {
-    names = λ p i r w. so_far.names p i (n ∷ []) r (m, label, w);
-    no_other = λ p i ys r w. let a = so_far.no_other p i ys r w in let b = placed p i a.0 r a.2 in (a.1 ∙ ap (λ zs. ns ++ zs) b.0, b.1);
-    ends = λ is. absurd cc;
-    no_other_end = λ k p ys r w. let a = so_far.no_other_end k p ys r w in absurd (last k p a.0 r a.2);
-  }
+  beside start ns ts m n label out so_far =
+      let e1 = (label_local.carries n).ends text ts m label in
+      let e2 = loose_gap.ends m in
+      record {
+        inside = end_of_end (skip_line_ends m) ts start so_far.inside (end_of_end (skip_line_ends m) m ts e1 e2);
+        names = λ p i r w. so_far.names p i (n ∷ []) r (m, label, w);
+        ends = λ is. absurd cc;
+        left = λ other back us a z named.
+            let l1 = end_length (skip_line_ends m) m e2 in
+            let l2 = end_length m ts e1 in
+            let so = so_far.left other back us a (omega (arith, z, l1, l2)) in
+            let d = (label_local.carries n).over text other back ts so.0 m so.1 label (omega (arith, z, l1)) in
+            let none : (l : List Token) → TheLineEnd d.0 l → ⊥ = λ l w. line_end_told.still text other back m d.0 d.2 out l w in (
+              skip_line_ends d.0,
+              loose_gap.alike text other back m d.0 d.2 z,
+              λ p i ys r w. let x = so.2 p i ys r w in let b = placed other so.0 d.0 d.1 none p i x.0 r x.2 in (x.1 ∙ ap (λ zs. ns ++ zs) b.0, b.1),
+              λ k p ys r w. let x = so.3 k p ys r w in absurd (last other so.0 d.0 d.1 none k p x.0 r x.2),
+            );
+      }
     where
-      placed : (p : Place) (i : Instruction) (more : List Named) (r : List Token) → SpellsLabelled text more (ThePlaced p i) ts r → (more ≡ n ∷ []) × ThePlaced p i (skip_line_ends m) r
-      placed p i [] r w = absurd (no_placed n p i ts r m label w)
-      placed p i (y ∷ []) r w =
-          let same = (label_one text).only y n ts w.0 m w.1 label in
-          (ap (λ z. z ∷ []) same.0, subst (λ (k : List Token). ThePlaced p i (skip_line_ends k) r) same.1 w.2)
-      placed p i (y ∷ z ∷ zs) r w =
-          let same = (label_one text).only y n ts w.0 m w.1 label in absurd (out w.2.0 (subst (λ (k : List Token). TheLineEnd k w.2.0) same.1 w.2.1))
+      placed : (other : List ℕ) (vs k : List Token) → SpellsLabel other n vs k → ((l : List Token) → TheLineEnd k l → ⊥) → (p : Place) (i : Instruction) (more : List Named) (r : List Token)
+          → SpellsLabelled other more (ThePlaced other p i) vs r → (more ≡ n ∷ []) × ThePlaced other p i (skip_line_ends k) r
+      placed other vs k here none p i [] r w = absurd (no_placed other n p i vs r k here w)
+      placed other vs k here none p i (y ∷ []) r w =
+          let same = (label_one other).only y n vs w.0 k w.1 here in
+          (ap (λ z. z ∷ []) same.0, subst (λ (j : List Token). ThePlaced other p i (skip_line_ends j) r) same.1 w.2)
+      placed other vs k here none p i (y ∷ z ∷ zs) r w =
+          let same = (label_one other).only y n vs w.0 k w.1 here in absurd (none w.2.0 (subst (λ (j : List Token). TheLineEnd j w.2.0) same.1 w.2.1))
 
-      last : (k : Keyword) (p : Place) (more : List Named) (r : List Token) → Repeats (SpellsLabelLine text) more (TheLast k p) ts r → ⊥
-      last k p [] r w = no_last n k p ts r m label w
-      last k p (y ∷ ys) r w = let same = (label_one text).only y n ts w.1.0 m w.1.1 label in out w.0 (subst (λ (x : List Token). TheLineEnd x w.0) same.1 w.1.2)
+      last : (other : List ℕ) (vs k : List Token) → SpellsLabel other n vs k → ((l : List Token) → TheLineEnd k l → ⊥) → (e : Keyword) (p : Place) (more : List Named) (r : List Token)
+          → Repeats (SpellsLabelLine other) more (TheLast other e p) vs r → ⊥
+      last other vs k here none e p [] r w = no_last other n e p vs r k here w
+      last other vs k here none e p (y ∷ ys) r w = let same = (label_one other).only y n vs w.1.0 k w.1.1 here in none w.0 (subst (λ (x : List Token). TheLineEnd x w.0) same.1 w.1.2)

@@ -1,3 +1,4 @@
+pub mod Ahead
 pub mod Repeated
 pub mod Parts
 pub mod Ascii
@@ -6,3 +7,4 @@ pub mod Entries
 pub mod Missing
 pub mod External
 pub mod OneUnit
+pub mod Turn

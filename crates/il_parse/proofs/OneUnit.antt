@@ -1,5 +1,5 @@
 -- Units of each kind, from their parts and back.
-use Rattle.std.proofs.Common.{◌≡◌, ℕ, ◌<◌, List, [], ◌∷◌, length, refl, sym, subst, arith}
+use Rattle.std.proofs.Common.{◌≡◌, ℕ, ◌<◌, List, [], ◌∷◌, drop, length, refl, sym, ◌∙◌, subst, arith}
 use Rattle.std.specs.Prelude.{Result, Ok, Err, IfErr}
 use Rattle.il_spec.specs.declared.token.Token.{Token}
 use Rattle.il_spec.specs.declared.keyword.Keyword.{Keyword}
@@ -12,10 +12,15 @@ use Rattle.il_spec.specs.declared.tree.Body.{Body}
 use Rattle.il_spec.specs.declared.tree.UnitKind.{UnitKind}
 use Rattle.il_spec.specs.declared.tree.UnitKind.TheVariants as unit
 use Rattle.il_spec.specs.declared.tree.Unit.{Unit as ProgramUnit}
-use Rattle.il_spec.specs.Grammar.{TheWord, SpellsFilledList, SpellsBody, unit_word}
+use Rattle.il_spec.specs.Grammar.{tight, loose, TheWord, SpellsFilledList, SpellsBody, unit_word}
 use Rattle.il_grammar_laws.specs.One.{IsDeterministic}
 use Rattle.il_grammar_laws.proofs.Leads.{word_lead, at_holds}
 use Rattle.il_grammar_laws.proofs.Units.{unit_lead, unit_one}
+use Rattle.il_grammar_laws.specs.Alike.{IsLocal}
+use Rattle.il_grammar_laws.proofs.Alike.{tight_gap}
+use Rattle.il_grammar_laws.proofs.Local.{unit_carries, word_told}
+use Rattle.il_read.proofs.Leaves.{word_lead as begins_so, word_there, lead_alike}
+use Rattle.il_read.proofs.Chain.{past}
 use Rattle.il_read.specs.Reads.{Reads, Refuses}
 use Rattle.il_read.specs.declared.stop.Stop.{Stop}
 use Rattle.il_parse.specs.Bodies.{SpellsSmallBody}
@@ -96,11 +101,6 @@ module _ (text : List ℕ) where
         );
       }
 
-  pub program_refused : (ts : List Token) (e : Stop) → Refuses (SpellsProgram text) ts e → Refuses (SpellsUnitOf text word.Program) ts e
-  program_refused ts e bad = record {
-    never = λ is u r w. bad.never is (u.place, u.name, (u.variables, u.externals, u.body)) r (program_parts u.kind u.place u.name u.inputs u.outputs u.variables u.externals u.body ts r w);
-  }
-
   -- a function block is its parts
   block_parts : (k : UnitKind) (p : Place) (n : Named) (ins outs vs es : List Declaration) (b : Body) (ts r : List Token)
       → SpellsUnitOf text word.FunctionBlock (record { place = p; kind = k; name = n; inputs = ins; outputs = outs; variables = vs; externals = es; body = b }) ts r → SpellsBlock text (p, n, (ins, outs, vs, b)) ts r
@@ -138,11 +138,6 @@ module _ (text : List ℕ) where
           ),
         );
       }
-
-  pub block_refused : (ts : List Token) (e : Stop) → Refuses (SpellsBlock text) ts e → Refuses (SpellsUnitOf text word.FunctionBlock) ts e
-  block_refused ts e bad = record {
-    never = λ is u r w. bad.never is (u.place, u.name, (u.inputs, u.outputs, u.variables, u.body)) r (block_parts u.kind u.place u.name u.inputs u.outputs u.variables u.externals u.body ts r w);
-  }
 
   -- a function is its parts
   function_parts : (k : UnitKind) (p : Place) (n : Named) (ins outs vs es : List Declaration) (b : Body) (ts r : List Token)
@@ -191,13 +186,6 @@ module _ (text : List ℕ) where
         );
       }
 
-  pub function_refused : (ts : List Token) (e : Stop) → Refuses (SpellsFunction text) ts e → Refuses (SpellsUnitOf text word.Function) ts e
-  function_refused ts e bad = record {
-    never = λ is u r w.
-        let x = function_parts u.kind u.place u.name u.inputs u.outputs u.variables u.externals u.body ts r w in
-        bad.never is (u.place, u.name, x.0, (u.inputs, u.variables, u.body)) r x.1;
-  }
-
   -- a unit of a kind is a unit
   pub unit_read : (k : Keyword) (ts r : List Token) (u : ProgramUnit) → Reads (SpellsUnitOf text k) ts u r → Reads (SpellsSmallUnit text) ts u r
   unit_read k ts r u here = record { found = here.found.1 }
@@ -208,9 +196,6 @@ module _ (text : List ℕ) where
       let a = word_lead text k ts m word in
       let b = unit_lead text u ts r w.0 in
       cc
-
-  pub unit_refused : (k : Keyword) (ts m : List Token) (e : Stop) → TheWord text k ts m → Refuses (SpellsUnitOf text k) ts e → Refuses (SpellsSmallUnit text) ts e
-  unit_refused k ts m e word bad = record { never = λ is u r w. bad.never is u r (same_word k u ts m r word w, w) }
 
   -- a unit begins with a word that stands there
   begins : (u : ProgramUnit) (ts r : List Token) → SpellsSmallUnit text u ts r → (m : List Token) × TheWord text (unit_word u.kind) ts m
@@ -223,12 +208,40 @@ module _ (text : List ℕ) where
   is_other unit.FunctionBlock ts p b m w = absurd (b m w)
   is_other (unit.Function s q) ts p b m w = refl
 
-  pub other_refused : (ts : List Token) (e : Stop) → ((m : List Token) → TheWord text word.Program ts m → ⊥) → ((m : List Token) → TheWord text word.FunctionBlock ts m → ⊥)
-      → Refuses (SpellsUnitOf text word.Function) ts e → Refuses (SpellsSmallUnit text) ts e
-  other_refused ts e p b bad = record {
-    never = λ is u r w. let first = begins u ts r w in bad.never is u r (is_other u.kind ts p b first.0 first.1, w);
-  }
-
   -- a unit within the limits is one
   pub small_unit_one : IsDeterministic (SpellsSmallUnit text)
   small_unit_one = record { only = λ a b ts r s p q. (unit_one text).only a b ts r s p.0 q.0 }
+
+module _ (text : List ℕ) where
+  pub program_refused : (ts : List Token) (e : Stop) → Refuses SpellsProgram text ts e → Refuses (λ text. SpellsUnitOf text word.Program) text ts e
+  program_refused ts e bad = past tight_gap (λ other us back a gone u r w.
+      gone (u.place, u.name, (u.variables, u.externals, u.body)) r (program_parts other u.kind u.place u.name u.inputs u.outputs u.variables u.externals u.body us r w)) bad
+
+  pub block_refused : (ts : List Token) (e : Stop) → Refuses SpellsBlock text ts e → Refuses (λ text. SpellsUnitOf text word.FunctionBlock) text ts e
+  block_refused ts e bad = past tight_gap (λ other us back a gone u r w.
+      gone (u.place, u.name, (u.inputs, u.outputs, u.variables, u.body)) r (block_parts other u.kind u.place u.name u.inputs u.outputs u.variables u.externals u.body us r w)) bad
+
+  pub function_refused : (ts : List Token) (e : Stop) → Refuses SpellsFunction text ts e → Refuses (λ text. SpellsUnitOf text word.Function) text ts e
+  function_refused ts e bad = past tight_gap (λ other us back a gone u r w.
+      let x = function_parts other u.kind u.place u.name u.inputs u.outputs u.variables u.externals u.body us r w in
+      gone (u.place, u.name, x.0, (u.inputs, u.variables, u.body)) r x.1) bad
+
+  pub unit_refused : (k : Keyword) (ts m : List Token) (e : Stop) → TheWord text k ts m → Refuses (λ text. SpellsUnitOf text k) text ts e → Refuses SpellsSmallUnit text ts e
+  unit_refused k ts m e word bad = past tight_gap (λ other us back a gone u r w.
+      gone u r (same_word other k u us (drop 1 us) r (word_there other k us (lead_alike text other back ts us a ∙ begins_so text k ts m word)) w, w)) bad
+
+  pub other_refused : (ts : List Token) (e : Stop) → ((m : List Token) → TheWord text word.Program ts m → ⊥) → ((m : List Token) → TheWord text word.FunctionBlock ts m → ⊥)
+      → Refuses (λ text. SpellsUnitOf text word.Function) text ts e → Refuses SpellsSmallUnit text ts e
+  other_refused ts e p b bad = past tight_gap (λ other us back a gone u r w.
+      let first = begins other u us r w in
+      gone u r (is_other other u.kind us (λ m v. (word_told word.Program).still text other back ts us a p m v) (λ m v. (word_told word.FunctionBlock).still text other back ts us a b m v) first.0 first.1, w)) bad
+
+-- a unit within the limits, in alike tokens
+pub small_unit_local : IsLocal loose SpellsSmallUnit
+small_unit_local = record {
+  one = λ text. small_unit_one text;
+  carries = λ u. record {
+    ends = λ text ts m p. (unit_carries u).ends text ts m p.0;
+    over = λ text other back ts us m a p l. let f = (unit_carries u).over text other back ts us m a p.0 l in (f.0, (f.1, p.1), f.2);
+  };
+}

@@ -1,5 +1,5 @@
 -- Each part of a configuration is one, and a configuration is its parts.
-use Rattle.std.proofs.Common.{◌≡◌, ℕ, ◌≤◌, Bool, true, false, List, [], ◌∷◌, ◌++◌, length, length-append, arith, Option, Some, None, refl}
+use Rattle.std.proofs.Common.{◌≡◌, ℕ, ◌≤◌, Bool, true, false, List, [], ◌∷◌, ◌++◌, length, length-append, arith, drop, codes, Option, Some, None, refl, ◌∙◌}
 use Rattle.std.specs.Prelude.{IsFalse}
 use Rattle.std.specs.List.{All}
 use Rattle.std.proofs.lemmas.List.Elements.{All-nil, All-cons, All-head, All-tail}
@@ -20,13 +20,22 @@ use Rattle.il_grammar_laws.proofs.Combinators.{chain, behind, through, no_one, p
 use Rattle.il_grammar_laws.proofs.Leads.{reserved, lead, word_lead, at_holds, word_sure}
 use Rattle.il_grammar_laws.proofs.Units.{unit_lead}
 use Rattle.il_grammar_laws.proofs.Configurations.{some_name_sure, task_one, program_line_one, program_line_lead, end_lead}
-use Rattle.il_read.specs.Reads.{IsFault, Reads, Refuses}
-use Rattle.il_read.specs.Settings.{PlacedWord}
+use Rattle.il_spec.specs.declared.keyword.Keyword.{Keyword}
+use Rattle.il_grammar_laws.specs.Alike.{AreAlike, Carries, IsLocal, IsTold}
+use Rattle.il_grammar_laws.proofs.Alike.{tight_gap, loose_gap, loosely, no_carries, follows, placed, repeated}
+use Rattle.il_grammar_laws.proofs.Local.{word_same, word_carries, some_name_carries, task_carries, program_line_carries, size_carries}
+use Rattle.il_grammar_laws.proofs.Configurations.{three_sizes_one}
+use Rattle.il_read.proofs.Leaves.{word_lead as begins_so, word_there, lead_alike}
+use Rattle.il_read.proofs.Chain.{Lacks, past}
+use Rattle.il_parse.specs.Ahead.{RefusesAhead}
+use Rattle.il_parse.proofs.Ahead.{forget, ahead_of}
+use Rattle.il_read.specs.Reads.{Reads, Refuses}
+use Rattle.il_read.specs.Settings.{PlacedWord, SpellsThree}
 use Rattle.il_read.specs.declared.stop.Stop.{Stop}
 use Rattle.il_parse.specs.Units.{SpellsSmallUnit}
-use Rattle.il_parse.proofs.OneUnit.{small_unit_one}
+use Rattle.il_parse.proofs.OneUnit.{small_unit_one, small_unit_local}
 use Rattle.il_parse.specs.Refused.{IsSmall}
-use Rattle.il_parse.specs.Parts.{SpellsFewUnits, SpellsGlobalList, SpellsSomeGlobals, SpellsTasks, SpellsPrograms, SpellsLines, SpellsResourceOf, SpellsGroup, SpellsSmallConfig}
+use Rattle.il_parse.specs.Parts.{SpellsUnits, SpellsFewUnits, SpellsGlobalList, SpellsSomeGlobals, SpellsTasks, SpellsPrograms, SpellsLines, SpellsResourceOf, SpellsGroup, SpellsSmallConfig}
 use Rattle.il_parse.proofs.Repeated.{end_apart, end_joined, stop_apart, stop_joined}
 
 -- the sizes, the globals and the lines of a configuration
@@ -110,13 +119,6 @@ module _ (text : List ℕ) where
 
   pub globals_read : (ts r : List Token) (p : Place) (ds : List Declaration) → Reads (SpellsGlobalList text) ts (p, ds) r → Reads (SpellsSomeGlobals text) ts (Some p, ds) r
   globals_read ts r p ds here = record { found = list_placed p (Repeats (SpellsDeclaration text) ds (TheWord text word.EndVar)) (skip_line_ends ts) r here.found }
-
-  pub globals_refused : (ts m : List Token) (e : Stop) → TheWord text word.VarGlobal (skip_line_ends ts) m → Refuses (SpellsGlobalList text) ts e → Refuses (SpellsSomeGlobals text) ts e
-  globals_refused ts m e there bad = record { never = λ is x r w. go is x.0 x.1 r w }
-    where
-      go : IsFault e → (o : Option Place) (ds : List Declaration) (r : List Token) → SpellsGlobals text o ds ts r → ⊥
-      go is None ds r w = w.1.1 m there
-      go is (Some p) ds r w = bad.never is (p, ds) r (word_placed p (Repeats (SpellsDeclaration text) ds (TheWord text word.EndVar)) (skip_line_ends ts) r w)
 
   -- what the program lines begin with is no TASK
   program_no_task : (ls : List ProgramLine) (p : Place) (ts r s : List Token) → Repeats (SpellsProgramLine text) ls (At p (TheWord text word.EndResource)) ts r → TheWord text word.Task ts s → ⊥
@@ -212,9 +214,6 @@ module _ (text : List ℕ) where
       let split = end_apart (SpellsUnit text) (TheWord text word.Configuration) (Behind c) c.units ts r w in
       (split.0, (to_small (TheWord text word.Configuration) c.units ts split.0 small.instructions small.nesting split.1, small.units), to_group c (skip_line_ends split.0) r split.2)
 
-  pub config_refused : (ts : List Token) (e : Stop) → Refuses SpellsWhole (skip_line_ends ts) e → Refuses (SpellsSmallConfig text) ts e
-  config_refused ts e bad = record { never = λ is c r w. bad.never is (c.units, group c) r (to_whole c (skip_line_ends ts) r w.0 w.1) }
-
   pub config_read : (ts r : List Token) (us : List ProgramUnit) (g : Group) → Reads SpellsWhole (skip_line_ends ts) (us, g) r → Reads (SpellsSmallConfig text) ts (config us g) r
   config_read ts r us g here =
       let w = here.found in
@@ -230,3 +229,61 @@ module _ (text : List ℕ) where
           },
         );
       }
+
+-- what stands at the front, told by a word that is missing
+pub no_word_told : (k : Keyword) → IsTold (λ text. No (TheWord text k))
+no_word_told k = record { still = go }
+  where
+    go : (text other : List ℕ) (back ts us : List Token) → AreAlike text other back ts us → ((m : List Token) → No (TheWord text k) ts m → ⊥) → (m : List Token) → No (TheWord other k) us m → ⊥
+    go text other back ts us a none m w =
+        none ts (refl, λ r v. w.1 (drop 1 us) (word_there other k us (lead_alike text other back ts us a ∙ begins_so text k ts r v)))
+
+no_word_carries : (k : Keyword) → Carries tight (λ text. No (TheWord text k))
+no_word_carries k = no_carries (word_same k)
+
+pub tasks_local : IsLocal tight SpellsTasks
+tasks_local = record { one = λ text. tasks_one text; carries = λ xs. repeated tight_gap (λ t. loosely (task_carries t)) (no_word_carries word.Task) xs }
+
+pub programs_local : IsLocal tight SpellsPrograms
+programs_local = record { one = λ text. programs_one text; carries = λ xs. repeated tight_gap (λ p. loosely (program_line_carries p)) (no_word_carries word.Program) xs }
+
+pub resource_of_local : IsLocal tight SpellsResourceOf
+resource_of_local = record {
+  one = λ text. resource_of_one text;
+  carries = λ x.
+      follows loose_gap tight_gap (word_carries word.Resource) (follows loose_gap tight_gap some_name_carries (follows loose_gap tight_gap (word_carries word.On) (follows loose_gap tight_gap some_name_carries
+      (follows tight_gap tight_gap (tasks_local.carries x.0) (follows tight_gap tight_gap (programs_local.carries x.1) (placed x.2 (word_carries word.EndResource)))))));
+}
+
+units_carry : (us : List ProgramUnit) → Carries tight (λ text. SpellsUnits text us)
+units_carry us = repeated tight_gap (λ u. small_unit_local.carries u) (word_carries word.Configuration) us
+
+pub few_units_local : IsLocal tight SpellsFewUnits
+few_units_local = record {
+  one = λ text. few_units_one text;
+  carries = λ us. record {
+    ends = λ text ts m p. (units_carry us).ends text ts m p.0;
+    over = λ text other back ts vs m a p l. let f = (units_carry us).over text other back ts vs m a p.0 l in (f.0, (f.1, p.1), f.2);
+  };
+}
+
+pub three_sizes_local : IsLocal tight SpellsThree
+three_sizes_local = record {
+  one = λ text. three_sizes_one text;
+  carries = λ x.
+      follows loose_gap tight_gap (word_carries word.VarGlobal) (follows loose_gap tight_gap (word_carries word.Constant) (follows loose_gap tight_gap (size_carries (codes "CARS") x.0)
+      (follows loose_gap tight_gap (size_carries (codes "FLOORS") x.1.0) (follows loose_gap tight_gap (size_carries (codes "SLOTS") x.1.1) (word_carries word.EndVar)))));
+}
+
+module _ (text : List ℕ) where
+  pub globals_refused : (ts m : List Token) (e : Stop) → TheWord text word.VarGlobal (skip_line_ends ts) m → RefusesAhead SpellsGlobalList text ts e → Refuses SpellsSomeGlobals text ts e
+  globals_refused ts m e there bad = forget (ahead_of (λ other us back a gone x r w.
+      go other us (word_there other word.VarGlobal (skip_line_ends us) (lead_alike text other back (skip_line_ends ts) (skip_line_ends us) a ∙ begins_so text word.VarGlobal (skip_line_ends ts) m there)) gone x.0 x.1 r w) bad)
+    where
+      go : (other : List ℕ) (us : List Token) → TheWord other word.VarGlobal (skip_line_ends us) (drop 1 (skip_line_ends us)) → Lacks (SpellsGlobalList other) us → (o : Option Place) (ds : List Declaration) (r : List Token)
+          → SpellsGlobals other o ds us r → ⊥
+      go other us here gone None ds r w = w.1.1 (drop 1 (skip_line_ends us)) here
+      go other us here gone (Some p) ds r w = gone (p, ds) r (word_placed other p (Repeats (SpellsDeclaration other) ds (TheWord other word.EndVar)) (skip_line_ends us) r w)
+
+  pub config_refused : (ts : List Token) (e : Stop) → Refuses SpellsWhole text (skip_line_ends ts) e → Refuses SpellsSmallConfig text ts e
+  config_refused ts e bad = past loose_gap (λ other us back a gone c r w. gone (c.units, group c) r (to_whole other c (skip_line_ends us) r w.0 w.1)) bad

@@ -1,13 +1,15 @@
 -- Repeated things, and what stands behind them.
-use Rattle.std.proofs.Common.{List, [], ◌∷◌, refl, sym, subst}
+use Rattle.std.proofs.Common.{ℕ, List, [], ◌∷◌, refl, sym, subst}
 use Rattle.il_spec.specs.declared.token.Token.{Token}
 use Rattle.il_spec.specs.Grammar.{Front, skip_line_ends, ◌⨾◌, ◌⋯◌, AfterLines, No, Repeats}
+use Rattle.il_grammar_laws.proofs.Alike.{loose_gap}
+use Rattle.il_read.proofs.Chain.{past}
 use Rattle.il_read.specs.Reads.{Refuses}
 use Rattle.il_read.specs.declared.stop.Stop.{Stop}
 
 -- behind line ends
-pub after_refused : {A : Type 0} {P : A → Front} {ts : List Token} {e : Stop} → Refuses P (skip_line_ends ts) e → Refuses (λ x. AfterLines (P x)) ts e
-after_refused bad = record { never = λ is x r w. bad.never is x r w }
+pub after_refused : {A : Type 0} {P : List ℕ → A → Front} {text : List ℕ} {ts : List Token} {e : Stop} → Refuses P text (skip_line_ends ts) e → Refuses (λ text x. AfterLines (P text x)) text ts e
+after_refused bad = past loose_gap (λ other us back a gone x r w. gone x r w) bad
 
 module _ {A : Type 0} (P : A → Front) where
   -- their end, apart from what stands behind it

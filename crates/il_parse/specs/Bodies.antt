@@ -1,5 +1,5 @@
 -- What a reader of a body promises.
-use Rattle.std.specs.Prelude.{◌≡◌, ℕ, ◌<◌, ◌≤◌, Bool, true, false, not, ◌&&◌, ◌||◌, ◌==◌, if◌then◌else◌, IsTrue, List, [], length, Option, Some, None, ⊤}
+use Rattle.std.specs.Prelude.{◌≡◌, ℕ, ◌<◌, ◌≤◌, Bool, true, false, not, ◌&&◌, ◌||◌, ◌==◌, if◌then◌else◌, IsTrue, List, [], length, drop, Option, Some, None, ⊤}
 use Rattle.il_spec.specs.declared.token.Token.{Token}
 use Rattle.il_spec.specs.declared.token.Sign.TheVariants.{CloseParenthesis}
 use Rattle.il_spec.specs.declared.keyword.Keyword.{Keyword}
@@ -10,6 +10,11 @@ use Rattle.il_spec.specs.declared.tree.Instruction.{Instruction}
 use Rattle.il_spec.specs.declared.tree.Step.{Step}
 use Rattle.il_spec.specs.declared.tree.Body.{Body}
 use Rattle.il_spec.specs.Grammar.{Front, ◌⋯◌, At, Repeats, TheWord, TheLineEnd, SpellsInstruction, SpellsLabelled, SpellsStep, SpellsLabelLine, may_stand, depth_after, is_nested, greatest_depth}
+use Rattle.il_grammar_laws.specs.Alike.{IsEndOf, AreAlike}
+use Rattle.il_read.specs.Lead.{lead_at}
+use Rattle.il_read.specs.Reads.{IsFault, fault_at, turn, GoesOnNoMore}
+use Rattle.il_read.specs.declared.stop.SyntaxError.{SyntaxError}
+use Rattle.il_read.specs.declared.stop.Stop.{Stop}
 use Rattle.il_read.specs.declared.lead.Lead.{Lead}
 use Rattle.il_read.specs.declared.lead.Lead.TheVariants as lead
 use Rattle.il_parse.specs.declared.bodies.Entry.{Entry}
@@ -52,12 +57,22 @@ abbrev pub SpellsPlaced : List ℕ → ℕ → Bool → Bool → Place × Instru
 SpellsPlaced text depth load full x ts rest =
     At x.0 (SpellsInstruction text x.1) ts rest × IsTrue (may_stand depth load (bare x.0 x.1)) × (depth_after depth x.1 ≤ 16) × IsTrue (not full)
 
--- What labels were read: they name what stands behind them. Only where the last stands alone on its line may the body end there.
+-- A fault says that with the token at its place no such instruction goes on. Outside parentheses it is not the name that an
+-- instruction begins with: that may be a label, as the token behind it tells.
+pub record RefusesPlaced (text : List ℕ) (depth : ℕ) (load full : Bool) (ts : List Token) (e : Stop) : Type 0 where
+  pub fault : IsFault e → (error : SyntaxError) × (at : List Token) × (e ≡ fault_at error at) × IsEndOf at ts
+      × (depth ≡ 0 → lead_at text ts ≡ lead.Name → IsEndOf (turn error text at) (drop 1 ts)) × GoesOnNoMore (λ text. SpellsPlaced text depth load full) text ts (turn error text at)
+
+-- What labels were read: they name what stands behind them, in alike tokens too. Only where the last stands alone on its line may
+-- the body end there. Whether a name behind them is a label more, the token behind the name tells.
 pub record HasLabels (text : List ℕ) (start : List Token) (ns : List Named) (alone : Bool) (ts : List Token) : Type 0 where
+  pub inside : IsEndOf ts start
   pub names : (p : Place) (i : Instruction) (r : List Token) → At p (SpellsInstruction text i) ts r → SpellsLabelled text ns (At p (SpellsInstruction text i)) start r
-  pub no_other : (p : Place) (i : Instruction) (ys : List Named) (r : List Token) → SpellsLabelled text ys (At p (SpellsInstruction text i)) start r → (ys ≡ ns) × At p (SpellsInstruction text i) ts r
   pub ends : IsTrue alone → (k : Keyword) (p : Place) (r : List Token) → At p (TheWord text k) ts r → Repeats (SpellsLabelLine text) ns (At p (TheWord text k)) start r
-  pub no_other_end : (k : Keyword) (p : Place) (ys : List Named) (r : List Token) → Repeats (SpellsLabelLine text) ys (At p (TheWord text k)) start r → (ys ≡ ns) × At p (TheWord text k) ts r × IsTrue alone
+  pub left : (other : List ℕ) (back us : List Token) → AreAlike text other back start us → length back ≤ length ts → (lead_at text ts ≡ lead.Name → length back ≤ length (drop 1 ts))
+      → (vs : List Token) × AreAlike text other back ts vs
+      × ((p : Place) (i : Instruction) (ys : List Named) (r : List Token) → SpellsLabelled other ys (At p (SpellsInstruction other i)) us r → (ys ≡ ns) × At p (SpellsInstruction other i) vs r)
+      × ((k : Keyword) (p : Place) (ys : List Named) (r : List Token) → Repeats (SpellsLabelLine other) ys (At p (TheWord other k)) us r → (ys ≡ ns) × At p (TheWord other k) vs r × IsTrue alone)
 
 -- the word that ends the body, which is taken where it may stand, or doesn't stand there
 abbrev pub TakesEnd : List ℕ → Keyword → Bool → List Token → Option Place → List Token → Type 0

@@ -1,3 +1,4 @@
+pub mod Ahead
 pub mod Refused
 pub mod Parts
 pub mod Bodies

@@ -1,8 +1,9 @@
 // The configuration (IEC 61131-3:2003, 2.7).
 
-ghost use Rattle.std.specs.Prelude.{◌≡◌, [], IfOk, IfErr};
+ghost use Rattle.std.specs.Prelude.{◌≡◌, ℕ, List, [], IfOk, IfErr};
 ghost use Rattle.il_spec.specs.Grammar.{TheEnd};
 ghost use Rattle.il_read.specs.Reads.{Reads, Refuses, Stands, Misses};
+ghost use Rattle.il_parse.specs.Ahead.{RefusesAhead};
 ghost use Rattle.il_parse.specs.Parts.{SpellsGlobalList, SpellsSomeGlobals, SpellsTasks, SpellsPrograms, SpellsLines, SpellsResourceOf, SpellsEnding, SpellsGroup, SpellsSmallConfig};
 
 use crate::units::units;
@@ -24,7 +25,7 @@ type Sizes = (Size, (Size, Size));
 // The list of globals, with its place.
 fn global_list(source: &Source, tokens: &mut Tokens) -> Result<(Place, Items<Declaration>), Stop>
     ensures reads { IfOk result (λ x. Reads (SpellsGlobalList source.now) tokens.old x tokens.new) }
-    ensures refused { IfErr result (λ e. Refuses (SpellsGlobalList source.now) tokens.old e) }
+    ensures refused { IfErr result (λ e. RefusesAhead SpellsGlobalList source.now tokens.old e) }
 {
     tokens.skip_lines();
     let place = source.placed_word(tokens, Keyword::VarGlobal)?;
@@ -37,7 +38,7 @@ fn global_list(source: &Source, tokens: &mut Tokens) -> Result<(Place, Items<Dec
 fn globals(source: &Source, tokens: &mut Tokens) -> Result<Globals, Stop>
     ensures reads { IfOk result (λ x. Reads (SpellsSomeGlobals source.now) tokens.old x
         tokens.new) }
-    ensures refused { IfErr result (λ e. Refuses (SpellsSomeGlobals source.now) tokens.old e) }
+    ensures refused { IfErr result (λ e. Refuses SpellsSomeGlobals source.now tokens.old e) }
 {
     if !comes(source, tokens, Keyword::VarGlobal) {
         return Ok((None, Items::new(source.alloc())));
@@ -49,7 +50,7 @@ fn globals(source: &Source, tokens: &mut Tokens) -> Result<Globals, Stop>
 // All TASK lines.
 fn tasks(source: &Source, tokens: &mut Tokens) -> Result<Items<Task>, Stop>
     ensures reads { IfOk result (λ xs. Reads (SpellsTasks source.now) tokens.old xs tokens.new) }
-    ensures refused { IfErr result (λ e. Refuses (SpellsTasks source.now) tokens.old e) }
+    ensures refused { IfErr result (λ e. Refuses SpellsTasks source.now tokens.old e) }
 {
     let mut tasks = Items::new(source.alloc());
     'tasks: while source.word_stands(tokens, Keyword::Task) {
@@ -63,7 +64,7 @@ fn tasks(source: &Source, tokens: &mut Tokens) -> Result<Items<Task>, Stop>
 // All PROGRAM lines.
 fn programs(source: &Source, tokens: &mut Tokens) -> Result<Items<ProgramLine>, Stop>
     ensures reads { IfOk result (λ xs. Reads (SpellsPrograms source.now) tokens.old xs tokens.new) }
-    ensures refused { IfErr result (λ e. Refuses (SpellsPrograms source.now) tokens.old e) }
+    ensures refused { IfErr result (λ e. Refuses SpellsPrograms source.now tokens.old e) }
 {
     let mut programs = Items::new(source.alloc());
     'programs: while source.word_stands(tokens, Keyword::Program) {
@@ -77,7 +78,7 @@ fn programs(source: &Source, tokens: &mut Tokens) -> Result<Items<ProgramLine>, 
 // The lines of a resource, and its end.
 fn lines(source: &Source, tokens: &mut Tokens) -> Result<Lines, Stop>
     ensures reads { IfOk result (λ x. Reads (SpellsLines source.now) tokens.old x tokens.new) }
-    ensures refused { IfErr result (λ e. Refuses (SpellsLines source.now) tokens.old e) }
+    ensures refused { IfErr result (λ e. Refuses SpellsLines source.now tokens.old e) }
 {
     let tasks = tasks(source, tokens)?;
     let programs = programs(source, tokens)?;
@@ -88,7 +89,7 @@ fn lines(source: &Source, tokens: &mut Tokens) -> Result<Lines, Stop>
 // The resource.
 fn resource(source: &Source, tokens: &mut Tokens) -> Result<Lines, Stop>
     ensures reads { IfOk result (λ x. Reads (SpellsResourceOf source.now) tokens.old x tokens.new) }
-    ensures refused { IfErr result (λ e. Refuses (SpellsResourceOf source.now) tokens.old e) }
+    ensures refused { IfErr result (λ e. Refuses SpellsResourceOf source.now tokens.old e) }
 {
     source.word(tokens, Keyword::Resource)?;
     tokens.skip_lines();
@@ -105,7 +106,8 @@ fn resource(source: &Source, tokens: &mut Tokens) -> Result<Lines, Stop>
 // The end of the text.
 fn text_end(tokens: &Tokens) -> Result<(), Stop>
     ensures reads { IfOk result (λ _. Stands TheEnd tokens.now []) }
-    ensures refused { IfErr result (λ e. Misses TheEnd tokens.now e) }
+    ensures refused { IfErr result (λ e. (text : List ℕ)
+        → Misses (λ text. TheEnd) text tokens.now e) }
 {
     match tokens.first() {
         Some(_) => Err(tokens.outside()),
@@ -116,7 +118,7 @@ fn text_end(tokens: &Tokens) -> Result<(), Stop>
 // The resource, and the ends of the configuration and of the text.
 fn ending(source: &Source, tokens: &mut Tokens) -> Result<Lines, Stop>
     ensures reads { IfOk result (λ x. Reads (SpellsEnding source.now) tokens.old x []) }
-    ensures refused { IfErr result (λ e. Refuses (SpellsEnding source.now) tokens.old e) }
+    ensures refused { IfErr result (λ e. Refuses SpellsEnding source.now tokens.old e) }
 {
     let lines = resource(source, tokens)?;
     tokens.skip_lines();
@@ -129,7 +131,7 @@ fn ending(source: &Source, tokens: &mut Tokens) -> Result<Lines, Stop>
 // What stands behind CONFIGURATION.
 fn group(source: &Source, tokens: &mut Tokens) -> Result<(Sizes, Globals, Lines), Stop>
     ensures reads { IfOk result (λ x. Reads (SpellsGroup source.now) tokens.old x []) }
-    ensures refused { IfErr result (λ e. Refuses (SpellsGroup source.now) tokens.old e) }
+    ensures refused { IfErr result (λ e. Refuses SpellsGroup source.now tokens.old e) }
 {
     source.some_name(tokens)?;
     tokens.skip_lines();
@@ -175,7 +177,7 @@ fn config_of(units: Items<Unit>, sizes: Sizes, globals: Globals, lines: Lines) -
 /// The configuration that all of the tokens spell.
 pub fn configuration(source: &Source, tokens: &mut Tokens) -> Result<Config, Stop>
     ensures reads { IfOk result (λ c. Reads (SpellsSmallConfig source.now) tokens.old c []) }
-    ensures refused { IfErr result (λ e. Refuses (SpellsSmallConfig source.now) tokens.old e) }
+    ensures refused { IfErr result (λ e. Refuses SpellsSmallConfig source.now tokens.old e) }
 {
     tokens.skip_lines();
     let units = units(source, tokens)?;

@@ -14,7 +14,7 @@ use lists::Items;
 // A scalar type with its place.
 fn placed_scalar(source: &Source, tokens: &mut Tokens) -> Result<(Place, Scalar), Stop>
     ensures reads { IfOk result (λ x. Reads (PlacedScalar source.now) tokens.old x tokens.new) }
-    ensures refused { IfErr result (λ e. Refuses (PlacedScalar source.now) tokens.old e) }
+    ensures refused { IfErr result (λ e. Refuses PlacedScalar source.now tokens.old e) }
 {
     let Some(place) = tokens.place() else {
         return Err(tokens.outside());
@@ -26,7 +26,7 @@ fn placed_scalar(source: &Source, tokens: &mut Tokens) -> Result<(Place, Scalar)
 // The result of a function, with its place.
 fn function_result(source: &Source, tokens: &mut Tokens) -> Result<(Place, Scalar), Stop>
     ensures reads { IfOk result (λ x. Reads (SpellsResultAt source.now) tokens.old x tokens.new) }
-    ensures refused { IfErr result (λ e. Refuses (SpellsResultAt source.now) tokens.old e) }
+    ensures refused { IfErr result (λ e. Refuses SpellsResultAt source.now tokens.old e) }
 {
     tokens.skip_lines();
     source.sign(tokens, Sign::Colon)?;
@@ -40,7 +40,7 @@ pub fn program(
     tokens: &mut Tokens,
 ) -> Result<(Place, Named, (Items<Declaration>, Items<Declaration>, Body)), Stop>
     ensures reads { IfOk result (λ x. Reads (SpellsProgram source.now) tokens.old x tokens.new) }
-    ensures refused { IfErr result (λ e. Refuses (SpellsProgram source.now) tokens.old e) }
+    ensures refused { IfErr result (λ e. Refuses SpellsProgram source.now tokens.old e) }
 {
     let place = source.placed_word(tokens, Keyword::Program)?;
     tokens.skip_lines();
@@ -67,7 +67,7 @@ pub fn block(
     Stop,
 >
     ensures reads { IfOk result (λ x. Reads (SpellsBlock source.now) tokens.old x tokens.new) }
-    ensures refused { IfErr result (λ e. Refuses (SpellsBlock source.now) tokens.old e) }
+    ensures refused { IfErr result (λ e. Refuses SpellsBlock source.now tokens.old e) }
 {
     let place = source.placed_word(tokens, Keyword::FunctionBlock)?;
     tokens.skip_lines();
@@ -90,7 +90,7 @@ pub fn function(
     Stop,
 >
     ensures reads { IfOk result (λ x. Reads (SpellsFunction source.now) tokens.old x tokens.new) }
-    ensures refused { IfErr result (λ e. Refuses (SpellsFunction source.now) tokens.old e) }
+    ensures refused { IfErr result (λ e. Refuses SpellsFunction source.now tokens.old e) }
 {
     let place = source.placed_word(tokens, Keyword::Function)?;
     tokens.skip_lines();

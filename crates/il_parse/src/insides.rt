@@ -2,6 +2,7 @@
 
 ghost use Rattle.std.specs.Prelude.{IfOk, IfErr};
 ghost use Rattle.il_read.specs.Reads.{Reads, Refuses};
+ghost use Rattle.il_parse.specs.Ahead.{RefusesAhead};
 ghost use Rattle.il_parse.specs.Insides.{SpellsProgramInside, SpellsBlockInside, SpellsFunctionInside};
 
 use crate::bodies::body;
@@ -18,7 +19,7 @@ pub fn program_inside(
 ) -> Result<(Items<Declaration>, Items<Declaration>, Body), Stop>
     ensures reads { IfOk result (λ x. Reads (SpellsProgramInside source.now) tokens.old x
         tokens.new) }
-    ensures refused { IfErr result (λ e. Refuses (SpellsProgramInside source.now) tokens.old e) }
+    ensures refused { IfErr result (λ e. RefusesAhead SpellsProgramInside source.now tokens.old e) }
 {
     no_list(source, tokens, Keyword::VarInput)?;
     no_list(source, tokens, Keyword::VarOutput)?;
@@ -43,7 +44,7 @@ pub fn block_inside(
 >
     ensures reads { IfOk result (λ x. Reads (SpellsBlockInside source.now) tokens.old x
         tokens.new) }
-    ensures refused { IfErr result (λ e. Refuses (SpellsBlockInside source.now) tokens.old e) }
+    ensures refused { IfErr result (λ e. RefusesAhead SpellsBlockInside source.now tokens.old e) }
 {
     let inputs = filled_list(source, tokens, Keyword::VarInput)?;
     let outputs = filled_list(source, tokens, Keyword::VarOutput)?;
@@ -60,7 +61,8 @@ pub fn function_inside(
 ) -> Result<(Items<Declaration>, Items<Declaration>, Body), Stop>
     ensures reads { IfOk result (λ x. Reads (SpellsFunctionInside source.now) tokens.old x
         tokens.new) }
-    ensures refused { IfErr result (λ e. Refuses (SpellsFunctionInside source.now) tokens.old e) }
+    ensures refused { IfErr result (λ e. RefusesAhead
+        SpellsFunctionInside source.now tokens.old e) }
 {
     let inputs = full_list(source, tokens, Keyword::VarInput)?;
     no_list(source, tokens, Keyword::VarOutput)?;

@@ -1,12 +1,12 @@
 //! Parser: the tree that the tokens of a text spell.
 #![tactic(auto)]
 
-ghost use Rattle.std.specs.Prelude.{◌≡◌, ◌≤◌, length, IfOk, IfErr, []};
-ghost use Rattle.il_spec.specs.Text.{AreTokens, upper_case};
+ghost use Rattle.std.specs.Prelude.{◌≡◌, ◌<◌, ◌≤◌, length, IfOk, IfErr, []};
+ghost use Rattle.il_spec.specs.Text.{AreTokens, upper_case, line_at};
 ghost use Rattle.il_spec.specs.Grammar.{AfterLines, SpellsConfig, Spells, IsWithinLimits};
 ghost use Rattle.il_spec.specs.declared.tree.Config.{Config};
 ghost use Rattle.il_read.specs.Reads.{Reads, Refuses};
-ghost use Rattle.il_parse.specs.Refused.{IsFault, IsOfParser, IsSmall};
+ghost use Rattle.il_parse.specs.Refused.{IsFault, IsOfParser, IsSmall, GoesOnNowhere, NoTextGoesOn};
 ghost use Rattle.il_parse.specs.Parts.{SpellsSmallConfig};
 
 mod bodies;
@@ -34,7 +34,7 @@ pub use variables::{comes, externals, filled_list, full_list, no_list, optional_
 ///
 /// Fault 10 stands at the first token with which no text goes on; at the end of the text its line is one more than the line
 /// feeds. Fault 11 stands at the 17th parenthesis that is open at once, and fault 12 at the 65th unit and at the operator of a
-/// unit's 4097th instruction.
+/// unit's 4097th instruction. That no text goes on with it is proved, that one goes on with the token before it is only tested.
 pub fn parse(alloc: Global, text: &[u8], tokens: &[Token]) -> Result<Written, Refusal>
     requires { AreTokens text.now 0 tokens.now }
     // What is read is spelled so.
@@ -48,6 +48,10 @@ pub fn parse(alloc: Global, text: &[u8], tokens: &[Token]) -> Result<Written, Re
     // What is spelled within the limits is read, unless memory runs out.
     ensures refused { IsFault result → (c : Config)
         → AfterLines (SpellsConfig text.now c) tokens.now [] → IsSmall c → ⊥ }
+
+    // With the token that a fault names, no text goes on.
+    ensures nowhere { IfErr result (λ e. GoesOnNowhere text.now tokens.now e) }
+    ensures texts { IfErr result (λ e. NoTextGoesOn text.now tokens.now e) }
 
     // What is refused is 10, what no text goes on with, 11, too many open parentheses, or 12, too many units or instructions.
     ensures number { IfErr result (λ e. IsOfParser e) }
@@ -70,7 +74,7 @@ pub fn parse(alloc: Global, text: &[u8], tokens: &[Token]) -> Result<Written, Re
 fn read(alloc: Global, text: &[u8], tokens: &[Token]) -> Result<Config, Stop>
     requires { AreTokens text.now 0 tokens.now }
     ensures reads { IfOk result (λ c. Reads (SpellsSmallConfig text.now) tokens.now c []) }
-    ensures refused { IfErr result (λ e. Refuses (SpellsSmallConfig text.now) tokens.now e) }
+    ensures refused { IfErr result (λ e. Refuses SpellsSmallConfig text.now tokens.now e) }
 {
     let upper = in_upper_case(alloc, text)?;
     let source = Source::new(alloc, text, &upper);
@@ -89,7 +93,11 @@ fn in_upper_case(alloc: Global, text: &[u8]) -> Result<Vec<u8>, AllocError>
 }
 
 // The place of the end of a text. Its line is one more than the line feeds.
-fn end_of(text: &[u8]) -> Place {
+fn end_of(text: &[u8]) -> Place
+    ensures offset { length text.now < 4294967295 → result.offset ≡ length text.now }
+    ensures line { length text.now < 4294967295
+        → result.line ≡ line_at text.now (length text.now) }
+{
     let feeds = text.iter().filter(|byte| **byte == b'\n').count();
     Place {
         offset: as_u32(text.len()),
@@ -98,6 +106,8 @@ fn end_of(text: &[u8]) -> Place {
 }
 
 // A count of bytes of a text, which has fewer than 2^32.
-fn as_u32(count: usize) -> u32 {
+fn as_u32(count: usize) -> u32
+    ensures { count < 4294967296 → result ≡ count }
+{
     u32::try_from(count).unwrap_or(u32::MAX)
 }

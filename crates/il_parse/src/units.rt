@@ -1,7 +1,8 @@
 // The units of a text.
 
 ghost use Rattle.std.specs.Prelude.{◌≡◌, length, IsTrue, IsFalse, IfOk, IfErr};
-ghost use Rattle.il_read.specs.Reads.{Reads, Refuses};
+ghost use Rattle.il_read.specs.Reads.{Reads, Refuses, fault_at, turn};
+ghost use Rattle.il_read.specs.declared.stop.SyntaxError.{SyntaxError};
 ghost use Rattle.il_parse.specs.Parts.{SpellsFewUnits};
 
 use crate::one_unit::unit;
@@ -19,7 +20,10 @@ fn is_full(units: &Items<Unit>) -> bool
 }
 
 // Why no unit may stand here: it is one too many, or it is none.
-fn surplus(source: &Source, tokens: &Tokens) -> Stop {
+fn surplus(source: &Source, tokens: &Tokens) -> Stop
+    ensures { (error : SyntaxError) × (result ≡ fault_at error tokens.now)
+        × (turn error source.now tokens.now ≡ tokens.now) }
+{
     match source.lead(tokens) {
         Lead::Reserved(Keyword::Function | Keyword::FunctionBlock | Keyword::Program) => {
             tokens.fault(SyntaxError::TooMany)
@@ -31,7 +35,7 @@ fn surplus(source: &Source, tokens: &Tokens) -> Stop {
 /// The units of a text, and CONFIGURATION.
 pub fn units(source: &Source, tokens: &mut Tokens) -> Result<Items<Unit>, Stop>
     ensures reads { IfOk result (λ us. Reads (SpellsFewUnits source.now) tokens.old us tokens.new) }
-    ensures refused { IfErr result (λ e. Refuses (SpellsFewUnits source.now) tokens.old e) }
+    ensures refused { IfErr result (λ e. Refuses SpellsFewUnits source.now tokens.old e) }
 {
     let mut units = Items::new(source.alloc());
     'units: while !source.eat_word(tokens, Keyword::Configuration) {

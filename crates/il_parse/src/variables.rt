@@ -5,6 +5,7 @@ ghost use Rattle.il_spec.specs.Grammar.{AfterLines, No, TheWord, SpellsDeclarati
 ghost use Rattle.il_spec.specs.declared.keyword.Keyword.TheVariants as word;
 ghost use Rattle.il_read.specs.Reads.{Reads, Refuses, Stands, Misses, Comes};
 ghost use Rattle.il_read.specs.declared.stop.Stop.TheVariants.{Memory};
+ghost use Rattle.il_parse.specs.Ahead.{RefusesAhead, MissesAhead};
 ghost use Rattle.il_parse.specs.Lists.{SpellsFull, SpellsExternalsInside};
 
 use il_read::{Source, Stop, Tokens};
@@ -26,8 +27,9 @@ pub fn comes(source: &Source, tokens: &Tokens, keyword: Keyword) -> bool
 pub fn no_list(source: &Source, tokens: &Tokens, keyword: Keyword) -> Result<(), Stop>
     ensures reads { IfOk result (λ _. Stands (No (AfterLines (TheWord source.now keyword)))
         tokens.now tokens.now) }
-    ensures refused { IfErr result (λ e. Misses (No (AfterLines (TheWord source.now keyword)))
-        tokens.now e) }
+    ensures refused { IfErr result (λ e. MissesAhead
+        (λ text. No (AfterLines (TheWord text keyword)))
+        source.now tokens.now e) }
 {
     if comes(source, tokens, keyword) {
         let mut ahead = tokens.ahead();
@@ -41,8 +43,8 @@ pub fn no_list(source: &Source, tokens: &Tokens, keyword: Keyword) -> Result<(),
 fn list(source: &Source, tokens: &mut Tokens, keyword: Keyword) -> Result<Items<Declaration>, Stop>
     ensures reads { IfOk result (λ ds. Reads
         (SpellsList source.now keyword (SpellsDeclaration source.now)) tokens.old ds tokens.new) }
-    ensures refused { IfErr result (λ e. Refuses
-        (SpellsList source.now keyword (SpellsDeclaration source.now)) tokens.old e) }
+    ensures refused { IfErr result (λ e. RefusesAhead
+        (λ text. SpellsList text keyword (SpellsDeclaration text)) source.now tokens.old e) }
 {
     tokens.skip_lines();
     source.word(tokens, keyword)?;
@@ -58,7 +60,8 @@ pub fn full_list(
 ) -> Result<Items<Declaration>, Stop>
     ensures reads { IfOk result (λ ds. Reads (SpellsFull source.now keyword) tokens.old ds
         tokens.new) }
-    ensures refused { IfErr result (λ e. Refuses (SpellsFull source.now keyword) tokens.old e) }
+    ensures refused { IfErr result (λ e. RefusesAhead
+        (λ text. SpellsFull text keyword) source.now tokens.old e) }
 {
     tokens.skip_lines();
     source.word(tokens, keyword)?;
@@ -77,8 +80,8 @@ pub fn filled_list(
 ) -> Result<Items<Declaration>, Stop>
     ensures reads { IfOk result (λ ds. Reads (SpellsFilledList source.now keyword) tokens.old ds
         tokens.new) }
-    ensures refused { IfErr result (λ e. Refuses (SpellsFilledList source.now keyword) tokens.old
-        e) }
+    ensures refused { IfErr result (λ e. RefusesAhead
+        (λ text. SpellsFilledList text keyword) source.now tokens.old e) }
 {
     if !comes(source, tokens, keyword) {
         return Ok(Items::new(source.alloc()));
@@ -95,8 +98,9 @@ pub fn optional_list(
     ensures reads { IfOk result (λ ds. Reads
         (SpellsOptionalList source.now keyword (SpellsDeclaration source.now)) tokens.old ds
         tokens.new) }
-    ensures refused { IfErr result (λ e. Refuses
-        (SpellsOptionalList source.now keyword (SpellsDeclaration source.now)) tokens.old e) }
+    ensures refused { IfErr result (λ e. RefusesAhead
+        (λ text. SpellsOptionalList text keyword (SpellsDeclaration text))
+        source.now tokens.old e) }
 {
     if !comes(source, tokens, keyword) {
         return Ok(Items::new(source.alloc()));
@@ -107,7 +111,7 @@ pub fn optional_list(
 // A name, its type and a semicolon, as a declaration of one name without an initial value.
 fn external(source: &Source, tokens: &mut Tokens) -> Result<Declaration, Stop>
     ensures reads { IfOk result (λ d. Reads (SpellsExternal source.now) tokens.old d tokens.new) }
-    ensures refused { IfErr result (λ e. Refuses (SpellsExternal source.now) tokens.old e) }
+    ensures refused { IfErr result (λ e. Refuses SpellsExternal source.now tokens.old e) }
     ensures shorter { IfOk result (λ _. length tokens.new < length tokens.old) }
 {
     let name = source.named(tokens)?;
@@ -130,7 +134,7 @@ fn external(source: &Source, tokens: &mut Tokens) -> Result<Declaration, Stop>
 fn externals_inside(source: &Source, tokens: &mut Tokens) -> Result<Items<Declaration>, Stop>
     ensures reads { IfOk result (λ ds. Reads (SpellsExternalsInside source.now) tokens.old ds
         tokens.new) }
-    ensures refused { IfErr result (λ e. Refuses (SpellsExternalsInside source.now) tokens.old e) }
+    ensures refused { IfErr result (λ e. Refuses SpellsExternalsInside source.now tokens.old e) }
 {
     let mut externals = Items::new(source.alloc());
     'externals: while !source.eat_word(tokens, Keyword::EndVar) {
@@ -146,8 +150,8 @@ fn external_list(source: &Source, tokens: &mut Tokens) -> Result<Items<Declarati
     ensures reads { IfOk result (λ ds. Reads
         (SpellsList source.now word.VarExternal (SpellsExternal source.now)) tokens.old ds
         tokens.new) }
-    ensures refused { IfErr result (λ e. Refuses
-        (SpellsList source.now word.VarExternal (SpellsExternal source.now)) tokens.old e) }
+    ensures refused { IfErr result (λ e. RefusesAhead
+        (λ text. SpellsList text word.VarExternal (SpellsExternal text)) source.now tokens.old e) }
 {
     tokens.skip_lines();
     source.word(tokens, Keyword::VarExternal)?;
@@ -160,8 +164,9 @@ pub fn externals(source: &Source, tokens: &mut Tokens) -> Result<Items<Declarati
     ensures reads { IfOk result (λ ds. Reads
         (SpellsOptionalList source.now word.VarExternal (SpellsExternal source.now)) tokens.old ds
         tokens.new) }
-    ensures refused { IfErr result (λ e. Refuses
-        (SpellsOptionalList source.now word.VarExternal (SpellsExternal source.now)) tokens.old e) }
+    ensures refused { IfErr result (λ e. RefusesAhead
+        (λ text. SpellsOptionalList text word.VarExternal (SpellsExternal text))
+        source.now tokens.old e) }
 {
     if !comes(source, tokens, Keyword::VarExternal) {
         return Ok(Items::new(source.alloc()));

@@ -16,7 +16,7 @@ impl<'t> Source<'t> {
     /// Operands with commas between them, and the end of the line.
     pub fn some_operands(&self, tokens: &mut Tokens) -> Result<Items<Operand>, Stop>
         ensures reads { IfOk result (λ os. Reads (SpellsListed self.now) tokens.old os tokens.new) }
-        ensures refused { IfErr result (λ e. Refuses (SpellsListed self.now) tokens.old e) }
+        ensures refused { IfErr result (λ e. Refuses SpellsListed self.now tokens.old e) }
         ensures shorter { IfOk result (λ _. length tokens.new < length tokens.old) }
     {
         let mut operands = Items::new(self.alloc());
@@ -34,7 +34,7 @@ impl<'t> Source<'t> {
     pub fn operands(&self, tokens: &mut Tokens) -> Result<Items<Operand>, Stop>
         ensures reads { IfOk result (λ os. Reads (SpellsOperands self.now) tokens.old os
             tokens.new) }
-        ensures refused { IfErr result (λ e. Refuses (SpellsOperands self.now) tokens.old e) }
+        ensures refused { IfErr result (λ e. Refuses SpellsOperands self.now tokens.old e) }
         ensures shorter { IfOk result (λ _. length tokens.new < length tokens.old) }
     {
         if let Lead::LineEnd = self.lead(tokens) {
@@ -47,7 +47,7 @@ impl<'t> Source<'t> {
     /// Arguments with commas between them, and the parenthesis that closes.
     pub fn some_arguments(&self, tokens: &mut Tokens) -> Result<Items<Argument>, Stop>
         ensures reads { IfOk result (λ xs. Reads (SpellsInside self.now) tokens.old xs tokens.new) }
-        ensures refused { IfErr result (λ e. Refuses (SpellsInside self.now) tokens.old e) }
+        ensures refused { IfErr result (λ e. Refuses SpellsInside self.now tokens.old e) }
         ensures shorter { IfOk result (λ _. length tokens.new < length tokens.old) }
     {
         let mut arguments = Items::new(self.alloc());
@@ -65,7 +65,7 @@ impl<'t> Source<'t> {
     // The arguments behind the parenthesis that opens, which may be none, the one that closes, and the end of the line.
     fn opened(&self, tokens: &mut Tokens) -> Result<Items<Argument>, Stop>
         ensures reads { IfOk result (λ xs. Reads (SpellsOpened self.now) tokens.old xs tokens.new) }
-        ensures refused { IfErr result (λ e. Refuses (SpellsOpened self.now) tokens.old e) }
+        ensures refused { IfErr result (λ e. Refuses SpellsOpened self.now tokens.old e) }
         ensures shorter { IfOk result (λ _. length tokens.new < length tokens.old) }
     {
         if self.eat_sign(tokens, Sign::CloseParenthesis) {
@@ -80,7 +80,7 @@ impl<'t> Source<'t> {
     pub fn arguments(&self, tokens: &mut Tokens) -> Result<Items<Argument>, Stop>
         ensures reads { IfOk result (λ xs. Reads (SpellsArguments self.now) tokens.old xs
             tokens.new) }
-        ensures refused { IfErr result (λ e. Refuses (SpellsArguments self.now) tokens.old e) }
+        ensures refused { IfErr result (λ e. Refuses SpellsArguments self.now tokens.old e) }
         ensures shorter { IfOk result (λ _. length tokens.new < length tokens.old) }
     {
         if !self.eat_sign(tokens, Sign::OpenParenthesis) {
@@ -94,7 +94,7 @@ impl<'t> Source<'t> {
     /// The instance that is called, and its arguments.
     pub fn called(&self, tokens: &mut Tokens) -> Result<(Named, Items<Argument>), Stop>
         ensures reads { IfOk result (λ x. Reads (SpellsCalled self.now) tokens.old x tokens.new) }
-        ensures refused { IfErr result (λ e. Refuses (SpellsCalled self.now) tokens.old e) }
+        ensures refused { IfErr result (λ e. Refuses SpellsCalled self.now tokens.old e) }
         ensures shorter { IfOk result (λ _. length tokens.new < length tokens.old) }
     {
         let instance = self.named(tokens)?;

@@ -71,7 +71,7 @@ impl<'t> Source<'t> {
     #[tactic(auto, unfolding(crate::specs::Lead::lead_at))]
     pub fn some_name(&self, tokens: &mut Tokens) -> Result<(), Stop>
         ensures reads { IfOk result (λ u. Stands (SomeName self.now) tokens.old tokens.new) }
-        ensures refused { IfErr result (λ e. Misses (SomeName self.now) tokens.old e) }
+        ensures refused { IfErr result (λ e. Misses SomeName self.now tokens.old e) }
         ensures shorter { IfOk result (λ _. length tokens.new < length tokens.old) }
     {
         if let Lead::Name = self.lead(tokens) {
@@ -85,7 +85,8 @@ impl<'t> Source<'t> {
     pub fn plain_word(&self, tokens: &mut Tokens, word: &str) -> Result<(), Stop>
         ensures reads { IfOk result (λ u. Stands (TheText self.now word.now) tokens.old
             tokens.new) }
-        ensures refused { IfErr result (λ e. Misses (TheText self.now word.now) tokens.old e) }
+        ensures refused { IfErr result (λ e. Misses
+            (λ text. TheText text word.now) self.now tokens.old e) }
         ensures shorter { IfOk result (λ _. length tokens.new < length tokens.old) }
     {
         let Some(token) = tokens.first() else {
@@ -104,7 +105,7 @@ impl<'t> Source<'t> {
     /// A decimal without sign and base.
     pub fn decimal(&self, tokens: &mut Tokens) -> Result<i64, Stop>
         ensures reads { IfOk result (λ v. Reads (ADecimal self.now) tokens.old v tokens.new) }
-        ensures refused { IfErr result (λ e. Refuses (ADecimal self.now) tokens.old e) }
+        ensures refused { IfErr result (λ e. Refuses ADecimal self.now tokens.old e) }
         ensures shorter { IfOk result (λ _. length tokens.new < length tokens.old) }
     {
         let Some(token) = tokens.first() else {
@@ -124,7 +125,7 @@ impl<'t> Source<'t> {
     #[tactic(auto, unfolding(crate::specs::Lead::lead_at))]
     pub fn interval(&self, tokens: &mut Tokens) -> Result<i64, Stop>
         ensures reads { IfOk result (λ v. Reads AnInterval tokens.old v tokens.new) }
-        ensures refused { IfErr result (λ e. Refuses AnInterval tokens.old e) }
+        ensures refused { IfErr result (λ e. Refuses (λ text. AnInterval) self.now tokens.old e) }
         ensures shorter { IfOk result (λ _. length tokens.new < length tokens.old) }
     {
         let Lead::Typed(Literal::Time(value)) = self.lead(tokens) else {
@@ -137,7 +138,7 @@ impl<'t> Source<'t> {
     // A decimal with its place, and a semicolon.
     fn placed_decimal(&self, tokens: &mut Tokens) -> Result<Size, Stop>
         ensures reads { IfOk result (λ s. Reads (PlacedDecimal self.now) tokens.old s tokens.new) }
-        ensures refused { IfErr result (λ e. Refuses (PlacedDecimal self.now) tokens.old e) }
+        ensures refused { IfErr result (λ e. Refuses PlacedDecimal self.now tokens.old e) }
         ensures shorter { IfOk result (λ _. length tokens.new < length tokens.old) }
     {
         let Some(place) = tokens.place() else {
@@ -152,7 +153,7 @@ impl<'t> Source<'t> {
     // The type of a size, and its value.
     fn sized(&self, tokens: &mut Tokens) -> Result<Size, Stop>
         ensures reads { IfOk result (λ s. Reads (SpellsSized self.now) tokens.old s tokens.new) }
-        ensures refused { IfErr result (λ e. Refuses (SpellsSized self.now) tokens.old e) }
+        ensures refused { IfErr result (λ e. Refuses SpellsSized self.now tokens.old e) }
         ensures shorter { IfOk result (λ _. length tokens.new < length tokens.old) }
     {
         self.word(tokens, Keyword::Elementary(Elementary::Int))?;
@@ -166,7 +167,8 @@ impl<'t> Source<'t> {
     pub fn size(&self, tokens: &mut Tokens, word: &str) -> Result<Size, Stop>
         ensures reads { IfOk result (λ s. Reads (SpellsSize self.now word.now) tokens.old s
             tokens.new) }
-        ensures refused { IfErr result (λ e. Refuses (SpellsSize self.now word.now) tokens.old e) }
+        ensures refused { IfErr result (λ e. Refuses
+            (λ text. SpellsSize text word.now) self.now tokens.old e) }
         ensures shorter { IfOk result (λ _. length tokens.new < length tokens.old) }
     {
         self.plain_word(tokens, word)?;
@@ -179,7 +181,7 @@ impl<'t> Source<'t> {
     // The priority of a task.
     fn priority(&self, tokens: &mut Tokens) -> Result<i64, Stop>
         ensures reads { IfOk result (λ v. Reads (SpellsPriority self.now) tokens.old v tokens.new) }
-        ensures refused { IfErr result (λ e. Refuses (SpellsPriority self.now) tokens.old e) }
+        ensures refused { IfErr result (λ e. Refuses SpellsPriority self.now tokens.old e) }
         ensures shorter { IfOk result (λ _. length tokens.new < length tokens.old) }
     {
         self.word(tokens, Keyword::Priority)?;
@@ -197,7 +199,7 @@ impl<'t> Source<'t> {
     // A time, a comma and the priority.
     fn schedule(&self, tokens: &mut Tokens) -> Result<(i64, i64), Stop>
         ensures reads { IfOk result (λ x. Reads (SpellsSchedule self.now) tokens.old x tokens.new) }
-        ensures refused { IfErr result (λ e. Refuses (SpellsSchedule self.now) tokens.old e) }
+        ensures refused { IfErr result (λ e. Refuses SpellsSchedule self.now tokens.old e) }
         ensures shorter { IfOk result (λ _. length tokens.new < length tokens.old) }
     {
         let interval = self.interval(tokens)?;
@@ -211,7 +213,7 @@ impl<'t> Source<'t> {
     // The interval of a task, and its priority.
     fn times(&self, tokens: &mut Tokens) -> Result<(i64, i64), Stop>
         ensures reads { IfOk result (λ x. Reads (SpellsTimes self.now) tokens.old x tokens.new) }
-        ensures refused { IfErr result (λ e. Refuses (SpellsTimes self.now) tokens.old e) }
+        ensures refused { IfErr result (λ e. Refuses SpellsTimes self.now tokens.old e) }
         ensures shorter { IfOk result (λ _. length tokens.new < length tokens.old) }
     {
         self.sign(tokens, Sign::OpenParenthesis)?;
@@ -227,7 +229,8 @@ impl<'t> Source<'t> {
     pub fn placed_word(&self, tokens: &mut Tokens, keyword: Keyword) -> Result<Place, Stop>
         ensures reads { IfOk result (λ p. Reads (PlacedWord self.now keyword) tokens.old p
             tokens.new) }
-        ensures refused { IfErr result (λ e. Refuses (PlacedWord self.now keyword) tokens.old e) }
+        ensures refused { IfErr result (λ e. Refuses
+            (λ text. PlacedWord text keyword) self.now tokens.old e) }
         ensures shorter { IfOk result (λ _. length tokens.new < length tokens.old) }
     {
         let Some(place) = tokens.place() else {
@@ -247,7 +250,7 @@ impl<'t> Source<'t> {
     /// A TASK line.
     pub fn task(&self, tokens: &mut Tokens) -> Result<Task, Stop>
         ensures reads { IfOk result (λ t. Reads (SpellsTask self.now) tokens.old t tokens.new) }
-        ensures refused { IfErr result (λ e. Refuses (SpellsTask self.now) tokens.old e) }
+        ensures refused { IfErr result (λ e. Refuses SpellsTask self.now tokens.old e) }
         ensures shorter { IfOk result (λ _. length tokens.new < length tokens.old) }
     {
         let place = self.placed_word(tokens, Keyword::Task)?;
@@ -262,7 +265,7 @@ impl<'t> Source<'t> {
     fn program_name(&self, tokens: &mut Tokens) -> Result<Named, Stop>
         ensures reads { IfOk result (λ n. Reads (SpellsProgramName self.now) tokens.old n
             tokens.new) }
-        ensures refused { IfErr result (λ e. Refuses (SpellsProgramName self.now) tokens.old e) }
+        ensures refused { IfErr result (λ e. Refuses SpellsProgramName self.now tokens.old e) }
         ensures shorter { IfOk result (λ _. length tokens.new < length tokens.old) }
     {
         let program = self.named(tokens)?;
@@ -273,7 +276,7 @@ impl<'t> Source<'t> {
     // The names of a task and a program.
     fn bound(&self, tokens: &mut Tokens) -> Result<(Named, Named), Stop>
         ensures reads { IfOk result (λ x. Reads (SpellsBound self.now) tokens.old x tokens.new) }
-        ensures refused { IfErr result (λ e. Refuses (SpellsBound self.now) tokens.old e) }
+        ensures refused { IfErr result (λ e. Refuses SpellsBound self.now tokens.old e) }
         ensures shorter { IfOk result (λ _. length tokens.new < length tokens.old) }
     {
         let task = self.named(tokens)?;
@@ -287,7 +290,7 @@ impl<'t> Source<'t> {
     // WITH, and the names of a task and a program.
     fn binding(&self, tokens: &mut Tokens) -> Result<(Named, Named), Stop>
         ensures reads { IfOk result (λ x. Reads (SpellsWith self.now) tokens.old x tokens.new) }
-        ensures refused { IfErr result (λ e. Refuses (SpellsWith self.now) tokens.old e) }
+        ensures refused { IfErr result (λ e. Refuses SpellsWith self.now tokens.old e) }
         ensures shorter { IfOk result (λ _. length tokens.new < length tokens.old) }
     {
         self.word(tokens, Keyword::With)?;
@@ -299,7 +302,7 @@ impl<'t> Source<'t> {
     pub fn program_line(&self, tokens: &mut Tokens) -> Result<ProgramLine, Stop>
         ensures reads { IfOk result (λ p. Reads (SpellsProgramLine self.now) tokens.old p
             tokens.new) }
-        ensures refused { IfErr result (λ e. Refuses (SpellsProgramLine self.now) tokens.old e) }
+        ensures refused { IfErr result (λ e. Refuses SpellsProgramLine self.now tokens.old e) }
         ensures shorter { IfOk result (λ _. length tokens.new < length tokens.old) }
     {
         let place = self.placed_word(tokens, Keyword::Program)?;
@@ -318,7 +321,7 @@ impl<'t> Source<'t> {
     // FLOORS and SLOTS, and END_VAR.
     fn floors(&self, tokens: &mut Tokens) -> Result<(Size, Size), Stop>
         ensures reads { IfOk result (λ x. Reads (SpellsFloors self.now) tokens.old x tokens.new) }
-        ensures refused { IfErr result (λ e. Refuses (SpellsFloors self.now) tokens.old e) }
+        ensures refused { IfErr result (λ e. Refuses SpellsFloors self.now tokens.old e) }
         ensures shorter { IfOk result (λ _. length tokens.new < length tokens.old) }
     {
         let floors = self.size(tokens, "FLOORS")?;
@@ -332,7 +335,7 @@ impl<'t> Source<'t> {
     /// The list of the three sizes.
     pub fn sizes(&self, tokens: &mut Tokens) -> Result<(Size, (Size, Size)), Stop>
         ensures reads { IfOk result (λ x. Reads (SpellsThree self.now) tokens.old x tokens.new) }
-        ensures refused { IfErr result (λ e. Refuses (SpellsThree self.now) tokens.old e) }
+        ensures refused { IfErr result (λ e. Refuses SpellsThree self.now tokens.old e) }
         ensures shorter { IfOk result (λ _. length tokens.new < length tokens.old) }
     {
         self.word(tokens, Keyword::VarGlobal)?;

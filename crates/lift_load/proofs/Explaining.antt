@@ -11,8 +11,8 @@ use Rattle.il_spec.specs.Text.{AreTokens, HasNoTokens}
 use Rattle.il_text.specs.Refused.{IsMemoryOrFaultOfBytes}
 use Rattle.il_text.specs.LexicalErrors.{IsFaultOfText, the_start}
 use Rattle.il_text.proofs.FirstError.{one_fault, no_first}
-use Rattle.il_parse.specs.Refused.{IsFault, IsOfParser}
-use Rattle.lift_load.specs.Loading.{IsSpelled, IsRefusedFor, SpellsNone, HasTokens, IsNumberOfBytes, of_bytes, of_grammar, of_tree, IsExplained, ReportsFaultOfText}
+use Rattle.il_parse.specs.Refused.{IsFault, IsOfParser, GoesOnNowhere}
+use Rattle.lift_load.specs.Loading.{IsSpelled, IsRefusedFor, SpellsNone, HasTokens, IsNumberOfBytes, of_bytes, of_grammar, of_tree, IsExplained, ReportsFaultOfText, NamesTurn}
 use Rattle.lift_load.proofs.TreeNumbers.{late_fault}
 
 -- a refusal that is handed on is of the same kind
@@ -84,3 +84,17 @@ reported_by_tokens {X} text e (Err d) same (inr is) n p fault = inl (same ∙ on
 pub handed_report : {X : Type 0} (text : List ℕ) (e : Refusal) (r : Result X Refusal) → IsErrAnd r (λ d. d ≡ e) → ((n : ℕ) (p : Place) → IsFaultOfText text (Fault n p) → (e ≡ Fault n p) ⊎ (e ≡ Memory)) → ReportsFaultOfText text r
 handed_report {X} text e (Ok x) same reports n p fault = absurd same
 handed_report {X} text e (Err d) same reports n p fault = subst (λ b. (b ≡ Fault n p) ⊎ (b ≡ Memory)) (sym same) (reports n p fault)
+
+-- a text that has no tokens, or too many bytes, names no token
+pub nowhere_by_tokens : (text : List ℕ) (e : Refusal) → (IsFault {A = Config} (Err e) → length text ≤ 262144 → HasNoTokens text) → NamesTurn text e
+nowhere_by_tokens text Memory none = λ out short ts cut. tt
+nowhere_by_tokens text (Fault number place) none = λ out short ts cut. absurd (none tt short ts cut)
+
+-- what the parser says of the tokens that it was given holds of the text's tokens
+pub nowhere_by_parser : (text : List ℕ) (e : Refusal) (tokens : List Token) → ((ts : List Token) → AreTokens text 0 ts → ts ≡ tokens) → GoesOnNowhere text tokens e → NamesTurn text e
+nowhere_by_parser text e tokens only nowhere = λ out short ts cut. subst (λ xs. GoesOnNowhere text xs e) (sym (only ts cut)) nowhere
+
+-- a text that spells a configuration names no token
+pub nowhere_of_spelled : {X : Type 0} (text : List ℕ) (c : Config) → IsSpelled text c → (r : Result X Refusal) → IfErr r (NamesTurn text)
+nowhere_of_spelled text c is (Ok x) = tt
+nowhere_of_spelled text c is (Err e) = λ out short ts cut. absurd (out c is)

@@ -8,6 +8,7 @@ use Rattle.il_spec.specs.declared.token.Token.{Token}
 use Rattle.il_spec.specs.Text.{AreTokens}
 use Rattle.il_spec.specs.Grammar.{Spells, IsWithinLimits}
 use Rattle.il_text.specs.LexicalErrors.{IsFaultOfText}
+use Rattle.il_parse.specs.Refused.{GoesOnNowhere}
 use Rattle.il_rules.specs.Faults.{IsRefusedBy, BreaksDeclarations, Typing, Ordering, HasNoFault, Broken}
 use Rattle.il_run.specs.Annotation.{Annotated}
 use Rattle.il_ranges.specs.Lacking.{BreaksRanges}
@@ -82,3 +83,8 @@ IsExplained text Memory = Unit {0}
 -- where the bytes of the text have a fault, the answer is this fault, or memory ran out
 abbrev pub ReportsFaultOfText : {X : Type 0} → List ℕ → Result X Refusal → Type 0
 ReportsFaultOfText text answer = (number : ℕ) (place : Place) → IsFaultOfText text (Fault number place) → IsErrAnd answer (λ e. (e ≡ Fault number place) ⊎ (e ≡ Memory))
+
+-- Where a text that is not too long has tokens and spells no configuration, no text goes on with the token that the fault names: none with
+-- the same tokens up to this one, whatever stands behind, spells a configuration within the limits but that of its bytes.
+abbrev pub NamesTurn : List ℕ → Refusal → Type 0
+NamesTurn text refusal = SpellsNone text → length text ≤ 262144 → (ts : List Token) → AreTokens text 0 ts → GoesOnNowhere text ts refusal

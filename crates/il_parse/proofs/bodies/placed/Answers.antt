@@ -1,13 +1,21 @@
 use Rattle.std.proofs.Common.{sym, ◌∙◌, ap}
-use Rattle.il_parse.specs.Bodies.{may_begin}
-use Rattle.il_parse.proofs.Entries.{stands_not, placed_read}
+use Rattle.il_parse.specs.Bodies.{may_begin, RefusesPlaced}
+use Rattle.il_parse.proofs.Ahead.{up_so}
+use Rattle.il_parse.proofs.Entries.{stands_not, full_refused, placed_refused, placed_read}
 use Rattle.il_parse.proofs.bodies.placed.Goals as goal
 
 pub returns-then-not-may_begin-clause-refused : goal.returns-then-not-may_begin-clause-refused
 returns-then-not-may_begin-clause-refused c =
-    stands_not c.args.source.now _ _ _ _ _ (ap (λ l. may_begin c.args.depth c.args.load l) (sym c.requires.lead) ∙ sym c.may_begin.ensures ∙ c.if-not-may_begin.true)
+    stands_not c.args.source.now _ _ _ _ _ (ap (λ l. may_begin c.args.depth c.args.load l) (sym c.requires.lead) ∙ sym c.may_begin.ensures ∙ c.if-not-may_begin.true) c.outside-then-not-may_begin.ensures
 
 pub returns-clause-reads : goal.returns-clause-reads
 returns-clause-reads c =
     placed_read c.args.source.now _ _ _ _ _ _ _ _ c.requires.depth c.has_room.ensures.yes c.in-Some.ensures
     (ap (λ l. may_begin c.args.depth c.args.load l) (sym c.requires.lead) ∙ sym c.may_begin.ensures ∙ c.if-not-may_begin.false) c.if-full.false c.in_ok-instruction.ensures.reads
+
+pub returns-then-full-clause-refused : goal.returns-then-full-clause-refused
+returns-then-full-clause-refused c = full_refused c.args.source.now _ _ _ c.args.lead _ _ c.if-full.true c.requires.lead c.surplus.ensures
+
+pub returns-in_err-instruction-clause-refused : goal.returns-in_err-instruction-clause-refused
+returns-in_err-instruction-clause-refused c =
+    up_so (λ e. RefusesPlaced c.args.source.now c.args.depth c.args.load c.args.full c.args.tokens.now e) _ c.from_residual.ensures.1 (placed_refused c.args.source.now _ _ _ _ _ _ c.has_room.ensures.no c.in_err-instruction.ensures.refused)

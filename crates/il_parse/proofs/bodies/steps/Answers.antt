@@ -1,6 +1,7 @@
 use Rattle.std.proofs.Common.{◌≡◌, ◌+◌, length, length-append, [], ◌∷◌, arith}
 use Rattle.std.specs.Prelude.{max}
-use Rattle.il_read.proofs.Chain.{up}
+use Rattle.il_read.proofs.Chain.{up, starts}
+use Rattle.il_read.proofs.Nesting.{none_open}
 use Rattle.il_parse.proofs.Entries.{steps_refused, steps_read, step_on, open_on, few_on}
 use Rattle.il_parse.proofs.bodies.steps.Goals as goal
 
@@ -23,3 +24,6 @@ steps-preserved c =
       (max c.steps.invariant.2.0 c.steps.depth, omega (arith, c.steps.invariant.0, c.steps.invariant.2.1), rw (c.in_ok-push-in-Step.ensures.ok, c.depth_after-depth.ensures, c.needs_load-load.ensures) opens),
       rw (c.in_ok-push-in-Step.ensures.ok, c.skip_lines.ensures.rest) (step_on c.args.source.now c.args.last c.requires _ _ _ _ _ _ _ _ c.steps.invariant.3 next),
     )
+
+pub steps-init : goal.steps-init
+steps-init c = rw c.new-steps.ensures (omega arith, omega arith, (0, omega arith, none_open), λ b. starts _ _ _ _)

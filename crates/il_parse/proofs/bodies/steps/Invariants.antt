@@ -10,7 +10,7 @@ use Rattle.il_parse.proofs.bodies.steps.Given as goal
 abbrev pub invariant-steps : goal.invariant-steps
 invariant-steps l =
     (l.depth ≤ 16) × (length l.steps ≤ 4096) × ((most : ℕ) × (most ≤ 16) × IsOpen l.steps l.depth l.load most)
-    × ((b : List Named × Place) → HasRead (SpellsStep l.source) (TheEnds l.source l.last b) l.fn.tokens l.steps l.tokens)
+    × ((b : List Named × Place) → HasRead SpellsStep (λ text. TheEnds text l.last b) l.source l.fn.tokens l.steps l.tokens)
 
 abbrev pub decreases-steps : goal.decreases-steps
 decreases-steps l = length l.tokens

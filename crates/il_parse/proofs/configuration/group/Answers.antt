@@ -1,34 +1,36 @@
 use Rattle.il_spec.specs.Grammar.{tight, loose, ◌⨾◌, ◌⋯◌}
-use Rattle.il_grammar_laws.proofs.Configurations.{some_name_sure, globals_one, three_sizes_one}
 use Rattle.il_parse.specs.Parts.{SpellsSomeGlobals, SpellsEnding}
 use Rattle.il_read.specs.Settings.{SpellsThree}
-use Rattle.il_read.proofs.Chain.{up, behind, first, first_missing, later, part}
+use Rattle.il_read.proofs.Chain.{up, behind, first, first_missing, later, part, later_lines}
+use Rattle.il_grammar_laws.proofs.Local.{some_name_local, globals_local}
+use Rattle.il_grammar_laws.proofs.Alike.{tight_gap, loose_gap}
+use Rattle.il_parse.proofs.Parts.{three_sizes_local}
 use Rattle.il_parse.proofs.configuration.group.Goals as goal
 
 pub returns-in_err-some_name-clause-refused : goal.returns-in_err-some_name-clause-refused
 returns-in_err-some_name-clause-refused c =
     up _ c.from_residual.ensures.1
-    (first_missing loose (λ b. SpellsThree c.args.source.now b.0 ⨾ SpellsSomeGlobals c.args.source.now b.1 ⋯ SpellsEnding c.args.source.now b.2) c.in_err-some_name.ensures.refused)
+    (first_missing loose (λ text b. SpellsThree text b.0 ⨾ SpellsSomeGlobals text b.1 ⋯ SpellsEnding text b.2) c.in_err-some_name.ensures.refused)
 
 pub returns-in_err-sizes-clause-refused : goal.returns-in_err-sizes-clause-refused
 returns-in_err-sizes-clause-refused c =
     up _ c.from_residual-in_err-sizes.ensures.1
-    (behind loose (λ b. SpellsThree c.args.source.now b.0 ⨾ SpellsSomeGlobals c.args.source.now b.1 ⋯ SpellsEnding c.args.source.now b.2) (some_name_sure c.args.source.now) c.in_ok-some_name.ensures.reads
-    (first (λ b. b.0) tight (λ b. SpellsSomeGlobals c.args.source.now b.1 ⋯ SpellsEnding c.args.source.now b.2) (rw c.skip_lines.ensures.rest at c.in_err-sizes.ensures.refused)))
+    (behind loose_gap (λ text b. SpellsThree text b.0 ⨾ SpellsSomeGlobals text b.1 ⋯ SpellsEnding text b.2) some_name_local c.in_ok-some_name.ensures.reads
+    (first (λ b. b.0) tight (λ text b. SpellsSomeGlobals text b.1 ⋯ SpellsEnding text b.2) (rw c.skip_lines.ensures.rest at c.in_err-sizes.ensures.refused)))
 
 pub returns-in_err-globals-clause-refused : goal.returns-in_err-globals-clause-refused
 returns-in_err-globals-clause-refused c =
     up _ c.from_residual-in_err-globals.ensures.1
-    (behind loose (λ b. SpellsThree c.args.source.now b.0 ⨾ SpellsSomeGlobals c.args.source.now b.1 ⋯ SpellsEnding c.args.source.now b.2) (some_name_sure c.args.source.now) c.in_ok-some_name.ensures.reads
-    (later (λ b. b.0) tight (λ b. SpellsSomeGlobals c.args.source.now b.1 ⋯ SpellsEnding c.args.source.now b.2) (three_sizes_one c.args.source.now) (rw c.skip_lines.ensures.rest at c.in_ok-sizes.ensures.reads)
-    (first (λ b. b.1) loose (λ b. SpellsEnding c.args.source.now b.2) c.in_err-globals.ensures.refused)))
+    (behind loose_gap (λ text b. SpellsThree text b.0 ⨾ SpellsSomeGlobals text b.1 ⋯ SpellsEnding text b.2) some_name_local c.in_ok-some_name.ensures.reads
+    (later (λ b. b.0) tight_gap (λ text b. SpellsSomeGlobals text b.1 ⋯ SpellsEnding text b.2) three_sizes_local (rw c.skip_lines.ensures.rest at c.in_ok-sizes.ensures.reads)
+    (first (λ b. b.1) loose (λ text b. SpellsEnding text b.2) c.in_err-globals.ensures.refused)))
 
 pub returns-in_err-lines-clause-refused : goal.returns-in_err-lines-clause-refused
 returns-in_err-lines-clause-refused c =
     up _ c.from_residual-in_err-lines.ensures.1
-    (behind loose (λ b. SpellsThree c.args.source.now b.0 ⨾ SpellsSomeGlobals c.args.source.now b.1 ⋯ SpellsEnding c.args.source.now b.2) (some_name_sure c.args.source.now) c.in_ok-some_name.ensures.reads
-    (later (λ b. b.0) tight (λ b. SpellsSomeGlobals c.args.source.now b.1 ⋯ SpellsEnding c.args.source.now b.2) (three_sizes_one c.args.source.now) (rw c.skip_lines.ensures.rest at c.in_ok-sizes.ensures.reads)
-    (later (λ b. b.1) loose (λ b. SpellsEnding c.args.source.now b.2) (globals_one c.args.source.now) c.in_ok-globals.ensures.reads
+    (behind loose_gap (λ text b. SpellsThree text b.0 ⨾ SpellsSomeGlobals text b.1 ⋯ SpellsEnding text b.2) some_name_local c.in_ok-some_name.ensures.reads
+    (later (λ b. b.0) tight_gap (λ text b. SpellsSomeGlobals text b.1 ⋯ SpellsEnding text b.2) three_sizes_local (rw c.skip_lines.ensures.rest at c.in_ok-sizes.ensures.reads)
+    (later_lines (λ b. b.1) (λ text b. SpellsEnding text b.2) globals_local c.in_ok-globals.ensures.reads
     (part (λ b. b.2) (rw c.skip_lines-2.ensures.rest at c.in_err-lines.ensures.refused)))))
 
 pub returns-clause-reads : goal.returns-clause-reads

@@ -1,27 +1,28 @@
 use Rattle.il_spec.specs.declared.keyword.Keyword.TheVariants as word
 use Rattle.il_spec.specs.Grammar.{tight, ◌⨾◌}
-use Rattle.il_parse.proofs.Parts.{tasks_one, programs_one}
 use Rattle.il_parse.specs.Parts.{SpellsPrograms}
 use Rattle.il_read.specs.Settings.{PlacedWord}
 use Rattle.il_read.proofs.Chain.{up, first, later, part}
+use Rattle.il_grammar_laws.proofs.Alike.{tight_gap}
+use Rattle.il_parse.proofs.Parts.{tasks_local, programs_local}
 use Rattle.il_parse.proofs.configuration.lines.Goals as goal
 
 pub returns-in_err-tasks-clause-refused : goal.returns-in_err-tasks-clause-refused
 returns-in_err-tasks-clause-refused c =
     up _ c.from_residual.ensures.1
-    (first (λ b. b.0) tight (λ b. SpellsPrograms c.args.source.now b.1 ⨾ PlacedWord c.args.source.now word.EndResource b.2) c.in_err-tasks.ensures.refused)
+    (first (λ b. b.0) tight (λ text b. SpellsPrograms text b.1 ⨾ PlacedWord text word.EndResource b.2) c.in_err-tasks.ensures.refused)
 
 pub returns-in_err-programs-clause-refused : goal.returns-in_err-programs-clause-refused
 returns-in_err-programs-clause-refused c =
     up _ c.from_residual-in_err-programs.ensures.1
-    (later (λ b. b.0) tight (λ b. SpellsPrograms c.args.source.now b.1 ⨾ PlacedWord c.args.source.now word.EndResource b.2) (tasks_one c.args.source.now) c.in_ok-tasks.ensures.reads
-    (first (λ b. b.1) tight (λ b. PlacedWord c.args.source.now word.EndResource b.2) c.in_err-programs.ensures.refused))
+    (later (λ b. b.0) tight_gap (λ text b. SpellsPrograms text b.1 ⨾ PlacedWord text word.EndResource b.2) tasks_local c.in_ok-tasks.ensures.reads
+    (first (λ b. b.1) tight (λ text b. PlacedWord text word.EndResource b.2) c.in_err-programs.ensures.refused))
 
 pub returns-in_err-end-clause-refused : goal.returns-in_err-end-clause-refused
 returns-in_err-end-clause-refused c =
     up _ c.from_residual-in_err-end.ensures.1
-    (later (λ b. b.0) tight (λ b. SpellsPrograms c.args.source.now b.1 ⨾ PlacedWord c.args.source.now word.EndResource b.2) (tasks_one c.args.source.now) c.in_ok-tasks.ensures.reads
-    (later (λ b. b.1) tight (λ b. PlacedWord c.args.source.now word.EndResource b.2) (programs_one c.args.source.now) c.in_ok-programs.ensures.reads
+    (later (λ b. b.0) tight_gap (λ text b. SpellsPrograms text b.1 ⨾ PlacedWord text word.EndResource b.2) tasks_local c.in_ok-tasks.ensures.reads
+    (later (λ b. b.1) tight_gap (λ text b. PlacedWord text word.EndResource b.2) programs_local c.in_ok-programs.ensures.reads
     (part (λ b. b.2) c.in_err-end.ensures.refused)))
 
 pub returns-clause-reads : goal.returns-clause-reads

@@ -1,23 +1,27 @@
 use Rattle.std.proofs.Common.{refl}
 use Rattle.il_spec.specs.declared.keyword.Keyword.TheVariants as word
 use Rattle.il_spec.specs.Grammar.{TheWord}
-use Rattle.il_grammar_laws.proofs.Configurations.{program_line_one}
-use Rattle.il_read.proofs.Chain.{up, goes_on, item_refused, ended}
+use Rattle.il_read.proofs.Chain.{starts, up, goes_on, item_refused, ended}
 use Rattle.il_parse.proofs.Missing.{it_stands, it_is_missing}
+use Rattle.il_grammar_laws.proofs.Local.{program_line_local, loosely_local}
+use Rattle.il_parse.proofs.Parts.{no_word_told}
 use Rattle.il_parse.proofs.configuration.programs.Goals as goal
 
 pub returns-in_err-line-clause-refused : goal.returns-in_err-line-clause-refused
 returns-in_err-line-clause-refused c =
     let there = it_stands (TheWord c.args.source.now word.Program) c.programs.tokens _ c.word_stands.ensures.stands c.programs-test.true in
-    up _ c.from_residual.ensures.1 (item_refused _ _ _ _ _ _ (λ r w. w.1 there.0 there.1) c.programs.invariant c.in_err-line.ensures.refused)
+    up _ c.from_residual.ensures.1 (item_refused _ _ _ (no_word_told word.Program) _ _ _ _ (λ r w. w.1 there.0 there.1) c.programs.invariant c.in_err-line.ensures.refused)
 
 pub programs-preserved : goal.programs-preserved
 programs-preserved c =
     let there = it_stands (TheWord c.args.source.now word.Program) c.programs.tokens _ c.word_stands.ensures.stands c.programs-test.true in
     rw (c.skip_lines.ensures.rest, c.in_ok-push.ensures.ok)
-    (goes_on _ _ (program_line_one c.args.source.now) _ _ _ _ _ (λ r w. w.1 there.0 there.1) c.programs.invariant c.in_ok-line.ensures.reads)
+    (goes_on _ _ _ (loosely_local program_line_local) (no_word_told word.Program) _ _ _ _ _ (λ r w. w.1 there.0 there.1) c.programs.invariant c.in_ok-line.ensures.reads)
 
 pub returns-clause-reads : goal.returns-clause-reads
 returns-clause-reads c =
     let missing = it_is_missing (TheWord c.args.source.now word.Program) c.programs.tokens _ c.word_stands.ensures.stands c.programs-test.false in
-    ended _ _ _ _ _ _ c.programs.invariant (refl, missing)
+    ended _ _ _ _ _ _ _ c.programs.invariant (refl, missing)
+
+pub programs-init : goal.programs-init
+programs-init c = rw c.new-programs.ensures (starts _ _ _ _)

@@ -5,7 +5,7 @@ use Rattle.il_read.proofs.Chain.{HasRead}
 use Rattle.il_parse.proofs.configuration.programs.Given as goal
 
 abbrev pub invariant-programs : goal.invariant-programs
-invariant-programs l = HasRead (SpellsProgramLine l.source) (No (TheWord l.source word.Program)) l.fn.tokens l.programs l.tokens
+invariant-programs l = HasRead SpellsProgramLine (λ text. No (TheWord text word.Program)) l.source l.fn.tokens l.programs l.tokens
 
 abbrev pub decreases-programs : goal.decreases-programs
 decreases-programs l = length l.tokens

@@ -1,44 +1,44 @@
 use Rattle.il_spec.specs.declared.keyword.Keyword.TheVariants as word
 use Rattle.il_spec.specs.Grammar.{loose, ◌⋯◌, TheWord, SomeName}
-use Rattle.il_grammar_laws.proofs.Leads.{word_sure}
-use Rattle.il_grammar_laws.proofs.Configurations.{some_name_sure}
 use Rattle.il_parse.specs.Parts.{SpellsLines}
 use Rattle.il_read.proofs.Chain.{up, behind, first_missing, part}
+use Rattle.il_grammar_laws.proofs.Local.{word_local, some_name_local}
+use Rattle.il_grammar_laws.proofs.Alike.{loose_gap}
 use Rattle.il_parse.proofs.configuration.resource.Goals as goal
 
 pub returns-in_err-word-clause-refused : goal.returns-in_err-word-clause-refused
 returns-in_err-word-clause-refused c =
     up _ c.from_residual.ensures.1
-    (first_missing loose (λ b. SomeName c.args.source.now ⋯ TheWord c.args.source.now word.On ⋯ SomeName c.args.source.now ⋯ SpellsLines c.args.source.now b) c.in_err-word.ensures.refused)
+    (first_missing loose (λ text b. SomeName text ⋯ TheWord text word.On ⋯ SomeName text ⋯ SpellsLines text b) c.in_err-word.ensures.refused)
 
 pub returns-in_err-some_name-clause-refused : goal.returns-in_err-some_name-clause-refused
 returns-in_err-some_name-clause-refused c =
     up _ c.from_residual-in_err-some_name.ensures.1
-    (behind loose (λ b. SomeName c.args.source.now ⋯ TheWord c.args.source.now word.On ⋯ SomeName c.args.source.now ⋯ SpellsLines c.args.source.now b) (word_sure c.args.source.now word.Resource) c.in_ok-word.ensures.reads
-    (first_missing loose (λ b. TheWord c.args.source.now word.On ⋯ SomeName c.args.source.now ⋯ SpellsLines c.args.source.now b) (rw c.skip_lines.ensures.rest at c.in_err-some_name.ensures.refused)))
+    (behind loose_gap (λ text b. SomeName text ⋯ TheWord text word.On ⋯ SomeName text ⋯ SpellsLines text b) (word_local word.Resource) c.in_ok-word.ensures.reads
+    (first_missing loose (λ text b. TheWord text word.On ⋯ SomeName text ⋯ SpellsLines text b) (rw c.skip_lines.ensures.rest at c.in_err-some_name.ensures.refused)))
 
 pub returns-in_err-word-2-clause-refused : goal.returns-in_err-word-2-clause-refused
 returns-in_err-word-2-clause-refused c =
     up _ c.from_residual-in_err-word-2.ensures.1
-    (behind loose (λ b. SomeName c.args.source.now ⋯ TheWord c.args.source.now word.On ⋯ SomeName c.args.source.now ⋯ SpellsLines c.args.source.now b) (word_sure c.args.source.now word.Resource) c.in_ok-word.ensures.reads
-    (behind loose (λ b. TheWord c.args.source.now word.On ⋯ SomeName c.args.source.now ⋯ SpellsLines c.args.source.now b) (some_name_sure c.args.source.now) (rw c.skip_lines.ensures.rest at c.in_ok-some_name.ensures.reads)
-    (first_missing loose (λ b. SomeName c.args.source.now ⋯ SpellsLines c.args.source.now b) (rw c.skip_lines-2.ensures.rest at c.in_err-word-2.ensures.refused))))
+    (behind loose_gap (λ text b. SomeName text ⋯ TheWord text word.On ⋯ SomeName text ⋯ SpellsLines text b) (word_local word.Resource) c.in_ok-word.ensures.reads
+    (behind loose_gap (λ text b. TheWord text word.On ⋯ SomeName text ⋯ SpellsLines text b) some_name_local (rw c.skip_lines.ensures.rest at c.in_ok-some_name.ensures.reads)
+    (first_missing loose (λ text b. SomeName text ⋯ SpellsLines text b) (rw c.skip_lines-2.ensures.rest at c.in_err-word-2.ensures.refused))))
 
 pub returns-in_err-some_name-2-clause-refused : goal.returns-in_err-some_name-2-clause-refused
 returns-in_err-some_name-2-clause-refused c =
     up _ c.from_residual-in_err-some_name-2.ensures.1
-    (behind loose (λ b. SomeName c.args.source.now ⋯ TheWord c.args.source.now word.On ⋯ SomeName c.args.source.now ⋯ SpellsLines c.args.source.now b) (word_sure c.args.source.now word.Resource) c.in_ok-word.ensures.reads
-    (behind loose (λ b. TheWord c.args.source.now word.On ⋯ SomeName c.args.source.now ⋯ SpellsLines c.args.source.now b) (some_name_sure c.args.source.now) (rw c.skip_lines.ensures.rest at c.in_ok-some_name.ensures.reads)
-    (behind loose (λ b. SomeName c.args.source.now ⋯ SpellsLines c.args.source.now b) (word_sure c.args.source.now word.On) (rw c.skip_lines-2.ensures.rest at c.in_ok-word-2.ensures.reads)
-    (first_missing loose (λ b. SpellsLines c.args.source.now b) (rw c.skip_lines-3.ensures.rest at c.in_err-some_name-2.ensures.refused)))))
+    (behind loose_gap (λ text b. SomeName text ⋯ TheWord text word.On ⋯ SomeName text ⋯ SpellsLines text b) (word_local word.Resource) c.in_ok-word.ensures.reads
+    (behind loose_gap (λ text b. TheWord text word.On ⋯ SomeName text ⋯ SpellsLines text b) some_name_local (rw c.skip_lines.ensures.rest at c.in_ok-some_name.ensures.reads)
+    (behind loose_gap (λ text b. SomeName text ⋯ SpellsLines text b) (word_local word.On) (rw c.skip_lines-2.ensures.rest at c.in_ok-word-2.ensures.reads)
+    (first_missing loose (λ text b. SpellsLines text b) (rw c.skip_lines-3.ensures.rest at c.in_err-some_name-2.ensures.refused)))))
 
 pub returns-in_err-lines-clause-refused : goal.returns-in_err-lines-clause-refused
 returns-in_err-lines-clause-refused c =
     up _ c.from_residual-in_err-lines.ensures.1
-    (behind loose (λ b. SomeName c.args.source.now ⋯ TheWord c.args.source.now word.On ⋯ SomeName c.args.source.now ⋯ SpellsLines c.args.source.now b) (word_sure c.args.source.now word.Resource) c.in_ok-word.ensures.reads
-    (behind loose (λ b. TheWord c.args.source.now word.On ⋯ SomeName c.args.source.now ⋯ SpellsLines c.args.source.now b) (some_name_sure c.args.source.now) (rw c.skip_lines.ensures.rest at c.in_ok-some_name.ensures.reads)
-    (behind loose (λ b. SomeName c.args.source.now ⋯ SpellsLines c.args.source.now b) (word_sure c.args.source.now word.On) (rw c.skip_lines-2.ensures.rest at c.in_ok-word-2.ensures.reads)
-    (behind loose (λ b. SpellsLines c.args.source.now b) (some_name_sure c.args.source.now) (rw c.skip_lines-3.ensures.rest at c.in_ok-some_name-2.ensures.reads)
+    (behind loose_gap (λ text b. SomeName text ⋯ TheWord text word.On ⋯ SomeName text ⋯ SpellsLines text b) (word_local word.Resource) c.in_ok-word.ensures.reads
+    (behind loose_gap (λ text b. TheWord text word.On ⋯ SomeName text ⋯ SpellsLines text b) some_name_local (rw c.skip_lines.ensures.rest at c.in_ok-some_name.ensures.reads)
+    (behind loose_gap (λ text b. SomeName text ⋯ SpellsLines text b) (word_local word.On) (rw c.skip_lines-2.ensures.rest at c.in_ok-word-2.ensures.reads)
+    (behind loose_gap (λ text b. SpellsLines text b) some_name_local (rw c.skip_lines-3.ensures.rest at c.in_ok-some_name-2.ensures.reads)
     (part (λ b. b) (rw c.skip_lines-4.ensures.rest at c.in_err-lines.ensures.refused))))))
 
 pub returns-clause-reads : goal.returns-clause-reads

@@ -1,23 +1,27 @@
 use Rattle.std.proofs.Common.{refl}
 use Rattle.il_spec.specs.declared.keyword.Keyword.TheVariants as word
 use Rattle.il_spec.specs.Grammar.{TheWord}
-use Rattle.il_grammar_laws.proofs.Configurations.{task_one}
-use Rattle.il_read.proofs.Chain.{up, goes_on, item_refused, ended}
+use Rattle.il_read.proofs.Chain.{starts, up, goes_on, item_refused, ended}
 use Rattle.il_parse.proofs.Missing.{it_stands, it_is_missing}
+use Rattle.il_grammar_laws.proofs.Local.{task_local, loosely_local}
+use Rattle.il_parse.proofs.Parts.{no_word_told}
 use Rattle.il_parse.proofs.configuration.tasks.Goals as goal
 
 pub returns-in_err-task-clause-refused : goal.returns-in_err-task-clause-refused
 returns-in_err-task-clause-refused c =
     let there = it_stands (TheWord c.args.source.now word.Task) c.tasks.tokens _ c.word_stands.ensures.stands c.tasks-test.true in
-    up _ c.from_residual.ensures.1 (item_refused _ _ _ _ _ _ (λ r w. w.1 there.0 there.1) c.tasks.invariant c.in_err-task.ensures.refused)
+    up _ c.from_residual.ensures.1 (item_refused _ _ _ (no_word_told word.Task) _ _ _ _ (λ r w. w.1 there.0 there.1) c.tasks.invariant c.in_err-task.ensures.refused)
 
 pub tasks-preserved : goal.tasks-preserved
 tasks-preserved c =
     let there = it_stands (TheWord c.args.source.now word.Task) c.tasks.tokens _ c.word_stands.ensures.stands c.tasks-test.true in
     rw (c.skip_lines.ensures.rest, c.in_ok-push.ensures.ok)
-    (goes_on _ _ (task_one c.args.source.now) _ _ _ _ _ (λ r w. w.1 there.0 there.1) c.tasks.invariant c.in_ok-task.ensures.reads)
+    (goes_on _ _ _ (loosely_local task_local) (no_word_told word.Task) _ _ _ _ _ (λ r w. w.1 there.0 there.1) c.tasks.invariant c.in_ok-task.ensures.reads)
 
 pub returns-clause-reads : goal.returns-clause-reads
 returns-clause-reads c =
     let missing = it_is_missing (TheWord c.args.source.now word.Task) c.tasks.tokens _ c.word_stands.ensures.stands c.tasks-test.false in
-    ended _ _ _ _ _ _ c.tasks.invariant (refl, missing)
+    ended _ _ _ _ _ _ _ c.tasks.invariant (refl, missing)
+
+pub tasks-init : goal.tasks-init
+tasks-init c = rw c.new-tasks.ensures (starts _ _ _ _)

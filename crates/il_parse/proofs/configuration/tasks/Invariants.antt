@@ -5,7 +5,7 @@ use Rattle.il_read.proofs.Chain.{HasRead}
 use Rattle.il_parse.proofs.configuration.tasks.Given as goal
 
 abbrev pub invariant-tasks : goal.invariant-tasks
-invariant-tasks l = HasRead (SpellsTask l.source) (No (TheWord l.source word.Task)) l.fn.tokens l.tasks l.tokens
+invariant-tasks l = HasRead SpellsTask (λ text. No (TheWord text word.Task)) l.source l.fn.tokens l.tasks l.tokens
 
 abbrev pub decreases-tasks : goal.decreases-tasks
 decreases-tasks l = length l.tokens

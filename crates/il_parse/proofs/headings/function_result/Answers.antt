@@ -1,16 +1,17 @@
-use Rattle.std.proofs.Common.{List, subst}
-use Rattle.il_spec.specs.declared.token.Token.{Token}
+use Rattle.il_spec.specs.Grammar.{loose}
 use Rattle.il_spec.specs.declared.token.Sign.TheVariants.{Colon}
-use Rattle.il_spec.specs.Grammar.{skip_line_ends}
-use Rattle.il_grammar_laws.proofs.Leads.{sign_sure}
-use Rattle.il_read.proofs.Chain.{up}
+use Rattle.il_read.proofs.Chain.{first_missing, behind, up}
 use Rattle.il_parse.specs.Headings.{PlacedScalar}
+use Rattle.il_grammar_laws.proofs.Local.{sign_local}
+use Rattle.il_grammar_laws.proofs.Alike.{loose_gap}
+use Rattle.il_parse.proofs.Repeated.{after_refused}
 use Rattle.il_parse.proofs.headings.function_result.Goals as goal
 
 pub returns-in_err-placed_scalar-clause-refused : goal.returns-in_err-placed_scalar-clause-refused
 returns-in_err-placed_scalar-clause-refused c =
-    let colon = rw c.skip_lines.ensures.rest at c.in_ok-sign.ensures.reads in
-    let bad = rw c.skip_lines-2.ensures.rest at c.in_err-placed_scalar.ensures.refused in
-    up _ c.from_residual-in_err-placed_scalar.ensures.1 (record {
-      never = λ is x r w. bad.never is x r (subst (λ (k : List Token). PlacedScalar c.args.source.now x (skip_line_ends k) r) ((sign_sure Colon).only _ w.0 _ w.1 colon.found) w.2);
-    })
+    up _ c.from_residual-in_err-placed_scalar.ensures.1
+    (after_refused (behind loose_gap (λ text x. PlacedScalar text x) (sign_local Colon) (rw c.skip_lines.ensures.rest at c.in_ok-sign.ensures.reads) (rw c.skip_lines-2.ensures.rest at c.in_err-placed_scalar.ensures.refused)))
+
+pub returns-in_err-sign-clause-refused : goal.returns-in_err-sign-clause-refused
+returns-in_err-sign-clause-refused c =
+    up _ c.from_residual.ensures.1 (after_refused (first_missing loose (λ text x. PlacedScalar text x) (rw c.skip_lines.ensures.rest at c.in_err-sign.ensures.refused)))

@@ -1,28 +1,35 @@
 use Rattle.il_spec.specs.declared.keyword.Keyword.TheVariants as word
 use Rattle.il_spec.specs.Grammar.{TheWord}
-use Rattle.il_read.proofs.Chain.{up, goes_on, item_refused, ended, was_there, was_missing, too_many, within_refused, within_read}
-use Rattle.il_parse.proofs.OneUnit.{small_unit_one}
+use Rattle.il_read.proofs.Chain.{starts, up, goes_on, item_refused, ended, was_there, was_missing, too_many, within_refused, within_read}
 use Rattle.il_parse.proofs.Parts.{few_more}
+use Rattle.il_grammar_laws.proofs.Local.{word_told}
+use Rattle.il_parse.proofs.OneUnit.{small_unit_local}
+use Rattle.il_parse.specs.Parts.{SpellsUnits}
+use Rattle.std.proofs.Common.{arith}
 use Rattle.il_parse.proofs.units.units.Goals as goal
 
 pub returns-then-is_full-clause-refused : goal.returns-then-is_full-clause-refused
 returns-then-is_full-clause-refused c =
     let none = was_missing (TheWord c.args.source.now word.Configuration) c.units.tokens _ c.eat_word.new.tokens c.eat_word.ensures.eaten c.units-test.true in
-    too_many _ _ 64 _ _ _ _ none.1 (c.is_full.ensures.yes c.if-is_full.true) c.units.invariant.1
+    let how = rw none.0 at c.surplus.ensures in
+    too_many _ _ _ 64 (word_told word.Configuration) _ _ _ _ how.0 how.2 none.1 (c.is_full.ensures.yes c.if-is_full.true) c.units.invariant.1 how.1
 
 pub returns-in_err-unit-clause-refused : goal.returns-in_err-unit-clause-refused
 returns-in_err-unit-clause-refused c =
     let none = was_missing (TheWord c.args.source.now word.Configuration) c.units.tokens _ c.eat_word.new.tokens c.eat_word.ensures.eaten c.units-test.true in
-    up _ c.from_residual.ensures.1 (within_refused 64 (item_refused _ _ _ _ _ _ none.1 c.units.invariant.1 (rw none.0 at c.in_err-unit.ensures.refused)))
+    up _ c.from_residual.ensures.1 (within_refused 64 (item_refused _ _ _ (word_told word.Configuration) _ _ _ _ none.1 c.units.invariant.1 (rw none.0 at c.in_err-unit.ensures.refused)))
 
 pub units-preserved : goal.units-preserved
 units-preserved c =
     let none = was_missing (TheWord c.args.source.now word.Configuration) c.units.tokens _ c.eat_word.new.tokens c.eat_word.ensures.eaten c.units-test.true in (
       rw c.in_ok-push.ensures.ok (few_more _ _ _ c.if-is_full.false c.is_full.ensures.no c.units.invariant.0),
       rw (c.skip_lines.ensures.rest, c.in_ok-push.ensures.ok)
-          (goes_on _ _ (small_unit_one c.args.source.now) _ _ _ _ _ none.1 c.units.invariant.1 (rw none.0 at c.in_ok-unit.ensures.reads)),
+          (goes_on _ _ _ small_unit_local (word_told word.Configuration) _ _ _ _ _ none.1 c.units.invariant.1 (rw none.0 at c.in_ok-unit.ensures.reads)),
     )
 
 pub returns-clause-reads : goal.returns-clause-reads
 returns-clause-reads c =
-    within_read 64 c.units.invariant.0 (ended _ _ _ _ _ _ c.units.invariant.1 (was_there (TheWord c.args.source.now word.Configuration) c.units.tokens _ c.eat_word.new.tokens c.eat_word.ensures.eaten c.units-test.false))
+    within_read SpellsUnits {text = c.args.source.now} 64 c.units.invariant.0 (ended _ _ _ _ _ _ _ c.units.invariant.1 (was_there (TheWord c.args.source.now word.Configuration) c.units.tokens _ c.eat_word.new.tokens c.eat_word.ensures.eaten c.units-test.false))
+
+pub units-init : goal.units-init
+units-init c = rw c.new-units.ensures (omega arith, starts _ _ _ _)

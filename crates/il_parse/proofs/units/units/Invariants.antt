@@ -6,7 +6,7 @@ use Rattle.il_read.proofs.Chain.{HasRead}
 use Rattle.il_parse.proofs.units.units.Given as goal
 
 abbrev pub invariant-units : goal.invariant-units
-invariant-units l = (length l.units ≤ 64) × HasRead (SpellsSmallUnit l.source) (TheWord l.source word.Configuration) l.fn.tokens l.units l.tokens
+invariant-units l = (length l.units ≤ 64) × HasRead SpellsSmallUnit (λ text. TheWord text word.Configuration) l.source l.fn.tokens l.units l.tokens
 
 abbrev pub decreases-units : goal.decreases-units
 decreases-units l = 64 - length l.units

@@ -1,10 +1,14 @@
 use Rattle.il_spec.specs.declared.keyword.Keyword.TheVariants as word
-use Rattle.il_read.proofs.Chain.{up}
 use Rattle.il_parse.specs.Lists.{SpellsExternalsInside}
-use Rattle.il_parse.proofs.Missing.{inside_refused}
+use Rattle.il_parse.proofs.Missing.{word_refused, inside_refused}
+use Rattle.il_parse.proofs.Ahead.{up_ahead}
 use Rattle.il_parse.proofs.variables.external_list.Goals as goal
 
 pub returns-in_err-externals_inside-clause-refused : goal.returns-in_err-externals_inside-clause-refused
 returns-in_err-externals_inside-clause-refused c =
-    up _ c.from_residual-in_err-externals_inside.ensures.1
-    (inside_refused c.args.source.now word.VarExternal (SpellsExternalsInside c.args.source.now) _ _ _ (rw c.skip_lines.ensures.rest at c.in_ok-word.ensures.reads) (rw c.skip_lines-2.ensures.rest at c.in_err-externals_inside.ensures.refused))
+    up_ahead _ c.from_residual-in_err-externals_inside.ensures.1
+    (inside_refused c.args.source.now word.VarExternal SpellsExternalsInside _ _ _ (rw c.skip_lines.ensures.rest at c.in_ok-word.ensures.reads) (rw c.skip_lines-2.ensures.rest at c.in_err-externals_inside.ensures.refused))
+
+pub returns-in_err-word-clause-refused : goal.returns-in_err-word-clause-refused
+returns-in_err-word-clause-refused c =
+    up_ahead _ c.from_residual.ensures.1 (word_refused c.args.source.now word.VarExternal SpellsExternalsInside _ _ (rw c.skip_lines.ensures.rest at c.in_err-word.ensures.refused))

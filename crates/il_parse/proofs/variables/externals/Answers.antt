@@ -1,10 +1,11 @@
 use Rattle.il_spec.specs.declared.keyword.Keyword.TheVariants as word
 use Rattle.il_spec.specs.Grammar.{TheWord}
-use Rattle.il_read.proofs.Chain.{up, it_comes}
+use Rattle.il_read.proofs.Chain.{it_comes}
 use Rattle.il_parse.proofs.Missing.{optional_refused}
+use Rattle.il_parse.proofs.Ahead.{up_ahead}
 use Rattle.il_parse.proofs.variables.externals.Goals as goal
 
 pub returns-in_err-external_list-clause-refused : goal.returns-in_err-external_list-clause-refused
 returns-in_err-external_list-clause-refused c =
     let there = it_comes (TheWord c.args.source.now word.VarExternal) c.args.tokens.now _ c.comes.ensures.comes c.if-not-comes.false in
-    up _ c.from_residual.ensures.1 (optional_refused c.args.source.now _ _ _ _ _ there.1 c.in_err-external_list.ensures.refused)
+    up_ahead _ c.from_residual.ensures.1 (optional_refused c.args.source.now _ _ _ _ _ there.1 c.in_err-external_list.ensures.refused)

@@ -5,7 +5,7 @@ use Rattle.il_read.proofs.Chain.{HasRead}
 use Rattle.il_parse.proofs.variables.externals_inside.Given as goal
 
 abbrev pub invariant-externals : goal.invariant-externals
-invariant-externals l = HasRead (SpellsExternal l.source) (TheWord l.source word.EndVar) l.fn.tokens l.externals l.tokens
+invariant-externals l = HasRead SpellsExternal (λ text. TheWord text word.EndVar) l.source l.fn.tokens l.externals l.tokens
 
 abbrev pub decreases-externals : goal.decreases-externals
 decreases-externals l = length l.tokens

@@ -1,12 +1,13 @@
 use Rattle.il_spec.specs.Grammar.{TheWord}
-use Rattle.il_read.proofs.Chain.{up, it_comes}
+use Rattle.il_read.proofs.Chain.{it_comes}
 use Rattle.il_parse.proofs.Missing.{filled_refused, filled_read}
+use Rattle.il_parse.proofs.Ahead.{up_ahead}
 use Rattle.il_parse.proofs.variables.filled_list.Goals as goal
 
 pub returns-in_err-full_list-clause-refused : goal.returns-in_err-full_list-clause-refused
 returns-in_err-full_list-clause-refused c =
     let there = it_comes (TheWord c.args.source.now c.args.keyword) c.args.tokens.now _ c.comes.ensures.comes c.if-not-comes.false in
-    up _ c.from_residual.ensures.1 (filled_refused c.args.source.now _ _ _ _ there.1 c.in_err-full_list.ensures.refused)
+    up_ahead _ c.from_residual.ensures.1 (filled_refused c.args.source.now _ _ _ _ there.1 c.in_err-full_list.ensures.refused)
 
 pub returns-clause-reads : goal.returns-clause-reads
 returns-clause-reads c = filled_read c.args.source.now _ _ _ _ c.in_ok-full_list.ensures.reads

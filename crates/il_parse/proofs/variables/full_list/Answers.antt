@@ -1,16 +1,19 @@
 use Rattle.il_spec.specs.declared.keyword.Keyword.TheVariants as word
 use Rattle.il_spec.specs.Grammar.{TheWord}
-use Rattle.il_read.proofs.Chain.{up}
-use Rattle.il_parse.proofs.Missing.{empty_refused, full_refused, it_stands}
+use Rattle.il_parse.proofs.Missing.{no_full, empty_refused, full_refused, it_stands}
+use Rattle.il_parse.proofs.Ahead.{up_ahead}
 use Rattle.il_parse.proofs.variables.full_list.Goals as goal
 
 pub returns-then-word_stands-clause-refused : goal.returns-then-word_stands-clause-refused
 returns-then-word_stands-clause-refused c =
     let end = it_stands (TheWord c.args.source.now word.EndVar) c.skip_lines-2.new.self _ c.word_stands.ensures.stands c.if-word_stands.true in
     let moved = rw c.skip_lines-2.ensures.rest at end in
-    empty_refused c.args.source.now _ _ _ _ _ (rw c.skip_lines.ensures.rest at c.in_ok-word.ensures.reads) moved.1
+    empty_refused c.args.source.now _ _ _ _ _ (rw c.skip_lines.ensures.rest at c.in_ok-word.ensures.reads) moved.1 (rw c.skip_lines-2.ensures.rest at c.outside.ensures)
 
 pub returns-in_err-declarations-clause-refused : goal.returns-in_err-declarations-clause-refused
 returns-in_err-declarations-clause-refused c =
-    up _ c.from_residual-in_err-declarations.ensures.1
+    up_ahead _ c.from_residual-in_err-declarations.ensures.1
     (full_refused c.args.source.now _ _ _ _ (rw c.skip_lines.ensures.rest at c.in_ok-word.ensures.reads) (rw c.skip_lines-2.ensures.rest at c.in_err-declarations.ensures.refused))
+
+pub returns-in_err-word-clause-refused : goal.returns-in_err-word-clause-refused
+returns-in_err-word-clause-refused c = up_ahead _ c.from_residual.ensures.1 (no_full c.args.source.now _ _ _ (rw c.skip_lines.ensures.rest at c.in_err-word.ensures.refused))

@@ -1,8 +1,15 @@
-use Rattle.il_read.proofs.Chain.{up}
-use Rattle.il_parse.proofs.Missing.{list_refused}
+use Rattle.il_spec.specs.declared.keyword.Keyword.TheVariants as word
+use Rattle.il_spec.specs.Grammar.{Repeats, TheWord, SpellsDeclaration}
+use Rattle.il_parse.proofs.Missing.{word_refused, list_refused}
+use Rattle.il_parse.proofs.Ahead.{up_ahead}
 use Rattle.il_parse.proofs.variables.list.Goals as goal
 
 pub returns-in_err-declarations-clause-refused : goal.returns-in_err-declarations-clause-refused
 returns-in_err-declarations-clause-refused c =
-    up _ c.from_residual-in_err-declarations.ensures.1
+    up_ahead _ c.from_residual-in_err-declarations.ensures.1
     (list_refused c.args.source.now _ _ _ _ (rw c.skip_lines.ensures.rest at c.in_ok-word.ensures.reads) (rw c.skip_lines-2.ensures.rest at c.in_err-declarations.ensures.refused))
+
+pub returns-in_err-word-clause-refused : goal.returns-in_err-word-clause-refused
+returns-in_err-word-clause-refused c =
+    up_ahead _ c.from_residual.ensures.1
+    (word_refused c.args.source.now c.args.keyword (λ text ds. Repeats (SpellsDeclaration text) ds (TheWord text word.EndVar)) _ _ (rw c.skip_lines.ensures.rest at c.in_err-word.ensures.refused))

@@ -1,20 +1,21 @@
 use Rattle.std.proofs.Common.{arith}
 use Rattle.il_spec.specs.declared.keyword.Keyword.TheVariants as word
 use Rattle.il_spec.specs.Grammar.{loose}
-use Rattle.il_grammar_laws.proofs.Leads.{word_sure}
 use Rattle.il_read.specs.Settings.{SpellsBound}
 use Rattle.il_read.proofs.Chain.{up, first_missing, behind}
 use Rattle.il_read.proofs.Through.{ok_through, err_through}
+use Rattle.il_grammar_laws.proofs.Local.{word_local}
+use Rattle.il_grammar_laws.proofs.Alike.{loose_gap}
 use Rattle.il_read.proofs.source.Source.binding.Goals as goal
 
 pub returns-in_err-word-clause-refused : goal.returns-in_err-word-clause-refused
 returns-in_err-word-clause-refused c =
     up _ c.from_residual.ensures.1
-    (first_missing loose (λ b. SpellsBound c.args.self.now b) c.in_err-word.ensures.refused)
+    (first_missing loose (λ text b. SpellsBound text b) c.in_err-word.ensures.refused)
 
 pub returns-clause-refused : goal.returns-clause-refused
 returns-clause-refused c = err_through c.bound.result c.bound.ensures.refused (λ e bad.
-    (behind loose (λ b. SpellsBound c.args.self.now b) (word_sure c.args.self.now word.With) c.in_ok-word.ensures.reads
+    (behind loose_gap (λ text b. SpellsBound text b) (word_local word.With) c.in_ok-word.ensures.reads
     (rw c.skip_lines.ensures.rest at bad)))
 
 pub returns-clause-reads : goal.returns-clause-reads

@@ -1,25 +1,26 @@
 use Rattle.il_spec.specs.declared.token.Sign.TheVariants.{Colon}
 use Rattle.il_spec.specs.Grammar.{loose, ◌⋯◌, TheSign}
-use Rattle.il_grammar_laws.proofs.Leads.{sign_sure, the_name_one}
 use Rattle.il_read.specs.Settings.{SpellsProgramName}
 use Rattle.il_read.proofs.Chain.{up, first, later, first_missing, behind, part}
+use Rattle.il_grammar_laws.proofs.Local.{sign_local, the_name_local}
+use Rattle.il_grammar_laws.proofs.Alike.{loose_gap}
 use Rattle.il_read.proofs.source.Source.bound.Goals as goal
 
 pub returns-in_err-task-clause-refused : goal.returns-in_err-task-clause-refused
 returns-in_err-task-clause-refused c =
-    up _ c.from_residual.ensures.1 (first (λ b. b.0) loose (λ b. TheSign Colon ⋯ SpellsProgramName c.args.self.now b.1) c.in_err-task.ensures.refused)
+    up _ c.from_residual.ensures.1 (first (λ b. b.0) loose (λ text b. TheSign Colon ⋯ SpellsProgramName text b.1) c.in_err-task.ensures.refused)
 
 pub returns-in_err-sign-clause-refused : goal.returns-in_err-sign-clause-refused
 returns-in_err-sign-clause-refused c =
     up _ c.from_residual-in_err-sign.ensures.1
-    (later (λ b. b.0) loose (λ b. TheSign Colon ⋯ SpellsProgramName c.args.self.now b.1) (the_name_one c.args.self.now) c.in_ok-task.ensures.reads
-    (first_missing loose (λ b. SpellsProgramName c.args.self.now b.1) (rw c.skip_lines.ensures.rest at c.in_err-sign.ensures.refused)))
+    (later (λ b. b.0) loose_gap (λ text b. TheSign Colon ⋯ SpellsProgramName text b.1) the_name_local c.in_ok-task.ensures.reads
+    (first_missing loose (λ text b. SpellsProgramName text b.1) (rw c.skip_lines.ensures.rest at c.in_err-sign.ensures.refused)))
 
 pub returns-in_err-program-clause-refused : goal.returns-in_err-program-clause-refused
 returns-in_err-program-clause-refused c =
     up _ c.from_residual-in_err-program.ensures.1
-    (later (λ b. b.0) loose (λ b. TheSign Colon ⋯ SpellsProgramName c.args.self.now b.1) (the_name_one c.args.self.now) c.in_ok-task.ensures.reads
-    (behind loose (λ b. SpellsProgramName c.args.self.now b.1) (sign_sure Colon) (rw c.skip_lines.ensures.rest at c.in_ok-sign.ensures.reads)
+    (later (λ b. b.0) loose_gap (λ text b. TheSign Colon ⋯ SpellsProgramName text b.1) the_name_local c.in_ok-task.ensures.reads
+    (behind loose_gap (λ text b. SpellsProgramName text b.1) (sign_local Colon) (rw c.skip_lines.ensures.rest at c.in_ok-sign.ensures.reads)
     (part (λ b. b.1) (rw c.skip_lines-2.ensures.rest at c.in_err-program.ensures.refused))))
 
 pub returns-clause-reads : goal.returns-clause-reads

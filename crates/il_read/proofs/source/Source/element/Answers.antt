@@ -1,18 +1,19 @@
 use Rattle.std.proofs.Common.{arith}
 use Rattle.il_spec.specs.declared.token.Sign.TheVariants.{CloseBracket}
 use Rattle.il_spec.specs.Grammar.{TheSign}
-use Rattle.il_grammar_laws.proofs.Operands.{index_one}
 use Rattle.il_read.specs.Reads.{gap_of}
 use Rattle.il_read.proofs.Chain.{up, first, later, last_missing}
 use Rattle.il_read.proofs.Through.{ok_both, ok_through, err_through}
+use Rattle.il_grammar_laws.proofs.Local.{index_local}
+use Rattle.il_read.proofs.Alternatives.{gap_is}
 use Rattle.il_read.proofs.source.Source.element.Goals as goal
 
 pub returns-in_err-index-clause-refused : goal.returns-in_err-index-clause-refused
-returns-in_err-index-clause-refused c = up _ c.from_residual.ensures.1 (first (λ i. i) (gap_of c.args.gap) (λ i. TheSign CloseBracket) c.in_err-index.ensures.refused)
+returns-in_err-index-clause-refused c = up _ c.from_residual.ensures.1 (first (λ i. i) (gap_of c.args.gap) (λ text i. TheSign CloseBracket) c.in_err-index.ensures.refused)
 
 pub returns-clause-refused : goal.returns-clause-refused
 returns-clause-refused c = err_through c.closed.result c.closed.ensures.misses (λ e bad.
-    (later (λ i. i) (gap_of c.args.gap) (λ i. TheSign CloseBracket) (index_one c.args.self.now) c.in_ok-index.ensures.reads (last_missing (rw c.pass.ensures.rest at bad))))
+    (later (λ i. i) (gap_is c.args.gap) (λ text i. TheSign CloseBracket) index_local c.in_ok-index.ensures.reads (last_missing (rw c.pass.ensures.rest at bad))))
 
 pub returns-clause-reads : goal.returns-clause-reads
 returns-clause-reads c = ok_both c.closed.result c.closed.ensures.value c.closed.ensures.stands (λ x same end. rw same

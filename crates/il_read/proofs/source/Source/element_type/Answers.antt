@@ -2,25 +2,26 @@ use Rattle.std.proofs.Common.{arith}
 use Rattle.il_spec.specs.declared.token.Sign.TheVariants.{CloseBracket}
 use Rattle.il_spec.specs.declared.keyword.Keyword.TheVariants as word
 use Rattle.il_spec.specs.Grammar.{loose, ◌⋯◌, TheWord, SpellsScalar}
-use Rattle.il_grammar_laws.proofs.Leads.{word_sure, sign_sure}
 use Rattle.il_read.proofs.Chain.{up, first_missing, behind}
 use Rattle.il_read.proofs.Through.{ok_through, err_through}
+use Rattle.il_grammar_laws.proofs.Local.{sign_local, word_local}
+use Rattle.il_grammar_laws.proofs.Alike.{loose_gap}
 use Rattle.il_read.proofs.source.Source.element_type.Goals as goal
 
 pub returns-in_err-sign-clause-refused : goal.returns-in_err-sign-clause-refused
 returns-in_err-sign-clause-refused c =
-    up _ c.from_residual.ensures.1 (first_missing loose (λ s. TheWord c.args.self.now word.Of ⋯ SpellsScalar c.args.self.now s) c.in_err-sign.ensures.refused)
+    up _ c.from_residual.ensures.1 (first_missing loose (λ text s. TheWord text word.Of ⋯ SpellsScalar text s) c.in_err-sign.ensures.refused)
 
 pub returns-in_err-word-clause-refused : goal.returns-in_err-word-clause-refused
 returns-in_err-word-clause-refused c =
     up _ c.from_residual-in_err-word.ensures.1
-    (behind loose (λ s. TheWord c.args.self.now word.Of ⋯ SpellsScalar c.args.self.now s) (sign_sure CloseBracket) c.in_ok-sign.ensures.reads
-    (first_missing loose (λ s. SpellsScalar c.args.self.now s) (rw c.skip_lines.ensures.rest at c.in_err-word.ensures.refused)))
+    (behind loose_gap (λ text s. TheWord text word.Of ⋯ SpellsScalar text s) (sign_local CloseBracket) c.in_ok-sign.ensures.reads
+    (first_missing loose (λ text s. SpellsScalar text s) (rw c.skip_lines.ensures.rest at c.in_err-word.ensures.refused)))
 
 pub returns-clause-refused : goal.returns-clause-refused
 returns-clause-refused c = err_through c.scalar.result c.scalar.ensures.refused (λ e bad.
-    (behind loose (λ s. TheWord c.args.self.now word.Of ⋯ SpellsScalar c.args.self.now s) (sign_sure CloseBracket) c.in_ok-sign.ensures.reads
-    (behind loose (λ s. SpellsScalar c.args.self.now s) (word_sure c.args.self.now word.Of) (rw c.skip_lines.ensures.rest at c.in_ok-word.ensures.reads)
+    (behind loose_gap (λ text s. TheWord text word.Of ⋯ SpellsScalar text s) (sign_local CloseBracket) c.in_ok-sign.ensures.reads
+    (behind loose_gap (λ text s. SpellsScalar text s) (word_local word.Of) (rw c.skip_lines.ensures.rest at c.in_ok-word.ensures.reads)
     (rw c.skip_lines-2.ensures.rest at bad))))
 
 pub returns-clause-reads : goal.returns-clause-reads

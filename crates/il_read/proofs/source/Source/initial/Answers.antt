@@ -1,17 +1,18 @@
 use Rattle.il_spec.specs.declared.token.Sign.TheVariants.{Assign, Semicolon}
 use Rattle.il_spec.specs.Grammar.{loose, TheSign, SpellsInitial}
-use Rattle.il_grammar_laws.proofs.Leads.{sign_sure}
 use Rattle.il_read.specs.Reads.{SpellsValue}
 use Rattle.il_read.proofs.Chain.{up, first_missing, behind, part, some_refused, was_missing}
+use Rattle.il_grammar_laws.proofs.Local.{sign_told, sign_local}
+use Rattle.il_grammar_laws.proofs.Alike.{loose_gap}
 use Rattle.il_read.proofs.source.Source.initial.Goals as goal
 
 pub returns-in_err-sign-clause-refused : goal.returns-in_err-sign-clause-refused
 returns-in_err-sign-clause-refused c =
     let none = was_missing (TheSign Semicolon) c.args.tokens.now _ c.eat_sign.new.tokens c.eat_sign.ensures.eaten c.if-eat_sign.false in
-    up _ c.from_residual.ensures.1 (some_refused {P = SpellsInitial c.args.self.now} none.1 (first_missing loose (λ i. SpellsValue c.args.self.now i) (rw none.0 at c.in_err-sign.ensures.refused)))
+    up _ c.from_residual.ensures.1 (some_refused {P = SpellsInitial} (sign_told Semicolon) none.1 (first_missing loose (λ text i. SpellsValue text i) (rw none.0 at c.in_err-sign.ensures.refused)))
 
 pub returns-in_err-value-clause-refused : goal.returns-in_err-value-clause-refused
 returns-in_err-value-clause-refused c =
     let none = was_missing (TheSign Semicolon) c.args.tokens.now _ c.eat_sign.new.tokens c.eat_sign.ensures.eaten c.if-eat_sign.false in
-    up _ c.from_residual-in_err-value.ensures.1 (some_refused {P = SpellsInitial c.args.self.now} none.1
-    (behind loose (λ i. SpellsValue c.args.self.now i) (sign_sure Assign) (rw none.0 at c.in_ok-sign.ensures.reads) (part (λ i. i) (rw c.skip_lines.ensures.rest at c.in_err-value.ensures.refused))))
+    up _ c.from_residual-in_err-value.ensures.1 (some_refused {P = SpellsInitial} (sign_told Semicolon) none.1
+    (behind loose_gap (λ text i. SpellsValue text i) (sign_local Assign) (rw none.0 at c.in_ok-sign.ensures.reads) (part (λ i. i) (rw c.skip_lines.ensures.rest at c.in_err-value.ensures.refused))))

@@ -1,27 +1,28 @@
 use Rattle.std.proofs.Common.{arith}
 use Rattle.il_spec.specs.declared.token.Sign.TheVariants.{Range, OpenParenthesis, CloseParenthesis}
 use Rattle.il_spec.specs.Grammar.{loose, ◌⋯◌, TheSign, ANumber}
-use Rattle.il_grammar_laws.proofs.Leads.{sign_sure}
 use Rattle.il_read.proofs.Chain.{up, first, later, first_missing, last_missing, behind}
-use Rattle.il_read.proofs.Alternatives.{range_one, range_refused}
+use Rattle.il_read.proofs.Alternatives.{range_refused, range_local}
 use Rattle.il_read.proofs.Through.{ok_both, ok_through, err_through}
+use Rattle.il_grammar_laws.proofs.Local.{sign_local}
+use Rattle.il_grammar_laws.proofs.Alike.{loose_gap}
 use Rattle.il_read.proofs.source.Source.limits.Goals as goal
 
 pub returns-in_err-sign-clause-refused : goal.returns-in_err-sign-clause-refused
 returns-in_err-sign-clause-refused c =
-    up _ c.from_residual.ensures.1 (first_missing loose (λ s. ANumber s.lower ⋯ TheSign Range ⋯ ANumber s.upper ⋯ TheSign CloseParenthesis) c.in_err-sign.ensures.refused)
+    up _ c.from_residual.ensures.1 (first_missing loose (λ text s. ANumber s.lower ⋯ TheSign Range ⋯ ANumber s.upper ⋯ TheSign CloseParenthesis) c.in_err-sign.ensures.refused)
 
 pub returns-in_err-limits-clause-refused : goal.returns-in_err-limits-clause-refused
 returns-in_err-limits-clause-refused c =
     up _ c.from_residual-in_err-limits.ensures.1
-    (behind loose (λ s. ANumber s.lower ⋯ TheSign Range ⋯ ANumber s.upper ⋯ TheSign CloseParenthesis) (sign_sure OpenParenthesis) c.in_ok-sign.ensures.reads
-    (range_refused (λ s. s) (λ s. TheSign CloseParenthesis) (first (λ s. s) loose (λ s. TheSign CloseParenthesis) (rw c.skip_lines.ensures.rest at c.in_err-limits.ensures.refused))))
+    (behind loose_gap (λ text s. ANumber s.lower ⋯ TheSign Range ⋯ ANumber s.upper ⋯ TheSign CloseParenthesis) (sign_local OpenParenthesis) c.in_ok-sign.ensures.reads
+    (range_refused (λ s. s) (λ text s. TheSign CloseParenthesis) (first (λ s. s) loose (λ text s. TheSign CloseParenthesis) (rw c.skip_lines.ensures.rest at c.in_err-limits.ensures.refused))))
 
 pub returns-clause-refused : goal.returns-clause-refused
 returns-clause-refused c = err_through c.closed.result c.closed.ensures.misses (λ e bad.
-    (behind loose (λ s. ANumber s.lower ⋯ TheSign Range ⋯ ANumber s.upper ⋯ TheSign CloseParenthesis) (sign_sure OpenParenthesis) c.in_ok-sign.ensures.reads
-    (range_refused (λ s. s) (λ s. TheSign CloseParenthesis)
-    (later (λ s. s) loose (λ s. TheSign CloseParenthesis) range_one (rw c.skip_lines.ensures.rest at c.in_ok-limits.ensures.reads) (last_missing (rw c.skip_lines-2.ensures.rest at bad))))))
+    (behind loose_gap (λ text s. ANumber s.lower ⋯ TheSign Range ⋯ ANumber s.upper ⋯ TheSign CloseParenthesis) (sign_local OpenParenthesis) c.in_ok-sign.ensures.reads
+    (range_refused (λ s. s) (λ text s. TheSign CloseParenthesis)
+    (later (λ s. s) loose_gap (λ text s. TheSign CloseParenthesis) range_local (rw c.skip_lines.ensures.rest at c.in_ok-limits.ensures.reads) (last_missing (rw c.skip_lines-2.ensures.rest at bad))))))
 
 pub returns-clause-reads : goal.returns-clause-reads
 returns-clause-reads c = ok_both c.closed.result c.closed.ensures.value c.closed.ensures.stands (λ x same end. rw same

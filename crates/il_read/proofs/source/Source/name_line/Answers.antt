@@ -1,15 +1,16 @@
 use Rattle.std.proofs.Common.{arith}
 use Rattle.il_spec.specs.Grammar.{tight, TheLineEnd}
-use Rattle.il_grammar_laws.proofs.Leads.{the_name_one}
 use Rattle.il_read.proofs.Chain.{up, first, later, last_missing}
 use Rattle.il_read.proofs.Through.{ok_both, ok_through, err_through}
+use Rattle.il_grammar_laws.proofs.Local.{the_name_local}
+use Rattle.il_grammar_laws.proofs.Alike.{tight_gap}
 use Rattle.il_read.proofs.source.Source.name_line.Goals as goal
 
 pub returns-in_err-name-clause-refused : goal.returns-in_err-name-clause-refused
-returns-in_err-name-clause-refused c = up _ c.from_residual.ensures.1 (first _ tight (λ n. TheLineEnd) c.in_err-name.ensures.refused)
+returns-in_err-name-clause-refused c = up _ c.from_residual.ensures.1 (first _ tight (λ text n. TheLineEnd) c.in_err-name.ensures.refused)
 
 pub returns-clause-refused : goal.returns-clause-refused
-returns-clause-refused c = err_through c.ended.result c.ended.ensures.misses (λ e bad. later (λ x. x) tight (λ x. TheLineEnd) (the_name_one c.args.self.now) c.in_ok-name.ensures.reads (last_missing bad))
+returns-clause-refused c = err_through c.ended.result c.ended.ensures.misses (λ e bad. later (λ x. x) tight_gap (λ text x. TheLineEnd) the_name_local c.in_ok-name.ensures.reads (last_missing bad))
 
 pub returns-clause-reads : goal.returns-clause-reads
 returns-clause-reads c = ok_both c.ended.result c.ended.ensures.value c.ended.ensures.stands

@@ -1,42 +1,42 @@
 use Rattle.il_spec.specs.declared.token.Sign.TheVariants.{Assign, Semicolon, CloseParenthesis}
 use Rattle.il_spec.specs.declared.keyword.Keyword.TheVariants as word
 use Rattle.il_spec.specs.Grammar.{loose, ◌⋯◌, TheSign, ADecimal}
-use Rattle.il_grammar_laws.proofs.Leads.{word_sure, sign_sure}
-use Rattle.il_grammar_laws.proofs.Configurations.{decimal_one}
 use Rattle.il_read.proofs.Chain.{up, first, later, first_missing, last_missing, behind}
+use Rattle.il_grammar_laws.proofs.Local.{sign_local, word_local, decimal_local}
+use Rattle.il_grammar_laws.proofs.Alike.{loose_gap}
 use Rattle.il_read.proofs.source.Source.priority.Goals as goal
 
 pub returns-in_err-word-clause-refused : goal.returns-in_err-word-clause-refused
 returns-in_err-word-clause-refused c =
     up _ c.from_residual.ensures.1
-    (first_missing loose (λ b. TheSign Assign ⋯ ADecimal c.args.self.now b ⋯ TheSign CloseParenthesis ⋯ TheSign Semicolon) c.in_err-word.ensures.refused)
+    (first_missing loose (λ text b. TheSign Assign ⋯ ADecimal text b ⋯ TheSign CloseParenthesis ⋯ TheSign Semicolon) c.in_err-word.ensures.refused)
 
 pub returns-in_err-sign-clause-refused : goal.returns-in_err-sign-clause-refused
 returns-in_err-sign-clause-refused c =
     up _ c.from_residual-in_err-sign.ensures.1
-    (behind loose (λ b. TheSign Assign ⋯ ADecimal c.args.self.now b ⋯ TheSign CloseParenthesis ⋯ TheSign Semicolon) (word_sure c.args.self.now word.Priority) c.in_ok-word.ensures.reads
-    (first_missing loose (λ b. ADecimal c.args.self.now b ⋯ TheSign CloseParenthesis ⋯ TheSign Semicolon) (rw c.skip_lines.ensures.rest at c.in_err-sign.ensures.refused)))
+    (behind loose_gap (λ text b. TheSign Assign ⋯ ADecimal text b ⋯ TheSign CloseParenthesis ⋯ TheSign Semicolon) (word_local word.Priority) c.in_ok-word.ensures.reads
+    (first_missing loose (λ text b. ADecimal text b ⋯ TheSign CloseParenthesis ⋯ TheSign Semicolon) (rw c.skip_lines.ensures.rest at c.in_err-sign.ensures.refused)))
 
 pub returns-in_err-value-clause-refused : goal.returns-in_err-value-clause-refused
 returns-in_err-value-clause-refused c =
     up _ c.from_residual-in_err-value.ensures.1
-    (behind loose (λ b. TheSign Assign ⋯ ADecimal c.args.self.now b ⋯ TheSign CloseParenthesis ⋯ TheSign Semicolon) (word_sure c.args.self.now word.Priority) c.in_ok-word.ensures.reads
-    (behind loose (λ b. ADecimal c.args.self.now b ⋯ TheSign CloseParenthesis ⋯ TheSign Semicolon) (sign_sure Assign) (rw c.skip_lines.ensures.rest at c.in_ok-sign.ensures.reads)
-    (first (λ b. b) loose (λ b. TheSign CloseParenthesis ⋯ TheSign Semicolon) (rw c.skip_lines-2.ensures.rest at c.in_err-value.ensures.refused))))
+    (behind loose_gap (λ text b. TheSign Assign ⋯ ADecimal text b ⋯ TheSign CloseParenthesis ⋯ TheSign Semicolon) (word_local word.Priority) c.in_ok-word.ensures.reads
+    (behind loose_gap (λ text b. ADecimal text b ⋯ TheSign CloseParenthesis ⋯ TheSign Semicolon) (sign_local Assign) (rw c.skip_lines.ensures.rest at c.in_ok-sign.ensures.reads)
+    (first (λ b. b) loose (λ text b. TheSign CloseParenthesis ⋯ TheSign Semicolon) (rw c.skip_lines-2.ensures.rest at c.in_err-value.ensures.refused))))
 
 pub returns-in_err-sign-2-clause-refused : goal.returns-in_err-sign-2-clause-refused
 returns-in_err-sign-2-clause-refused c =
     up _ c.from_residual-in_err-sign-2.ensures.1
-    (behind loose (λ b. TheSign Assign ⋯ ADecimal c.args.self.now b ⋯ TheSign CloseParenthesis ⋯ TheSign Semicolon) (word_sure c.args.self.now word.Priority) c.in_ok-word.ensures.reads
-    (behind loose (λ b. ADecimal c.args.self.now b ⋯ TheSign CloseParenthesis ⋯ TheSign Semicolon) (sign_sure Assign) (rw c.skip_lines.ensures.rest at c.in_ok-sign.ensures.reads)
-    (later (λ b. b) loose (λ b. TheSign CloseParenthesis ⋯ TheSign Semicolon) (decimal_one c.args.self.now) (rw c.skip_lines-2.ensures.rest at c.in_ok-value.ensures.reads)
-    (first_missing loose (λ b. TheSign Semicolon) (rw c.skip_lines-3.ensures.rest at c.in_err-sign-2.ensures.refused)))))
+    (behind loose_gap (λ text b. TheSign Assign ⋯ ADecimal text b ⋯ TheSign CloseParenthesis ⋯ TheSign Semicolon) (word_local word.Priority) c.in_ok-word.ensures.reads
+    (behind loose_gap (λ text b. ADecimal text b ⋯ TheSign CloseParenthesis ⋯ TheSign Semicolon) (sign_local Assign) (rw c.skip_lines.ensures.rest at c.in_ok-sign.ensures.reads)
+    (later (λ b. b) loose_gap (λ text b. TheSign CloseParenthesis ⋯ TheSign Semicolon) decimal_local (rw c.skip_lines-2.ensures.rest at c.in_ok-value.ensures.reads)
+    (first_missing loose (λ text b. TheSign Semicolon) (rw c.skip_lines-3.ensures.rest at c.in_err-sign-2.ensures.refused)))))
 
 pub returns-in_err-sign-3-clause-refused : goal.returns-in_err-sign-3-clause-refused
 returns-in_err-sign-3-clause-refused c =
     up _ c.from_residual-in_err-sign-3.ensures.1
-    (behind loose (λ b. TheSign Assign ⋯ ADecimal c.args.self.now b ⋯ TheSign CloseParenthesis ⋯ TheSign Semicolon) (word_sure c.args.self.now word.Priority) c.in_ok-word.ensures.reads
-    (behind loose (λ b. ADecimal c.args.self.now b ⋯ TheSign CloseParenthesis ⋯ TheSign Semicolon) (sign_sure Assign) (rw c.skip_lines.ensures.rest at c.in_ok-sign.ensures.reads)
-    (later (λ b. b) loose (λ b. TheSign CloseParenthesis ⋯ TheSign Semicolon) (decimal_one c.args.self.now) (rw c.skip_lines-2.ensures.rest at c.in_ok-value.ensures.reads)
-    (behind loose (λ b. TheSign Semicolon) (sign_sure CloseParenthesis) (rw c.skip_lines-3.ensures.rest at c.in_ok-sign-2.ensures.reads)
+    (behind loose_gap (λ text b. TheSign Assign ⋯ ADecimal text b ⋯ TheSign CloseParenthesis ⋯ TheSign Semicolon) (word_local word.Priority) c.in_ok-word.ensures.reads
+    (behind loose_gap (λ text b. ADecimal text b ⋯ TheSign CloseParenthesis ⋯ TheSign Semicolon) (sign_local Assign) (rw c.skip_lines.ensures.rest at c.in_ok-sign.ensures.reads)
+    (later (λ b. b) loose_gap (λ text b. TheSign CloseParenthesis ⋯ TheSign Semicolon) decimal_local (rw c.skip_lines-2.ensures.rest at c.in_ok-value.ensures.reads)
+    (behind loose_gap (λ text b. TheSign Semicolon) (sign_local CloseParenthesis) (rw c.skip_lines-3.ensures.rest at c.in_ok-sign-2.ensures.reads)
     (last_missing (rw c.skip_lines-4.ensures.rest at c.in_err-sign-3.ensures.refused))))))

@@ -1,27 +1,27 @@
 use Rattle.il_spec.specs.declared.keyword.Keyword.TheVariants as word
 use Rattle.il_spec.specs.Grammar.{loose, ◌⋯◌, TheName}
-use Rattle.il_grammar_laws.proofs.Combinators.{place_of}
-use Rattle.il_grammar_laws.proofs.Leads.{word_sure, the_name_one}
 use Rattle.il_read.specs.Settings.{SpellsWith}
 use Rattle.il_read.proofs.Chain.{up, first, later, part}
+use Rattle.il_grammar_laws.proofs.Local.{the_name_local, placed_word_local}
+use Rattle.il_grammar_laws.proofs.Alike.{loose_gap}
 use Rattle.il_read.proofs.source.Source.program_line.Goals as goal
 
 pub returns-in_err-place-clause-refused : goal.returns-in_err-place-clause-refused
 returns-in_err-place-clause-refused c =
     up _ c.from_residual.ensures.1
-    (first (λ b. b.place) loose (λ b. TheName c.args.self.now b.name ⋯ SpellsWith c.args.self.now (b.task, b.program)) c.in_err-place.ensures.refused)
+    (first (λ b. b.place) loose (λ text b. TheName text b.name ⋯ SpellsWith text (b.task, b.program)) c.in_err-place.ensures.refused)
 
 pub returns-in_err-name-clause-refused : goal.returns-in_err-name-clause-refused
 returns-in_err-name-clause-refused c =
     up _ c.from_residual-in_err-name.ensures.1
-    (later (λ b. b.place) loose (λ b. TheName c.args.self.now b.name ⋯ SpellsWith c.args.self.now (b.task, b.program)) (place_of (word_sure c.args.self.now word.Program)) c.in_ok-place.ensures.reads
-    (first (λ b. b.name) loose (λ b. SpellsWith c.args.self.now (b.task, b.program)) (rw c.skip_lines.ensures.rest at c.in_err-name.ensures.refused)))
+    (later (λ b. b.place) loose_gap (λ text b. TheName text b.name ⋯ SpellsWith text (b.task, b.program)) (placed_word_local word.Program) c.in_ok-place.ensures.reads
+    (first (λ b. b.name) loose (λ text b. SpellsWith text (b.task, b.program)) (rw c.skip_lines.ensures.rest at c.in_err-name.ensures.refused)))
 
 pub returns-in_err-task-clause-refused : goal.returns-in_err-task-clause-refused
 returns-in_err-task-clause-refused c =
     up _ c.from_residual-in_err-task.ensures.1
-    (later (λ b. b.place) loose (λ b. TheName c.args.self.now b.name ⋯ SpellsWith c.args.self.now (b.task, b.program)) (place_of (word_sure c.args.self.now word.Program)) c.in_ok-place.ensures.reads
-    (later (λ b. b.name) loose (λ b. SpellsWith c.args.self.now (b.task, b.program)) (the_name_one c.args.self.now) (rw c.skip_lines.ensures.rest at c.in_ok-name.ensures.reads)
+    (later (λ b. b.place) loose_gap (λ text b. TheName text b.name ⋯ SpellsWith text (b.task, b.program)) (placed_word_local word.Program) c.in_ok-place.ensures.reads
+    (later (λ b. b.name) loose_gap (λ text b. SpellsWith text (b.task, b.program)) the_name_local (rw c.skip_lines.ensures.rest at c.in_ok-name.ensures.reads)
     (part (λ b. (b.task, b.program)) (rw c.skip_lines-2.ensures.rest at c.in_err-task.ensures.refused))))
 
 pub returns-clause-reads : goal.returns-clause-reads

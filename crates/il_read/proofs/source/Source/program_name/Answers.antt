@@ -1,17 +1,18 @@
 use Rattle.std.proofs.Common.{arith}
 use Rattle.il_spec.specs.declared.token.Sign.TheVariants.{Semicolon}
 use Rattle.il_spec.specs.Grammar.{loose, TheSign}
-use Rattle.il_grammar_laws.proofs.Leads.{the_name_one}
 use Rattle.il_read.proofs.Chain.{up, first, later, last_missing}
 use Rattle.il_read.proofs.Through.{ok_both, ok_through, err_through}
+use Rattle.il_grammar_laws.proofs.Local.{the_name_local}
+use Rattle.il_grammar_laws.proofs.Alike.{loose_gap}
 use Rattle.il_read.proofs.source.Source.program_name.Goals as goal
 
 pub returns-in_err-program-clause-refused : goal.returns-in_err-program-clause-refused
-returns-in_err-program-clause-refused c = up _ c.from_residual.ensures.1 (first (λ n. n) loose (λ n. TheSign Semicolon) c.in_err-program.ensures.refused)
+returns-in_err-program-clause-refused c = up _ c.from_residual.ensures.1 (first (λ n. n) loose (λ text n. TheSign Semicolon) c.in_err-program.ensures.refused)
 
 pub returns-clause-refused : goal.returns-clause-refused
 returns-clause-refused c = err_through c.closed.result c.closed.ensures.misses (λ e bad.
-    (later (λ n. n) loose (λ n. TheSign Semicolon) (the_name_one c.args.self.now) c.in_ok-program.ensures.reads (last_missing (rw c.skip_lines.ensures.rest at bad))))
+    (later (λ n. n) loose_gap (λ text n. TheSign Semicolon) the_name_local c.in_ok-program.ensures.reads (last_missing (rw c.skip_lines.ensures.rest at bad))))
 
 pub returns-clause-reads : goal.returns-clause-reads
 returns-clause-reads c = ok_both c.closed.result c.closed.ensures.value c.closed.ensures.stands (λ x same end. rw same

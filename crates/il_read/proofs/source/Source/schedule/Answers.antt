@@ -1,27 +1,27 @@
 use Rattle.std.proofs.Common.{arith}
 use Rattle.il_spec.specs.declared.token.Sign.TheVariants.{Comma}
 use Rattle.il_spec.specs.Grammar.{loose, ◌⋯◌, TheSign}
-use Rattle.il_grammar_laws.proofs.Leads.{sign_sure}
-use Rattle.il_grammar_laws.proofs.Configurations.{interval_one}
 use Rattle.il_read.specs.Settings.{SpellsPriority}
 use Rattle.il_read.proofs.Chain.{up, first, later, first_missing, behind, part}
+use Rattle.il_grammar_laws.proofs.Local.{sign_local, interval_local}
+use Rattle.il_grammar_laws.proofs.Alike.{loose_gap}
 use Rattle.il_read.proofs.source.Source.schedule.Goals as goal
 
 pub returns-in_err-interval-clause-refused : goal.returns-in_err-interval-clause-refused
 returns-in_err-interval-clause-refused c =
-    up _ c.from_residual.ensures.1 (first (λ x. x.0) loose (λ x. TheSign Comma ⋯ SpellsPriority c.args.self.now x.1) c.in_err-interval.ensures.refused)
+    up _ c.from_residual.ensures.1 (first (λ x. x.0) loose (λ text x. TheSign Comma ⋯ SpellsPriority text x.1) c.in_err-interval.ensures.refused)
 
 pub returns-in_err-sign-clause-refused : goal.returns-in_err-sign-clause-refused
 returns-in_err-sign-clause-refused c =
     up _ c.from_residual-in_err-sign.ensures.1
-    (later (λ x. x.0) loose (λ x. TheSign Comma ⋯ SpellsPriority c.args.self.now x.1) interval_one c.in_ok-interval.ensures.reads
-    (first_missing loose (λ x. SpellsPriority c.args.self.now x.1) (rw c.skip_lines.ensures.rest at c.in_err-sign.ensures.refused)))
+    (later (λ x. x.0) loose_gap (λ text x. TheSign Comma ⋯ SpellsPriority text x.1) interval_local c.in_ok-interval.ensures.reads
+    (first_missing loose (λ text x. SpellsPriority text x.1) (rw c.skip_lines.ensures.rest at c.in_err-sign.ensures.refused)))
 
 pub returns-in_err-priority-clause-refused : goal.returns-in_err-priority-clause-refused
 returns-in_err-priority-clause-refused c =
     up _ c.from_residual-in_err-priority.ensures.1
-    (later (λ x. x.0) loose (λ x. TheSign Comma ⋯ SpellsPriority c.args.self.now x.1) interval_one c.in_ok-interval.ensures.reads
-    (behind loose (λ x. SpellsPriority c.args.self.now x.1) (sign_sure Comma) (rw c.skip_lines.ensures.rest at c.in_ok-sign.ensures.reads)
+    (later (λ x. x.0) loose_gap (λ text x. TheSign Comma ⋯ SpellsPriority text x.1) interval_local c.in_ok-interval.ensures.reads
+    (behind loose_gap (λ text x. SpellsPriority text x.1) (sign_local Comma) (rw c.skip_lines.ensures.rest at c.in_ok-sign.ensures.reads)
     (part (λ x. x.1) (rw c.skip_lines-2.ensures.rest at c.in_err-priority.ensures.refused))))
 
 pub returns-clause-shorter : goal.returns-clause-shorter

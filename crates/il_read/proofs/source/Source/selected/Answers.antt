@@ -1,14 +1,14 @@
 use Rattle.il_read.specs.Reads.{gap_of}
 use Rattle.il_read.proofs.Chain.{up}
-use Rattle.il_read.proofs.Alternatives.{no_name, selector_refused, selected_read}
+use Rattle.il_read.proofs.Alternatives.{no_name, selector_refused, selected_read, gap_is}
 use Rattle.il_read.proofs.source.Source.selected.Goals as goal
 
 pub returns-in_err-name-clause-refused : goal.returns-in_err-name-clause-refused
-returns-in_err-name-clause-refused c = up _ c.from_residual.ensures.1 (no_name c.args.self.now (gap_of c.args.gap) _ _ c.requires c.in_err-name.ensures.refused)
+returns-in_err-name-clause-refused c = up _ c.from_residual.ensures.1 (no_name c.args.self.now _ _ c.requires c.in_err-name.ensures.refused)
 
 pub returns-in_err-selector-clause-refused : goal.returns-in_err-selector-clause-refused
 returns-in_err-selector-clause-refused c =
-    up _ c.from_residual-in_err-selector.ensures.1 (selector_refused c.args.self.now (gap_of c.args.gap) _ _ _ _ c.in_ok-name.ensures.reads (rw c.pass.ensures.rest at c.in_err-selector.ensures.refused))
+    up _ c.from_residual-in_err-selector.ensures.1 (selector_refused c.args.self.now (gap_is c.args.gap) _ _ _ _ c.in_ok-name.ensures.reads (rw c.pass.ensures.rest at c.in_err-selector.ensures.refused))
 
 pub returns-clause-reads : goal.returns-clause-reads
 returns-clause-reads c =

@@ -2,13 +2,13 @@ use Rattle.il_spec.specs.declared.token.Sign.TheVariants.{OpenBracket, Dot}
 use Rattle.il_spec.specs.Grammar.{TheSign}
 use Rattle.il_read.specs.Reads.{gap_of}
 use Rattle.il_read.proofs.Chain.{up, was_there, was_missing}
-use Rattle.il_read.proofs.Alternatives.{bracket_refused, dot_refused}
+use Rattle.il_read.proofs.Alternatives.{bracket_refused, dot_refused, gap_is}
 use Rattle.il_read.proofs.source.Source.selector.Goals as goal
 
 pub returns-in_err-element-clause-refused : goal.returns-in_err-element-clause-refused
 returns-in_err-element-clause-refused c =
     let bracket = was_there (TheSign OpenBracket) c.args.tokens.now _ c.eat_sign.new.tokens c.eat_sign.ensures.eaten c.if-eat_sign.true in
-    up _ c.from_residual.ensures.1 (bracket_refused c.args.self.now (gap_of c.args.gap) _ _ _ bracket (rw c.pass.ensures.rest at c.in_err-element.ensures.refused))
+    up _ c.from_residual.ensures.1 (bracket_refused c.args.self.now (gap_is c.args.gap) _ _ _ bracket (rw c.pass.ensures.rest at c.in_err-element.ensures.refused))
 
 pub returns-then-eat_sign-clause-reads : goal.returns-then-eat_sign-clause-reads
 returns-then-eat_sign-clause-reads c =
@@ -19,4 +19,4 @@ pub returns-in_err-any_word-clause-refused : goal.returns-in_err-any_word-clause
 returns-in_err-any_word-clause-refused c =
     let none = was_missing (TheSign OpenBracket) c.args.tokens.now _ c.eat_sign.new.tokens c.eat_sign.ensures.eaten c.if-eat_sign.false in
     let dot = was_there (TheSign Dot) c.eat_sign.new.tokens _ c.eat_sign-2.new.tokens c.eat_sign-2.ensures.eaten c.if-eat_sign-2.true in
-    up _ c.from_residual-in_err-any_word.ensures.1 (dot_refused c.args.self.now (gap_of c.args.gap) _ _ _ none.1 (rw none.0 at dot) (rw c.pass-then-eat_sign-2.ensures.rest at c.in_err-any_word.ensures.refused))
+    up _ c.from_residual-in_err-any_word.ensures.1 (dot_refused c.args.self.now (gap_is c.args.gap) _ _ _ none.1 (rw none.0 at dot) (rw c.pass-then-eat_sign-2.ensures.rest at c.in_err-any_word.ensures.refused))

@@ -1,27 +1,27 @@
 use Rattle.std.proofs.Common.{arith}
 use Rattle.il_spec.specs.declared.token.Sign.TheVariants.{Colon}
 use Rattle.il_spec.specs.Grammar.{loose, ◌⋯◌, TheSign}
-use Rattle.il_grammar_laws.proofs.Leads.{sign_sure}
-use Rattle.il_grammar_laws.proofs.Configurations.{text_sure}
 use Rattle.il_read.specs.Settings.{SpellsSized}
 use Rattle.il_read.proofs.Chain.{up, first_missing, behind}
 use Rattle.il_read.proofs.Through.{ok_through, err_through}
+use Rattle.il_grammar_laws.proofs.Local.{sign_local, text_local}
+use Rattle.il_grammar_laws.proofs.Alike.{loose_gap}
 use Rattle.il_read.proofs.source.Source.size.Goals as goal
 
 pub returns-in_err-plain_word-clause-refused : goal.returns-in_err-plain_word-clause-refused
 returns-in_err-plain_word-clause-refused c =
-    up _ c.from_residual.ensures.1 (first_missing loose (λ s. TheSign Colon ⋯ SpellsSized c.args.self.now s) c.in_err-plain_word.ensures.refused)
+    up _ c.from_residual.ensures.1 (first_missing loose (λ text s. TheSign Colon ⋯ SpellsSized text s) c.in_err-plain_word.ensures.refused)
 
 pub returns-in_err-sign-clause-refused : goal.returns-in_err-sign-clause-refused
 returns-in_err-sign-clause-refused c =
     up _ c.from_residual-in_err-sign.ensures.1
-    (behind loose (λ s. TheSign Colon ⋯ SpellsSized c.args.self.now s) (text_sure c.args.self.now c.args.word.now) c.in_ok-plain_word.ensures.reads
-    (first_missing loose (λ s. SpellsSized c.args.self.now s) (rw c.skip_lines.ensures.rest at c.in_err-sign.ensures.refused)))
+    (behind loose_gap (λ text s. TheSign Colon ⋯ SpellsSized text s) (text_local c.args.word.now) c.in_ok-plain_word.ensures.reads
+    (first_missing loose (λ text s. SpellsSized text s) (rw c.skip_lines.ensures.rest at c.in_err-sign.ensures.refused)))
 
 pub returns-clause-refused : goal.returns-clause-refused
 returns-clause-refused c = err_through c.sized.result c.sized.ensures.refused (λ e bad.
-    (behind loose (λ s. TheSign Colon ⋯ SpellsSized c.args.self.now s) (text_sure c.args.self.now c.args.word.now) c.in_ok-plain_word.ensures.reads
-    (behind loose (λ s. SpellsSized c.args.self.now s) (sign_sure Colon) (rw c.skip_lines.ensures.rest at c.in_ok-sign.ensures.reads)
+    (behind loose_gap (λ text s. TheSign Colon ⋯ SpellsSized text s) (text_local c.args.word.now) c.in_ok-plain_word.ensures.reads
+    (behind loose_gap (λ text s. SpellsSized text s) (sign_local Colon) (rw c.skip_lines.ensures.rest at c.in_ok-sign.ensures.reads)
     (rw c.skip_lines-2.ensures.rest at bad))))
 
 pub returns-clause-reads : goal.returns-clause-reads

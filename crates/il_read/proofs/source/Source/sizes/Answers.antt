@@ -1,25 +1,35 @@
 use Rattle.std.proofs.Common.{arith, codes}
 use Rattle.il_spec.specs.declared.keyword.Keyword.TheVariants as word
 use Rattle.il_spec.specs.Grammar.{loose, ◌⋯◌, TheWord, SpellsSize}
-use Rattle.il_grammar_laws.proofs.Leads.{word_sure}
-use Rattle.il_grammar_laws.proofs.Configurations.{size_one}
 use Rattle.il_read.specs.Settings.{SpellsFloors}
-use Rattle.il_read.proofs.Chain.{up, behind, first, later, part}
+use Rattle.il_read.proofs.Chain.{up, first_missing, behind, first, later, part}
+use Rattle.il_grammar_laws.proofs.Local.{word_local, size_local}
+use Rattle.il_grammar_laws.proofs.Alike.{loose_gap}
 use Rattle.il_read.proofs.source.Source.sizes.Goals as goal
+
+pub returns-in_err-word-clause-refused : goal.returns-in_err-word-clause-refused
+returns-in_err-word-clause-refused c =
+    up _ c.from_residual.ensures.1 (first_missing loose (λ text b. TheWord text word.Constant ⋯ SpellsSize text (codes "CARS") b.0 ⋯ SpellsFloors text b.1) c.in_err-word.ensures.refused)
+
+pub returns-in_err-word-2-clause-refused : goal.returns-in_err-word-2-clause-refused
+returns-in_err-word-2-clause-refused c =
+    up _ c.from_residual-in_err-word-2.ensures.1
+    (behind loose_gap (λ text b. TheWord text word.Constant ⋯ SpellsSize text (codes "CARS") b.0 ⋯ SpellsFloors text b.1) (word_local word.VarGlobal) c.in_ok-word.ensures.reads
+    (first_missing loose (λ text b. SpellsSize text (codes "CARS") b.0 ⋯ SpellsFloors text b.1) (rw c.skip_lines.ensures.rest at c.in_err-word-2.ensures.refused)))
 
 pub returns-in_err-cars-clause-refused : goal.returns-in_err-cars-clause-refused
 returns-in_err-cars-clause-refused c =
     up _ c.from_residual-in_err-cars.ensures.1
-    (behind loose (λ b. TheWord c.args.self.now word.Constant ⋯ SpellsSize c.args.self.now (codes "CARS") b.0 ⋯ SpellsFloors c.args.self.now b.1) (word_sure c.args.self.now word.VarGlobal) c.in_ok-word.ensures.reads
-    (behind loose (λ b. SpellsSize c.args.self.now (codes "CARS") b.0 ⋯ SpellsFloors c.args.self.now b.1) (word_sure c.args.self.now word.Constant) (rw c.skip_lines.ensures.rest at c.in_ok-word-2.ensures.reads)
-    (first (λ b. b.0) loose (λ b. SpellsFloors c.args.self.now b.1) (rw c.skip_lines-2.ensures.rest at c.in_err-cars.ensures.refused))))
+    (behind loose_gap (λ text b. TheWord text word.Constant ⋯ SpellsSize text (codes "CARS") b.0 ⋯ SpellsFloors text b.1) (word_local word.VarGlobal) c.in_ok-word.ensures.reads
+    (behind loose_gap (λ text b. SpellsSize text (codes "CARS") b.0 ⋯ SpellsFloors text b.1) (word_local word.Constant) (rw c.skip_lines.ensures.rest at c.in_ok-word-2.ensures.reads)
+    (first (λ b. b.0) loose (λ text b. SpellsFloors text b.1) (rw c.skip_lines-2.ensures.rest at c.in_err-cars.ensures.refused))))
 
 pub returns-in_err-others-clause-refused : goal.returns-in_err-others-clause-refused
 returns-in_err-others-clause-refused c =
     up _ c.from_residual-in_err-others.ensures.1
-    (behind loose (λ b. TheWord c.args.self.now word.Constant ⋯ SpellsSize c.args.self.now (codes "CARS") b.0 ⋯ SpellsFloors c.args.self.now b.1) (word_sure c.args.self.now word.VarGlobal) c.in_ok-word.ensures.reads
-    (behind loose (λ b. SpellsSize c.args.self.now (codes "CARS") b.0 ⋯ SpellsFloors c.args.self.now b.1) (word_sure c.args.self.now word.Constant) (rw c.skip_lines.ensures.rest at c.in_ok-word-2.ensures.reads)
-    (later (λ b. b.0) loose (λ b. SpellsFloors c.args.self.now b.1) (size_one c.args.self.now (codes "CARS")) (rw c.skip_lines-2.ensures.rest at c.in_ok-cars.ensures.reads)
+    (behind loose_gap (λ text b. TheWord text word.Constant ⋯ SpellsSize text (codes "CARS") b.0 ⋯ SpellsFloors text b.1) (word_local word.VarGlobal) c.in_ok-word.ensures.reads
+    (behind loose_gap (λ text b. SpellsSize text (codes "CARS") b.0 ⋯ SpellsFloors text b.1) (word_local word.Constant) (rw c.skip_lines.ensures.rest at c.in_ok-word-2.ensures.reads)
+    (later (λ b. b.0) loose_gap (λ text b. SpellsFloors text b.1) (size_local (codes "CARS")) (rw c.skip_lines-2.ensures.rest at c.in_ok-cars.ensures.reads)
     (part (λ b. b.1) (rw c.skip_lines-3.ensures.rest at c.in_err-others.ensures.refused)))))
 
 pub returns-clause-reads : goal.returns-clause-reads

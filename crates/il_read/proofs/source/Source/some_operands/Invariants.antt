@@ -4,7 +4,7 @@ use Rattle.il_read.proofs.Chain.{Wants}
 use Rattle.il_read.proofs.source.Source.some_operands.Given as goal
 
 abbrev pub invariant-operands : goal.invariant-operands
-invariant-operands l = (length l.tokens ≤ length l.fn.tokens) × Wants tight (SpellsOperand l.self tight) TheLineEnd l.fn.tokens l.operands l.tokens
+invariant-operands l = (length l.tokens ≤ length l.fn.tokens) × Wants tight (λ text. SpellsOperand text tight) (λ text. TheLineEnd) l.self l.fn.tokens l.operands l.tokens
 
 abbrev pub decreases-operands : goal.decreases-operands
 decreases-operands l = length l.tokens

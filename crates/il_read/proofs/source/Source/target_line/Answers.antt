@@ -1,15 +1,16 @@
 use Rattle.std.proofs.Common.{arith}
 use Rattle.il_spec.specs.Grammar.{tight, TheLineEnd}
-use Rattle.il_grammar_laws.proofs.Operands.{target_one}
 use Rattle.il_read.proofs.Chain.{up, first, later, last_missing}
 use Rattle.il_read.proofs.Through.{ok_both, ok_through, err_through}
+use Rattle.il_grammar_laws.proofs.Local.{target_local}
+use Rattle.il_grammar_laws.proofs.Alike.{tight_gap}
 use Rattle.il_read.proofs.source.Source.target_line.Goals as goal
 
 pub returns-in_err-operand-clause-refused : goal.returns-in_err-operand-clause-refused
-returns-in_err-operand-clause-refused c = up _ c.from_residual.ensures.1 (first (λ o. o) tight (λ o. TheLineEnd) c.in_err-operand.ensures.refused)
+returns-in_err-operand-clause-refused c = up _ c.from_residual.ensures.1 (first (λ o. o) tight (λ text o. TheLineEnd) c.in_err-operand.ensures.refused)
 
 pub returns-clause-refused : goal.returns-clause-refused
-returns-clause-refused c = err_through c.ended.result c.ended.ensures.misses (λ e bad. later (λ x. x) tight (λ x. TheLineEnd) (target_one c.args.self.now) c.in_ok-operand.ensures.reads (last_missing bad))
+returns-clause-refused c = err_through c.ended.result c.ended.ensures.misses (λ e bad. later (λ x. x) tight_gap (λ text x. TheLineEnd) target_local c.in_ok-operand.ensures.reads (last_missing bad))
 
 pub returns-clause-reads : goal.returns-clause-reads
 returns-clause-reads c = ok_both c.ended.result c.ended.ensures.value c.ended.ensures.stands

@@ -1,27 +1,27 @@
 use Rattle.il_spec.specs.declared.keyword.Keyword.TheVariants as word
 use Rattle.il_spec.specs.Grammar.{loose, ◌⋯◌, TheName}
-use Rattle.il_grammar_laws.proofs.Combinators.{place_of}
-use Rattle.il_grammar_laws.proofs.Leads.{word_sure, the_name_one}
 use Rattle.il_read.specs.Settings.{SpellsTimes}
 use Rattle.il_read.proofs.Chain.{up, first, later, part}
+use Rattle.il_grammar_laws.proofs.Local.{the_name_local, placed_word_local}
+use Rattle.il_grammar_laws.proofs.Alike.{loose_gap}
 use Rattle.il_read.proofs.source.Source.task.Goals as goal
 
 pub returns-in_err-place-clause-refused : goal.returns-in_err-place-clause-refused
 returns-in_err-place-clause-refused c =
     up _ c.from_residual.ensures.1
-    (first (λ b. b.place) loose (λ b. TheName c.args.self.now b.name ⋯ SpellsTimes c.args.self.now (b.interval, b.priority)) c.in_err-place.ensures.refused)
+    (first (λ b. b.place) loose (λ text b. TheName text b.name ⋯ SpellsTimes text (b.interval, b.priority)) c.in_err-place.ensures.refused)
 
 pub returns-in_err-name-clause-refused : goal.returns-in_err-name-clause-refused
 returns-in_err-name-clause-refused c =
     up _ c.from_residual-in_err-name.ensures.1
-    (later (λ b. b.place) loose (λ b. TheName c.args.self.now b.name ⋯ SpellsTimes c.args.self.now (b.interval, b.priority)) (place_of (word_sure c.args.self.now word.Task)) c.in_ok-place.ensures.reads
-    (first (λ b. b.name) loose (λ b. SpellsTimes c.args.self.now (b.interval, b.priority)) (rw c.skip_lines.ensures.rest at c.in_err-name.ensures.refused)))
+    (later (λ b. b.place) loose_gap (λ text b. TheName text b.name ⋯ SpellsTimes text (b.interval, b.priority)) (placed_word_local word.Task) c.in_ok-place.ensures.reads
+    (first (λ b. b.name) loose (λ text b. SpellsTimes text (b.interval, b.priority)) (rw c.skip_lines.ensures.rest at c.in_err-name.ensures.refused)))
 
 pub returns-in_err-times-clause-refused : goal.returns-in_err-times-clause-refused
 returns-in_err-times-clause-refused c =
     up _ c.from_residual-in_err-times.ensures.1
-    (later (λ b. b.place) loose (λ b. TheName c.args.self.now b.name ⋯ SpellsTimes c.args.self.now (b.interval, b.priority)) (place_of (word_sure c.args.self.now word.Task)) c.in_ok-place.ensures.reads
-    (later (λ b. b.name) loose (λ b. SpellsTimes c.args.self.now (b.interval, b.priority)) (the_name_one c.args.self.now) (rw c.skip_lines.ensures.rest at c.in_ok-name.ensures.reads)
+    (later (λ b. b.place) loose_gap (λ text b. TheName text b.name ⋯ SpellsTimes text (b.interval, b.priority)) (placed_word_local word.Task) c.in_ok-place.ensures.reads
+    (later (λ b. b.name) loose_gap (λ text b. SpellsTimes text (b.interval, b.priority)) the_name_local (rw c.skip_lines.ensures.rest at c.in_ok-name.ensures.reads)
     (part (λ b. (b.interval, b.priority)) (rw c.skip_lines-2.ensures.rest at c.in_err-times.ensures.refused))))
 
 pub returns-clause-reads : goal.returns-clause-reads

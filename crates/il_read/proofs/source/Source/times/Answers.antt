@@ -2,34 +2,35 @@ use Rattle.std.proofs.Common.{arith}
 use Rattle.il_spec.specs.declared.token.Sign.TheVariants.{Assign, OpenParenthesis}
 use Rattle.il_spec.specs.declared.keyword.Keyword.TheVariants as word
 use Rattle.il_spec.specs.Grammar.{loose, ◌⋯◌, TheSign, TheWord}
-use Rattle.il_grammar_laws.proofs.Leads.{word_sure, sign_sure}
 use Rattle.il_read.specs.Settings.{SpellsSchedule}
 use Rattle.il_read.proofs.Chain.{up, first_missing, behind}
 use Rattle.il_read.proofs.Through.{ok_through, err_through}
+use Rattle.il_grammar_laws.proofs.Local.{sign_local, word_local}
+use Rattle.il_grammar_laws.proofs.Alike.{loose_gap}
 use Rattle.il_read.proofs.source.Source.times.Goals as goal
 
 pub returns-in_err-sign-clause-refused : goal.returns-in_err-sign-clause-refused
 returns-in_err-sign-clause-refused c =
-    up _ c.from_residual.ensures.1 (first_missing loose (λ x. TheWord c.args.self.now word.Interval ⋯ TheSign Assign ⋯ SpellsSchedule c.args.self.now x) c.in_err-sign.ensures.refused)
+    up _ c.from_residual.ensures.1 (first_missing loose (λ text x. TheWord text word.Interval ⋯ TheSign Assign ⋯ SpellsSchedule text x) c.in_err-sign.ensures.refused)
 
 pub returns-in_err-word-clause-refused : goal.returns-in_err-word-clause-refused
 returns-in_err-word-clause-refused c =
     up _ c.from_residual-in_err-word.ensures.1
-    (behind loose (λ x. TheWord c.args.self.now word.Interval ⋯ TheSign Assign ⋯ SpellsSchedule c.args.self.now x) (sign_sure OpenParenthesis) c.in_ok-sign.ensures.reads
-    (first_missing loose (λ x. TheSign Assign ⋯ SpellsSchedule c.args.self.now x) (rw c.skip_lines.ensures.rest at c.in_err-word.ensures.refused)))
+    (behind loose_gap (λ text x. TheWord text word.Interval ⋯ TheSign Assign ⋯ SpellsSchedule text x) (sign_local OpenParenthesis) c.in_ok-sign.ensures.reads
+    (first_missing loose (λ text x. TheSign Assign ⋯ SpellsSchedule text x) (rw c.skip_lines.ensures.rest at c.in_err-word.ensures.refused)))
 
 pub returns-in_err-sign-2-clause-refused : goal.returns-in_err-sign-2-clause-refused
 returns-in_err-sign-2-clause-refused c =
     up _ c.from_residual-in_err-sign-2.ensures.1
-    (behind loose (λ x. TheWord c.args.self.now word.Interval ⋯ TheSign Assign ⋯ SpellsSchedule c.args.self.now x) (sign_sure OpenParenthesis) c.in_ok-sign.ensures.reads
-    (behind loose (λ x. TheSign Assign ⋯ SpellsSchedule c.args.self.now x) (word_sure c.args.self.now word.Interval) (rw c.skip_lines.ensures.rest at c.in_ok-word.ensures.reads)
-    (first_missing loose (λ x. SpellsSchedule c.args.self.now x) (rw c.skip_lines-2.ensures.rest at c.in_err-sign-2.ensures.refused))))
+    (behind loose_gap (λ text x. TheWord text word.Interval ⋯ TheSign Assign ⋯ SpellsSchedule text x) (sign_local OpenParenthesis) c.in_ok-sign.ensures.reads
+    (behind loose_gap (λ text x. TheSign Assign ⋯ SpellsSchedule text x) (word_local word.Interval) (rw c.skip_lines.ensures.rest at c.in_ok-word.ensures.reads)
+    (first_missing loose (λ text x. SpellsSchedule text x) (rw c.skip_lines-2.ensures.rest at c.in_err-sign-2.ensures.refused))))
 
 pub returns-clause-refused : goal.returns-clause-refused
 returns-clause-refused c = err_through c.schedule.result c.schedule.ensures.refused (λ e bad.
-    (behind loose (λ x. TheWord c.args.self.now word.Interval ⋯ TheSign Assign ⋯ SpellsSchedule c.args.self.now x) (sign_sure OpenParenthesis) c.in_ok-sign.ensures.reads
-    (behind loose (λ x. TheSign Assign ⋯ SpellsSchedule c.args.self.now x) (word_sure c.args.self.now word.Interval) (rw c.skip_lines.ensures.rest at c.in_ok-word.ensures.reads)
-    (behind loose (λ x. SpellsSchedule c.args.self.now x) (sign_sure Assign) (rw c.skip_lines-2.ensures.rest at c.in_ok-sign-2.ensures.reads)
+    (behind loose_gap (λ text x. TheWord text word.Interval ⋯ TheSign Assign ⋯ SpellsSchedule text x) (sign_local OpenParenthesis) c.in_ok-sign.ensures.reads
+    (behind loose_gap (λ text x. TheSign Assign ⋯ SpellsSchedule text x) (word_local word.Interval) (rw c.skip_lines.ensures.rest at c.in_ok-word.ensures.reads)
+    (behind loose_gap (λ text x. SpellsSchedule text x) (sign_local Assign) (rw c.skip_lines-2.ensures.rest at c.in_ok-sign-2.ensures.reads)
     (rw c.skip_lines-3.ensures.rest at bad)))))
 
 pub returns-clause-reads : goal.returns-clause-reads
