@@ -1,3 +1,4 @@
 pub mod One
 pub mod Alike
+pub mod GoesOn
 pub mod Places

@@ -1,0 +1,49 @@
+-- Texts that go on: what other tokens may stand behind those of a text up to one of them.
+--
+-- `at` is the end of a list of tokens, from the token in question on, and `[]` for the end of the text. Another text is cut there
+-- where its tokens are those before the first of `at`, of the same bytes, and then others.
+use Rattle.std.specs.Prelude.{◌≡◌, ◌⊎◌, ◌<◌, ℕ, List, [], ◌∷◌, length, slice_range}
+use Rattle.il_spec.specs.declared.token.Token.{Token}
+use Rattle.il_spec.specs.declared.token.Kind.{Kind}
+use Rattle.il_spec.specs.Grammar.{Front, skip_line_ends}
+use Rattle.il_grammar_laws.specs.Alike.{HasSameBytes, IsEndOf}
+
+-- a token that a text may have: its kind and its bytes (own rule)
+pub record Sample : Type 0 where
+  pub kind : Kind
+  pub bytes : List ℕ
+
+-- a token of a text is of this sample (own rule)
+abbrev pub IsOf : List ℕ → Sample → Token → Type 0
+IsOf text s t = (t.kind ≡ s.kind) × (slice_range text t.start t.end ≡ s.bytes)
+
+-- these tokens of a text begin with one of each sample, and then come those (own rule)
+abbrev pub AreOf : List ℕ → List Sample → List Token → List Token → Type 0
+AreOf text [] us rest = us ≡ rest
+AreOf text (s ∷ ss) us rest = (t : Token) × (vs : List Token) × (us ≡ t ∷ vs) × IsOf text s t × AreOf text ss vs rest
+
+-- the tokens `us` of another text are those of this one before the first of `at`, with the same bytes, and then `vs` (own rule)
+abbrev pub IsCut : List ℕ → List ℕ → List Token → List Token → List Token → List Token → Type 0
+IsCut text other at [] us vs = (at ≡ []) × (us ≡ vs)
+IsCut text other at (t ∷ ts) us vs = ((at ≡ t ∷ ts) × (us ≡ vs)) ⊎ ((ws : List Token) × (us ≡ t ∷ ws) × HasSameBytes text other t × IsCut text other at ts ws vs)
+
+-- What may be asked of the tokens behind a part that looks ahead: a test of the first of them behind line ends (own rule).
+abbrev pub Test : Type 1
+Test = List ℕ → List Token → Type 0
+
+-- A rule that holds of tokens holds of those that are cut behind it, if what stands there now passes a test. Where the token behind line ends, the
+-- furthest that a rule looks at, is the same, nothing is tested (own rule).
+pub record IsOpen {A : Type 0} (test : Test) (P : List ℕ → A → Front) : Type 0 where
+  pub keeps : (x : A) (text other : List ℕ) (at ts us vs m : List Token) → P text x ts m → IsEndOf at m → IsCut text other at ts us vs
+      → ((length at < length (skip_line_ends m)) ⊎ test other vs) → (n : List Token) × P other x us n × IsCut text other at m n vs
+
+-- A rule has a first sample: tokens of it are a P wherever what stands behind them passes a test (own rule).
+pub record IsSampled {A : Type 0} (test : Test) (P : List ℕ → A → Front) (samples : List Sample) : Type 0 where
+  pub stands : (other : List ℕ) (vs rest : List Token) → AreOf other samples vs rest → test other rest → (x : A) × P other x vs rest
+
+-- The tokens before the first of `at` are the beginning of a P: with tokens of some samples behind them they are one, in any text, wherever what
+-- stands behind these passes a test (own rule).
+pub record Begins {A : Type 0} (test : Test) (P : List ℕ → A → Front) (text : List ℕ) (ts at : List Token) : Type 0 where
+  pub inside : IsEndOf at ts
+  pub samples : List Sample
+  pub goes : (other : List ℕ) (us vs rest : List Token) → IsCut text other at ts us vs → AreOf other samples vs rest → test other rest → (x : A) × P other x us rest
