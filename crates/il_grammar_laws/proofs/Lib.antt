@@ -17,3 +17,6 @@ pub mod Members
 pub mod Spelled
 pub mod FaultPlaces
 pub mod FirstLines
+pub mod Open
+pub mod GoesOn
+pub mod Samples

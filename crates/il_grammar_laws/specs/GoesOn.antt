@@ -2,10 +2,12 @@
 --
 -- `at` is the end of a list of tokens, from the token in question on, and `[]` for the end of the text. Another text is cut there
 -- where its tokens are those before the first of `at`, of the same bytes, and then others.
-use Rattle.std.specs.Prelude.{◌≡◌, ◌⊎◌, ◌<◌, ℕ, List, [], ◌∷◌, length, slice_range}
+use Rattle.std.specs.Prelude.{◌≡◌, ◌⊎◌, ◌<◌, ℕ, List, [], ◌∷◌, length, slice_range, ⊤}
 use Rattle.il_spec.specs.declared.token.Token.{Token}
 use Rattle.il_spec.specs.declared.token.Kind.{Kind}
-use Rattle.il_spec.specs.Grammar.{Front, skip_line_ends}
+use Rattle.il_spec.specs.declared.token.Sign.TheVariants.{OpenParenthesis, OpenBracket, Dot}
+use Rattle.il_spec.specs.declared.keyword.Keyword.{Keyword}
+use Rattle.il_spec.specs.Grammar.{Front, skip_line_ends, AfterLines, TheSign, TheWord, TheLetterN}
 use Rattle.il_grammar_laws.specs.Alike.{HasSameBytes, IsEndOf}
 
 -- a token that a text may have: its kind and its bytes (own rule)
@@ -30,6 +32,43 @@ IsCut text other at (t ∷ ts) us vs = ((at ≡ t ∷ ts) × (us ≡ vs)) ⊎ ((
 -- What may be asked of the tokens behind a part that looks ahead: a test of the first of them behind line ends (own rule).
 abbrev pub Test : Type 1
 Test = List ℕ → List Token → Type 0
+
+-- nothing is asked (own rule)
+abbrev pub always : Test
+always other vs = ⊤
+
+-- nothing of this stands there (own rule)
+abbrev pub stops : (List ℕ → Front) → Test
+stops F other vs = (rest : List Token) → AfterLines (F other) vs rest → ⊥
+
+-- this reserved word doesn't stand there (own rule)
+abbrev pub lacks : Keyword → Test
+lacks keyword = stops (λ text. TheWord text keyword)
+
+-- no sign stands there that an operand or a type goes on with, and no letter N, with which an operator does (own rule)
+pub record IsQuiet (other : List ℕ) (vs : List Token) : Type 0 where
+  pub parenthesis : stops (λ text. TheSign OpenParenthesis) other vs
+  pub bracket : stops (λ text. TheSign OpenBracket) other vs
+  pub dot : stops (λ text. TheSign Dot) other vs
+  pub letter : (at : ℕ) → stops (λ text. TheLetterN text at) other vs
+
+-- the same, as a test (own rule)
+abbrev pub quiet : Test
+quiet other vs = IsQuiet other vs
+
+-- The first token itself, which may be a line end, is no sign that an operand goes on with, and no letter N: what a rule asks that looks no further (own rule).
+pub record IsCalm (other : List ℕ) (vs : List Token) : Type 0 where
+  pub bracket : (rest : List Token) → TheSign OpenBracket vs rest → ⊥
+  pub dot : (rest : List Token) → TheSign Dot vs rest → ⊥
+  pub letter : (at : ℕ) (rest : List Token) → TheLetterN other at vs rest → ⊥
+
+-- the same, as a test (own rule)
+abbrev pub calm : Test
+calm other vs = IsCalm other vs
+
+-- the same, and no line end stands there: what is asked behind an operand of an argument (own rule)
+abbrev pub settled : Test
+settled other vs = IsCalm other vs × (skip_line_ends vs ≡ vs)
 
 -- A rule that holds of tokens holds of those that are cut behind it, if what stands there now passes a test. Where the token behind line ends, the
 -- furthest that a rule looks at, is the same, nothing is tested (own rule).

@@ -1,5 +1,5 @@
 -- Leaves of a configuration, and labels.
-use Rattle.std.specs.Prelude.{◌≡◌, ℕ, ℤ, Bool, true, false, drop, Option, Some, None, List, codes}
+use Rattle.std.specs.Prelude.{◌≡◌, ◌⊎◌, ℕ, ℤ, Bool, true, false, drop, Option, Some, None, List, codes}
 use Rattle.il_spec.specs.declared.token.Sign.TheVariants.{Assign, Colon, Semicolon, Comma, OpenParenthesis, CloseParenthesis}
 use Rattle.il_spec.specs.declared.keyword.Keyword.TheVariants as word
 use Rattle.il_spec.specs.declared.tree.Elementary.TheVariants.{Int}
@@ -14,6 +14,10 @@ use Rattle.il_spec.specs.Grammar.{Front, ◌⋯◌, At, ATyped, ADecimal, TheSig
 -- the literal of a time
 abbrev pub AnInterval : ℤ → Front
 AnInterval value = ATyped (literal.Time value)
+
+-- the words of the sizes
+abbrev pub IsSizeWord : List ℕ → Type 0
+IsSizeWord name = (name ≡ codes "CARS") ⊎ (name ≡ codes "FLOORS") ⊎ (name ≡ codes "SLOTS")
 
 -- a decimal with its place, and a semicolon
 abbrev pub PlacedDecimal : List ℕ → Size → Front

@@ -2,7 +2,8 @@
 
 ghost use Rattle.std.specs.Prelude.{◌<◌, ◌≤◌, length, IfOk, IfErr};
 ghost use Rattle.il_spec.specs.Grammar.{SpellsArguments, SpellsOperands};
-ghost use Rattle.il_read.specs.Reads.{Reads, Refuses, SpellsCalled, SpellsInside, SpellsListed, SpellsOpened};
+ghost use Rattle.il_grammar_laws.specs.GoesOn.{always};
+ghost use Rattle.il_read.specs.Reads.{Reads, Refuses, SpellsCalled, SpellsInside, SpellsListed, SpellsOpened, BreaksOff};
 
 use crate::lead::Lead;
 use crate::source::Source;
@@ -17,6 +18,7 @@ impl<'t> Source<'t> {
     pub fn some_operands(&self, tokens: &mut Tokens) -> Result<Items<Operand>, Stop>
         ensures reads { IfOk result (λ os. Reads (SpellsListed self.now) tokens.old os tokens.new) }
         ensures refused { IfErr result (λ e. Refuses SpellsListed self.now tokens.old e) }
+        ensures begins { IfErr result (λ e. BreaksOff always SpellsListed self.now tokens.old e) }
         ensures shorter { IfOk result (λ _. length tokens.new < length tokens.old) }
     {
         let mut operands = Items::new(self.alloc());
@@ -35,6 +37,7 @@ impl<'t> Source<'t> {
         ensures reads { IfOk result (λ os. Reads (SpellsOperands self.now) tokens.old os
             tokens.new) }
         ensures refused { IfErr result (λ e. Refuses SpellsOperands self.now tokens.old e) }
+        ensures begins { IfErr result (λ e. BreaksOff always SpellsOperands self.now tokens.old e) }
         ensures shorter { IfOk result (λ _. length tokens.new < length tokens.old) }
     {
         if let Lead::LineEnd = self.lead(tokens) {
@@ -48,6 +51,7 @@ impl<'t> Source<'t> {
     pub fn some_arguments(&self, tokens: &mut Tokens) -> Result<Items<Argument>, Stop>
         ensures reads { IfOk result (λ xs. Reads (SpellsInside self.now) tokens.old xs tokens.new) }
         ensures refused { IfErr result (λ e. Refuses SpellsInside self.now tokens.old e) }
+        ensures begins { IfErr result (λ e. BreaksOff always SpellsInside self.now tokens.old e) }
         ensures shorter { IfOk result (λ _. length tokens.new < length tokens.old) }
     {
         let mut arguments = Items::new(self.alloc());
@@ -66,6 +70,7 @@ impl<'t> Source<'t> {
     fn opened(&self, tokens: &mut Tokens) -> Result<Items<Argument>, Stop>
         ensures reads { IfOk result (λ xs. Reads (SpellsOpened self.now) tokens.old xs tokens.new) }
         ensures refused { IfErr result (λ e. Refuses SpellsOpened self.now tokens.old e) }
+        ensures begins { IfErr result (λ e. BreaksOff always SpellsOpened self.now tokens.old e) }
         ensures shorter { IfOk result (λ _. length tokens.new < length tokens.old) }
     {
         if self.eat_sign(tokens, Sign::CloseParenthesis) {
@@ -81,6 +86,7 @@ impl<'t> Source<'t> {
         ensures reads { IfOk result (λ xs. Reads (SpellsArguments self.now) tokens.old xs
             tokens.new) }
         ensures refused { IfErr result (λ e. Refuses SpellsArguments self.now tokens.old e) }
+        ensures begins { IfErr result (λ e. BreaksOff always SpellsArguments self.now tokens.old e) }
         ensures shorter { IfOk result (λ _. length tokens.new < length tokens.old) }
     {
         if !self.eat_sign(tokens, Sign::OpenParenthesis) {
@@ -95,6 +101,7 @@ impl<'t> Source<'t> {
     pub fn called(&self, tokens: &mut Tokens) -> Result<(Named, Items<Argument>), Stop>
         ensures reads { IfOk result (λ x. Reads (SpellsCalled self.now) tokens.old x tokens.new) }
         ensures refused { IfErr result (λ e. Refuses SpellsCalled self.now tokens.old e) }
+        ensures begins { IfErr result (λ e. BreaksOff always SpellsCalled self.now tokens.old e) }
         ensures shorter { IfOk result (λ _. length tokens.new < length tokens.old) }
     {
         let instance = self.named(tokens)?;

@@ -6,8 +6,9 @@ ghost use Rattle.il_spec.specs.Text.{is_grouped};
 ghost use Rattle.il_spec.specs.Grammar.{SomeName, TheText, TheWord, ADecimal, SpellsSize, SpellsTask, SpellsProgramLine};
 ghost use Rattle.il_read.specs.declared.stop.Stop.TheVariants.{Memory};
 ghost use Rattle.il_read.specs.Lead.{lead_at};
-ghost use Rattle.il_read.specs.Reads.{Reads, Refuses, Stands, Misses};
-ghost use Rattle.il_read.specs.Settings.{AnInterval, PlacedDecimal, FollowsColon, TakesLabel, TakesWord, SpellsSized, SpellsPriority, SpellsSchedule, SpellsTimes, SpellsProgramName, SpellsBound, SpellsWith, PlacedWord, StandsThere, SpellsFloors, SpellsThree};
+ghost use Rattle.il_grammar_laws.specs.GoesOn.{always};
+ghost use Rattle.il_read.specs.Reads.{Reads, Refuses, Stands, Misses, BreaksOff, NamesFirst};
+ghost use Rattle.il_read.specs.Settings.{AnInterval, PlacedDecimal, FollowsColon, TakesLabel, TakesWord, SpellsSized, SpellsPriority, SpellsSchedule, SpellsTimes, SpellsProgramName, SpellsBound, SpellsWith, PlacedWord, StandsThere, SpellsFloors, SpellsThree, IsSizeWord};
 
 use crate::lead::Lead;
 use crate::source::Source;
@@ -72,6 +73,7 @@ impl<'t> Source<'t> {
     pub fn some_name(&self, tokens: &mut Tokens) -> Result<(), Stop>
         ensures reads { IfOk result (λ u. Stands (SomeName self.now) tokens.old tokens.new) }
         ensures refused { IfErr result (λ e. Misses SomeName self.now tokens.old e) }
+        ensures first { IfErr result (λ e. NamesFirst tokens.old e) }
         ensures shorter { IfOk result (λ _. length tokens.new < length tokens.old) }
     {
         if let Lead::Name = self.lead(tokens) {
@@ -87,6 +89,7 @@ impl<'t> Source<'t> {
             tokens.new) }
         ensures refused { IfErr result (λ e. Misses
             (λ text. TheText text word.now) self.now tokens.old e) }
+        ensures first { IfErr result (λ e. NamesFirst tokens.old e) }
         ensures shorter { IfOk result (λ _. length tokens.new < length tokens.old) }
     {
         let Some(token) = tokens.first() else {
@@ -106,6 +109,7 @@ impl<'t> Source<'t> {
     pub fn decimal(&self, tokens: &mut Tokens) -> Result<i64, Stop>
         ensures reads { IfOk result (λ v. Reads (ADecimal self.now) tokens.old v tokens.new) }
         ensures refused { IfErr result (λ e. Refuses ADecimal self.now tokens.old e) }
+        ensures first { IfErr result (λ e. NamesFirst tokens.old e) }
         ensures shorter { IfOk result (λ _. length tokens.new < length tokens.old) }
     {
         let Some(token) = tokens.first() else {
@@ -126,6 +130,7 @@ impl<'t> Source<'t> {
     pub fn interval(&self, tokens: &mut Tokens) -> Result<i64, Stop>
         ensures reads { IfOk result (λ v. Reads AnInterval tokens.old v tokens.new) }
         ensures refused { IfErr result (λ e. Refuses (λ text. AnInterval) self.now tokens.old e) }
+        ensures first { IfErr result (λ e. NamesFirst tokens.old e) }
         ensures shorter { IfOk result (λ _. length tokens.new < length tokens.old) }
     {
         let Lead::Typed(Literal::Time(value)) = self.lead(tokens) else {
@@ -139,6 +144,7 @@ impl<'t> Source<'t> {
     fn placed_decimal(&self, tokens: &mut Tokens) -> Result<Size, Stop>
         ensures reads { IfOk result (λ s. Reads (PlacedDecimal self.now) tokens.old s tokens.new) }
         ensures refused { IfErr result (λ e. Refuses PlacedDecimal self.now tokens.old e) }
+        ensures begins { IfErr result (λ e. BreaksOff always PlacedDecimal self.now tokens.old e) }
         ensures shorter { IfOk result (λ _. length tokens.new < length tokens.old) }
     {
         let Some(place) = tokens.place() else {
@@ -154,6 +160,7 @@ impl<'t> Source<'t> {
     fn sized(&self, tokens: &mut Tokens) -> Result<Size, Stop>
         ensures reads { IfOk result (λ s. Reads (SpellsSized self.now) tokens.old s tokens.new) }
         ensures refused { IfErr result (λ e. Refuses SpellsSized self.now tokens.old e) }
+        ensures begins { IfErr result (λ e. BreaksOff always SpellsSized self.now tokens.old e) }
         ensures shorter { IfOk result (λ _. length tokens.new < length tokens.old) }
     {
         self.word(tokens, Keyword::Elementary(Elementary::Int))?;
@@ -169,6 +176,7 @@ impl<'t> Source<'t> {
             tokens.new) }
         ensures refused { IfErr result (λ e. Refuses
             (λ text. SpellsSize text word.now) self.now tokens.old e) }
+        ensures begins { IsSizeWord word.now → IfErr result (λ e. BreaksOff always (λ text. SpellsSize text word.now) self.now tokens.old e) }
         ensures shorter { IfOk result (λ _. length tokens.new < length tokens.old) }
     {
         self.plain_word(tokens, word)?;
@@ -182,6 +190,7 @@ impl<'t> Source<'t> {
     fn priority(&self, tokens: &mut Tokens) -> Result<i64, Stop>
         ensures reads { IfOk result (λ v. Reads (SpellsPriority self.now) tokens.old v tokens.new) }
         ensures refused { IfErr result (λ e. Refuses SpellsPriority self.now tokens.old e) }
+        ensures begins { IfErr result (λ e. BreaksOff always SpellsPriority self.now tokens.old e) }
         ensures shorter { IfOk result (λ _. length tokens.new < length tokens.old) }
     {
         self.word(tokens, Keyword::Priority)?;
@@ -200,6 +209,7 @@ impl<'t> Source<'t> {
     fn schedule(&self, tokens: &mut Tokens) -> Result<(i64, i64), Stop>
         ensures reads { IfOk result (λ x. Reads (SpellsSchedule self.now) tokens.old x tokens.new) }
         ensures refused { IfErr result (λ e. Refuses SpellsSchedule self.now tokens.old e) }
+        ensures begins { IfErr result (λ e. BreaksOff always SpellsSchedule self.now tokens.old e) }
         ensures shorter { IfOk result (λ _. length tokens.new < length tokens.old) }
     {
         let interval = self.interval(tokens)?;
@@ -214,6 +224,7 @@ impl<'t> Source<'t> {
     fn times(&self, tokens: &mut Tokens) -> Result<(i64, i64), Stop>
         ensures reads { IfOk result (λ x. Reads (SpellsTimes self.now) tokens.old x tokens.new) }
         ensures refused { IfErr result (λ e. Refuses SpellsTimes self.now tokens.old e) }
+        ensures begins { IfErr result (λ e. BreaksOff always SpellsTimes self.now tokens.old e) }
         ensures shorter { IfOk result (λ _. length tokens.new < length tokens.old) }
     {
         self.sign(tokens, Sign::OpenParenthesis)?;
@@ -231,6 +242,7 @@ impl<'t> Source<'t> {
             tokens.new) }
         ensures refused { IfErr result (λ e. Refuses
             (λ text. PlacedWord text keyword) self.now tokens.old e) }
+        ensures first { IfErr result (λ e. NamesFirst tokens.old e) }
         ensures shorter { IfOk result (λ _. length tokens.new < length tokens.old) }
     {
         let Some(place) = tokens.place() else {
@@ -251,6 +263,7 @@ impl<'t> Source<'t> {
     pub fn task(&self, tokens: &mut Tokens) -> Result<Task, Stop>
         ensures reads { IfOk result (λ t. Reads (SpellsTask self.now) tokens.old t tokens.new) }
         ensures refused { IfErr result (λ e. Refuses SpellsTask self.now tokens.old e) }
+        ensures begins { IfErr result (λ e. BreaksOff always SpellsTask self.now tokens.old e) }
         ensures shorter { IfOk result (λ _. length tokens.new < length tokens.old) }
     {
         let place = self.placed_word(tokens, Keyword::Task)?;
@@ -266,6 +279,7 @@ impl<'t> Source<'t> {
         ensures reads { IfOk result (λ n. Reads (SpellsProgramName self.now) tokens.old n
             tokens.new) }
         ensures refused { IfErr result (λ e. Refuses SpellsProgramName self.now tokens.old e) }
+        ensures begins { IfErr result (λ e. BreaksOff always SpellsProgramName self.now tokens.old e) }
         ensures shorter { IfOk result (λ _. length tokens.new < length tokens.old) }
     {
         let program = self.named(tokens)?;
@@ -277,6 +291,7 @@ impl<'t> Source<'t> {
     fn bound(&self, tokens: &mut Tokens) -> Result<(Named, Named), Stop>
         ensures reads { IfOk result (λ x. Reads (SpellsBound self.now) tokens.old x tokens.new) }
         ensures refused { IfErr result (λ e. Refuses SpellsBound self.now tokens.old e) }
+        ensures begins { IfErr result (λ e. BreaksOff always SpellsBound self.now tokens.old e) }
         ensures shorter { IfOk result (λ _. length tokens.new < length tokens.old) }
     {
         let task = self.named(tokens)?;
@@ -291,6 +306,7 @@ impl<'t> Source<'t> {
     fn binding(&self, tokens: &mut Tokens) -> Result<(Named, Named), Stop>
         ensures reads { IfOk result (λ x. Reads (SpellsWith self.now) tokens.old x tokens.new) }
         ensures refused { IfErr result (λ e. Refuses SpellsWith self.now tokens.old e) }
+        ensures begins { IfErr result (λ e. BreaksOff always SpellsWith self.now tokens.old e) }
         ensures shorter { IfOk result (λ _. length tokens.new < length tokens.old) }
     {
         self.word(tokens, Keyword::With)?;
@@ -303,6 +319,7 @@ impl<'t> Source<'t> {
         ensures reads { IfOk result (λ p. Reads (SpellsProgramLine self.now) tokens.old p
             tokens.new) }
         ensures refused { IfErr result (λ e. Refuses SpellsProgramLine self.now tokens.old e) }
+        ensures begins { IfErr result (λ e. BreaksOff always SpellsProgramLine self.now tokens.old e) }
         ensures shorter { IfOk result (λ _. length tokens.new < length tokens.old) }
     {
         let place = self.placed_word(tokens, Keyword::Program)?;
@@ -322,6 +339,7 @@ impl<'t> Source<'t> {
     fn floors(&self, tokens: &mut Tokens) -> Result<(Size, Size), Stop>
         ensures reads { IfOk result (λ x. Reads (SpellsFloors self.now) tokens.old x tokens.new) }
         ensures refused { IfErr result (λ e. Refuses SpellsFloors self.now tokens.old e) }
+        ensures begins { IfErr result (λ e. BreaksOff always SpellsFloors self.now tokens.old e) }
         ensures shorter { IfOk result (λ _. length tokens.new < length tokens.old) }
     {
         let floors = self.size(tokens, "FLOORS")?;
@@ -336,6 +354,7 @@ impl<'t> Source<'t> {
     pub fn sizes(&self, tokens: &mut Tokens) -> Result<(Size, (Size, Size)), Stop>
         ensures reads { IfOk result (λ x. Reads (SpellsThree self.now) tokens.old x tokens.new) }
         ensures refused { IfErr result (λ e. Refuses SpellsThree self.now tokens.old e) }
+        ensures begins { IfErr result (λ e. BreaksOff always SpellsThree self.now tokens.old e) }
         ensures shorter { IfOk result (λ _. length tokens.new < length tokens.old) }
     {
         self.word(tokens, Keyword::VarGlobal)?;

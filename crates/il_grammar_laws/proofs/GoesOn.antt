@@ -1,0 +1,460 @@
+-- Tokens that are the beginning of a rule, put together.
+use Rattle.std.proofs.Common.{◌≡◌, ◌<◌, ◌≤◌, ℕ, Bool, true, false, not, ◌&&◌, List, [], ◌∷◌, ◌++◌, length, refl, sym, ◌∙◌, ap, subst, inl, inr, arith}
+use Rattle.std.specs.Prelude.{◌⊎◌, IsTrue, bytes_eq, codes, if◌then◌else◌}
+use Rattle.il_spec.specs.declared.token.Token.{Token}
+use Rattle.il_spec.specs.declared.token.Kind.{Kind}
+use Rattle.il_spec.specs.declared.token.Kind.TheVariants as kind
+use Rattle.il_spec.specs.declared.token.Sign.{Sign}
+use Rattle.il_spec.specs.declared.token.Sign.TheVariants.{Comma, OpenParenthesis, OpenBracket, Dot}
+use Rattle.il_spec.specs.declared.tree.Place.{Place}
+use Rattle.il_spec.specs.Text.{upper_case, name_of}
+use Rattle.il_spec.specs.Grammar.{Front, Gap, tight, loose, is_line_end, skip_line_ends, ◌⟨◌⟩◌, ◌⨾◌, ◌⋯◌, AfterLines, No, One, At, Repeats, Listed, TheSign, TheLetterN}
+use Rattle.il_grammar_laws.specs.Alike.{HasSameBytes, IsEndOf, IsGap}
+use Rattle.il_grammar_laws.specs.GoesOn.{Sample, IsOf, AreOf, IsCut, Test, always, stops, lacks, IsQuiet, quiet, IsCalm, calm, settled, IsOpen, IsSampled, Begins}
+use Rattle.il_grammar_laws.proofs.Alike.{end_length, end_self, end_of_end, end_same, tight_gap, loose_gap, gap_length}
+use Rattle.il_grammar_laws.proofs.Open.{Opens, Takes, Fills, IsOpenGap, tight_open, loose_open, skip_still, cut_end, sign_fills}
+
+-- an end is the whole, or shorter
+pub whole_or : (at ts : List Token) → IsEndOf at ts → (at ≡ ts) ⊎ (length at < length ts)
+whole_or at [] e = inl e
+whole_or at (t ∷ ts) (inl e) = inl e
+whole_or at (t ∷ ts) (inr p) = let less = end_length at ts p in inr (omega (arith, less))
+
+-- tokens that are cut at the front are others
+pub cut_here : (text other : List ℕ) (at ts us vs : List Token) → IsCut text other at ts us vs → at ≡ ts → us ≡ vs
+cut_here text other at [] us vs c e = c.1
+cut_here text other at (t ∷ ts) us vs (inl c) e = c.1
+cut_here text other at (t ∷ ts) us vs (inr c) e = let less = end_length at ts (cut_end text other at ts c.0 vs c.3) in let same = ap length e in absurd (omega (arith, less, same))
+
+-- tokens of samples, one behind another
+pub samples_apart : (other : List ℕ) (ss zs : List Sample) (vs rest : List Token) → AreOf other (ss ++ zs) vs rest → (mid : List Token) × AreOf other ss vs mid × AreOf other zs mid rest
+samples_apart other [] zs vs rest a = (vs, refl, a)
+samples_apart other (s ∷ ss) zs vs rest a = let b = samples_apart other ss zs a.1 rest a.4 in (b.0, (a.0, a.1, a.2, a.3, b.1), b.2)
+
+pub samples_together : (other : List ℕ) (ss zs : List Sample) (vs mid rest : List Token) → AreOf other ss vs mid → AreOf other zs mid rest → AreOf other (ss ++ zs) vs rest
+samples_together other [] zs vs mid rest a b = subst (λ x. AreOf other zs x rest) (sym a) b
+samples_together other (s ∷ ss) zs vs mid rest a b = (a.0, a.1, a.2, a.3, samples_together other ss zs a.1 mid rest a.4 b)
+
+-- whether the first sample is there, and no line end
+abbrev pub is_solid : List Sample → Bool
+is_solid [] = false
+is_solid (s ∷ ss) = not (is_line_end s.kind)
+
+-- what the tokens of samples pass, where the tokens behind them pass a test
+pub record Passes (first : Test) (samples : List Sample) (second : Test) : Type 0 where
+  pub yes : (other : List ℕ) (vs rest : List Token) → AreOf other samples vs rest → second other rest → first other vs
+
+-- what a gap leaves as it is
+pub record Stays (gap : Gap) (samples : List Sample) : Type 0 where
+  pub same : (other : List ℕ) (vs rest : List Token) → AreOf other samples vs rest → gap vs ≡ vs
+
+pub stays_tight : {samples : List Sample} → Stays tight samples
+stays_tight = record { same = λ other vs rest a. refl }
+
+no_skip : (t : Token) (ts : List Token) → is_line_end t.kind ≡ false → skip_line_ends (t ∷ ts) ≡ t ∷ ts
+no_skip t ts e = ap (λ (b : Bool). if b then skip_line_ends ts else t ∷ ts) e
+
+negated : (b : Bool) → not b ≡ true → b ≡ false
+negated true e = sym e
+negated false e = refl
+
+pub stays_loose : {samples : List Sample} → is_solid samples ≡ true → Stays loose samples
+stays_loose {samples = samples} solid = go samples solid
+  where
+    go : (samples : List Sample) → is_solid samples ≡ true → Stays loose samples
+    go [] solid = absurd cc
+    go (s ∷ ss) solid = record { same = λ other vs rest a. subst (λ x. skip_line_ends x ≡ x) (sym a.2) (no_skip a.0 a.1 (ap is_line_end a.3.0 ∙ negated (is_line_end s.kind) solid)) }
+
+-- whether a token of this sample begins nothing that a rule looks ahead for
+abbrev pub calm_kind : Kind → List ℕ → Bool
+calm_kind kind.Word bytes = not (bytes_eq (upper_case bytes) (codes "N"))
+calm_kind (kind.Number value) bytes = true
+calm_kind (kind.Typed value) bytes = true
+calm_kind (kind.Sign OpenParenthesis) bytes = false
+calm_kind (kind.Sign OpenBracket) bytes = false
+calm_kind (kind.Sign Dot) bytes = false
+calm_kind (kind.Sign s) bytes = true
+calm_kind kind.LineEnd bytes = false
+
+-- whether the first sample is one of these
+abbrev pub is_calm : List Sample → Bool
+is_calm [] = false
+is_calm (s ∷ ss) = calm_kind s.kind s.bytes
+
+-- or a line end
+abbrev pub is_still : List Sample → Bool
+is_still [] = false
+is_still (s ∷ ss) = if is_line_end s.kind then true else calm_kind s.kind s.bytes
+
+stops_at : (P : List ℕ → Token → Type 0) (other : List ℕ) (t : Token) (ts : List Token) → is_line_end t.kind ≡ false → (P other t → ⊥) → stops (λ text. One (P text)) other (t ∷ ts)
+stops_at P other t ts solid none rest p = none (subst (λ x. One (P other) x rest) (no_skip t ts solid) p).0
+
+calm_line : (k : Kind) (bytes : List ℕ) → calm_kind k bytes ≡ true → is_line_end k ≡ false
+calm_line kind.Word bytes e = refl
+calm_line (kind.Number value) bytes e = refl
+calm_line (kind.Typed value) bytes e = refl
+calm_line (kind.Sign s) bytes e = refl
+calm_line kind.LineEnd bytes e = absurd cc
+
+calm_sign : (k : Kind) (bytes : List ℕ) (s : Sign) → calm_kind (kind.Sign s) bytes ≡ false → calm_kind k bytes ≡ true → k ≡ kind.Sign s → ⊥
+calm_sign k bytes s bad e same = let x = ap (λ y. calm_kind y bytes) same in let y : true ≡ false = sym e ∙ x ∙ bad in cc
+
+calm_letter : (k : Kind) (bytes : List ℕ) → calm_kind k bytes ≡ true → k ≡ kind.Word → IsTrue (bytes_eq (upper_case bytes) (codes "N")) → ⊥
+calm_letter k bytes e same n =
+    let x : not (bytes_eq (upper_case bytes) (codes "N")) ≡ true = sym (ap (λ y. calm_kind y bytes) same) ∙ e in
+    let y : false ≡ true = ap not (sym n) ∙ x in
+    cc
+
+quiet_at : (other : List ℕ) (s : Sample) (t : Token) (ts : List Token) → calm_kind s.kind s.bytes ≡ true → IsOf other s t → quiet other (t ∷ ts)
+quiet_at other s t ts e is =
+    let solid = ap is_line_end is.0 ∙ calm_line s.kind s.bytes e in
+    record {
+      parenthesis = stops_at (λ text (u : Token). u.kind ≡ kind.Sign OpenParenthesis) other t ts solid (λ p. calm_sign s.kind s.bytes OpenParenthesis refl e (sym is.0 ∙ p));
+      bracket = stops_at (λ text (u : Token). u.kind ≡ kind.Sign OpenBracket) other t ts solid (λ p. calm_sign s.kind s.bytes OpenBracket refl e (sym is.0 ∙ p));
+      dot = stops_at (λ text (u : Token). u.kind ≡ kind.Sign Dot) other t ts solid (λ p. calm_sign s.kind s.bytes Dot refl e (sym is.0 ∙ p));
+      letter = λ at. stops_at (λ text (u : Token). (u.kind ≡ kind.Word) × IsTrue (bytes_eq (name_of text u) (codes "N")) × (u.start ≡ at)) other t ts solid
+          (λ p. calm_letter s.kind s.bytes e (sym is.0 ∙ p.0) (subst (λ (b : List ℕ). IsTrue (bytes_eq (upper_case b) (codes "N"))) is.1 p.1));
+    }
+
+calm_at : (other : List ℕ) (s : Sample) (t : Token) (ts : List Token) → calm_kind s.kind s.bytes ≡ true → IsOf other s t → calm other (t ∷ ts)
+calm_at other s t ts e is = record {
+  bracket = λ rest p. calm_sign s.kind s.bytes OpenBracket refl e (sym is.0 ∙ p.0);
+  dot = λ rest p. calm_sign s.kind s.bytes Dot refl e (sym is.0 ∙ p.0);
+  letter = λ at rest p. calm_letter s.kind s.bytes e (sym is.0 ∙ p.0.0) (subst (λ (b : List ℕ). IsTrue (bytes_eq (upper_case b) (codes "N"))) is.1 p.0.1);
+}
+
+line_word : (k : Kind) → is_line_end k ≡ true → k ≡ kind.Word → ⊥
+line_word k e same = let x : true ≡ false = sym e ∙ ap is_line_end same in cc
+
+line_sign : (k : Kind) (s : Sign) → is_line_end k ≡ true → k ≡ kind.Sign s → ⊥
+line_sign k s e same = let x : true ≡ false = sym e ∙ ap is_line_end same in cc
+
+line_calm : (other : List ℕ) (t : Token) (ts : List Token) → is_line_end t.kind ≡ true → calm other (t ∷ ts)
+line_calm other t ts e = record {
+  bracket = λ rest p. line_sign t.kind OpenBracket e p.0;
+  dot = λ rest p. line_sign t.kind Dot e p.0;
+  letter = λ at rest p. line_word t.kind e p.0.0;
+}
+
+-- what such samples pass, whatever stands behind
+pub passes_quiet : {samples : List Sample} {test : Test} → is_calm samples ≡ true → Passes quiet samples test
+passes_quiet {samples = samples} {test = test} e = go samples e
+  where
+    go : (samples : List Sample) → is_calm samples ≡ true → Passes quiet samples test
+    go [] e = absurd cc
+    go (s ∷ ss) e = record { yes = λ other vs rest a q. subst (λ x. quiet other x) (sym a.2) (quiet_at other s a.0 a.1 e a.3) }
+
+pub passes_settled : {samples : List Sample} {test : Test} → is_calm samples ≡ true → Passes settled samples test
+passes_settled {samples = samples} {test = test} e = go samples e
+  where
+    go : (samples : List Sample) → is_calm samples ≡ true → Passes settled samples test
+    go [] e = absurd cc
+    go (s ∷ ss) e = record {
+      yes = λ other vs rest a q.
+          subst (λ x. settled other x) (sym a.2) (calm_at other s a.0 a.1 e a.3, no_skip a.0 a.1 (ap is_line_end a.3.0 ∙ calm_line s.kind s.bytes e));
+    }
+
+pub passes_calm : {samples : List Sample} {test : Test} → is_still samples ≡ true → Passes calm samples test
+passes_calm {samples = samples} {test = test} e = go samples e
+  where
+    step : (other : List ℕ) (s : Sample) (t : Token) (ts : List Token) (b : Bool) → is_line_end s.kind ≡ b → (if b then true else calm_kind s.kind s.bytes) ≡ true → IsOf other s t → calm other (t ∷ ts)
+    step other s t ts true line e is = line_calm other t ts (ap is_line_end is.0 ∙ line)
+    step other s t ts false line e is = calm_at other s t ts e is
+
+    go : (samples : List Sample) → is_still samples ≡ true → Passes calm samples test
+    go [] e = absurd cc
+    go (s ∷ ss) e = record { yes = λ other vs rest a q. subst (λ x. calm other x) (sym a.2) (step other s a.0 a.1 (is_line_end s.kind) refl e a.3) }
+
+pub passes_always : {samples : List Sample} {test : Test} → Passes always samples test
+passes_always = record { yes = λ other vs rest a q. tt }
+
+-- what a cut does to a gap
+pub record IsCutGap (gap : Gap) : Type 0 where
+  pub over : IsOpenGap gap
+  pub still : (text other : List ℕ) (at ts us vs : List Token) → IsCut text other at ts us vs → IsEndOf at (gap ts) → gap vs ≡ vs → IsCut text other at (gap ts) (gap us) vs
+
+pub tight_cut : IsCutGap tight
+tight_cut = record { over = tight_open; still = λ text other at ts us vs c e s. c }
+
+pub loose_cut : IsCutGap loose
+loose_cut = record { over = loose_open; still = skip_still }
+
+-- how far a rule has to look, so that it looks no less far than the gap behind it
+abbrev pub Reaches : Gap → Gap → Type 0
+Reaches gap look = (m : List Token) → length (gap m) ≤ length (look m)
+
+pub reach_tight : {gap : Gap} → IsCutGap gap → Reaches gap tight
+reach_tight cut m = gap_length cut.over.is m
+
+pub reach_loose : Reaches loose loose
+reach_loose m = omega arith
+
+-- a rule that has samples, behind another
+module _ {A B : Type 0} {P : List ℕ → A → Front} {Q : List ℕ → B → Front} {first second : Test} {ss zs : List Sample} (gap : Gap) where
+  pub then_sampled : IsSampled first P ss → IsSampled second Q zs → Passes first zs second → Stays gap zs → IsSampled second (λ text (x : A × B). P text x.0 ⟨ gap ⟩ Q text x.1) (ss ++ zs)
+  then_sampled p q passes stays = record {
+    stands = λ other vs rest a t.
+        let mid = samples_apart other ss zs vs rest a in
+        let x = p.stands other vs mid.0 mid.1 (passes.yes other mid.0 rest mid.2 t) in
+        let y = q.stands other mid.0 rest mid.2 t in
+        ((x.0, y.0), (mid.0, x.1, subst (λ k. Q other y.0 k rest) (sym (stays.same other mid.0 rest mid.2)) y.1));
+  }
+
+-- the same behind a rule without a value
+pub behind_sampled : {B : Type 0} {F : List ℕ → Front} {Q : List ℕ → B → Front} {first second : Test} {ss zs : List Sample} (gap : Gap)
+    → IsSampled first (λ text (u : Unit {0}). F text) ss → IsSampled second Q zs → Passes first zs second → Stays gap zs → IsSampled second (λ text (y : B). F text ⟨ gap ⟩ Q text y) (ss ++ zs)
+behind_sampled {Q = Q} {ss = ss} {zs = zs} gap p q passes stays = record {
+  stands = λ other vs rest a t.
+      let mid = samples_apart other ss zs vs rest a in
+      let x = p.stands other vs mid.0 mid.1 (passes.yes other mid.0 rest mid.2 t) in
+      let y = q.stands other mid.0 rest mid.2 t in
+      (y.0, (mid.0, x.1, subst (λ k. Q other y.0 k rest) (sym (stays.same other mid.0 rest mid.2)) y.1));
+}
+
+-- the same samples for another value, or under a harder test
+pub map_sampled : {A B : Type 0} {P : List ℕ → A → Front} {Q : List ℕ → B → Front} {test : Test} {ss : List Sample} (h : A → B)
+    → ((x : A) (other : List ℕ) (us r : List Token) → P other x us r → Q other (h x) us r) → IsSampled test P ss → IsSampled test Q ss
+map_sampled h f p = record { stands = λ other vs rest a t. let x = p.stands other vs rest a t in (h x.0, f x.0 other vs rest x.1) }
+
+pub under_sampled : {A : Type 0} {P : List ℕ → A → Front} {weak strong : Test} {ss : List Sample} → ((other : List ℕ) (vs : List Token) → strong other vs → weak other vs) → IsSampled weak P ss → IsSampled strong P ss
+under_sampled more p = record { stands = λ other vs rest a t. p.stands other vs rest a (more other rest t) }
+
+pub any_sampled : {A : Type 0} {P : List ℕ → A → Front} {test : Test} {ss : List Sample} → IsSampled always P ss → IsSampled test P ss
+any_sampled p = record { stands = λ other vs rest a t. p.stands other vs rest a tt }
+
+-- a rule at the place of its first token
+pub at_sampled : {A : Type 0} {P : List ℕ → A → Front} {test : Test} {ss : List Sample} → ((x : A) → Takes tight (λ text. P text x)) → IsSampled test P ss → IsSampled test (λ text (y : Place × A). At y.0 (P text y.1)) ss
+at_sampled {A = A} {P = P} some p = record { stands = λ other vs rest a t. let x = p.stands other vs rest a t in go other vs rest x.0 x.1 }
+  where
+    go : (other : List ℕ) (us rest : List Token) (x : A) → P other x us rest → (y : Place × A) × At y.0 (P other y.1) us rest
+    go other [] rest x p = let less = (some x).less other [] rest p in absurd (omega (arith, less))
+    go other (u ∷ us) rest x p = ((record { offset = u.start; line = u.line }, x), (refl, refl, p))
+
+-- nothing is read yet
+pub begins_here : {A : Type 0} {P : List ℕ → A → Front} {test : Test} {ss : List Sample} → IsSampled test P ss → (text : List ℕ) (ts : List Token) → Begins test P text ts ts
+begins_here {P = P} {test = test} {ss = ss} p text ts = record {
+  inside = end_self ts;
+  samples = ss;
+  goes = λ other us vs rest c a t.
+      let x = p.stands other vs rest a t in
+      (x.0, subst (λ k. P other x.0 k rest) (sym (cut_here text other ts ts us vs c refl)) x.1);
+}
+
+-- the first part breaks off
+pub begins_first : {A B : Type 0} {P : List ℕ → A → Front} {Q : List ℕ → B → Front} {first second : Test} {zs : List Sample} {text : List ℕ} {ts at : List Token} (gap : Gap)
+    → IsSampled second Q zs → Passes first zs second → Stays gap zs → Begins first P text ts at → Begins second (λ text (x : A × B). P text x.0 ⟨ gap ⟩ Q text x.1) text ts at
+begins_first {Q = Q} {zs = zs} gap q passes stays b = record {
+  inside = b.inside;
+  samples = b.samples ++ zs;
+  goes = λ other us vs rest c a t.
+      let mid = samples_apart other b.samples zs vs rest a in
+      let x = b.goes other us vs mid.0 c mid.1 (passes.yes other mid.0 rest mid.2 t) in
+      let y = q.stands other mid.0 rest mid.2 t in
+      ((x.0, y.0), (mid.0, x.1, subst (λ k. Q other y.0 k rest) (sym (stays.same other mid.0 rest mid.2)) y.1));
+}
+
+-- a rule of which each value holds of cut tokens, and takes one
+pub record IsFilling {A : Type 0} (look : Gap) (test : Test) (P : List ℕ → A → Front) : Type 0 where
+  pub one : (x : A) → Fills look test (λ text. P text x)
+
+-- a part stands there, and what has to follow breaks off
+pub begins_later : {A B : Type 0} {P : List ℕ → A → Front} {Q : List ℕ → B → Front} {first second : Test} {zs : List Sample} {text : List ℕ} {ts m at : List Token} {x : A} {look gap : Gap}
+    → IsCutGap gap → Reaches gap look → IsFilling look first P → P text x ts m → IsSampled second Q zs → Passes first zs second → Stays gap zs → Begins second Q text (gap m) at
+    → Begins second (λ text (y : A × B). P text y.0 ⟨ gap ⟩ Q text y.1) text ts at
+begins_later {A = A} {B = B} {P = P} {Q = Q} {first = first} {second = second} {zs = zs} {text = text} {ts = ts} {m = m} {at = at} {x = x} {gap = gap} cut far one here q passes stays b = go (whole_or at (gap m) b.inside)
+  where
+    go : ((at ≡ gap m) ⊎ (length at < length (gap m))) → Begins second (λ text (y : A × B). P text y.0 ⟨ gap ⟩ Q text y.1) text ts at
+    go (inl edge) =
+        let inside = end_of_end at (gap m) m (cut.over.is.ends m) b.inside in
+        record {
+          inside = end_of_end at m ts ((one.one x).opens.ends text ts m here) inside;
+          samples = zs;
+          goes = λ other us vs rest c a t.
+              let p = (one.one x).opens.keeps text other at ts us vs m here inside c (inr (passes.yes other vs rest a t)) in
+              let y = q.stands other vs rest a t in
+              let same = cut_here text other at (gap m) (gap p.0) vs (cut.still text other at m p.0 vs p.2 b.inside (stays.same other vs rest a)) edge in
+              ((x, y.0), (p.0, p.1, subst (λ k. Q other y.0 k rest) (sym same) y.1));
+        }
+    go (inr less) =
+        let inside = end_of_end at (gap m) m (cut.over.is.ends m) b.inside in
+        let fits = far m in
+        record {
+          inside = end_of_end at m ts ((one.one x).opens.ends text ts m here) inside;
+          samples = b.samples;
+          goes = λ other us vs rest c a t.
+              let p = (one.one x).opens.keeps text other at ts us vs m here inside c (inl (omega (arith, less, fits))) in
+              let y = b.goes other (gap p.0) vs rest (cut.over.cut text other at m p.0 vs p.2 less) a t in
+              ((x, y.0), (p.0, p.1, y.1));
+        }
+
+-- the same for another value, or under a harder test
+pub begins_as : {A B : Type 0} {P : List ℕ → A → Front} {Q : List ℕ → B → Front} {test : Test} {text : List ℕ} {ts at : List Token} (h : A → B)
+    → ((x : A) (other : List ℕ) (us r : List Token) → P other x us r → Q other (h x) us r) → Begins test P text ts at → Begins test Q text ts at
+begins_as h f b = record { inside = b.inside; samples = b.samples; goes = λ other us vs rest c a t. let x = b.goes other us vs rest c a t in (h x.0, f x.0 other us rest x.1) }
+
+pub begins_under : {A : Type 0} {P : List ℕ → A → Front} {weak strong : Test} {text : List ℕ} {ts at : List Token} → ((other : List ℕ) (vs : List Token) → strong other vs → weak other vs)
+    → Begins weak P text ts at → Begins strong P text ts at
+begins_under more b = record { inside = b.inside; samples = b.samples; goes = λ other us vs rest c a t. b.goes other us vs rest c a (more other rest t) }
+
+-- a rule at the place of its first token
+pub begins_at : {A : Type 0} {P : List ℕ → A → Front} {test : Test} {text : List ℕ} {ts at : List Token} → ((x : A) → Takes tight (λ text. P text x)) → Begins test P text ts at
+    → Begins test (λ text (y : Place × A). At y.0 (P text y.1)) text ts at
+begins_at {A = A} {P = P} some b = record { inside = b.inside; samples = b.samples; goes = λ other us vs rest c a t. let x = b.goes other us vs rest c a t in go other us rest x.0 x.1 }
+  where
+    go : (other : List ℕ) (us rest : List Token) (x : A) → P other x us rest → (y : Place × A) × At y.0 (P other y.1) us rest
+    go other [] rest x p = let less = (some x).less other [] rest p in absurd (omega (arith, less))
+    go other (u ∷ us) rest x p = ((record { offset = u.start; line = u.line }, x), (refl, refl, p))
+
+-- the same behind a part without a value
+pub begins_behind : {B : Type 0} {F : List ℕ → Front} {Q : List ℕ → B → Front} {first second : Test} {zs : List Sample} {text : List ℕ} {ts m at : List Token} {look gap : Gap}
+    → IsCutGap gap → Reaches gap look → Fills look first F → F text ts m → IsSampled second Q zs → Passes first zs second → Stays gap zs → Begins second Q text (gap m) at
+    → Begins second (λ text (y : B). F text ⟨ gap ⟩ Q text y) text ts at
+begins_behind {B = B} {F = F} {Q = Q} {gap = gap} cut far one here q passes stays b =
+    begins_as {P = λ text (x : Unit {0} × B). F text ⟨ gap ⟩ Q text x.1} {Q = λ text (y : B). F text ⟨ gap ⟩ Q text y} (λ x. x.1) (λ x other us r w. w)
+    (begins_later {P = λ text (u : Unit {0}). F text} {Q = Q} {x = tt} cut far (record { one = λ u. one }) here q passes stays b)
+
+-- a part without a value breaks off
+pub begins_first_part : {B : Type 0} {F : List ℕ → Front} {Q : List ℕ → B → Front} {first second : Test} {zs : List Sample} {text : List ℕ} {ts at : List Token} (gap : Gap)
+    → IsSampled second Q zs → Passes first zs second → Stays gap zs → Begins first (λ text (u : Unit {0}). F text) text ts at → Begins second (λ text (y : B). F text ⟨ gap ⟩ Q text y) text ts at
+begins_first_part {B = B} {F = F} {Q = Q} gap q passes stays b =
+    begins_as {P = λ text (x : Unit {0} × B). F text ⟨ gap ⟩ Q text x.1} {Q = λ text (y : B). F text ⟨ gap ⟩ Q text y} (λ x. x.1) (λ x other us r w. w)
+    (begins_first {P = λ text (u : Unit {0}). F text} {Q = Q} gap q passes stays b)
+
+-- What a loop has read stands in cut tokens too, before what is left.
+pub record HasGone {A : Type 0} (P : List ℕ → A → Front) (E : List ℕ → Front) (text : List ℕ) (start ts : List Token) : Type 0 where
+  pub inside : IsEndOf ts start
+  pub on : (other : List ℕ) (at us vs : List Token) → IsEndOf at ts → IsCut text other at start us vs → ((length at < length ts) ⊎ (skip_line_ends vs ≡ vs))
+      → (n : List Token) × IsCut text other at ts n vs × ((more : List A) (r : List Token) → Repeats (P other) more (E other) n r → (ys : List A) × Repeats (P other) ys (E other) us r)
+
+module _ {A : Type 0} {P : List ℕ → A → Front} {E : List ℕ → Front} {text : List ℕ} where
+  -- a loop begins
+  pub gone_starts : (ts : List Token) → HasGone P E text ts ts
+  gone_starts ts = record { inside = end_self ts; on = λ other at us vs e c d. (us, c, λ more r w. (more, w)) }
+
+  -- and goes on
+  pub gone_on : {start ts m : List Token} {x : A} → IsFilling tight always P → HasGone P E text start ts → P text x ts m → HasGone P E text start (skip_line_ends m)
+  gone_on {start = start} {ts = ts} {m = m} {x = x} fill so_far here =
+      let to_m = end_of_end (skip_line_ends m) m ts ((fill.one x).opens.ends text ts m here) (loose_gap.ends m) in
+      let short = (fill.one x).takes.less text ts m here in
+      let less = gap_length loose_gap m in
+      record {
+        inside = end_of_end (skip_line_ends m) ts start so_far.inside to_m;
+        on = λ other at us vs e c d.
+            let l = end_length at (skip_line_ends m) e in
+            let before = so_far.on other at us vs (end_of_end at (skip_line_ends m) ts to_m e) c (inl (omega (arith, l, less, short))) in
+            let p = (fill.one x).opens.keeps text other at ts before.0 vs m here (end_of_end at (skip_line_ends m) m (loose_gap.ends m) e) before.1 (inr tt) in
+            (skip_line_ends p.0, gapped other at p.0 vs p.2 e d, λ more r w. before.2 (x ∷ more) r (p.0, p.1, w));
+      }
+    where
+      gapped : (other : List ℕ) (at n vs : List Token) → IsCut text other at m n vs → IsEndOf at (skip_line_ends m) → ((length at < length (skip_line_ends m)) ⊎ (skip_line_ends vs ≡ vs))
+          → IsCut text other at (skip_line_ends m) (skip_line_ends n) vs
+      gapped other at n vs c e (inl l) = loose_open.cut text other at m n vs c l
+      gapped other at n vs c e (inr s) = skip_still text other at m n vs c e s
+
+  -- one of them breaks off
+  pub gone_item : {first : Test} {es : List Sample} {start ts at : List Token} → IsSampled always (λ text (u : Unit {0}). E text) es → Passes first es always → Stays loose es → HasGone P E text start ts
+      → Begins first P text ts at → Begins always (λ text ys. Repeats (P text) ys (E text)) text start at
+  gone_item {first = first} {es = es} {start = start} {ts = ts} {at = at} e passes stays so_far b = go (whole_or at ts b.inside)
+    where
+      go : ((at ≡ ts) ⊎ (length at < length ts)) → Begins always (λ text ys. Repeats (P text) ys (E text)) text start at
+      go (inl edge) = record {
+        inside = end_of_end at ts start so_far.inside b.inside;
+        samples = es;
+        goes = λ other us vs rest c a t.
+            let n = so_far.on other at us vs b.inside c (inr (stays.same other vs rest a)) in
+            let x = e.stands other vs rest a t in
+            n.2 [] rest (subst (λ k. E other k rest) (sym (cut_here text other at ts n.0 vs n.1 edge)) x.1);
+      }
+      go (inr less) =
+          let f = begins_first {P = P} {Q = λ text (u : Unit {0}). E text} loose e passes stays b in
+          record {
+            inside = end_of_end at ts start so_far.inside b.inside;
+            samples = f.samples;
+            goes = λ other us vs rest c a t.
+                let n = so_far.on other at us vs b.inside c (inl less) in
+                let x = f.goes other n.0 vs rest n.1 a t in
+                n.2 (x.0.0 ∷ []) rest x.1;
+          }
+
+-- What a loop over a list has read stands in cut tokens too, before the things that are left.
+pub record WantsGone {A : Type 0} (gap : Gap) (P : List ℕ → A → Front) (E : List ℕ → Front) (text : List ℕ) (start ts : List Token) : Type 0 where
+  pub inside : IsEndOf ts start
+  pub on : (other : List ℕ) (at us vs : List Token) → IsEndOf at ts → IsCut text other at start us vs → ((length at < length ts) ⊎ (gap vs ≡ vs))
+      → (n : List Token) × IsCut text other at ts n vs
+      × ((y : A) (more : List A) (r : List Token) → Listed gap (P other) (y ∷ more) (E other) n r → (ys : List A) × Listed gap (P other) ys (E other) us r)
+
+module _ {A : Type 0} {gap : Gap} {P : List ℕ → A → Front} {E : List ℕ → Front} {text : List ℕ} where
+  -- a loop begins
+  pub wanted_starts : (ts : List Token) → WantsGone gap P E text ts ts
+  wanted_starts ts = record { inside = end_self ts; on = λ other at us vs e c d. (us, c, λ y more r w. (y ∷ more, w)) }
+
+  -- one more, and a comma behind it
+  pub wanted_on : {look : Gap} {first : Test} {start ts m k : List Token} {x : A} → IsCutGap gap → Reaches gap look → IsFilling look first P → WantsGone gap P E text start ts → P text x ts m → TheSign Comma (gap m) k
+      → WantsGone gap P E text start (gap k)
+  wanted_on {look = look} {start = start} {ts = ts} {m = m} {k = k} {x = x} cut far fill so_far here comma =
+      let is = cut.over.is in
+      let e1 = end_of_end (gap m) m ts ((fill.one x).opens.ends text ts m here) (is.ends m) in
+      let to_k = (sign_fills Comma).opens.ends text (gap m) k comma in
+      let e2 = end_of_end (gap k) k (gap m) to_k (is.ends k) in
+      let l1 = (fill.one x).takes.less text ts m here in
+      let l2 = gap_length is m in
+      let l3 = (sign_fills Comma).takes.less text (gap m) k comma in
+      let l4 = gap_length is k in
+      let fits = far m in
+      record {
+        inside = end_of_end (gap k) ts start so_far.inside (end_of_end (gap k) (gap m) ts e1 e2);
+        on = λ other at us vs e c d.
+            let l = end_length at (gap k) e in
+            let at_m = end_of_end at (gap k) (gap m) e2 e in
+            let before = so_far.on other at us vs (end_of_end at (gap m) ts e1 at_m) c (inl (omega (arith, l, l1, l2, l3, l4))) in
+            let p = (fill.one x).opens.keeps text other at ts before.0 vs m here (end_of_end at (gap m) m (is.ends m) at_m) before.1 (inl (omega (arith, l, l2, l3, l4, fits))) in
+            let q = (sign_fills Comma).opens.keeps text other at (gap m) (gap p.0) vs k comma (end_of_end at (gap k) k (is.ends k) e) (cut.over.cut text other at m p.0 vs p.2 (omega (arith, l, l3, l4))) (inr tt) in
+            (gap q.0, gapped other at q.0 vs q.2 e d, λ y more r w. before.2 x (y ∷ more) r (p.0, p.1, (q.0, q.1, w)));
+      }
+    where
+      gapped : (other : List ℕ) (at n vs : List Token) → IsCut text other at k n vs → IsEndOf at (gap k) → ((length at < length (gap k)) ⊎ (gap vs ≡ vs)) → IsCut text other at (gap k) (gap n) vs
+      gapped other at n vs c e (inl l) = cut.over.cut text other at k n vs c l
+      gapped other at n vs c e (inr s) = cut.still text other at k n vs c e s
+
+  -- one of them breaks off
+  pub wanted_item : {first second : Test} {ps es : List Sample} {start ts at : List Token} → IsSampled first P ps → IsSampled second (λ text (u : Unit {0}). E text) es → Passes first es second → Stays gap es
+      → Stays gap (ps ++ es) → WantsGone gap P E text start ts → Begins first P text ts at → Begins second (λ text ys. Listed gap (P text) ys (E text)) text start at
+  wanted_item {first = first} {second = second} {ps = ps} {es = es} {start = start} {ts = ts} {at = at} p e passes stays whole so_far b = go (whole_or at ts b.inside)
+    where
+      go : ((at ≡ ts) ⊎ (length at < length ts)) → Begins second (λ text ys. Listed gap (P text) ys (E text)) text start at
+      go (inl edge) =
+          let f = then_sampled {P = P} {Q = λ text (u : Unit {0}). E text} gap p e passes stays in
+          record {
+            inside = end_of_end at ts start so_far.inside b.inside;
+            samples = ps ++ es;
+            goes = λ other us vs rest c a t.
+                let n = so_far.on other at us vs b.inside c (inr (whole.same other vs rest a)) in
+                let x = f.stands other vs rest a t in
+                n.2 x.0.0 [] rest (subst (λ k. (P other x.0.0 ⟨ gap ⟩ E other) k rest) (sym (cut_here text other at ts n.0 vs n.1 edge)) x.1);
+          }
+      go (inr less) =
+          let f = begins_first {P = P} {Q = λ text (u : Unit {0}). E text} gap e passes stays b in
+          record {
+            inside = end_of_end at ts start so_far.inside b.inside;
+            samples = f.samples;
+            goes = λ other us vs rest c a t.
+                let n = so_far.on other at us vs b.inside c (inl less) in
+                let x = f.goes other n.0 vs rest n.1 a t in
+                n.2 x.0.0 [] rest x.1;
+          }
+
+  -- the last one, and no end behind it
+  pub wanted_end : {look : Gap} {first second : Test} {es : List Sample} {start ts m : List Token} {x : A} → IsCutGap gap → Reaches gap look → IsFilling look first P → IsSampled second (λ text (u : Unit {0}). E text) es
+      → Passes first es second → Stays gap es → WantsGone gap P E text start ts → P text x ts m → Begins second (λ text ys. Listed gap (P text) ys (E text)) text start (gap m)
+  wanted_end {start = start} {ts = ts} {m = m} {x = x} cut far fill e passes stays so_far here =
+      let b = begins_later {P = P} {Q = λ text (u : Unit {0}). E text} cut far fill here e passes stays (begins_here e text (gap m)) in
+      let l1 = (fill.one x).takes.less text ts m here in
+      let l2 = gap_length cut.over.is m in
+      record {
+        inside = end_of_end (gap m) ts start so_far.inside b.inside;
+        samples = b.samples;
+        goes = λ other us vs rest c a t.
+            let n = so_far.on other (gap m) us vs b.inside c (inl (omega (arith, l1, l2))) in
+            let y = b.goes other n.0 vs rest n.1 a t in
+            n.2 y.0.0 [] rest y.1;
+      }
