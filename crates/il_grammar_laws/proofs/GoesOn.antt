@@ -458,3 +458,23 @@ module _ {A : Type 0} {gap : Gap} {P : List ℕ → A → Front} {E : List ℕ �
             let y = b.goes other n.0 vs rest n.1 a t in
             n.2 y.0.0 [] rest y.1;
       }
+
+-- a rule behind any number of line ends breaks off
+pub begins_lines : {A : Type 0} {P : List ℕ → A → Front} {test : Test} {zs : List Sample} {text : List ℕ} {ts at : List Token} → IsSampled test P zs → is_solid zs ≡ true → Begins test P text (skip_line_ends ts) at
+    → Begins test (λ text x. AfterLines (P text x)) text ts at
+begins_lines {A = A} {P = P} {test = test} {zs = zs} {text = text} {ts = ts} {at = at} q solid b = go (whole_or at (skip_line_ends ts) b.inside)
+  where
+    go : ((at ≡ skip_line_ends ts) ⊎ (length at < length (skip_line_ends ts))) → Begins test (λ text x. AfterLines (P text x)) text ts at
+    go (inl edge) = record {
+      inside = end_of_end at (skip_line_ends ts) ts (loose_gap.ends ts) b.inside;
+      samples = zs;
+      goes = λ other us vs rest c a t.
+          let y = q.stands other vs rest a t in
+          let same = cut_here text other at (skip_line_ends ts) (skip_line_ends us) vs (skip_still text other at ts us vs c b.inside ((stays_loose solid).same other vs rest a)) edge in
+          (y.0, subst (λ k. P other y.0 k rest) (sym same) y.1);
+    }
+    go (inr less) = record {
+      inside = end_of_end at (skip_line_ends ts) ts (loose_gap.ends ts) b.inside;
+      samples = b.samples;
+      goes = λ other us vs rest c a t. b.goes other (skip_line_ends us) vs rest (loose_open.cut text other at ts us vs c less) a t;
+    }

@@ -20,3 +20,4 @@ pub mod FirstLines
 pub mod Open
 pub mod GoesOn
 pub mod Samples
+pub mod Printed

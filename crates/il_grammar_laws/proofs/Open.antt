@@ -179,7 +179,7 @@ here_none {P = P} solid [] none rest p = p
 here_none {P = P} solid (t ∷ ts) none rest p = none ts (subst (λ (b : Bool). One P (if b then skip_line_ends ts else t ∷ ts) ts) (sym (solid t p.0)) (p.0, refl))
 
 -- no such token
-pub no_opens : {P : List ℕ → Token → Type 0} → ((text other : List ℕ) (t : Token) → HasSameBytes text other t → P text t → P other t) 
+pub no_opens : {P : List ℕ → Token → Type 0} → ((text other : List ℕ) (t : Token) → HasSameBytes text other t → P text t → P other t)
     → Opens tight (λ other vs. (rest : List Token) → One (P other) vs rest → ⊥) (λ text. No (One (P text)))
 no_opens {P = P} same = record {
   ends = λ text ts m p. end_same ts m p.0;
@@ -377,15 +377,16 @@ pub record Fills (look : Gap) (test : Test) (F : List ℕ → Front) : Type 0 wh
   pub opens : Opens look test F
   pub takes : Takes tight F
 
--- the same, under the names of the rules they are put together by
+-- where nothing is asked, anything may be
 fill_freely : {F : List ℕ → Front} {look : Gap} {test : Test} → Fills look always F → Fills look test F
 fill_freely one = record { opens = freely one.opens; takes = one.takes }
 
+-- a rule that looks no further than the next token
 fill_loosely : {F : List ℕ → Front} {test : Test} → Fills tight test F → Fills loose test F
 fill_loosely one = record { opens = loosely one.opens; takes = one.takes }
 
--- whatever is asked
-fill_any : {F : List ℕ → Front} {test : Test} → Fills tight always F → Fills loose test F
+-- both
+pub fill_any : {F : List ℕ → Front} {test : Test} → Fills tight always F → Fills loose test F
 fill_any one = fill_freely (fill_loosely one)
 
 -- one token
@@ -421,7 +422,7 @@ pub next_lines : {F G : List ℕ → Front} {two : Gap} {first second : Test} �
 next_lines f g = record { opens = follows_lines f.opens g.takes g.opens; takes = last_less loose_open f.opens g.takes }
 
 -- behind any number of line ends, at a place, with a fact, one of two, none
-fill_after : {F : List ℕ → Front} {look : Gap} {test : Test} → Fills look test F → Fills look test (λ text. AfterLines (F text))
+pub fill_after : {F : List ℕ → Front} {look : Gap} {test : Test} → Fills look test F → Fills look test (λ text. AfterLines (F text))
 fill_after one = record {
   opens = after one.takes one.opens;
   takes = record {
@@ -432,14 +433,14 @@ fill_after one = record {
   };
 }
 
-fill_placed : {F : List ℕ → Front} {look : Gap} {test : Test} (place : Place) → Fills look test F → Fills look test (λ text. At place (F text))
+pub fill_placed : {F : List ℕ → Front} {look : Gap} {test : Test} (place : Place) → Fills look test F → Fills look test (λ text. At place (F text))
 fill_placed {F = F} place one = record { opens = placed place one.takes one.opens; takes = record { less = less } }
   where
     less : (text : List ℕ) (ts m : List Token) → At place (F text) ts m → length m < length ts
     less text [] m p = absurd p
     less text (t ∷ ts) m p = one.takes.less text (t ∷ ts) m p.2
 
-fill_given : {F : List ℕ → Front} {look : Gap} {test : Test} (X : Type 0) → Fills look test F → Fills look test (λ text ts rest. X × F text ts rest)
+pub fill_given : {F : List ℕ → Front} {look : Gap} {test : Test} (X : Type 0) → Fills look test F → Fills look test (λ text ts rest. X × F text ts rest)
 fill_given X one = record { opens = given X one.opens; takes = record { less = λ text ts m p. one.takes.less text ts m p.1 } }
 
 fill_one_of : {F G : List ℕ → Front} {look : Gap} {test : Test} → Fills look test F → Fills look test G → Fills look test (λ text ts rest. F text ts rest ⊎ G text ts rest)

@@ -1,11 +1,11 @@
 -- Samples: tokens by which each rule of the grammar can be completed.
-use Rattle.std.proofs.Common.{◌≡◌, ◌<◌, ◌≤◌, ℕ, zero, suc, pos, Bool, true, false, List, [], ◌∷◌, ◌++◌, length, refl, sym, ◌∙◌, ap, subst, inl, inr, arith, Option, Some, None}
-use Rattle.std.specs.Prelude.{◌⊎◌, ◌≢◌, ℤ, IsTrue, bytes_eq, codes, if◌then◌else◌}
+use Rattle.std.proofs.Common.{◌≡◌, ℕ, zero, suc, pos, Bool, true, false, List, [], ◌∷◌, ◌++◌, refl, sym, ◌∙◌, ap, subst, inl, inr, arith, Option, Some, None}
+use Rattle.std.specs.Prelude.{ℤ, IsTrue, bytes_eq, codes, if◌then◌else◌}
 use Rattle.il_spec.specs.declared.token.Token.{Token}
 use Rattle.il_spec.specs.declared.token.Kind.{Kind}
 use Rattle.il_spec.specs.declared.token.Kind.TheVariants as kind
 use Rattle.il_spec.specs.declared.token.Sign.{Sign}
-use Rattle.il_spec.specs.declared.token.Sign.TheVariants.{Assign, Arrow, Range, Colon, Semicolon, Comma, OpenParenthesis, CloseParenthesis, OpenBracket, CloseBracket, Dot}
+use Rattle.il_spec.specs.declared.token.Sign.TheVariants.{Assign, Colon, Semicolon, Comma, OpenParenthesis, CloseParenthesis, OpenBracket, Dot}
 use Rattle.il_spec.specs.declared.keyword.Keyword.{Keyword}
 use Rattle.il_spec.specs.declared.keyword.Keyword.TheVariants as word
 use Rattle.il_spec.specs.declared.tree.Place.{Place}
@@ -20,12 +20,10 @@ use Rattle.il_spec.specs.declared.tree.WrittenType.{WrittenType}
 use Rattle.il_spec.specs.declared.tree.Named.{Named}
 use Rattle.il_spec.specs.declared.tree.Initial.{Initial}
 use Rattle.il_spec.specs.declared.tree.Declaration.{Declaration}
-use Rattle.il_spec.specs.declared.tree.Index.{Index}
 use Rattle.il_spec.specs.declared.tree.Index.TheVariants as index
 use Rattle.il_spec.specs.declared.tree.Reference.{Reference}
 use Rattle.il_spec.specs.declared.tree.Reference.TheVariants as reference
 use Rattle.il_spec.specs.declared.tree.Operand.{Operand}
-use Rattle.il_spec.specs.declared.tree.Operator.{Operator}
 use Rattle.il_spec.specs.declared.tree.Operator.TheVariants as operator
 use Rattle.il_spec.specs.declared.tree.Logic.TheVariants.{Conjunction, Disjunction, Exclusive}
 use Rattle.il_spec.specs.declared.tree.Arithmetic.TheVariants.{Add, Sub, Mul, Div, Mod}
@@ -40,17 +38,14 @@ use Rattle.il_spec.specs.declared.tree.Step.{Step}
 use Rattle.il_spec.specs.declared.tree.Body.{Body}
 use Rattle.il_spec.specs.declared.tree.UnitKind.{UnitKind}
 use Rattle.il_spec.specs.declared.tree.UnitKind.TheVariants as unit
-use Rattle.il_spec.specs.declared.tree.Unit.{Unit as ProgramUnit}
 use Rattle.il_spec.specs.declared.tree.Size.{Size}
 use Rattle.il_spec.specs.declared.tree.Task.{Task}
 use Rattle.il_spec.specs.declared.tree.ProgramLine.{ProgramLine}
-use Rattle.il_spec.specs.declared.tree.Config.{Config}
-use Rattle.il_spec.specs.Text.{name_of, upper_case, is_plain_decimal, is_grouped, is_grouped_after, entry_of, sign_bytes}
+use Rattle.il_spec.specs.Text.{name_of, upper_case, is_grouped, is_grouped_after, entry_of, sign_bytes}
 use Rattle.std.specs.Char.{is_ascii_digit}
-use Rattle.il_spec.specs.Words.{keyword_of, IsName}
-use Rattle.il_spec.specs.Grammar.{Front, Gap, tight, loose, is_line_end, skip_line_ends, ◌⟨◌⟩◌, ◌⨾◌, ◌⋯◌, AfterLines, Nothing, No, One, At, Repeats, Listed, TheEnd, IsPlace, is_nested, unit_word, end_word, HasItsLists}
-use Rattle.il_spec.specs.Grammar.{TheSign, TheLineEnd, ANumber, ATyped, TheWord, AWord, AName, TheName, SomeName, TheText, ADecimal, ALiteral, SpellsSubrange, SpellsScalar, SpellsForm, SpellsType, SpellsInitial, SpellsDeclaration, SpellsExternal, SpellsList, SpellsFilledList, SpellsOptionalList, SpellsIndex, SpellsReference, SpellsOperand, SpellsTarget, TheLetterN, BehindAmpersand, SpellsAmpersand, SpellsShortly, SpellsOperator, SpellsArgument, SpellsArguments, SpellsOperands, SpellsFirst, SpellsInstruction, SpellsLabel, SpellsLabelled, SpellsStep, SpellsLabelLine, SpellsBody, SpellsNoExternals, SpellsExternals, SpellsResult, SpellsUnit, SpellsSize, SpellsGlobals, SpellsTask, SpellsProgramLine, SpellsSizes, SpellsResource, SpellsConfig}
-use Rattle.il_grammar_laws.specs.Alike.{IsGap}
+use Rattle.il_spec.specs.Words.{keyword_of}
+use Rattle.il_spec.specs.Grammar.{Front, Gap, tight, loose, is_line_end, skip_line_ends, ◌⟨◌⟩◌, ◌⨾◌, ◌⋯◌, AfterLines, No, One, At, Repeats, Listed, TheEnd, is_nested, end_word}
+use Rattle.il_spec.specs.Grammar.{TheSign, TheLineEnd, ANumber, ATyped, TheWord, AWord, AName, TheName, SomeName, TheText, ADecimal, ALiteral, SpellsSubrange, SpellsScalar, SpellsForm, SpellsType, SpellsInitial, SpellsDeclaration, SpellsExternal, SpellsList, SpellsFilledList, SpellsOptionalList, SpellsIndex, SpellsReference, SpellsOperand, SpellsTarget, TheLetterN, SpellsOperator, SpellsArgument, SpellsArguments, SpellsOperands, SpellsFirst, SpellsInstruction, SpellsLabel, SpellsStep, SpellsLabelLine, SpellsBody, SpellsNoExternals, SpellsExternals, SpellsResult, SpellsUnit, SpellsSize, SpellsGlobals, SpellsTask, SpellsProgramLine, SpellsConfig}
 use Rattle.il_grammar_laws.specs.GoesOn.{Sample, IsOf, AreOf, Test, always, stops, lacks, quiet, calm, settled, IsSampled}
 
 -- the bytes of a reserved word
@@ -362,10 +357,6 @@ reading f one = record { stands = λ other vs rest a k. let p = one.stands other
 -- where more is asked
 pub sampled_under : {A : Type 0} {P : List ℕ → A → Front} {weak strong : Test} {ss : List Sample} → ((other : List ℕ) (vs : List Token) → strong other vs → weak other vs) → IsSampled weak P ss → IsSampled strong P ss
 sampled_under more one = record { stands = λ other vs rest a k. one.stands other vs rest a (more other rest k) }
-
--- where tokens of more samples pass the test, these may stand behind
-pub sampled_before : {A : Type 0} {P : List ℕ → A → Front} {first second : Test} {ss : List Sample} → ((other : List ℕ) (vs : List Token) → second other vs → first other vs) → IsSampled first P ss → IsSampled second P ss
-sampled_before more one = sampled_under more one
 
 -- behind any number of line ends
 pub after_lines : {A : Type 0} {P : List ℕ → A → Front} {test : Test} {s : Sample} {ss : List Sample} → is_line_end s.kind ≡ false → IsSampled test P (s ∷ ss) → IsSampled test (λ text (x : A). AfterLines (P text x)) (s ∷ ss)
@@ -786,8 +777,7 @@ function_rest_sampled =
 pub program_sampled : IsSampled always (λ text. SpellsUnit text) (word_sample word.Program ∷ name_sample ∷ body_samples word.EndProgram)
 program_sampled = record {
   stands = λ other vs rest a k.
-      let n = (next_lines refl (placed_word_sampled word.Program) (next the_name_sampled (inputs_rest_sampled unit.Program))).stands other vs rest a k in
-      (
+      let n = (next_lines refl (placed_word_sampled word.Program) (next the_name_sampled (inputs_rest_sampled unit.Program))).stands other vs rest a k in (
         record { place = n.0.0; kind = unit.Program; name = n.0.1.0; inputs = []; outputs = []; variables = []; externals = []; body = n.0.1.1 },
         ((refl, refl), (n.1.0, n.1.1, (n.1.2.0, n.1.2.1, (n.1.2.0, refl, n.1.2.2)))),
       );
@@ -796,8 +786,7 @@ program_sampled = record {
 pub block_sampled : IsSampled always (λ text. SpellsUnit text) (word_sample word.FunctionBlock ∷ name_sample ∷ body_samples word.EndFunctionBlock)
 block_sampled = record {
   stands = λ other vs rest a k.
-      let n = (next_lines refl (placed_word_sampled word.FunctionBlock) (next the_name_sampled (inputs_rest_sampled unit.FunctionBlock))).stands other vs rest a k in
-      (
+      let n = (next_lines refl (placed_word_sampled word.FunctionBlock) (next the_name_sampled (inputs_rest_sampled unit.FunctionBlock))).stands other vs rest a k in (
         record { place = n.0.0; kind = unit.FunctionBlock; name = n.0.1.0; inputs = []; outputs = []; variables = []; externals = []; body = n.0.1.1 },
         (tt, (n.1.0, n.1.1, (n.1.2.0, n.1.2.1, (n.1.2.0, refl, n.1.2.2)))),
       );
@@ -807,8 +796,7 @@ pub function_sampled : IsSampled always (λ text. SpellsUnit text)
     (word_sample word.Function ∷ name_sample ∷ result_samples ++ word_sample word.VarInput ∷ declaration_samples ++ word_sample word.EndVar ∷ body_samples word.EndFunction)
 function_sampled = record {
   stands = λ other vs rest a k.
-      let n = (next_lines refl (placed_word_sampled word.Function) (next the_name_sampled function_rest_sampled)).stands other vs rest a k in
-      (
+      let n = (next_lines refl (placed_word_sampled word.Function) (next the_name_sampled function_rest_sampled)).stands other vs rest a k in (
         record {
           place = n.0.0;
           kind = unit.Function n.0.1.1.0.1 n.0.1.1.0.0;
@@ -820,5 +808,171 @@ function_sampled = record {
           body = n.0.1.1.1.1;
         },
         ((omega arith, refl), n.1),
+      );
+}
+
+-- THE CONFIGURATION
+
+-- a size behind its word
+abbrev pub sized_samples : List Sample
+sized_samples = word_sample (word.Elementary elementary.Int) ∷ sign_sample Assign ∷ number_sample ∷ sign_sample Semicolon ∷ []
+
+abbrev pub size_samples : List ℕ → List Sample
+size_samples n = text_sample n ∷ sign_sample Colon ∷ sized_samples
+
+pub placed_decimal_sampled : IsSampled always (λ text (s : Size). At s.place (ADecimal text s.value) ⋯ TheSign Semicolon) (number_sample ∷ sign_sample Semicolon ∷ [])
+placed_decimal_sampled = reading (λ (x : (Place × ℤ) × Unit {0}). record { place = x.0.0; value = x.0.1 }) (next_lines refl (placed decimal_sampled) (sign_sampled Semicolon))
+
+pub sized_sampled : IsSampled always (λ text (s : Size). TheWord text (word.Elementary elementary.Int) ⋯ TheSign Assign ⋯ At s.place (ADecimal text s.value) ⋯ TheSign Semicolon) sized_samples
+sized_sampled = reading (λ (x : Unit {0} × (Unit {0} × Size)). x.1.1) (next_lines refl (word_sampled (word.Elementary elementary.Int)) (next_lines refl (sign_sampled Assign) placed_decimal_sampled))
+
+pub size_sampled : (n : List ℕ) → bytes_eq (upper_case n) n ≡ true → IsSampled always (λ text. SpellsSize text n) (size_samples n)
+size_sampled n same = reading (λ (x : Unit {0} × (Unit {0} × Size)). x.1.1) (next_lines refl (text_sampled n same) (next_lines refl (sign_sampled Colon) sized_sampled))
+
+-- the last two sizes, and the three
+abbrev pub floors_samples : List Sample
+floors_samples = size_samples (codes "FLOORS") ++ size_samples (codes "SLOTS") ++ word_sample word.EndVar ∷ []
+
+pub slots_sampled : IsSampled always (λ text (s : Size). SpellsSize text (codes "SLOTS") s ⋯ TheWord text word.EndVar) (size_samples (codes "SLOTS") ++ word_sample word.EndVar ∷ [])
+slots_sampled = reading (λ (x : Size × Unit {0}). x.0) (next_lines refl (size_sampled (codes "SLOTS") refl) (word_sampled word.EndVar))
+
+pub floors_sampled : IsSampled always (λ text (x : Size × Size). SpellsSize text (codes "FLOORS") x.0 ⋯ SpellsSize text (codes "SLOTS") x.1 ⋯ TheWord text word.EndVar) floors_samples
+floors_sampled = next_lines refl (size_sampled (codes "FLOORS") refl) slots_sampled
+
+abbrev pub three_samples : List Sample
+three_samples = word_sample word.VarGlobal ∷ word_sample word.Constant ∷ size_samples (codes "CARS") ++ floors_samples
+
+-- the three behind CONSTANT
+pub cars_sampled : IsSampled always (λ text (x : Size × (Size × Size)). SpellsSize text (codes "CARS") x.0 ⋯ SpellsSize text (codes "FLOORS") x.1.0 ⋯ SpellsSize text (codes "SLOTS") x.1.1 ⋯ TheWord text word.EndVar) (size_samples (codes "CARS") ++ floors_samples)
+cars_sampled = next_lines refl (size_sampled (codes "CARS") refl) floors_sampled
+
+pub three_sampled : IsSampled always (λ text (x : Size × (Size × Size)). TheWord text word.VarGlobal ⋯ TheWord text word.Constant ⋯ SpellsSize text (codes "CARS") x.0 ⋯ SpellsSize text (codes "FLOORS") x.1.0 ⋯ SpellsSize text (codes "SLOTS") x.1.1
+    ⋯ TheWord text word.EndVar) three_samples
+three_sampled = reading (λ (x : Unit {0} × (Unit {0} × (Size × (Size × Size)))). x.1.1) (next_lines refl (word_sampled word.VarGlobal) (next_lines refl (word_sampled word.Constant) cars_sampled))
+
+-- no globals, or an empty list of them
+pub no_globals_sampled : IsSampled (lacks word.VarGlobal) (λ text (u : Unit {0}). SpellsGlobals text None []) []
+no_globals_sampled = record { stands = λ other vs rest a l. let n = (lacking_sampled word.VarGlobal).stands other vs rest a l in (tt, (refl, n.1)) }
+
+pub globals_sampled : IsSampled (lacks word.VarGlobal) (λ text (x : Option Place × List Declaration). SpellsGlobals text x.0 x.1) []
+globals_sampled = reading (λ (u : Unit {0}). (None, [])) no_globals_sampled
+
+-- a task, from each of its parts on
+abbrev pub priority_samples : List Sample
+priority_samples = word_sample word.Priority ∷ sign_sample Assign ∷ number_sample ∷ sign_sample CloseParenthesis ∷ sign_sample Semicolon ∷ []
+
+pub priority_sampled : IsSampled always (λ text (v : ℤ). TheWord text word.Priority ⋯ TheSign Assign ⋯ ADecimal text v ⋯ TheSign CloseParenthesis ⋯ TheSign Semicolon) priority_samples
+priority_sampled =
+    reading (λ (x : Unit {0} × (Unit {0} × (ℤ × (Unit {0} × Unit {0})))). x.1.1.0)
+    (next_lines refl (word_sampled word.Priority) (next_lines refl (sign_sampled Assign) (next_lines refl decimal_sampled (next_lines refl (sign_sampled CloseParenthesis) (sign_sampled Semicolon)))))
+
+abbrev pub schedule_samples : List Sample
+schedule_samples = time_sample ∷ sign_sample Comma ∷ priority_samples
+
+pub schedule_sampled : IsSampled always (λ text (x : ℤ × ℤ). ATyped (literal.Time x.0) ⋯ TheSign Comma ⋯ TheWord text word.Priority ⋯ TheSign Assign ⋯ ADecimal text x.1 ⋯ TheSign CloseParenthesis ⋯ TheSign Semicolon) schedule_samples
+schedule_sampled = reading (λ (x : ℤ × (Unit {0} × ℤ)). (x.0, x.1.1)) (next_lines refl interval_sampled (next_lines refl (sign_sampled Comma) priority_sampled))
+
+abbrev pub times_samples : List Sample
+times_samples = sign_sample OpenParenthesis ∷ word_sample word.Interval ∷ sign_sample Assign ∷ schedule_samples
+
+pub times_sampled : IsSampled always (λ text (x : ℤ × ℤ). TheSign OpenParenthesis ⋯ TheWord text word.Interval ⋯ TheSign Assign ⋯ ATyped (literal.Time x.0) ⋯ TheSign Comma ⋯ TheWord text word.Priority ⋯ TheSign Assign ⋯ ADecimal text x.1
+    ⋯ TheSign CloseParenthesis ⋯ TheSign Semicolon) times_samples
+times_sampled =
+    reading (λ (x : Unit {0} × (Unit {0} × (Unit {0} × (ℤ × ℤ)))). x.1.1.1) (next_lines refl (sign_sampled OpenParenthesis) (next_lines refl (word_sampled word.Interval) (next_lines refl (sign_sampled Assign) schedule_sampled)))
+
+pub task_sampled : IsSampled always (λ text. SpellsTask text) (word_sample word.Task ∷ name_sample ∷ times_samples)
+task_sampled =
+    reading (λ (x : Place × (Named × (ℤ × ℤ))). record { place = x.0; name = x.1.0; interval = x.1.1.0; priority = x.1.1.1 })
+    (next_lines refl (placed_word_sampled word.Task) (next_lines refl the_name_sampled times_sampled))
+
+-- a line of a program, from each of its parts on
+pub program_name_sampled : IsSampled always (λ text (n : Named). TheName text n ⋯ TheSign Semicolon) (name_sample ∷ sign_sample Semicolon ∷ [])
+program_name_sampled = reading (λ (x : Named × Unit {0}). x.0) (next_lines refl the_name_sampled (sign_sampled Semicolon))
+
+pub bound_sampled : IsSampled always (λ text (x : Named × Named). TheName text x.0 ⋯ TheSign Colon ⋯ TheName text x.1 ⋯ TheSign Semicolon) (name_sample ∷ sign_sample Colon ∷ name_sample ∷ sign_sample Semicolon ∷ [])
+bound_sampled = reading (λ (x : Named × (Unit {0} × Named)). (x.0, x.1.1)) (next_lines refl the_name_sampled (next_lines refl (sign_sampled Colon) program_name_sampled))
+
+abbrev pub with_samples : List Sample
+with_samples = word_sample word.With ∷ name_sample ∷ sign_sample Colon ∷ name_sample ∷ sign_sample Semicolon ∷ []
+
+pub with_sampled : IsSampled always (λ text (x : Named × Named). TheWord text word.With ⋯ TheName text x.0 ⋯ TheSign Colon ⋯ TheName text x.1 ⋯ TheSign Semicolon) with_samples
+with_sampled = reading (λ (x : Unit {0} × (Named × Named)). x.1) (next_lines refl (word_sampled word.With) bound_sampled)
+
+pub program_line_sampled : IsSampled always (λ text. SpellsProgramLine text) (word_sample word.Program ∷ name_sample ∷ with_samples)
+program_line_sampled =
+    reading (λ (x : Place × (Named × (Named × Named))). record { place = x.0; name = x.1.0; task = x.1.1.0; program = x.1.1.1 })
+    (next_lines refl (placed_word_sampled word.Program) (next_lines refl the_name_sampled with_sampled))
+
+-- the rest of a resource, behind ON and its name, or a task, or a program
+pub programs_end_sampled : IsSampled always (λ text (x : List ProgramLine × Place). Repeats (SpellsProgramLine text) x.0 (At x.1 (TheWord text word.EndResource))) (word_sample word.EndResource ∷ [])
+programs_end_sampled = none_more (placed_word_sampled word.EndResource)
+
+pub lines_sampled : IsSampled always (λ text (x : List Task × (List ProgramLine × Place)). Repeats (SpellsTask text) x.0 (Repeats (SpellsProgramLine text) x.1.0 (At x.1.1 (TheWord text word.EndResource)))) (word_sample word.EndResource ∷ [])
+lines_sampled = none_more programs_end_sampled
+
+abbrev pub on_samples : List Sample
+on_samples = word_sample word.On ∷ name_sample ∷ word_sample word.EndResource ∷ []
+
+abbrev pub resource_samples : List Sample
+resource_samples = word_sample word.Resource ∷ name_sample ∷ on_samples
+
+pub on_sampled : IsSampled always (λ text (x : List Task × (List ProgramLine × Place)). TheWord text word.On ⋯ SomeName text ⋯ Repeats (SpellsTask text) x.0 (Repeats (SpellsProgramLine text) x.1.0 (At x.1.1 (TheWord text word.EndResource)))) on_samples
+on_sampled = reading (λ (x : Unit {0} × (Unit {0} × (List Task × (List ProgramLine × Place)))). x.1.1) (next_lines refl (word_sampled word.On) (next_lines refl some_name_sampled lines_sampled))
+
+pub resource_sampled : IsSampled always (λ text (x : List Task × (List ProgramLine × Place)). TheWord text word.Resource ⋯ SomeName text ⋯ TheWord text word.On ⋯ SomeName text
+    ⋯ Repeats (SpellsTask text) x.0 (Repeats (SpellsProgramLine text) x.1.0 (At x.1.1 (TheWord text word.EndResource)))) resource_samples
+resource_sampled = reading (λ (x : Unit {0} × (Unit {0} × (List Task × (List ProgramLine × Place)))). x.1.1) (next_lines refl (word_sampled word.Resource) (next_lines refl some_name_sampled on_sampled))
+
+-- nothing stands behind: what the end of the text asks
+abbrev pub ended : Test
+ended other vs = vs ≡ []
+
+pub the_end_sampled : IsSampled ended (λ text (u : Unit {0}). TheEnd) []
+the_end_sampled = record { stands = λ other vs rest a k. (tt, (a ∙ k, k)) }
+
+pub end_sampled : IsSampled ended (λ text (u : Unit {0}). TheWord text word.EndConfiguration ⋯ TheEnd) (word_sample word.EndConfiguration ∷ [])
+end_sampled = record {
+  stands = λ other vs rest a k.
+      let w = (word_sampled word.EndConfiguration).stands other vs rest a tt in
+      (tt, (rest, w.1, (ap skip_line_ends k, k)));
+}
+
+-- the resource and the end
+pub ending_sampled : IsSampled ended (λ text (x : List Task × (List ProgramLine × Place)). (TheWord text word.Resource ⋯ SomeName text ⋯ TheWord text word.On ⋯ SomeName text
+    ⋯ Repeats (SpellsTask text) x.0 (Repeats (SpellsProgramLine text) x.1.0 (At x.1.1 (TheWord text word.EndResource)))) ⋯ TheWord text word.EndConfiguration ⋯ TheEnd) (resource_samples ++ word_sample word.EndConfiguration ∷ [])
+ending_sampled = reading (λ (x : (List Task × (List ProgramLine × Place)) × Unit {0}). x.0) (next_lines refl resource_sampled end_sampled)
+
+abbrev pub ending_samples : List Sample
+ending_samples = resource_samples ++ word_sample word.EndConfiguration ∷ []
+
+-- the same, where a list of globals may stand before it
+pub globals_ending_sampled : IsSampled ended (λ text (x : List Task × (List ProgramLine × Place)). SpellsGlobals text None [] ⋯ (TheWord text word.Resource ⋯ SomeName text ⋯ TheWord text word.On ⋯ SomeName text
+    ⋯ Repeats (SpellsTask text) x.0 (Repeats (SpellsProgramLine text) x.1.0 (At x.1.1 (TheWord text word.EndResource)))) ⋯ TheWord text word.EndConfiguration ⋯ TheEnd) ending_samples
+globals_ending_sampled =
+    reading (λ (x : Unit {0} × (List Task × (List ProgramLine × Place))). x.1)
+    (in_turn loose (λ other us rest a k. begins_lacking (word_sample word.Resource) (name_sample ∷ on_samples ++ word_sample word.EndConfiguration ∷ []) word.VarGlobal refl (λ is e. let same : Some word.Resource ≡ Some word.VarGlobal = sym (word_known word.Resource) ∙ e in cc) other us rest a)
+    (λ other us rest a. begins_solid (word_sample word.Resource) (name_sample ∷ on_samples ++ word_sample word.EndConfiguration ∷ []) refl other us rest a) no_globals_sampled ending_sampled)
+
+-- a configuration, from the word on, and without units
+abbrev pub config_samples : List Sample
+config_samples = word_sample word.Configuration ∷ name_sample ∷ three_samples ++ ending_samples
+
+pub config_sampled : IsSampled ended (λ text. SpellsConfig text) config_samples
+config_sampled = record {
+  stands = λ other vs rest a k.
+      let n = (next_lines refl (word_sampled word.Configuration) (next_lines refl some_name_sampled (next three_sampled globals_ending_sampled))).stands other vs rest a k in
+      let x = n.0.1.1 in (
+        record {
+          units = [];
+          cars = x.0.0;
+          floors = x.0.1.0;
+          slots = x.0.1.1;
+          globals_place = None;
+          globals = [];
+          tasks = x.1.0;
+          programs = x.1.1.0;
+          end_resource = x.1.1.1;
+        },
+        n.1,
       );
 }

@@ -2,11 +2,12 @@
 --
 -- `at` is the end of a list of tokens, from the token in question on, and `[]` for the end of the text. Another text is cut there
 -- where its tokens are those before the first of `at`, of the same bytes, and then others.
-use Rattle.std.specs.Prelude.{◌≡◌, ◌⊎◌, ◌<◌, ℕ, List, [], ◌∷◌, length, slice_range, ⊤}
+use Rattle.std.specs.Prelude.{◌≡◌, ◌⊎◌, ◌<◌, ℕ, List, [], ◌∷◌, ◌++◌, length, slice_range, ⊤}
 use Rattle.il_spec.specs.declared.token.Token.{Token}
 use Rattle.il_spec.specs.declared.token.Kind.{Kind}
 use Rattle.il_spec.specs.declared.token.Sign.TheVariants.{OpenParenthesis, OpenBracket, Dot}
 use Rattle.il_spec.specs.declared.keyword.Keyword.{Keyword}
+use Rattle.il_spec.specs.Text.{space, IsLexeme}
 use Rattle.il_spec.specs.Grammar.{Front, skip_line_ends, AfterLines, TheSign, TheWord, TheLetterN}
 use Rattle.il_grammar_laws.specs.Alike.{HasSameBytes, IsEndOf}
 
@@ -14,6 +15,15 @@ use Rattle.il_grammar_laws.specs.Alike.{HasSameBytes, IsEndOf}
 pub record Sample : Type 0 where
   pub kind : Kind
   pub bytes : List ℕ
+
+-- with a space behind them, a sample's bytes are a token of its kind (own rule)
+pub record IsPrintable (s : Sample) : Type 0 where
+  pub lexeme : IsLexeme (s.bytes ++ space ∷ []) s.kind 0 (length s.bytes)
+
+-- each of these is so (own rule)
+abbrev pub ArePrintable : List Sample → Type 0
+ArePrintable [] = ⊤
+ArePrintable (s ∷ ss) = IsPrintable s × ArePrintable ss
 
 -- a token of a text is of this sample (own rule)
 abbrev pub IsOf : List ℕ → Sample → Token → Type 0

@@ -7,7 +7,7 @@ use Rattle.il_spec.specs.declared.tree.Reference.{Reference}
 use Rattle.il_spec.specs.declared.tree.Reference.TheVariants as reference
 use Rattle.il_spec.specs.declared.tree.Argument.{Argument}
 use Rattle.il_spec.specs.declared.tree.Argument.TheVariants as argument
-use Rattle.il_spec.specs.Grammar.{Front, Gap, loose, ◌⟨◌⟩◌, ◌⨾◌, ◌⋯◌, No, TheSign, TheName, AWord, SpellsIndex, SpellsOperand}
+use Rattle.il_spec.specs.Grammar.{Front, Gap, loose, ◌⟨◌⟩◌, ◌⨾◌, ◌⋯◌, No, TheSign, TheName, AWord, IsPlace, SpellsIndex, SpellsReference, SpellsOperand}
 use Rattle.il_read.specs.declared.operand.Selector.{Selector}
 use Rattle.il_read.specs.declared.operand.Selector.TheVariants as selector
 use Rattle.il_read.specs.declared.operand.Passed.{Passed}
@@ -28,6 +28,10 @@ abbrev pub reference_of : List ℕ → Selector → Reference
 reference_of name selector.Whole = reference.Variable name
 reference_of name (selector.Element i) = reference.Element name i
 reference_of name (selector.Member m) = reference.Member name m
+
+-- a variable, an element or a member
+abbrev pub SpellsSelected : List ℕ → Gap → Reference → Front
+SpellsSelected text gap r ts rest = IsPlace r × SpellsReference text gap r ts rest
 
 -- what an argument passes
 abbrev pub SpellsPassed : List ℕ → Passed → Front

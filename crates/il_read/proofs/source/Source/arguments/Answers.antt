@@ -1,9 +1,13 @@
-use Rattle.std.proofs.Common.{arith}
+use Rattle.std.proofs.Common.{arith, refl}
 use Rattle.il_spec.specs.declared.token.Sign.TheVariants.{OpenParenthesis}
 use Rattle.il_spec.specs.Grammar.{TheSign}
 use Rattle.il_read.proofs.Chain.{up, was_there, was_missing}
 use Rattle.il_read.proofs.Instructions.{none_opens, opened_refused, arguments_read}
 use Rattle.il_read.proofs.Through.{ok_through, err_through}
+use Rattle.il_read.proofs.Completions.{arguments_is, opened_sampled}
+use Rattle.il_grammar_laws.proofs.Samples.{arguments_sampled}
+use Rattle.il_read.proofs.Breaks.{at_first, map_breaks, part_loose, up_breaks}
+use Rattle.il_grammar_laws.proofs.Open.{sign_fills}
 use Rattle.il_read.proofs.source.Source.arguments.Goals as goal
 
 pub returns-in_err-line_end-clause-refused : goal.returns-in_err-line_end-clause-refused
@@ -23,3 +27,13 @@ returns-clause-reads c = ok_through c.opened.result c.opened.ensures.reads (λ x
 
 pub returns-clause-shorter : goal.returns-clause-shorter
 returns-clause-shorter c = ok_through c.opened.result c.opened.ensures.shorter (λ x less. omega (arith, less, c.eat_sign.ensures.shorter, c.skip_lines.ensures.shorter))
+
+pub returns-in_err-line_end-clause-begins : goal.returns-in_err-line_end-clause-begins
+returns-in_err-line_end-clause-begins c = 
+    let none = was_missing (TheSign OpenParenthesis) c.args.tokens.now _ c.eat_sign.new.tokens c.eat_sign.ensures.eaten c.if-not-eat_sign.true in
+    up_breaks _ c.from_residual.ensures.1 (at_first arguments_sampled (rw none.0 at c.in_err-line_end.ensures.first))
+
+pub returns-clause-begins : goal.returns-clause-begins
+returns-clause-begins c = err_through c.opened.result c.opened.ensures.begins (λ e bad.
+    let there = was_there (TheSign OpenParenthesis) c.args.tokens.now _ c.eat_sign.new.tokens c.eat_sign.ensures.eaten c.if-not-eat_sign.false in
+    (map_breaks (λ x. x) arguments_is (part_loose (sign_fills OpenParenthesis) (record { found = there }) opened_sampled refl (rw c.skip_lines.ensures.rest at bad))))

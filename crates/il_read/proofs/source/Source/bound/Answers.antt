@@ -4,6 +4,11 @@ use Rattle.il_read.specs.Settings.{SpellsProgramName}
 use Rattle.il_read.proofs.Chain.{up, first, later, first_missing, behind, part}
 use Rattle.il_grammar_laws.proofs.Local.{sign_local, the_name_local}
 use Rattle.il_grammar_laws.proofs.Alike.{loose_gap}
+use Rattle.il_read.proofs.Breaks.{at_first, later_loose, map_breaks, part_loose, s_loose, s_part, up_breaks}
+use Rattle.il_read.proofs.Completions.{program_name_sampled, the_name_filling}
+use Rattle.std.proofs.Common.{refl}
+use Rattle.il_grammar_laws.proofs.Open.{sign_fills}
+use Rattle.il_grammar_laws.proofs.Samples.{sign_sampled, the_name_sampled}
 use Rattle.il_read.proofs.source.Source.bound.Goals as goal
 
 pub returns-in_err-task-clause-refused : goal.returns-in_err-task-clause-refused
@@ -26,3 +31,15 @@ returns-in_err-program-clause-refused c =
 pub returns-clause-reads : goal.returns-clause-reads
 returns-clause-reads c =
     record { found = (_, c.in_ok-task.ensures.reads.found, (_, (rw c.skip_lines.ensures.rest at c.in_ok-sign.ensures.reads).found, (rw c.skip_lines-2.ensures.rest at c.in_ok-program.ensures.reads).found)) }
+
+pub returns-in_err-task-clause-begins : goal.returns-in_err-task-clause-begins
+returns-in_err-task-clause-begins c =
+    up_breaks _ c.from_residual.ensures.1 (map_breaks (λ x. x) (λ x other us r w. w) (at_first (s_loose (the_name_sampled) (s_part (sign_sampled Colon) (program_name_sampled) refl) refl) c.in_err-task.ensures.first))
+
+pub returns-in_err-sign-clause-begins : goal.returns-in_err-sign-clause-begins
+returns-in_err-sign-clause-begins c =
+    up_breaks _ c.from_residual-in_err-sign.ensures.1 (map_breaks (λ x. x) (λ x other us r w. w) (later_loose (the_name_filling) c.in_ok-task.ensures.reads (s_part (sign_sampled Colon) (program_name_sampled) refl) refl (at_first (s_part (sign_sampled Colon) (program_name_sampled) refl) (rw c.skip_lines.ensures.rest at c.in_err-sign.ensures.first))))
+
+pub returns-in_err-program-clause-begins : goal.returns-in_err-program-clause-begins
+returns-in_err-program-clause-begins c =
+    up_breaks _ c.from_residual-in_err-program.ensures.1 (map_breaks (λ x. x) (λ x other us r w. w) (later_loose (the_name_filling) c.in_ok-task.ensures.reads (s_part (sign_sampled Colon) (program_name_sampled) refl) refl (part_loose (sign_fills Colon) (rw c.skip_lines.ensures.rest at c.in_ok-sign.ensures.reads) (program_name_sampled) refl (rw c.skip_lines-2.ensures.rest at c.in_err-program.ensures.begins))))

@@ -1,4 +1,4 @@
-use Rattle.std.proofs.Common.{arith}
+use Rattle.std.proofs.Common.{arith, refl}
 use Rattle.il_spec.specs.declared.token.Sign.TheVariants.{CloseBracket}
 use Rattle.il_spec.specs.Grammar.{TheSign}
 use Rattle.il_read.specs.Reads.{gap_of}
@@ -6,6 +6,10 @@ use Rattle.il_read.proofs.Chain.{up, first, later, last_missing}
 use Rattle.il_read.proofs.Through.{ok_both, ok_through, err_through}
 use Rattle.il_grammar_laws.proofs.Local.{index_local}
 use Rattle.il_read.proofs.Alternatives.{gap_is}
+use Rattle.il_read.proofs.Breaks.{at_first, map_breaks, up_breaks}
+use Rattle.il_read.proofs.Completions.{element_sampled, index_filling, later_gap}
+use Rattle.il_grammar_laws.proofs.Samples.{sign_sampled}
+use Rattle.il_read.specs.Operands.{SpellsElement}
 use Rattle.il_read.proofs.source.Source.element.Goals as goal
 
 pub returns-in_err-index-clause-refused : goal.returns-in_err-index-clause-refused
@@ -21,3 +25,10 @@ returns-clause-reads c = ok_both c.closed.result c.closed.ensures.value c.closed
 
 pub returns-clause-shorter : goal.returns-clause-shorter
 returns-clause-shorter c = ok_through c.closed.result c.closed.ensures.shorter (λ x less. omega (arith, less, c.in_ok-index.ensures.shorter, c.pass.ensures.shorter))
+
+pub returns-in_err-index-clause-begins : goal.returns-in_err-index-clause-begins
+returns-in_err-index-clause-begins c = up_breaks _ c.from_residual.ensures.1 (at_first (element_sampled c.args.gap) c.in_err-index.ensures.first)
+
+pub returns-clause-begins : goal.returns-clause-begins
+returns-clause-begins c = err_through c.closed.result c.closed.ensures.first (λ e bad.
+    (map_breaks {Q = λ text. SpellsElement text (gap_of c.args.gap)} (λ x. x.0) (λ x other us r w. w) (later_gap {Q = λ text (u : Unit {0}). TheSign CloseBracket} c.args.gap index_filling c.in_ok-index.ensures.reads (sign_sampled CloseBracket) refl (at_first (sign_sampled CloseBracket) (rw c.pass.ensures.rest at bad)))))

@@ -1,4 +1,4 @@
-use Rattle.std.proofs.Common.{arith}
+use Rattle.std.proofs.Common.{arith, refl}
 use Rattle.il_spec.specs.declared.token.Sign.TheVariants.{CloseBracket}
 use Rattle.il_spec.specs.declared.keyword.Keyword.TheVariants as word
 use Rattle.il_spec.specs.Grammar.{loose, ◌⋯◌, TheWord, SpellsScalar}
@@ -6,6 +6,9 @@ use Rattle.il_read.proofs.Chain.{up, first_missing, behind}
 use Rattle.il_read.proofs.Through.{ok_through, err_through}
 use Rattle.il_grammar_laws.proofs.Local.{sign_local, word_local}
 use Rattle.il_grammar_laws.proofs.Alike.{loose_gap}
+use Rattle.il_read.proofs.Breaks.{at_first, map_breaks, part_loose, s_part, up_breaks}
+use Rattle.il_grammar_laws.proofs.Samples.{scalar_sampled, sign_sampled, word_sampled}
+use Rattle.il_grammar_laws.proofs.Open.{sign_fills, word_fills}
 use Rattle.il_read.proofs.source.Source.element_type.Goals as goal
 
 pub returns-in_err-sign-clause-refused : goal.returns-in_err-sign-clause-refused
@@ -30,3 +33,15 @@ returns-clause-reads c = ok_through c.scalar.result c.scalar.ensures.reads (λ x
 
 pub returns-clause-shorter : goal.returns-clause-shorter
 returns-clause-shorter c = ok_through c.scalar.result c.scalar.ensures.shorter (λ x less. omega (arith, less, c.in_ok-sign.ensures.shorter, c.skip_lines.ensures.shorter, c.in_ok-word.ensures.shorter, c.skip_lines-2.ensures.shorter))
+
+pub returns-in_err-sign-clause-begins : goal.returns-in_err-sign-clause-begins
+returns-in_err-sign-clause-begins c =
+    up_breaks _ c.from_residual.ensures.1 (map_breaks (λ x. x) (λ x other us r w. w) (at_first (s_part (sign_sampled CloseBracket) (s_part (word_sampled word.Of) (scalar_sampled) refl) refl) c.in_err-sign.ensures.first))
+
+pub returns-in_err-word-clause-begins : goal.returns-in_err-word-clause-begins
+returns-in_err-word-clause-begins c =
+    up_breaks _ c.from_residual-in_err-word.ensures.1 (map_breaks (λ x. x) (λ x other us r w. w) (part_loose (sign_fills CloseBracket) c.in_ok-sign.ensures.reads (s_part (word_sampled word.Of) (scalar_sampled) refl) refl (at_first (s_part (word_sampled word.Of) (scalar_sampled) refl) (rw c.skip_lines.ensures.rest at c.in_err-word.ensures.first))))
+
+pub returns-clause-begins : goal.returns-clause-begins
+returns-clause-begins c = err_through c.scalar.result c.scalar.ensures.begins (λ e bad.
+    (map_breaks (λ x. x) (λ x other us r w. w) (part_loose (sign_fills CloseBracket) c.in_ok-sign.ensures.reads (s_part (word_sampled word.Of) (scalar_sampled) refl) refl (part_loose (word_fills word.Of) (rw c.skip_lines.ensures.rest at c.in_ok-word.ensures.reads) (scalar_sampled) refl (rw c.skip_lines-2.ensures.rest at bad)))))

@@ -4,6 +4,9 @@ use Rattle.il_read.proofs.Chain.{up, first, later, last_missing}
 use Rattle.il_read.proofs.Through.{ok_both, ok_through, err_through}
 use Rattle.il_grammar_laws.proofs.Local.{the_name_local}
 use Rattle.il_grammar_laws.proofs.Alike.{tight_gap}
+use Rattle.il_read.proofs.Breaks.{at_first, later_tight, map_breaks, s_tight, up_breaks}
+use Rattle.il_grammar_laws.proofs.Samples.{line_end_sampled, the_name_sampled}
+use Rattle.il_read.proofs.Completions.{the_name_filling}
 use Rattle.il_read.proofs.source.Source.name_line.Goals as goal
 
 pub returns-in_err-name-clause-refused : goal.returns-in_err-name-clause-refused
@@ -18,3 +21,11 @@ returns-clause-reads c = ok_both c.ended.result c.ended.ensures.value c.ended.en
 
 pub returns-clause-shorter : goal.returns-clause-shorter
 returns-clause-shorter c = ok_through c.ended.result c.ended.ensures.shorter (λ x less. omega (arith, less, c.in_ok-name.ensures.shorter))
+
+pub returns-in_err-name-clause-begins : goal.returns-in_err-name-clause-begins
+returns-in_err-name-clause-begins c =
+    up_breaks _ c.from_residual.ensures.1 (map_breaks (λ x. x.0) (λ x other us r w. w) (at_first (s_tight (the_name_sampled) (line_end_sampled)) c.in_err-name.ensures.first))
+
+pub returns-clause-begins : goal.returns-clause-begins
+returns-clause-begins c = err_through c.ended.result c.ended.ensures.first (λ e bad.
+    (map_breaks (λ x. x.0) (λ x other us r w. w) (later_tight (the_name_filling) c.in_ok-name.ensures.reads (line_end_sampled) (at_first (line_end_sampled) bad))))

@@ -1,6 +1,8 @@
 use Rattle.std.proofs.Common.{◌∙◌}
 use Rattle.il_read.proofs.Instructions.{listed_read, listed_refused}
 use Rattle.il_read.proofs.Through.{ok_through, err_through}
+use Rattle.il_read.proofs.Breaks.{map_breaks}
+use Rattle.il_read.proofs.Completions.{operands_is}
 use Rattle.il_read.proofs.source.Source.operands.Goals as goal
 
 pub returns-clause-refused : goal.returns-clause-refused
@@ -10,3 +12,6 @@ returns-clause-refused c = err_through c.some_operands.result c.some_operands.en
 pub returns-clause-reads : goal.returns-clause-reads
 returns-clause-reads c = ok_through c.some_operands.result c.some_operands.ensures.reads (λ x here.
     listed_read c.args.self.now _ _ _ here)
+
+pub returns-clause-begins : goal.returns-clause-begins
+returns-clause-begins c = err_through c.some_operands.result c.some_operands.ensures.begins (λ e bad. map_breaks (λ x. x) operands_is bad)

@@ -2,6 +2,7 @@ use Rattle.std.proofs.Common.{arith, inl}
 use Rattle.il_read.proofs.Leaves.{word_there}
 use Rattle.il_read.proofs.Instructions.{work_refused, work_read}
 use Rattle.il_read.proofs.Through.{ok_through, err_through}
+use Rattle.il_read.proofs.Completions.{operator_breaks}
 use Rattle.il_read.proofs.source.Source.operate.Goals as goal
 
 pub returns-clause-refused : goal.returns-clause-refused
@@ -14,3 +15,7 @@ returns-clause-reads c = ok_through c.work.result c.work.ensures.reads (λ x her
 
 pub returns-clause-shorter : goal.returns-clause-shorter
 returns-clause-shorter c = ok_through c.work.result c.work.ensures.shorter (λ x less. omega (arith, less, c.advance.ensures.shorter))
+
+pub returns-clause-begins : goal.returns-clause-begins
+returns-clause-begins c = err_through c.work.result c.work.ensures.begins (λ e bad.
+    (operator_breaks _ _ (inl (word_there c.args.self.now _ _ c.requires)) (rw c.advance.ensures.rest at bad)))

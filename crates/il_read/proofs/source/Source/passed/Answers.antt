@@ -1,10 +1,16 @@
-use Rattle.std.proofs.Common.{arith}
+use Rattle.std.proofs.Common.{arith, refl}
 use Rattle.il_spec.specs.declared.token.Sign.TheVariants.{Assign, Arrow}
 use Rattle.il_spec.specs.Grammar.{loose, TheSign, TheName}
 use Rattle.il_read.proofs.Chain.{up, was_there, was_missing, first_missing, behind}
 use Rattle.il_read.proofs.Alternatives.{input_refused, output_refused}
 use Rattle.il_grammar_laws.proofs.Local.{sign_local}
 use Rattle.il_grammar_laws.proofs.Alike.{loose_gap}
+use Rattle.il_read.specs.declared.operand.Passed.TheVariants as passed
+use Rattle.il_read.proofs.Completions.{any_passed_sampled}
+use Rattle.il_grammar_laws.proofs.GoesOn.{any_sampled}
+use Rattle.il_read.proofs.Breaks.{at_first, map_breaks, part_loose, up_breaks}
+use Rattle.il_grammar_laws.proofs.Samples.{operand_sampled, the_name_sampled}
+use Rattle.il_grammar_laws.proofs.Open.{sign_fills}
 use Rattle.il_read.proofs.source.Source.passed.Goals as goal
 
 pub returns-in_err-operand-clause-refused : goal.returns-in_err-operand-clause-refused
@@ -30,3 +36,19 @@ returns-clause-reads c =
 
 pub returns-clause-shorter : goal.returns-clause-shorter
 returns-clause-shorter c = omega (arith, c.eat_sign.ensures.shorter, c.in_ok-sign.ensures.shorter, c.skip_lines-2.ensures.shorter, c.in_ok-named.ensures.shorter)
+
+pub returns-in_err-operand-clause-begins : goal.returns-in_err-operand-clause-begins
+returns-in_err-operand-clause-begins c = 
+    let assign = was_there (TheSign Assign) c.args.tokens.now _ c.eat_sign.new.tokens c.eat_sign.ensures.eaten c.if-eat_sign.true in
+    up_breaks _ c.from_residual.ensures.1 (map_breaks (λ x. passed.Input x) (λ x other us r w. w) (part_loose (sign_fills Assign) (record { found = assign }) (any_sampled (operand_sampled loose)) refl (rw c.skip_lines.ensures.rest at c.in_err-operand.ensures.begins)))
+
+pub returns-in_err-sign-clause-begins : goal.returns-in_err-sign-clause-begins
+returns-in_err-sign-clause-begins c = 
+    let none = was_missing (TheSign Assign) c.args.tokens.now _ c.eat_sign.new.tokens c.eat_sign.ensures.eaten c.if-eat_sign.false in
+    up_breaks _ c.from_residual-in_err-sign.ensures.1 (at_first any_passed_sampled (rw none.0 at c.in_err-sign.ensures.first))
+
+pub returns-in_err-named-clause-begins : goal.returns-in_err-named-clause-begins
+returns-in_err-named-clause-begins c = 
+    let none = was_missing (TheSign Assign) c.args.tokens.now _ c.eat_sign.new.tokens c.eat_sign.ensures.eaten c.if-eat_sign.false in
+    up_breaks _ c.from_residual-in_err-named.ensures.1 (map_breaks (λ x. passed.Output x) (λ x other us r w. w)
+    (part_loose (sign_fills Arrow) (rw none.0 at c.in_ok-sign.ensures.reads) (any_sampled the_name_sampled) refl (at_first (any_sampled the_name_sampled) (rw c.skip_lines-2.ensures.rest at c.in_err-named.ensures.first))))

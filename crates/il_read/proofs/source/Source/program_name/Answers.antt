@@ -1,10 +1,13 @@
-use Rattle.std.proofs.Common.{arith}
+use Rattle.std.proofs.Common.{arith, refl}
 use Rattle.il_spec.specs.declared.token.Sign.TheVariants.{Semicolon}
 use Rattle.il_spec.specs.Grammar.{loose, TheSign}
 use Rattle.il_read.proofs.Chain.{up, first, later, last_missing}
 use Rattle.il_read.proofs.Through.{ok_both, ok_through, err_through}
 use Rattle.il_grammar_laws.proofs.Local.{the_name_local}
 use Rattle.il_grammar_laws.proofs.Alike.{loose_gap}
+use Rattle.il_read.proofs.Breaks.{at_first, later_loose, map_breaks, s_loose, up_breaks}
+use Rattle.il_grammar_laws.proofs.Samples.{sign_sampled, the_name_sampled}
+use Rattle.il_read.proofs.Completions.{the_name_filling}
 use Rattle.il_read.proofs.source.Source.program_name.Goals as goal
 
 pub returns-in_err-program-clause-refused : goal.returns-in_err-program-clause-refused
@@ -20,3 +23,11 @@ returns-clause-reads c = ok_both c.closed.result c.closed.ensures.value c.closed
 
 pub returns-clause-shorter : goal.returns-clause-shorter
 returns-clause-shorter c = ok_through c.closed.result c.closed.ensures.shorter (λ x less. omega (arith, less, c.in_ok-program.ensures.shorter, c.skip_lines.ensures.shorter))
+
+pub returns-in_err-program-clause-begins : goal.returns-in_err-program-clause-begins
+returns-in_err-program-clause-begins c =
+    up_breaks _ c.from_residual.ensures.1 (map_breaks (λ x. x.0) (λ x other us r w. w) (at_first (s_loose (the_name_sampled) (sign_sampled Semicolon) refl) c.in_err-program.ensures.first))
+
+pub returns-clause-begins : goal.returns-clause-begins
+returns-clause-begins c = err_through c.closed.result c.closed.ensures.first (λ e bad.
+    (map_breaks (λ x. x.0) (λ x other us r w. w) (later_loose (the_name_filling) c.in_ok-program.ensures.reads (sign_sampled Semicolon) refl (at_first (sign_sampled Semicolon) (rw c.skip_lines.ensures.rest at bad)))))

@@ -1,6 +1,22 @@
 use Rattle.il_read.proofs.Chain.{up}
 use Rattle.il_read.proofs.Instructions.{scalar_refused}
+use Rattle.il_read.specs.declared.lead.Lead.TheVariants as lead
+use Rattle.il_spec.specs.declared.keyword.Keyword.TheVariants as word
+use Rattle.il_read.specs.declared.stop.SyntaxError.TheVariants.{Unexpected}
+use Rattle.std.proofs.Common.{ap, sym, ◌∙◌}
+use Rattle.il_read.proofs.Breaks.{at_first, map_breaks, part_tight, up_breaks}
+use Rattle.il_grammar_laws.proofs.Samples.{scalar_sampled, subrange_sampled}
+use Rattle.il_grammar_laws.proofs.Open.{word_fills}
+use Rattle.il_read.proofs.Leaves.{word_there}
 use Rattle.il_read.proofs.source.Source.scalar.Goals as goal
 
 pub returns-in_err-subrange-clause-refused : goal.returns-in_err-subrange-clause-refused
 returns-in_err-subrange-clause-refused c = up _ c.from_residual.ensures.1 (scalar_refused c.args.self.now _ _ (rw c.advance.ensures.rest at c.in_err-subrange.ensures.refused))
+
+pub returns-in_default-clause-begins : goal.returns-in_default-clause-begins
+returns-in_default-clause-begins c = at_first scalar_sampled (λ _. (Unexpected, c.outside.ensures))
+
+pub returns-in_err-subrange-clause-begins : goal.returns-in_err-subrange-clause-begins
+returns-in_err-subrange-clause-begins c = 
+    up_breaks _ c.from_residual.ensures.1 (map_breaks (λ x. record { elementary = c.in-Reserved-Elementary.elementary; subrange = x }) (λ x other us r w. w)
+    (part_tight (word_fills (word.Elementary c.in-Reserved-Elementary.elementary)) (record { found = word_there c.args.self.now _ _ (sym c.lead.ensures ∙ c.in-Reserved-Elementary.is ∙ ap (λ k. lead.Reserved k) c.in-Reserved-Elementary.field-0-is) }) subrange_sampled (rw c.advance.ensures.rest at c.in_err-subrange.ensures.begins)))

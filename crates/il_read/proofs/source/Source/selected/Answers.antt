@@ -1,6 +1,10 @@
 use Rattle.il_read.specs.Reads.{gap_of}
 use Rattle.il_read.proofs.Chain.{up}
 use Rattle.il_read.proofs.Alternatives.{no_name, selector_refused, selected_read, gap_is}
+use Rattle.il_read.proofs.Breaks.{at_first, map_breaks, up_breaks}
+use Rattle.il_read.proofs.Completions.{bracket_sampled, later_gap, name_filling, selected_is, selected_sampled}
+use Rattle.std.proofs.Common.{refl}
+use Rattle.il_read.specs.Operands.{reference_of}
 use Rattle.il_read.proofs.source.Source.selected.Goals as goal
 
 pub returns-in_err-name-clause-refused : goal.returns-in_err-name-clause-refused
@@ -13,3 +17,11 @@ returns-in_err-selector-clause-refused c =
 pub returns-clause-reads : goal.returns-clause-reads
 returns-clause-reads c =
     rw c.reference_of.ensures (selected_read c.args.self.now (gap_of c.args.gap) _ _ _ _ _ c.in_ok-name.ensures.reads (rw c.pass.ensures.rest at c.in_ok-selector.ensures.reads))
+
+pub returns-in_err-name-clause-begins : goal.returns-in_err-name-clause-begins
+returns-in_err-name-clause-begins c = up_breaks _ c.from_residual.ensures.1 (at_first (selected_sampled c.args.gap) c.in_err-name.ensures.first)
+
+pub returns-in_err-selector-clause-begins : goal.returns-in_err-selector-clause-begins
+returns-in_err-selector-clause-begins c = 
+    up_breaks _ c.from_residual-in_err-selector.ensures.1 (map_breaks (λ x. reference_of x.0 x.1) (selected_is c.args.gap)
+    (later_gap c.args.gap name_filling c.in_ok-name.ensures.reads (bracket_sampled c.args.gap) refl (rw c.pass.ensures.rest at c.in_err-selector.ensures.begins)))

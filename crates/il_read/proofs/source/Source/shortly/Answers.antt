@@ -1,6 +1,9 @@
 use Rattle.std.proofs.Common.{arith}
 use Rattle.il_read.proofs.Instructions.{work_refused, work_read, ampersand_there}
 use Rattle.il_read.proofs.Through.{ok_through, err_through}
+use Rattle.il_read.specs.declared.stop.SyntaxError.TheVariants.{Unexpected}
+use Rattle.il_read.proofs.Breaks.{at_first}
+use Rattle.il_read.proofs.Completions.{operator_breaks, roomy_sampled}
 use Rattle.il_read.proofs.source.Source.shortly.Goals as goal
 
 pub returns-clause-refused : goal.returns-clause-refused
@@ -15,3 +18,11 @@ returns-clause-reads c = ok_through c.work.result c.work.ensures.reads (λ x her
 
 pub returns-clause-shorter : goal.returns-clause-shorter
 returns-clause-shorter c = ok_through c.work.result c.work.ensures.shorter (λ x less. omega (arith, less, c.advance.ensures.shorter, c.eat_n-negated.ensures.shorter))
+
+pub returns-clause-begins : goal.returns-clause-begins
+returns-clause-begins c = err_through c.work.result c.work.ensures.begins (λ e bad.
+    let there = ampersand_there c.args.self.now _ _ _ _ _ c.in-Some.ensures.1 c.requires (rw c.advance.ensures.rest at c.eat_n-negated.ensures.eaten) in
+    (operator_breaks _ _ there bad))
+
+pub returns-in_default-clause-begins : goal.returns-in_default-clause-begins
+returns-in_default-clause-begins c = at_first (roomy_sampled _) (λ _. (Unexpected, c.outside.ensures))

@@ -1,4 +1,4 @@
-use Rattle.std.proofs.Common.{arith}
+use Rattle.std.proofs.Common.{arith, refl}
 use Rattle.il_spec.specs.declared.token.Sign.TheVariants.{Colon}
 use Rattle.il_spec.specs.Grammar.{loose, ◌⋯◌, TheSign}
 use Rattle.il_read.specs.Settings.{SpellsSized}
@@ -6,6 +6,10 @@ use Rattle.il_read.proofs.Chain.{up, first_missing, behind}
 use Rattle.il_read.proofs.Through.{ok_through, err_through}
 use Rattle.il_grammar_laws.proofs.Local.{sign_local, text_local}
 use Rattle.il_grammar_laws.proofs.Alike.{loose_gap}
+use Rattle.il_read.proofs.Breaks.{at_first, map_breaks, part_loose, s_part, up_breaks}
+use Rattle.il_grammar_laws.proofs.Open.{sign_fills, text_fills}
+use Rattle.il_grammar_laws.proofs.Samples.{sign_sampled}
+use Rattle.il_read.proofs.Completions.{size_word_sampled, sized_sampled}
 use Rattle.il_read.proofs.source.Source.size.Goals as goal
 
 pub returns-in_err-plain_word-clause-refused : goal.returns-in_err-plain_word-clause-refused
@@ -30,3 +34,15 @@ returns-clause-reads c = ok_through c.sized.result c.sized.ensures.reads (λ x h
 
 pub returns-clause-shorter : goal.returns-clause-shorter
 returns-clause-shorter c = ok_through c.sized.result c.sized.ensures.shorter (λ x less. omega (arith, less, c.in_ok-plain_word.ensures.shorter, c.skip_lines.ensures.shorter, c.in_ok-sign.ensures.shorter, c.skip_lines-2.ensures.shorter))
+
+pub returns-in_err-plain_word-clause-begins : goal.returns-in_err-plain_word-clause-begins
+returns-in_err-plain_word-clause-begins c =
+    λ is. up_breaks _ c.from_residual.ensures.1 (map_breaks (λ x. x) (λ x other us r w. w) (at_first (s_part (size_word_sampled c.args.word.now is) (s_part (sign_sampled Colon) (sized_sampled) refl) refl) c.in_err-plain_word.ensures.first))
+
+pub returns-in_err-sign-clause-begins : goal.returns-in_err-sign-clause-begins
+returns-in_err-sign-clause-begins c =
+    λ is. up_breaks _ c.from_residual-in_err-sign.ensures.1 (map_breaks (λ x. x) (λ x other us r w. w) (part_loose (text_fills c.args.word.now) c.in_ok-plain_word.ensures.reads (s_part (sign_sampled Colon) (sized_sampled) refl) refl (at_first (s_part (sign_sampled Colon) (sized_sampled) refl) (rw c.skip_lines.ensures.rest at c.in_err-sign.ensures.first))))
+
+pub returns-clause-begins : goal.returns-clause-begins
+returns-clause-begins c = λ is. err_through c.sized.result c.sized.ensures.begins (λ e bad.
+    (map_breaks (λ x. x) (λ x other us r w. w) (part_loose (text_fills c.args.word.now) c.in_ok-plain_word.ensures.reads (s_part (sign_sampled Colon) (sized_sampled) refl) refl (part_loose (sign_fills Colon) (rw c.skip_lines.ensures.rest at c.in_ok-sign.ensures.reads) (sized_sampled) refl (rw c.skip_lines-2.ensures.rest at bad)))))

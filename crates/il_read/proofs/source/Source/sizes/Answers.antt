@@ -1,10 +1,14 @@
-use Rattle.std.proofs.Common.{arith, codes}
+use Rattle.std.proofs.Common.{arith, codes, inl, refl}
 use Rattle.il_spec.specs.declared.keyword.Keyword.TheVariants as word
 use Rattle.il_spec.specs.Grammar.{loose, ◌⋯◌, TheWord, SpellsSize}
 use Rattle.il_read.specs.Settings.{SpellsFloors}
 use Rattle.il_read.proofs.Chain.{up, first_missing, behind, first, later, part}
 use Rattle.il_grammar_laws.proofs.Local.{word_local, size_local}
 use Rattle.il_grammar_laws.proofs.Alike.{loose_gap}
+use Rattle.il_read.proofs.Completions.{a_size_sampled, floors_sampled, size_filling}
+use Rattle.il_read.proofs.Breaks.{at_first, first_loose, later_loose, map_breaks, part_loose, s_loose, s_part, up_breaks}
+use Rattle.il_grammar_laws.proofs.Open.{word_fills}
+use Rattle.il_grammar_laws.proofs.Samples.{word_sampled}
 use Rattle.il_read.proofs.source.Source.sizes.Goals as goal
 
 pub returns-in_err-word-clause-refused : goal.returns-in_err-word-clause-refused
@@ -37,3 +41,19 @@ returns-clause-reads c = record { found = (_, c.in_ok-word.ensures.reads.found, 
 
 pub returns-clause-shorter : goal.returns-clause-shorter
 returns-clause-shorter c = omega (arith, c.in_ok-word.ensures.shorter, c.skip_lines.ensures.shorter, c.in_ok-word-2.ensures.shorter, c.skip_lines-2.ensures.shorter, c.in_ok-cars.ensures.shorter, c.skip_lines-3.ensures.shorter, c.in_ok-others.ensures.shorter)
+
+pub returns-in_err-word-clause-begins : goal.returns-in_err-word-clause-begins
+returns-in_err-word-clause-begins c =
+    up_breaks _ c.from_residual.ensures.1 (map_breaks (λ x. x) (λ x other us r w. w) (at_first (s_part (word_sampled word.VarGlobal) (s_part (word_sampled word.Constant) (s_loose (a_size_sampled (codes "CARS") (inl refl)) (floors_sampled) refl) refl) refl) c.in_err-word.ensures.first))
+
+pub returns-in_err-word-2-clause-begins : goal.returns-in_err-word-2-clause-begins
+returns-in_err-word-2-clause-begins c =
+    up_breaks _ c.from_residual-in_err-word-2.ensures.1 (map_breaks (λ x. x) (λ x other us r w. w) (part_loose (word_fills word.VarGlobal) c.in_ok-word.ensures.reads (s_part (word_sampled word.Constant) (s_loose (a_size_sampled (codes "CARS") (inl refl)) (floors_sampled) refl) refl) refl (at_first (s_part (word_sampled word.Constant) (s_loose (a_size_sampled (codes "CARS") (inl refl)) (floors_sampled) refl) refl) (rw c.skip_lines.ensures.rest at c.in_err-word-2.ensures.first))))
+
+pub returns-in_err-cars-clause-begins : goal.returns-in_err-cars-clause-begins
+returns-in_err-cars-clause-begins c =
+    up_breaks _ c.from_residual-in_err-cars.ensures.1 (map_breaks (λ x. x) (λ x other us r w. w) (part_loose (word_fills word.VarGlobal) c.in_ok-word.ensures.reads (s_part (word_sampled word.Constant) (s_loose (a_size_sampled (codes "CARS") (inl refl)) (floors_sampled) refl) refl) refl (part_loose (word_fills word.Constant) (rw c.skip_lines.ensures.rest at c.in_ok-word-2.ensures.reads) (s_loose (a_size_sampled (codes "CARS") (inl refl)) (floors_sampled) refl) refl (first_loose (floors_sampled) refl (rw c.skip_lines-2.ensures.rest at (c.in_err-cars.ensures.begins (inl refl)))))))
+
+pub returns-in_err-others-clause-begins : goal.returns-in_err-others-clause-begins
+returns-in_err-others-clause-begins c =
+    up_breaks _ c.from_residual-in_err-others.ensures.1 (map_breaks (λ x. x) (λ x other us r w. w) (part_loose (word_fills word.VarGlobal) c.in_ok-word.ensures.reads (s_part (word_sampled word.Constant) (s_loose (a_size_sampled (codes "CARS") (inl refl)) (floors_sampled) refl) refl) refl (part_loose (word_fills word.Constant) (rw c.skip_lines.ensures.rest at c.in_ok-word-2.ensures.reads) (s_loose (a_size_sampled (codes "CARS") (inl refl)) (floors_sampled) refl) refl (later_loose (size_filling (codes "CARS")) (rw c.skip_lines-2.ensures.rest at c.in_ok-cars.ensures.reads) (floors_sampled) refl (rw c.skip_lines-3.ensures.rest at c.in_err-others.ensures.begins)))))

@@ -1,4 +1,4 @@
-use Rattle.std.proofs.Common.{List, [], ◌∷◌, arith}
+use Rattle.std.proofs.Common.{List, [], ◌∷◌, arith, refl}
 use Rattle.il_spec.specs.declared.token.Token.{Token}
 use Rattle.il_spec.specs.declared.token.Sign.TheVariants.{Comma, CloseParenthesis}
 use Rattle.il_spec.specs.Grammar.{TheSign}
@@ -6,6 +6,10 @@ use Rattle.il_read.proofs.Chain.{up, list_starts, list_goes_on, list_item_refuse
 use Rattle.il_read.proofs.Through.{ok_both, ok_through, err_through}
 use Rattle.il_grammar_laws.proofs.Local.{argument_local}
 use Rattle.il_grammar_laws.proofs.Alike.{loose_gap}
+use Rattle.il_read.proofs.Completions.{argument_filling, at_list_end, list_item_breaks}
+use Rattle.il_grammar_laws.proofs.GoesOn.{loose_cut, reach_loose, any_sampled, passes_settled, stays_loose}
+use Rattle.il_grammar_laws.proofs.Samples.{argument_sampled, sign_sampled}
+use Rattle.il_read.proofs.Breaks.{up_breaks}
 use Rattle.il_read.proofs.source.Source.some_arguments.Goals as goal
 
 apart : (r s ts : List Token) → TheSign CloseParenthesis ts r → TheSign Comma ts s → ⊥
@@ -23,7 +27,7 @@ arguments-preserved c =
     let comma = was_there (TheSign Comma) c.skip_lines.new.self _ c.eat_sign.new.tokens c.eat_sign.ensures.eaten c.if-not-eat_sign.false in (
       omega (arith, c.arguments.invariant.0, c.in_ok-argument.ensures.shorter, c.skip_lines.ensures.shorter, c.eat_sign.ensures.shorter, c.skip_lines-in-arguments.ensures.shorter),
       rw (c.skip_lines-in-arguments.ensures.rest, c.in_ok-push.ensures.ok)
-          (list_goes_on loose_gap _ _ _ argument_local (λ other. apart) _ _ _ _ _ _ c.arguments.invariant.1 c.in_ok-argument.ensures.reads (rw c.skip_lines.ensures.rest at comma)),
+          (list_goes_on loose_gap _ _ _ loose_cut reach_loose argument_filling argument_local (λ other. apart) _ _ _ _ _ _ c.arguments.invariant.1 c.in_ok-argument.ensures.reads (rw c.skip_lines.ensures.rest at comma)),
     )
 
 pub returns-then-not-eat_sign-clause-refused : goal.returns-then-not-eat_sign-clause-refused
@@ -40,3 +44,12 @@ returns-then-not-eat_sign-clause-reads c =
 
 pub returns-then-not-eat_sign-clause-shorter : goal.returns-then-not-eat_sign-clause-shorter
 returns-then-not-eat_sign-clause-shorter c = ok_through c.closed.result c.closed.ensures.shorter (λ x less. omega (arith, less, c.arguments.invariant.0, c.in_ok-argument.ensures.shorter, c.eat_sign.ensures.shorter, c.skip_lines.ensures.shorter))
+
+pub returns-in_err-argument-clause-begins : goal.returns-in_err-argument-clause-begins
+returns-in_err-argument-clause-begins c = up_breaks _ c.from_residual.ensures.1 (list_item_breaks (any_sampled argument_sampled) (sign_sampled CloseParenthesis) (passes_settled refl) (stays_loose refl) (stays_loose refl) c.arguments.invariant.1 c.in_err-argument.ensures.begins)
+
+pub returns-then-not-eat_sign-clause-begins : goal.returns-then-not-eat_sign-clause-begins
+returns-then-not-eat_sign-clause-begins c = 
+    let none = was_missing (TheSign Comma) c.skip_lines.new.self _ c.eat_sign.new.tokens c.eat_sign.ensures.eaten c.if-not-eat_sign.true in
+    err_through c.closed.result c.closed.ensures.first (λ e bad.
+    (at_list_end loose_cut reach_loose argument_filling (sign_sampled CloseParenthesis) (passes_settled refl) (stays_loose refl) c.arguments.invariant.1 c.in_ok-argument.ensures.reads (rw c.skip_lines.ensures.rest at (rw none.0 at bad))))

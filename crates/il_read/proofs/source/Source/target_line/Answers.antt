@@ -1,9 +1,12 @@
-use Rattle.std.proofs.Common.{arith}
+use Rattle.std.proofs.Common.{arith, refl}
 use Rattle.il_spec.specs.Grammar.{tight, TheLineEnd}
 use Rattle.il_read.proofs.Chain.{up, first, later, last_missing}
 use Rattle.il_read.proofs.Through.{ok_both, ok_through, err_through}
 use Rattle.il_grammar_laws.proofs.Local.{target_local}
 use Rattle.il_grammar_laws.proofs.Alike.{tight_gap}
+use Rattle.il_read.proofs.Breaks.{at_first, first_operand, later_operand, map_breaks, up_breaks}
+use Rattle.il_grammar_laws.proofs.Samples.{line_end_sampled}
+use Rattle.il_read.proofs.Completions.{target_filling}
 use Rattle.il_read.proofs.source.Source.target_line.Goals as goal
 
 pub returns-in_err-operand-clause-refused : goal.returns-in_err-operand-clause-refused
@@ -18,3 +21,11 @@ returns-clause-reads c = ok_both c.ended.result c.ended.ensures.value c.ended.en
 
 pub returns-clause-shorter : goal.returns-clause-shorter
 returns-clause-shorter c = ok_through c.ended.result c.ended.ensures.shorter (λ x less. omega (arith, less, c.in_ok-operand.ensures.shorter))
+
+pub returns-in_err-operand-clause-begins : goal.returns-in_err-operand-clause-begins
+returns-in_err-operand-clause-begins c =
+    up_breaks _ c.from_residual.ensures.1 (map_breaks (λ x. x.0) (λ x other us r w. w) (first_operand (line_end_sampled) refl c.in_err-operand.ensures.begins))
+
+pub returns-clause-begins : goal.returns-clause-begins
+returns-clause-begins c = err_through c.ended.result c.ended.ensures.first (λ e bad.
+    (map_breaks (λ x. x.0) (λ x other us r w. w) (later_operand (target_filling) c.in_ok-operand.ensures.reads (line_end_sampled) refl (at_first (line_end_sampled) bad))))

@@ -1,6 +1,10 @@
 use Rattle.il_spec.specs.Grammar.{loose, SpellsInitial}
 use Rattle.il_read.proofs.Chain.{up, first, later, part, later_lines}
 use Rattle.il_grammar_laws.proofs.Local.{type_local}
+use Rattle.il_read.proofs.Breaks.{first_type, later_type, map_breaks, up_breaks}
+use Rattle.il_grammar_laws.proofs.Samples.{initial_sampled}
+use Rattle.std.proofs.Common.{refl}
+use Rattle.il_read.proofs.Completions.{type_filling}
 use Rattle.il_read.proofs.source.Source.typed.Goals as goal
 
 pub returns-in_err-declared-clause-refused : goal.returns-in_err-declared-clause-refused
@@ -14,3 +18,11 @@ returns-in_err-initial-clause-refused c =
 
 pub returns-clause-reads : goal.returns-clause-reads
 returns-clause-reads c = record { found = (_, c.in_ok-declared.ensures.reads.found, (rw c.skip_lines.ensures.rest at c.in_ok-initial.ensures.reads).found) }
+
+pub returns-in_err-declared-clause-begins : goal.returns-in_err-declared-clause-begins
+returns-in_err-declared-clause-begins c =
+    up_breaks _ c.from_residual.ensures.1 (map_breaks (λ x. x) (λ x other us r w. w) (first_type (initial_sampled) refl refl c.in_err-declared.ensures.begins))
+
+pub returns-in_err-initial-clause-begins : goal.returns-in_err-initial-clause-begins
+returns-in_err-initial-clause-begins c =
+    up_breaks _ c.from_residual-in_err-initial.ensures.1 (map_breaks (λ x. x) (λ x other us r w. w) (later_type (type_filling) c.in_ok-declared.ensures.reads (initial_sampled) refl refl (rw c.skip_lines.ensures.rest at c.in_err-initial.ensures.begins)))
