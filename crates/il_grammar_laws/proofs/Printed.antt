@@ -32,8 +32,8 @@ use Rattle.il_text.proofs.Places.{passes_in_text, run_from, run_some, minus_from
 use Rattle.il_text.proofs.Lexemes.{lexeme_within}
 use Rattle.il_text.proofs.Blanks.{blank_within}
 use Rattle.il_grammar_laws.specs.Alike.{IsEndOf}
-use Rattle.il_grammar_laws.specs.GoesOn.{Sample, IsPrintable, ArePrintable, AreOf, IsCut, Begins}
-use Rattle.il_grammar_laws.proofs.Samples.{ended, word_bytes, text_sample, name_sample, word_sample, sign_sample, line_end_sample, number_sample, time_sample, true_sample, declaration_samples, closing_samples, rest_samples, body_samples, input_samples, result_samples, sized_samples, size_samples, floors_samples, three_samples, priority_samples, schedule_samples, times_samples, with_samples, on_samples, resource_samples, ending_samples, config_samples}
+use Rattle.il_grammar_laws.specs.GoesOn.{Sample, AreOf, IsCut, Begins}
+use Rattle.il_grammar_laws.proofs.Samples.{ended}
 
 -- A TEXT THAT IS CUT, WITH A SPACE THERE
 
@@ -319,15 +319,11 @@ module _ (front text : List ℕ) where
 -- WHAT CAN BE WRITTEN
 
 -- a sample's bytes, with a space behind them, are a token of its kind wherever they stand
-printed_lexeme : (s : Sample) → IsPrintable s → (front behind : List ℕ) → IsLexeme (front ++ (s.bytes ++ 32 ∷ behind)) s.kind (length front) (length front + length s.bytes)
-printed_lexeme s p front behind =
-    let here = cut_lexeme s.bytes (32 ∷ []) behind s.kind 0 (length s.bytes) (omega arith) p.lexeme in
+printed_lexeme : (s : Sample) → (front behind : List ℕ) → IsLexeme (front ++ (s.bytes ++ 32 ∷ behind)) s.kind (length front) (length front + length s.bytes)
+printed_lexeme s front behind =
+    let here = cut_lexeme s.bytes (32 ∷ []) behind s.kind 0 (length s.bytes) (omega arith) s.lexeme in
     let e : length front + 0 ≡ length front = omega arith in
     subst (λ n. IsLexeme (front ++ (s.bytes ++ 32 ∷ behind)) s.kind n (length front + length s.bytes)) e (move_lexeme front (s.bytes ++ 32 ∷ behind) s.kind 0 (length s.bytes) here)
-
-pub both_printable : (ss more : List Sample) → ArePrintable ss → ArePrintable more → ArePrintable (ss ++ more)
-both_printable [] more p q = q
-both_printable (s ∷ ss) more p q = (p.0, both_printable ss more p.1 q)
 
 -- what is written behind a space: each sample, and a space behind it
 abbrev pub printed : List Sample → List ℕ
@@ -342,12 +338,12 @@ first_bytes front bytes behind =
     ap (λ i. slice_range (front ++ (bytes ++ behind)) i (length front + length bytes)) e ∙ slice_on front (bytes ++ behind) 0 (length bytes) ∙ ap (λ i. take i (bytes ++ behind)) n ∙ take-append_seam bytes behind
 
 -- its tokens
-printed_tokens : (text front : List ℕ) (at : ℕ) (ss : List Sample) → ArePrintable ss → text ≡ front ++ 32 ∷ printed ss → at ≡ length front → (vs : List Token) × AreTokens text at vs × AreOf text ss vs []
-printed_tokens text front at [] all same from =
+printed_tokens : (text front : List ℕ) (at : ℕ) (ss : List Sample) → text ≡ front ++ 32 ∷ printed ss → at ≡ length front → (vs : List Token) × AreTokens text at vs × AreOf text ss vs []
+printed_tokens text front at [] same from =
     let here : byte_at text at ≡ 32 = ap (byte_at text) from ∙ ap (λ x. byte_at x (length front)) same ∙ get_or-append_seam front 32 [] 0 in
     let long = ap length same ∙ length-append front (32 ∷ []) in
     ([], ((at + 1) ∷ [], (inl (refl, ap (λ b. b == space || b == tab) here), omega (arith, long, from))), refl)
-printed_tokens text front at (s ∷ ss) all same from =
+printed_tokens text front at (s ∷ ss) same from =
     let before : List ℕ = front ++ 32 ∷ [] in
     let one : text ≡ (front ++ 32 ∷ []) ++ (s.bytes ++ 32 ∷ printed ss) = same ∙ sym (append_assoc front (32 ∷ []) (s.bytes ++ 32 ∷ printed ss)) in
     let two : text ≡ ((front ++ 32 ∷ []) ++ s.bytes) ++ 32 ∷ printed ss = one ∙ sym (append_assoc (front ++ 32 ∷ []) s.bytes (32 ∷ printed ss)) in
@@ -355,14 +351,14 @@ printed_tokens text front at (s ∷ ss) all same from =
     let longer = length-append (front ++ 32 ∷ []) s.bytes in
     let here : byte_at text at ≡ 32 = ap (byte_at text) from ∙ ap (λ x. byte_at x (length front)) same ∙ get_or-append_seam front 32 (s.bytes ++ 32 ∷ printed ss) 0 in
     let t : Token = record { kind = s.kind; start = length (front ++ 32 ∷ []); end = length (front ++ 32 ∷ []) + length s.bytes; line = line_at text (length (front ++ 32 ∷ [])) } in
-    let rest = printed_tokens text ((front ++ 32 ∷ []) ++ s.bytes) (length (front ++ 32 ∷ []) + length s.bytes) ss all.1 two (sym longer) in
+    let rest = printed_tokens text ((front ++ 32 ∷ []) ++ s.bytes) (length (front ++ 32 ∷ []) + length s.bytes) ss two (sym longer) in
     let bytes : slice_range text (length (front ++ 32 ∷ [])) (length (front ++ 32 ∷ []) + length s.bytes) ≡ s.bytes =
     ap (λ x. slice_range x (length (front ++ 32 ∷ [])) (length (front ++ 32 ∷ []) + length s.bytes)) one ∙ first_bytes (front ++ 32 ∷ []) s.bytes (32 ∷ printed ss) in (
       t ∷ rest.0,
       (
         record {
           gap = (length (front ++ 32 ∷ []) ∷ [], (inl (omega (arith, long, from), ap (λ b. b == space || b == tab) here), refl));
-          lexeme = subst (λ x. IsLexeme x s.kind (length (front ++ 32 ∷ [])) (length (front ++ 32 ∷ []) + length s.bytes)) (sym one) (printed_lexeme s all.0 (front ++ 32 ∷ []) (printed ss));
+          lexeme = subst (λ x. IsLexeme x s.kind (length (front ++ 32 ∷ [])) (length (front ++ 32 ∷ []) + length s.bytes)) (sym one) (printed_lexeme s (front ++ 32 ∷ []) (printed ss));
           line = refl;
         },
         rest.1,
@@ -370,15 +366,15 @@ printed_tokens text front at (s ∷ ss) all same from =
       (t, rest.0, refl, (refl, bytes), rest.2),
     )
 
--- A text goes on with tokens of samples that can be written, behind the first of its tokens: up to the end of these the bytes are the same.
-pub goes_on_behind : (text : List ℕ) (front at : List Token) (samples : List Sample) → AreTokens text 0 (front ++ at) → ArePrintable samples
+-- A text goes on with tokens of samples behind the first of its tokens: up to the end of these the bytes are the same.
+pub goes_on_behind : (text : List ℕ) (front at : List Token) (samples : List Sample) → AreTokens text 0 (front ++ at)
     → (other : List ℕ) × (vs : List Token) × AreTokens other 0 (front ++ vs) × IsCut text other at (front ++ at) (front ++ vs) vs × AreOf other samples vs [] × (take (last_end 0 front) text ≡ take (last_end 0 front) other)
-goes_on_behind text front at samples tokens all =
+goes_on_behind text front at samples tokens =
     let within : last_end 0 front ≤ length text = ends_within text 0 front at (omega arith) tokens in
     let whole = take-append-drop (last_end 0 front) text in
     let long : last_end 0 front ≡ length (take (last_end 0 front) text) = omega (arith, length-take (last_end 0 front) text, within) in
     let here = subst (λ x. AreTokens x 0 (front ++ at)) (sym whole) tokens in
-    let more = printed_tokens (take (last_end 0 front) text ++ 32 ∷ printed samples) (take (last_end 0 front) text) (length (take (last_end 0 front) text)) samples all refl refl in (
+    let more = printed_tokens (take (last_end 0 front) text ++ 32 ∷ printed samples) (take (last_end 0 front) text) (length (take (last_end 0 front) text)) samples refl refl in (
       take (last_end 0 front) text ++ 32 ∷ printed samples,
       more.0,
       cut_tokens (take (last_end 0 front) text) (drop (last_end 0 front) text) (printed samples) 0 front at more.0 long here more.1,
@@ -389,219 +385,17 @@ goes_on_behind text front at samples tokens all =
     )
 
 -- the same behind those before the first of `at`
-pub goes_on_with : (text : List ℕ) (ts at : List Token) (samples : List Sample) → AreTokens text 0 ts → IsEndOf at ts → ArePrintable samples
+pub goes_on_with : (text : List ℕ) (ts at : List Token) (samples : List Sample) → AreTokens text 0 ts → IsEndOf at ts
     → (other : List ℕ) × (others : List Token) × (vs : List Token) × AreTokens other 0 others × IsCut text other at ts others vs × AreOf other samples vs []
-goes_on_with text ts at samples tokens end all =
+goes_on_with text ts at samples tokens end =
     let front = before_end at ts end in
-    let k = goes_on_behind text front.0 at samples (subst (λ xs. AreTokens text 0 xs) front.1 tokens) all in
+    let k = goes_on_behind text front.0 at samples (subst (λ xs. AreTokens text 0 xs) front.1 tokens) in
     (k.0, front.0 ++ k.1, k.1, k.2, subst (λ xs. IsCut text k.0 at xs (front.0 ++ k.1) k.1) (sym front.1) k.3, k.4)
 
--- Tokens that begin a configuration, by samples that can be written, are those of a text that spells one.
-pub spelled_on : (text : List ℕ) (ts at : List Token) → AreTokens text 0 ts → (b : Begins ended (λ text (c : Config). AfterLines (SpellsConfig text c)) text ts at) → ArePrintable b.samples
+-- Tokens that begin a configuration are those of a text that spells one.
+pub spelled_on : (text : List ℕ) (ts at : List Token) → AreTokens text 0 ts → (b : Begins ended (λ text (c : Config). AfterLines (SpellsConfig text c)) text ts at)
     → (other : List ℕ) × (others : List Token) × (vs : List Token) × AreTokens other 0 others × IsCut text other at ts others vs × ((c : Config) × Spells other c)
-spelled_on text ts at tokens b all =
-    let k = goes_on_with text ts at b.samples tokens b.inside all in
+spelled_on text ts at tokens b =
+    let k = goes_on_with text ts at b.samples tokens b.inside in
     let w = b.goes k.0 k.1 k.2 [] k.4 k.5 refl in
     (k.0, k.1, k.2, k.3, k.4, (w.0, (k.1, k.3, w.1)))
-
--- THE SAMPLES CAN BE WRITTEN
-
-word_lexeme : (k : Keyword) → IsLexeme (word_bytes k ++ 32 ∷ []) kind.Word 0 (length (word_bytes k))
-unfolding run_end is_identifier is_grouped_after
-word_lexeme (word.Operate (operator.Logic Conjunction false)) = (refl, refl, refl, refl, omega arith)
-word_lexeme (word.Operate (operator.Logic Conjunction true)) = (refl, refl, refl, refl, omega arith)
-word_lexeme (word.Operate (operator.Logic Disjunction false)) = (refl, refl, refl, refl, omega arith)
-word_lexeme (word.Operate (operator.Logic Disjunction true)) = (refl, refl, refl, refl, omega arith)
-word_lexeme (word.Operate (operator.Logic Exclusive false)) = (refl, refl, refl, refl, omega arith)
-word_lexeme (word.Operate (operator.Logic Exclusive true)) = (refl, refl, refl, refl, omega arith)
-word_lexeme (word.Operate (operator.Arithmetic Add)) = (refl, refl, refl, refl, omega arith)
-word_lexeme (word.Operate (operator.Arithmetic Sub)) = (refl, refl, refl, refl, omega arith)
-word_lexeme (word.Operate (operator.Arithmetic Mul)) = (refl, refl, refl, refl, omega arith)
-word_lexeme (word.Operate (operator.Arithmetic Div)) = (refl, refl, refl, refl, omega arith)
-word_lexeme (word.Operate (operator.Arithmetic Mod)) = (refl, refl, refl, refl, omega arith)
-word_lexeme (word.Operate (operator.Comparison Greater)) = (refl, refl, refl, refl, omega arith)
-word_lexeme (word.Operate (operator.Comparison GreaterOrEqual)) = (refl, refl, refl, refl, omega arith)
-word_lexeme (word.Operate (operator.Comparison Equal)) = (refl, refl, refl, refl, omega arith)
-word_lexeme (word.Operate (operator.Comparison NotEqual)) = (refl, refl, refl, refl, omega arith)
-word_lexeme (word.Operate (operator.Comparison LessOrEqual)) = (refl, refl, refl, refl, omega arith)
-word_lexeme (word.Operate (operator.Comparison Less)) = (refl, refl, refl, refl, omega arith)
-word_lexeme (word.Load false) = (refl, refl, refl, refl, omega arith)
-word_lexeme (word.Load true) = (refl, refl, refl, refl, omega arith)
-word_lexeme (word.Store Plain) = (refl, refl, refl, refl, omega arith)
-word_lexeme (word.Store Negated) = (refl, refl, refl, refl, omega arith)
-word_lexeme (word.Store Set) = (refl, refl, refl, refl, omega arith)
-word_lexeme (word.Store Reset) = (refl, refl, refl, refl, omega arith)
-word_lexeme word.Not = (refl, refl, refl, refl, omega arith)
-word_lexeme (word.Jump Always) = (refl, refl, refl, refl, omega arith)
-word_lexeme (word.Jump WhenTrue) = (refl, refl, refl, refl, omega arith)
-word_lexeme (word.Jump WhenFalse) = (refl, refl, refl, refl, omega arith)
-word_lexeme (word.Call Always) = (refl, refl, refl, refl, omega arith)
-word_lexeme (word.Call WhenTrue) = (refl, refl, refl, refl, omega arith)
-word_lexeme (word.Call WhenFalse) = (refl, refl, refl, refl, omega arith)
-word_lexeme (word.Return Always) = (refl, refl, refl, refl, omega arith)
-word_lexeme (word.Return WhenTrue) = (refl, refl, refl, refl, omega arith)
-word_lexeme (word.Return WhenFalse) = (refl, refl, refl, refl, omega arith)
-word_lexeme (word.Elementary elementary.Bool) = (refl, refl, refl, refl, omega arith)
-word_lexeme (word.Elementary elementary.Sint) = (refl, refl, refl, refl, omega arith)
-word_lexeme (word.Elementary elementary.Int) = (refl, refl, refl, refl, omega arith)
-word_lexeme (word.Elementary elementary.Dint) = (refl, refl, refl, refl, omega arith)
-word_lexeme (word.Elementary elementary.Usint) = (refl, refl, refl, refl, omega arith)
-word_lexeme (word.Elementary elementary.Uint) = (refl, refl, refl, refl, omega arith)
-word_lexeme (word.Elementary elementary.Udint) = (refl, refl, refl, refl, omega arith)
-word_lexeme (word.Elementary elementary.Time) = (refl, refl, refl, refl, omega arith)
-word_lexeme word.Array = (refl, refl, refl, refl, omega arith)
-word_lexeme word.Of = (refl, refl, refl, refl, omega arith)
-word_lexeme (word.Truth true) = (refl, refl, refl, refl, omega arith)
-word_lexeme (word.Truth false) = (refl, refl, refl, refl, omega arith)
-word_lexeme word.Var = (refl, refl, refl, refl, omega arith)
-word_lexeme word.VarInput = (refl, refl, refl, refl, omega arith)
-word_lexeme word.VarOutput = (refl, refl, refl, refl, omega arith)
-word_lexeme word.VarExternal = (refl, refl, refl, refl, omega arith)
-word_lexeme word.VarGlobal = (refl, refl, refl, refl, omega arith)
-word_lexeme word.Constant = (refl, refl, refl, refl, omega arith)
-word_lexeme word.EndVar = (refl, refl, refl, refl, omega arith)
-word_lexeme word.Function = (refl, refl, refl, refl, omega arith)
-word_lexeme word.EndFunction = (refl, refl, refl, refl, omega arith)
-word_lexeme word.FunctionBlock = (refl, refl, refl, refl, omega arith)
-word_lexeme word.EndFunctionBlock = (refl, refl, refl, refl, omega arith)
-word_lexeme word.Program = (refl, refl, refl, refl, omega arith)
-word_lexeme word.EndProgram = (refl, refl, refl, refl, omega arith)
-word_lexeme word.Configuration = (refl, refl, refl, refl, omega arith)
-word_lexeme word.EndConfiguration = (refl, refl, refl, refl, omega arith)
-word_lexeme word.Resource = (refl, refl, refl, refl, omega arith)
-word_lexeme word.EndResource = (refl, refl, refl, refl, omega arith)
-word_lexeme word.On = (refl, refl, refl, refl, omega arith)
-word_lexeme word.Task = (refl, refl, refl, refl, omega arith)
-word_lexeme word.With = (refl, refl, refl, refl, omega arith)
-word_lexeme word.Interval = (refl, refl, refl, refl, omega arith)
-word_lexeme word.Priority = (refl, refl, refl, refl, omega arith)
-
-pub word_printable : (k : Keyword) → IsPrintable (word_sample k)
-word_printable k = record { lexeme = word_lexeme k }
-
-name_lexeme : IsLexeme (codes "X" ++ 32 ∷ []) kind.Word 0 1
-unfolding run_end is_identifier is_grouped_after
-name_lexeme = (refl, refl, refl, refl, omega arith)
-
-pub name_printable : IsPrintable name_sample
-name_printable = record { lexeme = name_lexeme }
-
-cars_lexeme : IsLexeme (codes "CARS" ++ 32 ∷ []) kind.Word 0 4
-unfolding run_end is_identifier is_grouped_after
-cars_lexeme = (refl, refl, refl, refl, omega arith)
-
-floors_lexeme : IsLexeme (codes "FLOORS" ++ 32 ∷ []) kind.Word 0 6
-unfolding run_end is_identifier is_grouped_after
-floors_lexeme = (refl, refl, refl, refl, omega arith)
-
-slots_lexeme : IsLexeme (codes "SLOTS" ++ 32 ∷ []) kind.Word 0 5
-unfolding run_end is_identifier is_grouped_after
-slots_lexeme = (refl, refl, refl, refl, omega arith)
-
-pub cars_printable : IsPrintable (text_sample (codes "CARS"))
-cars_printable = record { lexeme = cars_lexeme }
-
-pub floors_printable : IsPrintable (text_sample (codes "FLOORS"))
-floors_printable = record { lexeme = floors_lexeme }
-
-pub slots_printable : IsPrintable (text_sample (codes "SLOTS"))
-slots_printable = record { lexeme = slots_lexeme }
-
-sign_lexeme : (s : Sign) → IsLexeme (sign_bytes s ++ 32 ∷ []) (kind.Sign s) 0 (length (sign_bytes s))
-sign_lexeme Assign = (refl, refl, refl)
-sign_lexeme Arrow = (refl, refl, refl)
-sign_lexeme Range = (refl, refl, refl)
-sign_lexeme Colon = (refl, refl, refl)
-sign_lexeme Semicolon = (refl, refl, refl)
-sign_lexeme Comma = (refl, refl, refl)
-sign_lexeme OpenParenthesis = (refl, refl, refl)
-sign_lexeme CloseParenthesis = (refl, refl, refl)
-sign_lexeme OpenBracket = (refl, refl, refl)
-sign_lexeme CloseBracket = (refl, refl, refl)
-sign_lexeme Dot = (refl, refl, refl)
-sign_lexeme Ampersand = (refl, refl, refl)
-
-pub sign_printable : (s : Sign) → IsPrintable (sign_sample s)
-sign_printable s = record { lexeme = sign_lexeme s }
-
-pub line_end_printable : IsPrintable line_end_sample
-line_end_printable = record { lexeme = inl (refl, refl) }
-
-number_lexeme : IsLexeme (codes "1" ++ 32 ∷ []) (kind.Number (pos 1)) 0 1
-unfolding run_end number_value magnitude is_grouped_after
-number_lexeme = (refl, refl, refl, omega arith)
-
-pub number_printable : IsPrintable number_sample
-number_printable = record { lexeme = number_lexeme }
-
-time_lexeme : IsLexeme (codes "T#1S" ++ 32 ∷ []) (kind.Typed (literal.Time (pos 1000))) 0 4
-unfolding run_end entry_of duration_value parts_value
-time_lexeme = (1, refl, refl, refl, refl, (refl, refl, (omega (arith, ints), omega (arith, ints))))
-
-pub time_printable : IsPrintable time_sample
-time_printable = record { lexeme = time_lexeme }
-
-pub true_printable : IsPrintable true_sample
-true_printable = word_printable (word.Truth true)
-
--- and so can lists of them
-pub declaration_printable : ArePrintable declaration_samples
-declaration_printable = (name_printable, (sign_printable Colon, (word_printable (word.Elementary elementary.Bool), (sign_printable Semicolon, tt))))
-
-pub closing_printable : (last : Keyword) (depth : ℕ) → ArePrintable (closing_samples last depth)
-closing_printable last zero = (word_printable last, tt)
-closing_printable last (suc depth) = (sign_printable CloseParenthesis, (line_end_printable, closing_printable last depth))
-
-pub rest_printable : (last : Keyword) (depth : ℕ) (load : Bool) → ArePrintable (rest_samples last depth load)
-rest_printable last zero load = (word_printable last, tt)
-rest_printable last (suc depth) false = closing_printable last (suc depth)
-rest_printable last (suc depth) true = (word_printable (word.Load false), (true_printable, (line_end_printable, closing_printable last (suc depth))))
-
-pub body_printable : (last : Keyword) → ArePrintable (body_samples last)
-body_printable last = (line_end_printable, (word_printable last, tt))
-
-pub input_printable : (u : UnitKind) → ArePrintable (input_samples u)
-input_printable u =
-    (word_printable word.VarInput, both_printable declaration_samples (word_sample word.EndVar ∷ body_samples (end_word u)) declaration_printable (word_printable word.EndVar, body_printable (end_word u)))
-
-pub result_printable : ArePrintable result_samples
-result_printable = (sign_printable Colon, (word_printable (word.Elementary elementary.Bool), tt))
-
-pub sized_printable : ArePrintable sized_samples
-sized_printable = (word_printable (word.Elementary elementary.Int), (sign_printable Assign, (number_printable, (sign_printable Semicolon, tt))))
-
-pub size_printable : (n : List ℕ) → IsPrintable (text_sample n) → ArePrintable (size_samples n)
-size_printable n p = (p, (sign_printable Colon, sized_printable))
-
-pub floors_and_slots_printable : ArePrintable floors_samples
-floors_and_slots_printable =
-    both_printable (size_samples (codes "FLOORS")) (size_samples (codes "SLOTS") ++ word_sample word.EndVar ∷ []) (size_printable (codes "FLOORS") floors_printable)
-    (both_printable (size_samples (codes "SLOTS")) (word_sample word.EndVar ∷ []) (size_printable (codes "SLOTS") slots_printable) (word_printable word.EndVar, tt))
-
-pub three_printable : ArePrintable three_samples
-three_printable =
-    (word_printable word.VarGlobal, (word_printable word.Constant, both_printable (size_samples (codes "CARS")) floors_samples (size_printable (codes "CARS") cars_printable) floors_and_slots_printable))
-
-pub priority_printable : ArePrintable priority_samples
-priority_printable = (word_printable word.Priority, (sign_printable Assign, (number_printable, (sign_printable CloseParenthesis, (sign_printable Semicolon, tt)))))
-
-pub schedule_printable : ArePrintable schedule_samples
-schedule_printable = (time_printable, (sign_printable Comma, priority_printable))
-
-pub times_printable : ArePrintable times_samples
-times_printable = (sign_printable OpenParenthesis, (word_printable word.Interval, (sign_printable Assign, schedule_printable)))
-
-pub with_printable : ArePrintable with_samples
-with_printable = (word_printable word.With, (name_printable, (sign_printable Colon, (name_printable, (sign_printable Semicolon, tt)))))
-
-pub on_printable : ArePrintable on_samples
-on_printable = (word_printable word.On, (name_printable, (word_printable word.EndResource, tt)))
-
-pub resource_printable : ArePrintable resource_samples
-resource_printable = (word_printable word.Resource, (name_printable, on_printable))
-
-pub ending_printable : ArePrintable ending_samples
-ending_printable = both_printable resource_samples (word_sample word.EndConfiguration ∷ []) resource_printable (word_printable word.EndConfiguration, tt)
-
-pub config_printable : ArePrintable config_samples
-config_printable = (word_printable word.Configuration, (name_printable, both_printable three_samples ending_samples three_printable ending_printable))

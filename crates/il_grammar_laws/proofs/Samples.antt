@@ -1,11 +1,12 @@
 -- Samples: tokens by which each rule of the grammar can be completed.
-use Rattle.std.proofs.Common.{◌≡◌, ℕ, zero, suc, pos, Bool, true, false, List, [], ◌∷◌, ◌++◌, refl, sym, ◌∙◌, ap, subst, inl, inr, arith, Option, Some, None}
+use Rattle.std.proofs.Common.{◌≡◌, ℕ, zero, suc, pos, Bool, true, false, List, [], ◌∷◌, ◌++◌, refl, sym, ◌∙◌, ap, subst, inl, inr, arith, Option, Some, None, length}
+use Rattle.std.proofs.lemmas.Int.{ints}
 use Rattle.std.specs.Prelude.{ℤ, IsTrue, bytes_eq, codes, if◌then◌else◌}
 use Rattle.il_spec.specs.declared.token.Token.{Token}
 use Rattle.il_spec.specs.declared.token.Kind.{Kind}
 use Rattle.il_spec.specs.declared.token.Kind.TheVariants as kind
 use Rattle.il_spec.specs.declared.token.Sign.{Sign}
-use Rattle.il_spec.specs.declared.token.Sign.TheVariants.{Assign, Colon, Semicolon, Comma, OpenParenthesis, CloseParenthesis, OpenBracket, Dot}
+use Rattle.il_spec.specs.declared.token.Sign.TheVariants.{Assign, Arrow, Range, Colon, Semicolon, Comma, OpenParenthesis, CloseParenthesis, OpenBracket, CloseBracket, Dot, Ampersand}
 use Rattle.il_spec.specs.declared.keyword.Keyword.{Keyword}
 use Rattle.il_spec.specs.declared.keyword.Keyword.TheVariants as word
 use Rattle.il_spec.specs.declared.tree.Place.{Place}
@@ -41,7 +42,7 @@ use Rattle.il_spec.specs.declared.tree.UnitKind.TheVariants as unit
 use Rattle.il_spec.specs.declared.tree.Size.{Size}
 use Rattle.il_spec.specs.declared.tree.Task.{Task}
 use Rattle.il_spec.specs.declared.tree.ProgramLine.{ProgramLine}
-use Rattle.il_spec.specs.Text.{name_of, upper_case, is_grouped, is_grouped_after, entry_of, sign_bytes}
+use Rattle.il_spec.specs.Text.{entry_of, upper_case, name_of, sign_bytes, is_plain_decimal, is_grouped, is_grouped_after, is_identifier, magnitude, number_value, duration_value, parts_value, run_end, IsLexeme}
 use Rattle.std.specs.Char.{is_ascii_digit}
 use Rattle.il_spec.specs.Words.{keyword_of}
 use Rattle.il_spec.specs.Grammar.{Front, Gap, tight, loose, is_line_end, skip_line_ends, ◌⟨◌⟩◌, ◌⨾◌, ◌⋯◌, AfterLines, No, One, At, Repeats, Listed, TheEnd, is_nested, end_word}
@@ -191,31 +192,152 @@ word_known word.Priority = refl
 
 -- SAMPLES
 
+pub word_lexeme : (k : Keyword) → IsLexeme (word_bytes k ++ 32 ∷ []) kind.Word 0 (length (word_bytes k))
+unfolding run_end is_identifier is_grouped_after
+word_lexeme (word.Operate (operator.Logic Conjunction false)) = (refl, refl, refl, refl, omega arith)
+word_lexeme (word.Operate (operator.Logic Conjunction true)) = (refl, refl, refl, refl, omega arith)
+word_lexeme (word.Operate (operator.Logic Disjunction false)) = (refl, refl, refl, refl, omega arith)
+word_lexeme (word.Operate (operator.Logic Disjunction true)) = (refl, refl, refl, refl, omega arith)
+word_lexeme (word.Operate (operator.Logic Exclusive false)) = (refl, refl, refl, refl, omega arith)
+word_lexeme (word.Operate (operator.Logic Exclusive true)) = (refl, refl, refl, refl, omega arith)
+word_lexeme (word.Operate (operator.Arithmetic Add)) = (refl, refl, refl, refl, omega arith)
+word_lexeme (word.Operate (operator.Arithmetic Sub)) = (refl, refl, refl, refl, omega arith)
+word_lexeme (word.Operate (operator.Arithmetic Mul)) = (refl, refl, refl, refl, omega arith)
+word_lexeme (word.Operate (operator.Arithmetic Div)) = (refl, refl, refl, refl, omega arith)
+word_lexeme (word.Operate (operator.Arithmetic Mod)) = (refl, refl, refl, refl, omega arith)
+word_lexeme (word.Operate (operator.Comparison Greater)) = (refl, refl, refl, refl, omega arith)
+word_lexeme (word.Operate (operator.Comparison GreaterOrEqual)) = (refl, refl, refl, refl, omega arith)
+word_lexeme (word.Operate (operator.Comparison Equal)) = (refl, refl, refl, refl, omega arith)
+word_lexeme (word.Operate (operator.Comparison NotEqual)) = (refl, refl, refl, refl, omega arith)
+word_lexeme (word.Operate (operator.Comparison LessOrEqual)) = (refl, refl, refl, refl, omega arith)
+word_lexeme (word.Operate (operator.Comparison Less)) = (refl, refl, refl, refl, omega arith)
+word_lexeme (word.Load false) = (refl, refl, refl, refl, omega arith)
+word_lexeme (word.Load true) = (refl, refl, refl, refl, omega arith)
+word_lexeme (word.Store Plain) = (refl, refl, refl, refl, omega arith)
+word_lexeme (word.Store Negated) = (refl, refl, refl, refl, omega arith)
+word_lexeme (word.Store Set) = (refl, refl, refl, refl, omega arith)
+word_lexeme (word.Store Reset) = (refl, refl, refl, refl, omega arith)
+word_lexeme word.Not = (refl, refl, refl, refl, omega arith)
+word_lexeme (word.Jump Always) = (refl, refl, refl, refl, omega arith)
+word_lexeme (word.Jump WhenTrue) = (refl, refl, refl, refl, omega arith)
+word_lexeme (word.Jump WhenFalse) = (refl, refl, refl, refl, omega arith)
+word_lexeme (word.Call Always) = (refl, refl, refl, refl, omega arith)
+word_lexeme (word.Call WhenTrue) = (refl, refl, refl, refl, omega arith)
+word_lexeme (word.Call WhenFalse) = (refl, refl, refl, refl, omega arith)
+word_lexeme (word.Return Always) = (refl, refl, refl, refl, omega arith)
+word_lexeme (word.Return WhenTrue) = (refl, refl, refl, refl, omega arith)
+word_lexeme (word.Return WhenFalse) = (refl, refl, refl, refl, omega arith)
+word_lexeme (word.Elementary elementary.Bool) = (refl, refl, refl, refl, omega arith)
+word_lexeme (word.Elementary elementary.Sint) = (refl, refl, refl, refl, omega arith)
+word_lexeme (word.Elementary elementary.Int) = (refl, refl, refl, refl, omega arith)
+word_lexeme (word.Elementary elementary.Dint) = (refl, refl, refl, refl, omega arith)
+word_lexeme (word.Elementary elementary.Usint) = (refl, refl, refl, refl, omega arith)
+word_lexeme (word.Elementary elementary.Uint) = (refl, refl, refl, refl, omega arith)
+word_lexeme (word.Elementary elementary.Udint) = (refl, refl, refl, refl, omega arith)
+word_lexeme (word.Elementary elementary.Time) = (refl, refl, refl, refl, omega arith)
+word_lexeme word.Array = (refl, refl, refl, refl, omega arith)
+word_lexeme word.Of = (refl, refl, refl, refl, omega arith)
+word_lexeme (word.Truth true) = (refl, refl, refl, refl, omega arith)
+word_lexeme (word.Truth false) = (refl, refl, refl, refl, omega arith)
+word_lexeme word.Var = (refl, refl, refl, refl, omega arith)
+word_lexeme word.VarInput = (refl, refl, refl, refl, omega arith)
+word_lexeme word.VarOutput = (refl, refl, refl, refl, omega arith)
+word_lexeme word.VarExternal = (refl, refl, refl, refl, omega arith)
+word_lexeme word.VarGlobal = (refl, refl, refl, refl, omega arith)
+word_lexeme word.Constant = (refl, refl, refl, refl, omega arith)
+word_lexeme word.EndVar = (refl, refl, refl, refl, omega arith)
+word_lexeme word.Function = (refl, refl, refl, refl, omega arith)
+word_lexeme word.EndFunction = (refl, refl, refl, refl, omega arith)
+word_lexeme word.FunctionBlock = (refl, refl, refl, refl, omega arith)
+word_lexeme word.EndFunctionBlock = (refl, refl, refl, refl, omega arith)
+word_lexeme word.Program = (refl, refl, refl, refl, omega arith)
+word_lexeme word.EndProgram = (refl, refl, refl, refl, omega arith)
+word_lexeme word.Configuration = (refl, refl, refl, refl, omega arith)
+word_lexeme word.EndConfiguration = (refl, refl, refl, refl, omega arith)
+word_lexeme word.Resource = (refl, refl, refl, refl, omega arith)
+word_lexeme word.EndResource = (refl, refl, refl, refl, omega arith)
+word_lexeme word.On = (refl, refl, refl, refl, omega arith)
+word_lexeme word.Task = (refl, refl, refl, refl, omega arith)
+word_lexeme word.With = (refl, refl, refl, refl, omega arith)
+word_lexeme word.Interval = (refl, refl, refl, refl, omega arith)
+word_lexeme word.Priority = (refl, refl, refl, refl, omega arith)
+
+pub name_lexeme : IsLexeme (codes "X" ++ 32 ∷ []) kind.Word 0 1
+unfolding run_end is_identifier is_grouped_after
+name_lexeme = (refl, refl, refl, refl, omega arith)
+
+pub cars_lexeme : IsLexeme (codes "CARS" ++ 32 ∷ []) kind.Word 0 4
+unfolding run_end is_identifier is_grouped_after
+cars_lexeme = (refl, refl, refl, refl, omega arith)
+
+pub floors_lexeme : IsLexeme (codes "FLOORS" ++ 32 ∷ []) kind.Word 0 6
+unfolding run_end is_identifier is_grouped_after
+floors_lexeme = (refl, refl, refl, refl, omega arith)
+
+pub slots_lexeme : IsLexeme (codes "SLOTS" ++ 32 ∷ []) kind.Word 0 5
+unfolding run_end is_identifier is_grouped_after
+slots_lexeme = (refl, refl, refl, refl, omega arith)
+
+pub sign_lexeme : (s : Sign) → IsLexeme (sign_bytes s ++ 32 ∷ []) (kind.Sign s) 0 (length (sign_bytes s))
+sign_lexeme Assign = (refl, refl, refl)
+sign_lexeme Arrow = (refl, refl, refl)
+sign_lexeme Range = (refl, refl, refl)
+sign_lexeme Colon = (refl, refl, refl)
+sign_lexeme Semicolon = (refl, refl, refl)
+sign_lexeme Comma = (refl, refl, refl)
+sign_lexeme OpenParenthesis = (refl, refl, refl)
+sign_lexeme CloseParenthesis = (refl, refl, refl)
+sign_lexeme OpenBracket = (refl, refl, refl)
+sign_lexeme CloseBracket = (refl, refl, refl)
+sign_lexeme Dot = (refl, refl, refl)
+sign_lexeme Ampersand = (refl, refl, refl)
+
+pub number_lexeme : IsLexeme (codes "1" ++ 32 ∷ []) (kind.Number (pos 1)) 0 1
+unfolding run_end number_value magnitude is_grouped_after
+number_lexeme = (refl, refl, refl, omega arith)
+
+pub time_lexeme : IsLexeme (codes "T#1S" ++ 32 ∷ []) (kind.Typed (literal.Time (pos 1000))) 0 4
+unfolding run_end entry_of duration_value parts_value
+time_lexeme = (1, refl, refl, refl, refl, (refl, refl, (omega (arith, ints), omega (arith, ints))))
+
+pub line_end_lexeme : IsLexeme (10 ∷ 32 ∷ []) kind.LineEnd 0 1
+line_end_lexeme = inl (refl, refl)
+
 -- a word of these bytes
-abbrev pub text_sample : List ℕ → Sample
-text_sample bytes = record { kind = kind.Word; bytes = bytes }
+abbrev pub text_sample : (bytes : List ℕ) → IsLexeme (bytes ++ 32 ∷ []) kind.Word 0 (length bytes) → Sample
+text_sample bytes lexeme = record { kind = kind.Word; bytes = bytes; lexeme = lexeme }
+
+-- the words of the sizes
+abbrev pub cars_sample : Sample
+cars_sample = text_sample (codes "CARS") cars_lexeme
+
+abbrev pub floors_sample : Sample
+floors_sample = text_sample (codes "FLOORS") floors_lexeme
+
+abbrev pub slots_sample : Sample
+slots_sample = text_sample (codes "SLOTS") slots_lexeme
 
 -- a name
 abbrev pub name_sample : Sample
-name_sample = text_sample (codes "X")
+name_sample = text_sample (codes "X") name_lexeme
 
 -- a reserved word
 abbrev pub word_sample : Keyword → Sample
-word_sample k = text_sample (word_bytes k)
+word_sample k = text_sample (word_bytes k) (word_lexeme k)
 
 abbrev pub sign_sample : Sign → Sample
-sign_sample s = record { kind = kind.Sign s; bytes = sign_bytes s }
+sign_sample s = record { kind = kind.Sign s; bytes = sign_bytes s; lexeme = sign_lexeme s }
 
 abbrev pub line_end_sample : Sample
-line_end_sample = record { kind = kind.LineEnd; bytes = 10 ∷ [] }
+line_end_sample = record { kind = kind.LineEnd; bytes = 10 ∷ []; lexeme = line_end_lexeme }
 
 -- a number without sign and base
 abbrev pub number_sample : Sample
-number_sample = record { kind = kind.Number (pos 1); bytes = codes "1" }
+number_sample = record { kind = kind.Number (pos 1); bytes = codes "1"; lexeme = number_lexeme }
 
 -- a second
 abbrev pub time_sample : Sample
-time_sample = record { kind = kind.Typed (literal.Time (pos 1000)); bytes = codes "T#1S" }
+time_sample = record { kind = kind.Typed (literal.Time (pos 1000)); bytes = codes "T#1S"; lexeme = time_lexeme }
 
 abbrev pub true_sample : Sample
 true_sample = word_sample (word.Truth true)
@@ -413,8 +535,8 @@ any_named_sampled = reading (λ (x : Place × List ℕ). record { place = x.0; n
 pub some_name_sampled : IsSampled always (λ text (u : Unit {0}). SomeName text) (name_sample ∷ [])
 some_name_sampled = token name_sample (λ text t is. (tt, (is.0, ap keyword_of (name_is name_sample text t is) ∙ x_is_name)))
 
-pub text_sampled : (n : List ℕ) → bytes_eq (upper_case n) n ≡ true → IsSampled always (λ text (u : Unit {0}). TheText text n) (text_sample n ∷ [])
-text_sampled n same = token (text_sample n) (λ text t is. (tt, (is.0, ap (λ b. bytes_eq b n) (name_is (text_sample n) text t is) ∙ same)))
+pub text_sampled : (n : List ℕ) (l : IsLexeme (n ++ 32 ∷ []) kind.Word 0 (length n)) → bytes_eq (upper_case n) n ≡ true → IsSampled always (λ text (u : Unit {0}). TheText text n) (text_sample n l ∷ [])
+text_sampled n l same = token (text_sample n l) (λ text t is. (tt, (is.0, ap (λ b. bytes_eq b n) (name_is (text_sample n l) text t is) ∙ same)))
 
 pub number_sampled : IsSampled always (λ text. ANumber) (number_sample ∷ [])
 number_sampled = token number_sample (λ text t is. (pos 1, is.0))
@@ -817,8 +939,8 @@ function_sampled = record {
 abbrev pub sized_samples : List Sample
 sized_samples = word_sample (word.Elementary elementary.Int) ∷ sign_sample Assign ∷ number_sample ∷ sign_sample Semicolon ∷ []
 
-abbrev pub size_samples : List ℕ → List Sample
-size_samples n = text_sample n ∷ sign_sample Colon ∷ sized_samples
+abbrev pub size_samples : Sample → List Sample
+size_samples s = s ∷ sign_sample Colon ∷ sized_samples
 
 pub placed_decimal_sampled : IsSampled always (λ text (s : Size). At s.place (ADecimal text s.value) ⋯ TheSign Semicolon) (number_sample ∷ sign_sample Semicolon ∷ [])
 placed_decimal_sampled = reading (λ (x : (Place × ℤ) × Unit {0}). record { place = x.0.0; value = x.0.1 }) (next_lines refl (placed decimal_sampled) (sign_sampled Semicolon))
@@ -826,25 +948,25 @@ placed_decimal_sampled = reading (λ (x : (Place × ℤ) × Unit {0}). record { 
 pub sized_sampled : IsSampled always (λ text (s : Size). TheWord text (word.Elementary elementary.Int) ⋯ TheSign Assign ⋯ At s.place (ADecimal text s.value) ⋯ TheSign Semicolon) sized_samples
 sized_sampled = reading (λ (x : Unit {0} × (Unit {0} × Size)). x.1.1) (next_lines refl (word_sampled (word.Elementary elementary.Int)) (next_lines refl (sign_sampled Assign) placed_decimal_sampled))
 
-pub size_sampled : (n : List ℕ) → bytes_eq (upper_case n) n ≡ true → IsSampled always (λ text. SpellsSize text n) (size_samples n)
-size_sampled n same = reading (λ (x : Unit {0} × (Unit {0} × Size)). x.1.1) (next_lines refl (text_sampled n same) (next_lines refl (sign_sampled Colon) sized_sampled))
+pub size_sampled : (n : List ℕ) (l : IsLexeme (n ++ 32 ∷ []) kind.Word 0 (length n)) → bytes_eq (upper_case n) n ≡ true → IsSampled always (λ text. SpellsSize text n) (size_samples (text_sample n l))
+size_sampled n l same = reading (λ (x : Unit {0} × (Unit {0} × Size)). x.1.1) (next_lines refl (text_sampled n l same) (next_lines refl (sign_sampled Colon) sized_sampled))
 
 -- the last two sizes, and the three
 abbrev pub floors_samples : List Sample
-floors_samples = size_samples (codes "FLOORS") ++ size_samples (codes "SLOTS") ++ word_sample word.EndVar ∷ []
+floors_samples = size_samples floors_sample ++ size_samples slots_sample ++ word_sample word.EndVar ∷ []
 
-pub slots_sampled : IsSampled always (λ text (s : Size). SpellsSize text (codes "SLOTS") s ⋯ TheWord text word.EndVar) (size_samples (codes "SLOTS") ++ word_sample word.EndVar ∷ [])
-slots_sampled = reading (λ (x : Size × Unit {0}). x.0) (next_lines refl (size_sampled (codes "SLOTS") refl) (word_sampled word.EndVar))
+pub slots_sampled : IsSampled always (λ text (s : Size). SpellsSize text (codes "SLOTS") s ⋯ TheWord text word.EndVar) (size_samples slots_sample ++ word_sample word.EndVar ∷ [])
+slots_sampled = reading (λ (x : Size × Unit {0}). x.0) (next_lines refl (size_sampled (codes "SLOTS") slots_lexeme refl) (word_sampled word.EndVar))
 
 pub floors_sampled : IsSampled always (λ text (x : Size × Size). SpellsSize text (codes "FLOORS") x.0 ⋯ SpellsSize text (codes "SLOTS") x.1 ⋯ TheWord text word.EndVar) floors_samples
-floors_sampled = next_lines refl (size_sampled (codes "FLOORS") refl) slots_sampled
+floors_sampled = next_lines refl (size_sampled (codes "FLOORS") floors_lexeme refl) slots_sampled
 
 abbrev pub three_samples : List Sample
-three_samples = word_sample word.VarGlobal ∷ word_sample word.Constant ∷ size_samples (codes "CARS") ++ floors_samples
+three_samples = word_sample word.VarGlobal ∷ word_sample word.Constant ∷ size_samples cars_sample ++ floors_samples
 
 -- the three behind CONSTANT
-pub cars_sampled : IsSampled always (λ text (x : Size × (Size × Size)). SpellsSize text (codes "CARS") x.0 ⋯ SpellsSize text (codes "FLOORS") x.1.0 ⋯ SpellsSize text (codes "SLOTS") x.1.1 ⋯ TheWord text word.EndVar) (size_samples (codes "CARS") ++ floors_samples)
-cars_sampled = next_lines refl (size_sampled (codes "CARS") refl) floors_sampled
+pub cars_sampled : IsSampled always (λ text (x : Size × (Size × Size)). SpellsSize text (codes "CARS") x.0 ⋯ SpellsSize text (codes "FLOORS") x.1.0 ⋯ SpellsSize text (codes "SLOTS") x.1.1 ⋯ TheWord text word.EndVar) (size_samples cars_sample ++ floors_samples)
+cars_sampled = next_lines refl (size_sampled (codes "CARS") cars_lexeme refl) floors_sampled
 
 pub three_sampled : IsSampled always (λ text (x : Size × (Size × Size)). TheWord text word.VarGlobal ⋯ TheWord text word.Constant ⋯ SpellsSize text (codes "CARS") x.0 ⋯ SpellsSize text (codes "FLOORS") x.1.0 ⋯ SpellsSize text (codes "SLOTS") x.1.1
     ⋯ TheWord text word.EndVar) three_samples

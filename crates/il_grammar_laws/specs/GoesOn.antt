@@ -11,19 +11,11 @@ use Rattle.il_spec.specs.Text.{space, IsLexeme}
 use Rattle.il_spec.specs.Grammar.{Front, skip_line_ends, AfterLines, TheSign, TheWord, TheLetterN}
 use Rattle.il_grammar_laws.specs.Alike.{HasSameBytes, IsEndOf}
 
--- a token that a text may have: its kind and its bytes (own rule)
+-- a token that a text may have: with a space behind them, its bytes are a token of its kind (own rule)
 pub record Sample : Type 0 where
   pub kind : Kind
   pub bytes : List ℕ
-
--- with a space behind them, a sample's bytes are a token of its kind (own rule)
-pub record IsPrintable (s : Sample) : Type 0 where
-  pub lexeme : IsLexeme (s.bytes ++ space ∷ []) s.kind 0 (length s.bytes)
-
--- each of these is so (own rule)
-abbrev pub ArePrintable : List Sample → Type 0
-ArePrintable [] = ⊤
-ArePrintable (s ∷ ss) = IsPrintable s × ArePrintable ss
+  pub lexeme : IsLexeme (bytes ++ space ∷ []) kind 0 (length bytes)
 
 -- a token of a text is of this sample (own rule)
 abbrev pub IsOf : List ℕ → Sample → Token → Type 0

@@ -27,7 +27,7 @@ use Rattle.il_spec.specs.declared.tree.Size.{Size}
 use Rattle.il_spec.specs.Grammar.{Front, Gap, tight, loose, skip_line_ends, ◌⟨◌⟩◌, ◌⨾◌, ◌⋯◌, AfterLines, At, IsPlace, Repeats, Listed, TheSign, TheLineEnd, ANumber, ATyped, TheWord, AWord, AName, TheName, SomeName, TheText, ADecimal, ALiteral, SpellsScalar, SpellsDeclaration, SpellsArguments, SpellsOperands, SpellsForm, SpellsType, SpellsInitial, SpellsIndex, SpellsReference, SpellsOperand, SpellsTarget, SpellsOperator, SpellsArgument, SpellsFirst, SpellsInstruction, SpellsSize}
 use Rattle.il_grammar_laws.specs.GoesOn.{Sample, Test, always, quiet, calm, settled, IsSampled, Begins}
 use Rattle.il_grammar_laws.proofs.Open.{Fills, Takes, next, sign_fills, word_fills, number_fills, decimal_fills, literal_fills, typed_fills, index_fills, name_fills, the_name_fills, any_word_fills, names_fill, size_fills, inside_fills, operand_fills, loose_operand_fills, target_fills, type_fills, form_fills, declaration_fills, argument_fills, reference_fills, loose_reference_fills, operator_fills, fill_placed, loose_open}
-use Rattle.il_grammar_laws.proofs.Samples.{word_sample, sign_sample, name_sample, number_sample, time_sample, true_sample, line_end_sample, text_sample, sign_sampled, line_end_sampled, word_sampled, placed_word_sampled, name_sampled, any_word_sampled, the_name_sampled, any_named_sampled, some_name_sampled, text_sampled, number_sampled, decimal_sampled, interval_sampled, literal_sampled, scalar_sampled, type_sampled, index_sampled, reference_sampled, operand_sampled, variable_sampled, loose_variable_sampled, target_sampled, passed_sampled, argument_sampled, inside_sampled, operand_line_sampled}
+use Rattle.il_grammar_laws.proofs.Samples.{word_sample, sign_sample, name_sample, number_sample, time_sample, true_sample, line_end_sample, cars_sample, floors_sample, slots_sample, cars_lexeme, floors_lexeme, slots_lexeme, sign_sampled, line_end_sampled, word_sampled, placed_word_sampled, name_sampled, any_word_sampled, the_name_sampled, any_named_sampled, some_name_sampled, text_sampled, number_sampled, decimal_sampled, interval_sampled, literal_sampled, scalar_sampled, type_sampled, index_sampled, reference_sampled, operand_sampled, variable_sampled, loose_variable_sampled, target_sampled, passed_sampled, argument_sampled, inside_sampled, operand_line_sampled}
 use Rattle.il_grammar_laws.proofs.GoesOn.{is_solid, is_calm, is_still, Passes, Stays, stays_tight, stays_loose, passes_quiet, passes_settled, passes_calm, passes_always, IsCutGap, tight_cut, loose_cut, Reaches, reach_tight, reach_loose, then_sampled, behind_sampled, map_sampled, any_sampled, at_sampled, IsFilling, begins_here, begins_first, begins_later, begins_behind, begins_as, begins_at, begins_lines, gone_item, wanted_item, wanted_end}
 use Rattle.il_read.specs.declared.tokens.Gap.{Gap as GapKind}
 use Rattle.il_read.specs.declared.tokens.Gap.TheVariants as gap
@@ -131,10 +131,15 @@ limits_sampled =
     (s_part (sign_sampled OpenParenthesis) (s_loose number_sampled (s_part (sign_sampled Range) (s_loose number_sampled (sign_sampled CloseParenthesis) refl) refl) refl) refl)
 
 -- the words of the sizes
-pub size_word_sampled : (n : List ℕ) → IsSizeWord n → IsSampled always (λ text (u : Unit {0}). TheText text n) (text_sample n ∷ [])
-size_word_sampled n (inl e) = text_sampled n (subst (λ (m : List ℕ). bytes_eq (upper_case m) m ≡ true) (sym e) refl)
-size_word_sampled n (inr (inl e)) = text_sampled n (subst (λ (m : List ℕ). bytes_eq (upper_case m) m ≡ true) (sym e) refl)
-size_word_sampled n (inr (inr e)) = text_sampled n (subst (λ (m : List ℕ). bytes_eq (upper_case m) m ≡ true) (sym e) refl)
+abbrev pub size_word_sample : (n : List ℕ) → IsSizeWord n → Sample
+size_word_sample n (inl e) = cars_sample
+size_word_sample n (inr (inl e)) = floors_sample
+size_word_sample n (inr (inr e)) = slots_sample
+
+pub size_word_sampled : (n : List ℕ) (is : IsSizeWord n) → IsSampled always (λ text (u : Unit {0}). TheText text n) (size_word_sample n is ∷ [])
+size_word_sampled n (inl e) = subst (λ (m : List ℕ). IsSampled always (λ text (u : Unit {0}). TheText text m) (cars_sample ∷ [])) (sym e) (text_sampled (codes "CARS") cars_lexeme refl)
+size_word_sampled n (inr (inl e)) = subst (λ (m : List ℕ). IsSampled always (λ text (u : Unit {0}). TheText text m) (floors_sample ∷ [])) (sym e) (text_sampled (codes "FLOORS") floors_lexeme refl)
+size_word_sampled n (inr (inr e)) = subst (λ (m : List ℕ). IsSampled always (λ text (u : Unit {0}). TheText text m) (slots_sample ∷ [])) (sym e) (text_sampled (codes "SLOTS") slots_lexeme refl)
 
 -- gaps of either kind
 pub cut_of : (g : GapKind) → IsCutGap (gap_of g)
@@ -221,8 +226,8 @@ placed_decimal_sampled = map_sampled (λ (x : (Place × ℤ) × Unit {0}). recor
 pub sized_sampled : IsSampled always (λ text. SpellsSized text) (word_sample (word.Elementary elementary.Int) ∷ sign_sample Assign ∷ number_sample ∷ sign_sample Semicolon ∷ [])
 sized_sampled = s_part (word_sampled (word.Elementary elementary.Int)) (s_part (sign_sampled Assign) placed_decimal_sampled refl) refl
 
-pub a_size_sampled : (n : List ℕ) → IsSizeWord n
-    → IsSampled always (λ text. SpellsSize text n) (text_sample n ∷ sign_sample Colon ∷ word_sample (word.Elementary elementary.Int) ∷ sign_sample Assign ∷ number_sample ∷ sign_sample Semicolon ∷ [])
+pub a_size_sampled : (n : List ℕ) (is : IsSizeWord n)
+    → IsSampled always (λ text. SpellsSize text n) (size_word_sample n is ∷ sign_sample Colon ∷ word_sample (word.Elementary elementary.Int) ∷ sign_sample Assign ∷ number_sample ∷ sign_sample Semicolon ∷ [])
 a_size_sampled n is = s_part (size_word_sampled n is) (s_part (sign_sampled Colon) sized_sampled refl) refl
 
 pub priority_sampled : IsSampled always (λ text. SpellsPriority text) (word_sample word.Priority ∷ sign_sample Assign ∷ number_sample ∷ sign_sample CloseParenthesis ∷ sign_sample Semicolon ∷ [])
@@ -246,10 +251,10 @@ bound_sampled = s_loose the_name_sampled (s_part (sign_sampled Colon) program_na
 pub with_sampled : IsSampled always (λ text. SpellsWith text) (word_sample word.With ∷ name_sample ∷ sign_sample Colon ∷ name_sample ∷ sign_sample Semicolon ∷ [])
 with_sampled = s_part (word_sampled word.With) bound_sampled refl
 
-abbrev pub size_samples : List ℕ → List Sample
-size_samples n = text_sample n ∷ sign_sample Colon ∷ word_sample (word.Elementary elementary.Int) ∷ sign_sample Assign ∷ number_sample ∷ sign_sample Semicolon ∷ []
+abbrev pub size_samples : Sample → List Sample
+size_samples s = s ∷ sign_sample Colon ∷ word_sample (word.Elementary elementary.Int) ∷ sign_sample Assign ∷ number_sample ∷ sign_sample Semicolon ∷ []
 
-pub floors_sampled : IsSampled always (λ text. SpellsFloors text) (size_samples (codes "FLOORS") ++ (size_samples (codes "SLOTS") ++ word_sample word.EndVar ∷ []))
+pub floors_sampled : IsSampled always (λ text. SpellsFloors text) (size_samples floors_sample ++ (size_samples slots_sample ++ word_sample word.EndVar ∷ []))
 floors_sampled =
     map_sampled (λ (x : Size × (Size × Unit {0})). (x.0, x.1.0)) (λ x other us r w. w)
     (s_loose (a_size_sampled (codes "FLOORS") (inr (inl refl))) (s_loose (a_size_sampled (codes "SLOTS") (inr (inr refl))) (word_sampled word.EndVar) refl) refl)
