@@ -287,6 +287,21 @@ begins_later {A = A} {B = B} {P = P} {Q = Q} {first = first} {second = second} {
               ((x, y.0), (p.0, p.1, y.1));
         }
 
+-- the same, where something of it is read
+pub begins_inside : {B : Type 0} {F : List ℕ → Front} {Q : List ℕ → B → Front} {first second : Test} {text : List ℕ} {ts m at : List Token} {look gap : Gap}
+    → IsCutGap gap → Reaches gap look → Opens look first F → F text ts m → length at < length (gap m) → Begins second Q text (gap m) at → Begins second (λ text (y : B). F text ⟨ gap ⟩ Q text y) text ts at
+begins_inside {text = text} {ts = ts} {m = m} {at = at} {gap = gap} cut far one here less b =
+    let inside = end_of_end at (gap m) m (cut.over.is.ends m) b.inside in
+    let fits = far m in
+    record {
+      inside = end_of_end at m ts (one.ends text ts m here) inside;
+      samples = b.samples;
+      goes = λ other us vs rest c a t.
+          let p = one.keeps text other at ts us vs m here inside c (inl (omega (arith, less, fits))) in
+          let y = b.goes other (gap p.0) vs rest (cut.over.cut text other at m p.0 vs p.2 less) a t in
+          (y.0, (p.0, p.1, y.1));
+    }
+
 -- the same for another value, or under a harder test
 pub begins_as : {A B : Type 0} {P : List ℕ → A → Front} {Q : List ℕ → B → Front} {test : Test} {text : List ℕ} {ts at : List Token} (h : A → B)
     → ((x : A) (other : List ℕ) (us r : List Token) → P other x us r → Q other (h x) us r) → Begins test P text ts at → Begins test Q text ts at
@@ -320,20 +335,25 @@ begins_first_part {B = B} {F = F} {Q = Q} gap q passes stays b =
     begins_as {P = λ text (x : Unit {0} × B). F text ⟨ gap ⟩ Q text x.1} {Q = λ text (y : B). F text ⟨ gap ⟩ Q text y} (λ x. x.1) (λ x other us r w. w)
     (begins_first {P = λ text (u : Unit {0}). F text} {Q = Q} gap q passes stays b)
 
+-- one more at the end
+pub one_more : {A : Type 0} (xs : List A) (x : A) (more : List A) → xs ++ (x ∷ more) ≡ (xs ++ x ∷ []) ++ more
+one_more [] x more = refl
+one_more (y ∷ xs) x more = ap (λ zs. y ∷ zs) (one_more xs x more)
+
 -- What a loop has read stands in cut tokens too, before what is left.
-pub record HasGone {A : Type 0} (P : List ℕ → A → Front) (E : List ℕ → Front) (text : List ℕ) (start ts : List Token) : Type 0 where
+pub record HasGone {A : Type 0} (P : List ℕ → A → Front) (E : List ℕ → Front) (text : List ℕ) (start : List Token) (xs : List A) (ts : List Token) : Type 0 where
   pub inside : IsEndOf ts start
   pub on : (other : List ℕ) (at us vs : List Token) → IsEndOf at ts → IsCut text other at start us vs → ((length at < length ts) ⊎ (skip_line_ends vs ≡ vs))
-      → (n : List Token) × IsCut text other at ts n vs × ((more : List A) (r : List Token) → Repeats (P other) more (E other) n r → (ys : List A) × Repeats (P other) ys (E other) us r)
+      → (n : List Token) × IsCut text other at ts n vs × ((more : List A) (r : List Token) → Repeats (P other) more (E other) n r → Repeats (P other) (xs ++ more) (E other) us r)
 
 module _ {A : Type 0} {P : List ℕ → A → Front} {E : List ℕ → Front} {text : List ℕ} where
   -- a loop begins
-  pub gone_starts : (ts : List Token) → HasGone P E text ts ts
-  gone_starts ts = record { inside = end_self ts; on = λ other at us vs e c d. (us, c, λ more r w. (more, w)) }
+  pub gone_starts : (ts : List Token) → HasGone P E text ts [] ts
+  gone_starts ts = record { inside = end_self ts; on = λ other at us vs e c d. (us, c, λ more r w. w) }
 
   -- and goes on
-  pub gone_on : {start ts m : List Token} {x : A} → IsFilling tight always P → HasGone P E text start ts → P text x ts m → HasGone P E text start (skip_line_ends m)
-  gone_on {start = start} {ts = ts} {m = m} {x = x} fill so_far here =
+  pub gone_on : {start ts m : List Token} {xs : List A} {x : A} → IsFilling tight always P → HasGone P E text start xs ts → P text x ts m → HasGone P E text start (xs ++ x ∷ []) (skip_line_ends m)
+  gone_on {start = start} {ts = ts} {m = m} {xs = xs} {x = x} fill so_far here =
       let to_m = end_of_end (skip_line_ends m) m ts ((fill.one x).opens.ends text ts m here) (loose_gap.ends m) in
       let short = (fill.one x).takes.less text ts m here in
       let less = gap_length loose_gap m in
@@ -343,7 +363,7 @@ module _ {A : Type 0} {P : List ℕ → A → Front} {E : List ℕ → Front} {t
             let l = end_length at (skip_line_ends m) e in
             let before = so_far.on other at us vs (end_of_end at (skip_line_ends m) ts to_m e) c (inl (omega (arith, l, less, short))) in
             let p = (fill.one x).opens.keeps text other at ts before.0 vs m here (end_of_end at (skip_line_ends m) m (loose_gap.ends m) e) before.1 (inr tt) in
-            (skip_line_ends p.0, gapped other at p.0 vs p.2 e d, λ more r w. before.2 (x ∷ more) r (p.0, p.1, w));
+            (skip_line_ends p.0, gapped other at p.0 vs p.2 e d, λ more r w. subst (λ (zs : List A). Repeats (P other) zs (E other) us r) (one_more xs x more) (before.2 (x ∷ more) r (p.0, p.1, w)));
       }
     where
       gapped : (other : List ℕ) (at n vs : List Token) → IsCut text other at m n vs → IsEndOf at (skip_line_ends m) → ((length at < length (skip_line_ends m)) ⊎ (skip_line_ends vs ≡ vs))
@@ -352,9 +372,9 @@ module _ {A : Type 0} {P : List ℕ → A → Front} {E : List ℕ → Front} {t
       gapped other at n vs c e (inr s) = skip_still text other at m n vs c e s
 
   -- one of them breaks off
-  pub gone_item : {first : Test} {es : List Sample} {start ts at : List Token} → IsSampled always (λ text (u : Unit {0}). E text) es → Passes first es always → Stays loose es → HasGone P E text start ts
+  pub gone_item : {first : Test} {es : List Sample} {start ts at : List Token} {xs : List A} → IsSampled always (λ text (u : Unit {0}). E text) es → Passes first es always → Stays loose es → HasGone P E text start xs ts
       → Begins first P text ts at → Begins always (λ text ys. Repeats (P text) ys (E text)) text start at
-  gone_item {first = first} {es = es} {start = start} {ts = ts} {at = at} e passes stays so_far b = go (whole_or at ts b.inside)
+  gone_item {first = first} {es = es} {start = start} {ts = ts} {at = at} {xs = xs} e passes stays so_far b = go (whole_or at ts b.inside)
     where
       go : ((at ≡ ts) ⊎ (length at < length ts)) → Begins always (λ text ys. Repeats (P text) ys (E text)) text start at
       go (inl edge) = record {
@@ -363,7 +383,7 @@ module _ {A : Type 0} {P : List ℕ → A → Front} {E : List ℕ → Front} {t
         goes = λ other us vs rest c a t.
             let n = so_far.on other at us vs b.inside c (inr (stays.same other vs rest a)) in
             let x = e.stands other vs rest a t in
-            n.2 [] rest (subst (λ k. E other k rest) (sym (cut_here text other at ts n.0 vs n.1 edge)) x.1);
+            (xs ++ [], n.2 [] rest (subst (λ k. E other k rest) (sym (cut_here text other at ts n.0 vs n.1 edge)) x.1));
       }
       go (inr less) =
           let f = begins_first {P = P} {Q = λ text (u : Unit {0}). E text} loose e passes stays b in
@@ -373,8 +393,16 @@ module _ {A : Type 0} {P : List ℕ → A → Front} {E : List ℕ → Front} {t
             goes = λ other us vs rest c a t.
                 let n = so_far.on other at us vs b.inside c (inl less) in
                 let x = f.goes other n.0 vs rest n.1 a t in
-                n.2 (x.0.0 ∷ []) rest x.1;
+                (xs ++ x.0.0 ∷ [], n.2 (x.0.0 ∷ []) rest x.1);
           }
+
+-- what is cut there is one
+pub cut_one : (text other : List ℕ) (at ts us ws vs : List Token) → IsCut text other at ts us vs → IsCut text other at ts ws vs → us ≡ ws
+cut_one text other at [] us ws vs a b = a.1 ∙ sym b.1
+cut_one text other at (t ∷ ts) us ws vs (inl a) (inl b) = a.1 ∙ sym b.1
+cut_one text other at (t ∷ ts) us ws vs (inl a) (inr b) = let less = end_length at ts (cut_end text other at ts b.0 vs b.3) in let same = ap length a.0 in absurd (omega (arith, less, same))
+cut_one text other at (t ∷ ts) us ws vs (inr a) (inl b) = let less = end_length at ts (cut_end text other at ts a.0 vs a.3) in let same = ap length b.0 in absurd (omega (arith, less, same))
+cut_one text other at (t ∷ ts) us ws vs (inr a) (inr b) = a.1 ∙ ap (λ zs. t ∷ zs) (cut_one text other at ts a.0 b.0 vs a.3 b.3) ∙ sym b.1
 
 -- What a loop over a list has read stands in cut tokens too, before the things that are left.
 pub record WantsGone {A : Type 0} (gap : Gap) (P : List ℕ → A → Front) (E : List ℕ → Front) (text : List ℕ) (start ts : List Token) : Type 0 where

@@ -1,6 +1,6 @@
 -- Rules of readers that hold of cut tokens, and their samples.
 use Rattle.std.proofs.Common.{◌≡◌, ◌<◌, ℕ, length, Bool, true, false, Option, Some, None, List, [], ◌∷◌, ◌++◌, refl, sym, ◌∙◌, subst, ap, arith, inl, inr}
-use Rattle.std.specs.Prelude.{ℤ, IsTrue, codes, bytes_eq}
+use Rattle.std.specs.Prelude.{ℤ, IsTrue, codes, bytes_eq, ◌⊎◌, Result, Ok, Err, IfErr, IsErrAnd}
 use Rattle.il_spec.specs.declared.token.Token.{Token}
 use Rattle.il_spec.specs.declared.token.Sign.TheVariants.{Assign, Arrow, Range, Colon, Semicolon, Comma, OpenParenthesis, CloseParenthesis, OpenBracket, CloseBracket, Dot}
 use Rattle.il_spec.specs.declared.keyword.Keyword.{Keyword}
@@ -28,14 +28,15 @@ use Rattle.il_spec.specs.Grammar.{Front, Gap, tight, loose, skip_line_ends, ◌�
 use Rattle.il_grammar_laws.specs.GoesOn.{Sample, Test, always, quiet, calm, settled, IsSampled, Begins}
 use Rattle.il_grammar_laws.proofs.Open.{Fills, Takes, next, sign_fills, word_fills, number_fills, decimal_fills, literal_fills, typed_fills, index_fills, name_fills, the_name_fills, any_word_fills, names_fill, size_fills, inside_fills, operand_fills, loose_operand_fills, target_fills, type_fills, form_fills, declaration_fills, argument_fills, reference_fills, loose_reference_fills, operator_fills, fill_placed, loose_open}
 use Rattle.il_grammar_laws.proofs.Samples.{word_sample, sign_sample, name_sample, number_sample, time_sample, true_sample, line_end_sample, cars_sample, floors_sample, slots_sample, cars_lexeme, floors_lexeme, slots_lexeme, sign_sampled, line_end_sampled, word_sampled, placed_word_sampled, name_sampled, any_word_sampled, the_name_sampled, any_named_sampled, some_name_sampled, text_sampled, number_sampled, decimal_sampled, interval_sampled, literal_sampled, scalar_sampled, type_sampled, index_sampled, reference_sampled, operand_sampled, variable_sampled, loose_variable_sampled, target_sampled, passed_sampled, argument_sampled, inside_sampled, operand_line_sampled}
-use Rattle.il_grammar_laws.proofs.GoesOn.{is_solid, is_calm, is_still, Passes, Stays, stays_tight, stays_loose, passes_quiet, passes_settled, passes_calm, passes_always, IsCutGap, tight_cut, loose_cut, Reaches, reach_tight, reach_loose, then_sampled, behind_sampled, map_sampled, any_sampled, at_sampled, IsFilling, begins_here, begins_first, begins_later, begins_behind, begins_as, begins_at, begins_lines, gone_item, wanted_item, wanted_end}
+use Rattle.il_grammar_laws.proofs.GoesOn.{is_solid, is_calm, is_still, Passes, Stays, stays_tight, stays_loose, passes_quiet, passes_settled, passes_calm, passes_always, IsCutGap, tight_cut, loose_cut, Reaches, reach_tight, reach_loose, then_sampled, behind_sampled, map_sampled, any_sampled, at_sampled, IsFilling, begins_here, begins_first, begins_later, begins_behind, begins_as, begins_at, begins_lines, begins_inside, whole_or, gone_item, wanted_item, wanted_end}
 use Rattle.il_read.specs.declared.tokens.Gap.{Gap as GapKind}
 use Rattle.il_read.specs.declared.tokens.Gap.TheVariants as gap
 use Rattle.il_read.specs.declared.operand.Selector.{Selector}
 use Rattle.il_read.specs.declared.operand.Selector.TheVariants as selector
 use Rattle.il_read.specs.declared.operand.Passed.{Passed}
 use Rattle.il_read.specs.declared.operand.Passed.TheVariants as passed
-use Rattle.il_read.specs.Reads.{IsFault, Reads, Stands, BreaksOff, NamesFirst, test_of, gap_of, SpellsRange, SpellsElementType, SpellsLine, SpellsWork, SpellsRoomy, SpellsInside, SpellsOpened, SpellsListed, AnyNamed}
+use Rattle.il_read.specs.Reads.{IsFault, Reads, Stands, BreaksOff, NamesFirst, test_of, gap_of, SpellsRange, SpellsElementType, SpellsLine, SpellsWork, SpellsRoomy, SpellsInside, SpellsOpened, SpellsListed, AnyNamed, BreaksOffAs, SpellsWorkOf, SpellsRoomyOf, Effect}
+use Rattle.il_read.specs.Reads.Effect.{Even, Opening, Closing}
 use Rattle.il_read.specs.Operands.{SpellsElement, SpellsSelector, SpellsSelected, SpellsPassed, reference_of, argument_of}
 use Rattle.il_read.specs.Settings.{AnInterval, PlacedWord, PlacedDecimal, SpellsSized, SpellsPriority, SpellsSchedule, SpellsTimes, SpellsProgramName, SpellsBound, SpellsWith, SpellsFloors, IsSizeWord}
 use Rattle.il_read.specs.declared.stop.Stop.{Stop}
@@ -196,18 +197,39 @@ pub any_passed_sampled : {test : Test} → IsSampled test (λ text. SpellsPassed
 any_passed_sampled = any_sampled (map_sampled passed.Input (λ x other us r w. w) passed_sampled)
 
 -- what stands behind an operator, and an instruction
-pub work_sampled : (room : Bool) (op : Operator) → IsSampled always (λ text. SpellsWork text room op) (true_sample ∷ line_end_sample ∷ [])
-work_sampled room op = map_sampled (λ (o : Operand). instruction.Operate op o) (λ x other us r w. (refl, w)) operand_line_sampled
+pub work_sampled : (room : Bool) (op : Operator) → IsSampled always (λ text. SpellsWorkOf text room op Even) (true_sample ∷ line_end_sample ∷ [])
+work_sampled room op = map_sampled (λ (o : Operand). instruction.Operate op o) (λ x other us r w. (refl, (refl, w))) operand_line_sampled
 
-pub roomy_sampled : (room : Bool) → IsSampled always (λ text. SpellsRoomy text room) (word_sample word.Not ∷ line_end_sample ∷ [])
-roomy_sampled room = map_sampled (λ (u : Unit {0}). instruction.Not) (λ x other us r w. (tt, w)) (s_part_tight (word_sampled word.Not) line_end_sampled)
+pub roomy_sampled : (room : Bool) → IsSampled always (λ text. SpellsRoomyOf text room Even) (word_sample word.Not ∷ line_end_sample ∷ [])
+roomy_sampled room = map_sampled (λ (u : Unit {0}). instruction.Not) (λ x other us r w. (refl, (tt, w))) (s_part_tight (word_sampled word.Not) line_end_sampled)
+
+-- of one effect
+pub as_effect : {A : Type 0} {P : List ℕ → Effect → A → Front} {text : List ℕ} {ts : List Token} {e : Stop} (effect : Effect) → BreaksOff always (λ text. P text effect) text ts e → BreaksOffAs P text ts e
+as_effect effect bad = record { fault = λ is. let b = bad.fault is in (b.0, b.1, b.2, effect, b.3) }
+
+pub roomy_first : {text : List ℕ} {ts : List Token} {e : Stop} (room : Bool) → NamesFirst ts e → BreaksOffAs (λ text. SpellsRoomyOf text room) text ts e
+roomy_first room bad = as_effect Even (at_first (roomy_sampled room) bad)
+
+-- an error goes up as it is
+pub up_so : {X : Type 0} (B : Stop → Type 0) {e : Stop} (r : Result X Stop) → IsErrAnd r (λ y. y ≡ e) → B e → IfErr r B
+up_so B (Err y) same bad = subst B (sym same) bad
+up_so B (Ok x) same bad = tt
 
 -- an operator stands there, and what follows breaks off
-pub operator_breaks : {text : List ℕ} {ts m : List Token} {e : Stop} (room : Bool) (op : Operator) → SpellsOperator text op ts m → BreaksOff always (λ text. SpellsWork text room op) text m e
-    → BreaksOff always (λ text. SpellsRoomy text room) text ts e
-operator_breaks room op here bad =
-    map_breaks {P = λ text (i : Instruction). SpellsOperator text op ⨾ SpellsWork text room op i} (λ i. i) (λ i other us r w. (work_read other room op us w.0 r i w.1 (record { found = w.2 })).found)
-    (as_breaks (λ at b. begins_behind tight_cut (reach_tight tight_cut) (operator_fills op) here (work_sampled room op) (passes_calm refl) stays_tight b) bad)
+pub operator_breaks : {text : List ℕ} {ts m : List Token} {e : Stop} (room : Bool) (op : Operator) → SpellsOperator text op ts m → BreaksOffAs (λ text. SpellsWorkOf text room op) text m e
+    → BreaksOffAs (λ text. SpellsRoomyOf text room) text ts e
+operator_breaks {text = text} {ts = ts} {m = m} room op here bad = record { fault = λ is. let b = bad.fault is in let g = go b.1 b.3 b.4 (whole_or b.1 m b.4.inside) in (b.0, b.1, b.2, g.0, g.1) }
+  where
+    seen : (effect : Effect) (at : List Token) → Begins always (λ text (i : Instruction). SpellsOperator text op ⨾ SpellsWorkOf text room op effect i) text ts at → Begins always (λ text. SpellsRoomyOf text room effect) text ts at
+    seen effect at b =
+        begins_as {P = λ text (i : Instruction). SpellsOperator text op ⨾ SpellsWorkOf text room op effect i} {Q = λ text. SpellsRoomyOf text room effect} (λ i. i)
+        (λ i other us r w. (w.2.0, (work_read other room op us w.0 r i w.1 (record { found = w.2.1 })).found)) b
+
+    go : (at : List Token) (effect : Effect) → Begins always (λ text. SpellsWorkOf text room op effect) text m at → ((at ≡ m) ⊎ (length at < length m)) → (effect : Effect) × Begins always (λ text. SpellsRoomyOf text room effect) text ts at
+    go at effect b (inl edge) = (Even, seen Even at
+        (subst (λ k. Begins always (λ text (i : Instruction). SpellsOperator text op ⨾ SpellsWorkOf text room op Even i) text ts k) (sym edge)
+        (begins_behind tight_cut (reach_tight tight_cut) (operator_fills op) here (work_sampled room op) (passes_calm refl) stays_tight (begins_here (work_sampled room op) text m))))
+    go at effect b (inr less) = (effect, seen effect at (begins_inside tight_cut (reach_tight tight_cut) (operator_fills op).opens here less b))
 
 pub form_filling : IsFilling loose quiet (λ text. SpellsForm text)
 form_filling = record { one = form_fills }
