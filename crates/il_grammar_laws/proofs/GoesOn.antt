@@ -1,5 +1,5 @@
 -- Tokens that are the beginning of a rule, put together.
-use Rattle.std.proofs.Common.{◌≡◌, ◌<◌, ◌≤◌, ℕ, Bool, true, false, not, ◌&&◌, List, [], ◌∷◌, ◌++◌, length, refl, sym, ◌∙◌, ap, subst, inl, inr, arith}
+use Rattle.std.proofs.Common.{◌≡◌, ◌<◌, ◌≤◌, ℕ, zero, suc, Bool, true, false, not, ◌&&◌, List, [], ◌∷◌, ◌++◌, length, refl, sym, ◌∙◌, ap, subst, inl, inr, arith}
 use Rattle.std.specs.Prelude.{◌⊎◌, IsTrue, bytes_eq, codes, if◌then◌else◌}
 use Rattle.il_spec.specs.declared.token.Token.{Token}
 use Rattle.il_spec.specs.declared.token.Kind.{Kind}
@@ -10,7 +10,7 @@ use Rattle.il_spec.specs.declared.tree.Place.{Place}
 use Rattle.il_spec.specs.Text.{upper_case, name_of}
 use Rattle.il_spec.specs.Grammar.{Front, Gap, tight, loose, is_line_end, skip_line_ends, ◌⟨◌⟩◌, ◌⨾◌, ◌⋯◌, AfterLines, No, One, At, Repeats, Listed, TheSign, TheLetterN}
 use Rattle.il_grammar_laws.specs.Alike.{HasSameBytes, IsEndOf, IsGap}
-use Rattle.il_grammar_laws.specs.GoesOn.{Sample, IsOf, AreOf, IsCut, Test, always, stops, lacks, IsQuiet, quiet, IsCalm, calm, settled, IsOpen, IsSampled, Begins}
+use Rattle.il_grammar_laws.specs.GoesOn.{Sample, IsOf, AreOf, IsCut, Test, always, stops, lacks, IsQuiet, quiet, IsCalm, calm, settled, ended, IsOpen, IsSampled, Begins}
 use Rattle.il_grammar_laws.proofs.Alike.{end_length, end_self, end_of_end, end_same, tight_gap, loose_gap, gap_length}
 use Rattle.il_grammar_laws.proofs.Open.{Opens, Takes, Fills, IsOpenGap, tight_open, loose_open, skip_still, cut_end, sign_fills}
 
@@ -45,11 +45,15 @@ pub record Passes (first : Test) (samples : List Sample) (second : Test) : Type 
   pub yes : (other : List ℕ) (vs rest : List Token) → AreOf other samples vs rest → second other rest → first other vs
 
 -- what a gap leaves as it is
-pub record Stays (gap : Gap) (samples : List Sample) : Type 0 where
-  pub same : (other : List ℕ) (vs rest : List Token) → AreOf other samples vs rest → gap vs ≡ vs
+pub record Stays (gap : Gap) (samples : List Sample) (second : Test) : Type 0 where
+  pub same : (other : List ℕ) (vs rest : List Token) → AreOf other samples vs rest → second other rest → gap vs ≡ vs
 
-pub stays_tight : {samples : List Sample} → Stays tight samples
-stays_tight = record { same = λ other vs rest a. refl }
+pub stays_tight : {samples : List Sample} {test : Test} → Stays tight samples test
+stays_tight = record { same = λ other vs rest a t. refl }
+
+-- where nothing is left there are no line ends either
+pub stays_ended : Stays loose [] ended
+stays_ended = record { same = λ other vs rest a t. ap skip_line_ends (a ∙ t) ∙ sym (a ∙ t) }
 
 no_skip : (t : Token) (ts : List Token) → is_line_end t.kind ≡ false → skip_line_ends (t ∷ ts) ≡ t ∷ ts
 no_skip t ts e = ap (λ (b : Bool). if b then skip_line_ends ts else t ∷ ts) e
@@ -58,12 +62,12 @@ negated : (b : Bool) → not b ≡ true → b ≡ false
 negated true e = sym e
 negated false e = refl
 
-pub stays_loose : {samples : List Sample} → is_solid samples ≡ true → Stays loose samples
-stays_loose {samples = samples} solid = go samples solid
+pub stays_loose : {samples : List Sample} {test : Test} → is_solid samples ≡ true → Stays loose samples test
+stays_loose {samples = samples} {test = test} solid = go samples solid
   where
-    go : (samples : List Sample) → is_solid samples ≡ true → Stays loose samples
+    go : (samples : List Sample) → is_solid samples ≡ true → Stays loose samples test
     go [] solid = absurd cc
-    go (s ∷ ss) solid = record { same = λ other vs rest a. subst (λ x. skip_line_ends x ≡ x) (sym a.2) (no_skip a.0 a.1 (ap is_line_end a.3.0 ∙ negated (is_line_end s.kind) solid)) }
+    go (s ∷ ss) solid = record { same = λ other vs rest a t. subst (λ x. skip_line_ends x ≡ x) (sym a.2) (no_skip a.0 a.1 (ap is_line_end a.3.0 ∙ negated (is_line_end s.kind) solid)) }
 
 -- whether a token of this sample begins nothing that a rule looks ahead for
 abbrev pub calm_kind : Kind → List ℕ → Bool
@@ -191,24 +195,24 @@ reach_loose m = omega arith
 
 -- a rule that has samples, behind another
 module _ {A B : Type 0} {P : List ℕ → A → Front} {Q : List ℕ → B → Front} {first second : Test} {ss zs : List Sample} (gap : Gap) where
-  pub then_sampled : IsSampled first P ss → IsSampled second Q zs → Passes first zs second → Stays gap zs → IsSampled second (λ text (x : A × B). P text x.0 ⟨ gap ⟩ Q text x.1) (ss ++ zs)
+  pub then_sampled : IsSampled first P ss → IsSampled second Q zs → Passes first zs second → Stays gap zs second → IsSampled second (λ text (x : A × B). P text x.0 ⟨ gap ⟩ Q text x.1) (ss ++ zs)
   then_sampled p q passes stays = record {
     stands = λ other vs rest a t.
         let mid = samples_apart other ss zs vs rest a in
         let x = p.stands other vs mid.0 mid.1 (passes.yes other mid.0 rest mid.2 t) in
         let y = q.stands other mid.0 rest mid.2 t in
-        ((x.0, y.0), (mid.0, x.1, subst (λ k. Q other y.0 k rest) (sym (stays.same other mid.0 rest mid.2)) y.1));
+        ((x.0, y.0), (mid.0, x.1, subst (λ k. Q other y.0 k rest) (sym (stays.same other mid.0 rest mid.2 t)) y.1));
   }
 
 -- the same behind a rule without a value
 pub behind_sampled : {B : Type 0} {F : List ℕ → Front} {Q : List ℕ → B → Front} {first second : Test} {ss zs : List Sample} (gap : Gap)
-    → IsSampled first (λ text (u : Unit {0}). F text) ss → IsSampled second Q zs → Passes first zs second → Stays gap zs → IsSampled second (λ text (y : B). F text ⟨ gap ⟩ Q text y) (ss ++ zs)
+    → IsSampled first (λ text (u : Unit {0}). F text) ss → IsSampled second Q zs → Passes first zs second → Stays gap zs second → IsSampled second (λ text (y : B). F text ⟨ gap ⟩ Q text y) (ss ++ zs)
 behind_sampled {Q = Q} {ss = ss} {zs = zs} gap p q passes stays = record {
   stands = λ other vs rest a t.
       let mid = samples_apart other ss zs vs rest a in
       let x = p.stands other vs mid.0 mid.1 (passes.yes other mid.0 rest mid.2 t) in
       let y = q.stands other mid.0 rest mid.2 t in
-      (y.0, (mid.0, x.1, subst (λ k. Q other y.0 k rest) (sym (stays.same other mid.0 rest mid.2)) y.1));
+      (y.0, (mid.0, x.1, subst (λ k. Q other y.0 k rest) (sym (stays.same other mid.0 rest mid.2 t)) y.1));
 }
 
 -- the same samples for another value, or under a harder test
@@ -242,7 +246,7 @@ begins_here {P = P} {test = test} {ss = ss} p text ts = record {
 
 -- the first part breaks off
 pub begins_first : {A B : Type 0} {P : List ℕ → A → Front} {Q : List ℕ → B → Front} {first second : Test} {zs : List Sample} {text : List ℕ} {ts at : List Token} (gap : Gap)
-    → IsSampled second Q zs → Passes first zs second → Stays gap zs → Begins first P text ts at → Begins second (λ text (x : A × B). P text x.0 ⟨ gap ⟩ Q text x.1) text ts at
+    → IsSampled second Q zs → Passes first zs second → Stays gap zs second → Begins first P text ts at → Begins second (λ text (x : A × B). P text x.0 ⟨ gap ⟩ Q text x.1) text ts at
 begins_first {Q = Q} {zs = zs} gap q passes stays b = record {
   inside = b.inside;
   samples = b.samples ++ zs;
@@ -250,42 +254,51 @@ begins_first {Q = Q} {zs = zs} gap q passes stays b = record {
       let mid = samples_apart other b.samples zs vs rest a in
       let x = b.goes other us vs mid.0 c mid.1 (passes.yes other mid.0 rest mid.2 t) in
       let y = q.stands other mid.0 rest mid.2 t in
-      ((x.0, y.0), (mid.0, x.1, subst (λ k. Q other y.0 k rest) (sym (stays.same other mid.0 rest mid.2)) y.1));
+      ((x.0, y.0), (mid.0, x.1, subst (λ k. Q other y.0 k rest) (sym (stays.same other mid.0 rest mid.2 t)) y.1));
 }
 
 -- a rule of which each value holds of cut tokens, and takes one
 pub record IsFilling {A : Type 0} (look : Gap) (test : Test) (P : List ℕ → A → Front) : Type 0 where
   pub one : (x : A) → Fills look test (λ text. P text x)
 
+-- a rule of which each value holds of cut tokens
+pub record IsOpening {A : Type 0} (look : Gap) (test : Test) (P : List ℕ → A → Front) : Type 0 where
+  pub one : (x : A) → Opens look test (λ text. P text x)
+
 -- a part stands there, and what has to follow breaks off
-pub begins_later : {A B : Type 0} {P : List ℕ → A → Front} {Q : List ℕ → B → Front} {first second : Test} {zs : List Sample} {text : List ℕ} {ts m at : List Token} {x : A} {look gap : Gap}
-    → IsCutGap gap → Reaches gap look → IsFilling look first P → P text x ts m → IsSampled second Q zs → Passes first zs second → Stays gap zs → Begins second Q text (gap m) at
+pub begins_later_open : {A B : Type 0} {P : List ℕ → A → Front} {Q : List ℕ → B → Front} {first second : Test} {zs : List Sample} {text : List ℕ} {ts m at : List Token} {x : A} {look gap : Gap}
+    → IsCutGap gap → Reaches gap look → IsOpening look first P → P text x ts m → IsSampled second Q zs → Passes first zs second → Stays gap zs second → Begins second Q text (gap m) at
     → Begins second (λ text (y : A × B). P text y.0 ⟨ gap ⟩ Q text y.1) text ts at
-begins_later {A = A} {B = B} {P = P} {Q = Q} {first = first} {second = second} {zs = zs} {text = text} {ts = ts} {m = m} {at = at} {x = x} {gap = gap} cut far one here q passes stays b = go (whole_or at (gap m) b.inside)
+begins_later_open {A = A} {B = B} {P = P} {Q = Q} {first = first} {second = second} {zs = zs} {text = text} {ts = ts} {m = m} {at = at} {x = x} {gap = gap} cut far one here q passes stays b = go (whole_or at (gap m) b.inside)
   where
     go : ((at ≡ gap m) ⊎ (length at < length (gap m))) → Begins second (λ text (y : A × B). P text y.0 ⟨ gap ⟩ Q text y.1) text ts at
     go (inl edge) =
         let inside = end_of_end at (gap m) m (cut.over.is.ends m) b.inside in
         record {
-          inside = end_of_end at m ts ((one.one x).opens.ends text ts m here) inside;
+          inside = end_of_end at m ts ((one.one x).ends text ts m here) inside;
           samples = zs;
           goes = λ other us vs rest c a t.
-              let p = (one.one x).opens.keeps text other at ts us vs m here inside c (inr (passes.yes other vs rest a t)) in
+              let p = (one.one x).keeps text other at ts us vs m here inside c (inr (passes.yes other vs rest a t)) in
               let y = q.stands other vs rest a t in
-              let same = cut_here text other at (gap m) (gap p.0) vs (cut.still text other at m p.0 vs p.2 b.inside (stays.same other vs rest a)) edge in
+              let same = cut_here text other at (gap m) (gap p.0) vs (cut.still text other at m p.0 vs p.2 b.inside (stays.same other vs rest a t)) edge in
               ((x, y.0), (p.0, p.1, subst (λ k. Q other y.0 k rest) (sym same) y.1));
         }
     go (inr less) =
         let inside = end_of_end at (gap m) m (cut.over.is.ends m) b.inside in
         let fits = far m in
         record {
-          inside = end_of_end at m ts ((one.one x).opens.ends text ts m here) inside;
+          inside = end_of_end at m ts ((one.one x).ends text ts m here) inside;
           samples = b.samples;
           goes = λ other us vs rest c a t.
-              let p = (one.one x).opens.keeps text other at ts us vs m here inside c (inl (omega (arith, less, fits))) in
+              let p = (one.one x).keeps text other at ts us vs m here inside c (inl (omega (arith, less, fits))) in
               let y = b.goes other (gap p.0) vs rest (cut.over.cut text other at m p.0 vs p.2 less) a t in
               ((x, y.0), (p.0, p.1, y.1));
         }
+
+pub begins_later : {A B : Type 0} {P : List ℕ → A → Front} {Q : List ℕ → B → Front} {first second : Test} {zs : List Sample} {text : List ℕ} {ts m at : List Token} {x : A} {look gap : Gap}
+    → IsCutGap gap → Reaches gap look → IsFilling look first P → P text x ts m → IsSampled second Q zs → Passes first zs second → Stays gap zs second → Begins second Q text (gap m) at
+    → Begins second (λ text (y : A × B). P text y.0 ⟨ gap ⟩ Q text y.1) text ts at
+begins_later cut far one here q passes stays b = begins_later_open cut far (record { one = λ x. (one.one x).opens }) here q passes stays b
 
 -- the same, where something of it is read
 pub begins_inside : {B : Type 0} {F : List ℕ → Front} {Q : List ℕ → B → Front} {first second : Test} {text : List ℕ} {ts m at : List Token} {look gap : Gap}
@@ -322,7 +335,7 @@ begins_at {A = A} {P = P} some b = record { inside = b.inside; samples = b.sampl
 
 -- the same behind a part without a value
 pub begins_behind : {B : Type 0} {F : List ℕ → Front} {Q : List ℕ → B → Front} {first second : Test} {zs : List Sample} {text : List ℕ} {ts m at : List Token} {look gap : Gap}
-    → IsCutGap gap → Reaches gap look → Fills look first F → F text ts m → IsSampled second Q zs → Passes first zs second → Stays gap zs → Begins second Q text (gap m) at
+    → IsCutGap gap → Reaches gap look → Fills look first F → F text ts m → IsSampled second Q zs → Passes first zs second → Stays gap zs second → Begins second Q text (gap m) at
     → Begins second (λ text (y : B). F text ⟨ gap ⟩ Q text y) text ts at
 begins_behind {B = B} {F = F} {Q = Q} {gap = gap} cut far one here q passes stays b =
     begins_as {P = λ text (x : Unit {0} × B). F text ⟨ gap ⟩ Q text x.1} {Q = λ text (y : B). F text ⟨ gap ⟩ Q text y} (λ x. x.1) (λ x other us r w. w)
@@ -330,7 +343,7 @@ begins_behind {B = B} {F = F} {Q = Q} {gap = gap} cut far one here q passes stay
 
 -- a part without a value breaks off
 pub begins_first_part : {B : Type 0} {F : List ℕ → Front} {Q : List ℕ → B → Front} {first second : Test} {zs : List Sample} {text : List ℕ} {ts at : List Token} (gap : Gap)
-    → IsSampled second Q zs → Passes first zs second → Stays gap zs → Begins first (λ text (u : Unit {0}). F text) text ts at → Begins second (λ text (y : B). F text ⟨ gap ⟩ Q text y) text ts at
+    → IsSampled second Q zs → Passes first zs second → Stays gap zs second → Begins first (λ text (u : Unit {0}). F text) text ts at → Begins second (λ text (y : B). F text ⟨ gap ⟩ Q text y) text ts at
 begins_first_part {B = B} {F = F} {Q = Q} gap q passes stays b =
     begins_as {P = λ text (x : Unit {0} × B). F text ⟨ gap ⟩ Q text x.1} {Q = λ text (y : B). F text ⟨ gap ⟩ Q text y} (λ x. x.1) (λ x other us r w. w)
     (begins_first {P = λ text (u : Unit {0}). F text} {Q = Q} gap q passes stays b)
@@ -372,7 +385,7 @@ module _ {A : Type 0} {P : List ℕ → A → Front} {E : List ℕ → Front} {t
       gapped other at n vs c e (inr s) = skip_still text other at m n vs c e s
 
   -- one of them breaks off
-  pub gone_item : {first : Test} {es : List Sample} {start ts at : List Token} {xs : List A} → IsSampled always (λ text (u : Unit {0}). E text) es → Passes first es always → Stays loose es → HasGone P E text start xs ts
+  pub gone_item : {first : Test} {es : List Sample} {start ts at : List Token} {xs : List A} → IsSampled always (λ text (u : Unit {0}). E text) es → Passes first es always → Stays loose es always → HasGone P E text start xs ts
       → Begins first P text ts at → Begins always (λ text ys. Repeats (P text) ys (E text)) text start at
   gone_item {first = first} {es = es} {start = start} {ts = ts} {at = at} {xs = xs} e passes stays so_far b = go (whole_or at ts b.inside)
     where
@@ -381,7 +394,7 @@ module _ {A : Type 0} {P : List ℕ → A → Front} {E : List ℕ → Front} {t
         inside = end_of_end at ts start so_far.inside b.inside;
         samples = es;
         goes = λ other us vs rest c a t.
-            let n = so_far.on other at us vs b.inside c (inr (stays.same other vs rest a)) in
+            let n = so_far.on other at us vs b.inside c (inr (stays.same other vs rest a t)) in
             let x = e.stands other vs rest a t in
             (xs ++ [], n.2 [] rest (subst (λ k. E other k rest) (sym (cut_here text other at ts n.0 vs n.1 edge)) x.1));
       }
@@ -445,8 +458,8 @@ module _ {A : Type 0} {gap : Gap} {P : List ℕ → A → Front} {E : List ℕ �
       gapped other at n vs c e (inr s) = cut.still text other at k n vs c e s
 
   -- one of them breaks off
-  pub wanted_item : {first second : Test} {ps es : List Sample} {start ts at : List Token} → IsSampled first P ps → IsSampled second (λ text (u : Unit {0}). E text) es → Passes first es second → Stays gap es
-      → Stays gap (ps ++ es) → WantsGone gap P E text start ts → Begins first P text ts at → Begins second (λ text ys. Listed gap (P text) ys (E text)) text start at
+  pub wanted_item : {first second : Test} {ps es : List Sample} {start ts at : List Token} → IsSampled first P ps → IsSampled second (λ text (u : Unit {0}). E text) es → Passes first es second → Stays gap es second
+      → Stays gap (ps ++ es) second → WantsGone gap P E text start ts → Begins first P text ts at → Begins second (λ text ys. Listed gap (P text) ys (E text)) text start at
   wanted_item {first = first} {second = second} {ps = ps} {es = es} {start = start} {ts = ts} {at = at} p e passes stays whole so_far b = go (whole_or at ts b.inside)
     where
       go : ((at ≡ ts) ⊎ (length at < length ts)) → Begins second (λ text ys. Listed gap (P text) ys (E text)) text start at
@@ -456,7 +469,7 @@ module _ {A : Type 0} {gap : Gap} {P : List ℕ → A → Front} {E : List ℕ �
             inside = end_of_end at ts start so_far.inside b.inside;
             samples = ps ++ es;
             goes = λ other us vs rest c a t.
-                let n = so_far.on other at us vs b.inside c (inr (whole.same other vs rest a)) in
+                let n = so_far.on other at us vs b.inside c (inr (whole.same other vs rest a t)) in
                 let x = f.stands other vs rest a t in
                 n.2 x.0.0 [] rest (subst (λ k. (P other x.0.0 ⟨ gap ⟩ E other) k rest) (sym (cut_here text other at ts n.0 vs n.1 edge)) x.1);
           }
@@ -473,7 +486,7 @@ module _ {A : Type 0} {gap : Gap} {P : List ℕ → A → Front} {E : List ℕ �
 
   -- the last one, and no end behind it
   pub wanted_end : {look : Gap} {first second : Test} {es : List Sample} {start ts m : List Token} {x : A} → IsCutGap gap → Reaches gap look → IsFilling look first P → IsSampled second (λ text (u : Unit {0}). E text) es
-      → Passes first es second → Stays gap es → WantsGone gap P E text start ts → P text x ts m → Begins second (λ text ys. Listed gap (P text) ys (E text)) text start (gap m)
+      → Passes first es second → Stays gap es second → WantsGone gap P E text start ts → P text x ts m → Begins second (λ text ys. Listed gap (P text) ys (E text)) text start (gap m)
   wanted_end {start = start} {ts = ts} {m = m} {x = x} cut far fill e passes stays so_far here =
       let b = begins_later {P = P} {Q = λ text (u : Unit {0}). E text} cut far fill here e passes stays (begins_here e text (gap m)) in
       let l1 = (fill.one x).takes.less text ts m here in
@@ -498,7 +511,7 @@ begins_lines {A = A} {P = P} {test = test} {zs = zs} {text = text} {ts = ts} {at
       samples = zs;
       goes = λ other us vs rest c a t.
           let y = q.stands other vs rest a t in
-          let same = cut_here text other at (skip_line_ends ts) (skip_line_ends us) vs (skip_still text other at ts us vs c b.inside ((stays_loose solid).same other vs rest a)) edge in
+          let same = cut_here text other at (skip_line_ends ts) (skip_line_ends us) vs (skip_still text other at ts us vs c b.inside ((stays_loose {test = test} solid).same other vs rest a t)) edge in
           (y.0, subst (λ k. P other y.0 k rest) (sym same) y.1);
     }
     go (inr less) = record {
@@ -506,3 +519,73 @@ begins_lines {A = A} {P = P} {test = test} {zs = zs} {text = text} {ts = ts} {at
       samples = b.samples;
       goes = λ other us vs rest c a t. b.goes other (skip_line_ends us) vs rest (loose_open.cut text other at ts us vs c less) a t;
     }
+
+-- one number is less than another, or not
+pub less_or : (a b : ℕ) → (a < b) ⊎ (b ≤ a)
+less_or a zero = inr (omega arith)
+less_or zero (suc b) = inl (omega arith)
+less_or (suc a) (suc b) = step (less_or a b)
+  where
+    step : (a < b) ⊎ (b ≤ a) → (suc a < suc b) ⊎ (suc b ≤ suc a)
+    step (inl l) = inl (omega (arith, l))
+    step (inr l) = inr (omega (arith, l))
+
+-- a rule that stands behind line ends more as well
+pub record IsLax {A : Type 0} (P : List ℕ → A → Front) : Type 0 where
+  pub more : (text : List ℕ) (x : A) (t : Token) (ts rest : List Token) → is_line_end t.kind ≡ true → P text x ts rest → P text x (t ∷ ts) rest
+
+-- a part of one, which takes them, or nothing
+pub record IsLaxPart {A : Type 0} (P : List ℕ → A → Front) : Type 0 where
+  pub more : (text : List ℕ) (x : A) (t : Token) (ts rest : List Token) → is_line_end t.kind ≡ true → P text x ts rest → P text x (t ∷ ts) rest ⊎ ((ts ≡ rest) × P text x (t ∷ ts) (t ∷ ts))
+
+pub lax_chain : {A B : Type 0} {P : List ℕ → A → Front} {Q : List ℕ → B → Front} → IsLaxPart P → IsLax Q → IsLax (λ text (y : A × B). P text y.0 ⨾ Q text y.1)
+lax_chain {A = A} {B = B} {P = P} {Q = Q} p q = record { more = λ text y t ts rest line w. go text y t ts rest w line (p.more text y.0 t ts w.0 line w.1) }
+  where
+    go : (text : List ℕ) (y : A × B) (t : Token) (ts rest : List Token) → (w : (P text y.0 ⨾ Q text y.1) ts rest) → is_line_end t.kind ≡ true → P text y.0 (t ∷ ts) w.0 ⊎ ((ts ≡ w.0) × P text y.0 (t ∷ ts) (t ∷ ts))
+        → (P text y.0 ⨾ Q text y.1) (t ∷ ts) rest
+    go text y t ts rest w line (inl k) = (w.0, k, w.2)
+    go text y t ts rest w line (inr k) = (t ∷ ts, k.1, q.more text y.1 t ts rest line (subst (λ x. Q text y.1 x rest) (sym k.0) w.2))
+
+-- what is cut among line ends
+front_lax : {B : Type 0} {Q : List ℕ → B → Front} → IsLax Q → (text other : List ℕ) (y : B) (at m n vs rest : List Token) → IsCut text other at m n vs → length (skip_line_ends m) ≤ length at → Q other y vs rest → Q other y n rest
+front_lax {Q = Q} lax text other y at [] n vs rest c l w = subst (λ x. Q other y x rest) (sym c.1) w
+front_lax {Q = Q} lax text other y at (t ∷ m) n vs rest (inl c) l w = subst (λ x. Q other y x rest) (sym c.1) w
+front_lax {Q = Q} lax text other y at (t ∷ m) n vs rest (inr c) l w =
+    subst (λ x. Q other y x rest) (sym c.1) (go (is_line_end t.kind) refl l (λ k. front_lax lax text other y at m c.0 vs rest c.3 k w))
+  where
+    go : (b : Bool) → is_line_end t.kind ≡ b → length (if b then skip_line_ends m else t ∷ m) ≤ length at → (length (skip_line_ends m) ≤ length at → Q other y c.0 rest) → Q other y (t ∷ c.0) rest
+    go true line l f = lax.more other y t c.0 rest line (f l)
+    go false line l f = let less = end_length at m (cut_end text other at m c.0 vs c.3) in absurd (omega (arith, less, l))
+
+-- a part that looks behind line ends stands there, and what follows directly breaks off
+pub begins_later_lax : {A B : Type 0} {P : List ℕ → A → Front} {Q : List ℕ → B → Front} {first second : Test} {zs : List Sample} {text : List ℕ} {ts m at : List Token} {x : A}
+    → IsOpening loose first P → P text x ts m → IsSampled second Q zs → IsLax Q → Passes first zs second → Begins second Q text m at → Begins second (λ text (y : A × B). P text y.0 ⨾ Q text y.1) text ts at
+begins_later_lax {A = A} {B = B} {P = P} {Q = Q} {first = first} {second = second} {zs = zs} {text = text} {ts = ts} {m = m} {at = at} {x = x} one here q lax passes b = go (less_or (length at) (length (skip_line_ends m)))
+  where
+    go : ((length at < length (skip_line_ends m)) ⊎ (length (skip_line_ends m) ≤ length at)) → Begins second (λ text (y : A × B). P text y.0 ⨾ Q text y.1) text ts at
+    go (inl less) = record {
+      inside = end_of_end at m ts ((one.one x).ends text ts m here) b.inside;
+      samples = b.samples;
+      goes = λ other us vs rest c a t.
+          let p = (one.one x).keeps text other at ts us vs m here b.inside c (inl less) in
+          let y = b.goes other p.0 vs rest p.2 a t in
+          ((x, y.0), (p.0, p.1, y.1));
+    }
+    go (inr far) = record {
+      inside = end_of_end at m ts ((one.one x).ends text ts m here) b.inside;
+      samples = zs;
+      goes = λ other us vs rest c a t.
+          let p = (one.one x).keeps text other at ts us vs m here b.inside c (inr (passes.yes other vs rest a t)) in
+          let y = q.stands other vs rest a t in
+          ((x, y.0), (p.0, p.1, front_lax lax text other y.0 at m p.0 vs rest p.2 far y.1));
+    }
+
+-- nothing is read yet but line ends
+pub begins_ahead : {A : Type 0} {P : List ℕ → A → Front} {test : Test} {zs : List Sample} → IsSampled test P zs → IsLax P → (text : List ℕ) (ts : List Token) → Begins test P text ts (skip_line_ends ts)
+begins_ahead {zs = zs} p lax text ts = record {
+  inside = loose_gap.ends ts;
+  samples = zs;
+  goes = λ other us vs rest c a t.
+      let x = p.stands other vs rest a t in
+      (x.0, front_lax lax text other x.0 (skip_line_ends ts) ts us vs rest c (omega arith) x.1);
+}

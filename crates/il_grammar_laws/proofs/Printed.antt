@@ -32,8 +32,7 @@ use Rattle.il_text.proofs.Places.{passes_in_text, run_from, run_some, minus_from
 use Rattle.il_text.proofs.Lexemes.{lexeme_within}
 use Rattle.il_text.proofs.Blanks.{blank_within}
 use Rattle.il_grammar_laws.specs.Alike.{IsEndOf}
-use Rattle.il_grammar_laws.specs.GoesOn.{Sample, AreOf, IsCut, Begins}
-use Rattle.il_grammar_laws.proofs.Samples.{ended}
+use Rattle.il_grammar_laws.specs.GoesOn.{Sample, AreOf, IsCut, Begins, ended}
 
 -- A TEXT THAT IS CUT, WITH A SPACE THERE
 

@@ -47,7 +47,7 @@ use Rattle.std.specs.Char.{is_ascii_digit}
 use Rattle.il_spec.specs.Words.{keyword_of}
 use Rattle.il_spec.specs.Grammar.{Front, Gap, tight, loose, is_line_end, skip_line_ends, ◌⟨◌⟩◌, ◌⨾◌, ◌⋯◌, AfterLines, No, One, At, Repeats, Listed, TheEnd, is_nested, end_word}
 use Rattle.il_spec.specs.Grammar.{TheSign, TheLineEnd, ANumber, ATyped, TheWord, AWord, AName, TheName, SomeName, TheText, ADecimal, ALiteral, SpellsSubrange, SpellsScalar, SpellsForm, SpellsType, SpellsInitial, SpellsDeclaration, SpellsExternal, SpellsList, SpellsFilledList, SpellsOptionalList, SpellsIndex, SpellsReference, SpellsOperand, SpellsTarget, TheLetterN, SpellsOperator, SpellsArgument, SpellsArguments, SpellsOperands, SpellsFirst, SpellsInstruction, SpellsLabel, SpellsStep, SpellsLabelLine, SpellsBody, SpellsNoExternals, SpellsExternals, SpellsResult, SpellsUnit, SpellsSize, SpellsGlobals, SpellsTask, SpellsProgramLine, SpellsConfig}
-use Rattle.il_grammar_laws.specs.GoesOn.{Sample, IsOf, AreOf, Test, always, stops, lacks, quiet, calm, settled, IsSampled}
+use Rattle.il_grammar_laws.specs.GoesOn.{Sample, IsOf, AreOf, Test, always, stops, lacks, quiet, calm, settled, IsSampled, ended}
 
 -- the bytes of a reserved word
 abbrev pub word_bytes : Keyword → List ℕ
@@ -1044,10 +1044,6 @@ on_sampled = reading (λ (x : Unit {0} × (Unit {0} × (List Task × (List Progr
 pub resource_sampled : IsSampled always (λ text (x : List Task × (List ProgramLine × Place)). TheWord text word.Resource ⋯ SomeName text ⋯ TheWord text word.On ⋯ SomeName text
     ⋯ Repeats (SpellsTask text) x.0 (Repeats (SpellsProgramLine text) x.1.0 (At x.1.1 (TheWord text word.EndResource)))) resource_samples
 resource_sampled = reading (λ (x : Unit {0} × (Unit {0} × (List Task × (List ProgramLine × Place)))). x.1.1) (next_lines refl (word_sampled word.Resource) (next_lines refl some_name_sampled on_sampled))
-
--- nothing stands behind: what the end of the text asks
-abbrev pub ended : Test
-ended other vs = vs ≡ []
 
 pub the_end_sampled : IsSampled ended (λ text (u : Unit {0}). TheEnd) []
 the_end_sampled = record { stands = λ other vs rest a k. (tt, (a ∙ k, k)) }

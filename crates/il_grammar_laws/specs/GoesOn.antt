@@ -72,6 +72,10 @@ calm other vs = IsCalm other vs
 abbrev pub settled : Test
 settled other vs = IsCalm other vs × (skip_line_ends vs ≡ vs)
 
+-- nothing stands there (own rule)
+abbrev pub ended : Test
+ended other vs = vs ≡ []
+
 -- A rule that holds of tokens holds of those that are cut behind it, if what stands there now passes a test. Where the token behind line ends, the
 -- furthest that a rule looks at, is the same, nothing is tested (own rule).
 pub record IsOpen {A : Type 0} (test : Test) (P : List ℕ → A → Front) : Type 0 where

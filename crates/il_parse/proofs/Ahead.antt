@@ -11,6 +11,8 @@ use Rattle.il_grammar_laws.specs.Alike.{IsEndOf, AreAlike, IsGap, IsLocal}
 use Rattle.il_grammar_laws.proofs.Alike.{end_self, end_length, end_of_end, alike_self, loose_gap, gap_length}
 use Rattle.il_grammar_laws.proofs.Local.{line_end_local}
 use Rattle.il_grammar_laws.proofs.Bodies.{skip_one}
+use Rattle.il_grammar_laws.specs.GoesOn.{always}
+use Rattle.il_grammar_laws.proofs.GoesOn.{IsFilling, gone_on}
 use Rattle.il_read.specs.Reads.{IsFault, Reads, GoesOnNoMore, Refuses, Stands, Misses, turn, fault_at}
 use Rattle.il_read.specs.declared.stop.SyntaxError.{SyntaxError}
 use Rattle.il_read.specs.declared.stop.Stop.{Stop}
@@ -170,11 +172,12 @@ no_steps last text ts m e here bad =
     }
 
 -- a loop goes on, whose things are none of its end
-pub goes_on_apart : {A : Type 0} (P : List ℕ → A → Front) (E : List ℕ → Front) (text : List ℕ) → IsLocal loose P → (start : List Token) (xs : List A) (ts : List Token) (x : A) (m : List Token)
+pub goes_on_apart : {A : Type 0} (P : List ℕ → A → Front) (E : List ℕ → Front) (text : List ℕ) → IsFilling tight always P → IsLocal loose P → (start : List Token) (xs : List A) (ts : List Token) (x : A) (m : List Token)
     → ((other : List ℕ) (us r q : List Token) → P other x us q → E other us r → ⊥) → HasRead P E text start xs ts → Reads (P text) ts x m → HasRead P E text start (xs ++ x ∷ []) (skip_line_ends m)
-goes_on_apart {A = A} P E text one start xs ts x m apart so_far here =
+goes_on_apart {A = A} P E text fill one start xs ts x m apart so_far here =
     let within = end_of_end (skip_line_ends m) m ts ((one.carries x).ends text ts m here.found) (loose_gap.ends m) in
     record {
+      gone = gone_on fill so_far.gone here.found;
       inside = end_of_end (skip_line_ends m) ts start so_far.inside within;
       whole = λ more r w. subst (λ (zs : List A). Repeats (P text) zs (E text) start r) (regroup xs x more) (so_far.whole (x ∷ more) r (m, here.found, w));
       left = λ other back us a l.

@@ -16,7 +16,10 @@ use Rattle.il_spec.specs.declared.tree.Instruction.{Instruction}
 use Rattle.il_spec.specs.declared.tree.Instruction.TheVariants as instruction
 use Rattle.il_spec.specs.declared.tree.Step.{Step}
 use Rattle.il_spec.specs.declared.tree.Body.{Body}
-use Rattle.il_spec.specs.Grammar.{Front, At, skip_line_ends, Repeats, TheWord, SpellsOperator, SpellsShortly, SpellsAmpersand, SpellsInstruction, SpellsLabelled, SpellsStep, SpellsLabelLine, may_stand, closes, leaves, is_load, depth_after, needs_load, is_nested, greatest_depth}
+use Rattle.il_spec.specs.Grammar.{tight, Front, At, skip_line_ends, Repeats, TheWord, SpellsOperator, SpellsShortly, SpellsAmpersand, SpellsInstruction, SpellsLabelled, SpellsStep, SpellsLabelLine, may_stand, closes, leaves, is_load, depth_after, needs_load, is_nested, greatest_depth}
+use Rattle.il_grammar_laws.specs.GoesOn.{always}
+use Rattle.il_grammar_laws.proofs.Open.{step_fills}
+use Rattle.il_grammar_laws.proofs.GoesOn.{IsFilling}
 use Rattle.il_grammar_laws.proofs.Leads.{at_holds, reserved}
 use Rattle.il_grammar_laws.proofs.Instructions.{sort_at, none}
 use Rattle.il_grammar_laws.proofs.Bodies.{step_no_end}
@@ -73,6 +76,10 @@ both_left false b e = e
 zero_is : (d : ℕ) → (d == 0) ≡ true → d ≡ 0
 zero_is zero e = refl
 zero_is (suc d) e = let bad : false ≡ true = sym (not_zero d) ∙ e in absurd cc
+
+-- instructions with their labels hold of cut tokens
+pub step_filling : IsFilling tight always (λ text. SpellsStep text)
+step_filling = record { one = step_fills }
 
 -- the labels at the end of a body, and its end
 abbrev pub TheEnds : List ℕ → Keyword → List Named × Place → Front
@@ -394,7 +401,7 @@ module _ (text : List ℕ) where
       → ((b : List Named × Place) → HasRead SpellsStep (λ text. TheEnds text last b) text start xs ts) → Reads (SpellsNext text last depth load full) ts (entry.Step x) m
       → (b : List Named × Place) → HasRead SpellsStep (λ text. TheEnds text last b) text start (xs ++ x ∷ []) (skip_line_ends m)
   step_on last is start ts m xs depth load full x so_far here b =
-      goes_on_apart SpellsStep (λ text. TheEnds text last b) text (loosely_local step_local) start xs ts x m (λ other us r q w v. (step_no_end other last (last_none last is)).never x b us q r w v) (so_far b) (record { found = here.found.0 })
+      goes_on_apart SpellsStep (λ text. TheEnds text last b) text step_filling (loosely_local step_local) start xs ts x m (λ other us r q w v. (step_no_end other last (last_none last is)).never x b us q r w v) (so_far b) (record { found = here.found.0 })
 
 -- there is room for one more
 pub few_on : (full : Bool) (n : ℕ) → IsTrue (not full) → (IsFalse full → n ≡ 4096 → ⊥) → n ≤ 4096 → n + 1 ≤ 4096

@@ -1,5 +1,5 @@
 -- Labels, as a loop reads them.
-use Rattle.std.proofs.Common.{◌≡◌, ℕ, ◌<◌, ◌≤◌, drop, true, false, List, [], ◌∷◌, ◌++◌, length, append-nil, refl, sym, ◌∙◌, ap, subst, arith}
+use Rattle.std.proofs.Common.{◌⊎◌, inl, inr, ◌≡◌, ℕ, ◌<◌, ◌≤◌, drop, true, false, List, [], ◌∷◌, ◌++◌, length, append-nil, refl, sym, ◌∙◌, ap, subst, arith}
 use Rattle.il_spec.specs.declared.token.Token.{Token}
 use Rattle.il_spec.specs.declared.keyword.Keyword.{Keyword}
 use Rattle.il_spec.specs.declared.tree.Place.{Place}
@@ -12,7 +12,9 @@ use Rattle.il_grammar_laws.proofs.Bodies.{skip_one, label_one}
 use Rattle.il_spec.specs.declared.token.Sign.TheVariants.{Colon}
 use Rattle.il_spec.specs.Text.{name_of}
 use Rattle.il_grammar_laws.specs.Alike.{IsEndOf, AreAlike}
-use Rattle.il_grammar_laws.proofs.Alike.{end_self, end_length, end_of_end, loose_gap}
+use Rattle.il_grammar_laws.specs.GoesOn.{IsCut}
+use Rattle.il_grammar_laws.proofs.Alike.{end_self, end_length, end_of_end, loose_gap, gap_length}
+use Rattle.il_grammar_laws.proofs.Open.{label_fills, line_end_fills, loose_open, skip_still}
 use Rattle.il_grammar_laws.proofs.Local.{label_local, line_end_local, line_end_told}
 use Rattle.il_read.specs.Lead.{lead_at}
 use Rattle.il_read.specs.declared.lead.Lead.TheVariants as lead
@@ -79,6 +81,15 @@ pub record Behind (text : List ℕ) (start : List Token) (ns : List Named) (ts :
       → (vs : List Token) × AreAlike text other back ts vs
       × ((p : Place) (i : Instruction) (ys : List Named) (r : List Token) → SpellsLabelled other ys (ThePlaced other p i) us r → (more : List Named) × (ys ≡ ns ++ more) × SpellsLabelled other more (ThePlaced other p i) vs r)
       × ((k : Keyword) (p : Place) (ys : List Named) (r : List Token) → Repeats (SpellsLabelLine other) ys (TheLast other k p) us r → (more : List Named) × (ys ≡ ns ++ more) × Repeats (SpellsLabelLine other) more (TheLast other k p) vs r)
+  gone : (other : List ℕ) (at us vs : List Token) → IsEndOf at ts → IsCut text other at start us vs → ((length at < length ts) ⊎ (skip_line_ends vs ≡ vs))
+      → (n : List Token) × IsCut text other at ts n vs
+      × ((p : Place) (i : Instruction) (more : List Named) (r : List Token) → SpellsLabelled other more (ThePlaced other p i) n r → SpellsLabelled other (ns ++ more) (ThePlaced other p i) us r)
+
+-- behind a gap of line ends
+gap_cut : (text other : List ℕ) (at m n vs : List Token) → IsCut text other at m n vs → IsEndOf at (skip_line_ends m) → ((length at < length (skip_line_ends m)) ⊎ (skip_line_ends vs ≡ vs))
+    → IsCut text other at (skip_line_ends m) (skip_line_ends n) vs
+gap_cut text other at m n vs c e (inl l) = loose_open.cut text other at m n vs c l
+gap_cut text other at m n vs c e (inr s) = skip_still text other at m n vs c e s
 
 module _ (text : List ℕ) where
   -- no label is read yet
@@ -88,6 +99,7 @@ module _ (text : List ℕ) where
     names = λ p i more r w. w;
     ends = λ k p more r w. w;
     left = λ other back us a l. (us, a, λ p i ys r w. (ys, refl, w), λ k p ys r w. (ys, refl, w));
+    gone = λ other at us vs e c d. (us, c, λ p i more r w. w);
   }
 
   -- one more, on its line
@@ -101,6 +113,21 @@ module _ (text : List ℕ) where
         inside = end_of_end (skip_line_ends l) ts start so_far.inside within;
         names = λ p i more r w. subst (λ (zs : List Named). SpellsLabelled text zs (ThePlaced text p i) start r) (regroup ns n more) (so_far.names p i (n ∷ more) r (name_first text n ts m l label line p i more r w));
         ends = λ k p more r w. subst (λ (zs : List Named). Repeats (SpellsLabelLine text) zs (TheLast text k p) start r) (regroup ns n more) (so_far.ends k p (n ∷ more) r (l, (m, label, line), w));
+        gone = λ other at us vs e c d.
+            let l0 = end_length at (skip_line_ends l) e in
+            let l1 = gap_length loose_gap l in
+            let l2 = line_end_fills.takes.less text m l line in
+            let l3 = (label_fills n).takes.less text ts m label in
+            let at_l = end_of_end at (skip_line_ends l) l e3 e in
+            let at_m = end_of_end at l m e2 at_l in
+            let so = so_far.gone other at us vs (end_of_end at m ts e1 at_m) c (inl (omega (arith, l0, l1, l2, l3))) in
+            let p = (label_fills n).opens.keeps text other at ts so.0 vs m label at_m so.1 (inr tt) in
+            let q = line_end_fills.opens.keeps text other at m p.0 vs l line at_l p.2 (inr tt) in (
+              skip_line_ends q.0,
+              gap_cut text other at l q.0 vs q.2 e d,
+              λ place i more r w.
+                  subst (λ (zs : List Named). SpellsLabelled other zs (ThePlaced other place i) us r) (regroup ns n more) (so.2 place i (n ∷ more) r (name_first other n so.0 p.0 q.0 p.1 q.1 place i more r w)),
+            );
         left = λ other back us a z.
             let l1 = end_length (skip_line_ends l) l e3 in
             let l2 = end_length l m e2 in
@@ -147,6 +174,9 @@ module _ (text : List ℕ) where
     inside = so_far.inside;
     names = λ p i r w. subst (λ (zs : List Named). SpellsLabelled text zs (ThePlaced text p i) start r) (append-nil ns) (so_far.names p i [] r w);
     ends = λ is k p r w. subst (λ (zs : List Named). Repeats (SpellsLabelLine text) zs (TheLast text k p) start r) (append-nil ns) (so_far.ends k p [] r w);
+    gone = λ other at us vs e c d.
+        let so = so_far.gone other at us vs e c d in
+        (so.0, so.1, λ p i r w. subst (λ (zs : List Named). SpellsLabelled other zs (ThePlaced other p i) us r) (append-nil ns) (so.2 p i [] r w));
     left = λ other back us a z named.
         let so = so_far.left other back us a z in
         let none = label_still other back ts so.0 so.1 named out in (
@@ -178,6 +208,14 @@ module _ (text : List ℕ) where
         inside = end_of_end (skip_line_ends m) ts start so_far.inside (end_of_end (skip_line_ends m) m ts e1 e2);
         names = λ p i r w. so_far.names p i (n ∷ []) r (m, label, w);
         ends = λ is. absurd cc;
+        gone = λ other at us vs e c d.
+            let l0 = end_length at (skip_line_ends m) e in
+            let l1 = gap_length loose_gap m in
+            let l3 = (label_fills n).takes.less text ts m label in
+            let at_m = end_of_end at (skip_line_ends m) m e2 e in
+            let so = so_far.gone other at us vs (end_of_end at m ts e1 at_m) c (inl (omega (arith, l0, l1, l3))) in
+            let p = (label_fills n).opens.keeps text other at ts so.0 vs m label at_m so.1 (inr tt) in
+            (skip_line_ends p.0, gap_cut text other at m p.0 vs p.2 e d, λ place i r w. so.2 place i (n ∷ []) r (p.0, p.1, w));
         left = λ other back us a z named.
             let l1 = end_length (skip_line_ends m) m e2 in
             let l2 = end_length m ts e1 in

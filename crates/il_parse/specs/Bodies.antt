@@ -1,5 +1,5 @@
 -- What a reader of a body promises.
-use Rattle.std.specs.Prelude.{◌≡◌, ℕ, ◌<◌, ◌≤◌, Bool, true, false, not, ◌&&◌, ◌||◌, ◌==◌, if◌then◌else◌, IsTrue, List, [], length, drop, Option, Some, None, ⊤}
+use Rattle.std.specs.Prelude.{◌≡◌, ◌⊎◌, ℕ, ◌<◌, ◌≤◌, Bool, true, false, not, ◌&&◌, ◌||◌, ◌==◌, if◌then◌else◌, IsTrue, List, [], length, drop, Option, Some, None, ⊤}
 use Rattle.il_spec.specs.declared.token.Token.{Token}
 use Rattle.il_spec.specs.declared.token.Sign.TheVariants.{CloseParenthesis}
 use Rattle.il_spec.specs.declared.keyword.Keyword.{Keyword}
@@ -9,8 +9,9 @@ use Rattle.il_spec.specs.declared.tree.Named.{Named}
 use Rattle.il_spec.specs.declared.tree.Instruction.{Instruction}
 use Rattle.il_spec.specs.declared.tree.Step.{Step}
 use Rattle.il_spec.specs.declared.tree.Body.{Body}
-use Rattle.il_spec.specs.Grammar.{Front, ◌⋯◌, At, Repeats, TheWord, TheLineEnd, SpellsInstruction, SpellsLabelled, SpellsStep, SpellsLabelLine, may_stand, depth_after, is_nested, greatest_depth}
+use Rattle.il_spec.specs.Grammar.{Front, skip_line_ends, ◌⋯◌, At, Repeats, TheWord, TheLineEnd, SpellsInstruction, SpellsLabelled, SpellsStep, SpellsLabelLine, may_stand, depth_after, is_nested, greatest_depth}
 use Rattle.il_grammar_laws.specs.Alike.{IsEndOf, AreAlike}
+use Rattle.il_grammar_laws.specs.GoesOn.{IsCut}
 use Rattle.il_read.specs.Lead.{lead_at}
 use Rattle.il_read.specs.Reads.{IsFault, fault_at, turn, GoesOnNoMore}
 use Rattle.il_read.specs.declared.stop.SyntaxError.{SyntaxError}
@@ -73,6 +74,8 @@ pub record HasLabels (text : List ℕ) (start : List Token) (ns : List Named) (a
       → (vs : List Token) × AreAlike text other back ts vs
       × ((p : Place) (i : Instruction) (ys : List Named) (r : List Token) → SpellsLabelled other ys (At p (SpellsInstruction other i)) us r → (ys ≡ ns) × At p (SpellsInstruction other i) vs r)
       × ((k : Keyword) (p : Place) (ys : List Named) (r : List Token) → Repeats (SpellsLabelLine other) ys (At p (TheWord other k)) us r → (ys ≡ ns) × At p (TheWord other k) vs r × IsTrue alone)
+  pub gone : (other : List ℕ) (at us vs : List Token) → IsEndOf at ts → IsCut text other at start us vs → ((length at < length ts) ⊎ (skip_line_ends vs ≡ vs))
+      → (n : List Token) × IsCut text other at ts n vs × ((p : Place) (i : Instruction) (r : List Token) → At p (SpellsInstruction other i) n r → SpellsLabelled other ns (At p (SpellsInstruction other i)) us r)
 
 -- the word that ends the body, which is taken where it may stand, or doesn't stand there
 abbrev pub TakesEnd : List ℕ → Keyword → Bool → List Token → Option Place → List Token → Type 0

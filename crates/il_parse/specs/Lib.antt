@@ -6,3 +6,4 @@ pub mod Lists
 pub mod Insides
 pub mod Headings
 pub mod Units
+pub mod GoesOn

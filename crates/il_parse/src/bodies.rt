@@ -1,5 +1,11 @@
 // Bodies (IEC 61131-3:2003, 3.2.1 and 3.2.2).
 
+ghost use Rattle.il_spec.specs.declared.keyword.Keyword.{Keyword};
+ghost use Rattle.std.specs.Prelude.{false};
+ghost use Rattle.il_spec.specs.Grammar.{SpellsBody};
+ghost use Rattle.il_grammar_laws.specs.GoesOn.{always};
+ghost use Rattle.il_read.specs.Reads.{BreaksOff};
+ghost use Rattle.il_parse.specs.GoesOn.{SpellsFrom, SpellsPlacedFrom};
 ghost use Rattle.std.specs.Prelude.{◌≡◌, ◌⊎◌, ◌<◌, ◌≤◌, length, IsTrue, IsFalse, IfOk, IfErr};
 ghost use Rattle.il_spec.specs.Grammar.{TheLineEnd, depth_after, needs_load};
 ghost use Rattle.il_read.specs.Lead.{lead_at};
@@ -120,6 +126,7 @@ fn placed(
     ensures reads { IfOk result (λ x. Reads (SpellsPlaced source.now depth load full) tokens.old x
         tokens.new) }
     ensures refused { IfErr result (λ e. RefusesPlaced source.now depth load full tokens.old e) }
+    ensures begins { IfErr result (λ e. (last : Keyword) → BreaksOff always (λ text. SpellsPlacedFrom text last depth load) source.now tokens.old e) }
     ensures shorter { IfOk result (λ _. length tokens.new < length tokens.old) }
 {
     let Some(place) = tokens.place() else {
@@ -206,6 +213,7 @@ fn outer(
         tokens.new) }
     ensures refused { IfErr result (λ e. Refuses
         (λ text. SpellsNext text last 0 load full) source.now tokens.old e) }
+    ensures begins { IfErr result (λ e. BreaksOff always (λ text. SpellsFrom text last 0 load) source.now tokens.old e) }
     ensures shorter { IfOk result (λ x. Shortens tokens.old x tokens.new) }
 {
     let (labels, alone) = labels(source, tokens)?;
@@ -237,6 +245,7 @@ fn next_entry(
         tokens.old x tokens.new) }
     ensures refused { IfErr result (λ e. Refuses
         (λ text. SpellsNext text last depth load full) source.now tokens.old e) }
+    ensures begins { IfErr result (λ e. BreaksOff always (λ text. SpellsFrom text last depth load) source.now tokens.old e) }
     ensures shorter { IfOk result (λ x. Shortens tokens.old x tokens.new) }
 {
     if depth == 0 {
@@ -287,6 +296,7 @@ fn steps(source: &Source, tokens: &mut Tokens, last: Keyword) -> Result<Body, St
     ensures reads { IfOk result (λ b. Reads (SpellsSteps source.now last) tokens.old b tokens.new) }
     ensures refused { IfErr result (λ e. Refuses
         (λ text. SpellsSteps text last) source.now tokens.old e) }
+    ensures begins { IfErr result (λ e. BreaksOff always (λ text. SpellsFrom text last 0 false) source.now tokens.old e) }
 {
     let mut steps = Items::new(source.alloc());
     let mut depth = 0;
@@ -318,6 +328,7 @@ pub fn body(source: &Source, tokens: &mut Tokens, last: Keyword) -> Result<Body,
         tokens.new) }
     ensures refused { IfErr result (λ e. RefusesAhead
         (λ text. SpellsSmallBody text last) source.now tokens.old e) }
+    ensures begins { IfErr result (λ e. BreaksOff always (λ text. SpellsBody text last) source.now tokens.old e) }
 {
     source.line_end(tokens)?;
     tokens.skip_lines();

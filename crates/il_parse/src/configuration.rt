@@ -1,5 +1,9 @@
 // The configuration (IEC 61131-3:2003, 2.7).
 
+ghost use Rattle.il_spec.specs.declared.keyword.Keyword.TheVariants as word;
+ghost use Rattle.il_grammar_laws.specs.GoesOn.{always, ended};
+ghost use Rattle.il_read.specs.Reads.{BreaksOff, NamesFirst};
+ghost use Rattle.il_parse.specs.GoesOn.{stopped, SpellsAll};
 ghost use Rattle.std.specs.Prelude.{◌≡◌, ℕ, List, [], IfOk, IfErr};
 ghost use Rattle.il_spec.specs.Grammar.{TheEnd};
 ghost use Rattle.il_read.specs.Reads.{Reads, Refuses, Stands, Misses};
@@ -26,6 +30,7 @@ type Sizes = (Size, (Size, Size));
 fn global_list(source: &Source, tokens: &mut Tokens) -> Result<(Place, Items<Declaration>), Stop>
     ensures reads { IfOk result (λ x. Reads (SpellsGlobalList source.now) tokens.old x tokens.new) }
     ensures refused { IfErr result (λ e. RefusesAhead SpellsGlobalList source.now tokens.old e) }
+    ensures begins { IfErr result (λ e. BreaksOff always SpellsGlobalList source.now tokens.old e) }
 {
     tokens.skip_lines();
     let place = source.placed_word(tokens, Keyword::VarGlobal)?;
@@ -39,6 +44,7 @@ fn globals(source: &Source, tokens: &mut Tokens) -> Result<Globals, Stop>
     ensures reads { IfOk result (λ x. Reads (SpellsSomeGlobals source.now) tokens.old x
         tokens.new) }
     ensures refused { IfErr result (λ e. Refuses SpellsSomeGlobals source.now tokens.old e) }
+    ensures begins { IfErr result (λ e. BreaksOff always SpellsSomeGlobals source.now tokens.old e) }
 {
     if !comes(source, tokens, Keyword::VarGlobal) {
         return Ok((None, Items::new(source.alloc())));
@@ -51,6 +57,7 @@ fn globals(source: &Source, tokens: &mut Tokens) -> Result<Globals, Stop>
 fn tasks(source: &Source, tokens: &mut Tokens) -> Result<Items<Task>, Stop>
     ensures reads { IfOk result (λ xs. Reads (SpellsTasks source.now) tokens.old xs tokens.new) }
     ensures refused { IfErr result (λ e. Refuses SpellsTasks source.now tokens.old e) }
+    ensures begins { IfErr result (λ e. BreaksOff (stopped word.Task) SpellsTasks source.now tokens.old e) }
 {
     let mut tasks = Items::new(source.alloc());
     'tasks: while source.word_stands(tokens, Keyword::Task) {
@@ -65,6 +72,7 @@ fn tasks(source: &Source, tokens: &mut Tokens) -> Result<Items<Task>, Stop>
 fn programs(source: &Source, tokens: &mut Tokens) -> Result<Items<ProgramLine>, Stop>
     ensures reads { IfOk result (λ xs. Reads (SpellsPrograms source.now) tokens.old xs tokens.new) }
     ensures refused { IfErr result (λ e. Refuses SpellsPrograms source.now tokens.old e) }
+    ensures begins { IfErr result (λ e. BreaksOff (stopped word.Program) SpellsPrograms source.now tokens.old e) }
 {
     let mut programs = Items::new(source.alloc());
     'programs: while source.word_stands(tokens, Keyword::Program) {
@@ -79,6 +87,7 @@ fn programs(source: &Source, tokens: &mut Tokens) -> Result<Items<ProgramLine>, 
 fn lines(source: &Source, tokens: &mut Tokens) -> Result<Lines, Stop>
     ensures reads { IfOk result (λ x. Reads (SpellsLines source.now) tokens.old x tokens.new) }
     ensures refused { IfErr result (λ e. Refuses SpellsLines source.now tokens.old e) }
+    ensures begins { IfErr result (λ e. BreaksOff always SpellsLines source.now tokens.old e) }
 {
     let tasks = tasks(source, tokens)?;
     let programs = programs(source, tokens)?;
@@ -90,6 +99,7 @@ fn lines(source: &Source, tokens: &mut Tokens) -> Result<Lines, Stop>
 fn resource(source: &Source, tokens: &mut Tokens) -> Result<Lines, Stop>
     ensures reads { IfOk result (λ x. Reads (SpellsResourceOf source.now) tokens.old x tokens.new) }
     ensures refused { IfErr result (λ e. Refuses SpellsResourceOf source.now tokens.old e) }
+    ensures begins { IfErr result (λ e. BreaksOff always SpellsResourceOf source.now tokens.old e) }
 {
     source.word(tokens, Keyword::Resource)?;
     tokens.skip_lines();
@@ -108,6 +118,7 @@ fn text_end(tokens: &Tokens) -> Result<(), Stop>
     ensures reads { IfOk result (λ _. Stands TheEnd tokens.now []) }
     ensures refused { IfErr result (λ e. (text : List ℕ)
         → Misses (λ text. TheEnd) text tokens.now e) }
+    ensures first { IfErr result (λ e. NamesFirst tokens.now e) }
 {
     match tokens.first() {
         Some(_) => Err(tokens.outside()),
@@ -119,6 +130,7 @@ fn text_end(tokens: &Tokens) -> Result<(), Stop>
 fn ending(source: &Source, tokens: &mut Tokens) -> Result<Lines, Stop>
     ensures reads { IfOk result (λ x. Reads (SpellsEnding source.now) tokens.old x []) }
     ensures refused { IfErr result (λ e. Refuses SpellsEnding source.now tokens.old e) }
+    ensures begins { IfErr result (λ e. BreaksOff ended SpellsEnding source.now tokens.old e) }
 {
     let lines = resource(source, tokens)?;
     tokens.skip_lines();
@@ -132,6 +144,7 @@ fn ending(source: &Source, tokens: &mut Tokens) -> Result<Lines, Stop>
 fn group(source: &Source, tokens: &mut Tokens) -> Result<(Sizes, Globals, Lines), Stop>
     ensures reads { IfOk result (λ x. Reads (SpellsGroup source.now) tokens.old x []) }
     ensures refused { IfErr result (λ e. Refuses SpellsGroup source.now tokens.old e) }
+    ensures begins { IfErr result (λ e. BreaksOff ended SpellsGroup source.now tokens.old e) }
 {
     source.some_name(tokens)?;
     tokens.skip_lines();
@@ -178,6 +191,7 @@ fn config_of(units: Items<Unit>, sizes: Sizes, globals: Globals, lines: Lines) -
 pub fn configuration(source: &Source, tokens: &mut Tokens) -> Result<Config, Stop>
     ensures reads { IfOk result (λ c. Reads (SpellsSmallConfig source.now) tokens.old c []) }
     ensures refused { IfErr result (λ e. Refuses SpellsSmallConfig source.now tokens.old e) }
+    ensures begins { IfErr result (λ e. BreaksOff ended SpellsAll source.now tokens.old e) }
 {
     tokens.skip_lines();
     let units = units(source, tokens)?;

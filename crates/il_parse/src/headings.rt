@@ -1,5 +1,8 @@
 // Units of each kind (IEC 61131-3:2003, 2.5).
 
+ghost use Rattle.il_grammar_laws.specs.GoesOn.{always, quiet};
+ghost use Rattle.il_read.specs.Reads.{BreaksOff};
+ghost use Rattle.il_parse.specs.GoesOn.{SpellsWholeProgram, SpellsWholeBlock, SpellsWholeFunction};
 ghost use Rattle.std.specs.Prelude.{IfOk, IfErr};
 ghost use Rattle.il_read.specs.Reads.{Reads, Refuses};
 ghost use Rattle.il_parse.specs.Headings.{PlacedScalar, SpellsResultAt, SpellsProgram, SpellsBlock, SpellsFunction};
@@ -15,6 +18,7 @@ use lists::Items;
 fn placed_scalar(source: &Source, tokens: &mut Tokens) -> Result<(Place, Scalar), Stop>
     ensures reads { IfOk result (λ x. Reads (PlacedScalar source.now) tokens.old x tokens.new) }
     ensures refused { IfErr result (λ e. Refuses PlacedScalar source.now tokens.old e) }
+    ensures begins { IfErr result (λ e. BreaksOff quiet PlacedScalar source.now tokens.old e) }
 {
     let Some(place) = tokens.place() else {
         return Err(tokens.outside());
@@ -27,6 +31,7 @@ fn placed_scalar(source: &Source, tokens: &mut Tokens) -> Result<(Place, Scalar)
 fn function_result(source: &Source, tokens: &mut Tokens) -> Result<(Place, Scalar), Stop>
     ensures reads { IfOk result (λ x. Reads (SpellsResultAt source.now) tokens.old x tokens.new) }
     ensures refused { IfErr result (λ e. Refuses SpellsResultAt source.now tokens.old e) }
+    ensures begins { IfErr result (λ e. BreaksOff quiet SpellsResultAt source.now tokens.old e) }
 {
     tokens.skip_lines();
     source.sign(tokens, Sign::Colon)?;
@@ -41,6 +46,7 @@ pub fn program(
 ) -> Result<(Place, Named, (Items<Declaration>, Items<Declaration>, Body)), Stop>
     ensures reads { IfOk result (λ x. Reads (SpellsProgram source.now) tokens.old x tokens.new) }
     ensures refused { IfErr result (λ e. Refuses SpellsProgram source.now tokens.old e) }
+    ensures begins { IfErr result (λ e. BreaksOff always SpellsWholeProgram source.now tokens.old e) }
 {
     let place = source.placed_word(tokens, Keyword::Program)?;
     tokens.skip_lines();
@@ -68,6 +74,7 @@ pub fn block(
 >
     ensures reads { IfOk result (λ x. Reads (SpellsBlock source.now) tokens.old x tokens.new) }
     ensures refused { IfErr result (λ e. Refuses SpellsBlock source.now tokens.old e) }
+    ensures begins { IfErr result (λ e. BreaksOff always SpellsWholeBlock source.now tokens.old e) }
 {
     let place = source.placed_word(tokens, Keyword::FunctionBlock)?;
     tokens.skip_lines();
@@ -91,6 +98,7 @@ pub fn function(
 >
     ensures reads { IfOk result (λ x. Reads (SpellsFunction source.now) tokens.old x tokens.new) }
     ensures refused { IfErr result (λ e. Refuses SpellsFunction source.now tokens.old e) }
+    ensures begins { IfErr result (λ e. BreaksOff always SpellsWholeFunction source.now tokens.old e) }
 {
     let place = source.placed_word(tokens, Keyword::Function)?;
     tokens.skip_lines();

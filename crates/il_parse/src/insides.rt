@@ -1,5 +1,8 @@
 // What stands behind the heading of a unit (IEC 61131-3:2003, 2.5).
 
+ghost use Rattle.il_grammar_laws.specs.GoesOn.{always};
+ghost use Rattle.il_read.specs.Reads.{BreaksOff};
+ghost use Rattle.il_parse.specs.GoesOn.{SpellsProgramRest, SpellsBlockRest, SpellsFunctionRest};
 ghost use Rattle.std.specs.Prelude.{IfOk, IfErr};
 ghost use Rattle.il_read.specs.Reads.{Reads, Refuses};
 ghost use Rattle.il_parse.specs.Ahead.{RefusesAhead};
@@ -20,6 +23,7 @@ pub fn program_inside(
     ensures reads { IfOk result (λ x. Reads (SpellsProgramInside source.now) tokens.old x
         tokens.new) }
     ensures refused { IfErr result (λ e. RefusesAhead SpellsProgramInside source.now tokens.old e) }
+    ensures begins { IfErr result (λ e. BreaksOff always SpellsProgramRest source.now tokens.old e) }
 {
     no_list(source, tokens, Keyword::VarInput)?;
     no_list(source, tokens, Keyword::VarOutput)?;
@@ -45,6 +49,7 @@ pub fn block_inside(
     ensures reads { IfOk result (λ x. Reads (SpellsBlockInside source.now) tokens.old x
         tokens.new) }
     ensures refused { IfErr result (λ e. RefusesAhead SpellsBlockInside source.now tokens.old e) }
+    ensures begins { IfErr result (λ e. BreaksOff always SpellsBlockRest source.now tokens.old e) }
 {
     let inputs = filled_list(source, tokens, Keyword::VarInput)?;
     let outputs = filled_list(source, tokens, Keyword::VarOutput)?;
@@ -63,6 +68,7 @@ pub fn function_inside(
         tokens.new) }
     ensures refused { IfErr result (λ e. RefusesAhead
         SpellsFunctionInside source.now tokens.old e) }
+    ensures begins { IfErr result (λ e. BreaksOff always SpellsFunctionRest source.now tokens.old e) }
 {
     let inputs = full_list(source, tokens, Keyword::VarInput)?;
     no_list(source, tokens, Keyword::VarOutput)?;

@@ -1,6 +1,9 @@
 //! Parser: the tree that the tokens of a text spell.
 #![tactic(auto)]
 
+ghost use Rattle.il_grammar_laws.specs.GoesOn.{ended};
+ghost use Rattle.il_read.specs.Reads.{BreaksOff};
+ghost use Rattle.il_parse.specs.GoesOn.{SpellsAll};
 ghost use Rattle.std.specs.Prelude.{◌≡◌, ◌<◌, ◌≤◌, length, IfOk, IfErr, []};
 ghost use Rattle.il_spec.specs.Text.{AreTokens, upper_case, line_at};
 ghost use Rattle.il_spec.specs.Grammar.{AfterLines, SpellsConfig, Spells, IsWithinLimits};
@@ -75,6 +78,7 @@ fn read(alloc: Global, text: &[u8], tokens: &[Token]) -> Result<Config, Stop>
     requires { AreTokens text.now 0 tokens.now }
     ensures reads { IfOk result (λ c. Reads (SpellsSmallConfig text.now) tokens.now c []) }
     ensures refused { IfErr result (λ e. Refuses SpellsSmallConfig text.now tokens.now e) }
+    ensures begins { IfErr result (λ e. BreaksOff ended SpellsAll text.now tokens.now e) }
 {
     let upper = in_upper_case(alloc, text)?;
     let source = Source::new(alloc, text, &upper);

@@ -1,5 +1,8 @@
 // Units (IEC 61131-3:2003, 2.5).
 
+ghost use Rattle.il_spec.specs.Grammar.{SpellsUnit};
+ghost use Rattle.il_grammar_laws.specs.GoesOn.{always};
+ghost use Rattle.il_read.specs.Reads.{BreaksOff};
 ghost use Rattle.std.specs.Prelude.{IfOk, IfErr};
 ghost use Rattle.il_spec.specs.declared.keyword.Keyword.TheVariants as word;
 ghost use Rattle.il_read.specs.Reads.{Reads, Refuses};
@@ -17,6 +20,7 @@ fn program_unit(source: &Source, tokens: &mut Tokens) -> Result<Unit, Stop>
         tokens.new) }
     ensures refused { IfErr result (λ e. Refuses
         (λ text. SpellsUnitOf text word.Program) source.now tokens.old e) }
+    ensures begins { IfErr result (λ e. BreaksOff always SpellsUnit source.now tokens.old e) }
 {
     let (place, name, (variables, externals, body)) = program(source, tokens)?;
     Ok(Unit {
@@ -37,6 +41,7 @@ fn block_unit(source: &Source, tokens: &mut Tokens) -> Result<Unit, Stop>
         tokens.old u tokens.new) }
     ensures refused { IfErr result (λ e. Refuses
         (λ text. SpellsUnitOf text word.FunctionBlock) source.now tokens.old e) }
+    ensures begins { IfErr result (λ e. BreaksOff always SpellsUnit source.now tokens.old e) }
 {
     let (place, name, (inputs, outputs, variables, body)) = block(source, tokens)?;
     Ok(Unit {
@@ -57,6 +62,7 @@ fn function_unit(source: &Source, tokens: &mut Tokens) -> Result<Unit, Stop>
         tokens.new) }
     ensures refused { IfErr result (λ e. Refuses
         (λ text. SpellsUnitOf text word.Function) source.now tokens.old e) }
+    ensures begins { IfErr result (λ e. BreaksOff always SpellsUnit source.now tokens.old e) }
 {
     let (place, name, (result_place, scalar), (inputs, variables, body)) = function(
         source, tokens,
@@ -77,6 +83,7 @@ fn function_unit(source: &Source, tokens: &mut Tokens) -> Result<Unit, Stop>
 pub fn unit(source: &Source, tokens: &mut Tokens) -> Result<Unit, Stop>
     ensures reads { IfOk result (λ u. Reads (SpellsSmallUnit source.now) tokens.old u tokens.new) }
     ensures refused { IfErr result (λ e. Refuses SpellsSmallUnit source.now tokens.old e) }
+    ensures begins { IfErr result (λ e. BreaksOff always SpellsUnit source.now tokens.old e) }
 {
     if source.word_stands(tokens, Keyword::Program) {
         return program_unit(source, tokens);

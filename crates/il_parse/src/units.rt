@@ -1,5 +1,8 @@
 // The units of a text.
 
+ghost use Rattle.il_grammar_laws.specs.GoesOn.{always};
+ghost use Rattle.il_read.specs.Reads.{BreaksOff};
+ghost use Rattle.il_parse.specs.GoesOn.{SpellsAllUnits};
 ghost use Rattle.std.specs.Prelude.{◌≡◌, length, IsTrue, IsFalse, IfOk, IfErr};
 ghost use Rattle.il_read.specs.Reads.{Reads, Refuses, fault_at, turn};
 ghost use Rattle.il_read.specs.declared.stop.SyntaxError.{SyntaxError};
@@ -36,6 +39,7 @@ fn surplus(source: &Source, tokens: &Tokens) -> Stop
 pub fn units(source: &Source, tokens: &mut Tokens) -> Result<Items<Unit>, Stop>
     ensures reads { IfOk result (λ us. Reads (SpellsFewUnits source.now) tokens.old us tokens.new) }
     ensures refused { IfErr result (λ e. Refuses SpellsFewUnits source.now tokens.old e) }
+    ensures begins { IfErr result (λ e. BreaksOff always SpellsAllUnits source.now tokens.old e) }
 {
     let mut units = Items::new(source.alloc());
     'units: while !source.eat_word(tokens, Keyword::Configuration) {

@@ -1,5 +1,8 @@
 // Lists of variables (IEC 61131-3:2003, 2.4.3).
 
+ghost use Rattle.il_spec.specs.Grammar.{skip_line_ends};
+ghost use Rattle.il_grammar_laws.specs.GoesOn.{always};
+ghost use Rattle.il_read.specs.Reads.{BreaksOff, NamesFirst};
 ghost use Rattle.std.specs.Prelude.{◌≡◌, ◌<◌, ◌≤◌, length, IfOk, IfErr};
 ghost use Rattle.il_spec.specs.Grammar.{AfterLines, No, TheWord, SpellsDeclaration, SpellsExternal, SpellsList, SpellsFilledList, SpellsOptionalList};
 ghost use Rattle.il_spec.specs.declared.keyword.Keyword.TheVariants as word;
@@ -30,6 +33,7 @@ pub fn no_list(source: &Source, tokens: &Tokens, keyword: Keyword) -> Result<(),
     ensures refused { IfErr result (λ e. MissesAhead
         (λ text. No (AfterLines (TheWord text keyword)))
         source.now tokens.now e) }
+    ensures first { IfErr result (λ e. NamesFirst (skip_line_ends tokens.now) e) }
 {
     if comes(source, tokens, keyword) {
         let mut ahead = tokens.ahead();
@@ -45,6 +49,7 @@ fn list(source: &Source, tokens: &mut Tokens, keyword: Keyword) -> Result<Items<
         (SpellsList source.now keyword (SpellsDeclaration source.now)) tokens.old ds tokens.new) }
     ensures refused { IfErr result (λ e. RefusesAhead
         (λ text. SpellsList text keyword (SpellsDeclaration text)) source.now tokens.old e) }
+    ensures begins { IfErr result (λ e. BreaksOff always (λ text. SpellsList text keyword (SpellsDeclaration text)) source.now tokens.old e) }
 {
     tokens.skip_lines();
     source.word(tokens, keyword)?;
@@ -62,6 +67,7 @@ pub fn full_list(
         tokens.new) }
     ensures refused { IfErr result (λ e. RefusesAhead
         (λ text. SpellsFull text keyword) source.now tokens.old e) }
+    ensures begins { IfErr result (λ e. BreaksOff always (λ text. SpellsFull text keyword) source.now tokens.old e) }
 {
     tokens.skip_lines();
     source.word(tokens, keyword)?;
@@ -82,6 +88,7 @@ pub fn filled_list(
         tokens.new) }
     ensures refused { IfErr result (λ e. RefusesAhead
         (λ text. SpellsFilledList text keyword) source.now tokens.old e) }
+    ensures begins { IfErr result (λ e. BreaksOff always (λ text. SpellsFilledList text keyword) source.now tokens.old e) }
 {
     if !comes(source, tokens, keyword) {
         return Ok(Items::new(source.alloc()));
@@ -101,6 +108,7 @@ pub fn optional_list(
     ensures refused { IfErr result (λ e. RefusesAhead
         (λ text. SpellsOptionalList text keyword (SpellsDeclaration text))
         source.now tokens.old e) }
+    ensures begins { IfErr result (λ e. BreaksOff always (λ text. SpellsOptionalList text keyword (SpellsDeclaration text)) source.now tokens.old e) }
 {
     if !comes(source, tokens, keyword) {
         return Ok(Items::new(source.alloc()));
@@ -112,6 +120,7 @@ pub fn optional_list(
 fn external(source: &Source, tokens: &mut Tokens) -> Result<Declaration, Stop>
     ensures reads { IfOk result (λ d. Reads (SpellsExternal source.now) tokens.old d tokens.new) }
     ensures refused { IfErr result (λ e. Refuses SpellsExternal source.now tokens.old e) }
+    ensures begins { IfErr result (λ e. BreaksOff always SpellsExternal source.now tokens.old e) }
     ensures shorter { IfOk result (λ _. length tokens.new < length tokens.old) }
 {
     let name = source.named(tokens)?;
@@ -135,6 +144,7 @@ fn externals_inside(source: &Source, tokens: &mut Tokens) -> Result<Items<Declar
     ensures reads { IfOk result (λ ds. Reads (SpellsExternalsInside source.now) tokens.old ds
         tokens.new) }
     ensures refused { IfErr result (λ e. Refuses SpellsExternalsInside source.now tokens.old e) }
+    ensures begins { IfErr result (λ e. BreaksOff always SpellsExternalsInside source.now tokens.old e) }
 {
     let mut externals = Items::new(source.alloc());
     'externals: while !source.eat_word(tokens, Keyword::EndVar) {
@@ -152,6 +162,7 @@ fn external_list(source: &Source, tokens: &mut Tokens) -> Result<Items<Declarati
         tokens.new) }
     ensures refused { IfErr result (λ e. RefusesAhead
         (λ text. SpellsList text word.VarExternal (SpellsExternal text)) source.now tokens.old e) }
+    ensures begins { IfErr result (λ e. BreaksOff always (λ text. SpellsList text word.VarExternal (SpellsExternal text)) source.now tokens.old e) }
 {
     tokens.skip_lines();
     source.word(tokens, Keyword::VarExternal)?;
@@ -167,6 +178,7 @@ pub fn externals(source: &Source, tokens: &mut Tokens) -> Result<Items<Declarati
     ensures refused { IfErr result (λ e. RefusesAhead
         (λ text. SpellsOptionalList text word.VarExternal (SpellsExternal text))
         source.now tokens.old e) }
+    ensures begins { IfErr result (λ e. BreaksOff always (λ text. SpellsOptionalList text word.VarExternal (SpellsExternal text)) source.now tokens.old e) }
 {
     if !comes(source, tokens, Keyword::VarExternal) {
         return Ok(Items::new(source.alloc()));

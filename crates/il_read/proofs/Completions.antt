@@ -147,7 +147,7 @@ pub cut_of : (g : GapKind) → IsCutGap (gap_of g)
 cut_of gap.Tight = tight_cut
 cut_of gap.Loose = loose_cut
 
-pub stays_of : (g : GapKind) {ss : List Sample} → is_solid ss ≡ true → Stays (gap_of g) ss
+pub stays_of : (g : GapKind) {ss : List Sample} {test : Test} → is_solid ss ≡ true → Stays (gap_of g) ss test
 stays_of gap.Tight solid = stays_tight
 stays_of gap.Loose solid = stays_loose solid
 
@@ -314,18 +314,18 @@ operands_is (x ∷ xs) other us r w = w
 
 -- loops
 pub item_breaks : {A : Type 0} {P : List ℕ → A → Front} {E : List ℕ → Front} {first : Test} {es : List Sample} {text : List ℕ} {start ts : List Token} {xs : List A} {e : Stop}
-    → IsSampled always (λ text (u : Unit {0}). E text) es → Passes first es always → Stays loose es → HasRead P E text start xs ts → BreaksOff first P text ts e → BreaksOff always (λ text ys. Repeats (P text) ys (E text)) text start e
+    → IsSampled always (λ text (u : Unit {0}). E text) es → Passes first es always → Stays loose es always → HasRead P E text start xs ts → BreaksOff first P text ts e → BreaksOff always (λ text ys. Repeats (P text) ys (E text)) text start e
 item_breaks end passes stays so_far bad = as_breaks (λ at b. gone_item end passes stays so_far.gone b) bad
 
 module _ {A : Type 0} {gap : Gap} {P : List ℕ → A → Front} {E : List ℕ → Front} {first second : Test} {es : List Sample} {text : List ℕ} {start ts : List Token} {xs : List A} {e : Stop} where
-  pub list_item_breaks : {ps : List Sample} → IsSampled first P ps → IsSampled second (λ text (u : Unit {0}). E text) es → Passes first es second → Stays gap es → Stays gap (ps ++ es) → Wants gap P E text start xs ts
+  pub list_item_breaks : {ps : List Sample} → IsSampled first P ps → IsSampled second (λ text (u : Unit {0}). E text) es → Passes first es second → Stays gap es second → Stays gap (ps ++ es) second → Wants gap P E text start xs ts
       → BreaksOff first P text ts e → BreaksOff second (λ text ys. Listed gap (P text) ys (E text)) text start e
   list_item_breaks p end passes stays whole so_far bad = as_breaks (λ at b. wanted_item p end passes stays whole so_far.gone b) bad
 
-  pub at_item : {ps : List Sample} → IsSampled first P ps → IsSampled second (λ text (u : Unit {0}). E text) es → Passes first es second → Stays gap es → Stays gap (ps ++ es) → Wants gap P E text start xs ts
+  pub at_item : {ps : List Sample} → IsSampled first P ps → IsSampled second (λ text (u : Unit {0}). E text) es → Passes first es second → Stays gap es second → Stays gap (ps ++ es) second → Wants gap P E text start xs ts
       → NamesFirst ts e → BreaksOff second (λ text ys. Listed gap (P text) ys (E text)) text start e
   at_item p end passes stays whole so_far bad = list_item_breaks p end passes stays whole so_far (at_first p bad)
 
-  pub at_list_end : {look : Gap} {m : List Token} {x : A} → IsCutGap gap → Reaches gap look → IsFilling look first P → IsSampled second (λ text (u : Unit {0}). E text) es → Passes first es second → Stays gap es
+  pub at_list_end : {look : Gap} {m : List Token} {x : A} → IsCutGap gap → Reaches gap look → IsFilling look first P → IsSampled second (λ text (u : Unit {0}). E text) es → Passes first es second → Stays gap es second
       → Wants gap P E text start xs ts → Reads (P text) ts x m → NamesFirst (gap m) e → BreaksOff second (λ text ys. Listed gap (P text) ys (E text)) text start e
   at_list_end {m = m} cut far fill end passes stays so_far here bad = record { fault = λ is. let b = bad is in (b.0, gap m, b.1, wanted_end cut far fill end passes stays so_far.gone here.found) }

@@ -1,4 +1,7 @@
 use Rattle.il_parse.proofs.Ahead.{up_ahead, no_line_end, no_steps}
+use Rattle.il_read.proofs.Breaks.{at_first, up_breaks}
+use Rattle.il_parse.proofs.Begun.{body_breaks}
+use Rattle.il_grammar_laws.proofs.Samples.{body_sampled}
 use Rattle.il_parse.proofs.bodies.body.Goals as goal
 
 pub returns-in_err-line_end-clause-refused : goal.returns-in_err-line_end-clause-refused
@@ -7,3 +10,9 @@ returns-in_err-line_end-clause-refused c = up_ahead _ c.from_residual.ensures.1 
 pub returns-in_err-steps-clause-refused : goal.returns-in_err-steps-clause-refused
 returns-in_err-steps-clause-refused c =
     up_ahead _ c.from_residual-in_err-steps.ensures.1 (no_steps _ _ _ _ _ c.in_ok-line_end.ensures.reads (rw c.skip_lines.ensures.rest at c.in_err-steps.ensures.refused))
+
+pub returns-in_err-line_end-clause-begins : goal.returns-in_err-line_end-clause-begins
+returns-in_err-line_end-clause-begins c = up_breaks _ c.from_residual.ensures.1 (at_first (body_sampled c.args.last) c.in_err-line_end.ensures.first)
+
+pub returns-in_err-steps-clause-begins : goal.returns-in_err-steps-clause-begins
+returns-in_err-steps-clause-begins c = up_breaks _ c.from_residual-in_err-steps.ensures.1 (body_breaks c.args.last c.in_ok-line_end.ensures.reads (rw c.skip_lines.ensures.rest at c.in_err-steps.ensures.begins))
