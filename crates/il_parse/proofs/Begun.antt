@@ -113,8 +113,8 @@ nested_first : (depth : ℕ) (load : Bool) (p : Place) (o : Operand) (steps : Li
 nested_first depth true p o steps h = ap (λ b. b && is_nested depth false steps) (may_first depth true p o) ∙ h
 nested_first depth false p o steps h = ap (λ b. b && is_nested depth false steps) (may_first depth false p o) ∙ h
 
-pub placed_sampled : (last : Keyword) (depth : ℕ) (load : Bool) → IsSampled always (λ text. SpellsPlacedFrom text last depth load) (first_samples load ++ closing_samples last depth)
-placed_sampled last depth load =
+pub placed_from_sampled : (last : Keyword) (depth : ℕ) (load : Bool) → IsSampled always (λ text. SpellsPlacedFrom text last depth load) (first_samples load ++ closing_samples last depth)
+placed_from_sampled last depth load =
     map_sampled {P = λ text (x : (Place × Operand) × Rest). At x.0.0 (SpellsInstruction text (first_of load x.0.1)) ⋯ SpellsFrom text last depth false x.1} {Q = λ text. SpellsPlacedFrom text last depth load}
     (λ x. ((x.0.0, first_of load x.0.1), x.1)) (λ x other us r w. (nested_first depth load x.0.0 x.0.1 x.1.0 w.2.0, (w.0, w.1, w.2.1)))
     (then_sampled {P = λ text (y : Place × Operand). At y.0 (SpellsInstruction text (first_of load y.1))} {Q = λ text. SpellsFrom text last depth false} loose
@@ -132,12 +132,12 @@ instruction_filling : IsFilling tight always (λ text. SpellsInstruction text)
 instruction_filling = record { one = instruction_fills }
 
 -- an instruction breaks off
-pub placed_breaks : {text : List ℕ} {ts : List Token} {e : Stop} {room : Bool} (depth : ℕ) (load : Bool) (last : Keyword) → may_begin depth load (lead_at text ts) ≡ true → BreaksOffAs (λ text. SpellsRoomyOf text room) text ts e
+pub instruction_breaks : {text : List ℕ} {ts : List Token} {e : Stop} {room : Bool} (depth : ℕ) (load : Bool) (last : Keyword) → may_begin depth load (lead_at text ts) ≡ true → BreaksOffAs (λ text. SpellsRoomyOf text room) text ts e
     → BreaksOff always (λ text. SpellsPlacedFrom text last depth load) text ts e
-placed_breaks {text = text} {ts = ts} {room = room} depth load last may bad = record { fault = λ is. let b = bad.fault is in (b.0, b.1, b.2, go b.1 b.3 b.4 (whole_or b.1 ts b.4.inside)) }
+instruction_breaks {text = text} {ts = ts} {room = room} depth load last may bad = record { fault = λ is. let b = bad.fault is in (b.0, b.1, b.2, go b.1 b.3 b.4 (whole_or b.1 ts b.4.inside)) }
   where
     go : (at : List Token) (effect : Effect) → Begins always (λ text. SpellsRoomyOf text room effect) text ts at → ((at ≡ ts) ⊎ (length at < length ts)) → Begins always (λ text. SpellsPlacedFrom text last depth load) text ts at
-    go at effect b (inl edge) = subst (λ k. Begins always (λ text. SpellsPlacedFrom text last depth load) text ts k) (sym edge) (begins_here (placed_sampled last depth load) text ts)
+    go at effect b (inl edge) = subst (λ k. Begins always (λ text. SpellsPlacedFrom text last depth load) text ts k) (sym edge) (begins_here (placed_from_sampled last depth load) text ts)
     go at effect b (inr less) = record {
       inside = b.inside;
       samples = b.samples ++ rest_samples last (depth_of depth effect) (load_of effect);
@@ -172,7 +172,7 @@ outer_breaks {text = text} {start = start} {m = m} {ns = ns} last load labels ba
 
     go : (at : List Token) → Begins always (λ text. SpellsPlacedFrom text last 0 load) text m at → ((at ≡ m) ⊎ (length at < length m)) → Begins always (λ text. SpellsFrom text last 0 load) text start at
     go at b (inl edge) =
-        let q = placed_sampled last 0 load in
+        let q = placed_from_sampled last 0 load in
         record {
           inside = end_of_end at m start labels.inside b.inside;
           samples = first_samples load ++ closing_samples last 0;

@@ -39,11 +39,11 @@ use Rattle.il_parse.specs.Parts.{SpellsUnits, SpellsFewUnits, SpellsGlobalList, 
 use Rattle.il_parse.proofs.Repeated.{end_apart, end_joined, stop_apart, stop_joined}
 
 -- the sizes, the globals and the lines of a configuration
-abbrev Group : Type 0
+abbrev pub Group : Type 0
 Group = (Size × (Size × Size)) × (Option Place × List Declaration) × (List Task × List ProgramLine × Place)
 
 -- a configuration of its parts
-abbrev config : List ProgramUnit → Group → Config
+abbrev pub config : List ProgramUnit → Group → Config
 config us g = record {
   units = us;
   cars = g.0.0;
@@ -197,6 +197,10 @@ module _ (text : List ℕ) where
   from_small E [] ts r w = w
   from_small E (u ∷ us) ts r w = (w.0, w.1.0, from_small E us (skip_line_ends w.0) r w.2)
 
+  -- units within the limits are units
+  pub from_small_units : {us : List ProgramUnit} {ts r : List Token} → Reads (SpellsFewUnits text) ts us r → Repeats (SpellsUnit text) us (TheWord text word.Configuration) ts r
+  from_small_units {us = us} {ts = ts} {r = r} here = from_small (TheWord text word.Configuration) us ts r here.found.0
+
   are_short : (E : Front) (us : List ProgramUnit) (ts r : List Token) → Repeats (SpellsSmallUnit text) us E ts r → All IsShort us
   are_short E [] ts r w = All-nil IsShort
   are_short E (u ∷ us) ts r w = All-cons IsShort u us w.1.1.0 (are_short E us (skip_line_ends w.0) r w.2)
@@ -213,6 +217,12 @@ module _ (text : List ℕ) where
   to_whole c ts r w small =
       let split = end_apart (SpellsUnit text) (TheWord text word.Configuration) (Behind c) c.units ts r w in
       (split.0, (to_small (TheWord text word.Configuration) c.units ts split.0 small.instructions small.nesting split.1, small.units), to_group c (skip_line_ends split.0) r split.2)
+
+  -- units of any number, and what stands behind CONFIGURATION
+  pub whole_config : (us : List ProgramUnit) (g : Group) (ts r : List Token) → (Repeats (SpellsUnit text) us (TheWord text word.Configuration) ⋯ SpellsGroup text g) ts r → SpellsConfig text (config us g) ts r
+  whole_config us g ts r w =
+      let c = config us g in
+      end_joined (SpellsUnit text) (TheWord text word.Configuration) (Behind c) us ts r (w.0, w.1, from_group c (skip_line_ends w.0) r w.2)
 
   pub config_read : (ts r : List Token) (us : List ProgramUnit) (g : Group) → Reads SpellsWhole (skip_line_ends ts) (us, g) r → Reads (SpellsSmallConfig text) ts (config us g) r
   config_read ts r us g here =

@@ -9,6 +9,7 @@ use Rattle.il_spec.specs.declared.tree.Place.{Place}
 use Rattle.il_spec.specs.Text.{AreTokens, line_at}
 use Rattle.il_spec.specs.Grammar.{AfterLines, SpellsConfig}
 use Rattle.il_grammar_laws.specs.Alike.{IsEndOf, AreAlike}
+use Rattle.il_grammar_laws.specs.GoesOn.{IsCut}
 use Rattle.il_read.specs.declared.stop.SyntaxError.{SyntaxError}
 use Rattle.il_read.specs.Reads.{IsNumberOfParser, number_of, turn}
 
@@ -51,3 +52,11 @@ NoTextGoesOn text tokens (refusal.Fault number place) =
     → (other : List ℕ) → take t.end text ≡ take t.end other → (others : List Token) → AreTokens other 0 (front ++ t ∷ others)
     → (c : Config) → AfterLines (SpellsConfig other c) (front ++ t ∷ others) [] → IsSmall c → ⊥)
 NoTextGoesOn text tokens refusal.Memory = ⊤
+
+-- With the tokens before the one that a fault names, or with all before the end, some text goes on: one that has these tokens, of the same
+-- bytes, and others behind, is of the language, where no limits count.
+abbrev pub GoesOnBefore : List ℕ → List Token → Refusal → Type 0
+GoesOnBefore text tokens (refusal.Fault number place) =
+    (error : SyntaxError) × (at : List Token) × (number ≡ number_of error) × IsEndOf at tokens × IsPlaceAt text place at
+    × (other : List ℕ) × (others : List Token) × (vs : List Token) × AreTokens other 0 others × IsCut text other at tokens others vs × (c : Config) × AfterLines (SpellsConfig other c) others []
+GoesOnBefore text tokens refusal.Memory = ⊤

@@ -9,7 +9,7 @@ ghost use Rattle.il_spec.specs.Text.{AreTokens, upper_case, line_at};
 ghost use Rattle.il_spec.specs.Grammar.{AfterLines, SpellsConfig, Spells, IsWithinLimits};
 ghost use Rattle.il_spec.specs.declared.tree.Config.{Config};
 ghost use Rattle.il_read.specs.Reads.{Reads, Refuses};
-ghost use Rattle.il_parse.specs.Refused.{IsFault, IsOfParser, IsSmall, GoesOnNowhere, NoTextGoesOn};
+ghost use Rattle.il_parse.specs.Refused.{IsFault, IsOfParser, IsSmall, GoesOnNowhere, NoTextGoesOn, GoesOnBefore};
 ghost use Rattle.il_parse.specs.Parts.{SpellsSmallConfig};
 
 mod bodies;
@@ -37,7 +37,7 @@ pub use variables::{comes, externals, filled_list, full_list, no_list, optional_
 ///
 /// Fault 10 stands at the first token with which no text goes on; at the end of the text its line is one more than the line
 /// feeds. Fault 11 stands at the 17th parenthesis that is open at once, and fault 12 at the 65th unit and at the operator of a
-/// unit's 4097th instruction. That no text goes on with it is proved, that one goes on with the token before it is only tested.
+/// unit's 4097th instruction. That no text goes on with it is proved, and that one goes on with the tokens before it.
 pub fn parse(alloc: Global, text: &[u8], tokens: &[Token]) -> Result<Written, Refusal>
     requires { AreTokens text.now 0 tokens.now }
     // What is read is spelled so.
@@ -55,6 +55,9 @@ pub fn parse(alloc: Global, text: &[u8], tokens: &[Token]) -> Result<Written, Re
     // With the token that a fault names, no text goes on.
     ensures nowhere { IfErr result (λ e. GoesOnNowhere text.now tokens.now e) }
     ensures texts { IfErr result (λ e. NoTextGoesOn text.now tokens.now e) }
+
+    // With the tokens before it, some text does.
+    ensures before { IfErr result (λ e. GoesOnBefore text.now tokens.now e) }
 
     // What is refused is 10, what no text goes on with, 11, too many open parentheses, or 12, too many units or instructions.
     ensures number { IfErr result (λ e. IsOfParser e) }

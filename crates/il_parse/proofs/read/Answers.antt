@@ -11,3 +11,6 @@ returns-clause-reads c = rw (← c.new-source.ensures, ← c.new.ensures) c.conf
 
 pub returns-clause-refused : goal.returns-clause-refused
 returns-clause-refused c = rw (← c.new-source.ensures, ← c.new.ensures) c.configuration.ensures.refused
+
+pub returns-clause-begins : goal.returns-clause-begins
+returns-clause-begins c = rw (← c.new-source.ensures, ← c.new.ensures) c.configuration.ensures.begins

@@ -4,6 +4,10 @@ use Rattle.il_read.proofs.Chain.{up, behind, first, first_missing, last_missing,
 use Rattle.il_grammar_laws.proofs.Local.{word_local}
 use Rattle.il_grammar_laws.proofs.Alike.{loose_gap}
 use Rattle.il_parse.proofs.Parts.{resource_of_local}
+use Rattle.il_parse.specs.Parts.{SpellsEnding}
+use Rattle.il_read.proofs.Breaks.{at_first, first_loose, later_loose, map_breaks, up_breaks}
+use Rattle.il_parse.proofs.Rests.{close_sampled, resource_filling, text_end_breaks}
+use Rattle.std.proofs.Common.{refl}
 use Rattle.il_parse.proofs.configuration.ending.Goals as goal
 
 pub returns-in_err-lines-clause-refused : goal.returns-in_err-lines-clause-refused
@@ -26,3 +30,12 @@ returns-in_err-text_end-clause-refused c =
 
 pub returns-clause-reads : goal.returns-clause-reads
 returns-clause-reads c = record { found = (_, c.in_ok-lines.ensures.reads.found, (_, (rw c.skip_lines.ensures.rest at c.in_ok-word.ensures.reads).found, (rw c.skip_lines-2.ensures.rest at c.in_ok-text_end.ensures.reads).found)) }
+
+pub returns-in_err-lines-clause-begins : goal.returns-in_err-lines-clause-begins
+returns-in_err-lines-clause-begins c = up_breaks _ c.from_residual.ensures.1 (map_breaks {Q = SpellsEnding} (λ x. x.0) (λ x other us r w. w) (first_loose close_sampled refl c.in_err-lines.ensures.begins))
+
+pub returns-in_err-word-clause-begins : goal.returns-in_err-word-clause-begins
+returns-in_err-word-clause-begins c = up_breaks _ c.from_residual-in_err-word.ensures.1 (map_breaks {Q = SpellsEnding} (λ x. x.0) (λ x other us r w. w) (later_loose resource_filling c.in_ok-lines.ensures.reads close_sampled refl (at_first close_sampled (rw c.skip_lines.ensures.rest at c.in_err-word.ensures.first))))
+
+pub returns-in_err-text_end-clause-begins : goal.returns-in_err-text_end-clause-begins
+returns-in_err-text_end-clause-begins c = up_breaks _ c.from_residual-in_err-text_end.ensures.1 (map_breaks {Q = SpellsEnding} (λ x. x.0) (λ x other us r w. w) (later_loose resource_filling c.in_ok-lines.ensures.reads close_sampled refl (text_end_breaks (rw c.skip_lines.ensures.rest at c.in_ok-word.ensures.reads) (rw c.skip_lines-2.ensures.rest at c.in_err-text_end.ensures.first))))

@@ -4,6 +4,10 @@ use Rattle.il_read.proofs.Chain.{first, later, part}
 use Rattle.il_grammar_laws.proofs.Local.{placed_word_local}
 use Rattle.il_grammar_laws.proofs.Alike.{loose_gap}
 use Rattle.il_parse.proofs.Ahead.{up_ahead, past_lines}
+use Rattle.il_read.proofs.Breaks.{at_first, later_loose, s_loose, up_breaks}
+use Rattle.il_read.proofs.Completions.{lines_break, placed_word_filling}
+use Rattle.il_grammar_laws.proofs.Samples.{list_end_sampled, placed_word_sampled}
+use Rattle.std.proofs.Common.{refl}
 use Rattle.il_parse.proofs.configuration.global_list.Goals as goal
 
 pub returns-in_err-place-clause-refused : goal.returns-in_err-place-clause-refused
@@ -19,3 +23,9 @@ returns-in_err-declarations-clause-refused c =
 
 pub returns-clause-reads : goal.returns-clause-reads
 returns-clause-reads c = record { found = (_, (rw c.skip_lines.ensures.rest at c.in_ok-place.ensures.reads).found, (rw c.skip_lines-2.ensures.rest at c.in_ok-declarations.ensures.reads).found) }
+
+pub returns-in_err-place-clause-begins : goal.returns-in_err-place-clause-begins
+returns-in_err-place-clause-begins c = up_breaks _ c.from_residual.ensures.1 (lines_break (s_loose (placed_word_sampled word.VarGlobal) list_end_sampled refl) refl (at_first (s_loose (placed_word_sampled word.VarGlobal) list_end_sampled refl) (rw c.skip_lines.ensures.rest at c.in_err-place.ensures.first)))
+
+pub returns-in_err-declarations-clause-begins : goal.returns-in_err-declarations-clause-begins
+returns-in_err-declarations-clause-begins c = up_breaks _ c.from_residual-in_err-declarations.ensures.1 (lines_break (s_loose (placed_word_sampled word.VarGlobal) list_end_sampled refl) refl (later_loose (placed_word_filling word.VarGlobal) (rw c.skip_lines.ensures.rest at c.in_ok-place.ensures.reads) list_end_sampled refl (rw c.skip_lines-2.ensures.rest at c.in_err-declarations.ensures.begins)))

@@ -2,6 +2,9 @@ use Rattle.il_spec.specs.declared.keyword.Keyword.TheVariants as word
 use Rattle.il_spec.specs.Grammar.{TheWord}
 use Rattle.il_read.proofs.Chain.{up, it_comes}
 use Rattle.il_parse.proofs.Parts.{globals_read, globals_refused}
+use Rattle.std.proofs.Common.{Some}
+use Rattle.il_parse.specs.Parts.{SpellsSomeGlobals}
+use Rattle.il_read.proofs.Breaks.{map_breaks, up_breaks}
 use Rattle.il_parse.proofs.configuration.globals.Goals as goal
 
 pub returns-in_err-place-clause-refused : goal.returns-in_err-place-clause-refused
@@ -11,3 +14,6 @@ returns-in_err-place-clause-refused c =
 
 pub returns-clause-reads : goal.returns-clause-reads
 returns-clause-reads c = globals_read c.args.source.now _ _ _ _ c.in_ok-place.ensures.reads
+
+pub returns-in_err-place-clause-begins : goal.returns-in_err-place-clause-begins
+returns-in_err-place-clause-begins c = up_breaks _ c.from_residual.ensures.1 (map_breaks {Q = SpellsSomeGlobals} (λ x. (Some x.0, x.1)) (λ x other us r w. (globals_read other us r x.0 x.1 (record { found = w })).found) c.in_err-place.ensures.begins)

@@ -4,6 +4,11 @@ use Rattle.il_parse.specs.Parts.{SpellsLines}
 use Rattle.il_read.proofs.Chain.{up, behind, first_missing, part}
 use Rattle.il_grammar_laws.proofs.Local.{word_local, some_name_local}
 use Rattle.il_grammar_laws.proofs.Alike.{loose_gap}
+use Rattle.il_read.proofs.Breaks.{at_first, map_breaks, part_loose, s_part, up_breaks}
+use Rattle.il_parse.proofs.Rests.{lines_all_sampled}
+use Rattle.std.proofs.Common.{refl}
+use Rattle.il_grammar_laws.proofs.Open.{some_name_fills, word_fills}
+use Rattle.il_grammar_laws.proofs.Samples.{some_name_sampled, word_sampled}
 use Rattle.il_parse.proofs.configuration.resource.Goals as goal
 
 pub returns-in_err-word-clause-refused : goal.returns-in_err-word-clause-refused
@@ -43,3 +48,23 @@ returns-in_err-lines-clause-refused c =
 
 pub returns-clause-reads : goal.returns-clause-reads
 returns-clause-reads c = record { found = (_, c.in_ok-word.ensures.reads.found, (_, (rw c.skip_lines.ensures.rest at c.in_ok-some_name.ensures.reads).found, (_, (rw c.skip_lines-2.ensures.rest at c.in_ok-word-2.ensures.reads).found, (_, (rw c.skip_lines-3.ensures.rest at c.in_ok-some_name-2.ensures.reads).found, (rw c.skip_lines-4.ensures.rest at c.in_ok-lines.ensures.reads).found)))) }
+
+pub returns-in_err-word-clause-begins : goal.returns-in_err-word-clause-begins
+returns-in_err-word-clause-begins c =
+    up_breaks _ c.from_residual.ensures.1 (map_breaks (λ x. x) (λ x other us r w. w) (at_first (s_part (word_sampled word.Resource) (s_part (some_name_sampled) (s_part (word_sampled word.On) (s_part (some_name_sampled) (lines_all_sampled) refl) refl) refl) refl) c.in_err-word.ensures.first))
+
+pub returns-in_err-some_name-clause-begins : goal.returns-in_err-some_name-clause-begins
+returns-in_err-some_name-clause-begins c =
+    up_breaks _ c.from_residual-in_err-some_name.ensures.1 (map_breaks (λ x. x) (λ x other us r w. w) (part_loose (word_fills word.Resource) c.in_ok-word.ensures.reads (s_part (some_name_sampled) (s_part (word_sampled word.On) (s_part (some_name_sampled) (lines_all_sampled) refl) refl) refl) refl (at_first (s_part (some_name_sampled) (s_part (word_sampled word.On) (s_part (some_name_sampled) (lines_all_sampled) refl) refl) refl) (rw c.skip_lines.ensures.rest at c.in_err-some_name.ensures.first))))
+
+pub returns-in_err-word-2-clause-begins : goal.returns-in_err-word-2-clause-begins
+returns-in_err-word-2-clause-begins c =
+    up_breaks _ c.from_residual-in_err-word-2.ensures.1 (map_breaks (λ x. x) (λ x other us r w. w) (part_loose (word_fills word.Resource) c.in_ok-word.ensures.reads (s_part (some_name_sampled) (s_part (word_sampled word.On) (s_part (some_name_sampled) (lines_all_sampled) refl) refl) refl) refl (part_loose (some_name_fills) (rw c.skip_lines.ensures.rest at c.in_ok-some_name.ensures.reads) (s_part (word_sampled word.On) (s_part (some_name_sampled) (lines_all_sampled) refl) refl) refl (at_first (s_part (word_sampled word.On) (s_part (some_name_sampled) (lines_all_sampled) refl) refl) (rw c.skip_lines-2.ensures.rest at c.in_err-word-2.ensures.first)))))
+
+pub returns-in_err-some_name-2-clause-begins : goal.returns-in_err-some_name-2-clause-begins
+returns-in_err-some_name-2-clause-begins c =
+    up_breaks _ c.from_residual-in_err-some_name-2.ensures.1 (map_breaks (λ x. x) (λ x other us r w. w) (part_loose (word_fills word.Resource) c.in_ok-word.ensures.reads (s_part (some_name_sampled) (s_part (word_sampled word.On) (s_part (some_name_sampled) (lines_all_sampled) refl) refl) refl) refl (part_loose (some_name_fills) (rw c.skip_lines.ensures.rest at c.in_ok-some_name.ensures.reads) (s_part (word_sampled word.On) (s_part (some_name_sampled) (lines_all_sampled) refl) refl) refl (part_loose (word_fills word.On) (rw c.skip_lines-2.ensures.rest at c.in_ok-word-2.ensures.reads) (s_part (some_name_sampled) (lines_all_sampled) refl) refl (at_first (s_part (some_name_sampled) (lines_all_sampled) refl) (rw c.skip_lines-3.ensures.rest at c.in_err-some_name-2.ensures.first))))))
+
+pub returns-in_err-lines-clause-begins : goal.returns-in_err-lines-clause-begins
+returns-in_err-lines-clause-begins c =
+    up_breaks _ c.from_residual-in_err-lines.ensures.1 (map_breaks (λ x. x) (λ x other us r w. w) (part_loose (word_fills word.Resource) c.in_ok-word.ensures.reads (s_part (some_name_sampled) (s_part (word_sampled word.On) (s_part (some_name_sampled) (lines_all_sampled) refl) refl) refl) refl (part_loose (some_name_fills) (rw c.skip_lines.ensures.rest at c.in_ok-some_name.ensures.reads) (s_part (word_sampled word.On) (s_part (some_name_sampled) (lines_all_sampled) refl) refl) refl (part_loose (word_fills word.On) (rw c.skip_lines-2.ensures.rest at c.in_ok-word-2.ensures.reads) (s_part (some_name_sampled) (lines_all_sampled) refl) refl (part_loose (some_name_fills) (rw c.skip_lines-3.ensures.rest at c.in_ok-some_name-2.ensures.reads) (lines_all_sampled) refl (rw c.skip_lines-4.ensures.rest at c.in_err-lines.ensures.begins))))))

@@ -5,6 +5,11 @@ use Rattle.il_read.proofs.Chain.{up, first, later, part}
 use Rattle.il_grammar_laws.proofs.Local.{the_name_local, placed_word_local}
 use Rattle.il_grammar_laws.proofs.Alike.{tight_gap, loose_gap}
 use Rattle.il_parse.proofs.Ahead.{forget}
+use Rattle.il_read.proofs.Breaks.{at_first, later_loose, later_tight, map_breaks, s_loose, s_tight, up_breaks}
+use Rattle.il_parse.proofs.Rests.{block_rest_sampled}
+use Rattle.il_read.proofs.Completions.{placed_word_filling, the_name_filling}
+use Rattle.il_grammar_laws.proofs.Samples.{placed_word_sampled, the_name_sampled}
+use Rattle.std.proofs.Common.{refl}
 use Rattle.il_parse.proofs.headings.block.Goals as goal
 
 pub returns-in_err-place-clause-refused : goal.returns-in_err-place-clause-refused
@@ -27,3 +32,15 @@ returns-in_err-inside-clause-refused c =
 
 pub returns-clause-reads : goal.returns-clause-reads
 returns-clause-reads c = record { found = (_, c.in_ok-place.ensures.reads.found, (_, (rw c.skip_lines.ensures.rest at c.in_ok-name.ensures.reads).found, c.in_ok-inside.ensures.reads.found)) }
+
+pub returns-in_err-place-clause-begins : goal.returns-in_err-place-clause-begins
+returns-in_err-place-clause-begins c =
+    up_breaks _ c.from_residual.ensures.1 (map_breaks (λ x. (x.0, x.1.0, x.1.1)) (λ x other us r w. w) (at_first (s_loose (placed_word_sampled word.FunctionBlock) (s_tight (the_name_sampled) (block_rest_sampled)) refl) c.in_err-place.ensures.first))
+
+pub returns-in_err-name-clause-begins : goal.returns-in_err-name-clause-begins
+returns-in_err-name-clause-begins c =
+    up_breaks _ c.from_residual-in_err-name.ensures.1 (map_breaks (λ x. (x.0, x.1.0, x.1.1)) (λ x other us r w. w) (later_loose (placed_word_filling word.FunctionBlock) c.in_ok-place.ensures.reads (s_tight (the_name_sampled) (block_rest_sampled)) refl (at_first (s_tight (the_name_sampled) (block_rest_sampled)) (rw c.skip_lines.ensures.rest at c.in_err-name.ensures.first))))
+
+pub returns-in_err-inside-clause-begins : goal.returns-in_err-inside-clause-begins
+returns-in_err-inside-clause-begins c =
+    up_breaks _ c.from_residual-in_err-inside.ensures.1 (map_breaks (λ x. (x.0, x.1.0, x.1.1)) (λ x other us r w. w) (later_loose (placed_word_filling word.FunctionBlock) c.in_ok-place.ensures.reads (s_tight (the_name_sampled) (block_rest_sampled)) refl (later_tight (the_name_filling) (rw c.skip_lines.ensures.rest at c.in_ok-name.ensures.reads) (block_rest_sampled) c.in_err-inside.ensures.begins)))

@@ -6,6 +6,10 @@ use Rattle.il_grammar_laws.proofs.Local.{word_told}
 use Rattle.il_parse.proofs.OneUnit.{small_unit_local}
 use Rattle.il_parse.specs.Parts.{SpellsUnits}
 use Rattle.std.proofs.Common.{arith}
+use Rattle.il_parse.proofs.Rests.{small_unit_filling, unit_filling, units_break}
+use Rattle.il_grammar_laws.proofs.GoesOn.{gone_on, gone_starts}
+use Rattle.il_read.proofs.Breaks.{at_first, up_breaks}
+use Rattle.il_grammar_laws.proofs.Samples.{program_sampled}
 use Rattle.il_parse.proofs.units.units.Goals as goal
 
 pub returns-then-is_full-clause-refused : goal.returns-then-is_full-clause-refused
@@ -24,7 +28,8 @@ units-preserved c =
     let none = was_missing (TheWord c.args.source.now word.Configuration) c.units.tokens _ c.eat_word.new.tokens c.eat_word.ensures.eaten c.units-test.true in (
       rw c.in_ok-push.ensures.ok (few_more _ _ _ c.if-is_full.false c.is_full.ensures.no c.units.invariant.0),
       rw (c.skip_lines.ensures.rest, c.in_ok-push.ensures.ok)
-          (goes_on _ _ _ small_unit_local (word_told word.Configuration) _ _ _ _ _ none.1 c.units.invariant.1 (rw none.0 at c.in_ok-unit.ensures.reads)),
+          (goes_on _ _ _ small_unit_filling small_unit_local (word_told word.Configuration) _ _ _ _ _ none.1 c.units.invariant.1 (rw none.0 at c.in_ok-unit.ensures.reads)),
+      rw (c.skip_lines.ensures.rest, c.in_ok-push.ensures.ok) (gone_on unit_filling c.units.invariant.2 (rw none.0 at c.in_ok-unit.ensures.reads).found.0),
     )
 
 pub returns-clause-reads : goal.returns-clause-reads
@@ -32,4 +37,15 @@ returns-clause-reads c =
     within_read SpellsUnits {text = c.args.source.now} 64 c.units.invariant.0 (ended _ _ _ _ _ _ _ c.units.invariant.1 (was_there (TheWord c.args.source.now word.Configuration) c.units.tokens _ c.eat_word.new.tokens c.eat_word.ensures.eaten c.units-test.false))
 
 pub units-init : goal.units-init
-units-init c = rw c.new-units.ensures (omega arith, starts _ _ _ _)
+units-init c = rw c.new-units.ensures (omega arith, starts _ _ _ _, gone_starts _)
+
+pub returns-then-is_full-clause-begins : goal.returns-then-is_full-clause-begins
+returns-then-is_full-clause-begins c = 
+    let none = was_missing (TheWord c.args.source.now word.Configuration) c.units.tokens _ c.eat_word.new.tokens c.eat_word.ensures.eaten c.units-test.true in
+    let how = rw none.0 at c.surplus.ensures in
+    units_break c.units.invariant.2 (at_first program_sampled (λ _. (how.0, how.1)))
+
+pub returns-in_err-unit-clause-begins : goal.returns-in_err-unit-clause-begins
+returns-in_err-unit-clause-begins c = 
+    let none = was_missing (TheWord c.args.source.now word.Configuration) c.units.tokens _ c.eat_word.new.tokens c.eat_word.ensures.eaten c.units-test.true in
+    up_breaks _ c.from_residual.ensures.1 (units_break c.units.invariant.2 (rw none.0 at c.in_err-unit.ensures.begins))

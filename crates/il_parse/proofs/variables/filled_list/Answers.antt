@@ -1,7 +1,9 @@
-use Rattle.il_spec.specs.Grammar.{TheWord}
+use Rattle.il_spec.specs.Grammar.{TheWord, SpellsFilledList}
 use Rattle.il_read.proofs.Chain.{it_comes}
 use Rattle.il_parse.proofs.Missing.{filled_refused, filled_read}
 use Rattle.il_parse.proofs.Ahead.{up_ahead}
+use Rattle.il_parse.proofs.Rests.{filled_is}
+use Rattle.il_read.proofs.Breaks.{map_breaks, up_breaks}
 use Rattle.il_parse.proofs.variables.filled_list.Goals as goal
 
 pub returns-in_err-full_list-clause-refused : goal.returns-in_err-full_list-clause-refused
@@ -11,3 +13,6 @@ returns-in_err-full_list-clause-refused c =
 
 pub returns-clause-reads : goal.returns-clause-reads
 returns-clause-reads c = filled_read c.args.source.now _ _ _ _ c.in_ok-full_list.ensures.reads
+
+pub returns-in_err-full_list-clause-begins : goal.returns-in_err-full_list-clause-begins
+returns-in_err-full_list-clause-begins c = up_breaks _ c.from_residual.ensures.1 (map_breaks {Q = λ text. SpellsFilledList text c.args.keyword} (λ x. x) (filled_is c.args.keyword) c.in_err-full_list.ensures.begins)
