@@ -3,4 +3,4 @@ use Rattle.il_read.proofs.Instructions.{none_refused, no_other}
 use Rattle.il_read.proofs.source.Source.instruction.Goals as goal
 
 pub returns-in_default-clause-refused : goal.returns-in_default-clause-refused
-returns-in_default-clause-refused c = none_refused c.args.self.now c.args.room _ _ _ (sym c.requires) (no_other _ c.in_default.not-Name c.in_default.not-Reserved c.in_default.not-Sign) c.outside.ensures
+returns-in_default-clause-refused c = none_refused c.args.self.now _ _ _ _ (sym c.requires) (no_other _ c.in_default.not-Name c.in_default.not-Reserved c.in_default.not-Sign) c.outside.ensures
