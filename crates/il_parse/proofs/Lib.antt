@@ -8,3 +8,4 @@ pub mod Missing
 pub mod External
 pub mod OneUnit
 pub mod Turn
+pub mod ByError

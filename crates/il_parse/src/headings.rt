@@ -1,8 +1,8 @@
 // Units of each kind (IEC 61131-3:2003, 2.5).
 
 ghost use Rattle.std.specs.Prelude.{IfOk, IfErr};
-ghost use Rattle.il_read.specs.Reads.{Reads, Refuses};
-ghost use Rattle.il_parse.specs.Headings.{PlacedScalar, SpellsResultAt, SpellsProgram, SpellsBlock, SpellsFunction};
+ghost use Rattle.il_read.specs.Reads.{Reads, Refuses, RefusesBy};
+ghost use Rattle.il_parse.specs.Headings.{PlacedScalar, SpellsResultAt, SpellsProgram, SpellsBlock, SpellsFunction, SpellsProgramBy, SpellsBlockBy, SpellsFunctionBy};
 
 use crate::insides::{block_inside, function_inside, program_inside};
 use il_read::{Source, Stop, Tokens};
@@ -40,7 +40,7 @@ pub fn program(
     tokens: &mut Tokens,
 ) -> Result<(Place, Named, (Items<Declaration>, Items<Declaration>, Body)), Stop>
     ensures reads { IfOk result (λ x. Reads (SpellsProgram source.now) tokens.old x tokens.new) }
-    ensures refused { IfErr result (λ e. Refuses SpellsProgram source.now tokens.old e) }
+    ensures refused { IfErr result (λ e. RefusesBy SpellsProgramBy source.now tokens.old e) }
 {
     let place = source.placed_word(tokens, Keyword::Program)?;
     tokens.skip_lines();
@@ -67,7 +67,7 @@ pub fn block(
     Stop,
 >
     ensures reads { IfOk result (λ x. Reads (SpellsBlock source.now) tokens.old x tokens.new) }
-    ensures refused { IfErr result (λ e. Refuses SpellsBlock source.now tokens.old e) }
+    ensures refused { IfErr result (λ e. RefusesBy SpellsBlockBy source.now tokens.old e) }
 {
     let place = source.placed_word(tokens, Keyword::FunctionBlock)?;
     tokens.skip_lines();
@@ -90,7 +90,7 @@ pub fn function(
     Stop,
 >
     ensures reads { IfOk result (λ x. Reads (SpellsFunction source.now) tokens.old x tokens.new) }
-    ensures refused { IfErr result (λ e. Refuses SpellsFunction source.now tokens.old e) }
+    ensures refused { IfErr result (λ e. RefusesBy SpellsFunctionBy source.now tokens.old e) }
 {
     let place = source.placed_word(tokens, Keyword::Function)?;
     tokens.skip_lines();

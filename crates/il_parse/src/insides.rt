@@ -1,9 +1,9 @@
 // What stands behind the heading of a unit (IEC 61131-3:2003, 2.5).
 
 ghost use Rattle.std.specs.Prelude.{IfOk, IfErr};
-ghost use Rattle.il_read.specs.Reads.{Reads, Refuses};
-ghost use Rattle.il_parse.specs.Ahead.{RefusesAhead};
-ghost use Rattle.il_parse.specs.Insides.{SpellsProgramInside, SpellsBlockInside, SpellsFunctionInside};
+ghost use Rattle.il_read.specs.Reads.{Reads};
+ghost use Rattle.il_parse.specs.Ahead.{RefusesAheadBy};
+ghost use Rattle.il_parse.specs.Insides.{SpellsProgramInside, SpellsBlockInside, SpellsFunctionInside, SpellsProgramInsideBy, SpellsBlockInsideBy, SpellsFunctionInsideBy};
 
 use crate::bodies::body;
 use crate::variables::{externals, filled_list, full_list, no_list, optional_list};
@@ -19,7 +19,7 @@ pub fn program_inside(
 ) -> Result<(Items<Declaration>, Items<Declaration>, Body), Stop>
     ensures reads { IfOk result (λ x. Reads (SpellsProgramInside source.now) tokens.old x
         tokens.new) }
-    ensures refused { IfErr result (λ e. RefusesAhead SpellsProgramInside source.now tokens.old e) }
+    ensures refused { IfErr result (λ e. RefusesAheadBy SpellsProgramInsideBy source.now tokens.old e) }
 {
     no_list(source, tokens, Keyword::VarInput)?;
     no_list(source, tokens, Keyword::VarOutput)?;
@@ -44,7 +44,7 @@ pub fn block_inside(
 >
     ensures reads { IfOk result (λ x. Reads (SpellsBlockInside source.now) tokens.old x
         tokens.new) }
-    ensures refused { IfErr result (λ e. RefusesAhead SpellsBlockInside source.now tokens.old e) }
+    ensures refused { IfErr result (λ e. RefusesAheadBy SpellsBlockInsideBy source.now tokens.old e) }
 {
     let inputs = filled_list(source, tokens, Keyword::VarInput)?;
     let outputs = filled_list(source, tokens, Keyword::VarOutput)?;
@@ -61,8 +61,8 @@ pub fn function_inside(
 ) -> Result<(Items<Declaration>, Items<Declaration>, Body), Stop>
     ensures reads { IfOk result (λ x. Reads (SpellsFunctionInside source.now) tokens.old x
         tokens.new) }
-    ensures refused { IfErr result (λ e. RefusesAhead
-        SpellsFunctionInside source.now tokens.old e) }
+    ensures refused { IfErr result (λ e. RefusesAheadBy
+        SpellsFunctionInsideBy source.now tokens.old e) }
 {
     let inputs = full_list(source, tokens, Keyword::VarInput)?;
     no_list(source, tokens, Keyword::VarOutput)?;
