@@ -9,3 +9,4 @@ pub mod External
 pub mod OneUnit
 pub mod Turn
 pub mod ByError
+pub mod UnitsByError
