@@ -1,6 +1,6 @@
 -- Faults whose error says which rule they refuse, in units and in a whole text.
 use Rattle.std.proofs.Common.{◌≡◌, ℕ, ◌≤◌, true, List, [], ◌∷◌, length, refl, sym, ◌∙◌, ap, subst, inl, inr}
-use Rattle.std.specs.Prelude.{◌⊎◌, IsTrue, IsFalse, ⊤}
+use Rattle.std.specs.Prelude.{◌⊎◌, IsTrue, IsFalse}
 use Rattle.std.specs.List.{All}
 use Rattle.std.proofs.lemmas.List.Elements.{All-nil, All-cons}
 use Rattle.il_spec.specs.declared.token.Token.{Token}
@@ -23,13 +23,13 @@ use Rattle.il_read.specs.declared.lead.Lead.TheVariants as lead
 use Rattle.il_read.specs.declared.stop.SyntaxError.{SyntaxError}
 use Rattle.il_read.specs.declared.stop.SyntaxError.TheVariants.{Unexpected, TooDeep, TooMany}
 use Rattle.il_read.specs.declared.stop.Stop.{Stop}
-use Rattle.il_read.specs.Reads.{Reads, Refuses, RefusesBy, error_of, fault_at, past_name, turn}
+use Rattle.il_read.specs.Reads.{Reads, Refuses, RefusesBy, error_of, fault_at, past_name}
 use Rattle.il_read.proofs.Leaves.{word_lead, by_lead}
 use Rattle.il_read.proofs.Chain.{HasRead, lift, item_refused, too_many}
 use Rattle.il_read.proofs.ByError.{error_is}
 use Rattle.il_parse.specs.Bodies.{IsFewBy}
 use Rattle.il_parse.specs.Units.{IsFew, SpellsSmallUnit, SpellsUnitBy, unit_begins}
-use Rattle.il_parse.specs.Parts.{AreFewBy, SpellsUnits, SpellsFewUnits, SpellsFewUnitsBy}
+use Rattle.il_parse.specs.Parts.{AreFewBy, SpellsFewUnits, SpellsFewUnitsBy}
 use Rattle.il_parse.specs.Refused.{IsSmall, Keeps}
 
 -- within all limits is within each
