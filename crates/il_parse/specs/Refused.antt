@@ -42,8 +42,8 @@ IsPlaceAt text place [] = length text < 4294967295 → (place.offset ≡ length 
 IsPlaceAt text place (t ∷ ts) = (place.offset ≡ t.start) × (place.line ≡ t.line)
 
 -- A fault names the first of the tokens `at`, or where there is none the end of the text. With it no text goes on: whatever text
--- has the same tokens up to this one, whatever stands behind, no configuration within the limit that it is about is spelled. Where an instruction
--- too many begins with a name, it is the token behind that name with which none goes on (`turn`).
+-- has the same tokens up to this one, whatever stands behind, no configuration is spelled that keeps the limit which the fault is
+-- about. Where an instruction too many begins with a name, it is the token behind that name with which none goes on (`turn`).
 abbrev pub GoesOnNowhere : List ℕ → List Token → Refusal → Type 0
 GoesOnNowhere text tokens (refusal.Fault number place) =
     (error : SyntaxError) × (at : List Token) × (number ≡ number_of error) × IsEndOf at tokens × IsPlaceAt text place at
