@@ -13,13 +13,13 @@ use Rattle.il_grammar_laws.proofs.Local.{line_end_local}
 use Rattle.il_grammar_laws.proofs.Bodies.{skip_one}
 use Rattle.il_grammar_laws.specs.GoesOn.{always}
 use Rattle.il_grammar_laws.proofs.GoesOn.{IsFilling, gone_on}
-use Rattle.il_read.specs.Reads.{IsFault, Reads, GoesOnNoMore, Refuses, Stands, Misses, turn, fault_at}
+use Rattle.il_read.specs.Reads.{IsFault, Reads, GoesOnNoMore, Refuses, Stands, Misses, turn, fault_at, RefusesBy, error_of}
 use Rattle.il_read.specs.declared.stop.SyntaxError.{SyntaxError}
 use Rattle.il_read.specs.declared.stop.Stop.{Stop}
 use Rattle.il_read.specs.declared.stop.Stop.TheVariants as stop
 use Rattle.il_read.proofs.Chain.{Lacks, HasRead, regroup, later_goes, valued}
-use Rattle.il_parse.specs.Ahead.{RefusesAhead}
-use Rattle.il_parse.specs.Bodies.{SpellsSteps, SpellsSmallBody}
+use Rattle.il_parse.specs.Ahead.{RefusesAhead, RefusesAheadBy}
+use Rattle.il_parse.specs.Bodies.{SpellsStepsBy, SpellsBodyBy}
 
 -- behind line ends an end is an end
 skip_end : (m ts : List Token) → IsEndOf m ts → IsEndOf (skip_line_ends m) (skip_line_ends ts)
@@ -139,7 +139,7 @@ unended [] out = refl
 unended (t ∷ us) out = ap (λ (b : Bool). if b then skip_line_ends us else t ∷ us) (by_kind t us t.kind refl out)
 
 -- the line doesn't end there, where a body has to begin
-pub no_line_end : (last : Keyword) (text : List ℕ) (ts : List Token) (e : Stop) → Misses (λ text. TheLineEnd) text ts e → RefusesAhead (λ text. SpellsSmallBody text last) text ts e
+pub no_line_end : (last : Keyword) (text : List ℕ) (ts : List Token) (e : Stop) → Misses (λ text. TheLineEnd) text ts e → RefusesAheadBy (SpellsBodyBy last) text ts e
 no_line_end last text ts e bad = record {
   fault = λ is.
       let b = bad.fault is in
@@ -155,7 +155,7 @@ no_line_end last text ts e bad = record {
 }
 
 -- the line ends there, and no steps follow
-pub no_steps : (last : Keyword) (text : List ℕ) (ts m : List Token) (e : Stop) → Stands TheLineEnd ts m → Refuses (λ text. SpellsSteps text last) text (skip_line_ends m) e → RefusesAhead (λ text. SpellsSmallBody text last) text ts e
+pub no_steps : (last : Keyword) (text : List ℕ) (ts m : List Token) (e : Stop) → Stands TheLineEnd ts m → RefusesBy (SpellsStepsBy last) text (skip_line_ends m) e → RefusesAheadBy (SpellsBodyBy last) text ts e
 no_steps last text ts m e here bad =
     let same = skip_one ts m here.found in
     record {
@@ -167,7 +167,7 @@ no_steps last text ts m e here bad =
             c.2,
             end_of_end c.1 (skip_line_ends ts) ts (loose_gap.ends ts) (subst (λ (x : List Token). IsEndOf c.1 x) (sym same) c.3),
             subst (λ (x : List Token). IsEndOf back x) (sym same) c.4.inside,
-            later_goes back (λ (b : Body). tt) loose_gap (λ text (b : Body). SpellsSteps text last b) (gap_length loose_gap) (valued line_end_local) here.found c.4,
+            later_goes back (λ (b : Body). tt) loose_gap (λ text (b : Body). SpellsStepsBy last (error_of e) text b) (gap_length loose_gap) (valued line_end_local) here.found c.4,
           );
     }
 

@@ -31,17 +31,19 @@ use Rattle.il_grammar_laws.specs.Alike.{IsEndOf, AreAlike}
 use Rattle.il_grammar_laws.proofs.Alike.{end_self, end_length, end_of_end}
 use Rattle.il_grammar_laws.proofs.Local.{step_local, loosely_local}
 use Rattle.il_read.specs.declared.stop.SyntaxError.{SyntaxError}
-use Rattle.il_read.specs.declared.stop.SyntaxError.TheVariants.{Unexpected, TooMany}
-use Rattle.il_read.specs.Reads.{IsFault, Reads, GoesOnNoMore, Refuses, turn, past_name, fault_at, HasRoom, IsPlaceOf, SpellsRoomy}
+use Rattle.il_read.specs.declared.stop.SyntaxError.TheVariants.{Unexpected, TooDeep, TooMany}
+use Rattle.il_read.specs.Reads.{IsFault, Reads, GoesOnNoMore, RefusesBy, turn, past_name, fault_at, error_of, HasRoom, room_by, IsPlaceOf, SpellsRoomy, SpellsRoomyBy}
 use Rattle.il_read.specs.declared.lead.Lead.{Lead}
 use Rattle.il_read.specs.declared.lead.Lead.TheVariants as lead
 use Rattle.il_read.specs.declared.stop.Stop.{Stop}
 use Rattle.il_read.proofs.Leaves.{word_lead, word_there, sign_lead, name_there, the_name_lead, lead_alike}
 use Rattle.il_read.proofs.Chain.{HasRead, lift, ended}
+use Rattle.il_read.proofs.ByError.{error_is}
+use Rattle.il_parse.proofs.ByError.{room_fits, nothing_begins}
 use Rattle.il_parse.proofs.Ahead.{goes_on_apart}
 use Rattle.il_read.specs.Settings.{TakesWord}
 use Rattle.il_read.proofs.Nesting.{IsOpen, one_open, closed}
-use Rattle.il_parse.specs.Bodies.{closes_lead, leaves_lead, ends_lead, loads_lead, may_begin, bare, SpellsPlaced, RefusesPlaced, HasLabels, TakesEnd, SpellsNext, IsLast, SpellsSteps}
+use Rattle.il_parse.specs.Bodies.{closes_lead, leaves_lead, ends_lead, loads_lead, begins_lead, may_begin, bare, SpellsPlaced, SpellsPlacedBy, FitsBy, RefusesPlaced, HasLabels, TakesEnd, SpellsNext, SpellsNextBy, IsLast, SpellsSteps, SpellsStepsBy, IsFewBy}
 use Rattle.il_parse.specs.declared.bodies.Entry.{Entry}
 use Rattle.il_parse.specs.declared.bodies.Entry.TheVariants as entry
 
@@ -199,20 +201,6 @@ past_inside (lead.Typed v) ts = end_self ts
 past_inside (lead.Sign s) ts = end_self ts
 past_inside lead.LineEnd ts = end_self ts
 
--- there is room where the depth allows it
-has_room : (room : Bool) (depth : ℕ) (i : Instruction) → (IsFalse room → 16 ≤ depth) → depth_after depth i ≤ 16 → HasRoom room i
-has_room true depth (instruction.Defer op first) out deep = refl
-has_room false depth (instruction.Defer op first) out deep = let a = out refl in absurd (omega (arith, a, deep))
-has_room room depth (instruction.Load n o) out deep = tt
-has_room room depth (instruction.Store k o) out deep = tt
-has_room room depth instruction.Not out deep = tt
-has_room room depth (instruction.Operate op o) out deep = tt
-has_room room depth instruction.Evaluate out deep = tt
-has_room room depth (instruction.Jump k n) out deep = tt
-has_room room depth (instruction.Return k) out deep = tt
-has_room room depth (instruction.Call k n a) out deep = tt
-has_room room depth (instruction.Invoke f a) out deep = tt
-
 -- a place of a token
 abbrev place_of : Token → Place
 place_of t = record { offset = t.start; line = t.line }
@@ -228,7 +216,7 @@ module _ (text : List ℕ) where
           let bad : true ≡ false = sym yes ∙ ap (λ d. may_begin d load lead.Name) (sym z) ∙ ap (λ x. may_begin depth load x) (sym l) ∙ out in
           absurd cc
 
-      go : (other : List ℕ) (us : List Token) → AreAlike text other ts ts us → (x : Place × Instruction) (r : List Token) → SpellsPlaced other depth load full x us r → ⊥
+      go : (other : List ℕ) (us : List Token) → AreAlike text other ts ts us → (x : Place × Instruction) (r : List Token) → SpellsPlacedBy depth load full (error_of e) other x us r → ⊥
       go other us a x r w =
           let here : may_begin depth load (lead_at other us) ≡ false = ap (λ l. may_begin depth load l) (lead_alike text other ts ts us a) ∙ out in
           let bad : false ≡ true = sym here ∙ may_so other depth load x.0 x.1 us r (at_holds other (SpellsInstruction other x.1) x.0 us r w.0) ∙ w.1 in
@@ -248,34 +236,6 @@ module _ (text : List ℕ) where
     );
   }
   none_stands depth load full (t ∷ ts) e empty here = absurd cc
-
-  -- the body is full
-  pub full_refused : (depth : ℕ) (load full : Bool) (l : Lead) (ts : List Token) (e : Stop) → full ≡ true → l ≡ lead_at text ts → (e ≡ fault_at TooMany ts) ⊎ ((e ≡ fault_at Unexpected ts) × (l ≡ lead.Name → ⊥))
-      → RefusesPlaced text depth load full ts e
-  full_refused depth load full l ts e is_full same how = record { fault = λ is. choose how }
-    where
-      out : (other : List ℕ) (us : List Token) (x : Place × Instruction) (r : List Token) → SpellsPlaced other depth load full x us r → ⊥
-      out other us x r w = let bad : not full ≡ true = w.3 in let is = ap not is_full in cc
-
-      choose : (e ≡ fault_at TooMany ts) ⊎ ((e ≡ fault_at Unexpected ts) × (l ≡ lead.Name → ⊥))
-          → (error : SyntaxError) × (at : List Token) × (e ≡ fault_at error at) × IsEndOf at ts
-          × (depth ≡ 0 → lead_at text ts ≡ lead.Name → IsEndOf (turn error text at) (drop 1 ts)) × GoesOnNoMore (λ text. SpellsPlaced text depth load full) text ts (turn error text at)
-      choose (inl here) = (
-        TooMany,
-        ts,
-        here,
-        end_self ts,
-        λ z name. subst (λ (x : Lead). IsEndOf (past_name x ts) (drop 1 ts)) (sym name) (end_self (drop 1 ts)),
-        record { inside = past_inside (lead_at text ts) ts; never = λ other us a x r w. out other us x r w },
-      )
-      choose (inr here) = (
-        Unexpected,
-        ts,
-        here.0,
-        end_self ts,
-        λ z name. absurd (here.1 (same ∙ name)),
-        record { inside = end_self ts; never = λ other us a x r w. out other us x r w },
-      )
 
   -- A name alone on its line calls a function without operands: so it is the token behind a name that nothing goes on with.
   behind_name : (room : Bool) (back ts : List Token) → GoesOnNoMore (λ text. SpellsRoomy text room) text ts back → lead_at text ts ≡ lead.Name → IsEndOf back (drop 1 ts)
@@ -298,7 +258,7 @@ module _ (text : List ℕ) where
           absurd (gone.never text (t ∷ line ∷ []) a call [] it)
 
   -- no instruction is read there
-  pub placed_refused : (room : Bool) (depth : ℕ) (load full : Bool) (ts : List Token) (e : Stop) → (IsFalse room → 16 ≤ depth) → Refuses (λ text. SpellsRoomy text room) text ts e → RefusesPlaced text depth load full ts e
+  pub placed_refused : (room : Bool) (depth : ℕ) (load full : Bool) (ts : List Token) (e : Stop) → (IsFalse room → 16 ≤ depth) → RefusesBy (SpellsRoomyBy room) text ts e → RefusesPlaced text depth load full ts e
   placed_refused room depth load full ts e out bad = record {
     fault = λ is.
         let b = bad.fault is in (
@@ -306,13 +266,34 @@ module _ (text : List ℕ) where
           b.1,
           b.2,
           b.3,
-          λ z name. behind_name room (turn b.0 text b.1) ts b.4 name,
+          λ z name. behind_name (room_by (error_of e) room) (turn b.0 text b.1) ts b.4 name,
           record {
             inside = b.4.inside;
-            never = λ other us a x r w. b.4.never other us a x.1 r (has_room room depth x.1 out w.2, at_holds other (SpellsInstruction other x.1) x.0 us r w.0);
+            never = λ other us a x r w. b.4.never other us a x.1 r (room_fits (error_of e) room depth full x.1 out w.2, at_holds other (SpellsInstruction other x.1) x.0 us r w.0);
           },
         );
   }
+
+  -- the body is full
+  pub full_refused : (depth : ℕ) (load full : Bool) (l : Lead) (ts : List Token) (e : Stop) → full ≡ true → l ≡ lead_at text ts → (e ≡ fault_at TooMany ts) ⊎ ((e ≡ fault_at Unexpected ts) × IsFalse (begins_lead l))
+      → RefusesPlaced text depth load full ts e
+  full_refused depth load full l ts e is_full same (inl here) = record {
+    fault = λ is. (
+      TooMany,
+      ts,
+      here,
+      end_self ts,
+      λ z name. subst (λ (x : Lead). IsEndOf (past_name x ts) (drop 1 ts)) (sym name) (end_self (drop 1 ts)),
+      record { inside = past_inside (lead_at text ts) ts; never = λ other us a x r w. out x.1 w.2 },
+    );
+  }
+    where
+      out : (i : Instruction) → FitsBy (error_of e) depth full i → ⊥
+      out i fits =
+          let bad : not full ≡ true = subst (λ (error : SyntaxError). FitsBy error depth full i) (error_is TooMany ts e here) fits in
+          let is = ap not is_full in
+          cc
+  full_refused depth load full l ts e is_full same (inr here) = placed_refused full depth load full ts e (λ is. absurd cc) (nothing_begins text full l ts e (sym same) here.1 here.0)
 
   -- a word that ends the body stands in alike tokens where it stands in these
   last_there : (last : Keyword) (other : List ℕ) (back m vs : List Token) (p : Place) (r : List Token) → AreAlike text other back m vs → At p (TheWord other last) vs r → (q : Place) × (k : List Token) × At q (TheWord text last) m k
@@ -323,7 +304,7 @@ module _ (text : List ℕ) where
 
   -- behind labels stands no instruction, and no end
   pub outer_refused : (last : Keyword) (load full alone : Bool) (start m : List Token) (ns : List Named) (e : Stop) → HasLabels text start ns alone m
-      → ((p : Place) (r : List Token) → At p (TheWord text last) m r → IsTrue alone → ⊥) → RefusesPlaced text 0 load full m e → Refuses (λ text. SpellsNext text last 0 load full) text start e
+      → ((p : Place) (r : List Token) → At p (TheWord text last) m r → IsTrue alone → ⊥) → RefusesPlaced text 0 load full m e → RefusesBy (SpellsNextBy last 0 load full) text start e
   outer_refused last load full alone start m ns e labels out bad = record {
     fault = λ is.
         let b = bad.fault is in
@@ -336,12 +317,12 @@ module _ (text : List ℕ) where
         );
   }
     where
-      go : (back : List Token) → (lead_at text m ≡ lead.Name → length back ≤ length (drop 1 m)) → GoesOnNoMore (λ text. SpellsPlaced text 0 load full) text m back
-          → (other : List ℕ) (us : List Token) → AreAlike text other back start us → (x : Entry) (r : List Token) → SpellsNext other last 0 load full x us r → ⊥
+      go : (back : List Token) → (lead_at text m ≡ lead.Name → length back ≤ length (drop 1 m)) → GoesOnNoMore (SpellsPlacedBy 0 load full (error_of e)) text m back
+          → (other : List ℕ) (us : List Token) → AreAlike text other back start us → (x : Entry) (r : List Token) → SpellsNextBy last 0 load full (error_of e) other x us r → ⊥
       go back named gone other us a (entry.Step s) r w =
           let read = labels.left other back us a (end_length back m gone.inside) named in
           let n = read.2 s.place s.instruction s.labels r w.0 in
-          gone.never other read.0 read.1 (s.place, s.instruction) r (n.1, w.1.0, w.1.1, w.1.2)
+          gone.never other read.0 read.1 (s.place, s.instruction) r (n.1, w.1.0, w.1.1)
       go back named gone other us a (entry.End ls p) r w =
           let read = labels.left other back us a (end_length back m gone.inside) named in
           let n = read.3 last p ls r w.0 in
@@ -349,7 +330,7 @@ module _ (text : List ℕ) where
           out there.0 there.1 there.2 n.2
 
   -- in parentheses stand no labels, and no end
-  pub inner_refused : (last : Keyword) (depth : ℕ) (load full : Bool) (ts : List Token) (e : Stop) → (depth ≡ 0 → ⊥) → RefusesPlaced text depth load full ts e → Refuses (λ text. SpellsNext text last depth load full) text ts e
+  pub inner_refused : (last : Keyword) (depth : ℕ) (load full : Bool) (ts : List Token) (e : Stop) → (depth ≡ 0 → ⊥) → RefusesPlaced text depth load full ts e → RefusesBy (SpellsNextBy last depth load full) text ts e
   inner_refused last zero load full ts e inside bad = absurd (inside refl)
   inner_refused last (suc depth) load full ts e inside bad = record {
     fault = λ is.
@@ -357,20 +338,20 @@ module _ (text : List ℕ) where
         (b.0, b.1, b.2, b.3, record { inside = b.5.inside; never = λ other us a x r w. go (turn b.0 text b.1) b.5 other us a x r w });
   }
     where
-      unlabelled : (back : List Token) → GoesOnNoMore (λ text. SpellsPlaced text (suc depth) load full) text ts back → (other : List ℕ) (us : List Token) → AreAlike text other back ts us
+      unlabelled : (back : List Token) → GoesOnNoMore (SpellsPlacedBy (suc depth) load full (error_of e)) text ts back → (other : List ℕ) (us : List Token) → AreAlike text other back ts us
           → (ls : List Named) (p : Place) (i : Instruction) (r : List Token) → SpellsLabelled other ls (At p (SpellsInstruction other i)) us r
-          → IsTrue (may_stand (suc depth) load (record { labels = ls; place = p; instruction = i })) → depth_after (suc depth) i ≤ 16 → IsTrue (not full) → ⊥
-      unlabelled back gone other us a [] p i r w may deep free = gone.never other us a (p, i) r (w, may, deep, free)
-      unlabelled back gone other us a (l ∷ ls) p i r w may deep free = let bad : false ≡ true = sym (not_zero (length ls)) ∙ both_left _ _ (both_left _ _ may) in cc
+          → IsTrue (may_stand (suc depth) load (record { labels = ls; place = p; instruction = i })) → FitsBy (error_of e) (suc depth) full i → ⊥
+      unlabelled back gone other us a [] p i r w may fits = gone.never other us a (p, i) r (w, may, fits)
+      unlabelled back gone other us a (l ∷ ls) p i r w may fits = let bad : false ≡ true = sym (not_zero (length ls)) ∙ both_left _ _ (both_left _ _ may) in cc
 
-      go : (back : List Token) → GoesOnNoMore (λ text. SpellsPlaced text (suc depth) load full) text ts back → (other : List ℕ) (us : List Token) → AreAlike text other back ts us
-          → (x : Entry) (r : List Token) → SpellsNext other last (suc depth) load full x us r → ⊥
-      go back gone other us a (entry.Step s) r w = unlabelled back gone other us a s.labels s.place s.instruction r w.0 w.1.0 w.1.1 w.1.2
+      go : (back : List Token) → GoesOnNoMore (SpellsPlacedBy (suc depth) load full (error_of e)) text ts back → (other : List ℕ) (us : List Token) → AreAlike text other back ts us
+          → (x : Entry) (r : List Token) → SpellsNextBy last (suc depth) load full (error_of e) other x us r → ⊥
+      go back gone other us a (entry.Step s) r w = unlabelled back gone other us a s.labels s.place s.instruction r w.0 w.1.0 w.1.1
       go back gone other us a (entry.End ls p) r w = inside w.1
 
   -- the body has no such instructions
   pub steps_refused : (last : Keyword) (start ts : List Token) (xs : List Step) (depth : ℕ) (load full : Bool) (most : ℕ) (e : Stop) → (IsTrue full → length xs ≡ 4096) → IsOpen xs depth load most
-      → ((b : List Named × Place) → HasRead SpellsStep (λ text. TheEnds text last b) text start xs ts) → Refuses (λ text. SpellsNext text last depth load full) text ts e → Refuses (λ text. SpellsSteps text last) text start e
+      → ((b : List Named × Place) → HasRead SpellsStep (λ text. TheEnds text last b) text start xs ts) → RefusesBy (SpellsNextBy last depth load full) text ts e → RefusesBy (SpellsStepsBy last) text start e
   steps_refused last start ts xs depth load full most e is_full opens so_far bad =
       let within = (so_far ([], record { offset = 0; line = 0 })).inside in
       lift within (λ back gone. record {
@@ -381,8 +362,19 @@ module _ (text : List ℕ) where
             go back gone other so.0 so.1 b us r w l.0 l.1 l.2;
       }) bad
     where
-      go : (back : List Token) → GoesOnNoMore (λ text. SpellsNext text last depth load full) text ts back → (other : List ℕ) (vs : List Token) → AreAlike text other back ts vs
-          → (b : Body) (us r : List Token) → SpellsSteps other last b us r → (more : List Step) → b.steps ≡ xs ++ more → Repeats (SpellsStep other) more (TheEnds other last (b.last_labels, b.end)) vs r → ⊥
+      fits : (error : SyntaxError) (b : Body) (y : Step) (more : List Step) → b.steps ≡ xs ++ y ∷ more → IsFewBy error b → FitsBy error depth full y.instruction
+      fits Unexpected b y more same few = tt
+      fits TooDeep b y more same few =
+          let deep = sym (opens.deep (y ∷ more)) ∙ ap (λ ys. greatest_depth 0 ys) (sym same) in
+          let least = at_least text (depth_after depth y.instruction) more in
+          omega (arith, deep, least, few)
+      fits TooMany b y more same few =
+          let size = ap length same ∙ length-append xs (y ∷ more) in
+          let less : length xs < 4096 = omega (arith, size, few) in
+          free text full (length xs) is_full less
+
+      go : (back : List Token) → GoesOnNoMore (SpellsNextBy last depth load full (error_of e)) text ts back → (other : List ℕ) (vs : List Token) → AreAlike text other back ts vs
+          → (b : Body) (us r : List Token) → SpellsStepsBy last (error_of e) other b us r → (more : List Step) → b.steps ≡ xs ++ more → Repeats (SpellsStep other) more (TheEnds other last (b.last_labels, b.end)) vs r → ⊥
       go back gone other vs a b us r w [] same left =
           let here : b.steps ≡ xs = same ∙ append-nil xs in
           let shut : (depth == 0) ≡ true = sym (closed xs depth load most opens) ∙ ap (λ ys. is_nested 0 false ys) (sym here) ∙ w.1 in
@@ -390,12 +382,7 @@ module _ (text : List ℕ) where
       go back gone other vs a b us r w (y ∷ more) same left =
           let nested = sym (opens.nested (y ∷ more)) ∙ ap (λ ys. is_nested 0 false ys) (sym same) ∙ w.1 in
           let may = both_left (may_stand depth load y) _ nested in
-          let deep = sym (opens.deep (y ∷ more)) ∙ ap (λ ys. greatest_depth 0 ys) (sym same) in
-          let least = at_least text (depth_after depth y.instruction) more in
-          let small : depth_after depth y.instruction ≤ 16 = omega (arith, deep, least, w.3) in
-          let size = ap length same ∙ length-append xs (y ∷ more) in
-          let few : length xs < 4096 = omega (arith, size, w.2) in
-          gone.never other vs a (entry.Step y) left.0 (left.1, (may, small, free text full (length xs) is_full few))
+          gone.never other vs a (entry.Step y) left.0 (left.1, (may, fits (error_of e) b y more same w.2))
 
   pub step_on : (last : Keyword) → IsLast last → (start ts m : List Token) (xs : List Step) (depth : ℕ) (load full : Bool) (x : Step)
       → ((b : List Named × Place) → HasRead SpellsStep (λ text. TheEnds text last b) text start xs ts) → Reads (SpellsNext text last depth load full) ts (entry.Step x) m

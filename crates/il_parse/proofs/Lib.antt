@@ -10,3 +10,5 @@ pub mod OneUnit
 pub mod Turn
 pub mod Begun
 pub mod Rests
+pub mod ByError
+pub mod UnitsByError

@@ -12,7 +12,7 @@ use Rattle.il_spec.specs.declared.tree.Body.{Body}
 use Rattle.il_spec.specs.declared.tree.UnitKind.{UnitKind}
 use Rattle.il_spec.specs.declared.tree.UnitKind.TheVariants as unit
 use Rattle.il_spec.specs.declared.tree.Unit.{Unit as ProgramUnit}
-use Rattle.il_spec.specs.Grammar.{tight, loose, TheWord, SpellsFilledList, SpellsBody, unit_word}
+use Rattle.il_spec.specs.Grammar.{tight, loose, TheWord, SpellsFilledList, SpellsBody, SpellsUnit, unit_word}
 use Rattle.il_grammar_laws.specs.One.{IsDeterministic}
 use Rattle.il_grammar_laws.proofs.Leads.{word_lead, at_holds}
 use Rattle.il_grammar_laws.proofs.Units.{unit_lead, unit_one}
@@ -21,13 +21,14 @@ use Rattle.il_grammar_laws.proofs.Alike.{tight_gap}
 use Rattle.il_grammar_laws.proofs.Local.{unit_carries, word_told}
 use Rattle.il_read.proofs.Leaves.{word_lead as begins_so, word_there, lead_alike}
 use Rattle.il_read.proofs.Chain.{past}
-use Rattle.il_read.specs.Reads.{Reads, Refuses}
+use Rattle.il_read.specs.Reads.{Reads, RefusesBy, error_of}
+use Rattle.il_read.specs.declared.stop.SyntaxError.{SyntaxError}
 use Rattle.il_read.specs.declared.stop.Stop.{Stop}
-use Rattle.il_parse.specs.Bodies.{SpellsSmallBody}
+use Rattle.il_parse.specs.Bodies.{SpellsBodyBy, IsFewBy}
 use Rattle.il_parse.specs.Lists.{IsFilled, SpellsFull}
-use Rattle.il_parse.specs.Insides.{LacksList, SpellsProgramInside, SpellsBlockInside, SpellsFunctionInside}
-use Rattle.il_parse.specs.Headings.{SpellsProgram, SpellsBlock, SpellsFunction}
-use Rattle.il_parse.specs.Units.{IsFew, SpellsSmallUnit, SpellsUnitOf}
+use Rattle.il_parse.specs.Insides.{LacksList, SpellsProgramInsideBy, SpellsBlockInsideBy, SpellsFunctionInsideBy}
+use Rattle.il_parse.specs.Headings.{SpellsProgram, SpellsBlock, SpellsFunction, SpellsProgramBy, SpellsBlockBy, SpellsFunctionBy}
+use Rattle.il_parse.specs.Units.{SpellsSmallUnit, SpellsUnitOf, SpellsUnitBy, SpellsUnitOfBy}
 
 -- what refuses one thing refuses another
 pub refused_so : {X : Type 0} {P Q : Stop → Type 0} → ((e : Stop) → P e → Q e) → (r : Result X Stop) → IfErr r P → IfErr r Q
@@ -35,9 +36,9 @@ refused_so f (Ok x) h = tt
 refused_so f (Err e) h = f e h
 
 module _ (text : List ℕ) where
-  -- a body within the limits
-  small_body : (last : Keyword) (b : Body) (ts r : List Token) → SpellsBody text last b ts r → IsFew b → SpellsSmallBody text last b ts r
-  small_body last b ts r w few = (w.1.0, w.1.1, (w.1.2, w.0, few.0, few.1))
+  -- a body within the limit that a fault is about
+  body_by : (error : SyntaxError) (last : Keyword) (b : Body) (ts r : List Token) → SpellsBody text last b ts r → IsFewBy error b → SpellsBodyBy last error text b ts r
+  body_by error last b ts r w few = (w.1.0, w.1.1, (w.1.2, w.0, few))
 
   -- a list that may be missing, and is empty
   lacks : (k : Keyword) (ds : List Declaration) (ts r : List Token) → ds ≡ [] → SpellsFilledList text k ds ts r → LacksList text k ts r
@@ -57,9 +58,9 @@ module _ (text : List ℕ) where
   more_than_none (d ∷ ds) h = omega arith
 
   -- a program is its parts
-  program_parts : (k : UnitKind) (p : Place) (n : Named) (ins outs vs es : List Declaration) (b : Body) (ts r : List Token)
-      → SpellsUnitOf text word.Program (record { place = p; kind = k; name = n; inputs = ins; outputs = outs; variables = vs; externals = es; body = b }) ts r → SpellsProgram text (p, n, (vs, es, b)) ts r
-  program_parts unit.Program p n ins outs vs es b ts r w =
+  program_parts : (error : SyntaxError) (k : UnitKind) (p : Place) (n : Named) (ins outs vs es : List Declaration) (b : Body) (ts r : List Token)
+      → SpellsUnitOfBy word.Program error text (record { place = p; kind = k; name = n; inputs = ins; outputs = outs; variables = vs; externals = es; body = b }) ts r → SpellsProgramBy error text (p, n, (vs, es, b)) ts r
+  program_parts error unit.Program p n ins outs vs es b ts r w =
       let u = w.1.0 in
       let few = w.1.1 in
       let name = u.1.2 in
@@ -67,18 +68,18 @@ module _ (text : List ℕ) where
       let second = lists.2 in
       let third = second.2 in
       let fourth = third.2 in
-      let inside : SpellsProgramInside text (vs, es, b) name.2.0 r = (
+      let inside : SpellsProgramInsideBy error text (vs, es, b) name.2.0 r = (
         lists.0,
         lacks word.VarInput ins name.2.0 lists.0 u.0.0 lists.1,
         (
           second.0,
           lacks word.VarOutput outs lists.0 second.0 u.0.1 second.1,
-          (third.0, third.1, (fourth.0, fourth.1, small_body word.EndProgram b fourth.0 r fourth.2 few)),
+          (third.0, third.1, (fourth.0, fourth.1, body_by error word.EndProgram b fourth.0 r fourth.2 few)),
         ),
       ) in
-      (u.1.0, u.1.1, (name.0, name.1, subst (λ (m : List Token). SpellsProgramInside text (vs, es, b) m r) (sym name.2.1) inside))
-  program_parts unit.FunctionBlock p n ins outs vs es b ts r w = absurd (cc w.0)
-  program_parts (unit.Function s q) p n ins outs vs es b ts r w = absurd (cc w.0)
+      (u.1.0, u.1.1, (name.0, name.1, subst (λ (m : List Token). SpellsProgramInsideBy error text (vs, es, b) m r) (sym name.2.1) inside))
+  program_parts error unit.FunctionBlock p n ins outs vs es b ts r w = absurd (cc w.0)
+  program_parts error (unit.Function s q) p n ins outs vs es b ts r w = absurd (cc w.0)
 
   -- a program of its parts
   pub program_read : (ts r : List Token) (p : Place) (n : Named) (vs es : List Declaration) (b : Body) → Reads (SpellsProgram text) ts (p, n, (vs, es, b)) r
@@ -102,9 +103,9 @@ module _ (text : List ℕ) where
       }
 
   -- a function block is its parts
-  block_parts : (k : UnitKind) (p : Place) (n : Named) (ins outs vs es : List Declaration) (b : Body) (ts r : List Token)
-      → SpellsUnitOf text word.FunctionBlock (record { place = p; kind = k; name = n; inputs = ins; outputs = outs; variables = vs; externals = es; body = b }) ts r → SpellsBlock text (p, n, (ins, outs, vs, b)) ts r
-  block_parts unit.FunctionBlock p n ins outs vs es b ts r w =
+  block_parts : (error : SyntaxError) (k : UnitKind) (p : Place) (n : Named) (ins outs vs es : List Declaration) (b : Body) (ts r : List Token)
+      → SpellsUnitOfBy word.FunctionBlock error text (record { place = p; kind = k; name = n; inputs = ins; outputs = outs; variables = vs; externals = es; body = b }) ts r → SpellsBlockBy error text (p, n, (ins, outs, vs, b)) ts r
+  block_parts error unit.FunctionBlock p n ins outs vs es b ts r w =
       let u = w.1.0 in
       let few = w.1.1 in
       let name = u.1.2 in
@@ -112,11 +113,11 @@ module _ (text : List ℕ) where
       let second = lists.2 in
       let third = second.2 in
       let fourth = third.2 in
-      let inside : SpellsBlockInside text (ins, outs, vs, b) name.2.0 r =
-      (lists.0, lists.1, (second.0, second.1, (third.0, third.1, (fourth.0, fourth.1.1, small_body word.EndFunctionBlock b fourth.0 r fourth.2 few)))) in
-      (u.1.0, u.1.1, (name.0, name.1, subst (λ (m : List Token). SpellsBlockInside text (ins, outs, vs, b) m r) (sym name.2.1) inside))
-  block_parts unit.Program p n ins outs vs es b ts r w = absurd (cc w.0)
-  block_parts (unit.Function s q) p n ins outs vs es b ts r w = absurd (cc w.0)
+      let inside : SpellsBlockInsideBy error text (ins, outs, vs, b) name.2.0 r =
+      (lists.0, lists.1, (second.0, second.1, (third.0, third.1, (fourth.0, fourth.1.1, body_by error word.EndFunctionBlock b fourth.0 r fourth.2 few)))) in
+      (u.1.0, u.1.1, (name.0, name.1, subst (λ (m : List Token). SpellsBlockInsideBy error text (ins, outs, vs, b) m r) (sym name.2.1) inside))
+  block_parts error unit.Program p n ins outs vs es b ts r w = absurd (cc w.0)
+  block_parts error (unit.Function s q) p n ins outs vs es b ts r w = absurd (cc w.0)
 
   -- a function block of its parts
   pub block_read : (ts r : List Token) (p : Place) (n : Named) (ins outs vs : List Declaration) (b : Body) → Reads (SpellsBlock text) ts (p, n, (ins, outs, vs, b)) r
@@ -140,10 +141,10 @@ module _ (text : List ℕ) where
       }
 
   -- a function is its parts
-  function_parts : (k : UnitKind) (p : Place) (n : Named) (ins outs vs es : List Declaration) (b : Body) (ts r : List Token)
-      → SpellsUnitOf text word.Function (record { place = p; kind = k; name = n; inputs = ins; outputs = outs; variables = vs; externals = es; body = b }) ts r
-      → (x : Place × Scalar) × SpellsFunction text (p, n, x, (ins, vs, b)) ts r
-  function_parts (unit.Function s q) p n ins outs vs es b ts r w =
+  function_parts : (error : SyntaxError) (k : UnitKind) (p : Place) (n : Named) (ins outs vs es : List Declaration) (b : Body) (ts r : List Token)
+      → SpellsUnitOfBy word.Function error text (record { place = p; kind = k; name = n; inputs = ins; outputs = outs; variables = vs; externals = es; body = b }) ts r
+      → (x : Place × Scalar) × SpellsFunctionBy error text (p, n, x, (ins, vs, b)) ts r
+  function_parts error (unit.Function s q) p n ins outs vs es b ts r w =
       let u = w.1.0 in
       let few = w.1.1 in
       let name = u.1.2 in
@@ -151,18 +152,18 @@ module _ (text : List ℕ) where
       let second = lists.2 in
       let third = second.2 in
       let fourth = third.2 in
-      let inside : SpellsFunctionInside text (ins, vs, b) name.2.0 r = (
+      let inside : SpellsFunctionInsideBy error text (ins, vs, b) name.2.0 r = (
         lists.0,
         full word.VarInput ins name.2.0 lists.0 u.0.0 lists.1,
         (
           second.0,
           lacks word.VarOutput outs lists.0 second.0 u.0.1 second.1,
-          (third.0, third.1, (fourth.0, fourth.1.1, small_body word.EndFunction b fourth.0 r fourth.2 few)),
+          (third.0, third.1, (fourth.0, fourth.1.1, body_by error word.EndFunction b fourth.0 r fourth.2 few)),
         ),
       ) in
       ((q, s), (u.1.0, u.1.1, (name.0, name.1, (name.2.0, name.2.1, inside))))
-  function_parts unit.Program p n ins outs vs es b ts r w = absurd (cc w.0)
-  function_parts unit.FunctionBlock p n ins outs vs es b ts r w = absurd (cc w.0)
+  function_parts error unit.Program p n ins outs vs es b ts r w = absurd (cc w.0)
+  function_parts error unit.FunctionBlock p n ins outs vs es b ts r w = absurd (cc w.0)
 
   -- a function of its parts
   pub function_read : (ts r : List Token) (p : Place) (n : Named) (q : Place) (s : Scalar) (ins vs : List Declaration) (b : Body) → Reads (SpellsFunction text) ts (p, n, (q, s), (ins, vs, b)) r
@@ -191,15 +192,15 @@ module _ (text : List ℕ) where
   unit_read k ts r u here = record { found = here.found.1 }
 
   -- behind the word of a kind stands a unit of this kind
-  same_word : (k : Keyword) (u : ProgramUnit) (ts m r : List Token) → TheWord text k ts m → SpellsSmallUnit text u ts r → unit_word u.kind ≡ k
+  same_word : (k : Keyword) (u : ProgramUnit) (ts m r : List Token) → TheWord text k ts m → SpellsUnit text u ts r → unit_word u.kind ≡ k
   same_word k u ts m r word w =
       let a = word_lead text k ts m word in
-      let b = unit_lead text u ts r w.0 in
+      let b = unit_lead text u ts r w in
       cc
 
   -- a unit begins with a word that stands there
-  begins : (u : ProgramUnit) (ts r : List Token) → SpellsSmallUnit text u ts r → (m : List Token) × TheWord text (unit_word u.kind) ts m
-  begins u ts r w = (w.0.1.0, at_holds text (TheWord text (unit_word u.kind)) u.place ts w.0.1.0 w.0.1.1)
+  begins : (u : ProgramUnit) (ts r : List Token) → SpellsUnit text u ts r → (m : List Token) × TheWord text (unit_word u.kind) ts m
+  begins u ts r w = (w.1.0, at_holds text (TheWord text (unit_word u.kind)) u.place ts w.1.0 w.1.1)
 
   -- neither a program nor a function block stands there, and no function
   is_other : (k : UnitKind) (ts : List Token) → ((m : List Token) → TheWord text word.Program ts m → ⊥) → ((m : List Token) → TheWord text word.FunctionBlock ts m → ⊥)
@@ -213,27 +214,27 @@ module _ (text : List ℕ) where
   small_unit_one = record { only = λ a b ts r s p q. (unit_one text).only a b ts r s p.0 q.0 }
 
 module _ (text : List ℕ) where
-  pub program_refused : (ts : List Token) (e : Stop) → Refuses SpellsProgram text ts e → Refuses (λ text. SpellsUnitOf text word.Program) text ts e
+  pub program_refused : (ts : List Token) (e : Stop) → RefusesBy SpellsProgramBy text ts e → RefusesBy (SpellsUnitOfBy word.Program) text ts e
   program_refused ts e bad = past tight_gap (λ other us back a gone u r w.
-      gone (u.place, u.name, (u.variables, u.externals, u.body)) r (program_parts other u.kind u.place u.name u.inputs u.outputs u.variables u.externals u.body us r w)) bad
+      gone (u.place, u.name, (u.variables, u.externals, u.body)) r (program_parts other (error_of e) u.kind u.place u.name u.inputs u.outputs u.variables u.externals u.body us r w)) bad
 
-  pub block_refused : (ts : List Token) (e : Stop) → Refuses SpellsBlock text ts e → Refuses (λ text. SpellsUnitOf text word.FunctionBlock) text ts e
+  pub block_refused : (ts : List Token) (e : Stop) → RefusesBy SpellsBlockBy text ts e → RefusesBy (SpellsUnitOfBy word.FunctionBlock) text ts e
   block_refused ts e bad = past tight_gap (λ other us back a gone u r w.
-      gone (u.place, u.name, (u.inputs, u.outputs, u.variables, u.body)) r (block_parts other u.kind u.place u.name u.inputs u.outputs u.variables u.externals u.body us r w)) bad
+      gone (u.place, u.name, (u.inputs, u.outputs, u.variables, u.body)) r (block_parts other (error_of e) u.kind u.place u.name u.inputs u.outputs u.variables u.externals u.body us r w)) bad
 
-  pub function_refused : (ts : List Token) (e : Stop) → Refuses SpellsFunction text ts e → Refuses (λ text. SpellsUnitOf text word.Function) text ts e
+  pub function_refused : (ts : List Token) (e : Stop) → RefusesBy SpellsFunctionBy text ts e → RefusesBy (SpellsUnitOfBy word.Function) text ts e
   function_refused ts e bad = past tight_gap (λ other us back a gone u r w.
-      let x = function_parts other u.kind u.place u.name u.inputs u.outputs u.variables u.externals u.body us r w in
+      let x = function_parts other (error_of e) u.kind u.place u.name u.inputs u.outputs u.variables u.externals u.body us r w in
       gone (u.place, u.name, x.0, (u.inputs, u.variables, u.body)) r x.1) bad
 
-  pub unit_refused : (k : Keyword) (ts m : List Token) (e : Stop) → TheWord text k ts m → Refuses (λ text. SpellsUnitOf text k) text ts e → Refuses SpellsSmallUnit text ts e
+  pub unit_refused : (k : Keyword) (ts m : List Token) (e : Stop) → TheWord text k ts m → RefusesBy (SpellsUnitOfBy k) text ts e → RefusesBy SpellsUnitBy text ts e
   unit_refused k ts m e word bad = past tight_gap (λ other us back a gone u r w.
-      gone u r (same_word other k u us (drop 1 us) r (word_there other k us (lead_alike text other back ts us a ∙ begins_so text k ts m word)) w, w)) bad
+      gone u r (same_word other k u us (drop 1 us) r (word_there other k us (lead_alike text other back ts us a ∙ begins_so text k ts m word)) w.0, w)) bad
 
   pub other_refused : (ts : List Token) (e : Stop) → ((m : List Token) → TheWord text word.Program ts m → ⊥) → ((m : List Token) → TheWord text word.FunctionBlock ts m → ⊥)
-      → Refuses (λ text. SpellsUnitOf text word.Function) text ts e → Refuses SpellsSmallUnit text ts e
+      → RefusesBy (SpellsUnitOfBy word.Function) text ts e → RefusesBy SpellsUnitBy text ts e
   other_refused ts e p b bad = past tight_gap (λ other us back a gone u r w.
-      let first = begins other u us r w in
+      let first = begins other u us r w.0 in
       gone u r (is_other other u.kind us (λ m v. (word_told word.Program).still text other back ts us a p m v) (λ m v. (word_told word.FunctionBlock).still text other back ts us a b m v) first.0 first.1, w)) bad
 
 -- a unit within the limits, in alike tokens

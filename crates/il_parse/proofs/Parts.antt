@@ -29,13 +29,15 @@ use Rattle.il_read.proofs.Leaves.{word_lead as begins_so, word_there, lead_alike
 use Rattle.il_read.proofs.Chain.{Lacks, past}
 use Rattle.il_parse.specs.Ahead.{RefusesAhead}
 use Rattle.il_parse.proofs.Ahead.{forget, ahead_of}
-use Rattle.il_read.specs.Reads.{Reads, Refuses}
+use Rattle.il_read.specs.Reads.{Reads, Refuses, RefusesBy, error_of}
+use Rattle.il_read.specs.declared.stop.SyntaxError.{SyntaxError}
 use Rattle.il_read.specs.Settings.{PlacedWord, SpellsThree}
 use Rattle.il_read.specs.declared.stop.Stop.{Stop}
-use Rattle.il_parse.specs.Units.{SpellsSmallUnit}
-use Rattle.il_parse.proofs.OneUnit.{small_unit_one, small_unit_local}
-use Rattle.il_parse.specs.Refused.{IsSmall}
-use Rattle.il_parse.specs.Parts.{SpellsUnits, SpellsFewUnits, SpellsGlobalList, SpellsSomeGlobals, SpellsTasks, SpellsPrograms, SpellsLines, SpellsResourceOf, SpellsGroup, SpellsSmallConfig}
+use Rattle.il_parse.specs.Bodies.{IsFewBy}
+use Rattle.il_parse.specs.Units.{SpellsSmallUnit, SpellsUnitBy}
+use Rattle.il_parse.proofs.UnitsByError.{kept, unit_by_one, unit_by_local}
+use Rattle.il_parse.specs.Refused.{Keeps}
+use Rattle.il_parse.specs.Parts.{SpellsFewUnits, SpellsFewUnitsBy, SpellsConfigBy, SpellsGlobalList, SpellsSomeGlobals, SpellsTasks, SpellsPrograms, SpellsLines, SpellsResourceOf, SpellsGroup, SpellsSmallConfig}
 use Rattle.il_parse.proofs.Repeated.{end_apart, end_joined, stop_apart, stop_joined}
 
 -- the sizes, the globals and the lines of a configuration
@@ -97,12 +99,12 @@ module _ (text : List ℕ) where
   kind_no_configuration unit.FunctionBlock ts a b = cc
   kind_no_configuration unit.Program ts a b = cc
 
-  units_apart : AreApart (SpellsSmallUnit text) (λ (u : Unit {0}). TheWord text word.Configuration)
-  units_apart = record { never = λ u v ts r s p q. kind_no_configuration u.kind ts (unit_lead text u ts r p.0) (word_lead text word.Configuration ts s q) }
+  units_apart : (error : SyntaxError) → AreApart (SpellsUnitBy error text) (λ (u : Unit {0}). TheWord text word.Configuration)
+  units_apart error = record { never = λ u v ts r s p q. kind_no_configuration u.kind ts (unit_lead text u ts r p.0) (word_lead text word.Configuration ts s q) }
 
   -- the units of a text are one
-  pub few_units_one : IsDeterministic (SpellsFewUnits text)
-  few_units_one = record { only = λ a b ts r s p q. (repeats_until (small_unit_one text) (word_sure text word.Configuration) units_apart).only a b ts r s p.0 q.0 }
+  pub few_units_one : (error : SyntaxError) → IsDeterministic (SpellsFewUnitsBy error text)
+  few_units_one error = record { only = λ a b ts r s p q. (repeats_until (unit_by_one text error) (word_sure text word.Configuration) (units_apart error)).only a b ts r s p.0 q.0 }
 
   -- a list of globals at its place
   list_placed : (p : Place) (Q : Front) (ts r : List Token) → (PlacedWord text word.VarGlobal p ⋯ Q) ts r → At p (TheWord text word.VarGlobal ⋯ Q) ts r
@@ -187,11 +189,11 @@ module _ (text : List ℕ) where
   abbrev IsShallow : ProgramUnit → Type 0
   IsShallow u = greatest_depth 0 u.body.steps ≤ 16
 
-  -- units within the limits
-  to_small : (E : Front) (us : List ProgramUnit) (ts r : List Token) → All IsShort us → All IsShallow us → Repeats (SpellsUnit text) us E ts r → Repeats (SpellsSmallUnit text) us E ts r
-  to_small E [] ts r short shallow w = w
-  to_small E (u ∷ us) ts r short shallow w =
-      (w.0, (w.1, (All-head IsShort u us short, All-head IsShallow u us shallow)), to_small E us (skip_line_ends w.0) r (All-tail IsShort u us short) (All-tail IsShallow u us shallow) w.2)
+  -- units within the limit that a fault is about
+  to_by : (error : SyntaxError) (E : Front) (us : List ProgramUnit) (ts r : List Token) → All (λ (u : ProgramUnit). IsFewBy error u.body) us → Repeats (SpellsUnit text) us E ts r → Repeats (SpellsUnitBy error text) us E ts r
+  to_by error E [] ts r few w = w
+  to_by error E (u ∷ us) ts r few w =
+      (w.0, (w.1, All-head (λ (u : ProgramUnit). IsFewBy error u.body) u us few), to_by error E us (skip_line_ends w.0) r (All-tail (λ (u : ProgramUnit). IsFewBy error u.body) u us few) w.2)
 
   from_small : (E : Front) (us : List ProgramUnit) (ts r : List Token) → Repeats (SpellsSmallUnit text) us E ts r → Repeats (SpellsUnit text) us E ts r
   from_small E [] ts r w = w
@@ -213,10 +215,15 @@ module _ (text : List ℕ) where
   abbrev pub SpellsWhole : List ProgramUnit × Group → Front
   SpellsWhole x = SpellsFewUnits text x.0 ⋯ SpellsGroup text x.1
 
-  to_whole : (c : Config) (ts r : List Token) → SpellsConfig text c ts r → IsSmall c → SpellsWhole (c.units, group c) ts r
-  to_whole c ts r w small =
+  -- the same, within the limit that a fault is about
+  abbrev pub SpellsWholeBy : SyntaxError → List ProgramUnit × Group → Front
+  SpellsWholeBy error x = SpellsFewUnitsBy error text x.0 ⋯ SpellsGroup text x.1
+
+  to_whole : (error : SyntaxError) (c : Config) (ts r : List Token) → SpellsConfig text c ts r → Keeps error c → SpellsWholeBy error (c.units, group c) ts r
+  to_whole error c ts r w keeps =
+      let few = kept error c keeps in
       let split = end_apart (SpellsUnit text) (TheWord text word.Configuration) (Behind c) c.units ts r w in
-      (split.0, (to_small (TheWord text word.Configuration) c.units ts split.0 small.instructions small.nesting split.1, small.units), to_group c (skip_line_ends split.0) r split.2)
+      (split.0, (to_by error (TheWord text word.Configuration) c.units ts split.0 few.0 split.1, few.1), to_group c (skip_line_ends split.0) r split.2)
 
   -- units of any number, and what stands behind CONFIGURATION
   pub whole_config : (us : List ProgramUnit) (g : Group) (ts r : List Token) → (Repeats (SpellsUnit text) us (TheWord text word.Configuration) ⋯ SpellsGroup text g) ts r → SpellsConfig text (config us g) ts r
@@ -265,15 +272,15 @@ resource_of_local = record {
       (follows tight_gap tight_gap (tasks_local.carries x.0) (follows tight_gap tight_gap (programs_local.carries x.1) (placed x.2 (word_carries word.EndResource)))))));
 }
 
-units_carry : (us : List ProgramUnit) → Carries tight (λ text. SpellsUnits text us)
-units_carry us = repeated tight_gap (λ u. small_unit_local.carries u) (word_carries word.Configuration) us
+units_carry : (error : SyntaxError) (us : List ProgramUnit) → Carries tight (λ text. Repeats (SpellsUnitBy error text) us (TheWord text word.Configuration))
+units_carry error us = repeated tight_gap (λ u. (unit_by_local error).carries u) (word_carries word.Configuration) us
 
-pub few_units_local : IsLocal tight SpellsFewUnits
-few_units_local = record {
-  one = λ text. few_units_one text;
+pub few_units_local : (error : SyntaxError) → IsLocal tight (SpellsFewUnitsBy error)
+few_units_local error = record {
+  one = λ text. few_units_one text error;
   carries = λ us. record {
-    ends = λ text ts m p. (units_carry us).ends text ts m p.0;
-    over = λ text other back ts vs m a p l. let f = (units_carry us).over text other back ts vs m a p.0 l in (f.0, (f.1, p.1), f.2);
+    ends = λ text ts m p. (units_carry error us).ends text ts m p.0;
+    over = λ text other back ts vs m a p l. let f = (units_carry error us).over text other back ts vs m a p.0 l in (f.0, (f.1, p.1), f.2);
   };
 }
 
@@ -295,5 +302,5 @@ module _ (text : List ℕ) where
       go other us here gone None ds r w = w.1.1 (drop 1 (skip_line_ends us)) here
       go other us here gone (Some p) ds r w = gone (p, ds) r (word_placed other p (Repeats (SpellsDeclaration other) ds (TheWord other word.EndVar)) (skip_line_ends us) r w)
 
-  pub config_refused : (ts : List Token) (e : Stop) → Refuses SpellsWhole text (skip_line_ends ts) e → Refuses SpellsSmallConfig text ts e
-  config_refused ts e bad = past loose_gap (λ other us back a gone c r w. gone (c.units, group c) r (to_whole other c (skip_line_ends us) r w.0 w.1)) bad
+  pub config_refused : (ts : List Token) (e : Stop) → Refuses (λ text. SpellsWholeBy text (error_of e)) text (skip_line_ends ts) e → RefusesBy SpellsConfigBy text ts e
+  config_refused ts e bad = past loose_gap (λ other us back a gone c r w. gone (c.units, group c) r (to_whole other (error_of e) c (skip_line_ends us) r w.0 w.1)) bad

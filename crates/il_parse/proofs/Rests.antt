@@ -453,6 +453,17 @@ small_unit_filling = record {
   };
 }
 
+pub unit_by_filling : (error : SyntaxError) → IsFilling tight always (SpellsUnitBy error)
+unit_by_filling error = record {
+  one = λ u. record {
+    opens = record {
+      ends = λ text ts m p. (unit_fills u).opens.ends text ts m p.0;
+      keeps = λ text other at ts us vs m p e c d. let k = (unit_fills u).opens.keeps text other at ts us vs m p.0 e c d in (k.0, (k.1, p.1), k.2);
+    };
+    takes = record { less = λ text ts m p. (unit_fills u).takes.less text ts m p.0 };
+  };
+}
+
 -- The tokens before the first of `at` are those of a text that spells a configuration.
 pub text_goes_on : (text : List ℕ) (ts at : List Token) → AreTokens text 0 ts → Begins ended SpellsAll text ts at
     → (other : List ℕ) × (others : List Token) × (vs : List Token) × AreTokens other 0 others × IsCut text other at ts others vs × (c : Config) × AfterLines (SpellsConfig other c) others []

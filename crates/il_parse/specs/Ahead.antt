@@ -3,7 +3,7 @@ use Rattle.std.specs.Prelude.{◌≡◌, ℕ, List}
 use Rattle.il_spec.specs.declared.token.Token.{Token}
 use Rattle.il_spec.specs.Grammar.{Front, skip_line_ends}
 use Rattle.il_grammar_laws.specs.Alike.{IsEndOf}
-use Rattle.il_read.specs.Reads.{IsFault, fault_at, turn, GoesOnNoMore}
+use Rattle.il_read.specs.Reads.{IsFault, fault_at, turn, GoesOnNoMore, error_of}
 use Rattle.il_read.specs.declared.stop.SyntaxError.{SyntaxError}
 use Rattle.il_read.specs.declared.stop.Stop.{Stop}
 
@@ -11,6 +11,10 @@ use Rattle.il_read.specs.declared.stop.Stop.{Stop}
 -- missing looks behind these line ends, and no further.
 pub record RefusesAhead {A : Type 0} (P : List ℕ → A → Front) (text : List ℕ) (ts : List Token) (e : Stop) : Type 0 where
   pub fault : IsFault e → (error : SyntaxError) × (at : List Token) × (e ≡ fault_at error at) × IsEndOf at ts × IsEndOf (turn error text at) (skip_line_ends ts) × GoesOnNoMore P text ts (turn error text at)
+
+-- The same, where the error of the fault says which rule goes on no more.
+abbrev pub RefusesAheadBy : {A : Type 0} → (SyntaxError → List ℕ → A → Front) → List ℕ → List Token → Stop → Type 0
+RefusesAheadBy P text ts e = RefusesAhead (P (error_of e)) text ts e
 
 -- the same of a rule without a value
 abbrev pub MissesAhead : (List ℕ → Front) → List ℕ → List Token → Stop → Type 0

@@ -1,7 +1,7 @@
 -- What a reader of a body promises.
 use Rattle.std.specs.Prelude.{◌≡◌, ◌⊎◌, ℕ, ◌<◌, ◌≤◌, Bool, true, false, not, ◌&&◌, ◌||◌, ◌==◌, if◌then◌else◌, IsTrue, List, [], length, drop, Option, Some, None, ⊤}
 use Rattle.il_spec.specs.declared.token.Token.{Token}
-use Rattle.il_spec.specs.declared.token.Sign.TheVariants.{CloseParenthesis}
+use Rattle.il_spec.specs.declared.token.Sign.TheVariants.{Ampersand, CloseParenthesis}
 use Rattle.il_spec.specs.declared.keyword.Keyword.{Keyword}
 use Rattle.il_spec.specs.declared.keyword.Keyword.TheVariants as word
 use Rattle.il_spec.specs.declared.tree.Place.{Place}
@@ -13,8 +13,9 @@ use Rattle.il_spec.specs.Grammar.{Front, skip_line_ends, ◌⋯◌, At, Repeats,
 use Rattle.il_grammar_laws.specs.Alike.{IsEndOf, AreAlike}
 use Rattle.il_grammar_laws.specs.GoesOn.{IsCut}
 use Rattle.il_read.specs.Lead.{lead_at}
-use Rattle.il_read.specs.Reads.{IsFault, fault_at, turn, GoesOnNoMore}
+use Rattle.il_read.specs.Reads.{IsFault, fault_at, turn, error_of, GoesOnNoMore}
 use Rattle.il_read.specs.declared.stop.SyntaxError.{SyntaxError}
+use Rattle.il_read.specs.declared.stop.SyntaxError.TheVariants.{Unexpected, TooDeep, TooMany}
 use Rattle.il_read.specs.declared.stop.Stop.{Stop}
 use Rattle.il_read.specs.declared.lead.Lead.{Lead}
 use Rattle.il_read.specs.declared.lead.Lead.TheVariants as lead
@@ -45,6 +46,20 @@ abbrev pub loads_lead : Lead → Bool
 loads_lead (lead.Reserved (word.Load negated)) = true
 loads_lead _ = false
 
+-- whether an instruction begins so
+abbrev pub begins_lead : Lead → Bool
+begins_lead lead.Name = true
+begins_lead (lead.Sign Ampersand) = true
+begins_lead (lead.Sign CloseParenthesis) = true
+begins_lead (lead.Reserved (word.Load negated)) = true
+begins_lead (lead.Reserved (word.Store store)) = true
+begins_lead (lead.Reserved word.Not) = true
+begins_lead (lead.Reserved (word.Operate op)) = true
+begins_lead (lead.Reserved (word.Jump condition)) = true
+begins_lead (lead.Reserved (word.Return condition)) = true
+begins_lead (lead.Reserved (word.Call condition)) = true
+begins_lead _ = false
+
 -- whether what begins so may stand where `depth` parentheses are open, and `load` says that a load has to follow
 abbrev pub may_begin : ℕ → Bool → Lead → Bool
 may_begin depth load l = if depth == 0 then not (closes_lead l) else (not (leaves_lead l) && (not load || loads_lead l))
@@ -58,11 +73,22 @@ abbrev pub SpellsPlaced : List ℕ → ℕ → Bool → Bool → Place × Instru
 SpellsPlaced text depth load full x ts rest =
     At x.0 (SpellsInstruction text x.1) ts rest × IsTrue (may_stand depth load (bare x.0 x.1)) × (depth_after depth x.1 ≤ 16) × IsTrue (not full)
 
+-- whether an instruction keeps the limit that a fault is about
+abbrev pub FitsBy : SyntaxError → ℕ → Bool → Instruction → Type 0
+FitsBy Unexpected depth full i = ⊤
+FitsBy TooDeep depth full i = depth_after depth i ≤ 16
+FitsBy TooMany depth full i = IsTrue (not full)
+
+-- an instruction at its place, which may stand there, within the limit that a fault is about
+abbrev pub SpellsPlacedBy : ℕ → Bool → Bool → SyntaxError → List ℕ → Place × Instruction → Front
+SpellsPlacedBy depth load full error text x ts rest =
+    At x.0 (SpellsInstruction text x.1) ts rest × IsTrue (may_stand depth load (bare x.0 x.1)) × FitsBy error depth full x.1
+
 -- A fault says that with the token at its place no such instruction goes on. Outside parentheses it is not the name that an
 -- instruction begins with: that may be a label, as the token behind it tells.
 pub record RefusesPlaced (text : List ℕ) (depth : ℕ) (load full : Bool) (ts : List Token) (e : Stop) : Type 0 where
   pub fault : IsFault e → (error : SyntaxError) × (at : List Token) × (e ≡ fault_at error at) × IsEndOf at ts
-      × (depth ≡ 0 → lead_at text ts ≡ lead.Name → IsEndOf (turn error text at) (drop 1 ts)) × GoesOnNoMore (λ text. SpellsPlaced text depth load full) text ts (turn error text at)
+      × (depth ≡ 0 → lead_at text ts ≡ lead.Name → IsEndOf (turn error text at) (drop 1 ts)) × GoesOnNoMore (SpellsPlacedBy depth load full (error_of e)) text ts (turn error text at)
 
 -- What labels were read: they name what stands behind them, in alike tokens too. Only where the last stands alone on its line may
 -- the body end there. Whether a name behind them is a label more, the token behind the name tells.
@@ -95,6 +121,14 @@ MayCome depth load full (entry.End labels place) = depth ≡ 0
 abbrev pub SpellsNext : List ℕ → Keyword → ℕ → Bool → Bool → Entry → Front
 SpellsNext text last depth load full x ts rest = SpellsEntry text last x ts rest × MayCome depth load full x
 
+-- the same, within the limit that a fault is about
+abbrev pub MayComeBy : SyntaxError → ℕ → Bool → Bool → Entry → Type 0
+MayComeBy error depth load full (entry.Step s) = IsTrue (may_stand depth load s) × FitsBy error depth full s.instruction
+MayComeBy error depth load full (entry.End labels place) = depth ≡ 0
+
+abbrev pub SpellsNextBy : Keyword → ℕ → Bool → Bool → SyntaxError → List ℕ → Entry → Front
+SpellsNextBy last depth load full error text x ts rest = SpellsEntry text last x ts rest × MayComeBy error depth load full x
+
 -- it leaves fewer tokens if it is an instruction
 abbrev pub Shortens : List Token → Entry → List Token → Type 0
 Shortens ts (entry.Step s) rest = length rest < length ts
@@ -112,6 +146,21 @@ abbrev pub SpellsSteps : List ℕ → Keyword → Body → Front
 SpellsSteps text last b ts rest =
     Repeats (SpellsStep text) b.steps (Repeats (SpellsLabelLine text) b.last_labels (At b.end (TheWord text last))) ts rest
     × IsTrue (is_nested 0 false b.steps) × (length b.steps ≤ 4096) × (greatest_depth 0 b.steps ≤ 16)
+
+-- whether a body keeps the limit that a fault is about
+abbrev pub IsFewBy : SyntaxError → Body → Type 0
+IsFewBy Unexpected b = ⊤
+IsFewBy TooDeep b = greatest_depth 0 b.steps ≤ 16
+IsFewBy TooMany b = length b.steps ≤ 4096
+
+-- the instructions of a body and its end, within the limit that a fault is about
+abbrev pub SpellsStepsBy : Keyword → SyntaxError → List ℕ → Body → Front
+SpellsStepsBy last error text b ts rest =
+    Repeats (SpellsStep text) b.steps (Repeats (SpellsLabelLine text) b.last_labels (At b.end (TheWord text last))) ts rest × IsTrue (is_nested 0 false b.steps) × IsFewBy error b
+
+-- a body within the limit that a fault is about
+abbrev pub SpellsBodyBy : Keyword → SyntaxError → List ℕ → Body → Front
+SpellsBodyBy last error text b = TheLineEnd ⋯ SpellsStepsBy last error text b
 
 -- a body within the limits
 abbrev pub SpellsSmallBody : List ℕ → Keyword → Body → Front

@@ -9,7 +9,8 @@ use Rattle.il_spec.specs.declared.tree.Scalar.{Scalar}
 use Rattle.il_spec.specs.declared.tree.Body.{Body}
 use Rattle.il_spec.specs.Grammar.{Front, ◌⨾◌, ◌⋯◌, At, AfterLines, TheSign, TheName, SpellsScalar}
 use Rattle.il_read.specs.Settings.{PlacedWord}
-use Rattle.il_parse.specs.Insides.{SpellsProgramInside, SpellsBlockInside, SpellsFunctionInside}
+use Rattle.il_read.specs.declared.stop.SyntaxError.{SyntaxError}
+use Rattle.il_parse.specs.Insides.{SpellsProgramInside, SpellsBlockInside, SpellsFunctionInside, SpellsProgramInsideBy, SpellsBlockInsideBy, SpellsFunctionInsideBy}
 
 -- a scalar type where it is written
 abbrev pub PlacedScalar : List ℕ → Place × Scalar → Front
@@ -30,3 +31,13 @@ SpellsBlock text x = PlacedWord text word.FunctionBlock x.0 ⋯ TheName text x.1
 -- a function
 abbrev pub SpellsFunction : List ℕ → Place × Named × (Place × Scalar) × (List Declaration × List Declaration × Body) → Front
 SpellsFunction text x = PlacedWord text word.Function x.0 ⋯ TheName text x.1 ⨾ SpellsResultAt text x.2 ⨾ SpellsFunctionInside text x.3
+
+-- The same three, within the limit that a fault is about.
+abbrev pub SpellsProgramBy : SyntaxError → List ℕ → Place × Named × (List Declaration × List Declaration × Body) → Front
+SpellsProgramBy error text x = PlacedWord text word.Program x.0 ⋯ TheName text x.1 ⨾ SpellsProgramInsideBy error text x.2
+
+abbrev pub SpellsBlockBy : SyntaxError → List ℕ → Place × Named × (List Declaration × List Declaration × List Declaration × Body) → Front
+SpellsBlockBy error text x = PlacedWord text word.FunctionBlock x.0 ⋯ TheName text x.1 ⨾ SpellsBlockInsideBy error text x.2
+
+abbrev pub SpellsFunctionBy : SyntaxError → List ℕ → Place × Named × (Place × Scalar) × (List Declaration × List Declaration × Body) → Front
+SpellsFunctionBy error text x = PlacedWord text word.Function x.0 ⋯ TheName text x.1 ⨾ SpellsResultAt text x.2 ⨾ SpellsFunctionInsideBy error text x.3

@@ -5,7 +5,8 @@ use Rattle.il_spec.specs.declared.keyword.Keyword.TheVariants as word
 use Rattle.il_spec.specs.declared.tree.Declaration.{Declaration}
 use Rattle.il_spec.specs.declared.tree.Body.{Body}
 use Rattle.il_spec.specs.Grammar.{Front, ◌⨾◌, AfterLines, No, TheWord, SpellsDeclaration, SpellsExternal, SpellsFilledList, SpellsOptionalList}
-use Rattle.il_parse.specs.Bodies.{SpellsSmallBody}
+use Rattle.il_read.specs.declared.stop.SyntaxError.{SyntaxError}
+use Rattle.il_parse.specs.Bodies.{SpellsSmallBody, SpellsBodyBy}
 use Rattle.il_parse.specs.Lists.{SpellsFull}
 
 -- no list of this word
@@ -34,3 +35,16 @@ SpellsBlockInside text x =
 abbrev pub SpellsFunctionInside : List ℕ → List Declaration × List Declaration × Body → Front
 SpellsFunctionInside text x =
     SpellsFull text word.VarInput x.0 ⨾ LacksList text word.VarOutput ⨾ SpellsVariables text x.1 ⨾ LacksList text word.VarExternal ⨾ SpellsSmallBody text word.EndFunction x.2
+
+-- The same three, within the limit that a fault is about.
+abbrev pub SpellsProgramInsideBy : SyntaxError → List ℕ → List Declaration × List Declaration × Body → Front
+SpellsProgramInsideBy error text x =
+    LacksList text word.VarInput ⨾ LacksList text word.VarOutput ⨾ SpellsVariables text x.0 ⨾ SpellsSomeExternals text x.1 ⨾ SpellsBodyBy word.EndProgram error text x.2
+
+abbrev pub SpellsBlockInsideBy : SyntaxError → List ℕ → List Declaration × List Declaration × List Declaration × Body → Front
+SpellsBlockInsideBy error text x =
+    SpellsFilledList text word.VarInput x.0 ⨾ SpellsFilledList text word.VarOutput x.1 ⨾ SpellsVariables text x.2 ⨾ LacksList text word.VarExternal ⨾ SpellsBodyBy word.EndFunctionBlock error text x.3
+
+abbrev pub SpellsFunctionInsideBy : SyntaxError → List ℕ → List Declaration × List Declaration × Body → Front
+SpellsFunctionInsideBy error text x =
+    SpellsFull text word.VarInput x.0 ⨾ LacksList text word.VarOutput ⨾ SpellsVariables text x.1 ⨾ LacksList text word.VarExternal ⨾ SpellsBodyBy word.EndFunction error text x.2

@@ -1,5 +1,5 @@
 -- The parts of a configuration.
-use Rattle.std.specs.Prelude.{ℕ, ◌≤◌, length, List, Option}
+use Rattle.std.specs.Prelude.{ℕ, ◌≤◌, length, List, Option, ⊤}
 use Rattle.il_spec.specs.declared.keyword.Keyword.TheVariants as word
 use Rattle.il_spec.specs.declared.tree.Place.{Place}
 use Rattle.il_spec.specs.declared.tree.Declaration.{Declaration}
@@ -10,8 +10,10 @@ use Rattle.il_spec.specs.declared.tree.ProgramLine.{ProgramLine}
 use Rattle.il_spec.specs.declared.tree.Config.{Config}
 use Rattle.il_spec.specs.Grammar.{Front, ◌⨾◌, ◌⋯◌, AfterLines, No, Repeats, TheEnd, TheWord, SomeName, SpellsDeclaration, SpellsGlobals, SpellsTask, SpellsProgramLine, SpellsConfig}
 use Rattle.il_read.specs.Settings.{PlacedWord, SpellsThree}
-use Rattle.il_parse.specs.Units.{SpellsSmallUnit}
-use Rattle.il_parse.specs.Refused.{IsSmall}
+use Rattle.il_read.specs.declared.stop.SyntaxError.{SyntaxError}
+use Rattle.il_read.specs.declared.stop.SyntaxError.TheVariants.{Unexpected, TooDeep, TooMany}
+use Rattle.il_parse.specs.Units.{SpellsSmallUnit, SpellsUnitBy}
+use Rattle.il_parse.specs.Refused.{IsSmall, Keeps}
 
 -- units within the limits, and CONFIGURATION
 abbrev pub SpellsUnits : List ℕ → List ProgramUnit → Front
@@ -20,6 +22,16 @@ SpellsUnits text us = Repeats (SpellsSmallUnit text) us (TheWord text word.Confi
 -- no more units than a text may have
 abbrev pub SpellsFewUnits : List ℕ → List ProgramUnit → Front
 SpellsFewUnits text us ts rest = SpellsUnits text us ts rest × (length us ≤ 64)
+
+-- whether units are no more than the limit that a fault is about allows
+abbrev pub AreFewBy : SyntaxError → List ProgramUnit → Type 0
+AreFewBy Unexpected us = ⊤
+AreFewBy TooDeep us = ⊤
+AreFewBy TooMany us = length us ≤ 64
+
+-- units within the limit that a fault is about, and CONFIGURATION
+abbrev pub SpellsFewUnitsBy : SyntaxError → List ℕ → List ProgramUnit → Front
+SpellsFewUnitsBy error text us ts rest = Repeats (SpellsUnitBy error text) us (TheWord text word.Configuration) ts rest × AreFewBy error us
 
 -- the list of globals, where it stands
 abbrev pub SpellsGlobalList : List ℕ → Place × List Declaration → Front
@@ -56,3 +68,7 @@ SpellsGroup text x = SomeName text ⋯ SpellsThree text x.0 ⨾ SpellsSomeGlobal
 -- a text of a configuration within the limits
 abbrev pub SpellsSmallConfig : List ℕ → Config → Front
 SpellsSmallConfig text c ts rest = AfterLines (SpellsConfig text c) ts rest × IsSmall c
+
+-- a text of a configuration within the limit that a fault is about
+abbrev pub SpellsConfigBy : SyntaxError → List ℕ → Config → Front
+SpellsConfigBy error text c ts rest = AfterLines (SpellsConfig text c) ts rest × Keeps error c

@@ -11,6 +11,7 @@ use Rattle.il_spec.specs.Grammar.{AfterLines, SpellsConfig}
 use Rattle.il_grammar_laws.specs.Alike.{IsEndOf, AreAlike}
 use Rattle.il_grammar_laws.specs.GoesOn.{IsCut}
 use Rattle.il_read.specs.declared.stop.SyntaxError.{SyntaxError}
+use Rattle.il_read.specs.declared.stop.SyntaxError.TheVariants.{Unexpected, TooDeep, TooMany}
 use Rattle.il_read.specs.Reads.{IsNumberOfParser, number_of, turn}
 
 -- a fault, and not out of memory
@@ -30,18 +31,24 @@ pub record IsSmall (c : Config) : Type 0 where
   pub instructions : HasFewInstructions c
   pub nesting : IsNested c
 
+-- the limit that a fault is about: an unexpected token is about none
+abbrev pub Keeps : SyntaxError → Config → Type 0
+Keeps Unexpected c = ⊤
+Keeps TooDeep c = IsNested c
+Keeps TooMany c = (length c.units ≤ 64) × HasFewInstructions c
+
 -- the place of the first of these tokens of a text, or of its end, where a place can name it
 abbrev pub IsPlaceAt : List ℕ → Place → List Token → Type 0
 IsPlaceAt text place [] = length text < 4294967295 → (place.offset ≡ length text) × (place.line ≡ line_at text (length text))
 IsPlaceAt text place (t ∷ ts) = (place.offset ≡ t.start) × (place.line ≡ t.line)
 
 -- A fault names the first of the tokens `at`, or where there is none the end of the text. With it no text goes on: whatever text
--- has the same tokens up to this one, whatever stands behind, no configuration within the limits is spelled. Where an instruction
--- too many begins with a name, it is the token behind that name with which none goes on (`turn`).
+-- has the same tokens up to this one, whatever stands behind, no configuration is spelled that keeps the limit which the fault is
+-- about. Where an instruction too many begins with a name, it is the token behind that name with which none goes on (`turn`).
 abbrev pub GoesOnNowhere : List ℕ → List Token → Refusal → Type 0
 GoesOnNowhere text tokens (refusal.Fault number place) =
     (error : SyntaxError) × (at : List Token) × (number ≡ number_of error) × IsEndOf at tokens × IsPlaceAt text place at
-    × ((other : List ℕ) (others : List Token) → AreAlike text other (turn error text at) tokens others → (c : Config) → AfterLines (SpellsConfig other c) others [] → IsSmall c → ⊥)
+    × ((other : List ℕ) (others : List Token) → AreAlike text other (turn error text at) tokens others → (c : Config) → AfterLines (SpellsConfig other c) others [] → Keeps error c → ⊥)
 GoesOnNowhere text tokens refusal.Memory = ⊤
 
 -- The same, by the bytes: with the token that the fault names no text goes on that has the same bytes up to its end, and the same tokens.
@@ -50,7 +57,7 @@ NoTextGoesOn text tokens (refusal.Fault number place) =
     (error : SyntaxError) × (at : List Token) × (number ≡ number_of error) × IsEndOf at tokens × IsPlaceAt text place at
     × ((front : List Token) (t : Token) (rest : List Token) → tokens ≡ front ++ t ∷ rest → turn error text at ≡ t ∷ rest
     → (other : List ℕ) → take t.end text ≡ take t.end other → (others : List Token) → AreTokens other 0 (front ++ t ∷ others)
-    → (c : Config) → AfterLines (SpellsConfig other c) (front ++ t ∷ others) [] → IsSmall c → ⊥)
+    → (c : Config) → AfterLines (SpellsConfig other c) (front ++ t ∷ others) [] → Keeps error c → ⊥)
 NoTextGoesOn text tokens refusal.Memory = ⊤
 
 -- With the tokens before the one that a fault names, or with all before the end, some text goes on: one that has these tokens, of the same

@@ -9,12 +9,11 @@ ghost use Rattle.il_parse.specs.GoesOn.{SpellsFrom, SpellsPlacedFrom};
 ghost use Rattle.std.specs.Prelude.{◌≡◌, ◌⊎◌, ◌<◌, ◌≤◌, length, IsTrue, IsFalse, IfOk, IfErr};
 ghost use Rattle.il_spec.specs.Grammar.{TheLineEnd, depth_after, needs_load};
 ghost use Rattle.il_read.specs.Lead.{lead_at};
-ghost use Rattle.il_read.specs.Reads.{Reads, Refuses, Eats, fault_at};
-ghost use Rattle.il_read.specs.declared.lead.Lead.TheVariants as begins;
+ghost use Rattle.il_read.specs.Reads.{Reads, RefusesBy, Eats, fault_at};
 ghost use Rattle.il_read.specs.declared.stop.SyntaxError.TheVariants.{Unexpected, TooMany};
 ghost use Rattle.il_read.specs.declared.stop.Stop.TheVariants.{Memory};
-ghost use Rattle.il_parse.specs.Ahead.{RefusesAhead};
-ghost use Rattle.il_parse.specs.Bodies.{closes_lead, leaves_lead, ends_lead, loads_lead, may_begin, SpellsPlaced, RefusesPlaced, HasLabels, TakesEnd, SpellsNext, Shortens, IsLast, SpellsSteps, SpellsSmallBody};
+ghost use Rattle.il_parse.specs.Ahead.{RefusesAheadBy};
+ghost use Rattle.il_parse.specs.Bodies.{closes_lead, leaves_lead, ends_lead, loads_lead, begins_lead, may_begin, SpellsPlaced, RefusesPlaced, HasLabels, TakesEnd, SpellsNext, SpellsNextBy, Shortens, IsLast, SpellsSteps, SpellsStepsBy, SpellsSmallBody, SpellsBodyBy};
 
 use il_read::{Lead, Source, Stop, SyntaxError, Tokens};
 use il_spec::keyword::Keyword;
@@ -84,7 +83,7 @@ fn may_begin(depth: usize, load: bool, lead: Lead) -> bool
 // The fault where a body is full: an instruction too many, or what begins none.
 fn surplus(tokens: &Tokens, lead: Lead) -> Stop
     ensures { (result ≡ fault_at TooMany tokens.now)
-        ⊎ ((result ≡ fault_at Unexpected tokens.now) × (lead ≡ begins.Name → ⊥)) }
+        ⊎ ((result ≡ fault_at Unexpected tokens.now) × IsFalse (begins_lead lead)) }
 {
     match lead {
         Lead::Name | Lead::Sign(Sign::Ampersand | Sign::CloseParenthesis) => {
@@ -211,8 +210,8 @@ fn outer(
     requires { IsLast last }
     ensures reads { IfOk result (λ x. Reads (SpellsNext source.now last 0 load full) tokens.old x
         tokens.new) }
-    ensures refused { IfErr result (λ e. Refuses
-        (λ text. SpellsNext text last 0 load full) source.now tokens.old e) }
+    ensures refused { IfErr result (λ e. RefusesBy
+        (SpellsNextBy last 0 load full) source.now tokens.old e) }
     ensures begins { IfErr result (λ e. BreaksOff always (λ text. SpellsFrom text last 0 load) source.now tokens.old e) }
     ensures shorter { IfOk result (λ x. Shortens tokens.old x tokens.new) }
 {
@@ -243,8 +242,8 @@ fn next_entry(
     requires last { IsLast last }
     ensures reads { IfOk result (λ x. Reads (SpellsNext source.now last depth load full)
         tokens.old x tokens.new) }
-    ensures refused { IfErr result (λ e. Refuses
-        (λ text. SpellsNext text last depth load full) source.now tokens.old e) }
+    ensures refused { IfErr result (λ e. RefusesBy
+        (SpellsNextBy last depth load full) source.now tokens.old e) }
     ensures begins { IfErr result (λ e. BreaksOff always (λ text. SpellsFrom text last depth load) source.now tokens.old e) }
     ensures shorter { IfOk result (λ x. Shortens tokens.old x tokens.new) }
 {
@@ -294,8 +293,8 @@ fn is_full(steps: &Items<Step>) -> bool
 fn steps(source: &Source, tokens: &mut Tokens, last: Keyword) -> Result<Body, Stop>
     requires { IsLast last }
     ensures reads { IfOk result (λ b. Reads (SpellsSteps source.now last) tokens.old b tokens.new) }
-    ensures refused { IfErr result (λ e. Refuses
-        (λ text. SpellsSteps text last) source.now tokens.old e) }
+    ensures refused { IfErr result (λ e. RefusesBy
+        (SpellsStepsBy last) source.now tokens.old e) }
     ensures begins { IfErr result (λ e. BreaksOff always (λ text. SpellsFrom text last 0 false) source.now tokens.old e) }
 {
     let mut steps = Items::new(source.alloc());
@@ -326,8 +325,8 @@ pub fn body(source: &Source, tokens: &mut Tokens, last: Keyword) -> Result<Body,
     requires { IsLast last }
     ensures reads { IfOk result (λ b. Reads (SpellsSmallBody source.now last) tokens.old b
         tokens.new) }
-    ensures refused { IfErr result (λ e. RefusesAhead
-        (λ text. SpellsSmallBody text last) source.now tokens.old e) }
+    ensures refused { IfErr result (λ e. RefusesAheadBy
+        (SpellsBodyBy last) source.now tokens.old e) }
     ensures begins { IfErr result (λ e. BreaksOff always (λ text. SpellsBody text last) source.now tokens.old e) }
 {
     source.line_end(tokens)?;

@@ -6,9 +6,9 @@ ghost use Rattle.il_read.specs.Reads.{BreaksOff, NamesFirst};
 ghost use Rattle.il_parse.specs.GoesOn.{stopped, SpellsAll};
 ghost use Rattle.std.specs.Prelude.{◌≡◌, ℕ, List, [], IfOk, IfErr};
 ghost use Rattle.il_spec.specs.Grammar.{TheEnd};
-ghost use Rattle.il_read.specs.Reads.{Reads, Refuses, Stands, Misses};
+ghost use Rattle.il_read.specs.Reads.{Reads, Refuses, RefusesBy, Stands, Misses};
 ghost use Rattle.il_parse.specs.Ahead.{RefusesAhead};
-ghost use Rattle.il_parse.specs.Parts.{SpellsGlobalList, SpellsSomeGlobals, SpellsTasks, SpellsPrograms, SpellsLines, SpellsResourceOf, SpellsEnding, SpellsGroup, SpellsSmallConfig};
+ghost use Rattle.il_parse.specs.Parts.{SpellsGlobalList, SpellsSomeGlobals, SpellsTasks, SpellsPrograms, SpellsLines, SpellsResourceOf, SpellsEnding, SpellsGroup, SpellsSmallConfig, SpellsConfigBy};
 
 use crate::units::units;
 use crate::variables::comes;
@@ -190,7 +190,7 @@ fn config_of(units: Items<Unit>, sizes: Sizes, globals: Globals, lines: Lines) -
 /// The configuration that all of the tokens spell.
 pub fn configuration(source: &Source, tokens: &mut Tokens) -> Result<Config, Stop>
     ensures reads { IfOk result (λ c. Reads (SpellsSmallConfig source.now) tokens.old c []) }
-    ensures refused { IfErr result (λ e. Refuses SpellsSmallConfig source.now tokens.old e) }
+    ensures refused { IfErr result (λ e. RefusesBy SpellsConfigBy source.now tokens.old e) }
     ensures begins { IfErr result (λ e. BreaksOff ended SpellsAll source.now tokens.old e) }
 {
     tokens.skip_lines();

@@ -4,8 +4,8 @@ ghost use Rattle.il_grammar_laws.specs.GoesOn.{always, quiet};
 ghost use Rattle.il_read.specs.Reads.{BreaksOff};
 ghost use Rattle.il_parse.specs.GoesOn.{SpellsWholeProgram, SpellsWholeBlock, SpellsWholeFunction};
 ghost use Rattle.std.specs.Prelude.{IfOk, IfErr};
-ghost use Rattle.il_read.specs.Reads.{Reads, Refuses};
-ghost use Rattle.il_parse.specs.Headings.{PlacedScalar, SpellsResultAt, SpellsProgram, SpellsBlock, SpellsFunction};
+ghost use Rattle.il_read.specs.Reads.{Reads, Refuses, RefusesBy};
+ghost use Rattle.il_parse.specs.Headings.{PlacedScalar, SpellsResultAt, SpellsProgram, SpellsBlock, SpellsFunction, SpellsProgramBy, SpellsBlockBy, SpellsFunctionBy};
 
 use crate::insides::{block_inside, function_inside, program_inside};
 use il_read::{Source, Stop, Tokens};
@@ -45,7 +45,7 @@ pub fn program(
     tokens: &mut Tokens,
 ) -> Result<(Place, Named, (Items<Declaration>, Items<Declaration>, Body)), Stop>
     ensures reads { IfOk result (λ x. Reads (SpellsProgram source.now) tokens.old x tokens.new) }
-    ensures refused { IfErr result (λ e. Refuses SpellsProgram source.now tokens.old e) }
+    ensures refused { IfErr result (λ e. RefusesBy SpellsProgramBy source.now tokens.old e) }
     ensures begins { IfErr result (λ e. BreaksOff always SpellsWholeProgram source.now tokens.old e) }
 {
     let place = source.placed_word(tokens, Keyword::Program)?;
@@ -73,7 +73,7 @@ pub fn block(
     Stop,
 >
     ensures reads { IfOk result (λ x. Reads (SpellsBlock source.now) tokens.old x tokens.new) }
-    ensures refused { IfErr result (λ e. Refuses SpellsBlock source.now tokens.old e) }
+    ensures refused { IfErr result (λ e. RefusesBy SpellsBlockBy source.now tokens.old e) }
     ensures begins { IfErr result (λ e. BreaksOff always SpellsWholeBlock source.now tokens.old e) }
 {
     let place = source.placed_word(tokens, Keyword::FunctionBlock)?;
@@ -97,7 +97,7 @@ pub fn function(
     Stop,
 >
     ensures reads { IfOk result (λ x. Reads (SpellsFunction source.now) tokens.old x tokens.new) }
-    ensures refused { IfErr result (λ e. Refuses SpellsFunction source.now tokens.old e) }
+    ensures refused { IfErr result (λ e. RefusesBy SpellsFunctionBy source.now tokens.old e) }
     ensures begins { IfErr result (λ e. BreaksOff always SpellsWholeFunction source.now tokens.old e) }
 {
     let place = source.placed_word(tokens, Keyword::Function)?;

@@ -4,9 +4,9 @@ ghost use Rattle.il_grammar_laws.specs.GoesOn.{always};
 ghost use Rattle.il_read.specs.Reads.{BreaksOff};
 ghost use Rattle.il_parse.specs.GoesOn.{SpellsProgramRest, SpellsBlockRest, SpellsFunctionRest};
 ghost use Rattle.std.specs.Prelude.{IfOk, IfErr};
-ghost use Rattle.il_read.specs.Reads.{Reads, Refuses};
-ghost use Rattle.il_parse.specs.Ahead.{RefusesAhead};
-ghost use Rattle.il_parse.specs.Insides.{SpellsProgramInside, SpellsBlockInside, SpellsFunctionInside};
+ghost use Rattle.il_read.specs.Reads.{Reads};
+ghost use Rattle.il_parse.specs.Ahead.{RefusesAheadBy};
+ghost use Rattle.il_parse.specs.Insides.{SpellsProgramInside, SpellsBlockInside, SpellsFunctionInside, SpellsProgramInsideBy, SpellsBlockInsideBy, SpellsFunctionInsideBy};
 
 use crate::bodies::body;
 use crate::variables::{externals, filled_list, full_list, no_list, optional_list};
@@ -22,7 +22,7 @@ pub fn program_inside(
 ) -> Result<(Items<Declaration>, Items<Declaration>, Body), Stop>
     ensures reads { IfOk result (λ x. Reads (SpellsProgramInside source.now) tokens.old x
         tokens.new) }
-    ensures refused { IfErr result (λ e. RefusesAhead SpellsProgramInside source.now tokens.old e) }
+    ensures refused { IfErr result (λ e. RefusesAheadBy SpellsProgramInsideBy source.now tokens.old e) }
     ensures begins { IfErr result (λ e. BreaksOff always SpellsProgramRest source.now tokens.old e) }
 {
     no_list(source, tokens, Keyword::VarInput)?;
@@ -48,7 +48,7 @@ pub fn block_inside(
 >
     ensures reads { IfOk result (λ x. Reads (SpellsBlockInside source.now) tokens.old x
         tokens.new) }
-    ensures refused { IfErr result (λ e. RefusesAhead SpellsBlockInside source.now tokens.old e) }
+    ensures refused { IfErr result (λ e. RefusesAheadBy SpellsBlockInsideBy source.now tokens.old e) }
     ensures begins { IfErr result (λ e. BreaksOff always SpellsBlockRest source.now tokens.old e) }
 {
     let inputs = filled_list(source, tokens, Keyword::VarInput)?;
@@ -66,8 +66,8 @@ pub fn function_inside(
 ) -> Result<(Items<Declaration>, Items<Declaration>, Body), Stop>
     ensures reads { IfOk result (λ x. Reads (SpellsFunctionInside source.now) tokens.old x
         tokens.new) }
-    ensures refused { IfErr result (λ e. RefusesAhead
-        SpellsFunctionInside source.now tokens.old e) }
+    ensures refused { IfErr result (λ e. RefusesAheadBy
+        SpellsFunctionInsideBy source.now tokens.old e) }
     ensures begins { IfErr result (λ e. BreaksOff always SpellsFunctionRest source.now tokens.old e) }
 {
     let inputs = full_list(source, tokens, Keyword::VarInput)?;

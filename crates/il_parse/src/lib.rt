@@ -8,9 +8,9 @@ ghost use Rattle.std.specs.Prelude.{◌≡◌, ◌<◌, ◌≤◌, length, IfOk,
 ghost use Rattle.il_spec.specs.Text.{AreTokens, upper_case, line_at};
 ghost use Rattle.il_spec.specs.Grammar.{AfterLines, SpellsConfig, Spells, IsWithinLimits};
 ghost use Rattle.il_spec.specs.declared.tree.Config.{Config};
-ghost use Rattle.il_read.specs.Reads.{Reads, Refuses};
+ghost use Rattle.il_read.specs.Reads.{Reads, Refuses, RefusesBy};
 ghost use Rattle.il_parse.specs.Refused.{IsFault, IsOfParser, IsSmall, GoesOnNowhere, NoTextGoesOn, GoesOnBefore};
-ghost use Rattle.il_parse.specs.Parts.{SpellsSmallConfig};
+ghost use Rattle.il_parse.specs.Parts.{SpellsSmallConfig, SpellsConfigBy};
 
 mod bodies;
 mod configuration;
@@ -80,7 +80,7 @@ pub fn parse(alloc: Global, text: &[u8], tokens: &[Token]) -> Result<Written, Re
 fn read(alloc: Global, text: &[u8], tokens: &[Token]) -> Result<Config, Stop>
     requires { AreTokens text.now 0 tokens.now }
     ensures reads { IfOk result (λ c. Reads (SpellsSmallConfig text.now) tokens.now c []) }
-    ensures refused { IfErr result (λ e. Refuses SpellsSmallConfig text.now tokens.now e) }
+    ensures refused { IfErr result (λ e. RefusesBy SpellsConfigBy text.now tokens.now e) }
     ensures begins { IfErr result (λ e. BreaksOff ended SpellsAll text.now tokens.now e) }
 {
     let upper = in_upper_case(alloc, text)?;

@@ -5,8 +5,8 @@ ghost use Rattle.il_grammar_laws.specs.GoesOn.{always};
 ghost use Rattle.il_read.specs.Reads.{BreaksOff};
 ghost use Rattle.std.specs.Prelude.{IfOk, IfErr};
 ghost use Rattle.il_spec.specs.declared.keyword.Keyword.TheVariants as word;
-ghost use Rattle.il_read.specs.Reads.{Reads, Refuses};
-ghost use Rattle.il_parse.specs.Units.{SpellsSmallUnit, SpellsUnitOf};
+ghost use Rattle.il_read.specs.Reads.{Reads, RefusesBy};
+ghost use Rattle.il_parse.specs.Units.{SpellsSmallUnit, SpellsUnitOf, SpellsUnitBy, SpellsUnitOfBy};
 
 use crate::headings::{block, function, program};
 use il_read::{Source, Stop, Tokens};
@@ -18,8 +18,8 @@ use lists::Items;
 fn program_unit(source: &Source, tokens: &mut Tokens) -> Result<Unit, Stop>
     ensures reads { IfOk result (λ u. Reads (SpellsUnitOf source.now word.Program) tokens.old u
         tokens.new) }
-    ensures refused { IfErr result (λ e. Refuses
-        (λ text. SpellsUnitOf text word.Program) source.now tokens.old e) }
+    ensures refused { IfErr result (λ e. RefusesBy
+        (SpellsUnitOfBy word.Program) source.now tokens.old e) }
     ensures begins { IfErr result (λ e. BreaksOff always SpellsUnit source.now tokens.old e) }
 {
     let (place, name, (variables, externals, body)) = program(source, tokens)?;
@@ -39,8 +39,8 @@ fn program_unit(source: &Source, tokens: &mut Tokens) -> Result<Unit, Stop>
 fn block_unit(source: &Source, tokens: &mut Tokens) -> Result<Unit, Stop>
     ensures reads { IfOk result (λ u. Reads (SpellsUnitOf source.now word.FunctionBlock)
         tokens.old u tokens.new) }
-    ensures refused { IfErr result (λ e. Refuses
-        (λ text. SpellsUnitOf text word.FunctionBlock) source.now tokens.old e) }
+    ensures refused { IfErr result (λ e. RefusesBy
+        (SpellsUnitOfBy word.FunctionBlock) source.now tokens.old e) }
     ensures begins { IfErr result (λ e. BreaksOff always SpellsUnit source.now tokens.old e) }
 {
     let (place, name, (inputs, outputs, variables, body)) = block(source, tokens)?;
@@ -60,8 +60,8 @@ fn block_unit(source: &Source, tokens: &mut Tokens) -> Result<Unit, Stop>
 fn function_unit(source: &Source, tokens: &mut Tokens) -> Result<Unit, Stop>
     ensures reads { IfOk result (λ u. Reads (SpellsUnitOf source.now word.Function) tokens.old u
         tokens.new) }
-    ensures refused { IfErr result (λ e. Refuses
-        (λ text. SpellsUnitOf text word.Function) source.now tokens.old e) }
+    ensures refused { IfErr result (λ e. RefusesBy
+        (SpellsUnitOfBy word.Function) source.now tokens.old e) }
     ensures begins { IfErr result (λ e. BreaksOff always SpellsUnit source.now tokens.old e) }
 {
     let (place, name, (result_place, scalar), (inputs, variables, body)) = function(
@@ -82,7 +82,7 @@ fn function_unit(source: &Source, tokens: &mut Tokens) -> Result<Unit, Stop>
 /// A unit of any kind.
 pub fn unit(source: &Source, tokens: &mut Tokens) -> Result<Unit, Stop>
     ensures reads { IfOk result (λ u. Reads (SpellsSmallUnit source.now) tokens.old u tokens.new) }
-    ensures refused { IfErr result (λ e. Refuses SpellsSmallUnit source.now tokens.old e) }
+    ensures refused { IfErr result (λ e. RefusesBy SpellsUnitBy source.now tokens.old e) }
     ensures begins { IfErr result (λ e. BreaksOff always SpellsUnit source.now tokens.old e) }
 {
     if source.word_stands(tokens, Keyword::Program) {

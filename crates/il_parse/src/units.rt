@@ -1,12 +1,14 @@
 // The units of a text.
 
 ghost use Rattle.il_grammar_laws.specs.GoesOn.{always};
-ghost use Rattle.il_read.specs.Reads.{BreaksOff};
+ghost use Rattle.il_read.specs.Reads.{BreaksOff, Reads, Refuses, fault_at, turn, RefusesBy};
 ghost use Rattle.il_parse.specs.GoesOn.{SpellsAllUnits};
-ghost use Rattle.std.specs.Prelude.{◌≡◌, length, IsTrue, IsFalse, IfOk, IfErr};
-ghost use Rattle.il_read.specs.Reads.{Reads, Refuses, fault_at, turn};
+ghost use Rattle.std.specs.Prelude.{◌≡◌, length, IsTrue, IsFalse, IfOk, IfErr, ◌⊎◌};
 ghost use Rattle.il_read.specs.declared.stop.SyntaxError.{SyntaxError};
-ghost use Rattle.il_parse.specs.Parts.{SpellsFewUnits};
+ghost use Rattle.il_parse.specs.Parts.{SpellsFewUnits, SpellsFewUnitsBy};
+ghost use Rattle.il_read.specs.Lead.{lead_at};
+ghost use Rattle.il_read.specs.declared.stop.SyntaxError.TheVariants.{Unexpected, TooMany};
+ghost use Rattle.il_parse.specs.Units.{unit_begins};
 
 use crate::one_unit::unit;
 use il_read::{Lead, Source, Stop, SyntaxError, Tokens};
@@ -24,8 +26,10 @@ fn is_full(units: &Items<Unit>) -> bool
 
 // Why no unit may stand here: it is one too many, or it is none.
 fn surplus(source: &Source, tokens: &Tokens) -> Stop
-    ensures { (error : SyntaxError) × (result ≡ fault_at error tokens.now)
-        × (turn error source.now tokens.now ≡ tokens.now) }
+    ensures { ((result ≡ fault_at TooMany tokens.now)
+        × IsTrue (unit_begins (lead_at source.now tokens.now)))
+        ⊎ ((result ≡ fault_at Unexpected tokens.now)
+        × IsFalse (unit_begins (lead_at source.now tokens.now))) }
 {
     match source.lead(tokens) {
         Lead::Reserved(Keyword::Function | Keyword::FunctionBlock | Keyword::Program) => {
@@ -38,7 +42,7 @@ fn surplus(source: &Source, tokens: &Tokens) -> Stop
 /// The units of a text, and CONFIGURATION.
 pub fn units(source: &Source, tokens: &mut Tokens) -> Result<Items<Unit>, Stop>
     ensures reads { IfOk result (λ us. Reads (SpellsFewUnits source.now) tokens.old us tokens.new) }
-    ensures refused { IfErr result (λ e. Refuses SpellsFewUnits source.now tokens.old e) }
+    ensures refused { IfErr result (λ e. RefusesBy SpellsFewUnitsBy source.now tokens.old e) }
     ensures begins { IfErr result (λ e. BreaksOff always SpellsAllUnits source.now tokens.old e) }
 {
     let mut units = Items::new(source.alloc());

@@ -85,6 +85,6 @@ abbrev pub ReportsFaultOfText : {X : Type 0} → List ℕ → Result X Refusal �
 ReportsFaultOfText text answer = (number : ℕ) (place : Place) → IsFaultOfText text (Fault number place) → IsErrAnd answer (λ e. (e ≡ Fault number place) ⊎ (e ≡ Memory))
 
 -- Where a text that is not too long has tokens and spells no configuration, no text goes on with the token that the fault names: none with
--- the same tokens up to this one, whatever stands behind, spells a configuration within the limits but that of its bytes.
+-- the same tokens up to this one, whatever stands behind, spells a configuration that keeps the limit which the fault is about.
 abbrev pub NamesTurn : List ℕ → Refusal → Type 0
 NamesTurn text refusal = SpellsNone text → length text ≤ 262144 → (ts : List Token) → AreTokens text 0 ts → GoesOnNowhere text ts refusal

@@ -1,6 +1,7 @@
 use Rattle.std.proofs.Common.{[], ◌∷◌, ◌++◌, sym, ◌∙◌, ap, subst}
 use Rattle.il_read.specs.Reads.{number_of}
-use Rattle.il_parse.specs.Refused.{IsPlaceAt}
+use Rattle.il_parse.specs.Refused.{IsPlaceAt, Keeps}
+use Rattle.il_parse.proofs.UnitsByError.{keeps_each}
 use Rattle.il_grammar_laws.proofs.Bytes.{texts_alike}
 use Rattle.il_parse.proofs.Turn.{fault_parts}
 use Rattle.il_grammar_laws.proofs.Configurations.{config_one}
@@ -21,7 +22,7 @@ returns-in-Ok-clause-only c = λ d w. ((config_one c.args.text.now).only d _ _ _
 pub returns-in-Err-Fault-clause-refused : goal.returns-in-Err-Fault-clause-refused
 returns-in-Err-Fault-clause-refused c = λ fault d w small.
     let bad = (rw c.in-Err-Fault.field-0-is at c.in-Err-Fault.ensures.refused).fault tt in
-    bad.4.never c.args.text.now c.args.tokens.now (alike_self _ _ _ bad.4.inside) d [] (w, small)
+    bad.4.never c.args.text.now c.args.tokens.now (alike_self _ _ _ bad.4.inside) d [] (w, keeps_each _ d small)
 
 pub of-requires-clause-written : goal.of-requires-clause-written
 of-requires-clause-written c = spelled_written c.args.text.now c.in-Ok.tree (_, c.requires, c.in-Ok.ensures.reads.found.0)
@@ -41,7 +42,7 @@ returns-in-Err-Fault-clause-nowhere c =
       c.number.ensures ∙ ap number_of parts.0,
       bad.3,
       subst (λ x. IsPlaceAt c.args.text.now x bad.1) (sym c.unwrap_or.ensures) parts.1,
-      λ other others a d w small. bad.4.never other others a d [] (w, small),
+      λ other others a d w keeps. bad.4.never other others a d [] (w, subst (λ error. Keeps error d) (sym parts.0) keeps),
     )
 
 pub returns-in-Err-Fault-clause-texts : goal.returns-in-Err-Fault-clause-texts
@@ -53,7 +54,7 @@ returns-in-Err-Fault-clause-texts c =
       c.number.ensures ∙ ap number_of parts.0,
       bad.3,
       subst (λ x. IsPlaceAt c.args.text.now x bad.1) (sym c.unwrap_or.ensures) parts.1,
-      λ front t rest split here other same others cut d w small. bad.4.never other (front ++ t ∷ others) (texts_alike c.args.text.now other c.args.tokens.now _ front t rest others c.requires split here same) d [] (w, small),
+      λ front t rest split here other same others cut d w keeps. bad.4.never other (front ++ t ∷ others) (texts_alike c.args.text.now other c.args.tokens.now _ front t rest others c.requires split here same) d [] (w, subst (λ error. Keeps error d) (sym parts.0) keeps),
     )
 
 pub returns-in-Err-Fault-clause-before : goal.returns-in-Err-Fault-clause-before

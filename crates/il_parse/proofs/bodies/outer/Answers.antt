@@ -1,6 +1,7 @@
 use Rattle.std.proofs.Common.{refl, sym, ap, ◌∙◌}
 use Rattle.il_read.specs.Lead.{lead_at}
-use Rattle.il_read.proofs.Chain.{up}
+use Rattle.il_read.proofs.ByError.{up_by}
+use Rattle.il_parse.specs.Bodies.{SpellsNextBy}
 use Rattle.il_parse.proofs.Entries.{outer_refused}
 use Rattle.il_read.proofs.Breaks.{memory_breaks, up_breaks}
 use Rattle.il_parse.proofs.Begun.{outer_breaks}
@@ -14,7 +15,7 @@ returns-in-Some-clause-reads c =
 pub returns-in_err-place-clause-refused : goal.returns-in_err-place-clause-refused
 returns-in_err-place-clause-refused c =
     let none = rw c.in_default.is at c.eat_end.ensures.takes in
-    up _ c.from_residual-in_err-place.ensures.1
+    up_by (SpellsNextBy c.args.last 0 c.args.load c.args.full) _ c.from_residual-in_err-place.ensures.1
     (outer_refused c.args.source.now c.args.last c.args.load c.args.full c.in_ok-labels.alone _ _ c.in_ok-labels.labels _ c.in_ok-labels.ensures.labels none.1 (rw none.0 at c.in_err-place.ensures.refused))
 
 pub returns-clause-reads : goal.returns-clause-reads

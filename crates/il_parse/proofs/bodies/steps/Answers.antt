@@ -1,6 +1,8 @@
 use Rattle.std.proofs.Common.{◌≡◌, ◌+◌, length, length-append, [], ◌∷◌, arith}
 use Rattle.std.specs.Prelude.{max}
-use Rattle.il_read.proofs.Chain.{up, starts}
+use Rattle.il_read.proofs.Chain.{starts}
+use Rattle.il_read.proofs.ByError.{up_by}
+use Rattle.il_parse.specs.Bodies.{SpellsStepsBy}
 use Rattle.il_read.proofs.Nesting.{none_open}
 use Rattle.il_parse.proofs.Entries.{steps_refused, steps_read, step_on, open_on, few_on}
 use Rattle.il_parse.proofs.Begun.{steps_breaks}
@@ -9,7 +11,7 @@ use Rattle.il_parse.proofs.bodies.steps.Goals as goal
 
 pub returns-in_err-labels-clause-refused : goal.returns-in_err-labels-clause-refused
 returns-in_err-labels-clause-refused c =
-    up _ c.from_residual.ensures.1 (steps_refused c.args.source.now _ _ _ _ _ _ _ _ _ c.is_full-full.ensures.yes c.steps.invariant.2.2 c.steps.invariant.3 c.in_err-labels.ensures.refused)
+    up_by (SpellsStepsBy c.args.last) _ c.from_residual.ensures.1 (steps_refused c.args.source.now _ _ _ _ _ _ _ _ _ c.is_full-full.ensures.yes c.steps.invariant.2.2 c.steps.invariant.3 c.in_err-labels.ensures.refused)
 
 pub returns-in-End-clause-reads : goal.returns-in-End-clause-reads
 returns-in-End-clause-reads c =

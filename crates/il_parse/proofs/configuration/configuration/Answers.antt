@@ -1,7 +1,9 @@
 use Rattle.il_spec.specs.Grammar.{loose, skip_line_ends}
 use Rattle.il_read.proofs.Chain.{up, first, later, part}
-use Rattle.il_parse.specs.Parts.{SpellsGroup}
+use Rattle.il_parse.specs.Parts.{SpellsGroup, SpellsConfigBy}
 use Rattle.il_parse.proofs.Parts.{config_read, config_refused, few_units_local, config, from_small_units, whole_config}
+use Rattle.il_read.proofs.ByError.{up_by}
+use Rattle.il_parse.proofs.UnitsByError.{units_by_read}
 use Rattle.il_grammar_laws.proofs.Alike.{loose_gap}
 use Rattle.il_parse.specs.GoesOn.{SpellsAll}
 use Rattle.il_read.proofs.Breaks.{first_loose, later_loose, map_breaks, s_loose, up_breaks}
@@ -12,13 +14,13 @@ use Rattle.il_parse.proofs.configuration.configuration.Goals as goal
 
 pub returns-in_err-units-clause-refused : goal.returns-in_err-units-clause-refused
 returns-in_err-units-clause-refused c =
-    up _ c.from_residual.ensures.1
+    up_by SpellsConfigBy _ c.from_residual.ensures.1
     (config_refused c.args.source.now _ _ (first (λ b. b.0) loose (λ text b. SpellsGroup text b.1) (rw c.skip_lines.ensures.rest at c.in_err-units.ensures.refused)))
 
 pub returns-in_err-sizes-clause-refused : goal.returns-in_err-sizes-clause-refused
 returns-in_err-sizes-clause-refused c =
-    up _ c.from_residual-in_err-sizes.ensures.1
-    (config_refused c.args.source.now _ _ (later (λ b. b.0) loose_gap (λ text b. SpellsGroup text b.1) few_units_local (rw c.skip_lines.ensures.rest at c.in_ok-units.ensures.reads)
+    up_by SpellsConfigBy _ c.from_residual-in_err-sizes.ensures.1
+    (config_refused c.args.source.now _ _ (later (λ b. b.0) loose_gap (λ text b. SpellsGroup text b.1) (few_units_local _) (units_by_read c.args.source.now _ _ _ _ (rw c.skip_lines.ensures.rest at c.in_ok-units.ensures.reads))
     (part (λ b. b.1) (rw c.skip_lines-2.ensures.rest at c.in_err-sizes.ensures.refused))))
 
 pub returns-clause-reads : goal.returns-clause-reads

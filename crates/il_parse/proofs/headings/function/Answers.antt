@@ -1,8 +1,9 @@
 use Rattle.il_spec.specs.declared.keyword.Keyword.TheVariants as word
 use Rattle.il_spec.specs.Grammar.{tight, loose, ◌⨾◌, TheName}
-use Rattle.il_parse.specs.Insides.{SpellsFunctionInside}
-use Rattle.il_parse.specs.Headings.{SpellsResultAt}
-use Rattle.il_read.proofs.Chain.{up, first, later}
+use Rattle.il_parse.specs.Insides.{SpellsFunctionInsideBy}
+use Rattle.il_parse.specs.Headings.{SpellsFunctionBy, SpellsResultAt}
+use Rattle.il_read.proofs.Chain.{first, later}
+use Rattle.il_read.proofs.ByError.{up_by}
 use Rattle.il_grammar_laws.proofs.Local.{the_name_local, result_local, placed_word_local}
 use Rattle.il_grammar_laws.proofs.Alike.{tight_gap, loose_gap}
 use Rattle.il_parse.proofs.Ahead.{later_ahead, part_ahead, forget}
@@ -17,28 +18,28 @@ use Rattle.il_parse.proofs.headings.function.Goals as goal
 
 pub returns-in_err-place-clause-refused : goal.returns-in_err-place-clause-refused
 returns-in_err-place-clause-refused c =
-    up _ c.from_residual.ensures.1
-    (first (λ b. b.0) loose (λ text b. TheName text b.1 ⨾ SpellsResultAt text b.2 ⨾ SpellsFunctionInside text b.3) c.in_err-place.ensures.refused)
+    up_by SpellsFunctionBy _ c.from_residual.ensures.1
+    (first (λ b. b.0) loose (λ text b. TheName text b.1 ⨾ SpellsResultAt text b.2 ⨾ SpellsFunctionInsideBy _ text b.3) c.in_err-place.ensures.refused)
 
 pub returns-in_err-name-clause-refused : goal.returns-in_err-name-clause-refused
 returns-in_err-name-clause-refused c =
-    up _ c.from_residual-in_err-name.ensures.1
-    (later (λ b. b.0) loose_gap (λ text b. TheName text b.1 ⨾ SpellsResultAt text b.2 ⨾ SpellsFunctionInside text b.3) (placed_word_local word.Function) c.in_ok-place.ensures.reads
-    (first (λ b. b.1) tight (λ text b. SpellsResultAt text b.2 ⨾ SpellsFunctionInside text b.3) (rw c.skip_lines.ensures.rest at c.in_err-name.ensures.refused)))
+    up_by SpellsFunctionBy _ c.from_residual-in_err-name.ensures.1
+    (later (λ b. b.0) loose_gap (λ text b. TheName text b.1 ⨾ SpellsResultAt text b.2 ⨾ SpellsFunctionInsideBy _ text b.3) (placed_word_local word.Function) c.in_ok-place.ensures.reads
+    (first (λ b. b.1) tight (λ text b. SpellsResultAt text b.2 ⨾ SpellsFunctionInsideBy _ text b.3) (rw c.skip_lines.ensures.rest at c.in_err-name.ensures.refused)))
 
 pub returns-in_err-outcome-clause-refused : goal.returns-in_err-outcome-clause-refused
 returns-in_err-outcome-clause-refused c =
-    up _ c.from_residual-in_err-outcome.ensures.1
-    (later (λ b. b.0) loose_gap (λ text b. TheName text b.1 ⨾ SpellsResultAt text b.2 ⨾ SpellsFunctionInside text b.3) (placed_word_local word.Function) c.in_ok-place.ensures.reads
-    (later (λ b. b.1) tight_gap (λ text b. SpellsResultAt text b.2 ⨾ SpellsFunctionInside text b.3) the_name_local (rw c.skip_lines.ensures.rest at c.in_ok-name.ensures.reads)
-    (first (λ b. b.2) tight (λ text b. SpellsFunctionInside text b.3) c.in_err-outcome.ensures.refused)))
+    up_by SpellsFunctionBy _ c.from_residual-in_err-outcome.ensures.1
+    (later (λ b. b.0) loose_gap (λ text b. TheName text b.1 ⨾ SpellsResultAt text b.2 ⨾ SpellsFunctionInsideBy _ text b.3) (placed_word_local word.Function) c.in_ok-place.ensures.reads
+    (later (λ b. b.1) tight_gap (λ text b. SpellsResultAt text b.2 ⨾ SpellsFunctionInsideBy _ text b.3) the_name_local (rw c.skip_lines.ensures.rest at c.in_ok-name.ensures.reads)
+    (first (λ b. b.2) tight (λ text b. SpellsFunctionInsideBy _ text b.3) c.in_err-outcome.ensures.refused)))
 
 pub returns-in_err-inside-clause-refused : goal.returns-in_err-inside-clause-refused
 returns-in_err-inside-clause-refused c =
-    up _ c.from_residual-in_err-inside.ensures.1
-    (later (λ b. b.0) loose_gap (λ text b. TheName text b.1 ⨾ SpellsResultAt text b.2 ⨾ SpellsFunctionInside text b.3) (placed_word_local word.Function) c.in_ok-place.ensures.reads
-    (later (λ b. b.1) tight_gap (λ text b. SpellsResultAt text b.2 ⨾ SpellsFunctionInside text b.3) the_name_local (rw c.skip_lines.ensures.rest at c.in_ok-name.ensures.reads)
-    (forget (later_ahead (λ b. b.2) (λ text b. SpellsFunctionInside text b.3) result_local c.in_ok-outcome.ensures.reads
+    up_by SpellsFunctionBy _ c.from_residual-in_err-inside.ensures.1
+    (later (λ b. b.0) loose_gap (λ text b. TheName text b.1 ⨾ SpellsResultAt text b.2 ⨾ SpellsFunctionInsideBy _ text b.3) (placed_word_local word.Function) c.in_ok-place.ensures.reads
+    (later (λ b. b.1) tight_gap (λ text b. SpellsResultAt text b.2 ⨾ SpellsFunctionInsideBy _ text b.3) the_name_local (rw c.skip_lines.ensures.rest at c.in_ok-name.ensures.reads)
+    (forget (later_ahead (λ b. b.2) (λ text b. SpellsFunctionInsideBy _ text b.3) result_local c.in_ok-outcome.ensures.reads
     (part_ahead (λ b. b.3) c.in_err-inside.ensures.refused)))))
 
 pub returns-clause-reads : goal.returns-clause-reads

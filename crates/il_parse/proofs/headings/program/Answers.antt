@@ -1,7 +1,9 @@
 use Rattle.il_spec.specs.declared.keyword.Keyword.TheVariants as word
 use Rattle.il_spec.specs.Grammar.{tight, loose, ◌⨾◌, TheName}
-use Rattle.il_parse.specs.Insides.{SpellsProgramInside}
-use Rattle.il_read.proofs.Chain.{up, first, later, part}
+use Rattle.il_parse.specs.Headings.{SpellsProgramBy}
+use Rattle.il_parse.specs.Insides.{SpellsProgramInsideBy}
+use Rattle.il_read.proofs.Chain.{first, later, part}
+use Rattle.il_read.proofs.ByError.{up_by}
 use Rattle.il_grammar_laws.proofs.Local.{the_name_local, placed_word_local}
 use Rattle.il_grammar_laws.proofs.Alike.{tight_gap, loose_gap}
 use Rattle.il_parse.proofs.Ahead.{forget}
@@ -14,20 +16,20 @@ use Rattle.il_parse.proofs.headings.program.Goals as goal
 
 pub returns-in_err-place-clause-refused : goal.returns-in_err-place-clause-refused
 returns-in_err-place-clause-refused c =
-    up _ c.from_residual.ensures.1
-    (first (λ b. b.0) loose (λ text b. TheName text b.1 ⨾ SpellsProgramInside text b.2) c.in_err-place.ensures.refused)
+    up_by SpellsProgramBy _ c.from_residual.ensures.1
+    (first (λ b. b.0) loose (λ text b. TheName text b.1 ⨾ SpellsProgramInsideBy _ text b.2) c.in_err-place.ensures.refused)
 
 pub returns-in_err-name-clause-refused : goal.returns-in_err-name-clause-refused
 returns-in_err-name-clause-refused c =
-    up _ c.from_residual-in_err-name.ensures.1
-    (later (λ b. b.0) loose_gap (λ text b. TheName text b.1 ⨾ SpellsProgramInside text b.2) (placed_word_local word.Program) c.in_ok-place.ensures.reads
-    (first (λ b. b.1) tight (λ text b. SpellsProgramInside text b.2) (rw c.skip_lines.ensures.rest at c.in_err-name.ensures.refused)))
+    up_by SpellsProgramBy _ c.from_residual-in_err-name.ensures.1
+    (later (λ b. b.0) loose_gap (λ text b. TheName text b.1 ⨾ SpellsProgramInsideBy _ text b.2) (placed_word_local word.Program) c.in_ok-place.ensures.reads
+    (first (λ b. b.1) tight (λ text b. SpellsProgramInsideBy _ text b.2) (rw c.skip_lines.ensures.rest at c.in_err-name.ensures.refused)))
 
 pub returns-in_err-inside-clause-refused : goal.returns-in_err-inside-clause-refused
 returns-in_err-inside-clause-refused c =
-    up _ c.from_residual-in_err-inside.ensures.1
-    (later (λ b. b.0) loose_gap (λ text b. TheName text b.1 ⨾ SpellsProgramInside text b.2) (placed_word_local word.Program) c.in_ok-place.ensures.reads
-    (later (λ b. b.1) tight_gap (λ text b. SpellsProgramInside text b.2) the_name_local (rw c.skip_lines.ensures.rest at c.in_ok-name.ensures.reads)
+    up_by SpellsProgramBy _ c.from_residual-in_err-inside.ensures.1
+    (later (λ b. b.0) loose_gap (λ text b. TheName text b.1 ⨾ SpellsProgramInsideBy _ text b.2) (placed_word_local word.Program) c.in_ok-place.ensures.reads
+    (later (λ b. b.1) tight_gap (λ text b. SpellsProgramInsideBy _ text b.2) the_name_local (rw c.skip_lines.ensures.rest at c.in_ok-name.ensures.reads)
     (part (λ b. b.2) (forget c.in_err-inside.ensures.refused))))
 
 pub returns-clause-reads : goal.returns-clause-reads

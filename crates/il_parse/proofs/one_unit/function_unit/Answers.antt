@@ -1,4 +1,6 @@
-use Rattle.il_read.proofs.Chain.{up}
+use Rattle.il_spec.specs.declared.keyword.Keyword.TheVariants as word
+use Rattle.il_read.proofs.ByError.{up_by}
+use Rattle.il_parse.specs.Units.{SpellsUnitOfBy}
 use Rattle.il_parse.proofs.OneUnit.{function_read, function_refused}
 use Rattle.il_spec.specs.declared.tree.UnitKind.TheVariants as unit
 use Rattle.std.proofs.Common.{[]}
@@ -7,7 +9,7 @@ use Rattle.il_read.proofs.Breaks.{map_breaks, up_breaks}
 use Rattle.il_parse.proofs.one_unit.function_unit.Goals as goal
 
 pub returns-in_err-place-clause-refused : goal.returns-in_err-place-clause-refused
-returns-in_err-place-clause-refused c = up _ c.from_residual.ensures.1 (function_refused c.args.source.now _ _ c.in_err-place.ensures.refused)
+returns-in_err-place-clause-refused c = up_by (SpellsUnitOfBy word.Function) _ c.from_residual.ensures.1 (function_refused c.args.source.now _ _ c.in_err-place.ensures.refused)
 
 pub returns-clause-reads : goal.returns-clause-reads
 returns-clause-reads c = rw (c.new.ensures, c.new-2.ensures) (function_read c.args.source.now _ _ _ _ _ _ _ _ _ c.in_ok-place.ensures.reads)

@@ -1,10 +1,12 @@
 use Rattle.il_spec.specs.declared.keyword.Keyword.TheVariants as word
 use Rattle.il_spec.specs.Grammar.{TheWord}
-use Rattle.il_read.proofs.Chain.{starts, up, goes_on, item_refused, ended, was_there, was_missing, too_many, within_refused, within_read}
+use Rattle.il_read.proofs.Chain.{starts, goes_on, ended, was_there, was_missing, within_read}
+use Rattle.il_read.proofs.ByError.{up_by}
+use Rattle.il_parse.proofs.UnitsByError.{unit_gone, units_full, unit_by_local, unit_by_read}
 use Rattle.il_parse.proofs.Parts.{few_more}
 use Rattle.il_grammar_laws.proofs.Local.{word_told}
 use Rattle.il_parse.proofs.OneUnit.{small_unit_local}
-use Rattle.il_parse.specs.Parts.{SpellsUnits}
+use Rattle.il_parse.specs.Parts.{SpellsUnits, SpellsFewUnitsBy}
 use Rattle.std.proofs.Common.{arith}
 use Rattle.il_parse.proofs.Rests.{small_unit_filling, unit_filling, units_break}
 use Rattle.il_grammar_laws.proofs.GoesOn.{gone_on, gone_starts}
@@ -16,12 +18,12 @@ pub returns-then-is_full-clause-refused : goal.returns-then-is_full-clause-refus
 returns-then-is_full-clause-refused c =
     let none = was_missing (TheWord c.args.source.now word.Configuration) c.units.tokens _ c.eat_word.new.tokens c.eat_word.ensures.eaten c.units-test.true in
     let how = rw none.0 at c.surplus.ensures in
-    too_many _ _ _ 64 (word_told word.Configuration) _ _ _ _ how.0 how.2 none.1 (c.is_full.ensures.yes c.if-is_full.true) c.units.invariant.1 how.1
+    units_full c.args.source.now _ _ _ _ none.1 (c.is_full.ensures.yes c.if-is_full.true) c.units.invariant.2 how
 
 pub returns-in_err-unit-clause-refused : goal.returns-in_err-unit-clause-refused
 returns-in_err-unit-clause-refused c =
     let none = was_missing (TheWord c.args.source.now word.Configuration) c.units.tokens _ c.eat_word.new.tokens c.eat_word.ensures.eaten c.units-test.true in
-    up _ c.from_residual.ensures.1 (within_refused 64 (item_refused _ _ _ (word_told word.Configuration) _ _ _ _ none.1 c.units.invariant.1 (rw none.0 at c.in_err-unit.ensures.refused)))
+    up_by SpellsFewUnitsBy _ c.from_residual.ensures.1 (unit_gone c.args.source.now _ _ _ _ none.1 (c.units.invariant.2 _) (rw none.0 at c.in_err-unit.ensures.refused))
 
 pub units-preserved : goal.units-preserved
 units-preserved c =
@@ -29,7 +31,9 @@ units-preserved c =
       rw c.in_ok-push.ensures.ok (few_more _ _ _ c.if-is_full.false c.is_full.ensures.no c.units.invariant.0),
       rw (c.skip_lines.ensures.rest, c.in_ok-push.ensures.ok)
           (goes_on _ _ _ small_unit_filling small_unit_local (word_told word.Configuration) _ _ _ _ _ none.1 c.units.invariant.1 (rw none.0 at c.in_ok-unit.ensures.reads)),
-      rw (c.skip_lines.ensures.rest, c.in_ok-push.ensures.ok) (gone_on unit_filling c.units.invariant.2 (rw none.0 at c.in_ok-unit.ensures.reads).found.0),
+      λ error. rw (c.skip_lines.ensures.rest, c.in_ok-push.ensures.ok)
+          (goes_on _ _ _ (unit_by_filling error) (unit_by_local error) (word_told word.Configuration) _ _ _ _ _ none.1 (c.units.invariant.2 error) (unit_by_read c.args.source.now error _ _ _ (rw none.0 at c.in_ok-unit.ensures.reads))),
+      rw (c.skip_lines.ensures.rest, c.in_ok-push.ensures.ok) (gone_on unit_filling c.units.invariant.3 (rw none.0 at c.in_ok-unit.ensures.reads).found.0),
     )
 
 pub returns-clause-reads : goal.returns-clause-reads
@@ -37,15 +41,15 @@ returns-clause-reads c =
     within_read SpellsUnits {text = c.args.source.now} 64 c.units.invariant.0 (ended _ _ _ _ _ _ _ c.units.invariant.1 (was_there (TheWord c.args.source.now word.Configuration) c.units.tokens _ c.eat_word.new.tokens c.eat_word.ensures.eaten c.units-test.false))
 
 pub units-init : goal.units-init
-units-init c = rw c.new-units.ensures (omega arith, starts _ _ _ _, gone_starts _)
+units-init c = rw c.new-units.ensures (omega arith, starts _ _ _ _, (λ error. starts _ _ _ _), gone_starts _)
 
 pub returns-then-is_full-clause-begins : goal.returns-then-is_full-clause-begins
 returns-then-is_full-clause-begins c = 
     let none = was_missing (TheWord c.args.source.now word.Configuration) c.units.tokens _ c.eat_word.new.tokens c.eat_word.ensures.eaten c.units-test.true in
     let how = rw none.0 at c.surplus.ensures in
-    units_break c.units.invariant.2 (at_first program_sampled (λ _. (how.0, how.1)))
+    units_break c.units.invariant.3 (at_first program_sampled (λ _. (how.0, how.1)))
 
 pub returns-in_err-unit-clause-begins : goal.returns-in_err-unit-clause-begins
 returns-in_err-unit-clause-begins c = 
     let none = was_missing (TheWord c.args.source.now word.Configuration) c.units.tokens _ c.eat_word.new.tokens c.eat_word.ensures.eaten c.units-test.true in
-    up_breaks _ c.from_residual.ensures.1 (units_break c.units.invariant.2 (rw none.0 at c.in_err-unit.ensures.begins))
+    up_breaks _ c.from_residual.ensures.1 (units_break c.units.invariant.3 (rw none.0 at c.in_err-unit.ensures.begins))

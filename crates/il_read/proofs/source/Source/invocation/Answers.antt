@@ -1,4 +1,5 @@
-use Rattle.il_read.proofs.Chain.{up}
+use Rattle.il_read.specs.Reads.{SpellsRoomyBy}
+use Rattle.il_read.proofs.ByError.{up_by}
 use Rattle.il_read.proofs.Instructions.{function_refused, operands_refused}
 use Rattle.il_spec.specs.declared.tree.Instruction.TheVariants as instruction
 use Rattle.il_read.specs.Reads.{SpellsRoomy, SpellsRoomyOf}
@@ -10,10 +11,10 @@ use Rattle.il_read.specs.Reads.Effect.{Even}
 use Rattle.il_read.proofs.source.Source.invocation.Goals as goal
 
 pub returns-in_err-function-clause-refused : goal.returns-in_err-function-clause-refused
-returns-in_err-function-clause-refused c = up _ c.from_residual.ensures.1 (function_refused c.args.self.now _ _ _ c.requires c.in_err-function.ensures.refused)
+returns-in_err-function-clause-refused c = up_by (SpellsRoomyBy c.args.room) _ c.from_residual.ensures.1 (function_refused c.args.self.now _ _ _ c.requires c.in_err-function.ensures.refused)
 
 pub returns-in_err-operands-clause-refused : goal.returns-in_err-operands-clause-refused
-returns-in_err-operands-clause-refused c = up _ c.from_residual-in_err-operands.ensures.1 (operands_refused c.args.self.now _ _ _ _ _ c.requires c.in_ok-function.ensures.reads c.in_err-operands.ensures.refused)
+returns-in_err-operands-clause-refused c = up_by (SpellsRoomyBy c.args.room) _ c.from_residual-in_err-operands.ensures.1 (operands_refused c.args.self.now _ _ _ _ _ c.requires c.in_ok-function.ensures.reads c.in_err-operands.ensures.refused)
 
 pub returns-in_err-function-clause-begins : goal.returns-in_err-function-clause-begins
 returns-in_err-function-clause-begins c = up_so _ _ c.from_residual.ensures.1 (roomy_first _ c.in_err-function.ensures.first)

@@ -1,4 +1,5 @@
-use Rattle.il_read.proofs.Chain.{up}
+use Rattle.il_read.specs.Reads.{SpellsRoomyBy}
+use Rattle.il_read.proofs.ByError.{up_by}
 use Rattle.il_read.proofs.Leaves.{word_there}
 use Rattle.il_read.proofs.Instructions.{store_refused}
 use Rattle.il_spec.specs.declared.tree.Instruction.TheVariants as instruction
@@ -13,7 +14,7 @@ use Rattle.il_read.specs.Reads.Effect.{Even}
 use Rattle.il_read.proofs.source.Source.store.Goals as goal
 
 pub returns-in_err-target-clause-refused : goal.returns-in_err-target-clause-refused
-returns-in_err-target-clause-refused c = up _ c.from_residual.ensures.1 (store_refused c.args.self.now _ _ _ _ c.requires (rw c.advance.ensures.rest at c.in_err-target.ensures.refused))
+returns-in_err-target-clause-refused c = up_by (SpellsRoomyBy c.args.room) _ c.from_residual.ensures.1 (store_refused c.args.self.now _ _ _ _ c.requires (rw c.advance.ensures.rest at c.in_err-target.ensures.refused))
 
 pub returns-clause-reads : goal.returns-clause-reads
 returns-clause-reads c = record { found = (tt, (_, word_there c.args.self.now _ _ c.requires, (rw c.advance.ensures.rest at c.in_ok-target.ensures.reads).found)) }

@@ -6,7 +6,7 @@ use Rattle.il_read.proofs.source.Source.worded.Goals as goal
 
 pub returns-in_default-clause-refused : goal.returns-in_default-clause-refused
 returns-in_default-clause-refused c =
-    none_refused c.args.self.now c.args.room _ _ _ c.requires
+    none_refused c.args.self.now _ _ _ _ c.requires
     (no_word c.args.keyword c.in_default.not-Load c.in_default.not-Store c.in_default.not-Not c.in_default.not-Operate c.in_default.not-Jump c.in_default.not-Return c.in_default.not-Call) c.outside.ensures
 
 pub returns-in_default-clause-begins : goal.returns-in_default-clause-begins
