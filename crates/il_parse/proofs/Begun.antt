@@ -240,3 +240,8 @@ body_breaks last here bad =
 pub surplus_first : {A : Type 0} (ts : List Token) {e : Stop} → (e ≡ fault_at TooMany ts) ⊎ ((e ≡ fault_at Unexpected ts) × A) → NamesFirst ts e
 surplus_first ts (inl here) is = (TooMany, here)
 surplus_first ts (inr here) is = (Unexpected, here.0)
+
+-- the same where one too many has something to show too
+pub surplus_unit_first : {A B : Type 0} (ts : List Token) {e : Stop} → ((e ≡ fault_at TooMany ts) × A) ⊎ ((e ≡ fault_at Unexpected ts) × B) → NamesFirst ts e
+surplus_unit_first ts (inl here) is = (TooMany, here.0)
+surplus_unit_first ts (inr here) is = (Unexpected, here.0)

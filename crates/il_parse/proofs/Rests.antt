@@ -41,7 +41,8 @@ use Rattle.il_read.proofs.Completions.{lines_break, placed_sampled, placed_filli
 use Rattle.il_parse.specs.Lists.{IsFilled, SpellsFull, SpellsExternalsInside}
 use Rattle.il_parse.specs.Insides.{LacksList, SpellsVariables, SpellsSomeExternals}
 use Rattle.il_parse.specs.Headings.{PlacedScalar, SpellsResultAt}
-use Rattle.il_parse.specs.Units.{SpellsSmallUnit}
+use Rattle.il_read.specs.declared.stop.SyntaxError.{SyntaxError}
+use Rattle.il_parse.specs.Units.{SpellsSmallUnit, SpellsUnitBy}
 use Rattle.il_parse.specs.Parts.{SpellsGlobalList, SpellsSomeGlobals, SpellsTasks, SpellsPrograms, SpellsLines, SpellsResourceOf, SpellsEnding, SpellsGroup}
 use Rattle.il_parse.specs.GoesOn.{SpellsProgramRest, SpellsBlockRest, SpellsFunctionRest, SpellsWholeProgram, SpellsWholeBlock, SpellsWholeFunction, SpellsAllUnits, SpellsAll, stopped}
 

@@ -226,9 +226,12 @@ operator_breaks {text = text} {ts = ts} {m = m} room op here bad = record { faul
         (λ i other us r w. (w.2.0, (work_read other room op us w.0 r i w.1 (record { found = w.2.1 })).found)) b
 
     go : (at : List Token) (effect : Effect) → Begins always (λ text. SpellsWorkOf text room op effect) text m at → ((at ≡ m) ⊎ (length at < length m)) → (effect : Effect) × Begins always (λ text. SpellsRoomyOf text room effect) text ts at
-    go at effect b (inl edge) = (Even, seen Even at
-        (subst (λ k. Begins always (λ text (i : Instruction). SpellsOperator text op ⨾ SpellsWorkOf text room op Even i) text ts k) (sym edge)
-        (begins_behind tight_cut (reach_tight tight_cut) (operator_fills op) here (work_sampled room op) (passes_calm refl) stays_tight (begins_here (work_sampled room op) text m))))
+    go at effect b (inl edge) = (
+      Even,
+      seen Even at
+          (subst (λ k. Begins always (λ text (i : Instruction). SpellsOperator text op ⨾ SpellsWorkOf text room op Even i) text ts k) (sym edge)
+          (begins_behind tight_cut (reach_tight tight_cut) (operator_fills op) here (work_sampled room op) (passes_calm refl) stays_tight (begins_here (work_sampled room op) text m))),
+    )
     go at effect b (inr less) = (effect, seen effect at (begins_inside tight_cut (reach_tight tight_cut) (operator_fills op).opens here less b))
 
 pub form_filling : IsFilling loose quiet (λ text. SpellsForm text)

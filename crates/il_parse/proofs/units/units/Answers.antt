@@ -8,7 +8,8 @@ use Rattle.il_grammar_laws.proofs.Local.{word_told}
 use Rattle.il_parse.proofs.OneUnit.{small_unit_local}
 use Rattle.il_parse.specs.Parts.{SpellsUnits, SpellsFewUnitsBy}
 use Rattle.std.proofs.Common.{arith}
-use Rattle.il_parse.proofs.Rests.{small_unit_filling, unit_filling, units_break}
+use Rattle.il_parse.proofs.Begun.{surplus_unit_first}
+use Rattle.il_parse.proofs.Rests.{small_unit_filling, unit_by_filling, unit_filling, units_break}
 use Rattle.il_grammar_laws.proofs.GoesOn.{gone_on, gone_starts}
 use Rattle.il_read.proofs.Breaks.{at_first, up_breaks}
 use Rattle.il_grammar_laws.proofs.Samples.{program_sampled}
@@ -44,12 +45,12 @@ pub units-init : goal.units-init
 units-init c = rw c.new-units.ensures (omega arith, starts _ _ _ _, (λ error. starts _ _ _ _), gone_starts _)
 
 pub returns-then-is_full-clause-begins : goal.returns-then-is_full-clause-begins
-returns-then-is_full-clause-begins c = 
+returns-then-is_full-clause-begins c =
     let none = was_missing (TheWord c.args.source.now word.Configuration) c.units.tokens _ c.eat_word.new.tokens c.eat_word.ensures.eaten c.units-test.true in
     let how = rw none.0 at c.surplus.ensures in
-    units_break c.units.invariant.3 (at_first program_sampled (λ _. (how.0, how.1)))
+    units_break c.units.invariant.3 (at_first program_sampled (surplus_unit_first _ how))
 
 pub returns-in_err-unit-clause-begins : goal.returns-in_err-unit-clause-begins
-returns-in_err-unit-clause-begins c = 
+returns-in_err-unit-clause-begins c =
     let none = was_missing (TheWord c.args.source.now word.Configuration) c.units.tokens _ c.eat_word.new.tokens c.eat_word.ensures.eaten c.units-test.true in
     up_breaks _ c.from_residual.ensures.1 (units_break c.units.invariant.3 (rw none.0 at c.in_err-unit.ensures.begins))

@@ -20,5 +20,5 @@ pub returns-clause-reads : goal.returns-clause-reads
 returns-clause-reads c = record { found = (tt, (_, word_there c.args.self.now _ _ c.requires, (rw c.advance.ensures.rest at c.in_ok-label.ensures.reads).found)) }
 
 pub returns-in_err-label-clause-begins : goal.returns-in_err-label-clause-begins
-returns-in_err-label-clause-begins c = 
+returns-in_err-label-clause-begins c =
     up_so _ _ c.from_residual.ensures.1 (as_effect Even (map_breaks {Q = λ text. SpellsRoomyOf text c.args.room Even} (λ x. instruction.Jump c.args.condition x) (λ x other us r w. (refl, (tt, w))) (part_tight (word_fills (word.Jump c.args.condition)) (record { found = word_there c.args.self.now _ _ c.requires }) name_line_sampled (rw c.advance.ensures.rest at c.in_err-label.ensures.begins))))
