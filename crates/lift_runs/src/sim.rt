@@ -122,13 +122,15 @@ fn refresh(
     ensures same { world.new.program ≡ world.old.program }
 {
     let _config = world.verified().config();
+    entries.reserve(1)?;
     let event = Event::Refresh(fields);
     world.apply(&event, report);
     let calls = calls_of(report.entered.as_slice());
     match event {
-        Event::Refresh(fields) => Ok(entries.push(Entry::Refresh { fields, calls })?),
+        Event::Refresh(fields) => entries.push_reserved(Entry::Refresh { fields, calls }),
         _ => unreachable!(),
     }
+    Ok(())
 }
 
 // A scan of each of the tasks in a round, and their entries.
@@ -154,8 +156,9 @@ fn scan_all<O: Observer>(
 {
     'tasks: for task in tasks {
         scan(world, *task, report);
-        entries.push(Entry::Start(*task))?;
-        entries.push(Entry::Commit(*task))?;
+        entries.reserve(2)?;
+        entries.push_reserved(Entry::Start(*task));
+        entries.push_reserved(Entry::Commit(*task));
         observer.committed(number, *task, report)?;
     }
     Ok(())
