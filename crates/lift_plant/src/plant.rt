@@ -93,6 +93,39 @@ impl Plant {
         }
     }
 
+    /// The building sets this of the plant, in its place.
+    pub fn set(&mut self, switches: Switches)
+        ensures plant { self.new ≡ under switches self.old }
+        ensures sized { (sizes : Sizes) → IsPlantOf sizes self.old → switches.run_limit ≤ sizes.cars
+            → IsPlantOf sizes self.new }
+    {
+        self.run_limit = switches.run_limit;
+        self.fire = switches.fire;
+    }
+
+    /// 100 ms go by, under the outputs of all its cars, in its place. What it then reports.
+    pub fn step(&mut self, outputs: &Outputs) -> Fields
+        requires { length outputs.now ≡ length self.old.cars }
+        ensures plant { self.new ≡ plant_after self.old outputs.now }
+        ensures fields { result ≡ fields_of_plant self.new }
+        ensures sized { (sizes : Sizes) → IsPlantOf sizes self.old → IsPlantOf sizes self.new }
+        ensures inside { (sizes : Sizes) → IsPlantOf sizes self.old → 1 ≤ sizes.floors
+            → FieldsInRange sizes result }
+        ensures safe { (sizes : Sizes) → IsPlantOf sizes self.old → 1 ≤ sizes.floors
+            → ObeysWithOwnFields self.old outputs.now → StaysSafe sizes self.old self.new }
+    {
+        let cars = moved_cars(self.floors, self.cars.as_slice(), outputs.as_slice());
+        let time = u32::min(LAST_TIME, self.time + 100);
+        self.cars = cars;
+        self.time = time;
+        Fields {
+            time,
+            run_limit: self.run_limit,
+            fire: self.fire,
+            cars: all_fields(self.floors, self.cars.as_slice()),
+        }
+    }
+
     /// How many cars there are.
     pub fn cars(&self) -> usize
         ensures { result ≡ length self.now.cars }
@@ -143,21 +176,8 @@ pub fn plant_step(plant: Plant, outputs: &Outputs) -> (Plant, Fields)
     ensures safe { (sizes : Sizes) → IsPlantOf sizes plant → 1 ≤ sizes.floors
         → ObeysWithOwnFields plant outputs.now → StaysSafe sizes plant result.0 }
 {
-    let cars = moved_cars(plant.floors, plant.cars.as_slice(), outputs.as_slice());
-    let time = u32::min(LAST_TIME, plant.time + 100);
-    let fields = Fields {
-        time,
-        run_limit: plant.run_limit,
-        fire: plant.fire,
-        cars: all_fields(plant.floors, cars.as_slice()),
-    };
-    let moved = Plant {
-        floors: plant.floors,
-        time,
-        run_limit: plant.run_limit,
-        fire: plant.fire,
-        cars,
-    };
+    let mut moved = plant;
+    let fields = moved.step(outputs);
     (moved, fields)
 }
 

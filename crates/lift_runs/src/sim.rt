@@ -24,7 +24,7 @@ use il_machine::Verified;
 use il_spec::fault::Refusal;
 use lift_host::press::{Press, Setting};
 use lift_journal::entered::calls_of;
-use lift_plant::plant::{Plant, plant_step};
+use lift_plant::plant::Plant;
 use lift_plant::switches::Switches;
 use lift_spec::calls::Call;
 use lift_spec::event::Event;
@@ -122,13 +122,15 @@ fn refresh(
     ensures same { world.new.program ≡ world.old.program }
 {
     let _config = world.verified().config();
+    entries.reserve(1)?;
     let event = Event::Refresh(fields);
     world.apply(&event, report);
     let calls = calls_of(report.entered.as_slice());
     match event {
-        Event::Refresh(fields) => Ok(entries.push(Entry::Refresh { fields, calls })?),
+        Event::Refresh(fields) => entries.push_reserved(Entry::Refresh { fields, calls }),
         _ => unreachable!(),
     }
+    Ok(())
 }
 
 // A scan of each of the tasks in a round, and their entries.
@@ -154,8 +156,9 @@ fn scan_all<O: Observer>(
 {
     'tasks: for task in tasks {
         scan(world, *task, report);
-        entries.push(Entry::Start(*task))?;
-        entries.push(Entry::Commit(*task))?;
+        entries.reserve(2)?;
+        entries.push_reserved(Entry::Start(*task));
+        entries.push_reserved(Entry::Commit(*task));
         observer.committed(number, *task, report)?;
     }
     Ok(())
@@ -164,28 +167,28 @@ fn scan_all<O: Observer>(
 // One round: its presses and gatherings, a step of the plant, a refresh, and a scan of each task.
 fn round<O: Observer>(
     world: &mut World,
-    plant: Plant,
+    plant: &mut Plant,
     due: Due<'_>,
     number: u16,
     tasks: &[u8],
     entries: &mut Vec<Entry>,
     report: &mut Report,
     observer: &mut O,
-) -> Result<Plant, AllocError>
+) -> Result<(), AllocError>
     requires calls { ArePressed (sizes_of world.old.program.config) due.presses.now }
     requires limit { due.switches.run_limit ≤ (sizes_of world.old.program.config).cars }
     requires tasks { tasks.now ≡ tasks_in_order world.old.program.config }
-    requires plant { IsPlantOf (sizes_of world.old.program.config) plant }
+    requires plant { IsPlantOf (sizes_of world.old.program.config) plant.old }
     requires closed { IsClosed world.old.world }
     requires idle { due.idle ≡ true → world.old.world.desk ≡ [] }
-    ensures round { IfOk result (λ next. (last : List EntryOf)
+    ensures round { OnOk result ((last : List EntryOf)
         × (entries.new.items ≡ entries.old.items ++ last) × (text : List ℕ)
         × (O.text observer.new ≡ O.text observer.old ++ text) × (commits : List Commit)
         × (O.shows observer.new ≡ behind_all commits (O.shows observer.old))
         × RoundShown (O.shows observer.old) number world.old.program.config
-        (map call_of due.entry.presses.now) due.entry.switches plant next
+        (map call_of due.entry.presses.now) due.entry.switches plant.old plant.new
         world.old.world world.new.world last commits text) }
-    ensures plant { IfOk result (IsPlantOf (sizes_of world.old.program.config)) }
+    ensures plant { OnOk result (IsPlantOf (sizes_of world.old.program.config) plant.new) }
     ensures closed { OnOk result (IsClosed world.new.world) }
     ensures idle { OnOk result (due.entry.idle ≡ true → due.entry.presses.now ≡ []
         → world.new.world.desk ≡ []) }
@@ -193,13 +196,13 @@ fn round<O: Observer>(
 {
     let _config = world.verified().config();
     desk(world, due, report);
-    let plant = plant.with_switches(due.switches);
-    let (plant, fields) = plant_step(plant, &world.image().outputs);
+    plant.set(due.switches);
+    let fields = plant.step(&world.image().outputs);
     refresh(world, fields, entries, report)?;
     observer.refreshed(number, report)?;
     scan_all(world, number, tasks, entries, report, observer)?;
     observer.ended(number, world)?;
-    Ok(plant)
+    Ok(())
 }
 
 // The tasks that the group has, in the order in which a round runs them: CAR1 to CARn, and then GROUP.
@@ -257,9 +260,9 @@ fn run_rounds<O: Observer>(
             switches: standing.switches,
             idle,
         };
-        plant = round(
+        round(
             world,
-            plant,
+            &mut plant,
             due,
             number + 1,
             tasks,

@@ -27,8 +27,8 @@ refresh-requires g c =
     let two = fit.1.0 in
     record {
       inside =
-          subst (λ (x : Program). FieldsInRange (sizes_of x.config) c.plant_step-plant.result.1) (sym c.desk.ensures.same)
-          (c.plant_step-plant.ensures.inside sizes (c.with_switches-plant.ensures.sized sizes c.requires.plant c.requires.limit) (omega (arith, two)));
+          subst (λ (x : Program). FieldsInRange (sizes_of x.config) c.step-fields.result) (sym c.desk.ensures.same)
+          (c.step-fields.ensures.inside sizes (c.set.ensures.sized sizes c.requires.plant c.requires.limit) (omega (arith, two)));
     }
 
 pub scan_all-requires-clause-tasks : goal.scan_all-requires-clause-tasks
@@ -39,17 +39,17 @@ scan_all-requires-clause-tasks g c =
 pub scan_all-requires-clause-closed : goal.scan_all-requires-clause-closed
 scan_all-requires-clause-closed g c =
     let p = c.args.world.now.program in
-    refresh_closes c.desk.new.world.program.config c.desk.new.world.world c.refresh.new.world.world c.plant_step-plant.result.1 c.refresh.new.report c.in_ok-refresh.ensures.taken
+    refresh_closes c.desk.new.world.program.config c.desk.new.world.world c.refresh.new.world.world c.step-fields.result c.refresh.new.report c.in_ok-refresh.ensures.taken
     (desk_closes p.config (map call_of c.args.due.presses.now) c.args.world.now.world c.desk.new.world.world c.desk.ensures.taken c.requires.closed)
 
 pub returns-clause-round : goal.returns-clause-round
 returns-clause-round g c =
     let p = c.args.world.now.program in
-    let next = c.plant_step-plant.result.0 in
+    let next = c.step-fields.new.self in
     let report = c.refresh.new.report in
     let refreshing : happens p.config c.desk.new.world.world (Refresh (fields_of_plant next)) ≡ Ok (c.refresh.new.world.world, Refreshed report) =
-    subst (λ (f : Fields). happens p.config c.desk.new.world.world (Refresh f) ≡ Ok (c.refresh.new.world.world, Refreshed report)) c.plant_step-plant.ensures.fields
-    (subst (λ (x : Program). happens x.config c.desk.new.world.world (Refresh c.plant_step-plant.result.1) ≡ Ok (c.refresh.new.world.world, Refreshed report)) c.desk.ensures.same c.in_ok-refresh.ensures.taken)
+    subst (λ (f : Fields). happens p.config c.desk.new.world.world (Refresh f) ≡ Ok (c.refresh.new.world.world, Refreshed report)) c.step-fields.ensures.fields
+    (subst (λ (x : Program). happens x.config c.desk.new.world.world (Refresh c.step-fields.result) ≡ Ok (c.refresh.new.world.world, Refreshed report)) c.desk.ensures.same c.in_ok-refresh.ensures.taken)
     in
     let n = c.args.number in
     let shows = g.O.Observer.shows c.args.observer.now in
@@ -63,7 +63,7 @@ returns-clause-round g c =
     (subst (λ (x : Program). ScansCommit x.config c.args.tasks.now c.refresh.new.world.world world commits) (c.refresh.ensures.same ∙ c.desk.ensures.same) told.1)
     in
     let last = entry.Refresh (fields_of_plant next) (entered_calls_of report) ∷ flat_map scan_entries (tasks_in_order p.config) in
-    let first = ap (λ (f : Fields). c.args.entries.now.items ++ entry.Refresh f (entered_calls_of report) ∷ []) c.plant_step-plant.ensures.fields in (
+    let first = ap (λ (f : Fields). c.args.entries.now.items ++ entry.Refresh f (entered_calls_of report) ∷ []) c.step-fields.ensures.fields in (
       last,
       c.in_ok-scan_all.ensures.journal ∙ ap₂ (λ es ts. es ++ flat_map scan_entries ts) (c.in_ok-refresh.ensures.journal ∙ first) c.requires.tasks
           ∙ append_assoc c.args.entries.now.items (entry.Refresh (fields_of_plant next) (entered_calls_of report) ∷ []) (flat_map scan_entries (tasks_in_order p.config)),
@@ -77,7 +77,7 @@ returns-clause-round g c =
           gathered = c.desk.new.world.world;
           desk = c.desk.ensures.taken;
           plant_step =
-              c.plant_step-plant.ensures.plant ∙ ap₂ (λ (a : PlantState) (i : Image). plant_after a i.outputs) c.with_switches-plant.ensures.plant c.image.ensures.image;
+              c.step-fields.ensures.plant ∙ ap₂ (λ (a : PlantState) (i : Image). plant_after a i.outputs) c.set.ensures.plant c.image.ensures.image;
           refreshed = c.refresh.new.world.world;
           report = report;
           refresh = refreshing;
@@ -90,9 +90,9 @@ returns-clause-round g c =
     )
 
 pub returns-clause-plant : goal.returns-clause-plant
-returns-clause-plant g c = let sizes = sizes_of c.args.world.now.program.config in c.plant_step-plant.ensures.sized sizes (c.with_switches-plant.ensures.sized sizes c.requires.plant c.requires.limit)
+returns-clause-plant g c = let sizes = sizes_of c.args.world.now.program.config in c.step-fields.ensures.sized sizes (c.set.ensures.sized sizes c.requires.plant c.requires.limit)
 
 pub returns-clause-idle : goal.returns-clause-idle
 returns-clause-idle g c = λ idle none.
     each_keeps c.refresh.new.world.program.config c.args.tasks.now c.refresh.new.world.world c.scan_all.new.world.world c.in_ok-scan_all.ensures.scans.1.0
-    ∙ refresh_keeps c.desk.new.world.program.config c.desk.new.world.world c.refresh.new.world.world c.plant_step-plant.result.1 (Refreshed c.refresh.new.report) c.in_ok-refresh.ensures.taken ∙ c.desk.ensures.idle idle none
+    ∙ refresh_keeps c.desk.new.world.program.config c.desk.new.world.world c.refresh.new.world.world c.step-fields.result (Refreshed c.refresh.new.report) c.in_ok-refresh.ensures.taken ∙ c.desk.ensures.idle idle none

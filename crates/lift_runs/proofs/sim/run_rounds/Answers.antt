@@ -80,10 +80,10 @@ rounds-preserved g c =
     let due : now ≡ of_round press_round n presses = c.split_at.ensures.front ∙ c.presses_due-in-rounds.ensures.due ∙ c.rounds.invariant.ahead.same n (omega arith) in
     let stands = c.set_in-standing.ensures cars c.rounds.number settings refl c.rounds.invariant.standing in
     let before = c.rounds.invariant.rounds in
-    let round = c.in_ok-plant.ensures.round in
+    let round = c.in_ok-round.ensures.round in
     let after = behind_all before.2 shows in
     let shown : Shows → List Call → Switches → Type 0 =
-    λ s calls switches. RoundShown s n c.rounds.world.program.config calls switches c.rounds.plant c.in_ok-plant.plant c.rounds.world.world c.round.new.world.world round.0 round.4 round.2
+    λ s calls switches. RoundShown s n c.rounds.world.program.config calls switches c.rounds.plant c.round.new.plant c.rounds.world.world c.round.new.world.world round.0 round.4 round.2
     in
     let seen = subst (λ (s : Shows). shown s (map call_of now) c.set_in-standing.result.switches) before.3 round.6 in
     let called = subst (λ (l : List Call). shown after l c.set_in-standing.result.switches) (ap (map call_of) due) seen in
@@ -94,18 +94,18 @@ rounds-preserved g c =
         round.3 ∙ ap (λ l. l ++ round.2) before.1 ∙ append_assoc (g.O.Observer.text c.args.observer.now) before.0 round.2,
         before.2 ++ round.4,
         round.5 ∙ ap (behind_all round.4) before.3 ∙ sym (behind_both before.2 round.4 shows),
-        rounds_next shows p c.rounds.world.program c.rounds.invariant.same (calls_in presses) (switches_in cars settings) c.rounds.number c.rounds.plant c.in_ok-plant.plant c.rounds.world.world c.round.new.world.world c.rounds.entries.items c.round.new.entries.items round.0
+        rounds_next shows p c.rounds.world.program c.rounds.invariant.same (calls_in presses) (switches_in cars settings) c.rounds.number c.rounds.plant c.round.new.plant c.rounds.world.world c.round.new.world.world c.rounds.entries.items c.round.new.entries.items round.0
             before.2 round.4 before.0 round.2 before.4 round.1 set,
       );
-      plant = subst (λ (x : Program). IsPlantOf (sizes_of x.config) c.in_ok-plant.plant) c.rounds.invariant.same c.in_ok-plant.ensures.plant;
-      closed = c.in_ok-plant.ensures.closed;
+      plant = subst (λ (x : Program). IsPlantOf (sizes_of x.config) c.round.new.plant) c.rounds.invariant.same c.in_ok-round.ensures.plant;
+      closed = c.in_ok-round.ensures.closed;
       ahead =
           subst (IsAhead press_round (n + 1) presses) (sym c.split_at.ensures.back)
           (ahead_on press_round n (n + 1) presses c.rounds.ahead.now _ (omega arith) c.rounds.invariant.ahead c.presses_due-in-rounds.ensures.later);
       standing = stands;
       idle = λ on.
           elim c.if-idle.branch [
-            | then-idle w ↦ c.in_ok-plant.ensures.idle w.if-idle.true (none_left now w.is_empty-idle.result w.is_empty-idle.ensures (sym w.idle-is ∙ on))
+            | then-idle w ↦ c.in_ok-round.ensures.idle w.if-idle.true (none_left now w.is_empty-idle.result w.is_empty-idle.ensures (sym w.idle-is ∙ on))
             | else-idle w ↦ let no : false ≡ true = sym w.if-idle.false ∙ (sym w.idle-is ∙ on) in cc
           ];
       same = c.round.ensures.same ∙ c.rounds.invariant.same;

@@ -34,7 +34,7 @@ tasks-preserved g c =
       );
       closed = c.scan.ensures.closed;
       journal =
-          c.in_ok-push-2.ensures.items ∙ ap (λ l. l ++ entry.Commit t ∷ []) c.in_ok-push.ensures.items ∙ append_assoc c.tasks.entries.items (entry.Start t ∷ []) (entry.Commit t ∷ [])
+          c.push_reserved-in-tasks.ensures.items ∙ ap (λ l. l ++ entry.Commit t ∷ []) (c.push_reserved.ensures.items ∙ ap (λ l. l ++ entry.Start t ∷ []) c.in_ok-reserve.ensures.items) ∙ append_assoc c.tasks.entries.items (entry.Start t ∷ []) (entry.Commit t ∷ [])
           ∙ entries_next c.args.tasks.now c.tasks.task-index t c.args.entries.now.items c.tasks.entries.items at c.tasks.invariant.journal;
       same = c.scan.ensures.same ∙ c.tasks.invariant.same;
     }

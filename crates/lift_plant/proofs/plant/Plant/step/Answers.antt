@@ -4,7 +4,7 @@ use Rattle.lift_spec.specs.declared.image.CarOutputs.{CarOutputs}
 use Rattle.lift_spec.specs.Image.{FieldsInRange}
 use Rattle.lift_spec.specs.Plant.{PlantState, PlacedCar, IsPlantOf, StaysSafe, plant_after, moved_all}
 use Rattle.lift_plant.proofs.Safe.{sized_after, stays_safe, fields_fit}
-use Rattle.lift_plant.proofs.plant.plant_step.Goals as goal
+use Rattle.lift_plant.proofs.plant.Plant.step.Goals as goal
 
 step_is : (floors time run_limit t : ℕ) (fire : Bool) (cars made : List PlacedCar) (outputs : List CarOutputs) → t ≡ min 2147483647 (time + 100) → made ≡ moved_all floors cars outputs
     → ◌≡◌ {A = PlantState} (record { floors = floors; time = t; run_limit = run_limit; fire = fire; cars = made }) (plant_after (record { floors = floors; time = time; run_limit = run_limit; fire = fire; cars = cars }) outputs)
@@ -12,14 +12,14 @@ unfolding plant_after
 step_is floors time run_limit t fire cars made outputs e f = cc
 
 pub returns-clause-plant : goal.returns-clause-plant
-returns-clause-plant c = rw (← c.plant.view_is) (step_is _ _ _ _ _ _ _ _ c.min-time.ensures (rw (← c.as_slice.ensures, ← c.as_slice-2.ensures) c.moved_cars-cars.ensures.value))
+returns-clause-plant c = rw (← c.self.view_is) (step_is _ _ _ _ _ _ _ _ c.min-time.ensures (rw (← c.as_slice.ensures, ← c.as_slice-2.ensures) c.moved_cars-cars.ensures.value))
 
 pub returns-clause-sized : goal.returns-clause-sized
-returns-clause-sized c = λ sizes of_group. subst (IsPlantOf sizes) (sym (returns-clause-plant c)) (sized_after sizes c.args.plant c.args.outputs.now of_group c.requires)
+returns-clause-sized c = λ sizes of_group. subst (IsPlantOf sizes) (sym (returns-clause-plant c)) (sized_after sizes c.args.self.now c.args.outputs.now of_group c.requires)
 
 pub returns-clause-safe : goal.returns-clause-safe
 returns-clause-safe c = λ sizes of_group some obeys.
-    subst (StaysSafe sizes c.args.plant) (sym (returns-clause-plant c)) (stays_safe sizes c.args.plant c.args.outputs.now some of_group c.requires obeys)
+    subst (StaysSafe sizes c.args.self.now) (sym (returns-clause-plant c)) (stays_safe sizes c.args.self.now c.args.outputs.now some of_group c.requires obeys)
 
 pub returns-clause-fields : goal.returns-clause-fields
 returns-clause-fields c = search rules
