@@ -32,7 +32,7 @@ use Rattle.il_grammar_laws.proofs.Alike.{end_self, end_length, end_of_end}
 use Rattle.il_grammar_laws.proofs.Local.{step_local, loosely_local}
 use Rattle.il_read.specs.declared.stop.SyntaxError.{SyntaxError}
 use Rattle.il_read.specs.declared.stop.SyntaxError.TheVariants.{Unexpected, TooMany}
-use Rattle.il_read.specs.Reads.{IsFault, Reads, GoesOnNoMore, Refuses, turn, past_name, fault_at, HasRoom, IsPlaceOf, SpellsRoomy}
+use Rattle.il_read.specs.Reads.{Reads, GoesOnNoMore, Refuses, turn, past_name, fault_at, HasRoom, IsPlaceOf, SpellsRoomy}
 use Rattle.il_read.specs.declared.lead.Lead.{Lead}
 use Rattle.il_read.specs.declared.lead.Lead.TheVariants as lead
 use Rattle.il_read.specs.declared.stop.Stop.{Stop}

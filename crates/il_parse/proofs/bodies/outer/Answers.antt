@@ -32,6 +32,6 @@ pub returns-in_err-labels-clause-begins : goal.returns-in_err-labels-clause-begi
 returns-in_err-labels-clause-begins c = up_breaks _ c.from_residual.ensures.1 (memory_breaks c.in_err-labels.ensures.memory)
 
 pub returns-in_err-place-clause-begins : goal.returns-in_err-place-clause-begins
-returns-in_err-place-clause-begins c = 
+returns-in_err-place-clause-begins c =
     let none = rw c.in_default.is at c.eat_end.ensures.takes in
     up_breaks _ c.from_residual-in_err-place.ensures.1 (outer_breaks c.args.last c.args.load c.in_ok-labels.ensures.labels (rw none.0 at (c.in_err-place.ensures.begins c.args.last)))

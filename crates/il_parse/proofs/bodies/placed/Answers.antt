@@ -37,6 +37,6 @@ pub returns-then-full-clause-begins : goal.returns-then-full-clause-begins
 returns-then-full-clause-begins c = λ last. at_first (placed_from_sampled last c.args.depth c.args.load) (surplus_first c.args.tokens.now c.surplus.ensures)
 
 pub returns-in_err-instruction-clause-begins : goal.returns-in_err-instruction-clause-begins
-returns-in_err-instruction-clause-begins c = 
+returns-in_err-instruction-clause-begins c =
     up_so (λ e. (last : Keyword) → BreaksOff always (λ text. SpellsPlacedFrom text last c.args.depth c.args.load) c.args.source.now c.args.tokens.now e) _ c.from_residual.ensures.1
     (λ last. instruction_breaks c.args.depth c.args.load last (ap (λ l. may_begin c.args.depth c.args.load l) (sym c.requires.lead) ∙ sym c.may_begin.ensures ∙ c.if-not-may_begin.false) c.in_err-instruction.ensures.begins)

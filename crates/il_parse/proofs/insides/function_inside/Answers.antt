@@ -51,21 +51,21 @@ pub returns-clause-reads : goal.returns-clause-reads
 returns-clause-reads c = record { found = (_, c.in_ok-inputs.ensures.reads.found, (_, c.in_ok-no_list.ensures.reads.found, (_, c.in_ok-variables.ensures.reads.found, (_, c.in_ok-no_list-2.ensures.reads.found, c.in_ok-body.ensures.reads.found)))) }
 
 pub returns-in_err-inputs-clause-begins : goal.returns-in_err-inputs-clause-begins
-returns-in_err-inputs-clause-begins c = 
+returns-in_err-inputs-clause-begins c =
     up_breaks _ c.from_residual.ensures.1 (map_breaks {Q = SpellsFunctionRest} (λ x. (x.0, x.1.1.0, x.1.1.1.1)) (λ x other us r w. w) (first_tight (s_lacks word.VarOutput word.EndFunction (λ e. cc) (lacking_sampled word.VarOutput) (s_lacks word.Var word.EndFunction (λ e. cc) (optional_list_sampled word.Var (λ text. SpellsDeclaration text)) (s_lacks word.VarExternal word.EndFunction (λ e. cc) (lacking_sampled word.VarExternal) (body_sampled word.EndFunction)))) c.in_err-inputs.ensures.begins))
 
 pub returns-in_err-no_list-clause-begins : goal.returns-in_err-no_list-clause-begins
-returns-in_err-no_list-clause-begins c = 
+returns-in_err-no_list-clause-begins c =
     up_breaks _ c.from_residual-in_err-no_list.ensures.1 (map_breaks {Q = SpellsFunctionRest} (λ x. (x.0, x.1.1.0, x.1.1.1.1)) (λ x other us r w. w) (later_lax (full_opening word.VarInput) c.in_ok-inputs.ensures.reads (s_lacks word.VarOutput word.EndFunction (λ e. cc) (lacking_sampled word.VarOutput) (s_lacks word.Var word.EndFunction (λ e. cc) (optional_list_sampled word.Var (λ text. SpellsDeclaration text)) (s_lacks word.VarExternal word.EndFunction (λ e. cc) (lacking_sampled word.VarExternal) (body_sampled word.EndFunction)))) (lax_chain (lax_no word.VarOutput) (lax_chain (lax_optional word.Var (λ text. SpellsDeclaration text)) (lax_chain (lax_no word.VarExternal) (lax_body word.EndFunction)))) passes_always (ahead_first (s_lacks word.VarOutput word.EndFunction (λ e. cc) (lacking_sampled word.VarOutput) (s_lacks word.Var word.EndFunction (λ e. cc) (optional_list_sampled word.Var (λ text. SpellsDeclaration text)) (s_lacks word.VarExternal word.EndFunction (λ e. cc) (lacking_sampled word.VarExternal) (body_sampled word.EndFunction)))) (lax_chain (lax_no word.VarOutput) (lax_chain (lax_optional word.Var (λ text. SpellsDeclaration text)) (lax_chain (lax_no word.VarExternal) (lax_body word.EndFunction)))) c.in_err-no_list.ensures.first)))
 
 pub returns-in_err-variables-clause-begins : goal.returns-in_err-variables-clause-begins
-returns-in_err-variables-clause-begins c = 
+returns-in_err-variables-clause-begins c =
     up_breaks _ c.from_residual-in_err-variables.ensures.1 (map_breaks {Q = SpellsFunctionRest} (λ x. (x.0, x.1.1.0, x.1.1.1.1)) (λ x other us r w. w) (later_lax (full_opening word.VarInput) c.in_ok-inputs.ensures.reads (s_lacks word.VarOutput word.EndFunction (λ e. cc) (lacking_sampled word.VarOutput) (s_lacks word.Var word.EndFunction (λ e. cc) (optional_list_sampled word.Var (λ text. SpellsDeclaration text)) (s_lacks word.VarExternal word.EndFunction (λ e. cc) (lacking_sampled word.VarExternal) (body_sampled word.EndFunction)))) (lax_chain (lax_no word.VarOutput) (lax_chain (lax_optional word.Var (λ text. SpellsDeclaration text)) (lax_chain (lax_no word.VarExternal) (lax_body word.EndFunction)))) passes_always (later_lax (no_list_opening word.VarOutput) (as_read c.in_ok-no_list.ensures.reads) (s_lacks word.Var word.EndFunction (λ e. cc) (optional_list_sampled word.Var (λ text. SpellsDeclaration text)) (s_lacks word.VarExternal word.EndFunction (λ e. cc) (lacking_sampled word.VarExternal) (body_sampled word.EndFunction))) (lax_chain (lax_optional word.Var (λ text. SpellsDeclaration text)) (lax_chain (lax_no word.VarExternal) (lax_body word.EndFunction))) (passes_lacks word.VarOutput word.EndFunction (λ e. cc)) (first_tight (s_lacks word.VarExternal word.EndFunction (λ e. cc) (lacking_sampled word.VarExternal) (body_sampled word.EndFunction)) c.in_err-variables.ensures.begins))))
 
 pub returns-in_err-no_list-2-clause-begins : goal.returns-in_err-no_list-2-clause-begins
-returns-in_err-no_list-2-clause-begins c = 
+returns-in_err-no_list-2-clause-begins c =
     up_breaks _ c.from_residual-in_err-no_list-2.ensures.1 (map_breaks {Q = SpellsFunctionRest} (λ x. (x.0, x.1.1.0, x.1.1.1.1)) (λ x other us r w. w) (later_lax (full_opening word.VarInput) c.in_ok-inputs.ensures.reads (s_lacks word.VarOutput word.EndFunction (λ e. cc) (lacking_sampled word.VarOutput) (s_lacks word.Var word.EndFunction (λ e. cc) (optional_list_sampled word.Var (λ text. SpellsDeclaration text)) (s_lacks word.VarExternal word.EndFunction (λ e. cc) (lacking_sampled word.VarExternal) (body_sampled word.EndFunction)))) (lax_chain (lax_no word.VarOutput) (lax_chain (lax_optional word.Var (λ text. SpellsDeclaration text)) (lax_chain (lax_no word.VarExternal) (lax_body word.EndFunction)))) passes_always (later_lax (no_list_opening word.VarOutput) (as_read c.in_ok-no_list.ensures.reads) (s_lacks word.Var word.EndFunction (λ e. cc) (optional_list_sampled word.Var (λ text. SpellsDeclaration text)) (s_lacks word.VarExternal word.EndFunction (λ e. cc) (lacking_sampled word.VarExternal) (body_sampled word.EndFunction))) (lax_chain (lax_optional word.Var (λ text. SpellsDeclaration text)) (lax_chain (lax_no word.VarExternal) (lax_body word.EndFunction))) (passes_lacks word.VarOutput word.EndFunction (λ e. cc)) (later_lax (variables_opening) c.in_ok-variables.ensures.reads (s_lacks word.VarExternal word.EndFunction (λ e. cc) (lacking_sampled word.VarExternal) (body_sampled word.EndFunction)) (lax_chain (lax_no word.VarExternal) (lax_body word.EndFunction)) (passes_lacks word.Var word.EndFunction (λ e. cc)) (ahead_first (s_lacks word.VarExternal word.EndFunction (λ e. cc) (lacking_sampled word.VarExternal) (body_sampled word.EndFunction)) (lax_chain (lax_no word.VarExternal) (lax_body word.EndFunction)) c.in_err-no_list-2.ensures.first)))))
 
 pub returns-in_err-body-clause-begins : goal.returns-in_err-body-clause-begins
-returns-in_err-body-clause-begins c = 
+returns-in_err-body-clause-begins c =
     up_breaks _ c.from_residual-in_err-body.ensures.1 (map_breaks {Q = SpellsFunctionRest} (λ x. (x.0, x.1.1.0, x.1.1.1.1)) (λ x other us r w. w) (later_lax (full_opening word.VarInput) c.in_ok-inputs.ensures.reads (s_lacks word.VarOutput word.EndFunction (λ e. cc) (lacking_sampled word.VarOutput) (s_lacks word.Var word.EndFunction (λ e. cc) (optional_list_sampled word.Var (λ text. SpellsDeclaration text)) (s_lacks word.VarExternal word.EndFunction (λ e. cc) (lacking_sampled word.VarExternal) (body_sampled word.EndFunction)))) (lax_chain (lax_no word.VarOutput) (lax_chain (lax_optional word.Var (λ text. SpellsDeclaration text)) (lax_chain (lax_no word.VarExternal) (lax_body word.EndFunction)))) passes_always (later_lax (no_list_opening word.VarOutput) (as_read c.in_ok-no_list.ensures.reads) (s_lacks word.Var word.EndFunction (λ e. cc) (optional_list_sampled word.Var (λ text. SpellsDeclaration text)) (s_lacks word.VarExternal word.EndFunction (λ e. cc) (lacking_sampled word.VarExternal) (body_sampled word.EndFunction))) (lax_chain (lax_optional word.Var (λ text. SpellsDeclaration text)) (lax_chain (lax_no word.VarExternal) (lax_body word.EndFunction))) (passes_lacks word.VarOutput word.EndFunction (λ e. cc)) (later_lax (variables_opening) c.in_ok-variables.ensures.reads (s_lacks word.VarExternal word.EndFunction (λ e. cc) (lacking_sampled word.VarExternal) (body_sampled word.EndFunction)) (lax_chain (lax_no word.VarExternal) (lax_body word.EndFunction)) (passes_lacks word.Var word.EndFunction (λ e. cc)) (later_lax (no_list_opening word.VarExternal) (as_read c.in_ok-no_list-2.ensures.reads) (body_sampled word.EndFunction) (lax_body word.EndFunction) (passes_lacks word.VarExternal word.EndFunction (λ e. cc)) c.in_err-body.ensures.begins)))))

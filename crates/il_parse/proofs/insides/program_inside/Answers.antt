@@ -51,21 +51,21 @@ pub returns-clause-reads : goal.returns-clause-reads
 returns-clause-reads c = record { found = (_, c.in_ok-no_list.ensures.reads.found, (_, c.in_ok-no_list-2.ensures.reads.found, (_, c.in_ok-variables.ensures.reads.found, (_, c.in_ok-externals.ensures.reads.found, c.in_ok-body.ensures.reads.found)))) }
 
 pub returns-in_err-no_list-clause-begins : goal.returns-in_err-no_list-clause-begins
-returns-in_err-no_list-clause-begins c = 
+returns-in_err-no_list-clause-begins c =
     up_breaks _ c.from_residual.ensures.1 (map_breaks {Q = SpellsProgramRest} (λ x. (x.1.1.0, x.1.1.1.0, x.1.1.1.1)) (λ x other us r w. w) (ahead_first (s_lacks word.VarInput word.EndProgram (λ e. cc) (lacking_sampled word.VarInput) (s_lacks word.VarOutput word.EndProgram (λ e. cc) (lacking_sampled word.VarOutput) (s_lacks word.Var word.EndProgram (λ e. cc) (optional_list_sampled word.Var (λ text. SpellsDeclaration text)) (s_lacks word.VarExternal word.EndProgram (λ e. cc) (optional_list_sampled word.VarExternal (λ text. SpellsExternal text)) (body_sampled word.EndProgram))))) (lax_chain (lax_no word.VarInput) (lax_chain (lax_no word.VarOutput) (lax_chain (lax_optional word.Var (λ text. SpellsDeclaration text)) (lax_chain (lax_optional word.VarExternal (λ text. SpellsExternal text)) (lax_body word.EndProgram))))) c.in_err-no_list.ensures.first))
 
 pub returns-in_err-no_list-2-clause-begins : goal.returns-in_err-no_list-2-clause-begins
-returns-in_err-no_list-2-clause-begins c = 
+returns-in_err-no_list-2-clause-begins c =
     up_breaks _ c.from_residual-in_err-no_list-2.ensures.1 (map_breaks {Q = SpellsProgramRest} (λ x. (x.1.1.0, x.1.1.1.0, x.1.1.1.1)) (λ x other us r w. w) (later_lax (no_list_opening word.VarInput) (as_read c.in_ok-no_list.ensures.reads) (s_lacks word.VarOutput word.EndProgram (λ e. cc) (lacking_sampled word.VarOutput) (s_lacks word.Var word.EndProgram (λ e. cc) (optional_list_sampled word.Var (λ text. SpellsDeclaration text)) (s_lacks word.VarExternal word.EndProgram (λ e. cc) (optional_list_sampled word.VarExternal (λ text. SpellsExternal text)) (body_sampled word.EndProgram)))) (lax_chain (lax_no word.VarOutput) (lax_chain (lax_optional word.Var (λ text. SpellsDeclaration text)) (lax_chain (lax_optional word.VarExternal (λ text. SpellsExternal text)) (lax_body word.EndProgram)))) (passes_lacks word.VarInput word.EndProgram (λ e. cc)) (ahead_first (s_lacks word.VarOutput word.EndProgram (λ e. cc) (lacking_sampled word.VarOutput) (s_lacks word.Var word.EndProgram (λ e. cc) (optional_list_sampled word.Var (λ text. SpellsDeclaration text)) (s_lacks word.VarExternal word.EndProgram (λ e. cc) (optional_list_sampled word.VarExternal (λ text. SpellsExternal text)) (body_sampled word.EndProgram)))) (lax_chain (lax_no word.VarOutput) (lax_chain (lax_optional word.Var (λ text. SpellsDeclaration text)) (lax_chain (lax_optional word.VarExternal (λ text. SpellsExternal text)) (lax_body word.EndProgram)))) c.in_err-no_list-2.ensures.first)))
 
 pub returns-in_err-variables-clause-begins : goal.returns-in_err-variables-clause-begins
-returns-in_err-variables-clause-begins c = 
+returns-in_err-variables-clause-begins c =
     up_breaks _ c.from_residual-in_err-variables.ensures.1 (map_breaks {Q = SpellsProgramRest} (λ x. (x.1.1.0, x.1.1.1.0, x.1.1.1.1)) (λ x other us r w. w) (later_lax (no_list_opening word.VarInput) (as_read c.in_ok-no_list.ensures.reads) (s_lacks word.VarOutput word.EndProgram (λ e. cc) (lacking_sampled word.VarOutput) (s_lacks word.Var word.EndProgram (λ e. cc) (optional_list_sampled word.Var (λ text. SpellsDeclaration text)) (s_lacks word.VarExternal word.EndProgram (λ e. cc) (optional_list_sampled word.VarExternal (λ text. SpellsExternal text)) (body_sampled word.EndProgram)))) (lax_chain (lax_no word.VarOutput) (lax_chain (lax_optional word.Var (λ text. SpellsDeclaration text)) (lax_chain (lax_optional word.VarExternal (λ text. SpellsExternal text)) (lax_body word.EndProgram)))) (passes_lacks word.VarInput word.EndProgram (λ e. cc)) (later_lax (no_list_opening word.VarOutput) (as_read c.in_ok-no_list-2.ensures.reads) (s_lacks word.Var word.EndProgram (λ e. cc) (optional_list_sampled word.Var (λ text. SpellsDeclaration text)) (s_lacks word.VarExternal word.EndProgram (λ e. cc) (optional_list_sampled word.VarExternal (λ text. SpellsExternal text)) (body_sampled word.EndProgram))) (lax_chain (lax_optional word.Var (λ text. SpellsDeclaration text)) (lax_chain (lax_optional word.VarExternal (λ text. SpellsExternal text)) (lax_body word.EndProgram))) (passes_lacks word.VarOutput word.EndProgram (λ e. cc)) (first_tight (s_lacks word.VarExternal word.EndProgram (λ e. cc) (optional_list_sampled word.VarExternal (λ text. SpellsExternal text)) (body_sampled word.EndProgram)) c.in_err-variables.ensures.begins))))
 
 pub returns-in_err-externals-clause-begins : goal.returns-in_err-externals-clause-begins
-returns-in_err-externals-clause-begins c = 
+returns-in_err-externals-clause-begins c =
     up_breaks _ c.from_residual-in_err-externals.ensures.1 (map_breaks {Q = SpellsProgramRest} (λ x. (x.1.1.0, x.1.1.1.0, x.1.1.1.1)) (λ x other us r w. w) (later_lax (no_list_opening word.VarInput) (as_read c.in_ok-no_list.ensures.reads) (s_lacks word.VarOutput word.EndProgram (λ e. cc) (lacking_sampled word.VarOutput) (s_lacks word.Var word.EndProgram (λ e. cc) (optional_list_sampled word.Var (λ text. SpellsDeclaration text)) (s_lacks word.VarExternal word.EndProgram (λ e. cc) (optional_list_sampled word.VarExternal (λ text. SpellsExternal text)) (body_sampled word.EndProgram)))) (lax_chain (lax_no word.VarOutput) (lax_chain (lax_optional word.Var (λ text. SpellsDeclaration text)) (lax_chain (lax_optional word.VarExternal (λ text. SpellsExternal text)) (lax_body word.EndProgram)))) (passes_lacks word.VarInput word.EndProgram (λ e. cc)) (later_lax (no_list_opening word.VarOutput) (as_read c.in_ok-no_list-2.ensures.reads) (s_lacks word.Var word.EndProgram (λ e. cc) (optional_list_sampled word.Var (λ text. SpellsDeclaration text)) (s_lacks word.VarExternal word.EndProgram (λ e. cc) (optional_list_sampled word.VarExternal (λ text. SpellsExternal text)) (body_sampled word.EndProgram))) (lax_chain (lax_optional word.Var (λ text. SpellsDeclaration text)) (lax_chain (lax_optional word.VarExternal (λ text. SpellsExternal text)) (lax_body word.EndProgram))) (passes_lacks word.VarOutput word.EndProgram (λ e. cc)) (later_lax (variables_opening) c.in_ok-variables.ensures.reads (s_lacks word.VarExternal word.EndProgram (λ e. cc) (optional_list_sampled word.VarExternal (λ text. SpellsExternal text)) (body_sampled word.EndProgram)) (lax_chain (lax_optional word.VarExternal (λ text. SpellsExternal text)) (lax_body word.EndProgram)) (passes_lacks word.Var word.EndProgram (λ e. cc)) (first_tight (body_sampled word.EndProgram) c.in_err-externals.ensures.begins)))))
 
 pub returns-in_err-body-clause-begins : goal.returns-in_err-body-clause-begins
-returns-in_err-body-clause-begins c = 
+returns-in_err-body-clause-begins c =
     up_breaks _ c.from_residual-in_err-body.ensures.1 (map_breaks {Q = SpellsProgramRest} (λ x. (x.1.1.0, x.1.1.1.0, x.1.1.1.1)) (λ x other us r w. w) (later_lax (no_list_opening word.VarInput) (as_read c.in_ok-no_list.ensures.reads) (s_lacks word.VarOutput word.EndProgram (λ e. cc) (lacking_sampled word.VarOutput) (s_lacks word.Var word.EndProgram (λ e. cc) (optional_list_sampled word.Var (λ text. SpellsDeclaration text)) (s_lacks word.VarExternal word.EndProgram (λ e. cc) (optional_list_sampled word.VarExternal (λ text. SpellsExternal text)) (body_sampled word.EndProgram)))) (lax_chain (lax_no word.VarOutput) (lax_chain (lax_optional word.Var (λ text. SpellsDeclaration text)) (lax_chain (lax_optional word.VarExternal (λ text. SpellsExternal text)) (lax_body word.EndProgram)))) (passes_lacks word.VarInput word.EndProgram (λ e. cc)) (later_lax (no_list_opening word.VarOutput) (as_read c.in_ok-no_list-2.ensures.reads) (s_lacks word.Var word.EndProgram (λ e. cc) (optional_list_sampled word.Var (λ text. SpellsDeclaration text)) (s_lacks word.VarExternal word.EndProgram (λ e. cc) (optional_list_sampled word.VarExternal (λ text. SpellsExternal text)) (body_sampled word.EndProgram))) (lax_chain (lax_optional word.Var (λ text. SpellsDeclaration text)) (lax_chain (lax_optional word.VarExternal (λ text. SpellsExternal text)) (lax_body word.EndProgram))) (passes_lacks word.VarOutput word.EndProgram (λ e. cc)) (later_lax (variables_opening) c.in_ok-variables.ensures.reads (s_lacks word.VarExternal word.EndProgram (λ e. cc) (optional_list_sampled word.VarExternal (λ text. SpellsExternal text)) (body_sampled word.EndProgram)) (lax_chain (lax_optional word.VarExternal (λ text. SpellsExternal text)) (lax_body word.EndProgram)) (passes_lacks word.Var word.EndProgram (λ e. cc)) (later_lax (externals_opening) c.in_ok-externals.ensures.reads (body_sampled word.EndProgram) (lax_body word.EndProgram) (passes_lacks word.VarExternal word.EndProgram (λ e. cc)) c.in_err-body.ensures.begins)))))

@@ -40,12 +40,12 @@ pub units-init : goal.units-init
 units-init c = rw c.new-units.ensures (omega arith, starts _ _ _ _, gone_starts _)
 
 pub returns-then-is_full-clause-begins : goal.returns-then-is_full-clause-begins
-returns-then-is_full-clause-begins c = 
+returns-then-is_full-clause-begins c =
     let none = was_missing (TheWord c.args.source.now word.Configuration) c.units.tokens _ c.eat_word.new.tokens c.eat_word.ensures.eaten c.units-test.true in
     let how = rw none.0 at c.surplus.ensures in
     units_break c.units.invariant.2 (at_first program_sampled (λ _. (how.0, how.1)))
 
 pub returns-in_err-unit-clause-begins : goal.returns-in_err-unit-clause-begins
-returns-in_err-unit-clause-begins c = 
+returns-in_err-unit-clause-begins c =
     let none = was_missing (TheWord c.args.source.now word.Configuration) c.units.tokens _ c.eat_word.new.tokens c.eat_word.ensures.eaten c.units-test.true in
     up_breaks _ c.from_residual.ensures.1 (units_break c.units.invariant.2 (rw none.0 at c.in_err-unit.ensures.begins))

@@ -29,6 +29,6 @@ pub externals-init : goal.externals-init
 externals-init c = rw c.new-externals.ensures (starts _ _ _ _)
 
 pub returns-in_err-external-clause-begins : goal.returns-in_err-external-clause-begins
-returns-in_err-external-clause-begins c = 
+returns-in_err-external-clause-begins c =
     let none = was_missing (TheWord c.args.source.now word.EndVar) c.externals.tokens _ c.eat_word.new.tokens c.eat_word.ensures.eaten c.externals-test.true in
     up_breaks _ c.from_residual.ensures.1 (item_breaks (word_sampled word.EndVar) passes_always (stays_loose refl) c.externals.invariant (rw none.0 at c.in_err-external.ensures.begins))

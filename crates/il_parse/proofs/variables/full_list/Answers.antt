@@ -30,6 +30,6 @@ pub returns-then-word_stands-clause-begins : goal.returns-then-word_stands-claus
 returns-then-word_stands-clause-begins c = as_full c.args.keyword (list_later c.args.keyword filled_end_sampled refl (rw c.skip_lines.ensures.rest at c.in_ok-word.ensures.reads) (at_first filled_end_sampled (λ _. (Unexpected, rw c.skip_lines-2.ensures.rest at c.outside.ensures))))
 
 pub returns-in_err-declarations-clause-begins : goal.returns-in_err-declarations-clause-begins
-returns-in_err-declarations-clause-begins c = 
+returns-in_err-declarations-clause-begins c =
     let none = it_is_missing (TheWord c.args.source.now word.EndVar) c.skip_lines-2.new.self _ c.word_stands.ensures.stands c.if-word_stands.false in
     up_breaks _ c.from_residual-in_err-declarations.ensures.1 (as_full c.args.keyword (list_later c.args.keyword filled_end_sampled refl (rw c.skip_lines.ensures.rest at c.in_ok-word.ensures.reads) (filled_breaks (rw c.skip_lines-2.ensures.rest at none) (rw c.skip_lines-2.ensures.rest at c.in_err-declarations.ensures.begins))))

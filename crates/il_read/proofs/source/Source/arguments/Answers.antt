@@ -29,7 +29,7 @@ pub returns-clause-shorter : goal.returns-clause-shorter
 returns-clause-shorter c = ok_through c.opened.result c.opened.ensures.shorter (λ x less. omega (arith, less, c.eat_sign.ensures.shorter, c.skip_lines.ensures.shorter))
 
 pub returns-in_err-line_end-clause-begins : goal.returns-in_err-line_end-clause-begins
-returns-in_err-line_end-clause-begins c = 
+returns-in_err-line_end-clause-begins c =
     let none = was_missing (TheSign OpenParenthesis) c.args.tokens.now _ c.eat_sign.new.tokens c.eat_sign.ensures.eaten c.if-not-eat_sign.true in
     up_breaks _ c.from_residual.ensures.1 (at_first arguments_sampled (rw none.0 at c.in_err-line_end.ensures.first))
 

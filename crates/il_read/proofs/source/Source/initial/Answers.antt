@@ -22,12 +22,12 @@ returns-in_err-value-clause-refused c =
     (behind loose_gap (λ text i. SpellsValue text i) (sign_local Assign) (rw none.0 at c.in_ok-sign.ensures.reads) (part (λ i. i) (rw c.skip_lines.ensures.rest at c.in_err-value.ensures.refused))))
 
 pub returns-in_err-sign-clause-begins : goal.returns-in_err-sign-clause-begins
-returns-in_err-sign-clause-begins c = 
+returns-in_err-sign-clause-begins c =
     let none = was_missing (TheSign Semicolon) c.args.tokens.now _ c.eat_sign.new.tokens c.eat_sign.ensures.eaten c.if-eat_sign.false in
     up_breaks _ c.from_residual.ensures.1 (at_first initial_sampled (rw none.0 at c.in_err-sign.ensures.first))
 
 pub returns-in_err-value-clause-begins : goal.returns-in_err-value-clause-begins
-returns-in_err-value-clause-begins c = 
+returns-in_err-value-clause-begins c =
     let none = was_missing (TheSign Semicolon) c.args.tokens.now _ c.eat_sign.new.tokens c.eat_sign.ensures.eaten c.if-eat_sign.false in
     up_breaks _ c.from_residual-in_err-value.ensures.1 (map_breaks (λ x. Some x) (λ x other us r w. w)
     (part_loose (sign_fills Assign) (rw none.0 at c.in_ok-sign.ensures.reads) value_sampled refl (rw c.skip_lines.ensures.rest at c.in_err-value.ensures.begins)))

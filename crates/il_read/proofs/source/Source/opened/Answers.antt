@@ -35,12 +35,12 @@ pub returns-clause-shorter : goal.returns-clause-shorter
 returns-clause-shorter c = ok_through c.ended.result c.ended.ensures.shorter (λ x less. omega (arith, less, c.eat_sign.ensures.shorter, c.in_ok-arguments.ensures.shorter))
 
 pub returns-in_err-line_end-clause-begins : goal.returns-in_err-line_end-clause-begins
-returns-in_err-line_end-clause-begins c = 
+returns-in_err-line_end-clause-begins c =
     let close = was_there (TheSign CloseParenthesis) c.args.tokens.now _ c.eat_sign.new.tokens c.eat_sign.ensures.eaten c.if-eat_sign.true in
     up_breaks _ c.from_residual.ensures.1 (map_breaks {Q = SpellsOpened} (λ x. []) (λ x other us r w. w) (part_tight (sign_fills CloseParenthesis) (record { found = close }) line_end_sampled (at_first line_end_sampled c.in_err-line_end.ensures.first)))
 
 pub returns-in_err-arguments-clause-begins : goal.returns-in_err-arguments-clause-begins
-returns-in_err-arguments-clause-begins c = 
+returns-in_err-arguments-clause-begins c =
     let none = was_missing (TheSign CloseParenthesis) c.args.tokens.now _ c.eat_sign.new.tokens c.eat_sign.ensures.eaten c.if-eat_sign.false in
     up_breaks _ c.from_residual-in_err-arguments.ensures.1 (map_breaks (λ x. x.0) (λ x. opened_is x.0) (first_tight line_end_sampled (rw none.0 at c.in_err-arguments.ensures.begins)))
 

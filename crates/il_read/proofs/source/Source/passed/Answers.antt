@@ -38,17 +38,17 @@ pub returns-clause-shorter : goal.returns-clause-shorter
 returns-clause-shorter c = omega (arith, c.eat_sign.ensures.shorter, c.in_ok-sign.ensures.shorter, c.skip_lines-2.ensures.shorter, c.in_ok-named.ensures.shorter)
 
 pub returns-in_err-operand-clause-begins : goal.returns-in_err-operand-clause-begins
-returns-in_err-operand-clause-begins c = 
+returns-in_err-operand-clause-begins c =
     let assign = was_there (TheSign Assign) c.args.tokens.now _ c.eat_sign.new.tokens c.eat_sign.ensures.eaten c.if-eat_sign.true in
     up_breaks _ c.from_residual.ensures.1 (map_breaks (λ x. passed.Input x) (λ x other us r w. w) (part_loose (sign_fills Assign) (record { found = assign }) (any_sampled (operand_sampled loose)) refl (rw c.skip_lines.ensures.rest at c.in_err-operand.ensures.begins)))
 
 pub returns-in_err-sign-clause-begins : goal.returns-in_err-sign-clause-begins
-returns-in_err-sign-clause-begins c = 
+returns-in_err-sign-clause-begins c =
     let none = was_missing (TheSign Assign) c.args.tokens.now _ c.eat_sign.new.tokens c.eat_sign.ensures.eaten c.if-eat_sign.false in
     up_breaks _ c.from_residual-in_err-sign.ensures.1 (at_first any_passed_sampled (rw none.0 at c.in_err-sign.ensures.first))
 
 pub returns-in_err-named-clause-begins : goal.returns-in_err-named-clause-begins
-returns-in_err-named-clause-begins c = 
+returns-in_err-named-clause-begins c =
     let none = was_missing (TheSign Assign) c.args.tokens.now _ c.eat_sign.new.tokens c.eat_sign.ensures.eaten c.if-eat_sign.false in
     up_breaks _ c.from_residual-in_err-named.ensures.1 (map_breaks (λ x. passed.Output x) (λ x other us r w. w)
     (part_loose (sign_fills Arrow) (rw none.0 at c.in_ok-sign.ensures.reads) (any_sampled the_name_sampled) refl (at_first (any_sampled the_name_sampled) (rw c.skip_lines-2.ensures.rest at c.in_err-named.ensures.first))))

@@ -17,6 +17,6 @@ pub returns-in_default-clause-begins : goal.returns-in_default-clause-begins
 returns-in_default-clause-begins c = at_first scalar_sampled (λ _. (Unexpected, c.outside.ensures))
 
 pub returns-in_err-subrange-clause-begins : goal.returns-in_err-subrange-clause-begins
-returns-in_err-subrange-clause-begins c = 
+returns-in_err-subrange-clause-begins c =
     up_breaks _ c.from_residual.ensures.1 (map_breaks (λ x. record { elementary = c.in-Reserved-Elementary.elementary; subrange = x }) (λ x other us r w. w)
     (part_tight (word_fills (word.Elementary c.in-Reserved-Elementary.elementary)) (record { found = word_there c.args.self.now _ _ (sym c.lead.ensures ∙ c.in-Reserved-Elementary.is ∙ ap (λ k. lead.Reserved k) c.in-Reserved-Elementary.field-0-is) }) subrange_sampled (rw c.advance.ensures.rest at c.in_err-subrange.ensures.begins)))

@@ -22,6 +22,6 @@ pub returns-in_err-name-clause-begins : goal.returns-in_err-name-clause-begins
 returns-in_err-name-clause-begins c = up_breaks _ c.from_residual.ensures.1 (at_first (selected_sampled c.args.gap) c.in_err-name.ensures.first)
 
 pub returns-in_err-selector-clause-begins : goal.returns-in_err-selector-clause-begins
-returns-in_err-selector-clause-begins c = 
+returns-in_err-selector-clause-begins c =
     up_breaks _ c.from_residual-in_err-selector.ensures.1 (map_breaks (λ x. reference_of x.0 x.1) (selected_is c.args.gap)
     (later_gap c.args.gap name_filling c.in_ok-name.ensures.reads (bracket_sampled c.args.gap) refl (rw c.pass.ensures.rest at c.in_err-selector.ensures.begins)))

@@ -1,6 +1,5 @@
 use Rattle.il_spec.specs.declared.token.Sign.TheVariants.{OpenBracket, Dot}
 use Rattle.il_spec.specs.Grammar.{TheSign}
-use Rattle.il_read.specs.Reads.{gap_of}
 use Rattle.il_read.proofs.Chain.{up, was_there, was_missing}
 use Rattle.il_read.proofs.Alternatives.{bracket_refused, dot_refused, gap_is}
 use Rattle.il_read.specs.declared.operand.Selector.TheVariants as selector
@@ -29,12 +28,12 @@ returns-in_err-any_word-clause-refused c =
     up _ c.from_residual-in_err-any_word.ensures.1 (dot_refused c.args.self.now (gap_is c.args.gap) _ _ _ none.1 (rw none.0 at dot) (rw c.pass-then-eat_sign-2.ensures.rest at c.in_err-any_word.ensures.refused))
 
 pub returns-in_err-element-clause-begins : goal.returns-in_err-element-clause-begins
-returns-in_err-element-clause-begins c = 
+returns-in_err-element-clause-begins c =
     let bracket = was_there (TheSign OpenBracket) c.args.tokens.now _ c.eat_sign.new.tokens c.eat_sign.ensures.eaten c.if-eat_sign.true in
     up_breaks _ c.from_residual.ensures.1 (map_breaks (λ x. selector.Element x) (λ x other us r w. w) (part_gap c.args.gap (sign_fills OpenBracket) bracket (any_sampled (element_sampled c.args.gap)) refl (any_breaks (rw c.pass.ensures.rest at c.in_err-element.ensures.begins))))
 
 pub returns-in_err-any_word-clause-begins : goal.returns-in_err-any_word-clause-begins
-returns-in_err-any_word-clause-begins c = 
+returns-in_err-any_word-clause-begins c =
     let none = was_missing (TheSign OpenBracket) c.args.tokens.now _ c.eat_sign.new.tokens c.eat_sign.ensures.eaten c.if-eat_sign.false in
     let dot = was_there (TheSign Dot) c.eat_sign.new.tokens _ c.eat_sign-2.new.tokens c.eat_sign-2.ensures.eaten c.if-eat_sign-2.true in
     up_breaks _ c.from_residual-in_err-any_word.ensures.1 (map_breaks (λ x. selector.Member x) (λ x other us r w. w)

@@ -49,7 +49,7 @@ pub returns-in_err-argument-clause-begins : goal.returns-in_err-argument-clause-
 returns-in_err-argument-clause-begins c = up_breaks _ c.from_residual.ensures.1 (list_item_breaks (any_sampled argument_sampled) (sign_sampled CloseParenthesis) (passes_settled refl) (stays_loose refl) (stays_loose refl) c.arguments.invariant.1 c.in_err-argument.ensures.begins)
 
 pub returns-then-not-eat_sign-clause-begins : goal.returns-then-not-eat_sign-clause-begins
-returns-then-not-eat_sign-clause-begins c = 
+returns-then-not-eat_sign-clause-begins c =
     let none = was_missing (TheSign Comma) c.skip_lines.new.self _ c.eat_sign.new.tokens c.eat_sign.ensures.eaten c.if-not-eat_sign.true in
     err_through c.closed.result c.closed.ensures.first (λ e bad.
     (at_list_end loose_cut reach_loose argument_filling (sign_sampled CloseParenthesis) (passes_settled refl) (stays_loose refl) c.arguments.invariant.1 c.in_ok-argument.ensures.reads (rw c.skip_lines.ensures.rest at (rw none.0 at bad))))

@@ -48,7 +48,7 @@ pub returns-in_err-operand-clause-begins : goal.returns-in_err-operand-clause-be
 returns-in_err-operand-clause-begins c = up_breaks _ c.from_residual.ensures.1 (list_item_breaks (any_sampled (operand_sampled tight)) line_end_sampled (passes_calm refl) stays_tight stays_tight c.operands.invariant.1 c.in_err-operand.ensures.begins)
 
 pub returns-then-not-eat_sign-clause-begins : goal.returns-then-not-eat_sign-clause-begins
-returns-then-not-eat_sign-clause-begins c = 
+returns-then-not-eat_sign-clause-begins c =
     let none = was_missing (TheSign Comma) c.operand.new.tokens _ c.eat_sign.new.tokens c.eat_sign.ensures.eaten c.if-not-eat_sign.true in
     err_through c.ended.result c.ended.ensures.first (λ e bad.
     (at_list_end tight_cut (reach_tight tight_cut) operand_filling line_end_sampled (passes_calm refl) stays_tight c.operands.invariant.1 c.in_ok-operand.ensures.reads (rw none.0 at bad)))
